@@ -1,0 +1,41 @@
+-- Rows of values, tested one by one.
+use Rattle.std.proofs.Common.{◌≡◌, ℕ, suc, ◌+◌, ◌<◌, ◌≤◌, List, [], ◌∷◌, Bool, true, false, ◌&&◌, length, drop, refl, sym, ap, ◌∙◌, arith}
+use Rattle.std.proofs.lemmas.List.{at_drop_more, at_drop_all}
+use Rattle.std.specs.List.{list_all}
+use Rattle.mdr_core.specs.declared.program.Program.{Program}
+use Rattle.mdr_model.specs.declared.memory.Cell.{Cell}
+use Rattle.mdr_model.specs.declared.wire.Wire.{Wire}
+use Rattle.mdr_model.specs.declared.wire.Wire.TheVariants as wire
+use Rattle.mdr_model.specs.Memory.{Memory, born_at}
+use Rattle.mdr_model.specs.Sets.{is_in}
+use Rattle.mdr_model.specs.Copies.{CellValue, numbered}
+use Rattle.mdr_model.specs.Faults.{fits_block, fits_cell}
+
+-- the cells of one block all ask for its type
+pub cells_of_a_block : (program : Program) (m : Memory) (serial first : ℕ) (values : List Wire) → list_all (fits_cell program m) (numbered serial first values) ≡ list_all (fits_block program (born_at m serial)) values
+unfolding fits_cell numbered
+cells_of_a_block program m serial first [] = refl
+cells_of_a_block program m serial first (v ∷ vs) = ap (λ (b : Bool). fits_block program (born_at m serial) v && b) (cells_of_a_block program m serial (suc first) vs)
+
+-- the cells of a row lie in a set
+abbrev pub all_in : List Cell → ℕ → ℕ → List Wire → Bool
+all_in view serial first values = list_all (λ (x : CellValue). is_in view x.cell) (numbered serial first values)
+
+cell_and_rest : (view : List Cell) (serial first i : ℕ) (values : List Wire) → i < length values → all_in view serial (first + i) (drop i values) ≡ (is_in view (record { serial = serial; index = first + i }) && all_in view serial (first + (i + 1)) (drop (i + 1) values))
+unfolding numbered
+cell_and_rest view serial first i values inside =
+    let after : suc (first + i) ≡ first + (i + 1) = omega arith in
+    at_drop_more (λ (vs : List Wire). all_in view serial (first + i) vs) values i wire.NoValue inside
+    ∙ ap (λ (k : ℕ). is_in view (record { serial = serial; index = first + i }) && all_in view serial k (drop (i + 1) values)) after
+
+pub lies_next : (view : List Cell) (serial first i : ℕ) (values : List Wire) (all : Bool) → i < length values → is_in view (record { serial = serial; index = first + i }) ≡ true → all_in view serial (first + i) (drop i values) ≡ all → all_in view serial (first + (i + 1)) (drop (i + 1) values) ≡ all
+lies_next view serial first i values all inside lies so_far =
+    sym (cell_and_rest view serial first i values inside ∙ ap (λ (b : Bool). b && all_in view serial (first + (i + 1)) (drop (i + 1) values)) lies) ∙ so_far
+
+pub lies_not : (view : List Cell) (serial first i : ℕ) (values : List Wire) (all : Bool) → i < length values → is_in view (record { serial = serial; index = first + i }) ≡ false → all_in view serial (first + i) (drop i values) ≡ all → false ≡ all
+lies_not view serial first i values all inside lies so_far =
+    sym (cell_and_rest view serial first i values inside ∙ ap (λ (b : Bool). b && all_in view serial (first + (i + 1)) (drop (i + 1) values)) lies) ∙ so_far
+
+pub lies_all : (view : List Cell) (serial first i : ℕ) (values : List Wire) (all : Bool) → length values ≤ i → all_in view serial (first + i) (drop i values) ≡ all → true ≡ all
+unfolding numbered
+lies_all view serial first i values all over so_far = sym (at_drop_all (λ (vs : List Wire). all_in view serial (first + i) vs) values i over) ∙ so_far

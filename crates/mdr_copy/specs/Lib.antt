@@ -1,0 +1,4 @@
+pub mod Extents
+pub mod Tellings
+pub mod Serials
+pub mod Arguments

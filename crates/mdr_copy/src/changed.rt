@@ -1,0 +1,115 @@
+// What changed against the agreed copy.
+
+ghost use Rattle.std.specs.Prelude.{◌≡◌, ◌∷◌, [], ◌++◌, map, OnOk, IfOk};
+ghost use Rattle.mdr_model.specs.Sets.{cells_of_run};
+ghost use Rattle.mdr_model.specs.Copies.{held, run_from, changed_cells, changes};
+
+use crate::runs::runs_of_cells;
+use crate::store::held;
+use crate::values::is_same;
+use mdr_core::{Items, OutOfMemory};
+use mdr_model::{Cell, MemoryBlock, Run, SetRun, Wire};
+use std::alloc::{AllocError, Global};
+
+/// The cells whose value differs from the agreed one.
+#[tactic(auto, unfolding(mdr_model::specs::Copies::changed_cells))]
+fn changed_cells(
+    alloc: Global,
+    cells: &[Cell],
+    agreed: &[MemoryBlock],
+    now: &[MemoryBlock],
+) -> Result<Vec<Cell>, AllocError>
+    ensures { IfOk result (λ changed. changed.items ≡ changed_cells cells.now agreed.now now.now) }
+{
+    let mut changed = Vec::new(alloc);
+    for cell in cells {
+        if !is_same(held(agreed, *cell), held(now, *cell)) {
+            changed.push(*cell)?;
+        }
+    }
+    Ok(changed)
+}
+
+fn put_held(out: &mut Vec<Wire>, memory: &[MemoryBlock], cell: Cell) -> Result<(), OutOfMemory>
+    ensures { OnOk result (out.new.items ≡ out.old.items ++ held memory.now cell ∷ []) }
+{
+    match out.push(held(memory, cell)) {
+        Ok(()) => Ok(()),
+        Err(_) => Err(OutOfMemory),
+    }
+}
+
+fn put_run(out: &mut Vec<Run>, run: Run) -> Result<(), OutOfMemory>
+    ensures { OnOk result (out.new.items ≡ out.old.items ++ run ∷ []) }
+{
+    match out.push(run) {
+        Ok(()) => Ok(()),
+        Err(_) => Err(OutOfMemory),
+    }
+}
+
+/// What the cells of a run hold. A run that goes over the last index that a cell can have fails.
+fn values_of(alloc: Global, memory: &[MemoryBlock], run: SetRun) -> Result<Items<Wire>, OutOfMemory>
+    ensures { IfOk result (λ values. values ≡ map (held memory.now) (cells_of_run run)) }
+{
+    let mut values = Vec::new(alloc);
+    for i in 0..run.len {
+        match run.first.checked_add(i) {
+            Some(index) => put_held(
+                &mut values,
+                memory,
+                Cell {
+                    serial: run.serial,
+                    index,
+                },
+            )?,
+            None => return Err(OutOfMemory),
+        }
+    }
+    Ok(Items::from_vec(values))
+}
+
+fn run_from(alloc: Global, memory: &[MemoryBlock], run: SetRun) -> Result<Run, OutOfMemory>
+    ensures { IfOk result (λ told. told ≡ run_from memory.now run) }
+{
+    Ok(Run {
+        serial: run.serial,
+        first: run.first,
+        values: values_of(alloc, memory, run)?,
+    })
+}
+
+fn runs_from(
+    alloc: Global,
+    memory: &[MemoryBlock],
+    runs: &[SetRun],
+) -> Result<Items<Run>, OutOfMemory>
+    ensures { IfOk result (λ told. told ≡ map (run_from memory.now) runs.now) }
+{
+    let mut told = Vec::new(alloc);
+    for run in runs {
+        put_run(&mut told, run_from(alloc, memory, *run)?)?;
+    }
+    Ok(Items::from_vec(told))
+}
+
+/// The cells of a rising list whose value differs from the agreed one, with what they hold now, in as few runs
+/// as can be. It fails only where the memory for them is missing.
+#[tactic(auto, unfolding(mdr_model::specs::Copies::changes))]
+pub fn changes(
+    alloc: Global,
+    cells: &[Cell],
+    agreed: &[MemoryBlock],
+    now: &[MemoryBlock],
+) -> Result<Items<Run>, OutOfMemory>
+    ensures { IfOk result (λ runs. runs ≡ changes cells.now agreed.now now.now) }
+{
+    match changed_cells(alloc, cells, agreed, now) {
+        Ok(changed) => runs_from(
+            alloc,
+            now,
+            runs_of_cells(alloc, changed.as_slice())?.as_slice(),
+        ),
+        Err(_) => Err(OutOfMemory),
+    }
+}

@@ -1,0 +1,69 @@
+// Where runs lie, and which follow which.
+
+ghost use Rattle.std.specs.Prelude.{◌≡◌, None, option_map};
+ghost use Rattle.mdr_copy.specs.Extents.{set_run};
+ghost use Rattle.mdr_model.specs.Sets.{follows, follows_maybe, rises_after};
+ghost use Rattle.mdr_model.specs.Faults.{set_run_of};
+
+use mdr_model::{Run, SetRun};
+
+/// Where the cells of a run lie.
+#[derive(Clone, Copy)]
+pub(crate) struct Extent {
+    pub(crate) serial: u64,
+    pub(crate) first: u32,
+    pub(crate) len: usize,
+}
+
+pub(crate) fn extent_of(run: &Run) -> Extent
+    ensures { set_run result ≡ set_run_of run.now }
+{
+    Extent {
+        serial: run.serial,
+        first: run.first,
+        len: run.values.len(),
+    }
+}
+
+fn follows(before: Extent, run: Extent) -> bool
+    ensures { result ≡ follows (set_run before) (set_run run) }
+{
+    before.serial < run.serial
+        || (before.serial == run.serial
+            && before.first < run.first
+            && before.len <= (run.first - before.first) as usize)
+}
+
+pub(crate) fn follows_maybe(before: Option<Extent>, run: Extent) -> bool
+    ensures { result ≡ follows_maybe (option_map set_run before) (set_run run) }
+{
+    match before {
+        Some(before) => follows(before, run),
+        None => true,
+    }
+}
+
+fn extent_of_cells(run: SetRun) -> Extent
+    ensures { set_run result ≡ run }
+{
+    Extent {
+        serial: run.serial,
+        first: run.first,
+        len: run.len as usize,
+    }
+}
+
+/// Whether each run of cells follows the one before it.
+pub(crate) fn rise(runs: &[SetRun]) -> bool
+    ensures { result ≡ rises_after None runs.now }
+{
+    let mut before = None;
+    for run in runs {
+        let extent = extent_of_cells(*run);
+        if !follows_maybe(before, extent) {
+            return false;
+        }
+        before = Some(extent);
+    }
+    true
+}

@@ -1,0 +1,28 @@
+//! What both halves do with memories: the agreed copy, what changed against it, and the checks of what is told.
+#![tactic(auto)]
+
+mod changed;
+mod checks;
+mod extents;
+mod faults;
+mod first;
+mod lives;
+mod runs;
+mod sets;
+mod store;
+mod told;
+mod values;
+
+pub use changed::changes;
+pub use checks::{deaths_fit, news_fit, view_fits};
+pub use faults::{args_fault, runs_fault};
+pub use first::first_memory;
+pub use lives::names_block;
+pub use runs::runs_of_cells;
+pub use sets::{cells_of_runs, is_in, is_keyed, visible};
+pub use store::{born_at, held, is_live, put, put_runs};
+pub use told::{Telling, agreed_after, tells, tells_no_cells};
+pub use values::{fits, fits_result, is_same};
+
+#[cfg(test)]
+mod tests;

@@ -1,0 +1,137 @@
+// Blocks that die, and blocks that are new.
+
+ghost use Rattle.std.specs.Prelude.{◌≡◌, [], ◌∷◌, ◌++◌, map, replicate, OnOk, IfOk};
+ghost use Rattle.mdr_model.specs.Values.{names_block, zero_of_type, zero_maybe, type_at};
+ghost use Rattle.mdr_model.specs.Memory.{swept, swept_block, killed, zero_block};
+ghost use Rattle.mdr_model.specs.Copies.{without, with_news};
+
+use crate::store::put_runs;
+use mdr_core::{Items, LockState, OutOfMemory, Program, Ty};
+use mdr_model::{MemoryBlock, New, Run, Wire};
+use std::alloc::{AllocError, Global};
+
+/// Whether a value is a pointer into the block with a serial.
+pub fn names_block(serial: u64, value: Wire) -> bool
+    ensures { result ≡ names_block serial value }
+{
+    match value {
+        Wire::Ptr(view) => view.serial == serial,
+        _ => false,
+    }
+}
+
+fn swept(serial: u64, value: Wire) -> Wire
+    ensures { result ≡ swept serial value }
+{
+    if names_block(serial, value) {
+        Wire::Dead
+    } else {
+        value
+    }
+}
+
+fn swept_cells(alloc: Global, serial: u64, cells: &[Wire]) -> Result<Items<Wire>, AllocError>
+    ensures { IfOk result (λ c. c ≡ map (swept serial) cells.now) }
+{
+    let mut out = Vec::new(alloc);
+    for value in cells {
+        out.push(swept(serial, *value))?;
+    }
+    Ok(Items::from_vec(out))
+}
+
+fn swept_block(alloc: Global, serial: u64, block: &MemoryBlock) -> Result<MemoryBlock, AllocError>
+    ensures { IfOk result (λ b. b ≡ swept_block serial block.now) }
+{
+    Ok(MemoryBlock {
+        born: block.born,
+        cells: swept_cells(alloc, serial, block.cells.as_slice())?,
+    })
+}
+
+/// The memory when a block died: each pointer to it is a dead one.
+#[tactic(auto, unfolding(mdr_model::specs::Memory::killed))]
+fn killed(
+    alloc: Global,
+    serial: u64,
+    memory: &[MemoryBlock],
+) -> Result<Vec<MemoryBlock>, AllocError>
+    ensures { IfOk result (λ m. m.items ≡ killed serial memory.now) }
+{
+    let mut out = Vec::new(alloc);
+    for block in memory {
+        if block.born.serial != serial {
+            out.push(swept_block(alloc, serial, block)?)?;
+        }
+    }
+    Ok(out)
+}
+
+#[tactic(auto, unfolding(mdr_model::specs::Copies::without))]
+pub(crate) fn without(
+    alloc: Global,
+    deaths: &[u64],
+    copy: Vec<MemoryBlock>,
+) -> Result<Vec<MemoryBlock>, AllocError>
+    ensures { IfOk result (λ m. m.items ≡ without deaths.now copy.items) }
+{
+    let mut left = copy;
+    for serial in deaths {
+        left = killed(alloc, *serial, left.as_slice())?;
+    }
+    Ok(left)
+}
+
+fn zero_of_type(ty: &Ty) -> Wire
+    ensures { result ≡ zero_of_type ty.now }
+{
+    match ty {
+        Ty::Int(kind) => Wire::Int(*kind, 0),
+        Ty::Lock => Wire::Lock(LockState::Free),
+        Ty::Void => Wire::NoValue,
+    }
+}
+
+/// What a cell of the type with a number holds before anything was stored.
+fn zero(program: &Program, ty: u32) -> Wire
+    ensures { result ≡ zero_maybe (type_at program.now ty) }
+{
+    match program.types.as_slice().get(ty as usize) {
+        Some(found) => zero_of_type(found),
+        None => Wire::NoValue,
+    }
+}
+
+fn copies(alloc: Global, count: u32, value: Wire) -> Result<Items<Wire>, AllocError>
+    ensures { IfOk result (λ c. c ≡ replicate count value) }
+{
+    let mut out = Vec::new(alloc);
+    for _ in 0..count {
+        out.push(value)?;
+    }
+    Ok(Items::from_vec(out))
+}
+
+fn zero_block(alloc: Global, program: &Program, new: New) -> Result<MemoryBlock, AllocError>
+    ensures { IfOk result (λ b. b ≡ zero_block program.now new) }
+{
+    Ok(MemoryBlock {
+        born: new,
+        cells: copies(alloc, new.count, zero(program, new.ty))?,
+    })
+}
+
+#[tactic(auto, unfolding(mdr_model::specs::Copies::with_news))]
+pub(crate) fn put_news(
+    alloc: Global,
+    program: &Program,
+    news: &[New],
+    copy: &mut Vec<MemoryBlock>,
+) -> Result<(), AllocError>
+    ensures { OnOk result (copy.new.items ≡ with_news program.now news.now copy.old.items) }
+{
+    for new in news {
+        copy.push(zero_block(alloc, program, *new)?)?;
+    }
+    Ok(())
+}

@@ -1,0 +1,129 @@
+// Sets of cells, and the cells that an upcall may touch.
+
+ghost use Rattle.std.specs.Prelude.{◌≡◌, [], ◌∷◌, ◌++◌, OnOk, IfOk};
+ghost use Rattle.mdr_model.specs.Sets.{is_in, cells_from, cells_of_run, cells_of_runs, keyed_cells, is_keyed, visible, visible_of};
+
+use mdr_core::{Items, OutOfMemory, Program};
+use mdr_model::{Cell, MemoryBlock, New, SetRun};
+use std::alloc::{AllocError, Global};
+
+/// Whether a set has the cell of a block at an index.
+#[tactic(auto, unfolding(mdr_model::specs::Sets::is_in))]
+pub(crate) fn is_in_at(cells: &[Cell], serial: u64, index: usize) -> bool
+    ensures { result ≡ is_in cells.now (record { serial = serial; index = index }) }
+{
+    cells
+        .iter()
+        .any(|c| serial == c.serial && index == c.index as usize)
+}
+
+/// Whether a set has a cell.
+pub fn is_in(cells: &[Cell], cell: Cell) -> bool
+    ensures { result ≡ is_in cells.now cell }
+{
+    is_in_at(cells, cell.serial, cell.index as usize)
+}
+
+/// Whether user code may touch a block's cells: it is a global, and no lock.
+#[tactic(auto, unfolding(mdr_model::specs::Sets::is_keyed))]
+pub fn is_keyed(program: &Program, block: New) -> bool
+    ensures { result ≡ is_keyed program.now block }
+{
+    block.serial < program.globals.len() as u64 && !(block.ty == 8)
+}
+
+/// As many cells of a block as said, from the first on.
+#[tactic(auto, unfolding(mdr_model::specs::Sets::cells_from))]
+fn put_cells(out: &mut Vec<Cell>, serial: u64, count: u32) -> Result<(), AllocError>
+    ensures { OnOk result (out.new.items ≡ out.old.items ++ cells_from serial 0 count) }
+{
+    for index in 0..count {
+        out.push(Cell { serial, index })?;
+    }
+    Ok(())
+}
+
+fn put_keyed(out: &mut Vec<Cell>, program: &Program, block: New) -> Result<(), AllocError>
+    ensures { OnOk result (out.new.items ≡ out.old.items ++ keyed_cells program.now block) }
+{
+    if is_keyed(program, block) {
+        put_cells(out, block.serial, block.count)?;
+    }
+    Ok(())
+}
+
+#[tactic(auto, unfolding(mdr_model::specs::Sets::visible, mdr_model::specs::Sets::visible_of))]
+fn put_visible(
+    out: &mut Vec<Cell>,
+    program: &Program,
+    memory: &[MemoryBlock],
+) -> Result<(), AllocError>
+    ensures { OnOk result (out.new.items ≡ out.old.items ++ visible program.now memory.now) }
+{
+    for block in memory {
+        put_keyed(out, program, block.born)?;
+    }
+    Ok(())
+}
+
+/// The cells that an upcall may touch: those of all globals that are no locks, rising.
+pub fn visible(
+    alloc: Global,
+    program: &Program,
+    memory: &[MemoryBlock],
+) -> Result<Items<Cell>, OutOfMemory>
+    ensures { IfOk result (λ cells. cells ≡ visible program.now memory.now) }
+{
+    let mut cells = Vec::new(alloc);
+    match put_visible(&mut cells, program, memory) {
+        Ok(()) => Ok(Items::from_vec(cells)),
+        Err(_) => Err(OutOfMemory),
+    }
+}
+
+fn put_cell(out: &mut Vec<Cell>, cell: Cell) -> Result<(), OutOfMemory>
+    ensures { OnOk result (out.new.items ≡ out.old.items ++ cell ∷ []) }
+{
+    match out.push(cell) {
+        Ok(()) => Ok(()),
+        Err(_) => Err(OutOfMemory),
+    }
+}
+
+fn put_run(out: &mut Vec<Cell>, run: SetRun) -> Result<(), OutOfMemory>
+    ensures { OnOk result (out.new.items ≡ out.old.items ++ cells_of_run run) }
+{
+    for i in 0..run.len {
+        match run.first.checked_add(i) {
+            Some(index) => put_cell(
+                out,
+                Cell {
+                    serial: run.serial,
+                    index,
+                },
+            )?,
+            None => return Err(OutOfMemory),
+        }
+    }
+    Ok(())
+}
+
+#[tactic(auto, unfolding(mdr_model::specs::Sets::cells_of_runs))]
+fn put_runs(out: &mut Vec<Cell>, runs: &[SetRun]) -> Result<(), OutOfMemory>
+    ensures { OnOk result (out.new.items ≡ out.old.items ++ cells_of_runs runs.now) }
+{
+    for run in runs {
+        put_run(out, *run)?;
+    }
+    Ok(())
+}
+
+/// The cells that runs name. It fails where the memory for them is missing, or a run goes over the last index
+/// that a cell can have, as none does that lies in a block.
+pub fn cells_of_runs(alloc: Global, runs: &[SetRun]) -> Result<Items<Cell>, OutOfMemory>
+    ensures { IfOk result (λ cells. cells ≡ cells_of_runs runs.now) }
+{
+    let mut cells = Vec::new(alloc);
+    put_runs(&mut cells, runs)?;
+    Ok(Items::from_vec(cells))
+}

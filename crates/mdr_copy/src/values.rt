@@ -1,0 +1,141 @@
+// Values: what they are in messages, and which are the same.
+
+ghost use Rattle.std.specs.Prelude.{◌≡◌};
+ghost use Rattle.mdr_core.specs.Kinds.{kind_number};
+ghost use Rattle.mdr_model.specs.Values.{type_number, wire_view, wire_of, lock_number, is_same_view, is_same, fits_type, fits, fits_result, is_view_of};
+
+use mdr_core::{Kind, LockState, Program, Ty, Value, View};
+use mdr_model::{New, Wire, WireView};
+
+fn kind_number(kind: Kind) -> u32
+    ensures { result ≡ kind_number kind }
+{
+    match kind {
+        Kind::U8 => 0,
+        Kind::U16 => 1,
+        Kind::U32 => 2,
+        Kind::U64 => 3,
+        Kind::S8 => 4,
+        Kind::S16 => 5,
+        Kind::S32 => 6,
+        Kind::S64 => 7,
+    }
+}
+
+/// The number of a type in the table.
+pub fn type_number(ty: &Ty) -> u32
+    ensures { result ≡ type_number ty.now }
+{
+    match ty {
+        Ty::Int(kind) => kind_number(*kind),
+        Ty::Lock => 8,
+        Ty::Void => 9,
+    }
+}
+
+fn wire_view(view: View) -> WireView
+    ensures { result ≡ wire_view view }
+{
+    WireView {
+        serial: view.block.serial,
+        first: view.first,
+        ty: view.ty,
+        count: view.count,
+        index: view.index,
+    }
+}
+
+/// A value of a program's text, whose pointers name globals.
+pub fn wire_of(value: Value) -> Wire
+    ensures { result ≡ wire_of value }
+{
+    match value {
+        Value::Int(kind, n) => Wire::Int(kind, n),
+        Value::Null => Wire::Null,
+        Value::Ptr(view) => Wire::Ptr(wire_view(view)),
+        Value::Dead => Wire::Dead,
+        Value::Fn(func) => Wire::Fn(func),
+        Value::Lock(state) => Wire::Lock(state),
+        Value::NoValue => Wire::NoValue,
+    }
+}
+
+fn lock_number(state: LockState) -> u32
+    ensures { result ≡ lock_number state }
+{
+    match state {
+        LockState::Free => 0,
+        LockState::Spin => 1,
+        LockState::Sleep => 2,
+    }
+}
+
+#[tactic(auto, unfolding(mdr_model::specs::Values::is_same_view))]
+fn is_same_view(one: WireView, other: WireView) -> bool
+    ensures { result ≡ is_same_view one other }
+{
+    one.serial == other.serial
+        && one.first == other.first
+        && one.ty == other.ty
+        && one.count == other.count
+        && one.index == other.index
+}
+
+/// Whether two values are the same: in their kind, and in what they hold.
+#[tactic(auto, unfolding(mdr_model::specs::Values::is_same))]
+pub fn is_same(one: Wire, other: Wire) -> bool
+    ensures { result ≡ is_same one other }
+{
+    match (one, other) {
+        (Wire::Int(k, n), Wire::Int(l, m)) => kind_number(k) == kind_number(l) && n == m,
+        (Wire::Null, Wire::Null) => true,
+        (Wire::Ptr(p), Wire::Ptr(q)) => is_same_view(p, q),
+        (Wire::Dead, Wire::Dead) => true,
+        (Wire::Fn(f), Wire::Fn(g)) => f == g,
+        (Wire::Lock(s), Wire::Lock(t)) => lock_number(s) == lock_number(t),
+        (Wire::NoValue, Wire::NoValue) => true,
+        _ => false,
+    }
+}
+
+/// Whether a value fits a cell, or a parameter, of a type.
+pub fn fits_type(ty: &Ty, value: Wire) -> bool
+    ensures { result ≡ fits_type ty.now value }
+{
+    match (ty, value) {
+        (Ty::Int(kind), Wire::Int(own, n)) => kind_number(*kind) == kind_number(own)
+            && kind.contains(n),
+        (Ty::Lock, Wire::Lock(_)) => true,
+        _ => false,
+    }
+}
+
+/// Whether a value fits a cell of the type with a number of the table.
+#[tactic(auto, unfolding(mdr_model::specs::Values::fits))]
+pub fn fits(program: &Program, ty: u32, value: Wire) -> bool
+    ensures { result ≡ fits program.now ty value }
+{
+    match program.types.as_slice().get(ty as usize) {
+        Some(found) => fits_type(found, value),
+        None => false,
+    }
+}
+
+/// Whether a value fits a result. No value fits each.
+#[tactic(auto, unfolding(mdr_model::specs::Values::fits_result))]
+pub fn fits_result(ty: &Ty, value: Wire) -> bool
+    ensures { result ≡ fits_result ty.now value }
+{
+    match value {
+        Wire::NoValue => true,
+        _ => fits_type(ty, value),
+    }
+}
+
+/// Whether a pointer's view is one of a block as it was born.
+#[tactic(auto, unfolding(mdr_model::specs::Values::is_view_of))]
+pub fn is_view_of(block: New, view: WireView) -> bool
+    ensures { result ≡ is_view_of block view }
+{
+    view.first == 0 && view.ty == block.ty && view.count == block.count && view.index <= view.count
+}

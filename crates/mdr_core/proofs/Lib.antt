@@ -1,0 +1,4 @@
+pub mod Conversions
+pub mod Operators
+pub mod Ranges
+pub mod Residues

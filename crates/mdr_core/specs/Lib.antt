@@ -1,0 +1,5 @@
+pub mod Bits
+pub mod Conversions
+pub mod Kinds
+pub mod Layout
+pub mod Operators

@@ -1,0 +1,30 @@
+//! The typed program of a driver, its values and its layout: what every other crate speaks of.
+#![tactic(auto)]
+
+mod code;
+mod items;
+mod kind;
+mod layout;
+mod memory_error;
+mod place;
+mod plan;
+mod program;
+mod refusal;
+mod stop;
+mod types;
+mod undefined;
+mod value;
+
+pub use code::{BinOp, CallForm, Callee, Expr, Lval, Step, Stmt};
+pub use items::{Items, Name};
+pub use kind::Kind;
+pub use layout::view_ok;
+pub use memory_error::OutOfMemory;
+pub use place::{At, Place};
+pub use plan::{Half, Key, Plan};
+pub use program::{Field, Func, GlobalDef, Local, Param, Program, StructDef};
+pub use refusal::RefuseKind;
+pub use stop::StopKind;
+pub use types::{Ann, LenOf, Shape, Ty};
+pub use undefined::Undefined;
+pub use value::{Block, LockState, Value, View};

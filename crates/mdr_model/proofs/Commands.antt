@@ -1,0 +1,94 @@
+-- The split run of a script comes to the end of the whole run.
+use Rattle.std.proofs.Common.{◌≡◌, ℕ, suc, ◌+◌, ◌*◌, ◌≤◌, Bool, true, false, List, [], ◌∷◌, Option, Some, None, Ok, refl, sym, ap, subst, arith}
+use Rattle.std.specs.Prelude.{slice_get, map}
+use Rattle.std.proofs.lemmas.Bool.{lt-ltb}
+use Rattle.mdr_core.specs.declared.plan.Half.TheVariants as half
+use Rattle.mdr_core.specs.declared.program.Program.{Program}
+use Rattle.mdr_core.specs.declared.program.Param.{Param}
+use Rattle.mdr_core.specs.declared.program.Func.{Func}
+use Rattle.mdr_model.specs.declared.wire.Wire.{Wire}
+use Rattle.mdr_model.specs.declared.message.Message.TheVariants as message
+use Rattle.mdr_model.specs.declared.outcome.End.TheVariants as ends
+use Rattle.mdr_model.specs.Memory.{Memory}
+use Rattle.mdr_model.specs.Sets.{runs_of_cells}
+use Rattle.mdr_model.specs.Tree.{Tree}
+use Rattle.mdr_model.specs.Meaning.{func_at, is_kernel, is_user, started}
+use Rattle.mdr_model.specs.World.{World, Ran}
+use Rattle.mdr_model.specs.Watched.{renewed, in_user, upcall, begun, returned, and_then, called_by, commands}
+use Rattle.mdr_model.specs.Copies.{Told, agreed_after}
+use Rattle.mdr_model.specs.Kernel.{Kernel, Noted, calls, then_split, command_by, split_commands}
+use Rattle.mdr_model.specs.Faults.{params_of, args_fault}
+use Rattle.mdr_model.specs.User.{deliver, opened, call_fits}
+use Rattle.mdr_model.specs.Sound.{IsSoundFunc, IsSound, IsBound}
+use Rattle.mdr_model.proofs.Tests.{and_both}
+use Rattle.mdr_model.proofs.Fair.{Knowledge, IsAmong, IsResultOf, Fair}
+use Rattle.mdr_model.proofs.Relations.{Agree}
+use Rattle.mdr_model.proofs.KernelWork.{Later, Leaves, ended, stopped, kernel_leaves}
+use Rattle.mdr_model.proofs.FairTrees.{fair_user, same_started}
+use Rattle.mdr_model.proofs.HoldsLaws.{all_get}
+use Rattle.mdr_model.proofs.Messages
+use Rattle.mdr_model.proofs.Serves.{Finishes, one_more, is_over, idle_user, GoesOn, Serves, serves, reply_of}
+
+-- a sound function has no parameters
+no_params : (program : Program) → IsSound program → (func : ℕ) → params_of (func_at program func) ≡ []
+no_params program sound func = of (func_at program func) refl
+  where
+    of : (o : Option Func) → slice_get program.funcs func ≡ o → params_of o ≡ []
+    of None e = refl
+    of (Some f) e = ap (λ (ps : List Param). map (λ (p : Param). p.ty) ps) (all_get (IsSoundFunc program) program.funcs func f sound.funcs e).params
+
+-- the user half accepts a call
+deliver_call : {program : Program} (fuel func e : ℕ) {K : Knowledge} (copy : Memory) (w : World) (told : Told) → is_user program func ≡ true → IsSound program → Messages.Messaged program K copy w e told
+    → deliver program fuel (idle_user copy) (Ok (message.Call func 0 w.rest [] told.deaths told.news (runs_of_cells w.view) told.runs))
+    ≡ reply_of (Messages.waiting program told copy w e) w (agreed_after program told copy) w.rest (started program half.User fuel func [] 0)
+unfolding deliver opened call_fits args_fault
+deliver_call {program} fuel func e copy w told user sound m = rw (user, no_params program sound func, m.lives, m.cells, m.view) refl
+
+module _ (program : Program) (sound : IsSound program) (fuel : ℕ) where
+  -- a script comes to its end
+  abbrev pub FinishesAll : List ℕ → Type 0
+  FinishesAll script = (K : Knowledge) (k : Kernel) → Agree program K k.agreed k.world → 2 * k.exchanges ≤ 4 * k.world.ticks + 6 * k.world.calls
+      → Finishes program (suc fuel) (split_commands program script k) (idle_user k.agreed) (commands program script k.world)
+
+  goes_on : (f : ℕ) (fs : List ℕ) → FinishesAll fs → GoesOn program (suc fuel) (Noted f fs)
+  unfolding returned
+  goes_on f fs later = record { by = λ K k v a bound. later K (record k { world = returned v k.world }) (Messages.onward a a.holds) bound }
+
+  kernel_command : (fs : List ℕ) → FinishesAll fs → (K : Knowledge) (k : Kernel) (w : World) → Agree program K k.agreed w → 2 * k.exchanges ≤ 4 * w.ticks + 6 * w.calls → (f : ℕ) (ran : Ran Wire) → Leaves (Later program w) (IsResultOf program f) ran
+      → Finishes program (suc fuel) (then_split ran k (λ k'. split_commands program fs k')) (idle_user k.agreed) (and_then ran (λ w'. commands program fs w'))
+  unfolding returned
+  kernel_command fs later K k w a bound f _ (ended v w' l ok) =
+      later K (record k { world = returned v w' }) (Messages.onward a l.holds) (omega (arith, l.later, l.calls))
+  kernel_command fs later K k w a bound f _ (stopped kind at w' l) =
+      is_over (ends.Stop kind at) (record k { world = w' }) (idle_user k.agreed) (omega (arith, l.later, l.calls))
+
+  user_command : (f : ℕ) (fs : List ℕ) → FinishesAll fs → (K : Knowledge) (k : Kernel) (w : World) → Agree program K k.agreed w → 2 * k.exchanges + 6 ≤ 4 * w.ticks + 6 * w.calls → is_user program f ≡ true
+      → Finishes program (suc fuel) (calls program f [] w k fs) (idle_user k.agreed) (and_then (upcall program f [] w) (λ w'. commands program fs w'))
+  unfolding calls upcall renewed
+  user_command f fs later K k w a bound user =
+      let e : ℕ = suc k.exchanges in
+      let w' : World = renewed program w in
+      let told : Told = Messages.telling [] k.agreed w' in
+      let m : Messages.Messaged program K k.agreed w' e told = Messages.message_is [] w e a in
+      let tree : Tree = started program half.User (suc fuel) f [] 0 in
+      let same : started program half.User (suc w.rest) f [] 0 ≡ tree = same_started program sound half.User w.rest fuel f [] 0 user in
+      let fair : Fair program half.User f K 2 tree = fair_user program sound fuel f K 2 user (λ b h. subst (λ (K' : Knowledge). IsAmong b K') (sym a.known) h) in
+      let served : Serves program (suc fuel) (Noted f fs) K 2 tree = serves program sound (suc fuel) (Noted f fs) (goes_on f fs later) tree 2 K fair in
+      subst (λ (t : Tree). Finishes program (suc fuel) (calls program f [] w k fs) (idle_user k.agreed) (and_then (in_user program t w') (λ x. commands program fs x))) (sym same)
+      (one_more _ (Messages.waiting program told k.agreed w' e) (Noted f fs) (idle_user k.agreed) (reply_of (Messages.waiting program told k.agreed w' e) w' (agreed_after program told k.agreed) w'.rest tree) _
+      (deliver_call (suc fuel) f e k.agreed w' told user sound m)
+      (served.by (Messages.waiting program told k.agreed w' e) w' (agreed_after program told k.agreed) w'.rest refl m.rel (record { bound = omega (arith, bound) })))
+
+  pub finishes : (script : List ℕ) → IsBound program script → FinishesAll script
+  unfolding split_commands commands begun is_user
+  finishes [] named K k a bound = is_over ends.Ok k (idle_user k.agreed) bound
+  finishes (f ∷ fs) named K k a bound = of (is_kernel program f) refl (finishes fs named.1)
+    where
+      w : World
+      w = begun program f k.world
+
+      of : (t : Bool) → is_kernel program f ≡ t → FinishesAll fs
+          → Finishes program (suc fuel) (command_by (is_kernel program f) program f fs w k (λ k'. split_commands program fs k')) (idle_user k.agreed)
+          (and_then (called_by (is_kernel program f) program f w) (λ w'. commands program fs w'))
+      of true t later = rw t (kernel_command fs later K k w (Messages.onward a a.holds) (omega (arith, bound)) f _ (kernel_leaves f [] 0 w sound t a.holds))
+      of false t later = rw t (user_command f fs later K k w (Messages.onward a a.holds) (omega (arith, bound)) (and_both _ _ (lt-ltb _ _ named.0) (rw t refl)))

@@ -1,0 +1,243 @@
+-- Laws of memories: births, cells, values that fit, and what loads and stores leave.
+use Rattle.std.proofs.Common.{◌≡◌, ℕ, zero, suc, ◌≤◌, ◌<◌, inl, inr, Bool, true, false, cond, ◌||◌, ◌&&◌, List, [], ◌∷◌, length, ◌==◌, nat_lt, nat_le, slice_get, slice_set, Option, Some, None, Result, Ok, Err, refl, sym, ap, ◌∙◌, subst, length-set, eqb-true, eq-eqb, ne_eqb, leb-true, arith}
+use Rattle.std.specs.List.{AllByRecursion}
+use Rattle.std.proofs.lemmas.Bool.{cond-true, cond-false, cond_both}
+use Rattle.mdr_core.specs.declared.stop.StopKind.{StopKind}
+use Rattle.mdr_core.specs.declared.program.Program.{Program}
+use Rattle.mdr_core.specs.declared.program.GlobalDef.{GlobalDef}
+use Rattle.mdr_model.specs.declared.wire.Wire.{Wire}
+use Rattle.mdr_model.specs.declared.wire.Wire.TheVariants as wire
+use Rattle.mdr_model.specs.declared.wire.WireView.{WireView}
+use Rattle.mdr_model.specs.declared.message.New.{New}
+use Rattle.mdr_model.specs.Values.{fits, is_view_of}
+use Rattle.mdr_model.specs.Memory.{Memory, Cell, births, born_at, is_live, cell_at, put, normal, first_memory, global_blocks, cell_of, reached, reached_by, loaded, loaded_from, loaded_cell, loaded_value, stored, stored_into}
+use Rattle.mdr_model.proofs.MemoryLaws.{born_at-births, births-put}
+use Rattle.mdr_model.proofs.ValueLaws.{fitting_is_normal}
+use Rattle.mdr_model.proofs.Fair.{IsAmong, IsKnownView, IsKnownPointer, IsValueAt}
+use Rattle.mdr_model.proofs.Relations.{Holds, IsFilled, globals_of}
+
+-- ---- lists
+
+pub all_set : {X : Type 0} (P : X → Type 0) (xs : List X) (i : ℕ) (x : X) → AllByRecursion P xs → P x → AllByRecursion P (slice_set xs i x)
+all_set P [] i x h p = h
+all_set P (y ∷ ys) zero x h p = (p, h.1)
+all_set P (y ∷ ys) (suc i) x h p = (h.0, all_set P ys i x h.1 p)
+
+pub all_get : {X : Type 0} (P : X → Type 0) (xs : List X) (i : ℕ) (x : X) → AllByRecursion P xs → slice_get xs i ≡ Some x → P x
+all_get P [] i x h e = let no_such : None ≡ Some x = e in Prim.cc
+all_get P (y ∷ ys) zero x h e = let same : y ≡ x = Prim.cc in subst P same h.0
+all_get P (y ∷ ys) (suc i) x h e = all_get P ys i x h.1 e
+
+-- an element that is there
+pub record IsThere {X : Type 0} (found : Option X) : Type 0 where
+  pub item : X
+  pub found_is : found ≡ Some item
+
+pub get_inside : {X : Type 0} (xs : List X) (i : ℕ) → i < length xs → IsThere (slice_get xs i)
+get_inside [] i h = absurd (omega arith)
+get_inside (x ∷ xs) zero h = record { item = x; found_is = refl }
+get_inside (x ∷ xs) (suc i) h = get_inside xs i (omega arith)
+
+-- ---- births
+
+pub born_is_live : (m : Memory) (serial : ℕ) (b : New) → born_at m serial ≡ Some b → is_live m serial ≡ true
+unfolding born_at is_live
+born_is_live [] serial b e = absurd (Prim.cc)
+born_is_live (x ∷ m) serial b e = of (x.born.serial == serial) e (born_is_live m serial b)
+  where
+    of : (t : Bool) → cond t (Some x.born) (born_at m serial) ≡ Some b → (born_at m serial ≡ Some b → is_live m serial ≡ true) → (t || is_live m serial) ≡ true
+    of true e later = refl
+    of false e later = later e
+
+pub live_is_born : (m : Memory) (serial : ℕ) → is_live m serial ≡ true → IsThere (born_at m serial)
+unfolding born_at is_live
+live_is_born [] serial e = absurd (Prim.cc)
+live_is_born (x ∷ m) serial e = of (x.born.serial == serial) e (live_is_born m serial)
+  where
+    of : (t : Bool) → (t || is_live m serial) ≡ true → (is_live m serial ≡ true → IsThere (born_at m serial)) → IsThere (cond t (Some x.born) (born_at m serial))
+    of true e later = record { item = x.born; found_is = refl }
+    of false e later = later e
+
+pub born_serial : (m : Memory) (serial : ℕ) (b : New) → born_at m serial ≡ Some b → b.serial ≡ serial
+unfolding born_at
+born_serial [] serial b e = absurd (Prim.cc)
+born_serial (x ∷ m) serial b e = of (x.born.serial == serial) refl e (born_serial m serial b)
+  where
+    of : (t : Bool) → (x.born.serial == serial) ≡ t → cond t (Some x.born) (born_at m serial) ≡ Some b → (born_at m serial ≡ Some b → b.serial ≡ serial) → b.serial ≡ serial
+    of true q e later = let same : x.born ≡ b = Prim.cc in ap (λ (n : New). n.serial) (sym same) ∙ eqb-true _ _ q
+    of false q e later = later e
+
+-- the first memory's blocks have their numbers as serials, so each is found
+record IsFound (n : ℕ) (m : Memory) (b : New) : Type 0 where
+  rises : n ≤ b.serial
+  found : born_at m b.serial ≡ Some b
+
+found_from : (n : ℕ) (gs : List GlobalDef) (b : New) → IsAmong b (births (global_blocks n gs)) → IsFound n (global_blocks n gs) b
+unfolding born_at
+found_from n [] b h = elim h [ ]
+found_from n (g ∷ gs) b (inl e) =
+    let at : n ≡ b.serial = ap (λ (x : New). x.serial) e in
+    record { rises = omega (arith, at); found = cond-true _ _ _ (eq-eqb n b.serial at) ∙ ap (λ (x : New). Some x) e }
+found_from n (g ∷ gs) b (inr h) =
+    let later : IsFound (suc n) (global_blocks (suc n) gs) b = found_from (suc n) gs b h in
+    let other : n ≡ b.serial → ⊥ = λ at. omega (arith, later.rises, at) in
+    record { rises = omega (arith, later.rises); found = cond-false _ _ _ (ne_eqb n b.serial other) ∙ later.found }
+
+pub global_found : (program : Program) (b : New) → IsAmong b (globals_of program) → born_at (first_memory program) b.serial ≡ Some b
+unfolding first_memory
+global_found program b h = (found_from 0 program.globals b h).found
+
+-- ---- cells
+
+-- a cell of a live block within its size is there
+pub cell_there : (program : Program) (m : Memory) (c : Cell) (b : New) → AllByRecursion (IsFilled program) m → born_at m c.serial ≡ Some b → c.index < b.count → IsThere (cell_at m c)
+unfolding born_at cell_at
+cell_there program [] c b h e inside = absurd (Prim.cc)
+cell_there program (x ∷ m) c b h e inside = of (x.born.serial == c.serial) e (cell_there program m c b h.1)
+  where
+    of : (t : Bool) → cond t (Some x.born) (born_at m c.serial) ≡ Some b → (born_at m c.serial ≡ Some b → c.index < b.count → IsThere (cell_at m c))
+        → IsThere (cond t (slice_get x.cells c.index) (cell_at m c))
+    of true e later = let same : x.born ≡ b = Prim.cc in let counted : x.born.count ≡ b.count = ap (λ (n : New). n.count) same in
+        get_inside x.cells c.index (omega (arith, h.0.size, counted, inside))
+    of false e later = later e inside
+
+pub cell_filled : (program : Program) (m : Memory) (c : Cell) (v : Wire) (b : New) → AllByRecursion (IsFilled program) m → cell_at m c ≡ Some v → born_at m c.serial ≡ Some b
+    → fits program b.ty v ≡ true
+unfolding born_at cell_at
+cell_filled program [] c v b h e q = absurd (Prim.cc)
+cell_filled program (x ∷ m) c v b h e q = of (x.born.serial == c.serial) e q (cell_filled program m c v b h.1)
+  where
+    of : (t : Bool) → cond t (slice_get x.cells c.index) (cell_at m c) ≡ Some v → cond t (Some x.born) (born_at m c.serial) ≡ Some b
+        → (cell_at m c ≡ Some v → born_at m c.serial ≡ Some b → fits program b.ty v ≡ true) → fits program b.ty v ≡ true
+    of true e q later = let same : x.born ≡ b = Prim.cc in
+        subst (λ (n : New). fits program n.ty v ≡ true) same (all_get (λ (w : Wire). fits program x.born.ty w ≡ true) x.cells c.index v h.0.fit e)
+    of false e q later = later e q
+
+pub cell_fits : (program : Program) (m : Memory) (c : Cell) (v : Wire) (b : New) → Holds program m → cell_at m c ≡ Some v → born_at m c.serial ≡ Some b → fits program b.ty v ≡ true
+cell_fits program m c v b h e q = cell_filled program m c v b h.filled e q
+
+-- ---- stores
+
+pub filled_put : (program : Program) (m : Memory) (c : Cell) (v : Wire) → AllByRecursion (IsFilled program) m
+    → ((b : New) → born_at m c.serial ≡ Some b → fits program b.ty v ≡ true) → AllByRecursion (IsFilled program) (put m c v)
+unfolding born_at put
+filled_put program [] c v h f = tt
+filled_put program (x ∷ m) c v h f =
+    cond_both (x.born.serial == c.serial) _ _ (AllByRecursion (IsFilled program))
+    (λ e. (
+      record {
+        size = length-set x.cells c.index v ∙ h.0.size;
+        fit = all_set (λ (w : Wire). fits program x.born.ty w ≡ true) x.cells c.index v h.0.fit (f x.born (cond-true _ _ _ e));
+      },
+      h.1,
+    ))
+    (λ e. (h.0, filled_put program m c v h.1 (λ b q. f b (cond-false _ _ _ e ∙ q))))
+
+-- a value that fits its block keeps the memory
+pub holds_put : (program : Program) (m : Memory) (c : Cell) (v : Wire) (b : New) → Holds program m → born_at m c.serial ≡ Some b → fits program b.ty v ≡ true → Holds program (put m c v)
+holds_put program m c v b h e f = record {
+  born = births-put m c v ∙ h.born;
+  filled = filled_put program m c v h.filled (λ b' e'. let same : b ≡ b' = Prim.cc in subst (λ (n : New). fits program n.ty v ≡ true) same f);
+}
+
+-- ---- values that fit
+
+-- ---- accesses
+
+all_four : (a b c d : Bool) → (a && b && c && d) ≡ true → ((a ≡ true) × (b ≡ true)) × (c ≡ true) × (d ≡ true)
+all_four true true true true e = ((refl, refl), refl, refl)
+all_four true true true false e = absurd (Prim.cc)
+all_four true true false d e = absurd (Prim.cc)
+all_four true false c d e = absurd (Prim.cc)
+all_four false b c d e = absurd (Prim.cc)
+
+-- what a view of a block says
+pub record IsWithinBlock (block : New) (p : WireView) : Type 0 where
+  pub first : p.first ≡ 0
+  pub type_is : p.ty ≡ block.ty
+  pub size : p.count ≡ block.count
+  pub inside : p.index ≤ p.count
+
+pub view_within : (block : New) (p : WireView) → is_view_of block p ≡ true → IsWithinBlock block p
+unfolding is_view_of
+view_within block p e =
+    let parts : (((p.first == 0) ≡ true) × ((p.ty == block.ty) ≡ true)) × ((p.count == block.count) ≡ true) × (nat_le p.index p.count ≡ true) =
+    all_four (p.first == 0) (p.ty == block.ty) (p.count == block.count) (nat_le p.index p.count) e in
+    record {
+      first = eqb-true _ _ parts.0.0;
+      type_is = eqb-true _ _ parts.0.1;
+      size = eqb-true _ _ parts.1;
+      inside = leb-true _ _ parts.2;
+    }
+
+reached_at : (is_alive is_inside is_allowed : Bool) (c d : Cell) → reached_by is_alive is_inside is_allowed c ≡ Ok d → c ≡ d
+reached_at false i a c d e = absurd (Prim.cc)
+reached_at true false a c d e = absurd (Prim.cc)
+reached_at true true false c d e = absurd (Prim.cc)
+reached_at true true true c d e = Prim.cc
+
+loaded_value_is : (v w : Wire) → loaded_value v ≡ Ok w → v ≡ w
+loaded_value_is (wire.Int k i) w e = Prim.cc
+loaded_value_is wire.Null w e = Prim.cc
+loaded_value_is (wire.Ptr p) w e = Prim.cc
+loaded_value_is wire.Dead w e = absurd (Prim.cc)
+loaded_value_is (wire.Fn f) w e = Prim.cc
+loaded_value_is (wire.Lock s) w e = Prim.cc
+loaded_value_is wire.NoValue w e = Prim.cc
+
+loaded_cell_is : (o : Option Wire) (v : Wire) → loaded_cell o ≡ Ok v → o ≡ Some v
+loaded_cell_is None v e = absurd (Prim.cc)
+loaded_cell_is (Some w) v e = ap (λ (x : Wire). Some x) (loaded_value_is w v e)
+
+-- what is loaded is what the cell holds
+pub loaded_is : (allowed : Cell → Bool) (m : Memory) (p : WireView) (v : Wire) → loaded allowed m (wire.Ptr p) ≡ Ok v → cell_at m (cell_of p) ≡ Some v
+unfolding loaded reached
+loaded_is allowed m p v e = of (reached_by (is_live m p.serial) (nat_lt p.index p.count) (allowed (cell_of p)) (cell_of p)) e
+    (λ c q. reached_at (is_live m p.serial) (nat_lt p.index p.count) (allowed (cell_of p)) (cell_of p) c q)
+  where
+    of : (x : Result Cell StopKind) → loaded_from m x ≡ Ok v → ((c : Cell) → x ≡ Ok c → cell_of p ≡ c) → cell_at m (cell_of p) ≡ Some v
+    of (Ok c) q at = ap (cell_at m) (at c refl) ∙ loaded_cell_is (cell_at m c) v q
+    of (Err kind) q at = absurd (Prim.cc)
+
+-- a store is a put of the value as it is now
+pub stored_is : (allowed : Cell → Bool) (m m' : Memory) (p : WireView) (v : Wire) → stored allowed m (wire.Ptr p) v ≡ Ok m' → put m (cell_of p) (normal m v) ≡ m'
+unfolding stored reached
+stored_is allowed m m' p v e = of (reached_by (is_live m p.serial) (nat_lt p.index p.count) (allowed (cell_of p)) (cell_of p)) e
+    (λ c q. reached_at (is_live m p.serial) (nat_lt p.index p.count) (allowed (cell_of p)) (cell_of p) c q)
+  where
+    of : (x : Result Cell StopKind) → stored_into m v x ≡ Ok m' → ((c : Cell) → x ≡ Ok c → cell_of p ≡ c) → put m (cell_of p) (normal m v) ≡ m'
+    of (Ok c) q at = let same : put m c (normal m v) ≡ m' = Prim.cc in ap (λ (d : Cell). put m d (normal m v)) (at c refl) ∙ same
+    of (Err kind) q at = absurd (Prim.cc)
+
+-- a memory that holds has each global as it was born
+pub known_born : (program : Program) (m : Memory) (b : New) → Holds program m → IsAmong b (globals_of program) → born_at m b.serial ≡ Some b
+known_born program m b h among = born_at-births m (first_memory program) b.serial h.born ∙ global_found program b among
+
+pub pointer_born : (program : Program) (m : Memory) (p : WireView) (h : Holds program m) (known : IsKnownView (globals_of program) p) → born_at m p.serial ≡ Some known.block
+pointer_born program m p h known = ap (born_at m) (sym known.serial) ∙ known_born program m known.block h known.among
+
+-- a load through a known pointer gives a value of its type
+pub loaded_fits : (program : Program) (allowed : Cell → Bool) (m : Memory) (p v : Wire) → Holds program m → IsKnownPointer (globals_of program) p → loaded allowed m p ≡ Ok v → IsValueAt program p v
+loaded_fits program allowed m (wire.Ptr p) v h known e =
+    subst (λ (n : ℕ). fits program n v ≡ true) (sym (view_within known.block p known.view).type_is)
+    (cell_fits program m (cell_of p) v known.block h (loaded_is allowed m p v e) (pointer_born program m p h known))
+loaded_fits program allowed m (wire.Int k i) v h known e = elim known [ ]
+loaded_fits program allowed m wire.Null v h known e = elim known [ ]
+loaded_fits program allowed m wire.Dead v h known e = elim known [ ]
+loaded_fits program allowed m (wire.Fn f) v h known e = elim known [ ]
+loaded_fits program allowed m (wire.Lock s) v h known e = elim known [ ]
+loaded_fits program allowed m wire.NoValue v h known e = elim known [ ]
+
+-- a store of a value of its type keeps the memory
+pub stored_holds : (program : Program) (allowed : Cell → Bool) (m m' : Memory) (p v : Wire) → Holds program m → IsKnownPointer (globals_of program) p → IsValueAt program p v → stored allowed m p v ≡ Ok m' → Holds program m'
+stored_holds program allowed m m' (wire.Ptr p) v h known fit e =
+    subst (Holds program) (stored_is allowed m m' p v e)
+    (subst (λ (w : Wire). Holds program (put m (cell_of p) w)) (sym (fitting_is_normal program p.ty m v fit))
+    (holds_put program m (cell_of p) v known.block h (pointer_born program m p h known)
+    (subst (λ (n : ℕ). fits program n v ≡ true) (view_within known.block p known.view).type_is fit)))
+stored_holds program allowed m m' (wire.Int k i) v h known fit e = elim known [ ]
+stored_holds program allowed m m' wire.Null v h known fit e = elim known [ ]
+stored_holds program allowed m m' wire.Dead v h known fit e = elim known [ ]
+stored_holds program allowed m m' (wire.Fn f) v h known fit e = elim known [ ]
+stored_holds program allowed m m' (wire.Lock s) v h known fit e = elim known [ ]
+stored_holds program allowed m m' wire.NoValue v h known fit e = elim known [ ]

@@ -1,0 +1,146 @@
+-- The tree of a function's body (C99 6.8, 6.9.1). It is made by passing on what comes next. One function serves both halves: bodies of the own half are entered, a call of any other function is a crossing.
+use Rattle.std.specs.Prelude.{ℕ, zero, suc, Bool, true, false, not, ◌&&◌, List, [], ◌∷◌, length, Option, Some, None, Result, Ok, Err, ℤ, nat_lt, slice_get, unwrap_or}
+use Rattle.mdr_core.specs.declared.kind.Kind.{Kind}
+use Rattle.mdr_core.specs.declared.undefined.Undefined.{Undefined}
+use Rattle.mdr_core.specs.declared.undefined.Undefined.TheVariants as undefined
+use Rattle.mdr_core.specs.declared.stop.StopKind.{StopKind}
+use Rattle.mdr_core.specs.declared.stop.StopKind.TheVariants as stop
+use Rattle.mdr_core.specs.declared.place.At.{At}
+use Rattle.mdr_core.specs.declared.plan.Half.{Half}
+use Rattle.mdr_core.specs.declared.plan.Half.TheVariants as half
+use Rattle.mdr_core.specs.declared.program.Program.{Program}
+use Rattle.mdr_core.specs.declared.program.GlobalDef.{GlobalDef}
+use Rattle.mdr_core.specs.declared.program.Func.{Func}
+use Rattle.mdr_core.specs.declared.code.Lval.{Lval}
+use Rattle.mdr_core.specs.declared.code.Lval.TheVariants.{Global}
+use Rattle.mdr_core.specs.declared.code.Expr.{Expr}
+use Rattle.mdr_core.specs.declared.code.Expr.TheVariants as expr
+use Rattle.mdr_core.specs.declared.code.Callee.{Callee}
+use Rattle.mdr_core.specs.declared.code.Callee.TheVariants.{Direct, Service}
+use Rattle.mdr_core.specs.declared.code.Step.{Step}
+use Rattle.mdr_core.specs.declared.code.Step.TheVariants as step
+use Rattle.mdr_core.specs.declared.code.Stmt.{Stmt}
+use Rattle.mdr_core.specs.Operators.{operated}
+use Rattle.mdr_model.specs.declared.wire.Wire.{Wire}
+use Rattle.mdr_model.specs.declared.wire.Wire.TheVariants as wire
+use Rattle.mdr_model.specs.Values.{type_number, wire_of, integer}
+use Rattle.mdr_model.specs.Tree.{Tree}
+
+-- ---- functions and their halves
+
+abbrev pub func_at : Program → ℕ → Option Func
+func_at program f = slice_get program.funcs f
+
+abbrev pub critical_of : Option Func → Bool
+critical_of None = false
+critical_of (Some f) = f.critical
+
+-- the kernel half is the functions that the source marks `__critical`
+unfoldable pub is_kernel : Program → ℕ → Bool
+is_kernel program f = critical_of (func_at program f)
+
+-- the user half is all others
+unfoldable pub is_user : Program → ℕ → Bool
+is_user program f = nat_lt f (length program.funcs) && not (is_kernel program f)
+
+-- whose bodies are entered on the side of a half
+abbrev pub is_own : Program → Half → ℕ → Bool
+is_own program half.Kernel f = is_kernel program f
+is_own program half.User f = not (is_kernel program f)
+
+abbrev pub body_of : Option Func → List Stmt
+body_of None = []
+body_of (Some f) = unwrap_or f.body []
+
+-- ---- expressions, from left to right
+
+abbrev pub type_of_global : Option GlobalDef → ℕ
+type_of_global None = 0
+type_of_global (Some g) = type_number g.ty
+
+-- the address of an lvalue: a view of one element
+unfoldable pub pointer_to : Program → Lval → Wire
+pointer_to program (Global g) =
+    wire.Ptr (record { serial = g; first = 0; ty = type_of_global (slice_get program.globals g); count = 1; index = 0 })
+
+abbrev pub stop_of : Undefined → StopKind
+stop_of undefined.Overflow = stop.Overflow
+stop_of undefined.DivZero = stop.DivZero
+stop_of undefined.Shift = stop.Shift
+
+abbrev pub given : Result ℤ Undefined → Kind → At → (Wire → Tree) → Tree
+given (Ok n) kind at k = k (wire.Int kind n)
+given (Err why) kind at k = Tree.Stop (stop_of why) at
+
+abbrev pub value : Program → At → Expr → (Wire → Tree) → Tree
+value program at (expr.Lit v) k = k (wire_of v)
+value program at (expr.Load place) k = Tree.Load at (pointer_to program place) k
+value program at (expr.Bin' op kind p a q b) k =
+    value program at a (λ x. value program at b (λ y. given (operated op kind (integer x) (integer y)) kind at k))
+
+abbrev pub values : Program → At → List Expr → (List Wire → Tree) → Tree
+values program at [] k = k []
+values program at (e ∷ es) k = value program at e (λ v. values program at es (λ vs. k (v ∷ vs)))
+
+-- ---- statements
+
+-- the function that runs, and how many are active before it
+pub record Here : Type 0 where
+  pub func : ℕ
+  pub depth : ℕ
+
+-- a called body by its function, its arguments and the functions active before it, and what comes next
+abbrev pub Enters : Type 0
+Enters = (func : ℕ) (args : List Wire) (depth : ℕ) → (Wire → Tree) → Tree
+
+abbrev pub by_half : Bool → (Unit {0} → Tree) → Tree → Tree
+by_half true inside across = inside tt
+by_half false inside across = across
+
+-- at most 256 functions are active
+abbrev pub at_depth : Bool → At → (Unit {0} → Tree) → Tree
+at_depth true at go = go tt
+at_depth false at go = Tree.Stop stop.Depth at
+
+-- what a service gave, as the value of its call
+abbrev pub first_result : List Wire → Wire
+first_result [] = wire.NoValue
+first_result (v ∷ vs) = v
+
+abbrev pub call : Program → Half → Enters → Here → At → Callee → List Wire → (Wire → Tree) → Tree
+call program half low here at (Direct f) vs k =
+    at_depth (nat_lt (suc here.depth) 256) at
+    (λ z. by_half (is_own program half f) (λ z. low f vs (suc here.depth) k) (Tree.Cross at f vs (suc here.depth) k))
+call program half low here at (Service n) vs k =
+    Tree.Ask (record { service = n; at = at; args = vs; shapes = []; bytes = [] }) (λ results. k (first_result results))
+
+-- where the value of a call goes; a value that is used must be there (C99 6.9.1, paragraph 12)
+abbrev pub keeps : Program → At → Option Lval → Wire → Tree → Tree
+keeps program at None v next = next
+keeps program at (Some place) wire.NoValue next = Tree.Stop stop.NoValue at
+keeps program at (Some place) v next = Tree.Store at (pointer_to program place) v next
+
+-- one statement; the right side of an assignment is evaluated before the left
+abbrev pub statement : Program → Half → Enters → Here → At → Step → Tree → Tree
+statement program half low here at (step.Assign place e) next =
+    value program at e (λ v. Tree.Store at (pointer_to program place) v next)
+statement program half low here at (step.Call target form) next =
+    values program at form.args (λ vs. call program half low here at form.callee vs (λ v. keeps program at target v next))
+
+-- each statement takes a tick, and the end of the function none
+abbrev pub statements : Program → Half → Enters → Here → List Stmt → Tree → Tree
+statements program half low here [] next = next
+statements program half low here (s ∷ ss) next =
+    let at : At = record { func = here.func; stmt = s.number } in
+    Tree.Tick at (statement program half low here at s.step (statements program half low here ss next))
+
+-- a function of the own half. Fuel is used where a called body is entered, which a tick precedes; where it runs out no tick is left
+unfoldable pub function : Program → Half → ℕ → Enters
+function program half zero f args depth k =
+    let at : At = record { func = f; stmt = 0 } in Tree.Tick at (Tree.Stop stop.Ticks at)
+function program half (suc n) f args depth k =
+    statements program half (function program half n) (record { func = f; depth = depth }) (body_of (func_at program f)) (k wire.NoValue)
+
+-- a function that was started with nothing below it
+abbrev pub started : Program → Half → ℕ → (func : ℕ) (args : List Wire) (depth : ℕ) → Tree
+started program half n f args depth = function program half n f args depth (λ v. Tree.Done v Tree.Idle)

@@ -1,0 +1,139 @@
+-- A memory is the list of its live blocks (C99 6.2.4): what was born and has not died.
+use Rattle.std.specs.Prelude.{ℕ, suc, ◌+◌, Bool, true, false, cond, List, [], ◌∷◌, map, Option, Some, None, Result, Ok, Err, ◌==◌, nat_lt, slice_get, slice_set, replicate}
+use Rattle.std.specs.List.{list_any}
+use Rattle.mdr_core.specs.declared.stop.StopKind.{StopKind}
+use Rattle.mdr_core.specs.declared.stop.StopKind.TheVariants as stop
+use Rattle.mdr_core.specs.declared.program.Program.{Program}
+use Rattle.mdr_core.specs.declared.program.GlobalDef.{GlobalDef}
+pub use Rattle.mdr_model.specs.declared.memory.MemoryBlock.{MemoryBlock}
+pub use Rattle.mdr_model.specs.declared.memory.Cell.{Cell}
+use Rattle.mdr_model.specs.declared.wire.Wire.{Wire}
+use Rattle.mdr_model.specs.declared.wire.Wire.TheVariants as wire
+use Rattle.mdr_model.specs.declared.wire.WireView.{WireView}
+use Rattle.mdr_model.specs.declared.message.New.{New}
+use Rattle.mdr_model.specs.declared.message.BirthKind.TheVariants.{Static}
+use Rattle.mdr_model.specs.Values.{type_number, type_at, zero_maybe, wire_of, names_block}
+
+-- ---- blocks and cells, which are declared in the code
+
+abbrev pub Memory : Type 0
+Memory = List MemoryBlock
+
+-- how the blocks were born, in order
+abbrev pub births : Memory → List New
+births m = map (λ b. b.born) m
+
+-- the block with a serial, as it was born, where it is live
+unfoldable pub born_at : Memory → ℕ → Option New
+born_at [] serial = None
+born_at (b ∷ m) serial = cond (b.born.serial == serial) (Some b.born) (born_at m serial)
+
+unfoldable pub is_live : Memory → ℕ → Bool
+is_live m serial = list_any (λ b. b.born.serial == serial) m
+
+-- what a cell holds, where its block is live and has it
+unfoldable pub cell_at : Memory → Cell → Option Wire
+cell_at [] c = None
+cell_at (b ∷ m) c = cond (b.born.serial == c.serial) (slice_get b.cells c.index) (cell_at m c)
+
+-- the memory with another value in one cell
+unfoldable pub put : Memory → Cell → Wire → Memory
+put [] c v = []
+put (b ∷ m) c v =
+    cond (b.born.serial == c.serial) (record b { cells = slice_set b.cells c.index v } ∷ m) (b ∷ put m c v)
+
+-- ---- births and deaths
+
+-- a block as it is born: zero in each cell
+abbrev pub zero_block : Program → New → MemoryBlock
+zero_block program n = record { born = n; cells = replicate n.count (zero_maybe (type_at program n.ty)) }
+
+-- a pointer to the block with this serial becomes a dead one
+abbrev pub swept : ℕ → Wire → Wire
+swept serial v = cond (names_block serial v) wire.Dead v
+
+-- the block dies, and each pointer to it becomes a dead one
+abbrev pub swept_block : ℕ → MemoryBlock → MemoryBlock
+swept_block serial b = record b { cells = map (swept serial) b.cells }
+
+unfoldable pub killed : ℕ → Memory → Memory
+killed serial [] = []
+killed serial (b ∷ m) = cond (b.born.serial == serial) (killed serial m) (swept_block serial b ∷ killed serial m)
+
+-- a value as it is read, sent and kept: a pointer whose block is not live is a dead one
+abbrev pub normal_if : Bool → WireView → Wire
+normal_if true p = wire.Ptr p
+normal_if false p = wire.Dead
+
+unfoldable pub normal : Memory → Wire → Wire
+normal m (wire.Ptr p) = normal_if (is_live m p.serial) p
+normal m (wire.Int k n) = wire.Int k n
+normal m wire.Null = wire.Null
+normal m wire.Dead = wire.Dead
+normal m (wire.Fn f) = wire.Fn f
+normal m (wire.Lock s) = wire.Lock s
+normal m wire.NoValue = wire.NoValue
+
+-- ---- the first memory
+
+abbrev pub global_block : ℕ → GlobalDef → MemoryBlock
+global_block number g = record {
+  born = record { serial = number; kind = Static; ty = type_number g.ty; count = g.count };
+  cells = map wire_of g.init;
+}
+
+abbrev pub global_blocks : ℕ → List GlobalDef → Memory
+global_blocks number [] = []
+global_blocks number (g ∷ gs) = global_block number g ∷ global_blocks (suc number) gs
+
+-- the globals, born in their order, so that a global's serial is its number
+unfoldable pub first_memory : Program → Memory
+first_memory program = global_blocks 0 program.globals
+
+-- ---- accesses
+
+-- the cell that a pointer names. Elements of the types that are built have one cell each
+abbrev pub cell_of : WireView → Cell
+cell_of p = record { serial = p.serial; index = p.first + p.index }
+
+-- the tests of an access in their order: the block lives, the index is in range (C99 6.5.6), the cell may be touched
+abbrev pub reached_by : (is_alive is_inside is_allowed : Bool) → Cell → Result Cell StopKind
+reached_by false is_inside is_allowed c = Err stop.Dead
+reached_by true false is_allowed c = Err stop.Bounds
+reached_by true true false c = Err stop.Annotation
+reached_by true true true c = Ok c
+
+-- the cell that an access through a pointer touches, or the stop; only pointers are ever used so
+unfoldable pub reached : (Cell → Bool) → Memory → Wire → Result Cell StopKind
+reached allowed m (wire.Ptr p) = reached_by (is_live m p.serial) (nat_lt p.index p.count) (allowed (cell_of p)) (cell_of p)
+reached allowed m wire.Dead = Err stop.Dead
+reached allowed m _ = Err stop.Null
+
+-- a dead pointer is not loaded
+abbrev pub loaded_value : Wire → Result Wire StopKind
+loaded_value wire.Dead = Err stop.Dead
+loaded_value v = Ok v
+
+abbrev pub loaded_cell : Option Wire → Result Wire StopKind
+loaded_cell None = Err stop.Dead
+loaded_cell (Some v) = loaded_value v
+
+abbrev pub loaded_from : Memory → Result Cell StopKind → Result Wire StopKind
+loaded_from m (Err kind) = Err kind
+loaded_from m (Ok c) = loaded_cell (cell_at m c)
+
+-- what is loaded through a pointer, or the stop
+unfoldable pub loaded : (Cell → Bool) → Memory → Wire → Result Wire StopKind
+loaded allowed m p = loaded_from m (reached allowed m p)
+
+abbrev pub stored_into : Memory → Wire → Result Cell StopKind → Result Memory StopKind
+stored_into m v (Err kind) = Err kind
+stored_into m v (Ok c) = Ok (put m c (normal m v))
+
+-- the memory after a store through a pointer, or the stop
+unfoldable pub stored : (Cell → Bool) → Memory → Wire → Wire → Result Memory StopKind
+stored allowed m p v = stored_into m v (reached allowed m p)
+
+-- code of the kernel half may touch each cell
+abbrev pub everywhere : Cell → Bool
+everywhere c = true

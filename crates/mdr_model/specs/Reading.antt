@@ -1,0 +1,208 @@
+-- What bytes are as a message: the message that they spell, or why they are none, with the offset.
+use Rattle.std.specs.Prelude.{ℕ, cond, List, [], ◌∷◌, length, Option, Some, None, Result, Ok, Err, ◌==◌, slice_get}
+use Rattle.mdr_core.specs.declared.kind.Kind.{Kind}
+use Rattle.mdr_core.specs.declared.kind.Kind.TheVariants.{U8, U16, U32, U64, S8, S16, S32, S64}
+use Rattle.mdr_core.specs.declared.refusal.RefuseKind.TheVariants as refusal
+use Rattle.mdr_core.specs.declared.place.At.{At}
+use Rattle.mdr_model.specs.declared.wire.Wire.{Wire}
+use Rattle.mdr_model.specs.declared.wire.Wire.TheVariants as wire
+use Rattle.mdr_model.specs.declared.wire.WireView.{WireView}
+use Rattle.mdr_model.specs.declared.message.BirthKind.{BirthKind}
+use Rattle.mdr_model.specs.declared.message.BirthKind.TheVariants.{Static, Heap, Auto}
+use Rattle.mdr_model.specs.declared.message.New.{New}
+use Rattle.mdr_model.specs.declared.message.Run.{Run}
+use Rattle.mdr_model.specs.declared.message.SetRun.{SetRun}
+use Rattle.mdr_model.specs.declared.message.Shape64.{Shape64}
+use Rattle.mdr_model.specs.declared.message.Fault.{Fault}
+use Rattle.mdr_model.specs.declared.message.Message.{Message}
+use Rattle.mdr_model.specs.declared.message.Message.TheVariants as message
+use Rattle.mdr_model.specs.Faults.{fault}
+use Rattle.mdr_model.specs.Xdr.{Input, Read, ◌>>=◌, four_at, eight_at, item_at, opaque_at, list_at}
+
+-- ---- parts
+
+abbrev pub kinds : List Kind
+kinds = U8 ∷ U16 ∷ U32 ∷ U64 ∷ S8 ∷ S16 ∷ S32 ∷ S64 ∷ []
+
+unfoldable pub view_at : Input → Read WireView
+view_at i = do
+  serial ← eight_at i
+  first ← four_at serial.1
+  type ← four_at first.1
+  count ← four_at type.1
+  index ← four_at count.1
+  Ok (record { serial = serial.0; first = first.0; ty = type.0; count = count.0; index = index.0 }, index.1)
+
+abbrev pub number_value_at : Option Kind → ℕ → Input → Read Wire
+number_value_at (Some k) tag_at i = do
+  n ← item_at k i
+  Ok (wire.Int k n.0, n.1)
+number_value_at None tag_at i = Err (fault refusal.Kind tag_at)
+
+abbrev pub pointer_at : Input → Read Wire
+pointer_at i = do
+  p ← view_at i
+  Ok (wire.Ptr p.0, p.1)
+
+abbrev pub function_at : Input → Read Wire
+function_at i = do
+  f ← four_at i
+  Ok (wire.Fn f.0, f.1)
+
+-- behind a tag, which stands at the given offset
+unfoldable pub tagged_at : ℕ → ℕ → Input → Read Wire
+tagged_at tag tag_at i =
+    cond (tag == 8) (Ok (wire.Null, i))
+    (cond (tag == 9) (pointer_at i)
+    (cond (tag == 10) (Ok (wire.Dead, i))
+    (cond (tag == 11) (function_at i)
+    (cond (tag == 12) (Ok (wire.NoValue, i)) (number_value_at (slice_get kinds tag) tag_at i)))))
+
+unfoldable pub value_at : Input → Read Wire
+value_at i = do
+  tag ← four_at i
+  tagged_at tag.0 i.at tag.1
+
+abbrev pub births_by_number : List BirthKind
+births_by_number = Static ∷ Heap ∷ Auto ∷ []
+
+abbrev pub birth_or : Option BirthKind → ℕ → Input → Read BirthKind
+birth_or (Some kind) at i = Ok (kind, i)
+birth_or None at i = Err (fault refusal.Range at)
+
+unfoldable pub birth_at : Input → Read BirthKind
+birth_at i = do
+  n ← four_at i
+  birth_or (slice_get births_by_number n.0) i.at n.1
+
+unfoldable pub new_at : Input → Read New
+new_at i = do
+  serial ← eight_at i
+  birth ← birth_at serial.1
+  type ← four_at birth.1
+  count ← four_at type.1
+  Ok (record { serial = serial.0; kind = birth.0; ty = type.0; count = count.0 }, count.1)
+
+unfoldable pub run_at : Input → Read Run
+run_at i = do
+  serial ← eight_at i
+  first ← four_at serial.1
+  values ← list_at value_at first.1
+  Ok (record { serial = serial.0; first = first.0; values = values.0 }, values.1)
+
+unfoldable pub set_run_at : Input → Read SetRun
+set_run_at i = do
+  serial ← eight_at i
+  first ← four_at serial.1
+  len ← four_at first.1
+  Ok (record { serial = serial.0; first = first.0; len = len.0 }, len.1)
+
+unfoldable pub shape_at : Input → Read Shape64
+shape_at i = do
+  type ← four_at i
+  count ← eight_at type.1
+  Ok (record { ty = type.0; count = count.0 }, count.1)
+
+unfoldable pub place_at : Input → Read At
+place_at i = do
+  func ← four_at i
+  stmt ← four_at func.1
+  Ok (record { func = func.0; stmt = stmt.0 }, stmt.1)
+
+-- ---- messages, behind their kind
+
+unfoldable pub call_at : Input → Read Message
+call_at i = do
+  func ← four_at i
+  depth ← four_at func.1
+  rest ← eight_at depth.1
+  args ← list_at value_at rest.1
+  deaths ← list_at eight_at args.1
+  news ← list_at new_at deaths.1
+  view ← list_at set_run_at news.1
+  runs ← list_at run_at view.1
+  Ok (message.Call func.0 depth.0 rest.0 args.0 deaths.0 news.0 view.0 runs.0, runs.1)
+
+unfoldable pub return_at : Input → Read Message
+return_at i = do
+  ticks ← eight_at i
+  result ← value_at ticks.1
+  runs ← list_at run_at result.1
+  Ok (message.Return ticks.0 result.0 runs.0, runs.1)
+
+unfoldable pub down_at : Input → Read Message
+down_at i = do
+  ticks ← eight_at i
+  at ← place_at ticks.1
+  depth ← four_at at.1
+  func ← four_at depth.1
+  args ← list_at value_at func.1
+  runs ← list_at run_at args.1
+  Ok (message.Down ticks.0 at.0 depth.0 func.0 args.0 runs.0, runs.1)
+
+unfoldable pub back_at : Input → Read Message
+back_at i = do
+  rest ← eight_at i
+  result ← value_at rest.1
+  deaths ← list_at eight_at result.1
+  news ← list_at new_at deaths.1
+  view ← list_at set_run_at news.1
+  runs ← list_at run_at view.1
+  Ok (message.Back rest.0 result.0 deaths.0 news.0 view.0 runs.0, runs.1)
+
+unfoldable pub ask_at : Input → Read Message
+ask_at i = do
+  ticks ← eight_at i
+  at ← place_at ticks.1
+  service ← four_at at.1
+  args ← list_at value_at service.1
+  shapes ← list_at shape_at args.1
+  bytes ← opaque_at shapes.1
+  runs ← list_at run_at bytes.1
+  Ok (message.Ask ticks.0 at.0 service.0 args.0 shapes.0 bytes.0 runs.0, runs.1)
+
+unfoldable pub answer_at : Input → Read Message
+answer_at i = do
+  results ← list_at value_at i
+  deaths ← list_at eight_at results.1
+  news ← list_at new_at deaths.1
+  Ok (message.Answer results.0 deaths.0 news.0, news.1)
+
+unfoldable pub stop_at : Input → Read Message
+stop_at i = do
+  ticks ← eight_at i
+  stop ← four_at ticks.1
+  at ← place_at stop.1
+  runs ← list_at run_at at.1
+  Ok (message.Stop ticks.0 stop.0 at.0 runs.0, runs.1)
+
+unfoldable pub refuse_at : Input → Read Message
+refuse_at i = do
+  reason ← four_at i
+  Ok (message.Refuse reason.0, reason.1)
+
+unfoldable pub message_by : ℕ → ℕ → Input → Read Message
+message_by kind kind_at i =
+    cond (kind == 1) (call_at i)
+    (cond (kind == 2) (return_at i)
+    (cond (kind == 3) (down_at i)
+    (cond (kind == 4) (back_at i)
+    (cond (kind == 5) (ask_at i)
+    (cond (kind == 6) (answer_at i)
+    (cond (kind == 7) (stop_at i)
+    (cond (kind == 8) (refuse_at i) (Err (fault refusal.Kind kind_at)))))))))
+
+unfoldable pub message_at : Input → Read Message
+message_at i = do
+  kind ← four_at i
+  message_by kind.0 i.at kind.1
+
+-- nothing is left over
+abbrev pub all_of : Message → Input → Result Message Fault
+all_of m i = cond (length i.bytes == 0) (Ok m) (Err (fault refusal.Trailing i.at))
+
+-- what bytes are: a message, all of them, or the first fault from the left
+unfoldable pub reading_of : List ℕ → Result Message Fault
+reading_of bytes = do
+  m ← message_at (record { at = 0; bytes = bytes })
+  all_of m.0 m.1

@@ -1,0 +1,83 @@
+-- The one-memory meaning of a driver and a script: both halves run on one memory, and user code that touches a cell outside the visible set stops.
+use Rattle.std.specs.Prelude.{ℕ, suc, Bool, true, false, List, [], ◌∷◌, map, Option, Some, None}
+use Rattle.mdr_core.specs.declared.plan.Half.TheVariants as half
+use Rattle.mdr_core.specs.declared.program.Program.{Program}
+use Rattle.mdr_core.specs.declared.program.Func.{Func}
+use Rattle.mdr_model.specs.declared.wire.Wire.{Wire}
+use Rattle.mdr_model.specs.declared.wire.Wire.TheVariants as wire
+use Rattle.mdr_model.specs.declared.outcome.End.{End}
+use Rattle.mdr_model.specs.declared.outcome.End.TheVariants as ends
+use Rattle.mdr_model.specs.declared.outcome.Happened.TheVariants as happened
+use Rattle.mdr_model.specs.Values.{value_of}
+use Rattle.mdr_model.specs.Memory.{first_memory, normal, loaded, stored}
+use Rattle.mdr_model.specs.Sets.{is_in, visible}
+use Rattle.mdr_model.specs.Tree.{Tree}
+use Rattle.mdr_model.specs.Meaning.{func_at, is_kernel, started}
+use Rattle.mdr_model.specs.World.{World, Ran, Ended, Stopped, after, ticked, when_loaded, when_stored, noted, served, as_now, kernel_call}
+
+-- the visible set is taken anew
+unfoldable pub renewed : Program → World → World
+renewed program w = record w { view = visible program w.memory }
+
+-- what a tree of the user half does: each access is guarded by the visible set, a downcall is done in place, and the set is taken anew when it returns
+unfoldable pub in_user : Program → Tree → World → Ran Wire
+in_user program Tree.Idle w = Ended wire.NoValue w
+in_user program (Tree.Done v t) w = Ended (normal w.memory v) w
+in_user program (Tree.Stop kind at) w = Stopped kind (Some at) w
+in_user program (Tree.Tick at t) w = ticked at w (λ w'. in_user program t w')
+in_user program (Tree.Load at p k) w =
+    when_loaded (loaded (is_in w.view) w.memory p) at w (λ v. in_user program (k v) w)
+in_user program (Tree.Store at p v t) w =
+    when_stored (stored (is_in w.view) w.memory p v) at w (λ w'. in_user program t w')
+in_user program (Tree.Ask asked k) w =
+    after (served (as_now w.memory asked) w) (λ results w'. in_user program (k results) w')
+in_user program (Tree.Cross at func args depth k) w =
+    after (kernel_call program func (map (normal w.memory) args) depth w) (λ v w'. in_user program (k v) (renewed program w'))
+
+-- a function of the user half is called by a command
+unfoldable pub upcall : Program → (func : ℕ) (args : List Wire) → World → Ran Wire
+upcall program func args w = in_user program (started program half.User (suc w.rest) func args 0) (renewed program w)
+
+-- ---- scripts
+
+-- how a run ended, and its state then
+pub record Finish : Type 0 where
+  pub end : End
+  pub world : World
+
+abbrev pub name_of : Option Func → List ℕ
+name_of None = []
+name_of (Some f) = f.name
+
+-- a `call` command begins
+unfoldable pub begun : Program → ℕ → World → World
+begun program f w = noted (happened.Call (name_of (func_at program f)) []) (record w { calls = suc w.calls })
+
+-- its result is noted
+unfoldable pub returned : Wire → World → World
+returned v w = noted (happened.Ret (value_of v)) w
+
+abbrev pub finish : End → World → Finish
+finish end w = record { end = end; world = w }
+
+-- what follows a command: the run goes on, or it stopped
+abbrev pub and_then : Ran Wire → (World → Finish) → Finish
+and_then (Ended v w) go = go (returned v w)
+and_then (Stopped kind at w) go = finish (ends.Stop kind at) w
+
+abbrev pub called_by : Bool → Program → ℕ → World → Ran Wire
+called_by true program f w = kernel_call program f [] 0 w
+called_by false program f w = upcall program f [] w
+
+-- the commands of a script: each calls the function with this number
+unfoldable pub commands : Program → List ℕ → World → Finish
+commands program [] w = finish ends.Ok w
+commands program (f ∷ fs) w = and_then (called_by (is_kernel program f) program f (begun program f w)) (λ w'. commands program fs w')
+
+-- the state in which a run begins
+unfoldable pub first_world : Program → ℕ → World
+first_world program budget = record { memory = first_memory program; view = []; ticks = 0; rest = budget; events = []; calls = 0 }
+
+-- the one-memory meaning of a script under a budget of ticks
+unfoldable pub watched : Program → List ℕ → ℕ → Finish
+watched program script budget = commands program script (first_world program budget)

@@ -1,0 +1,20 @@
+//! What a split run means: the definitions that several crates cite, and the law over them.
+#![tactic(auto)]
+
+mod laws;
+mod memory;
+mod message;
+mod outcome;
+mod wire;
+mod worked;
+
+pub use laws::{fuel_is_no_matter, split_is_one_memory};
+pub use memory::{Cell, MemoryBlock};
+pub use message::{BirthKind, Fault, Message, New, Run, SetRun, Shape64};
+pub use outcome::{End, Happened, Object, Outcome, Seen};
+pub use wire::{Wire, WireView};
+pub use worked::{
+    a_budget_stops_the_run, add_one_prints_its_report, an_empty_script_ends_at_once,
+    bump_messages_are_spelled, bump_prints_its_report, bump_sends_eight_messages,
+    reset_prints_its_report, reset_tells_each_change,
+};

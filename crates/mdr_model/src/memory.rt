@@ -1,0 +1,19 @@
+// Memories.
+
+use crate::message::New;
+use crate::wire::Wire;
+use mdr_core::Items;
+
+/// A live block: how it was born, and what its cells hold.
+#[derive(Debug, Drop)]
+pub struct MemoryBlock {
+    pub born: New,
+    pub cells: Items<Wire>,
+}
+
+/// A cell of a block, by the block's serial.
+#[derive(Clone, Copy, Debug, PartialEq, Eq)]
+pub struct Cell {
+    pub serial: u64,
+    pub index: u32,
+}

@@ -1,0 +1,123 @@
+// The messages between the halves.
+
+use crate::wire::Wire;
+use mdr_core::{At, Items, RefuseKind};
+
+/// How a block was born.
+#[derive(Clone, Copy, Debug, PartialEq, Eq)]
+pub enum BirthKind {
+    /// A global.
+    Static,
+    /// An allocation.
+    Heap,
+    /// An object of a local.
+    Auto,
+}
+
+/// A block that the other half is told of for the first time: `count` elements of a type of the table.
+#[derive(Clone, Copy, Debug, PartialEq, Eq)]
+pub struct New {
+    pub serial: u64,
+    pub kind: BirthKind,
+    pub ty: u32,
+    pub count: u32,
+}
+
+/// Values of cells of one block that follow one another.
+#[derive(Debug, Drop)]
+pub struct Run {
+    pub serial: u64,
+    pub first: u32,
+    pub values: Items<Wire>,
+}
+
+/// Cells of one block that follow one another.
+#[derive(Clone, Copy, Debug, PartialEq, Eq)]
+pub struct SetRun {
+    pub serial: u64,
+    pub first: u32,
+    pub len: u32,
+}
+
+/// What an allocation asks for: `count` elements of a type of the table.
+#[derive(Clone, Copy, Debug, PartialEq, Eq)]
+pub struct Shape64 {
+    pub ty: u32,
+    pub count: u64,
+}
+
+/// A message. `Call`, `Back` and `Answer` go to the user half, all others to the kernel half. In those,
+/// `ticks` are the user half's ticks since the last message that it got; `rest` is what the budget leaves.
+#[derive(Debug, Drop)]
+pub enum Message {
+    /// An upcall of a function, with the functions that are active before it, the blocks that died since the
+    /// last message, those that are new, the visible cells, and of these the ones that changed.
+    Call {
+        func: u32,
+        depth: u32,
+        rest: u64,
+        args: Items<Wire>,
+        deaths: Items<u64>,
+        news: Items<New>,
+        view: Items<SetRun>,
+        runs: Items<Run>,
+    },
+    /// The upcall's function returned.
+    Return {
+        ticks: u64,
+        result: Wire,
+        runs: Items<Run>,
+    },
+    /// A downcall of a function, from a place, with the functions that are active before it.
+    Down {
+        ticks: u64,
+        at: At,
+        depth: u32,
+        func: u32,
+        args: Items<Wire>,
+        runs: Items<Run>,
+    },
+    /// The downcall's function returned.
+    Back {
+        rest: u64,
+        result: Wire,
+        deaths: Items<u64>,
+        news: Items<New>,
+        view: Items<SetRun>,
+        runs: Items<Run>,
+    },
+    /// A service is asked for, from a place.
+    Ask {
+        ticks: u64,
+        at: At,
+        service: u32,
+        args: Items<Wire>,
+        shapes: Items<Shape64>,
+        bytes: Items<u8>,
+        runs: Items<Run>,
+    },
+    /// The service's results.
+    Answer {
+        results: Items<Wire>,
+        deaths: Items<u64>,
+        news: Items<New>,
+    },
+    /// User code stopped, by the stop's number.
+    Stop {
+        ticks: u64,
+        stop: u32,
+        at: At,
+        runs: Items<Run>,
+    },
+    /// The last message was refused: 1 it is no message, 2 its kind isn't awaited, 3 its content doesn't fit.
+    Refuse {
+        reason: u32,
+    },
+}
+
+/// Why bytes are no message, or a message no legal reply: the cause, and its offset or position.
+#[derive(Clone, Copy, Debug, PartialEq, Eq)]
+pub struct Fault {
+    pub kind: RefuseKind,
+    pub number: u64,
+}

@@ -1,0 +1,5 @@
+pub mod Unsigned
+pub mod Loop
+pub mod Fields
+pub mod Messages
+pub mod Lifted

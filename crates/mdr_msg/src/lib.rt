@@ -1,0 +1,21 @@
+//! Messages as bytes (RFC 4506). Each message has one spelling.
+#![tactic(auto)]
+
+mod error;
+mod integers;
+mod item;
+mod laws;
+mod lists;
+mod parts;
+mod reading;
+mod values;
+mod writing;
+
+pub use error::MsgError;
+pub use laws::{bytes_are_one_memory, no_spelling_begins_another, one_spelling};
+pub use mdr_model::{BirthKind, Message, New, Run, SetRun, Shape64, Wire, WireView};
+pub use reading::decode;
+pub use writing::encode;
+
+#[cfg(test)]
+mod tests;

@@ -1,0 +1,98 @@
+// Messages from outside. What is read is proved to be written as the same bytes.
+
+use super::bytes_of;
+use crate::{Message, Wire, decode, encode};
+use mdr_core::Items;
+use std::test::Fail;
+
+/// The eight messages of a run in which a user-half function calls one of the kernel half twice, and asks for a write
+/// of a register between.
+const RUN: [(&str, &str); 8] = [
+    (
+        "00000001000000010000000000000000000f4240000000000000000000000000000000010000000000000000000000000000000100000000",
+        "Call { func: 1, depth: 0, rest: 1000000, args: Items { items: [] }, deaths: Items { items: [] }, news: Items { items: [] }, view: Items { items: [SetRun { serial: 0, first: 0, len: 1 }] }, runs: Items { items: [] } }",
+    ),
+    (
+        "000000030000000000000001000000010000000100000001000000000000000000000000",
+        "Down { ticks: 1, at: At { func: 1, stmt: 1 }, depth: 1, func: 0, args: Items { items: [] }, runs: Items { items: [] } }",
+    ),
+    (
+        "0000000400000000000f423e0000000c0000000000000000000000010000000000000000000000000000000100000001000000000000000000000000000000010000000200000001",
+        "Back { rest: 999998, result: NoValue, deaths: Items { items: [] }, news: Items { items: [] }, view: Items { items: [SetRun { serial: 0, first: 0, len: 1 }] }, runs: Items { items: [Run { serial: 0, first: 0, values: Items { items: [Int(U32, 1)] } }] } }",
+    ),
+    (
+        "0000000500000000000000010000000100000002000000050000000200000002000000010000000200000004000000000000000000000000",
+        "Ask { ticks: 1, at: At { func: 1, stmt: 2 }, service: 5, args: Items { items: [Int(U32, 1), Int(U32, 4)] }, shapes: Items { items: [] }, bytes: Items { items: [] }, runs: Items { items: [] } }",
+    ),
+    (
+        "00000006000000000000000000000000",
+        "Answer { results: Items { items: [] }, deaths: Items { items: [] }, news: Items { items: [] } }",
+    ),
+    (
+        "000000030000000000000001000000010000000300000001000000000000000000000000",
+        "Down { ticks: 1, at: At { func: 1, stmt: 3 }, depth: 1, func: 0, args: Items { items: [] }, runs: Items { items: [] } }",
+    ),
+    (
+        "0000000400000000000f423b0000000c0000000000000000000000010000000000000000000000000000000100000001000000000000000000000000000000010000000200000002",
+        "Back { rest: 999995, result: NoValue, deaths: Items { items: [] }, news: Items { items: [] }, view: Items { items: [SetRun { serial: 0, first: 0, len: 1 }] }, runs: Items { items: [Run { serial: 0, first: 0, values: Items { items: [Int(U32, 2)] } }] } }",
+    ),
+    (
+        "0000000200000000000000000000000c00000000",
+        "Return { ticks: 0, result: NoValue, runs: Items { items: [] } }",
+    ),
+];
+
+/// Other messages, with a value of every tag.
+const OTHERS: [(&str, &str); 4] = [
+    (
+        "000000060000000d00000000000000ff000000010000010200000002ffffffff00000003000000000000000100000004ffffffff00000005ffff800000000006fffffffe00000007fffffffffffffffe00000008000000090000000000000005000000010000000200000003000000040000000a0000000b000000070000000c000000020000000000000004000000000000000600000001000000000000000700000001000000030000000a",
+        "Answer { results: Items { items: [Int(U8, 255), Int(U16, 258), Int(U32, 4294967295), Int(U64, 1), Int(S8, -1), Int(S16, -32768), Int(S32, -2), Int(S64, -2), Null, Ptr(WireView { serial: 5, first: 1, ty: 2, count: 3, index: 4 }), Dead, Fn(7), NoValue] }, deaths: Items { items: [4, 6] }, news: Items { items: [New { serial: 7, kind: Heap, ty: 3, count: 10 }] } }",
+    ),
+    (
+        "0000000500000000000000000000000100000002000000010000000000000001000000030000000000000001000000036162630000000000",
+        "Ask { ticks: 0, at: At { func: 1, stmt: 2 }, service: 1, args: Items { items: [] }, shapes: Items { items: [Shape64 { ty: 3, count: 1 }] }, bytes: Items { items: [97, 98, 99] }, runs: Items { items: [] } }",
+    ),
+    (
+        "00000007000000000000000200000004000000010000000200000000",
+        "Stop { ticks: 2, stop: 4, at: At { func: 1, stmt: 2 }, runs: Items { items: [] } }",
+    ),
+    ("0000000800000002", "Refuse { reason: 2 }"),
+];
+
+#[test]
+fn the_messages_of_a_run_are_read(rt: HostRuntime) -> Result<(), Fail> {
+    let alloc = rt.alloc();
+    for (hex, text) in RUN {
+        let bytes = bytes_of(alloc, hex)?;
+        let m = decode(alloc, &bytes).ok().ok_or("the bytes are a message")?;
+        let read = format!(in alloc; "{m:?}")?;
+        assert_eq!(rt; read.as_str(), text);
+    }
+    Ok(())
+}
+
+#[test]
+fn other_messages_are_read(rt: HostRuntime) -> Result<(), Fail> {
+    let alloc = rt.alloc();
+    for (hex, text) in OTHERS {
+        let bytes = bytes_of(alloc, hex)?;
+        let m = decode(alloc, &bytes).ok().ok_or("the bytes are a message")?;
+        let read = format!(in alloc; "{m:?}")?;
+        assert_eq!(rt; read.as_str(), text);
+    }
+    Ok(())
+}
+
+#[test]
+fn a_message_is_written(rt: HostRuntime) -> Result<(), Fail> {
+    let alloc = rt.alloc();
+    let m = Message::Return {
+        ticks: 0,
+        result: Wire::NoValue,
+        runs: Items::new(alloc),
+    };
+    let written = encode(alloc, &m).ok().ok_or("memory was wanting")?;
+    let bytes = bytes_of(alloc, "0000000200000000000000000000000c00000000")?;
+    assert_eq!(rt; written.as_slice(), bytes.as_slice());
+    Ok(())
+}

@@ -1,0 +1,10 @@
+pub mod Count
+pub mod Far
+pub mod LyingFar
+pub mod LyingFarView
+pub mod MapShelf
+pub mod MapShelfView
+pub mod Shelf
+pub mod Sink
+pub mod VecSink
+pub mod VecSinkView

@@ -1,0 +1,25 @@
+//! The outside of a run: the traits of the shelf, the sink and the far side, objects in memory that stand for
+//! them, and thin adapters to real files and to standard output.
+#![tactic(auto)]
+
+mod calls;
+mod copied;
+mod far;
+mod folder_shelf;
+mod lying_far;
+mod map_shelf;
+mod out_sink;
+mod shelf;
+mod sink;
+#[cfg(test)]
+mod tests;
+mod vec_sink;
+
+pub use far::{DeliverAnswer, Exchange, Far, LoadAnswer, Loaded};
+pub use folder_shelf::FolderShelf;
+pub use lying_far::LyingFar;
+pub use map_shelf::MapShelf;
+pub use out_sink::OutSink;
+pub use shelf::{ReadAnswer, Shelf, WriteAnswer};
+pub use sink::{Sink, SinkAnswer};
+pub use vec_sink::VecSink;

@@ -1,0 +1,148 @@
+// A far side that gives the answers that it was told to give.
+
+ghost use Rattle.std.specs.Prelude.{◌≡◌, ◌≤◌, ◌⊎◌, ◌++◌, IfOk, OnOk, OnErr};
+ghost use Rattle.mdr_outside.specs.Far.{LoadsAs, loaded_with};
+ghost use Rattle.mdr_outside.specs.LyingFar.{new_far, reply_at, added, after_load, Gives};
+
+use crate::copied::copied;
+use crate::far::{DeliverAnswer, Exchange, Far, LoadAnswer, Loaded};
+use mdr_core::Items;
+use std::alloc::{AllocError, Global};
+use std::marker::Model;
+
+/// Each load gets one answer, and the messages get the replies in turn. When these are used up each message
+/// fails.
+#[derive(Debug, Drop)]
+pub struct LyingFar {
+    load: LoadAnswer,
+    replies: Items<DeliverAnswer>,
+    given: usize,
+    loaded: Option<Loaded>,
+    exchanges: Items<Exchange>,
+    faults: u64,
+}
+
+impl Model for LyingFar {
+    ghost use Rattle.mdr_outside.specs.LyingFar.{FarState};
+
+    ghost Value = { FarState };
+
+    ghost use Rattle.mdr_outside.specs.LyingFarView.{far_state};
+
+    ghost view = { far_state };
+}
+
+impl LyingFar {
+    /// Nothing is loaded yet. It takes no memory.
+    pub fn new(alloc: Global, load: LoadAnswer, replies: Vec<DeliverAnswer>) -> Self
+        ensures { result ≡ new_far load replies.items }
+    {
+        LyingFar {
+            load,
+            replies: Items::from_vec(replies),
+            given: 0,
+            loaded: None,
+            exchanges: Items::new(alloc),
+            faults: 0,
+        }
+    }
+
+    // A copy of the next reply.
+    fn next_reply(&self, alloc: Global) -> Result<DeliverAnswer, AllocError>
+        ensures { IfOk result (λ reply. reply ≡ reply_at self.now.replies self.now.given) }
+    {
+        match self.replies.as_slice().get(self.given) {
+            Some(DeliverAnswer::Ok(reply)) => Ok(DeliverAnswer::Ok(copied(
+                alloc,
+                reply.as_slice(),
+            )?)),
+            Some(DeliverAnswer::OutOfMemory) => Ok(DeliverAnswer::OutOfMemory),
+            Some(DeliverAnswer::Failed) | None => Ok(DeliverAnswer::Failed),
+        }
+    }
+}
+
+// Keeps the message with its answer, if there was one.
+fn keep(
+    alloc: Global,
+    exchanges: &mut Items<Exchange>,
+    sent: &[u8],
+    answer: &DeliverAnswer,
+) -> Result<(), AllocError>
+    ensures ok { OnOk result (exchanges.new ≡ exchanges.old ++ added sent.now answer.now) }
+    ensures err { OnErr result (exchanges.new ≡ exchanges.old) }
+{
+    let got = match answer {
+        DeliverAnswer::Ok(reply) => Some(copied(alloc, reply.as_slice())?),
+        DeliverAnswer::Failed => None,
+        DeliverAnswer::OutOfMemory => return Ok(()),
+    };
+    let sent = copied(alloc, sent)?;
+    exchanges.push(Exchange { sent, got })
+}
+
+// A load with copies of the texts.
+fn load_of(
+    alloc: Global,
+    user: &[u8],
+    plan: &[u8],
+    answer: LoadAnswer,
+) -> Result<Loaded, AllocError>
+    ensures { IfOk result (λ load. load ≡ loaded_with user.now plan.now answer) }
+{
+    Ok(Loaded {
+        user: copied(alloc, user)?,
+        plan: copied(alloc, plan)?,
+        answer,
+    })
+}
+
+impl Far for LyingFar {
+    ghost loaded = { λ s. s.loaded };
+
+    ghost exchanges = { λ s. s.exchanges };
+
+    ghost faults = { λ s. s.faults };
+
+    fn load(&mut self, alloc: Global, user: &[u8], plan: &[u8]) -> LoadAnswer
+        ensures answers { (result ≡ LoadAnswer.OutOfMemory) ⊎ (result ≡ self.old.load) }
+        ensures loaded { LoadsAs user.now plan.now result self.new.loaded }
+        ensures after { self.new ≡ after_load self.old self.new.loaded result }
+        ensures faults_later { self.old.faults ≤ self.new.faults }
+    {
+        self.exchanges = Items::new(alloc);
+        self.loaded = None;
+        if self.load == LoadAnswer::OutOfMemory {
+            return LoadAnswer::OutOfMemory;
+        }
+        let Ok(loaded) = load_of(alloc, user, plan, self.load) else {
+            return LoadAnswer::OutOfMemory;
+        };
+        self.loaded = Some(loaded);
+        if self.load == LoadAnswer::Failed {
+            self.faults = self.faults.saturating_add(1);
+        }
+        self.load
+    }
+
+    fn deliver(&mut self, alloc: Global, bytes: &[u8]) -> DeliverAnswer
+        ensures gives { Gives self.old self.new bytes.now result }
+        ensures faults_later { self.old.faults ≤ self.new.faults }
+    {
+        let Ok(reply) = self.next_reply(alloc) else {
+            return DeliverAnswer::OutOfMemory;
+        };
+        if keep(alloc, &mut self.exchanges, bytes, &reply).is_err() {
+            return DeliverAnswer::OutOfMemory;
+        }
+        self.given = self.given.saturating_add(1);
+        if let DeliverAnswer::Failed = &reply {
+            self.faults = self.faults.saturating_add(1);
+        }
+        reply
+    }
+
+    fn exchanges(&self) -> &[Exchange] {
+        self.exchanges.as_slice()
+    }
+}

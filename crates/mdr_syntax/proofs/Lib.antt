@@ -1,0 +1,13 @@
+pub mod Worth
+pub mod Texts
+pub mod Lexing
+pub mod Until
+pub mod Each
+pub mod Look
+pub mod Lines
+pub mod Splitting
+pub mod Again
+pub mod Found
+pub mod Spelled
+pub mod Soundness
+pub mod Longest

@@ -1,0 +1,5 @@
+pub mod Readers
+pub mod Numbers
+pub mod Opaque
+pub mod Sequences
+pub mod Spelled
