@@ -1,13 +1,11 @@
 -- Where a block stands in a memory, and what is there.
 use Rattle.std.proofs.Common.{◌≡◌, ℕ, suc, ◌+◌, ◌<◌, ◌≤◌, ◌⊎◌, inl, inr, Bool, true, false, cond, not, [], ◌∷◌, length, Option, Some, None, refl, sym, ◌∙◌, ap, arith, get_or}
-use Rattle.std.specs.Prelude.{◌==◌, nat_lt, slice_get, slice_set, unwrap_or, position}
+use Rattle.std.specs.Prelude.{◌==◌, nat_lt, slice_get, slice_set, position}
 use Rattle.std.specs.List.{position_or_len}
 use Rattle.mdr_model.specs.declared.wire.Wire.{Wire}
-use Rattle.mdr_model.specs.declared.wire.Wire.TheVariants as wire
 use Rattle.mdr_model.specs.declared.memory.MemoryBlock.{MemoryBlock}
 use Rattle.mdr_model.specs.declared.memory.Cell.{Cell}
-use Rattle.mdr_model.specs.Memory.{Memory, cell_at, put}
-use Rattle.mdr_model.specs.Copies.{held}
+use Rattle.mdr_model.specs.Memory.{Memory, put}
 use Rattle.std.proofs.lemmas.Option.{slice_get_read}
 use Rattle.std.proofs.lemmas.Bool.{lt-ltb}
 use Rattle.std.proofs.lemmas.Bool.Decides.{leb_tells}
@@ -37,16 +35,6 @@ put_there (x ∷ m) c v b e = of (x.born.serial == c.serial) refl e (put_there m
     of false t h later =
         let there : slice_get m (place c.serial m) ≡ Some b = rw one_more at h in
         ap (λ (m' : Memory). x ∷ m') (later there) ∙ sym (ap (λ (n : ℕ). slice_set (x ∷ m) n (with_cell b c.index v)) (one_more (place c.serial m)))
-
-held_there : (m : Memory) (c : Cell) (b : MemoryBlock) → slice_get m (place c.serial m) ≡ Some b → cell_at m c ≡ slice_get b.cells c.index
-unfolding cell_at
-held_there [] c b e = absurd (Prim.cc)
-held_there (x ∷ m) c b e = of (x.born.serial == c.serial) e (held_there m c b)
-  where
-    of : (t : Bool) → slice_get (x ∷ m) (cond (not t) (1 + place c.serial m) 0) ≡ Some b → (slice_get m (place c.serial m) ≡ Some b → cell_at m c ≡ slice_get b.cells c.index)
-        → cond t (slice_get x.cells c.index) (cell_at m c) ≡ slice_get b.cells c.index
-    of true h later = let same : x ≡ b = Prim.cc in ap (λ (y : MemoryBlock). slice_get y.cells c.index) same
-    of false h later = later (rw one_more at h)
 
 -- no block has the serial
 further : (n k : ℕ) → nat_lt (1 + n) (suc k) ≡ nat_lt n k
@@ -81,19 +69,6 @@ none_put (x ∷ m) c v e = of (x.born.serial == c.serial) e (none_put m c v)
             differ d = cc
     of false h later = ap (λ (m' : Memory). x ∷ m') (later (sym (further (place c.serial m) (length m)) ∙ h))
 
-none_held : (m : Memory) (c : Cell) → nat_lt (place c.serial m) (length m) ≡ false → cell_at m c ≡ None
-unfolding cell_at
-none_held [] c e = refl
-none_held (x ∷ m) c e = of (x.born.serial == c.serial) e (none_held m c)
-  where
-    of : (t : Bool) → nat_lt (cond (not t) (1 + place c.serial m) 0) (suc (length m)) ≡ false → (nat_lt (place c.serial m) (length m) ≡ false → cell_at m c ≡ None)
-        → cond t (slice_get x.cells c.index) (cell_at m c) ≡ None
-    of true h later = absurd (differ (sym (lt-ltb 0 (suc (length m)) (omega arith)) ∙ h))
-      where
-        differ : true ≡ false → ⊥
-        differ d = cc
-    of false h later = later (sym (further (place c.serial m) (length m)) ∙ h)
-
 -- ---- what a search for the block gives
 
 found_place : (serial : ℕ) (m : Memory) (i : ℕ) → Some i ≡ position (is_it serial) m → i ≡ place serial m
@@ -118,14 +93,3 @@ put_found m c v i b e inside is =
 
 pub put_nothing : (m : Memory) (c : Cell) (v : Wire) → None ≡ position (is_it c.serial) m → m ≡ put m c v
 put_nothing m c v e = sym (none_put m c v (no_place c.serial m e))
-
-pub held_found : (m : Memory) (c : Cell) (i : ℕ) (b : MemoryBlock) → Some i ≡ position (is_it c.serial) m → i < length m → b ≡ get_or m i b → unwrap_or (slice_get b.cells c.index) wire.NoValue ≡ held m c
-unfolding held
-held_found m c i b e inside is =
-    let at : i ≡ place c.serial m = found_place c.serial m i e in
-    let there : slice_get m (place c.serial m) ≡ Some b = ap (λ (n : ℕ). slice_get m n) (sym at) ∙ slice_get_read m (length m) i b refl inside is in
-    ap (λ (o : Option Wire). unwrap_or o wire.NoValue) (sym (held_there m c b there))
-
-pub held_nothing : (m : Memory) (c : Cell) → None ≡ position (is_it c.serial) m → wire.NoValue ≡ held m c
-unfolding held
-held_nothing m c e = ap (λ (o : Option Wire). unwrap_or o wire.NoValue) (sym (none_held m c (no_place c.serial m e)))

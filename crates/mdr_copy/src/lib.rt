@@ -1,8 +1,10 @@
 //! What both halves do with memories: the agreed copy, what changed against it, and the checks of what is told.
 #![tactic(auto)]
 
+mod access;
 mod changed;
 mod checks;
+mod expression;
 mod extents;
 mod faults;
 mod first;
@@ -13,16 +15,18 @@ mod store;
 mod told;
 mod values;
 
+pub use access::{loaded, normal, normals, stored};
 pub use changed::changes;
 pub use checks::{deaths_fit, news_fit, view_fits};
+pub use expression::evaluated;
 pub use faults::{args_fault, runs_fault};
 pub use first::first_memory;
 pub use lives::names_block;
 pub use runs::runs_of_cells;
 pub use sets::{cells_of_runs, is_in, is_keyed, visible};
-pub use store::{born_at, held, is_live, put, put_runs};
+pub use store::{born_at, cell_at, held, is_live, put, put_runs};
 pub use told::{Telling, agreed_after, tells, tells_no_cells};
-pub use values::{fits, fits_result, is_same};
+pub use values::{fits, fits_result, is_same, wire_of};
 
 #[cfg(test)]
 mod tests;

@@ -1,8 +1,7 @@
 // Cells of a memory.
 
-ghost use Rattle.std.specs.Prelude.{◌≡◌, ◌==◌, position, slice_get, slice_set, unwrap_or, length, IfSome, ◌<◌};
-ghost use Rattle.mdr_model.specs.declared.wire.Wire.TheVariants as wire;
-ghost use Rattle.mdr_model.specs.Memory.{is_live, born_at, put};
+ghost use Rattle.std.specs.Prelude.{◌≡◌, ◌==◌, position, slice_get, slice_set, length, IfSome, ◌<◌};
+ghost use Rattle.mdr_model.specs.Memory.{is_live, born_at, cell_at, put};
 ghost use Rattle.mdr_model.specs.Copies.{held, numbered, put_all, put_runs};
 
 use mdr_model::{Cell, MemoryBlock, New, Run, Wire};
@@ -36,25 +35,31 @@ pub fn born_at(memory: &[MemoryBlock], serial: u64) -> Option<New>
     None
 }
 
+/// What a cell holds, where its block is live and has it.
+#[tactic(auto, unfolding(mdr_model::specs::Memory::cell_at))]
+pub fn cell_at(memory: &[MemoryBlock], cell: Cell) -> Option<Wire>
+    ensures { result ≡ cell_at memory.now cell }
+{
+    for block in memory {
+        if block.born.serial == cell.serial {
+            return cell_of(block, cell.index);
+        }
+    }
+    None
+}
+
 /// What a cell holds, or no value where its block isn't live or hasn't the cell.
+#[tactic(auto, unfolding(mdr_model::specs::Copies::held))]
 pub fn held(memory: &[MemoryBlock], cell: Cell) -> Wire
     ensures { result ≡ held memory.now cell }
 {
-    match place_of(memory, cell.serial) {
-        Some(i) => cell_of(&memory[i], cell.index),
-        None => Wire::NoValue,
-    }
+    cell_at(memory, cell).unwrap_or(Wire::NoValue)
 }
 
-fn cell_of(block: &MemoryBlock, index: u32) -> Wire
-    ensures { result ≡ unwrap_or (slice_get block.now.cells index) wire.NoValue }
+fn cell_of(block: &MemoryBlock, index: u32) -> Option<Wire>
+    ensures { result ≡ slice_get block.now.cells index }
 {
-    block
-        .cells
-        .as_slice()
-        .get(index as usize)
-        .copied()
-        .unwrap_or(Wire::NoValue)
+    block.cells.as_slice().get(index as usize).copied()
 }
 
 fn set_cell(block: &mut MemoryBlock, index: usize, value: Wire)

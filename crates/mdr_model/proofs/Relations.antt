@@ -3,7 +3,7 @@ use Rattle.std.proofs.Common.{◌≡◌, ◌+◌, ◌≤◌, true, false, List, 
 use Rattle.std.specs.List.{AllByRecursion}
 use Rattle.mdr_core.specs.declared.program.Program.{Program}
 use Rattle.mdr_model.specs.declared.message.New.{New}
-use Rattle.mdr_model.specs.Values.{fits}
+pub use Rattle.mdr_model.specs.Holds.{IsFilled}
 use Rattle.mdr_model.specs.Memory.{Memory, MemoryBlock, Cell, births, cell_at, first_memory}
 use Rattle.mdr_model.specs.Sets.{is_in, visible}
 use Rattle.mdr_model.specs.World.{World}
@@ -13,11 +13,6 @@ use Rattle.mdr_model.proofs.Fair.{Knowledge}
 -- the globals, as they were born
 abbrev pub globals_of : Program → List New
 globals_of program = births (first_memory program)
-
--- a block has as many cells as it was born with, and each holds a value of its type
-pub record IsFilled (program : Program) (b : MemoryBlock) : Type 0 where
-  pub size : length b.cells ≡ b.born.count
-  pub fit : AllByRecursion (λ v. fits program b.born.ty v ≡ true) b.cells
 
 -- a block has as many cells as it was born with
 pub record IsSized (b : MemoryBlock) : Type 0 where

@@ -17,6 +17,7 @@ pub mod User
 pub mod Outcome
 pub mod Report
 pub mod Sound
+pub mod Holds
 pub mod Law
 pub mod Bytes
 pub mod Worked

@@ -1,0 +1,53 @@
+-- What an expression comes to on a memory (C99 6.5), where the cells that may be touched are all or those of a set.
+use Rattle.std.specs.Prelude.{Bool, true, false, List, Option, Some, None, Result, Ok, Err, ℤ}
+use Rattle.mdr_core.specs.declared.kind.Kind.{Kind}
+use Rattle.mdr_core.specs.declared.undefined.Undefined.{Undefined}
+use Rattle.mdr_core.specs.declared.stop.StopKind.{StopKind}
+use Rattle.mdr_core.specs.declared.stop.StopKind.TheVariants as stop
+use Rattle.mdr_core.specs.declared.program.Program.{Program}
+use Rattle.mdr_core.specs.declared.code.Expr.{Expr}
+use Rattle.mdr_core.specs.declared.code.Expr.TheVariants as expr
+use Rattle.mdr_core.specs.Operators.{operated}
+use Rattle.mdr_model.specs.declared.wire.Wire.{Wire}
+use Rattle.mdr_model.specs.declared.wire.Wire.TheVariants as wire
+use Rattle.mdr_model.specs.Values.{wire_of, integer}
+use Rattle.mdr_model.specs.declared.memory.Cell.{Cell}
+use Rattle.mdr_model.specs.Memory.{Memory, is_live, loaded}
+use Rattle.mdr_model.specs.Sets.{is_in}
+use Rattle.mdr_model.specs.Meaning.{pointer_to, stop_of}
+
+-- the cells that may be touched: all, or those of a set
+abbrev pub allows : Option (List Cell) → Cell → Bool
+allows None c = true
+allows (Some cells) c = is_in cells c
+
+-- the tests of an access to a variable in their order: the block lives, and the cell may be touched
+abbrev pub tested_by : (is_alive is_allowed : Bool) → Result (Unit {0}) StopKind
+tested_by false is_allowed = Err stop.Dead
+tested_by true false = Err stop.Annotation
+tested_by true true = Ok tt
+
+abbrev pub tested : Option (List Cell) → Memory → Cell → Result (Unit {0}) StopKind
+tested reach m c = tested_by (is_live m c.serial) (allows reach c)
+
+-- the memory after a store that was made, or the stop
+abbrev pub when_made : Result (Unit {0}) StopKind → Memory → Result Memory StopKind
+when_made (Ok done) m = Ok m
+when_made (Err kind) m = Err kind
+
+-- what comes after a value
+abbrev pub after_value : Result Wire StopKind → (Wire → Result Wire StopKind) → Result Wire StopKind
+after_value (Ok v) go = go v
+after_value (Err kind) go = Err kind
+
+-- a number at a kind, or the stop
+abbrev pub numbered_at : Kind → Result ℤ Undefined → Result Wire StopKind
+numbered_at kind (Ok n) = Ok (wire.Int kind n)
+numbered_at kind (Err why) = Err (stop_of why)
+
+-- the value, or the first stop from left to right
+unfoldable pub evaluated : (Cell → Bool) → Program → Memory → Expr → Result Wire StopKind
+evaluated allowed program m (expr.Lit v) = Ok (wire_of v)
+evaluated allowed program m (expr.Load place) = loaded allowed m (pointer_to program place)
+evaluated allowed program m (expr.Bin' op kind p a q b) =
+    after_value (evaluated allowed program m a) (λ x. after_value (evaluated allowed program m b) (λ y. numbered_at kind (operated op kind (integer x) (integer y))))

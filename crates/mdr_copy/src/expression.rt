@@ -1,0 +1,69 @@
+// What expressions come to.
+
+ghost use Rattle.std.specs.Prelude.{◌≡◌};
+ghost use Rattle.std.specs.Option.{option_copied};
+ghost use Rattle.mdr_core.specs.declared.kind.Kind.{Kind as AnyKind};
+ghost use Rattle.mdr_model.specs.Values.{integer};
+ghost use Rattle.mdr_model.specs.Meaning.{stop_of};
+ghost use Rattle.mdr_model.specs.Sound.{IsSound, IsSoundExpr};
+ghost use Rattle.mdr_model.specs.Holds.{IsSoundMemory};
+ghost use Rattle.mdr_copy.specs.Evaluated.{allows, evaluated, numbered_at};
+
+use crate::access::loaded;
+use crate::values::wire_of;
+use mdr_arith::bin;
+use mdr_core::{Expr, Kind, Program, StopKind, Undefined};
+use mdr_model::{Cell, MemoryBlock, Wire};
+
+fn stop_of(why: Undefined) -> StopKind
+    ensures { result ≡ stop_of why }
+{
+    match why {
+        Undefined::Overflow => StopKind::Overflow,
+        Undefined::DivZero => StopKind::DivZero,
+        Undefined::Shift => StopKind::Shift,
+    }
+}
+
+/// The number of an integer value; no other is asked for its number.
+fn integer(value: Wire) -> i128
+    ensures { result ≡ integer value }
+{
+    match value {
+        Wire::Int(_, n) => n,
+        _ => 0,
+    }
+}
+
+fn numbered_at(kind: Kind, computed: Result<i128, Undefined>) -> Result<Wire, StopKind>
+    ensures { result ≡ numbered_at kind computed }
+{
+    match computed {
+        Ok(n) => Ok(Wire::Int(kind, n)),
+        Err(why) => Err(stop_of(why)),
+    }
+}
+
+/// The value of an expression, or the first stop from left to right. Without a set each cell may be touched.
+#[tactic(auto, unfolding(crate::specs::Evaluated::evaluated))]
+pub fn evaluated(
+    reach: Option<&[Cell]>,
+    program: &Program,
+    memory: &[MemoryBlock],
+    e: &Expr,
+) -> Result<Wire, StopKind>
+    requires program { IsSound program.now }
+    requires memory { IsSoundMemory program.now memory.now }
+    requires expression { (kind : AnyKind) × IsSoundExpr program.now e.now kind }
+    ensures { result ≡ evaluated (allows (option_copied reach.entry)) program.now memory.now e.now }
+{
+    match e {
+        Expr::Lit(value) => Ok(wire_of(*value)),
+        Expr::Load(place) => loaded(reach, memory, *place),
+        Expr::Bin(op, kind, left, right) => {
+            let x = evaluated(reach, program, memory, left)?;
+            let y = evaluated(reach, program, memory, right)?;
+            numbered_at(*kind, bin(*op, *kind, integer(x), integer(y)))
+        }
+    }
+}
