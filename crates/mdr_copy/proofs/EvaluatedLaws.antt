@@ -1,5 +1,5 @@
 -- Laws of expressions: which values they have, and what a tree that begins with one does on a memory.
-use Rattle.std.proofs.Common.{◌≡◌, ℕ, Bool, true, ◌&&◌, List, Option, Some, Result, Ok, Err, ℤ, refl, sym, ap, ◌∙◌, subst, slice_get}
+use Rattle.std.proofs.Common.{◌≡◌, ℕ, Bool, true, List, Option, Result, Ok, Err, ℤ, refl, sym, ap, ◌∙◌, subst, slice_get}
 use Rattle.mdr_core.specs.declared.kind.Kind.{Kind}
 use Rattle.mdr_core.specs.declared.types.Ty.{Ty}
 use Rattle.mdr_core.specs.declared.types.Ty.TheVariants as ty
@@ -22,9 +22,9 @@ use Rattle.mdr_model.specs.Values.{type_number, fits_type, fits_maybe, fits, wir
 use Rattle.mdr_model.specs.declared.memory.Cell.{Cell}
 use Rattle.mdr_model.specs.Memory.{Memory, cell_of, loaded, everywhere}
 use Rattle.mdr_model.specs.Tree.{Tree}
-use Rattle.mdr_model.specs.Meaning.{type_of_global, pointer_to, stop_of, given, value}
-use Rattle.mdr_model.specs.Walk.{Walked, on_load, walk}
-use Rattle.mdr_model.specs.World.{World, Ran, when_loaded, in_kernel}
+use Rattle.mdr_model.specs.Meaning.{type_of_global, pointer_to, given, value}
+use Rattle.mdr_model.specs.Walk.{on_load, walk}
+use Rattle.mdr_model.specs.World.{World, when_loaded, in_kernel}
 use Rattle.mdr_model.specs.Sound.{IsSoundPlace, IsSoundExpr, IsSound}
 use Rattle.mdr_model.specs.Holds.{IsSoundMemory}
 use Rattle.mdr_model.proofs.Tests.{and_right, and_both, same_number}

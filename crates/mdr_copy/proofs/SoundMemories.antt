@@ -1,5 +1,5 @@
 -- Memories stay sound: the first one, after a store, and after each part of a message that fits.
-use Rattle.std.proofs.Common.{◌≡◌, ℕ, zero, suc, ◌+◌, ◌<◌, Bool, true, false, cond, not, ◌&&◌, List, [], ◌∷◌, ◌++◌, map, length, Option, Some, None, Result, Ok, refl, sym, ap, ◌∙◌, subst, eq-eqb, lt-ltb, slice_get, replicate, arith}
+use Rattle.std.proofs.Common.{◌≡◌, ℕ, zero, suc, ◌+◌, ◌<◌, Bool, true, false, cond, not, List, [], ◌∷◌, ◌++◌, map, length, Option, Some, None, Ok, refl, sym, ap, ◌∙◌, subst, eq-eqb, lt-ltb, slice_get, replicate, arith}
 use Rattle.std.specs.Prelude.{◌==◌, nat_lt, is_none}
 use Rattle.std.specs.List.{AllByRecursion, list_all}
 use Rattle.std.proofs.lemmas.Bool.{cond-true, cond-false, cond_both}
@@ -20,10 +20,10 @@ use Rattle.mdr_model.specs.declared.message.New.{New}
 use Rattle.mdr_model.specs.declared.message.Run.{Run}
 use Rattle.mdr_model.specs.declared.message.SetRun.{SetRun}
 use Rattle.mdr_model.specs.declared.message.Fault.{Fault}
-use Rattle.mdr_model.specs.Values.{type_number, type_at, fits_type, fits_maybe, fits, zero_of_type, zero_maybe, names_block}
+use Rattle.mdr_model.specs.Values.{type_number, type_at, fits_type, fits_maybe, fits, zero_of_type, zero_maybe}
 use Rattle.mdr_model.specs.declared.memory.Cell.{Cell}
 use Rattle.mdr_model.specs.declared.memory.MemoryBlock.{MemoryBlock}
-use Rattle.mdr_model.specs.Memory.{Memory, births, born_at, is_live, put, normal, cell_of, zero_block, swept, swept_block, killed, global_block, global_blocks, first_memory, stored}
+use Rattle.mdr_model.specs.Memory.{Memory, births, born_at, is_live, put, cell_of, zero_block, swept, swept_block, killed, global_block, global_blocks, first_memory, stored}
 use Rattle.mdr_model.specs.Sets.{is_in, follows_maybe}
 use Rattle.mdr_model.specs.Copies.{CellValue, numbered, put_all, put_runs, without, with_news}
 use Rattle.mdr_model.specs.Faults.{or_else, first_fault, unless, is_known, is_view, fits_block, fits_cell, set_run_of, run_fault, runs_fault}
@@ -34,6 +34,7 @@ use Rattle.mdr_model.specs.Holds.{IsFilled, IsSoundMemory}
 use Rattle.mdr_model.proofs.Tests.{and_left, and_right, not_both, is_same_number, other_number}
 use Rattle.mdr_model.proofs.MemoryLaws.{born_at-births, births-put}
 use Rattle.mdr_model.proofs.ValueLaws.{typed_is_normal}
+use Rattle.mdr_model.proofs.CopyLaws.{births-put_all}
 use Rattle.mdr_model.proofs.HoldsLaws.{all_get, filled_put, stored_is}
 use Rattle.mdr_model.proofs.FirstMemory.{first_holds}
 use Rattle.mdr_copy.proofs.Stores.{put_runs_cons, put_runs_none}
@@ -89,13 +90,8 @@ put_all_is_sound program m m' [] same all h = h
 put_all_is_sound program m m' (x ∷ xs) same all h =
     put_all_is_sound program m (put m' x.cell x.value) xs (births-put m' x.cell x.value ∙ same) (and_right (fits_cell program m x) (list_all (fits_cell program m) xs) all)
     (put_is_sound program m' x.cell x.value h (λ b e.
-      let at : born_at m x.cell.serial ≡ Some b = sym (born_at-births m' m x.cell.serial same) ∙ e in
-      sym (ap (λ (o : Option New). fits_block program o x.value) at) ∙ and_left (fits_cell program m x) (list_all (fits_cell program m) xs) all))
-
-births_put_all : (m m' : Memory) (xs : List CellValue) → births m' ≡ births m → births (put_all xs m') ≡ births m
-unfolding put_all
-births_put_all m m' [] same = same
-births_put_all m m' (x ∷ xs) same = births_put_all m (put m' x.cell x.value) xs (births-put m' x.cell x.value ∙ same)
+    let at : born_at m x.cell.serial ≡ Some b = sym (born_at-births m' m x.cell.serial same) ∙ e in
+    sym (ap (λ (o : Option New). fits_block program o x.value) at) ∙ and_left (fits_cell program m x) (list_all (fits_cell program m) xs) all))
 
 -- where there is no fault, neither of two has one
 first_none : (f g : Option Fault) → or_else f g ≡ None → f ≡ None
@@ -135,7 +131,7 @@ runs_keep program view paired m m' before i (r ∷ rs) same h e =
     second_none (run_fault program view paired m before i r) (runs_fault program view paired m (Some (set_run_of r)) (suc i) rs) e in
     let cells : List CellValue = numbered r.serial r.first r.values in
     subst (IsSoundMemory program) (sym (put_runs_cons r rs m'))
-    (runs_keep program view paired m (put_all cells m') (Some (set_run_of r)) (suc i) rs (births_put_all m m' cells same)
+    (runs_keep program view paired m (put_all cells m') (Some (set_run_of r)) (suc i) rs (births-put_all cells m' ∙ same)
     (put_all_is_sound program m m' cells same (run_fits program view paired m before i r here) h) later)
 
 -- runs without a fault keep the memory sound
