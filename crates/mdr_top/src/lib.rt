@@ -1,0 +1,13 @@
+//! The top call: what the program does with its words, its files, its output and the far side.
+#![tactic(auto)]
+
+mod due;
+mod files;
+mod lines;
+mod program;
+mod put;
+mod script;
+mod status;
+mod words;
+
+pub use status::Status;

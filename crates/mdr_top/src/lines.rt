@@ -1,0 +1,63 @@
+// The lines that are printed where there is no report.
+
+ghost use Rattle.std.specs.Prelude.{◌≡◌, IfOk, codes};
+ghost use Rattle.mdr_top.specs.Lines.{usage_line, source_line, script_line, file_line};
+
+use crate::put::{put_newline, put_number, put_word};
+use mdr_core::{OutOfMemory, Place};
+use std::alloc::Global;
+
+/// How the program is called.
+#[tactic(auto, unfolding(crate::specs::Lines::usage_line))]
+pub(crate) fn usage_line(alloc: Global) -> Result<Vec<u8>, OutOfMemory>
+    ensures { IfOk result (λ text. text.items ≡ usage_line) }
+{
+    let mut out = Vec::new(alloc);
+    put_word(
+        &mut out,
+        "usage: split FILE, report FILE, run whole FILE SCRIPT, run split FILE SCRIPT, run halves K U PLAN SCRIPT, gen SEED SIZE\n",
+    )?;
+    Ok(out)
+}
+
+/// A source that is refused, at a place and for a kind of reason.
+#[tactic(auto, unfolding(crate::specs::Lines::source_line))]
+pub(crate) fn source_line(alloc: Global, place: Place, kind: &str) -> Result<Vec<u8>, OutOfMemory>
+    ensures { IfOk result (λ text. text.items ≡ source_line place kind.now) }
+{
+    let mut out = Vec::new(alloc);
+    put_word(&mut out, "source refused ")?;
+    put_number(alloc, &mut out, place.line)?;
+    put_word(&mut out, ":")?;
+    put_number(alloc, &mut out, place.column)?;
+    put_word(&mut out, " ")?;
+    put_word(&mut out, kind)?;
+    put_newline(&mut out)?;
+    Ok(out)
+}
+
+/// A script that is refused, at a line and for a kind of reason.
+#[tactic(auto, unfolding(crate::specs::Lines::script_line))]
+pub(crate) fn script_line(alloc: Global, line: u32, kind: &str) -> Result<Vec<u8>, OutOfMemory>
+    ensures { IfOk result (λ text. text.items ≡ script_line line kind.now) }
+{
+    let mut out = Vec::new(alloc);
+    put_word(&mut out, "script refused ")?;
+    put_number(alloc, &mut out, line)?;
+    put_word(&mut out, " ")?;
+    put_word(&mut out, kind)?;
+    put_newline(&mut out)?;
+    Ok(out)
+}
+
+/// What there is to say of a file.
+#[tactic(auto, unfolding(crate::specs::Lines::file_line))]
+pub(crate) fn file_line(alloc: Global, what: &str, name: &str) -> Result<Vec<u8>, OutOfMemory>
+    ensures { IfOk result (λ text. text.items ≡ file_line what.now name.now) }
+{
+    let mut out = Vec::new(alloc);
+    put_word(&mut out, what)?;
+    put_word(&mut out, name)?;
+    put_newline(&mut out)?;
+    Ok(out)
+}
