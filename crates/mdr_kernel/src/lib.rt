@@ -1,0 +1,11 @@
+//! The kernel half of a split run, over any far side.
+#![tactic(auto)]
+
+mod events;
+mod legal;
+mod script;
+mod sending;
+mod service;
+mod state;
+mod stubs;
+mod work;
