@@ -7,3 +7,4 @@ pub mod FirstFaults
 pub mod Births
 pub mod Rising
 pub mod Arguments
+pub mod Variables

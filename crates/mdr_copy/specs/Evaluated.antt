@@ -5,6 +5,8 @@ use Rattle.mdr_core.specs.declared.undefined.Undefined.{Undefined}
 use Rattle.mdr_core.specs.declared.stop.StopKind.{StopKind}
 use Rattle.mdr_core.specs.declared.stop.StopKind.TheVariants as stop
 use Rattle.mdr_core.specs.declared.program.Program.{Program}
+use Rattle.mdr_core.specs.declared.code.Lval.{Lval}
+use Rattle.mdr_core.specs.declared.code.Lval.TheVariants.{Global}
 use Rattle.mdr_core.specs.declared.code.Expr.{Expr}
 use Rattle.mdr_core.specs.declared.code.Expr.TheVariants as expr
 use Rattle.mdr_core.specs.Operators.{operated}
@@ -20,6 +22,10 @@ use Rattle.mdr_model.specs.Meaning.{pointer_to, stop_of}
 abbrev pub allows : Option (List Cell) → Cell → Bool
 allows None c = true
 allows (Some cells) c = is_in cells c
+
+-- the one cell of a variable
+abbrev pub variable_cell : Lval → Cell
+variable_cell (Global number) = record { serial = number; index = 0 }
 
 -- the tests of an access to a variable in their order: the block lives, and the cell may be touched
 abbrev pub tested_by : (is_alive is_allowed : Bool) → Result (Unit {0}) StopKind

@@ -3,9 +3,9 @@
 ghost use Rattle.std.specs.Prelude.{◌≡◌, map, IfOk, OnErr};
 ghost use Rattle.std.specs.Option.{option_copied};
 ghost use Rattle.mdr_core.specs.declared.program.Program.{Program as AnyProgram};
-ghost use Rattle.mdr_model.specs.Memory.{normal, loaded, stored};
+ghost use Rattle.mdr_model.specs.Memory.{normal, loaded_cell, loaded, stored};
 ghost use Rattle.mdr_model.specs.Meaning.{pointer_to};
-ghost use Rattle.mdr_copy.specs.Evaluated.{allows, tested, when_made};
+ghost use Rattle.mdr_copy.specs.Evaluated.{allows, variable_cell, tested, when_made};
 
 use crate::sets::is_in;
 use crate::store::{cell_at, is_live, put};
@@ -23,7 +23,9 @@ fn is_allowed(reach: Option<&[Cell]>, cell: Cell) -> bool
 }
 
 /// The one cell of a variable.
-fn cell_of(place: Lval) -> Cell {
+fn variable_cell(place: Lval) -> Cell
+    ensures { result ≡ variable_cell place }
+{
     match place {
         Lval::Global(number) => Cell {
             serial: number as u64,
@@ -45,6 +47,16 @@ fn tested(reach: Option<&[Cell]>, memory: &[MemoryBlock], cell: Cell) -> Result<
     }
 }
 
+/// What a cell gives. A dead pointer is not loaded.
+fn loaded_cell(found: Option<Wire>) -> Result<Wire, StopKind>
+    ensures { result ≡ loaded_cell found }
+{
+    match found {
+        Some(Wire::Dead) | None => Err(StopKind::Dead),
+        Some(value) => Ok(value),
+    }
+}
+
 /// What is loaded from a variable, or the stop. Without a set each cell may be touched.
 pub fn loaded(
     reach: Option<&[Cell]>,
@@ -53,11 +65,10 @@ pub fn loaded(
 ) -> Result<Wire, StopKind>
     ensures { (program : AnyProgram) → result ≡ loaded (allows (option_copied reach.entry)) memory.now (pointer_to program place) }
 {
-    let cell = cell_of(place);
-    tested(reach, memory, cell)?;
-    match cell_at(memory, cell) {
-        Some(Wire::Dead) | None => Err(StopKind::Dead),
-        Some(value) => Ok(value),
+    let cell = variable_cell(place);
+    match tested(reach, memory, cell) {
+        Ok(()) => loaded_cell(cell_at(memory, cell)),
+        Err(kind) => Err(kind),
     }
 }
 
@@ -103,9 +114,13 @@ pub fn stored(
     ensures memory { (program : AnyProgram) → stored (allows (option_copied reach.entry)) memory.old (pointer_to program place) value ≡ when_made result memory.new }
     ensures stopped { OnErr result (memory.new ≡ memory.old) }
 {
-    let cell = cell_of(place);
-    tested(reach, memory, cell)?;
-    let value = normal(memory, value);
-    put(memory, cell.serial, cell.index as usize, value);
-    Ok(())
+    let cell = variable_cell(place);
+    match tested(reach, memory, cell) {
+        Ok(()) => {
+            let kept = normal(memory, value);
+            put(memory, cell.serial, cell.index as usize, kept);
+            Ok(())
+        }
+        Err(kind) => Err(kind),
+    }
 }

@@ -1,15 +1,16 @@
 // What changed against the agreed copy.
 
-ghost use Rattle.std.specs.Prelude.{◌≡◌, ◌∷◌, [], ◌++◌, map, OnOk, IfOk};
+ghost use Rattle.std.specs.Prelude.{◌≡◌, map, IfOk};
 ghost use Rattle.mdr_model.specs.Sets.{cells_of_run};
 ghost use Rattle.mdr_model.specs.Copies.{held, run_from, changed_cells, changes};
 
 use crate::runs::runs_of_cells;
+use crate::sets::put_run;
 use crate::store::held;
 use crate::values::is_same;
 use mdr_core::{Items, OutOfMemory};
 use mdr_model::{Cell, MemoryBlock, Run, SetRun, Wire};
-use std::alloc::{AllocError, Global};
+use std::alloc::Global;
 
 /// The cells whose value differs from the agreed one.
 #[tactic(auto, unfolding(mdr_model::specs::Copies::changed_cells))]
@@ -18,7 +19,7 @@ fn changed_cells(
     cells: &[Cell],
     agreed: &[MemoryBlock],
     now: &[MemoryBlock],
-) -> Result<Vec<Cell>, AllocError>
+) -> Result<Vec<Cell>, OutOfMemory>
     ensures { IfOk result (λ changed. changed.items ≡ changed_cells cells.now agreed.now now.now) }
 {
     let mut changed = Vec::new(alloc);
@@ -30,43 +31,31 @@ fn changed_cells(
     Ok(changed)
 }
 
-fn put_held(out: &mut Vec<Wire>, memory: &[MemoryBlock], cell: Cell) -> Result<(), OutOfMemory>
-    ensures { OnOk result (out.new.items ≡ out.old.items ++ held memory.now cell ∷ []) }
+fn all_held(
+    alloc: Global,
+    memory: &[MemoryBlock],
+    cells: &[Cell],
+) -> Result<Items<Wire>, OutOfMemory>
+    ensures { IfOk result (λ values. values ≡ map (held memory.now) cells.now) }
 {
-    match out.push(held(memory, cell)) {
-        Ok(()) => Ok(()),
-        Err(_) => Err(OutOfMemory),
+    let mut values = Vec::new(alloc);
+    for cell in cells {
+        values.push(held(memory, *cell))?;
     }
-}
-
-fn put_run(out: &mut Vec<Run>, run: Run) -> Result<(), OutOfMemory>
-    ensures { OnOk result (out.new.items ≡ out.old.items ++ run ∷ []) }
-{
-    match out.push(run) {
-        Ok(()) => Ok(()),
-        Err(_) => Err(OutOfMemory),
-    }
+    Ok(Items::from_vec(values))
 }
 
 /// What the cells of a run hold. A run that goes over the last index that a cell can have fails.
-fn values_of(alloc: Global, memory: &[MemoryBlock], run: SetRun) -> Result<Items<Wire>, OutOfMemory>
+fn values_of(
+    alloc: Global,
+    memory: &[MemoryBlock],
+    run: SetRun,
+) -> Result<Items<Wire>, OutOfMemory>
     ensures { IfOk result (λ values. values ≡ map (held memory.now) (cells_of_run run)) }
 {
-    let mut values = Vec::new(alloc);
-    for i in 0..run.len {
-        match run.first.checked_add(i) {
-            Some(index) => put_held(
-                &mut values,
-                memory,
-                Cell {
-                    serial: run.serial,
-                    index,
-                },
-            )?,
-            None => return Err(OutOfMemory),
-        }
-    }
-    Ok(Items::from_vec(values))
+    let mut cells = Vec::new(alloc);
+    put_run(&mut cells, run)?;
+    all_held(alloc, memory, cells.as_slice())
 }
 
 fn run_from(alloc: Global, memory: &[MemoryBlock], run: SetRun) -> Result<Run, OutOfMemory>
@@ -88,7 +77,7 @@ fn runs_from(
 {
     let mut told = Vec::new(alloc);
     for run in runs {
-        put_run(&mut told, run_from(alloc, memory, *run)?)?;
+        told.push(run_from(alloc, memory, *run)?)?;
     }
     Ok(Items::from_vec(told))
 }
@@ -104,12 +93,7 @@ pub fn changes(
 ) -> Result<Items<Run>, OutOfMemory>
     ensures { IfOk result (λ runs. runs ≡ changes cells.now agreed.now now.now) }
 {
-    match changed_cells(alloc, cells, agreed, now) {
-        Ok(changed) => runs_from(
-            alloc,
-            now,
-            runs_of_cells(alloc, changed.as_slice())?.as_slice(),
-        ),
-        Err(_) => Err(OutOfMemory),
-    }
+    let changed = changed_cells(alloc, cells, agreed, now)?;
+    let runs = runs_of_cells(alloc, changed.as_slice())?;
+    runs_from(alloc, now, runs.as_slice())
 }

@@ -7,10 +7,10 @@ ghost use Rattle.mdr_model.specs.Memory.{global_block, global_blocks, first_memo
 use crate::values::{type_number, wire_of};
 use mdr_core::{GlobalDef, Items, OutOfMemory, Program, Value};
 use mdr_model::{BirthKind, MemoryBlock, New, Wire};
-use std::alloc::{AllocError, Global};
+use std::alloc::Global;
 
 /// The first values of a global's cells.
-fn first_cells(alloc: Global, init: &[Value]) -> Result<Items<Wire>, AllocError>
+fn first_cells(alloc: Global, init: &[Value]) -> Result<Items<Wire>, OutOfMemory>
     ensures { IfOk result (λ cells. cells ≡ map wire_of init.now) }
 {
     let mut cells = Vec::new(alloc);
@@ -20,7 +20,7 @@ fn first_cells(alloc: Global, init: &[Value]) -> Result<Items<Wire>, AllocError>
     Ok(Items::from_vec(cells))
 }
 
-fn global_block(alloc: Global, serial: u64, global: &GlobalDef) -> Result<MemoryBlock, AllocError>
+fn global_block(alloc: Global, serial: u64, global: &GlobalDef) -> Result<MemoryBlock, OutOfMemory>
     ensures { IfOk result (λ b. b ≡ global_block serial global.now) }
 {
     Ok(MemoryBlock {
@@ -34,7 +34,7 @@ fn global_block(alloc: Global, serial: u64, global: &GlobalDef) -> Result<Memory
     })
 }
 
-fn global_blocks(alloc: Global, globals: &[GlobalDef]) -> Result<Vec<MemoryBlock>, AllocError>
+fn global_blocks(alloc: Global, globals: &[GlobalDef]) -> Result<Vec<MemoryBlock>, OutOfMemory>
     ensures { IfOk result (λ m. m.items ≡ global_blocks 0 globals.now) }
 {
     let mut blocks = Vec::new(alloc);
@@ -49,8 +49,6 @@ fn global_blocks(alloc: Global, globals: &[GlobalDef]) -> Result<Vec<MemoryBlock
 pub fn first_memory(alloc: Global, program: &Program) -> Result<Items<MemoryBlock>, OutOfMemory>
     ensures { IfOk result (λ m. m ≡ first_memory program.now) }
 {
-    match global_blocks(alloc, program.globals.as_slice()) {
-        Ok(blocks) => Ok(Items::from_vec(blocks)),
-        Err(_) => Err(OutOfMemory),
-    }
+    let blocks = global_blocks(alloc, program.globals.as_slice())?;
+    Ok(Items::from_vec(blocks))
 }

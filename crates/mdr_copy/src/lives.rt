@@ -8,7 +8,7 @@ ghost use Rattle.mdr_model.specs.Copies.{without, with_news};
 use crate::store::put_runs;
 use mdr_core::{Items, LockState, OutOfMemory, Program, Ty};
 use mdr_model::{MemoryBlock, New, Run, Wire};
-use std::alloc::{AllocError, Global};
+use std::alloc::Global;
 
 /// Whether a value is a pointer into the block with a serial.
 pub fn names_block(serial: u64, value: Wire) -> bool
@@ -30,7 +30,7 @@ fn swept(serial: u64, value: Wire) -> Wire
     }
 }
 
-fn swept_cells(alloc: Global, serial: u64, cells: &[Wire]) -> Result<Items<Wire>, AllocError>
+fn swept_cells(alloc: Global, serial: u64, cells: &[Wire]) -> Result<Items<Wire>, OutOfMemory>
     ensures { IfOk result (λ c. c ≡ map (swept serial) cells.now) }
 {
     let mut out = Vec::new(alloc);
@@ -40,7 +40,7 @@ fn swept_cells(alloc: Global, serial: u64, cells: &[Wire]) -> Result<Items<Wire>
     Ok(Items::from_vec(out))
 }
 
-fn swept_block(alloc: Global, serial: u64, block: &MemoryBlock) -> Result<MemoryBlock, AllocError>
+fn swept_block(alloc: Global, serial: u64, block: &MemoryBlock) -> Result<MemoryBlock, OutOfMemory>
     ensures { IfOk result (λ b. b ≡ swept_block serial block.now) }
 {
     Ok(MemoryBlock {
@@ -55,7 +55,7 @@ fn killed(
     alloc: Global,
     serial: u64,
     memory: &[MemoryBlock],
-) -> Result<Vec<MemoryBlock>, AllocError>
+) -> Result<Vec<MemoryBlock>, OutOfMemory>
     ensures { IfOk result (λ m. m.items ≡ killed serial memory.now) }
 {
     let mut out = Vec::new(alloc);
@@ -72,7 +72,7 @@ pub(crate) fn without(
     alloc: Global,
     deaths: &[u64],
     copy: Vec<MemoryBlock>,
-) -> Result<Vec<MemoryBlock>, AllocError>
+) -> Result<Vec<MemoryBlock>, OutOfMemory>
     ensures { IfOk result (λ m. m.items ≡ without deaths.now copy.items) }
 {
     let mut left = copy;
@@ -102,7 +102,7 @@ fn zero(program: &Program, ty: u32) -> Wire
     }
 }
 
-fn copies(alloc: Global, count: u32, value: Wire) -> Result<Items<Wire>, AllocError>
+fn copies(alloc: Global, count: u32, value: Wire) -> Result<Items<Wire>, OutOfMemory>
     ensures { IfOk result (λ c. c ≡ replicate count value) }
 {
     let mut out = Vec::new(alloc);
@@ -112,7 +112,7 @@ fn copies(alloc: Global, count: u32, value: Wire) -> Result<Items<Wire>, AllocEr
     Ok(Items::from_vec(out))
 }
 
-fn zero_block(alloc: Global, program: &Program, new: New) -> Result<MemoryBlock, AllocError>
+fn zero_block(alloc: Global, program: &Program, new: New) -> Result<MemoryBlock, OutOfMemory>
     ensures { IfOk result (λ b. b ≡ zero_block program.now new) }
 {
     Ok(MemoryBlock {
@@ -127,7 +127,7 @@ pub(crate) fn put_news(
     program: &Program,
     news: &[New],
     copy: &mut Vec<MemoryBlock>,
-) -> Result<(), AllocError>
+) -> Result<(), OutOfMemory>
     ensures { OnOk result (copy.new.items ≡ with_news program.now news.now copy.old.items) }
 {
     for new in news {

@@ -16,15 +16,12 @@ fn begins_behind(cell: Cell, run: SetRun) -> bool
 fn put(out: &mut Vec<SetRun>, cell: Cell, len: u32) -> Result<(), OutOfMemory>
     ensures { OnOk result (out.new.items ≡ out.old.items ++ record { serial = cell.serial; first = cell.index; len = len } ∷ []) }
 {
-    let run = SetRun {
+    out.push(SetRun {
         serial: cell.serial,
         first: cell.index,
         len,
-    };
-    match out.push(run) {
-        Ok(()) => Ok(()),
-        Err(_) => Err(OutOfMemory),
-    }
+    })?;
+    Ok(())
 }
 
 /// Puts a cell before the first of the runs, which stands last. A run that is too long for its count fails.
@@ -37,10 +34,8 @@ fn put_before(out: &mut Vec<SetRun>, cell: Cell, next: SetRun) -> Result<(), Out
             None => Err(OutOfMemory),
         }
     } else {
-        match out.push(next) {
-            Ok(()) => put(out, cell, 1),
-            Err(_) => Err(OutOfMemory),
-        }
+        out.push(next)?;
+        put(out, cell, 1)
     }
 }
 

@@ -1,11 +1,11 @@
 // Sets of cells, and the cells that an upcall may touch.
 
-ghost use Rattle.std.specs.Prelude.{◌≡◌, [], ◌∷◌, ◌++◌, OnOk, IfOk};
-ghost use Rattle.mdr_model.specs.Sets.{is_in, cells_from, cells_of_run, cells_of_runs, keyed_cells, is_keyed, visible, visible_of};
+ghost use Rattle.std.specs.Prelude.{◌≡◌, ◌++◌, OnOk, IfOk};
+ghost use Rattle.mdr_model.specs.Sets.{is_in, cells_of_run, cells_of_runs, keyed_cells, is_keyed, visible, visible_of};
 
 use mdr_core::{Items, OutOfMemory, Program};
 use mdr_model::{Cell, MemoryBlock, New, SetRun};
-use std::alloc::{AllocError, Global};
+use std::alloc::Global;
 
 /// Whether a set has the cell of a block at an index.
 #[tactic(auto, unfolding(mdr_model::specs::Sets::is_in))]
@@ -32,22 +32,18 @@ pub fn is_keyed(program: &Program, block: New) -> bool
     block.serial < program.globals.len() as u64 && !(block.ty == 8)
 }
 
-/// As many cells of a block as said, from the first on.
-#[tactic(auto, unfolding(mdr_model::specs::Sets::cells_from))]
-fn put_cells(out: &mut Vec<Cell>, serial: u64, count: u32) -> Result<(), AllocError>
-    ensures { OnOk result (out.new.items ≡ out.old.items ++ cells_from serial 0 count) }
-{
-    for index in 0..count {
-        out.push(Cell { serial, index })?;
-    }
-    Ok(())
-}
-
-fn put_keyed(out: &mut Vec<Cell>, program: &Program, block: New) -> Result<(), AllocError>
+fn put_keyed(out: &mut Vec<Cell>, program: &Program, block: New) -> Result<(), OutOfMemory>
     ensures { OnOk result (out.new.items ≡ out.old.items ++ keyed_cells program.now block) }
 {
     if is_keyed(program, block) {
-        put_cells(out, block.serial, block.count)?;
+        put_run(
+            out,
+            SetRun {
+                serial: block.serial,
+                first: 0,
+                len: block.count,
+            },
+        )?;
     }
     Ok(())
 }
@@ -57,7 +53,7 @@ fn put_visible(
     out: &mut Vec<Cell>,
     program: &Program,
     memory: &[MemoryBlock],
-) -> Result<(), AllocError>
+) -> Result<(), OutOfMemory>
     ensures { OnOk result (out.new.items ≡ out.old.items ++ visible program.now memory.now) }
 {
     for block in memory {
@@ -75,33 +71,20 @@ pub fn visible(
     ensures { IfOk result (λ cells. cells ≡ visible program.now memory.now) }
 {
     let mut cells = Vec::new(alloc);
-    match put_visible(&mut cells, program, memory) {
-        Ok(()) => Ok(Items::from_vec(cells)),
-        Err(_) => Err(OutOfMemory),
-    }
+    put_visible(&mut cells, program, memory)?;
+    Ok(Items::from_vec(cells))
 }
 
-fn put_cell(out: &mut Vec<Cell>, cell: Cell) -> Result<(), OutOfMemory>
-    ensures { OnOk result (out.new.items ≡ out.old.items ++ cell ∷ []) }
-{
-    match out.push(cell) {
-        Ok(()) => Ok(()),
-        Err(_) => Err(OutOfMemory),
-    }
-}
-
-fn put_run(out: &mut Vec<Cell>, run: SetRun) -> Result<(), OutOfMemory>
+/// Adds the cells of a run. One that goes over the last index that a cell can have fails.
+pub(crate) fn put_run(out: &mut Vec<Cell>, run: SetRun) -> Result<(), OutOfMemory>
     ensures { OnOk result (out.new.items ≡ out.old.items ++ cells_of_run run) }
 {
     for i in 0..run.len {
         match run.first.checked_add(i) {
-            Some(index) => put_cell(
-                out,
-                Cell {
-                    serial: run.serial,
-                    index,
-                },
-            )?,
+            Some(index) => out.push(Cell {
+                serial: run.serial,
+                index,
+            })?,
             None => return Err(OutOfMemory),
         }
     }

@@ -10,7 +10,7 @@ use crate::lives::{names_block, put_news, without};
 use crate::store::{is_live, put_runs};
 use mdr_core::{Items, OutOfMemory, Program};
 use mdr_model::{Cell, MemoryBlock, New, Run, Wire};
-use std::alloc::{AllocError, Global};
+use std::alloc::Global;
 
 /// What a message tells: first the blocks that died, then those that are new, then values of visible cells.
 #[derive(Debug, Drop)]
@@ -25,7 +25,7 @@ fn renewed(
     program: &Program,
     telling: &Telling,
     copy: Vec<MemoryBlock>,
-) -> Result<Vec<MemoryBlock>, AllocError>
+) -> Result<Vec<MemoryBlock>, OutOfMemory>
     ensures { IfOk result (λ m. m.items ≡ with_news program.now telling.now.news (without telling.now.deaths copy.items)) }
 {
     let mut left = without(alloc, telling.deaths.as_slice(), copy)?;
@@ -43,13 +43,9 @@ pub fn agreed_after(
 ) -> Result<Items<MemoryBlock>, OutOfMemory>
     ensures { IfOk result (λ m. m ≡ agreed_after program.now (told telling.now) copy) }
 {
-    match renewed(alloc, program, telling, copy.into_vec()) {
-        Ok(mut left) => {
-            put_runs(&mut left, telling.runs.as_slice());
-            Ok(Items::from_vec(left))
-        }
-        Err(_) => Err(OutOfMemory),
-    }
+    let mut left = renewed(alloc, program, telling, copy.into_vec())?;
+    put_runs(&mut left, telling.runs.as_slice());
+    Ok(Items::from_vec(left))
 }
 
 /// The serials that the copy has and the memory hasn't.
@@ -58,7 +54,7 @@ fn died(
     alloc: Global,
     copy: &[MemoryBlock],
     memory: &[MemoryBlock],
-) -> Result<Items<u64>, AllocError>
+) -> Result<Items<u64>, OutOfMemory>
     ensures { IfOk result (λ d. d ≡ died copy.now memory.now) }
 {
     let mut out = Vec::new(alloc);
@@ -89,7 +85,7 @@ fn news_of(
     copy: &[MemoryBlock],
     values: &[Wire],
     memory: &[MemoryBlock],
-) -> Result<Items<New>, AllocError>
+) -> Result<Items<New>, OutOfMemory>
     ensures { IfOk result (λ n. n ≡ news_of copy.now values.now memory.now) }
 {
     let mut out = Vec::new(alloc);
@@ -101,7 +97,7 @@ fn news_of(
     Ok(Items::from_vec(out))
 }
 
-fn put_values(out: &mut Vec<Wire>, values: &[Wire]) -> Result<(), AllocError>
+fn put_values(out: &mut Vec<Wire>, values: &[Wire]) -> Result<(), OutOfMemory>
     ensures { OnOk result (out.new.items ≡ out.old.items ++ values.now) }
 {
     for value in values {
@@ -111,7 +107,7 @@ fn put_values(out: &mut Vec<Wire>, values: &[Wire]) -> Result<(), AllocError>
 }
 
 #[tactic(auto, unfolding(mdr_model::specs::Copies::values_in))]
-fn put_values_in(out: &mut Vec<Wire>, runs: &[Run]) -> Result<(), AllocError>
+fn put_values_in(out: &mut Vec<Wire>, runs: &[Run]) -> Result<(), OutOfMemory>
     ensures { OnOk result (out.new.items ≡ out.old.items ++ values_in runs.now) }
 {
     for run in runs {
@@ -121,7 +117,7 @@ fn put_values_in(out: &mut Vec<Wire>, runs: &[Run]) -> Result<(), AllocError>
 }
 
 /// The values of a message: those that it passes, and those of its runs.
-fn all_values(alloc: Global, values: &[Wire], runs: &[Run]) -> Result<Vec<Wire>, AllocError>
+fn all_values(alloc: Global, values: &[Wire], runs: &[Run]) -> Result<Vec<Wire>, OutOfMemory>
     ensures { IfOk result (λ all. all.items ≡ values.now ++ values_in runs.now) }
 {
     let mut all = Vec::new(alloc);
@@ -136,24 +132,11 @@ fn news_in(
     memory: &[MemoryBlock],
     values: &[Wire],
     runs: &[Run],
-) -> Result<Items<New>, AllocError>
+) -> Result<Items<New>, OutOfMemory>
     ensures { IfOk result (λ n. n ≡ news_of left.now (values.now ++ values_in runs.now) memory.now) }
 {
     let all = all_values(alloc, values, runs)?;
     news_of(alloc, left, all.as_slice(), memory)
-}
-
-fn deaths_of(
-    alloc: Global,
-    copy: &[MemoryBlock],
-    memory: &[MemoryBlock],
-) -> Result<Items<u64>, OutOfMemory>
-    ensures { IfOk result (λ d. d ≡ died copy.now memory.now) }
-{
-    match died(alloc, copy, memory) {
-        Ok(deaths) => Ok(deaths),
-        Err(_) => Err(OutOfMemory),
-    }
 }
 
 /// What a message tells besides the deaths, where the copy is rid of them.
@@ -167,10 +150,8 @@ fn with_deaths(
 ) -> Result<Telling, OutOfMemory>
     ensures { IfOk result (λ t. told t ≡ told_with left.now memory.now deaths values.now runs) }
 {
-    match news_in(alloc, left, memory, values, runs.as_slice()) {
-        Ok(news) => Ok(Telling { deaths, news, runs }),
-        Err(_) => Err(OutOfMemory),
-    }
+    let news = news_in(alloc, left, memory, values, runs.as_slice())?;
+    Ok(Telling { deaths, news, runs })
 }
 
 fn rid_of(
@@ -180,10 +161,8 @@ fn rid_of(
 ) -> Result<Items<MemoryBlock>, OutOfMemory>
     ensures { IfOk result (λ left. left ≡ without deaths.now copy) }
 {
-    match without(alloc, deaths, copy.into_vec()) {
-        Ok(left) => Ok(Items::from_vec(left)),
-        Err(_) => Err(OutOfMemory),
-    }
+    let left = without(alloc, deaths, copy.into_vec())?;
+    Ok(Items::from_vec(left))
 }
 
 /// What a message with these values tells, and the copy without the blocks that died, where the copy is agreed
@@ -199,7 +178,7 @@ pub fn tells(
     ensures what { IfOk result (λ t. told t.0 ≡ tells view.now values.now copy memory.now) }
     ensures left { IfOk result (λ t. t.1 ≡ without (died copy memory.now) copy) }
 {
-    let deaths = deaths_of(alloc, copy.as_slice(), memory)?;
+    let deaths = died(alloc, copy.as_slice(), memory)?;
     let left = rid_of(alloc, deaths.as_slice(), copy)?;
     let runs = changes(alloc, view, left.as_slice(), memory)?;
     let telling = with_deaths(alloc, left.as_slice(), memory, deaths, values, runs)?;
@@ -217,7 +196,7 @@ pub fn tells_no_cells(
     ensures what { IfOk result (λ t. told t.0 ≡ tells_no_cells values.now copy memory.now) }
     ensures left { IfOk result (λ t. t.1 ≡ without (died copy memory.now) copy) }
 {
-    let deaths = deaths_of(alloc, copy.as_slice(), memory)?;
+    let deaths = died(alloc, copy.as_slice(), memory)?;
     let left = rid_of(alloc, deaths.as_slice(), copy)?;
     let telling = with_deaths(
         alloc,

@@ -1,33 +1,17 @@
 // Values: what they are in messages, and which are the same.
 
 ghost use Rattle.std.specs.Prelude.{◌≡◌};
-ghost use Rattle.mdr_core.specs.Kinds.{kind_number};
 ghost use Rattle.mdr_model.specs.Values.{type_number, wire_view, wire_of, lock_number, is_same_view, is_same, fits_type, fits, fits_result, is_view_of};
 
-use mdr_core::{Kind, LockState, Program, Ty, Value, View};
+use mdr_core::{LockState, Program, Ty, Value, View};
 use mdr_model::{New, Wire, WireView};
-
-fn kind_number(kind: Kind) -> u32
-    ensures { result ≡ kind_number kind }
-{
-    match kind {
-        Kind::U8 => 0,
-        Kind::U16 => 1,
-        Kind::U32 => 2,
-        Kind::U64 => 3,
-        Kind::S8 => 4,
-        Kind::S16 => 5,
-        Kind::S32 => 6,
-        Kind::S64 => 7,
-    }
-}
 
 /// The number of a type in the table.
 pub fn type_number(ty: &Ty) -> u32
     ensures { result ≡ type_number ty.now }
 {
     match ty {
-        Ty::Int(kind) => kind_number(*kind),
+        Ty::Int(kind) => kind.number(),
         Ty::Lock => 8,
         Ty::Void => 9,
     }
@@ -87,7 +71,7 @@ pub fn is_same(one: Wire, other: Wire) -> bool
     ensures { result ≡ is_same one other }
 {
     match (one, other) {
-        (Wire::Int(k, n), Wire::Int(l, m)) => kind_number(k) == kind_number(l) && n == m,
+        (Wire::Int(k, n), Wire::Int(l, m)) => k.number() == l.number() && n == m,
         (Wire::Null, Wire::Null) => true,
         (Wire::Ptr(p), Wire::Ptr(q)) => is_same_view(p, q),
         (Wire::Dead, Wire::Dead) => true,
@@ -103,7 +87,7 @@ pub fn fits_type(ty: &Ty, value: Wire) -> bool
     ensures { result ≡ fits_type ty.now value }
 {
     match (ty, value) {
-        (Ty::Int(kind), Wire::Int(own, n)) => kind_number(*kind) == kind_number(own)
+        (Ty::Int(kind), Wire::Int(own, n)) => kind.number() == own.number()
             && kind.contains(n),
         (Ty::Lock, Wire::Lock(_)) => true,
         _ => false,

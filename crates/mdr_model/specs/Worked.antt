@@ -1,4 +1,4 @@
--- Two drivers worked out: what the definitions compute to on them.
+-- Drivers worked out: what the definitions compute to on them.
 use Rattle.std.specs.Prelude.{◌≡◌, ℕ, Bool, true, false, List, [], ◌∷◌, ◌++◌, map, Some, None, codes, pos, Box}
 use Rattle.std.specs.declared.alloc.Global.{Global as Heap}
 use Rattle.mdr_core.specs.declared.kind.Kind.TheVariants.{U32}
