@@ -68,16 +68,16 @@ pub(crate) fn calls(
     alloc: Global,
     program: &Program,
     kernel: Kernel,
-    open: Open,
+    upcall: Open,
 ) -> Result<Pending, OutOfMemory>
-    ensures { IfOk result (λ p. (script : List ℕ) → pending_of script p ≡ calls program.now open.func [] (world_of kernel.world) (kernel_of kernel) (drop open.done script)) }
+    ensures { IfOk result (λ p. (script : List ℕ) → pending_of script p ≡ calls program.now upcall.func [] (world_of kernel.world) (kernel_of kernel) (drop upcall.done script)) }
 {
     let world = renewed(alloc, program, kernel.world)?;
     let view = world.view.as_slice();
     let memory = world.memory.as_slice();
     let (telling, agreed) = told_cells(alloc, program, view, &[], kernel.agreed, memory)?;
     let message = Message::Call {
-        func: open.func,
+        func: upcall.func,
         depth: 0,
         rest: world.rest,
         args: Items::new(alloc),
@@ -92,7 +92,7 @@ pub(crate) fn calls(
         agreed,
         exchanges,
     };
-    Ok(Pending::Waits(message, kernel, open))
+    Ok(Pending::Waits(message, kernel, upcall))
 }
 
 /// A downcall came back: the visible set is taken anew, and the result is told.
@@ -102,9 +102,9 @@ pub(crate) fn comes_back(
     program: &Program,
     value: Wire,
     kernel: Kernel,
-    open: Open,
+    upcall: Open,
 ) -> Result<Pending, OutOfMemory>
-    ensures { IfOk result (λ p. (script : List ℕ) → pending_of script p ≡ comes_back program.now value (world_of kernel.world) (kernel_of kernel) (rest_of script open)) }
+    ensures { IfOk result (λ p. (script : List ℕ) → pending_of script p ≡ comes_back program.now value (world_of kernel.world) (kernel_of kernel) (rest_of script upcall)) }
 {
     let world = renewed(alloc, program, kernel.world)?;
     let view = world.view.as_slice();
@@ -124,7 +124,7 @@ pub(crate) fn comes_back(
         agreed,
         exchanges,
     };
-    Ok(Pending::Waits(message, kernel, open))
+    Ok(Pending::Waits(message, kernel, upcall))
 }
 
 /// A service was done, and gave no result.
@@ -133,22 +133,26 @@ pub(crate) fn answers(
     alloc: Global,
     program: &Program,
     kernel: Kernel,
-    open: Open,
+    upcall: Open,
 ) -> Result<Pending, OutOfMemory>
-    ensures { IfOk result (λ p. (script : List ℕ) → pending_of script p ≡ answers program.now [] (world_of kernel.world) (kernel_of kernel) (rest_of script open)) }
+    ensures { IfOk result (λ p. (script : List ℕ) → pending_of script p ≡ answers program.now [] (world_of kernel.world) (kernel_of kernel) (rest_of script upcall)) }
 {
-    let memory = kernel.world.memory.as_slice();
-    let (telling, agreed) = told_lives(alloc, program, &[], kernel.agreed, memory)?;
+    let Kernel {
+        world,
+        agreed,
+        exchanges,
+    } = kernel;
+    let (telling, agreed) = told_lives(alloc, program, &[], agreed, world.memory.as_slice())?;
     let message = Message::Answer {
         results: Items::new(alloc),
         deaths: telling.deaths,
         news: telling.news,
     };
-    let exchanges = one_more(kernel.exchanges)?;
+    let exchanges = one_more(exchanges)?;
     let kernel = Kernel {
-        world: kernel.world,
+        world,
         agreed,
         exchanges,
     };
-    Ok(Pending::Waits(message, kernel, open))
+    Ok(Pending::Waits(message, kernel, upcall))
 }

@@ -19,6 +19,5 @@ pub(crate) fn served(
 ) -> Result<Option<Stopped>, OutOfMemory>
     ensures { IfOk result (λ stop. (shapes : List AnyShape) (bytes : List ℕ) → served (record { service = service; at = at; args = args.now; shapes = shapes; bytes = bytes }) (world_of world.old) ≡ ran_of [] stop (world_of world.new)) }
 {
-    let _ = (at, service, args, world);
     Err(OutOfMemory)
 }

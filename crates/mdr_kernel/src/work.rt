@@ -23,6 +23,5 @@ pub(crate) fn kernel_call(
     requires world { IsSoundWorld program.now (world_of world.old) }
     ensures { IfOk result (λ stop. (args : List AnyWire) (depth : ℕ) → kernel_call program.now func args depth (world_of world.old) ≡ ran_of wire.NoValue stop (world_of world.new)) }
 {
-    let _ = (program, func, world);
     Err(OutOfMemory)
 }
