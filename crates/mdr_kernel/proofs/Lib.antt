@@ -1,2 +1,3 @@
 pub mod Deaths
 pub mod Numbers
+pub mod KernelCode

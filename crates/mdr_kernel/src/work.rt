@@ -1,15 +1,69 @@
 // Functions of the kernel half.
 
-ghost use Rattle.std.specs.Prelude.{◌≡◌, ℕ, true, List, IfOk};
+ghost use Rattle.std.specs.Prelude.{◌≡◌, ℕ, true, List, [], ◌∷◌, Some, None, IfOk, OnErr};
+ghost use Rattle.std.specs.List.{AllByRecursion};
+ghost use Rattle.mdr_core.specs.declared.code.Step.TheVariants as step;
+ghost use Rattle.mdr_core.specs.declared.code.Stmt.{Stmt as AnyStmt};
+ghost use Rattle.mdr_core.specs.declared.program.Program.{Program as AnyProgram};
+ghost use Rattle.mdr_core.specs.declared.plan.Half.TheVariants as half;
 ghost use Rattle.mdr_model.specs.declared.wire.Wire.TheVariants as wire;
 ghost use Rattle.mdr_model.specs.declared.wire.Wire.{Wire as AnyWire};
-ghost use Rattle.mdr_model.specs.Sound.{IsSound};
-ghost use Rattle.mdr_model.specs.Meaning.{is_kernel};
-ghost use Rattle.mdr_model.specs.World.{kernel_call};
+ghost use Rattle.mdr_model.specs.Sound.{IsSoundStep, IsSoundCall, IsSoundWritel, IsSound};
+ghost use Rattle.mdr_model.specs.Tree.{Tree as AnyTree, Ask as Asks, Tick as Ticks, Done as Ends, Idle as Nothing};
+ghost use Rattle.mdr_model.specs.Memory.{stored, everywhere};
+ghost use Rattle.mdr_model.specs.Meaning.{pointer_to, Enters, Here as AnyHere, is_kernel, values, call, statement, statements};
+ghost use Rattle.mdr_model.specs.World.{in_kernel, kernel_call};
+ghost use Rattle.mdr_copy.specs.Evaluated.{when_made};
 ghost use Rattle.mdr_kernel.specs.States.{world_of, ran_of, IsSoundWorld};
+ghost use Rattle.mdr_kernel.specs.Works.{goes_on};
 
+use crate::service::served;
 use crate::state::{Stopped, World};
-use mdr_core::{OutOfMemory, Program};
+use crate::stubs::func_at;
+use mdr_copy::{evaluated, stored};
+use mdr_core::{At, CallForm, Callee, Expr, Lval, OutOfMemory, Program, Step, Stmt, StopKind};
+use mdr_model::{MemoryBlock, Wire};
+
+fn stops(kind: StopKind, at: At) -> Option<Stopped>
+    ensures { result ≡ Some (record { kind = kind; at = Some at }) }
+{
+    Some(Stopped { kind, at: Some(at) })
+}
+
+/// Stores into a variable, or gives the stop.
+fn stored_in(
+    memory: &mut Vec<MemoryBlock>,
+    place: Lval,
+    value: Wire,
+) -> Result<(), StopKind>
+    ensures memory { (program : AnyProgram) → stored everywhere memory.old.items (pointer_to program place) value ≡ when_made result memory.new.items }
+    ensures stopped { OnErr result (memory.new.items ≡ memory.old.items) }
+{
+    stored(None, memory.as_mut_slice(), place, value)
+}
+
+/// An assignment: `None` where it was made, and else why it stopped.
+fn assigned(
+    program: &Program,
+    at: At,
+    place: Lval,
+    e: &Expr,
+    world: &mut World,
+) -> Option<Stopped>
+    requires program { IsSound program.now }
+    requires world { IsSoundWorld program.now (world_of world.old) }
+    requires step { IsSoundStep program.now true (step.Assign place e.now) }
+    ensures by { (low : Enters) (here : AnyHere) (next : AnyTree) → in_kernel (statement program.now half.Kernel low here at (step.Assign place e.now) next) (world_of world.old) ≡ goes_on result next (world_of world.new) }
+    ensures sound { IsSoundWorld program.now (world_of world.new) }
+{
+    match evaluated(None, program, world.memory.as_slice(), e) {
+        Ok(value) => match stored_in(&mut world.memory, place, value) {
+            Ok(()) => None,
+            Err(kind) => stops(kind, at),
+        },
+        Err(kind) => stops(kind, at),
+    }
+}
 
 /// Calls a function of the kernel half: `None` where it ended, and else why it stopped. It has no parameters and
 /// gives no value, and calls none.
@@ -21,7 +75,8 @@ pub(crate) fn kernel_call(
     requires program { IsSound program.now }
     requires function { is_kernel program.now func ≡ true }
     requires world { IsSoundWorld program.now (world_of world.old) }
-    ensures { IfOk result (λ stop. (args : List AnyWire) (depth : ℕ) → kernel_call program.now func args depth (world_of world.old) ≡ ran_of wire.NoValue stop (world_of world.new)) }
+    ensures by { IfOk result (λ stop. (args : List AnyWire) (depth : ℕ) → kernel_call program.now func args depth (world_of world.old) ≡ ran_of wire.NoValue stop (world_of world.new)) }
+    ensures sound { IfOk result (λ stop. IsSoundWorld program.now (world_of world.new)) }
 {
     Err(OutOfMemory)
 }

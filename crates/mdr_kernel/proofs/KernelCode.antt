@@ -1,0 +1,126 @@
+-- Statements of the kernel half: what a tree of one does in a world, and that the world stays sound.
+use Rattle.std.proofs.Common.{◌≡◌, ℕ, zero, suc, ◌+◌, ◌<◌, ◌^◌, Bool, true, false, cond, List, [], ◌∷◌, Option, Some, None, Result, Ok, Err, refl, sym, ap, ◌∙◌, subst, slice_get, arith}
+use Rattle.std.specs.Prelude.{nat_lt}
+use Rattle.std.specs.List.{AllByRecursion}
+use Rattle.mdr_core.specs.declared.kind.Kind.{Kind}
+use Rattle.mdr_core.specs.declared.kind.Kind.TheVariants.{U32}
+use Rattle.mdr_core.specs.declared.types.Ty.TheVariants as ty
+use Rattle.mdr_core.specs.declared.stop.StopKind.{StopKind}
+use Rattle.mdr_core.specs.declared.place.At.{At}
+use Rattle.mdr_core.specs.declared.program.Program.{Program}
+use Rattle.mdr_core.specs.declared.code.Lval.{Lval}
+use Rattle.mdr_core.specs.declared.code.Lval.TheVariants.{Global}
+use Rattle.mdr_core.specs.declared.code.Expr.{Expr}
+use Rattle.mdr_model.specs.declared.wire.Wire.{Wire}
+use Rattle.mdr_model.specs.declared.wire.WireView.{WireView}
+use Rattle.mdr_model.specs.Values.{fits_type, natural}
+use Rattle.mdr_model.specs.Memory.{Memory, births, normal, first_memory, cell_of, put, stored, everywhere}
+use Rattle.mdr_model.specs.Tree.{Asked, Tree}
+use Rattle.mdr_model.specs.Meaning.{type_of_global, pointer_to, value, values}
+use Rattle.mdr_model.specs.World.{World, Ran, Ended, Stopped, after, when_loaded, when_stored, written, written_if, is_writel, served, as_now, in_kernel}
+use Rattle.mdr_model.specs.Holds.{IsSoundMemory}
+use Rattle.mdr_model.specs.Sound.{IsSoundPlace, IsSoundExpr, IsSoundWritel, IsSound}
+use Rattle.mdr_model.proofs.MemoryLaws.{born_at-births, births-put}
+use Rattle.mdr_model.proofs.ValueLaws.{typed_is_normal}
+use Rattle.mdr_model.proofs.HoldsLaws.{stored_is}
+use Rattle.mdr_copy.specs.Evaluated.{evaluated}
+use Rattle.mdr_copy.proofs.EvaluatedLaws.{kernel_value, evaluated_fits}
+use Rattle.mdr_copy.proofs.SoundMemories.{first_is_sound, stored_is_sound}
+use Rattle.mdr_kernel.specs.declared.state.Stopped.{Stopped as CodeStop}
+use Rattle.mdr_kernel.specs.States.{ran_of, IsSoundWorld}
+use Rattle.mdr_kernel.specs.Works.{goes_on}
+
+-- ---- sound worlds
+
+pub sound_memory : (program : Program) (w : World) → IsSound program → IsSoundWorld program w → IsSoundMemory program w.memory
+sound_memory program w sound h = record {
+  globals = λ number g e. born_at-births w.memory (first_memory program) number h.born ∙ (first_is_sound program sound).globals number g e;
+  filled = h.filled;
+}
+
+births_stored : (allowed : _) (program : Program) (m m' : Memory) (place : Lval) (v : Wire) → stored allowed m (pointer_to program place) v ≡ Ok m' → births m' ≡ births m
+unfolding pointer_to
+births_stored allowed program m m' (Global g) v e =
+    let p : WireView = record { serial = g; first = 0; ty = type_of_global (slice_get program.globals g); count = 1; index = 0 } in
+    ap births (sym (stored_is allowed m m' p v e)) ∙ births-put m (cell_of p) (normal m v)
+
+-- a store of a value that fits leaves a sound world
+pub store_keeps : (program : Program) (w w' : World) (place : Lval) (kind : Kind) (v : Wire) → IsSound program → IsSoundWorld program w → IsSoundPlace program place kind → fits_type (ty.Int kind) v ≡ true
+    → stored everywhere w.memory (pointer_to program place) v ≡ Ok w'.memory → w'.ticks ≡ w.ticks → w'.rest ≡ w.rest → IsSoundWorld program w'
+store_keeps program w w' place kind v sound h s fit e ticks rest = record {
+  born = births_stored everywhere program w.memory w'.memory place v e ∙ h.born;
+  filled = (stored_is_sound everywhere program w.memory w'.memory place kind v s fit sound (sound_memory program w sound h) e).filled;
+  clock = let clock : w.ticks + w.rest < 2 ^ 64 = h.clock in omega (arith, clock, ticks, rest);
+}
+
+-- ---- services
+
+abbrev world_in : {A : Type 0} → Ran A → World
+world_in (Ended x w) = w
+world_in (Stopped kind at w) = w
+
+written_keeps : (program : Program) (at : At) (vs : List Wire) (w : World) → IsSoundWorld program w → IsSoundWorld program (world_in (written at vs w))
+written_keeps program at [] w h = h
+written_keeps program at (v ∷ []) w h = h
+written_keeps program at (v ∷ r ∷ []) w h = of (nat_lt (natural r) 4096)
+  where
+    of : (t : Bool) → IsSoundWorld program (world_in (written_if t at (natural r) (natural v) w))
+    of true = record { born = h.born; filled = h.filled; clock = h.clock }
+    of false = h
+written_keeps program at (v ∷ r ∷ x ∷ vs) w h = h
+
+served_keeps : (program : Program) (asked : Asked) (w : World) → IsSoundWorld program w → IsSoundWorld program (world_in (served asked w))
+unfolding served
+served_keeps program asked w h = of (is_writel asked.service)
+  where
+    of : (t : Bool) → IsSoundWorld program (world_in (cond t (written asked.at asked.args w) (Ended [] w)))
+    of true = written_keeps program asked.at asked.args w h
+    of false = h
+
+world_ran : {A : Type 0} (x : A) (stop : Option CodeStop) (w : World) → world_in (ran_of x stop w) ≡ w
+world_ran x None w = refl
+world_ran x (Some stop) w = refl
+
+-- a service leaves a sound world
+pub served_is_sound : (program : Program) (asked : Asked) (w w' : World) (stop : Option CodeStop) → IsSoundWorld program w → served asked w ≡ ran_of [] stop w' → IsSoundWorld program w'
+served_is_sound program asked w w' stop h e = subst (IsSoundWorld program) (ap world_in e ∙ world_ran [] stop w') (served_keeps program asked w h)
+
+-- ---- assignments
+
+pub assign_refused : (program : Program) (at : At) (place : Lval) (e : Expr) (w : World) (m : Memory) (kind : StopKind) (stop : Option CodeStop) (next : Tree) → m ≡ w.memory → Err kind ≡ evaluated everywhere program m e
+    → stop ≡ Some (record { kind = kind; at = Some at }) → in_kernel (value program at e (λ v. Tree.Store at (pointer_to program place) v next)) w ≡ goes_on stop next w
+assign_refused program at place e w m kind stop next same gave is =
+    let k : Wire → Tree = λ v. Tree.Store at (pointer_to program place) v next in
+    kernel_value program at e k w
+    ∙ ap (λ (r : Result Wire StopKind). when_loaded r at w (λ v. in_kernel (k v) w)) (ap (λ (x : Memory). evaluated everywhere program x e) (sym same) ∙ sym gave)
+    ∙ sym (ap (λ (s : Option CodeStop). goes_on s next w) is)
+
+assign_stores : (program : Program) (at : At) (place : Lval) (e : Expr) (w : World) (m : Memory) (v : Wire) (r : Result Memory StopKind) (next : Tree) → m ≡ w.memory → Ok v ≡ evaluated everywhere program m e
+    → stored everywhere w.memory (pointer_to program place) v ≡ r
+    → in_kernel (value program at e (λ v. Tree.Store at (pointer_to program place) v next)) w ≡ when_stored r at w (λ w'. in_kernel next w')
+unfolding in_kernel
+assign_stores program at place e w m v r next same gave made =
+    let k : Wire → Tree = λ v. Tree.Store at (pointer_to program place) v next in
+    kernel_value program at e k w
+    ∙ ap (λ (r : Result Wire StopKind). when_loaded r at w (λ v. in_kernel (k v) w)) (ap (λ (x : Memory). evaluated everywhere program x e) (sym same) ∙ sym gave)
+    ∙ ap (λ (r : Result Memory StopKind). when_stored r at w (λ w'. in_kernel next w')) made
+
+pub assign_made : (program : Program) (at : At) (place : Lval) (e : Expr) (w : World) (m m' : Memory) (v : Wire) (next : Tree) → m ≡ w.memory → Ok v ≡ evaluated everywhere program m e
+    → stored everywhere w.memory (pointer_to program place) v ≡ Ok m'
+    → in_kernel (value program at e (λ v. Tree.Store at (pointer_to program place) v next)) w ≡ in_kernel next (record w { memory = m' })
+assign_made program at place e w m m' v next same gave made = assign_stores program at place e w m v (Ok m') next same gave made
+
+pub assign_stopped : (program : Program) (at : At) (place : Lval) (e : Expr) (w : World) (m m' : Memory) (v : Wire) (kind : StopKind) (stop : Option CodeStop) (next : Tree) → m ≡ w.memory → Ok v ≡ evaluated everywhere program m e
+    → stored everywhere w.memory (pointer_to program place) v ≡ Err kind → m' ≡ w.memory → stop ≡ Some (record { kind = kind; at = Some at })
+    → in_kernel (value program at e (λ v. Tree.Store at (pointer_to program place) v next)) w ≡ goes_on stop next (record w { memory = m' })
+assign_stopped program at place e w m m' v kind stop next same gave made stays is =
+    assign_stores program at place e w m v (Err kind) next same gave made
+    ∙ ap (λ (x : Memory). Stopped kind (Some at) (record w { memory = x })) (sym stays)
+    ∙ sym (ap (λ (s : Option CodeStop). goes_on s next (record w { memory = m' })) is)
+
+pub assign_keeps : (program : Program) (place : Lval) (kind : Kind) (e : Expr) (w : World) (m m' : Memory) (v : Wire) → IsSound program → IsSoundWorld program w → IsSoundPlace program place kind → IsSoundExpr program e kind
+    → m ≡ w.memory → Ok v ≡ evaluated everywhere program m e → stored everywhere w.memory (pointer_to program place) v ≡ Ok m' → IsSoundWorld program (record w { memory = m' })
+assign_keeps program place kind e w m m' v sound h s t same gave made =
+    store_keeps program w (record w { memory = m' }) place kind v sound h s
+    (evaluated_fits everywhere program w.memory e kind v sound (sound_memory program w sound h) t (ap (λ (x : Memory). evaluated everywhere program x e) (sym same) ∙ sym gave))
+    made refl refl
