@@ -87,40 +87,94 @@ served_is_sound program asked w w' stop h e = subst (IsSoundWorld program) (ap w
 
 -- ---- assignments
 
-pub assign_refused : (program : Program) (at : At) (place : Lval) (e : Expr) (w : World) (m : Memory) (kind : StopKind) (stop : Option CodeStop) (next : Tree) → m ≡ w.memory → Err kind ≡ evaluated everywhere program m e
+pub assign_refused : (program : Program) (at : At) (place : Lval) (e : Expr) (w : World) (kind : StopKind) (stop : Option CodeStop) (next : Tree) → Err kind ≡ evaluated everywhere program w.memory e
     → stop ≡ Some (record { kind = kind; at = Some at }) → in_kernel (value program at e (λ v. Tree.Store at (pointer_to program place) v next)) w ≡ goes_on stop next w
-assign_refused program at place e w m kind stop next same gave is =
+assign_refused program at place e w kind stop next gave is =
     let k : Wire → Tree = λ v. Tree.Store at (pointer_to program place) v next in
     kernel_value program at e k w
-    ∙ ap (λ (r : Result Wire StopKind). when_loaded r at w (λ v. in_kernel (k v) w)) (ap (λ (x : Memory). evaluated everywhere program x e) (sym same) ∙ sym gave)
+    ∙ ap (λ (r : Result Wire StopKind). when_loaded r at w (λ v. in_kernel (k v) w)) (sym gave)
     ∙ sym (ap (λ (s : Option CodeStop). goes_on s next w) is)
 
-assign_stores : (program : Program) (at : At) (place : Lval) (e : Expr) (w : World) (m : Memory) (v : Wire) (r : Result Memory StopKind) (next : Tree) → m ≡ w.memory → Ok v ≡ evaluated everywhere program m e
+assign_stores : (program : Program) (at : At) (place : Lval) (e : Expr) (w : World) (v : Wire) (r : Result Memory StopKind) (next : Tree) → Ok v ≡ evaluated everywhere program w.memory e
     → stored everywhere w.memory (pointer_to program place) v ≡ r
     → in_kernel (value program at e (λ v. Tree.Store at (pointer_to program place) v next)) w ≡ when_stored r at w (λ w'. in_kernel next w')
 unfolding in_kernel
-assign_stores program at place e w m v r next same gave made =
+assign_stores program at place e w v r next gave made =
     let k : Wire → Tree = λ v. Tree.Store at (pointer_to program place) v next in
     kernel_value program at e k w
-    ∙ ap (λ (r : Result Wire StopKind). when_loaded r at w (λ v. in_kernel (k v) w)) (ap (λ (x : Memory). evaluated everywhere program x e) (sym same) ∙ sym gave)
+    ∙ ap (λ (r : Result Wire StopKind). when_loaded r at w (λ v. in_kernel (k v) w)) (sym gave)
     ∙ ap (λ (r : Result Memory StopKind). when_stored r at w (λ w'. in_kernel next w')) made
 
-pub assign_made : (program : Program) (at : At) (place : Lval) (e : Expr) (w : World) (m m' : Memory) (v : Wire) (next : Tree) → m ≡ w.memory → Ok v ≡ evaluated everywhere program m e
+pub assign_made : (program : Program) (at : At) (place : Lval) (e : Expr) (w : World) (m' : Memory) (v : Wire) (next : Tree) → Ok v ≡ evaluated everywhere program w.memory e
     → stored everywhere w.memory (pointer_to program place) v ≡ Ok m'
     → in_kernel (value program at e (λ v. Tree.Store at (pointer_to program place) v next)) w ≡ in_kernel next (record w { memory = m' })
-assign_made program at place e w m m' v next same gave made = assign_stores program at place e w m v (Ok m') next same gave made
+assign_made program at place e w m' v next gave made = assign_stores program at place e w v (Ok m') next gave made
 
-pub assign_stopped : (program : Program) (at : At) (place : Lval) (e : Expr) (w : World) (m m' : Memory) (v : Wire) (kind : StopKind) (stop : Option CodeStop) (next : Tree) → m ≡ w.memory → Ok v ≡ evaluated everywhere program m e
+pub assign_stopped : (program : Program) (at : At) (place : Lval) (e : Expr) (w : World) (m' : Memory) (v : Wire) (kind : StopKind) (stop : Option CodeStop) (next : Tree) → Ok v ≡ evaluated everywhere program w.memory e
     → stored everywhere w.memory (pointer_to program place) v ≡ Err kind → m' ≡ w.memory → stop ≡ Some (record { kind = kind; at = Some at })
     → in_kernel (value program at e (λ v. Tree.Store at (pointer_to program place) v next)) w ≡ goes_on stop next (record w { memory = m' })
-assign_stopped program at place e w m m' v kind stop next same gave made stays is =
-    assign_stores program at place e w m v (Err kind) next same gave made
+assign_stopped program at place e w m' v kind stop next gave made stays is =
+    assign_stores program at place e w v (Err kind) next gave made
     ∙ ap (λ (x : Memory). Stopped kind (Some at) (record w { memory = x })) (sym stays)
     ∙ sym (ap (λ (s : Option CodeStop). goes_on s next (record w { memory = m' })) is)
 
-pub assign_keeps : (program : Program) (place : Lval) (kind : Kind) (e : Expr) (w : World) (m m' : Memory) (v : Wire) → IsSound program → IsSoundWorld program w → IsSoundPlace program place kind → IsSoundExpr program e kind
-    → m ≡ w.memory → Ok v ≡ evaluated everywhere program m e → stored everywhere w.memory (pointer_to program place) v ≡ Ok m' → IsSoundWorld program (record w { memory = m' })
-assign_keeps program place kind e w m m' v sound h s t same gave made =
+pub assign_keeps : (program : Program) (place : Lval) (kind : Kind) (e : Expr) (w : World) (m' : Memory) (v : Wire) → IsSound program → IsSoundWorld program w → IsSoundPlace program place kind → IsSoundExpr program e kind
+    → Ok v ≡ evaluated everywhere program w.memory e → stored everywhere w.memory (pointer_to program place) v ≡ Ok m' → IsSoundWorld program (record w { memory = m' })
+assign_keeps program place kind e w m' v sound h s t gave made =
     store_keeps program w (record w { memory = m' }) place kind v sound h s
-    (evaluated_fits everywhere program w.memory e kind v sound (sound_memory program w sound h) t (ap (λ (x : Memory). evaluated everywhere program x e) (sym same) ∙ sym gave))
+    (evaluated_fits everywhere program w.memory e kind v sound (sound_memory program w sound h) t (sym gave))
     made refl refl
+
+-- ---- calls of `writel`
+
+pub value_fits : (program : Program) (e : Expr) (w : World) (v : Wire) → IsSound program → IsSoundWorld program w → IsSoundExpr program e U32 → Ok v ≡ evaluated everywhere program w.memory e → fits_type (ty.Int U32) v ≡ true
+value_fits program e w v sound h s gave =
+    evaluated_fits everywhere program w.memory e U32 v sound (sound_memory program w sound h) s (sym gave)
+
+-- the tree of a call of a service whose result is left
+abbrev pub asks : ℕ → At → Tree → List Wire → Tree
+asks service at next vs = Tree.Ask (record { service = service; at = at; args = vs; shapes = []; bytes = [] }) (λ results. next)
+
+pub ask_refused : (program : Program) (at : At) (service : ℕ) (v r : Expr) (w : World) (kind : StopKind) (stop : Option CodeStop) (next : Tree) → Err kind ≡ evaluated everywhere program w.memory v
+    → stop ≡ Some (record { kind = kind; at = Some at }) → in_kernel (values program at (v ∷ r ∷ []) (asks service at next)) w ≡ goes_on stop next w
+ask_refused program at service v r w kind stop next gave is =
+    let k : Wire → Tree = λ x. value program at r (λ y. asks service at next (x ∷ y ∷ [])) in
+    kernel_value program at v k w
+    ∙ ap (λ (o : Result Wire StopKind). when_loaded o at w (λ x. in_kernel (k x) w)) (sym gave)
+    ∙ sym (ap (λ (s : Option CodeStop). goes_on s next w) is)
+
+ask_second : (program : Program) (at : At) (service : ℕ) (v r : Expr) (w : World) (x : Wire) (o : Result Wire StopKind) (next : Tree) → Ok x ≡ evaluated everywhere program w.memory v
+    → o ≡ evaluated everywhere program w.memory r
+    → in_kernel (values program at (v ∷ r ∷ []) (asks service at next)) w ≡ when_loaded o at w (λ y. in_kernel (asks service at next (x ∷ y ∷ [])) w)
+ask_second program at service v r w x o next gave then =
+    let k : Wire → Tree = λ x. value program at r (λ y. asks service at next (x ∷ y ∷ [])) in
+    kernel_value program at v k w
+    ∙ ap (λ (o : Result Wire StopKind). when_loaded o at w (λ x. in_kernel (k x) w)) (sym gave)
+    ∙ kernel_value program at r (λ y. asks service at next (x ∷ y ∷ [])) w
+    ∙ ap (λ (o : Result Wire StopKind). when_loaded o at w (λ y. in_kernel (asks service at next (x ∷ y ∷ [])) w)) (sym then)
+
+pub ask_refused_later : (program : Program) (at : At) (service : ℕ) (v r : Expr) (w : World) (x : Wire) (kind : StopKind) (stop : Option CodeStop) (next : Tree) → Ok x ≡ evaluated everywhere program w.memory v
+    → Err kind ≡ evaluated everywhere program w.memory r → stop ≡ Some (record { kind = kind; at = Some at }) → in_kernel (values program at (v ∷ r ∷ []) (asks service at next)) w ≡ goes_on stop next w
+ask_refused_later program at service v r w x kind stop next gave then is =
+    ask_second program at service v r w x (Err kind) next gave then
+    ∙ sym (ap (λ (s : Option CodeStop). goes_on s next w) is)
+
+-- what follows a service that gave no result
+served_on : (stop : Option CodeStop) (next : Tree) (w : World) → after {A = List Wire} (ran_of [] stop w) (λ results w'. in_kernel next w') ≡ goes_on stop next w
+served_on None next w = refl
+served_on (Some stop) next w = refl
+
+-- arguments that fit are as they are now
+two_normal : (m : Memory) (x y : Wire) → fits_type (ty.Int U32) x ≡ true → fits_type (ty.Int U32) y ≡ true → normal m x ∷ normal m y ∷ [] ≡ x ∷ y ∷ []
+two_normal m x y f g = λ i. typed_is_normal (ty.Int U32) m x f i ∷ typed_is_normal (ty.Int U32) m y g i ∷ []
+
+pub ask_done : (program : Program) (at : At) (service : ℕ) (v r : Expr) (w w' : World) (x y : Wire) (stop : Option CodeStop) (next : Tree) → IsSound program → IsSoundWorld program w → IsSoundWritel program (v ∷ r ∷ [])
+    → Ok x ≡ evaluated everywhere program w.memory v → Ok y ≡ evaluated everywhere program w.memory r
+    → served (record { service = service; at = at; args = x ∷ y ∷ []; shapes = []; bytes = [] }) w ≡ ran_of [] stop w' → in_kernel (values program at (v ∷ r ∷ []) (asks service at next)) w ≡ goes_on stop next w'
+unfolding in_kernel
+ask_done program at service v r w w' x y stop next sound h s gave then did =
+    let now : List Wire → Asked = λ vs. record { service = service; at = at; args = vs; shapes = []; bytes = [] } in
+    ask_second program at service v r w x (Ok y) next gave then
+    ∙ ap (λ (vs : List Wire). after (served (now vs) w) (λ results w'. in_kernel next w')) (two_normal w.memory x y (value_fits program v w x sound h s.0 gave) (value_fits program r w y sound h s.1 then))
+    ∙ ap (λ (o : Ran (List Wire)). after o (λ results w'. in_kernel next w')) did
+    ∙ served_on stop next w'

@@ -2,18 +2,19 @@
 
 ghost use Rattle.std.specs.Prelude.{◌≡◌, ℕ, true, List, [], ◌∷◌, Some, None, IfOk, OnErr};
 ghost use Rattle.std.specs.List.{AllByRecursion};
+ghost use Rattle.mdr_core.specs.declared.kind.Kind.{Kind as AnyKind};
 ghost use Rattle.mdr_core.specs.declared.code.Step.TheVariants as step;
 ghost use Rattle.mdr_core.specs.declared.code.Stmt.{Stmt as AnyStmt};
 ghost use Rattle.mdr_core.specs.declared.program.Program.{Program as AnyProgram};
 ghost use Rattle.mdr_core.specs.declared.plan.Half.TheVariants as half;
 ghost use Rattle.mdr_model.specs.declared.wire.Wire.TheVariants as wire;
 ghost use Rattle.mdr_model.specs.declared.wire.Wire.{Wire as AnyWire};
-ghost use Rattle.mdr_model.specs.Sound.{IsSoundStep, IsSoundCall, IsSoundWritel, IsSound};
+ghost use Rattle.mdr_model.specs.Sound.{IsSoundStep, IsSoundCall, IsSoundExpr, IsSoundWritel, IsSound};
 ghost use Rattle.mdr_model.specs.Tree.{Tree as AnyTree, Ask as Asks, Tick as Ticks, Done as Ends, Idle as Nothing};
 ghost use Rattle.mdr_model.specs.Memory.{stored, everywhere};
 ghost use Rattle.mdr_model.specs.Meaning.{pointer_to, Enters, Here as AnyHere, is_kernel, values, call, statement, statements};
 ghost use Rattle.mdr_model.specs.World.{in_kernel, kernel_call};
-ghost use Rattle.mdr_copy.specs.Evaluated.{when_made};
+ghost use Rattle.mdr_copy.specs.Evaluated.{when_made, evaluated};
 ghost use Rattle.mdr_kernel.specs.States.{world_of, ran_of, IsSoundWorld};
 ghost use Rattle.mdr_kernel.specs.Works.{goes_on};
 
@@ -28,6 +29,16 @@ fn stops(kind: StopKind, at: At) -> Option<Stopped>
     ensures { result ≡ Some (record { kind = kind; at = Some at }) }
 {
     Some(Stopped { kind, at: Some(at) })
+}
+
+/// The value of an expression, or the stop.
+fn value(program: &Program, e: &Expr, world: &World) -> Result<Wire, StopKind>
+    requires program { IsSound program.now }
+    requires world { IsSoundWorld program.now (world_of world.now) }
+    requires expression { (kind : AnyKind) × IsSoundExpr program.now e.now kind }
+    ensures { result ≡ evaluated everywhere program.now world.now.memory.items e.now }
+{
+    evaluated(None, program, world.memory.as_slice(), e)
 }
 
 /// Stores into a variable, or gives the stop.
@@ -56,12 +67,39 @@ fn assigned(
     ensures by { (low : Enters) (here : AnyHere) (next : AnyTree) → in_kernel (statement program.now half.Kernel low here at (step.Assign place e.now) next) (world_of world.old) ≡ goes_on result next (world_of world.new) }
     ensures sound { IsSoundWorld program.now (world_of world.new) }
 {
-    match evaluated(None, program, world.memory.as_slice(), e) {
+    match value(program, e, world) {
         Ok(value) => match stored_in(&mut world.memory, place, value) {
             Ok(()) => None,
             Err(kind) => stops(kind, at),
         },
         Err(kind) => stops(kind, at),
+    }
+}
+
+/// A call of `writel` with these arguments: `None` where it was done, and else why it stopped.
+fn wrote(
+    program: &Program,
+    at: At,
+    service: u32,
+    number: &Expr,
+    register: &Expr,
+    world: &mut World,
+) -> Result<Option<Stopped>, OutOfMemory>
+    requires program { IsSound program.now }
+    requires world { IsSoundWorld program.now (world_of world.old) }
+    requires args { IsSoundWritel program.now (number.now ∷ register.now ∷ []) }
+    ensures by { IfOk result (λ stop. (next : AnyTree) → in_kernel (values program.now at (number.now ∷ register.now ∷ []) (λ vs. Asks (record { service = service; at = at; args = vs; shapes = []; bytes = [] }) (λ results. next))) (world_of world.old) ≡ goes_on stop next (world_of world.new)) }
+    ensures sound { IfOk result (λ stop. IsSoundWorld program.now (world_of world.new)) }
+{
+    match value(program, number, world) {
+        Ok(written) => match value(program, register, world) {
+            Ok(place) => {
+                let stop = served(at, service, &[written, place], world)?;
+                Ok(stop)
+            }
+            Err(kind) => Ok(stops(kind, at)),
+        },
+        Err(kind) => Ok(stops(kind, at)),
     }
 }
 
