@@ -1,28 +1,39 @@
 -- Statements of the kernel half: what a tree of one does in a world, and that the world stays sound.
-use Rattle.std.proofs.Common.{◌≡◌, ℕ, zero, suc, ◌+◌, ◌<◌, ◌^◌, Bool, true, false, cond, List, [], ◌∷◌, Option, Some, None, Result, Ok, Err, refl, sym, ap, ◌∙◌, subst, slice_get, arith}
+use Rattle.std.proofs.Common.{◌≡◌, ℕ, zero, suc, ◌+◌, ◌-◌, ◌<◌, ◌≤◌, ◌^◌, Bool, true, false, cond, List, [], ◌∷◌, Option, Some, None, Result, Ok, Err, refl, sym, ap, ◌∙◌, subst, slice_get, get_or, length, drop, unwrap_or, arith}
 use Rattle.std.specs.Prelude.{nat_lt}
 use Rattle.std.specs.List.{AllByRecursion}
+use Rattle.std.proofs.lemmas.List.{at_drop_all}
 use Rattle.mdr_core.specs.declared.kind.Kind.{Kind}
 use Rattle.mdr_core.specs.declared.kind.Kind.TheVariants.{U32}
 use Rattle.mdr_core.specs.declared.types.Ty.TheVariants as ty
 use Rattle.mdr_core.specs.declared.stop.StopKind.{StopKind}
+use Rattle.mdr_core.specs.declared.stop.StopKind.TheVariants as stops
 use Rattle.mdr_core.specs.declared.place.At.{At}
 use Rattle.mdr_core.specs.declared.program.Program.{Program}
 use Rattle.mdr_core.specs.declared.code.Lval.{Lval}
 use Rattle.mdr_core.specs.declared.code.Lval.TheVariants.{Global}
 use Rattle.mdr_core.specs.declared.code.Expr.{Expr}
+use Rattle.mdr_core.specs.declared.code.Callee.{Callee}
+use Rattle.mdr_core.specs.declared.code.Callee.TheVariants.{Service}
+use Rattle.mdr_core.specs.declared.code.CallForm.{CallForm}
+use Rattle.mdr_core.specs.declared.code.Step.{Step}
+use Rattle.mdr_core.specs.declared.code.Step.TheVariants as step
+use Rattle.mdr_core.specs.declared.code.Stmt.{Stmt}
+use Rattle.mdr_core.specs.declared.program.Func.{Func}
+use Rattle.mdr_core.specs.declared.plan.Half.TheVariants as half
 use Rattle.mdr_model.specs.declared.wire.Wire.{Wire}
+use Rattle.mdr_model.specs.declared.wire.Wire.TheVariants as wire
 use Rattle.mdr_model.specs.declared.wire.WireView.{WireView}
 use Rattle.mdr_model.specs.Values.{fits_type, natural}
 use Rattle.mdr_model.specs.Memory.{Memory, births, normal, first_memory, cell_of, put, stored, everywhere}
 use Rattle.mdr_model.specs.Tree.{Asked, Tree}
-use Rattle.mdr_model.specs.Meaning.{type_of_global, pointer_to, value, values}
-use Rattle.mdr_model.specs.World.{World, Ran, Ended, Stopped, after, when_loaded, when_stored, written, written_if, is_writel, served, as_now, in_kernel}
+use Rattle.mdr_model.specs.Meaning.{func_at, critical_of, is_kernel, body_of, type_of_global, pointer_to, value, values, Here, Enters, call, keeps, statement, statements, function}
+use Rattle.mdr_model.specs.World.{World, Ran, Ended, Stopped, after, counted, when_loaded, when_stored, written, written_if, is_writel, served, as_now, in_kernel, kernel_call}
 use Rattle.mdr_model.specs.Holds.{IsSoundMemory}
-use Rattle.mdr_model.specs.Sound.{IsSoundPlace, IsSoundExpr, IsSoundWritel, IsSound}
+use Rattle.mdr_model.specs.Sound.{IsSoundPlace, IsSoundExpr, IsSoundWritel, IsSoundStep, IsSoundFunc, IsSound}
 use Rattle.mdr_model.proofs.MemoryLaws.{born_at-births, births-put}
 use Rattle.mdr_model.proofs.ValueLaws.{typed_is_normal}
-use Rattle.mdr_model.proofs.HoldsLaws.{stored_is}
+use Rattle.mdr_model.proofs.HoldsLaws.{all_get, stored_is}
 use Rattle.mdr_copy.specs.Evaluated.{evaluated}
 use Rattle.mdr_copy.proofs.EvaluatedLaws.{kernel_value, evaluated_fits}
 use Rattle.mdr_copy.proofs.SoundMemories.{first_is_sound, stored_is_sound}
@@ -178,3 +189,79 @@ ask_done program at service v r w w' x y stop next sound h s gave then did =
     ∙ ap (λ (vs : List Wire). after (served (now vs) w) (λ results w'. in_kernel next w')) (two_normal w.memory x y (value_fits program v w x sound h s.0 gave) (value_fits program r w y sound h s.1 then))
     ∙ ap (λ (o : Ran (List Wire)). after o (λ results w'. in_kernel next w')) did
     ∙ served_on stop next w'
+
+-- ---- calls
+
+two_items : (xs : List Expr) (a b : Expr) → 2 ≤ length xs → length xs < 3 → a ≡ get_or xs 0 a → b ≡ get_or xs 1 b → xs ≡ a ∷ b ∷ []
+two_items [] a b low high e f = absurd (omega arith)
+two_items (x ∷ []) a b low high e f = absurd (omega arith)
+two_items (x ∷ y ∷ []) a b low high e f = λ i. sym e i ∷ sym f i ∷ []
+two_items (x ∷ y ∷ z ∷ xs) a b low high e f = absurd (omega arith)
+
+pub call_is : (program : Program) (at : At) (callee : Callee) (service : ℕ) (xs es : List Expr) (a b : Expr) (low : Enters) (here : Here) (next : Tree) (w : World) (ran : Ran Wire) → callee ≡ Service service
+    → xs ≡ es → 2 ≤ length xs → length xs < 3 → a ≡ get_or xs 0 a → b ≡ get_or xs 1 b → in_kernel (values program at (a ∷ b ∷ []) (asks service at next)) w ≡ ran
+    → in_kernel (values program at es (λ vs. call program half.Kernel low here at callee vs (λ v. next))) w ≡ ran
+call_is program at callee service xs es a b low here next w ran is same few many e f did =
+    ap (λ (c : Callee). in_kernel (values program at es (λ vs. call program half.Kernel low here at c vs (λ v. next))) w) is
+    ∙ ap (λ (es : List Expr). in_kernel (values program at es (asks service at next)) w) (sym same ∙ two_items xs a b few many e f)
+    ∙ did
+
+-- ---- statements
+
+pub assignment_is : (program : Program) (at : At) (s : Step) (place : Lval) (e : Expr) (low : Enters) (here : Here) (next : Tree) (w : World) (ran : Ran Wire) → s ≡ step.Assign place e
+    → in_kernel (statement program half.Kernel low here at (step.Assign place e) next) w ≡ ran → in_kernel (statement program half.Kernel low here at s next) w ≡ ran
+assignment_is program at s place e low here next w ran is did = ap (λ (x : Step). in_kernel (statement program half.Kernel low here at x next) w) is ∙ did
+
+-- no call of a sound program has a place for its value
+pub statement_is : (program : Program) (at : At) (s : Step) (target : Option Lval) (form : CallForm) (low : Enters) (here : Here) (next : Tree) (w : World) (ran : Ran Wire) → IsSoundStep program true s → s ≡ step.Call target form
+    → in_kernel (values program at form.args (λ vs. call program half.Kernel low here at form.callee vs (λ v. next))) w ≡ ran → in_kernel (statement program half.Kernel low here at s next) w ≡ ran
+statement_is program at s target form low here next w ran sound is did =
+    let own : IsSoundStep program true (step.Call target form) = subst (IsSoundStep program true) is sound in
+    ap (λ (x : Step). in_kernel (statement program half.Kernel low here at x next) w) is
+    ∙ ap (λ (t : Option Lval). in_kernel (values program at form.args (λ vs. call program half.Kernel low here at form.callee vs (λ v. keeps program at t v next))) w) own.0
+    ∙ did
+
+-- ---- ticks
+
+pub tick_wanted : (at : At) (t next : Tree) (w : World) (stop : Option CodeStop) → w.rest ≡ 0 → stop ≡ Some (record { kind = stops.Ticks; at = Some at }) → in_kernel (Tree.Tick at t) w ≡ goes_on stop next w
+unfolding in_kernel
+tick_wanted at t next w stop none is =
+    ap (λ (q : ℕ). counted q at w (λ w'. in_kernel t w')) none ∙ sym (ap (λ (s : Option CodeStop). goes_on s next w) is)
+
+pub tick_counted : (at : At) (t : Tree) (w w' : World) (ran : Ran Wire) → 0 < w.rest → w' ≡ record w { ticks = suc w.ticks; rest = w.rest - 1 } → in_kernel t w' ≡ ran → in_kernel (Tree.Tick at t) w ≡ ran
+unfolding in_kernel
+tick_counted at t w w' ran some is did =
+    let more : w.rest ≡ suc (w.rest - 1) = omega arith in
+    ap (λ (q : ℕ). counted q at w (λ w'. in_kernel t w')) more ∙ sym (ap (in_kernel t) is) ∙ did
+
+pub tick_keeps : (program : Program) (w w' : World) → IsSoundWorld program w → 0 < w.rest → w' ≡ record w { ticks = suc w.ticks; rest = w.rest - 1 } → IsSoundWorld program w'
+tick_keeps program w w' h some is =
+    subst (IsSoundWorld program) (sym is) (record { born = h.born; filled = h.filled; clock = let clock : w.ticks + w.rest < 2 ^ 64 = h.clock in omega (arith, clock, some) })
+
+-- ---- functions
+
+pub body_is_sound : (program : Program) (func : ℕ) → IsSound program → is_kernel program func ≡ true → AllByRecursion (λ (s : Stmt). IsSoundStep program true s.step) (body_of (func_at program func))
+unfolding is_kernel
+body_is_sound program func sound kernel = of (func_at program func) refl kernel
+  where
+    of : (o : Option Func) → func_at program func ≡ o → critical_of o ≡ true → AllByRecursion (λ (s : Stmt). IsSoundStep program true s.step) (body_of o)
+    of None e k = absurd (Prim.cc)
+    of (Some f) e k =
+        let own : IsSoundFunc program f = all_get (IsSoundFunc program) program.funcs func f sound.funcs e in
+        subst (λ (b : Option (List Stmt)). AllByRecursion (λ (s : Stmt). IsSoundStep program true s.step) (unwrap_or b [])) (sym own.body)
+        (subst (λ (t : Bool). AllByRecursion (λ (s : Stmt). IsSoundStep program t s.step) own.statements) k own.steps)
+
+pub call_of_body : (program : Program) (func : ℕ) (args : List Wire) (depth : ℕ) (w : World) (body : List Stmt) (ran : Ran Wire) → body ≡ body_of (func_at program func)
+    → ((low : Enters) (depth : ℕ) → in_kernel (statements program half.Kernel low (record { func = func; depth = depth }) body (Tree.Done wire.NoValue Tree.Idle)) w ≡ ran) → kernel_call program func args depth w ≡ ran
+unfolding kernel_call function
+call_of_body program func args depth w body ran is did =
+    ap (λ (b : List Stmt). in_kernel (statements program half.Kernel (function program half.Kernel w.rest) (record { func = func; depth = depth }) b (Tree.Done wire.NoValue Tree.Idle)) w) (sym is)
+    ∙ did (function program half.Kernel w.rest) depth
+
+-- no statement is left
+pub all_done : (program : Program) (func depth : ℕ) (low : Enters) (body : List Stmt) (i : ℕ) (w w' : World) → length body ≤ i
+    → in_kernel (statements program half.Kernel low (record { func = func; depth = depth }) (drop i body) (Tree.Done wire.NoValue Tree.Idle)) w' ≡ in_kernel (statements program half.Kernel low (record { func = func; depth = depth }) body (Tree.Done wire.NoValue Tree.Idle)) w
+    → in_kernel (statements program half.Kernel low (record { func = func; depth = depth }) body (Tree.Done wire.NoValue Tree.Idle)) w ≡ Ended wire.NoValue w'
+unfolding in_kernel normal
+all_done program func depth low body i w w' over so_far =
+    sym so_far ∙ at_drop_all (λ (ss : List Stmt). in_kernel (statements program half.Kernel low (record { func = func; depth = depth }) ss (Tree.Done wire.NoValue Tree.Idle)) w') body i over
