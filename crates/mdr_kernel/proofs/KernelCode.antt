@@ -1,5 +1,5 @@
 -- Statements of the kernel half: what a tree of one does in a world, and that the world stays sound.
-use Rattle.std.proofs.Common.{◌≡◌, ℕ, zero, suc, ◌+◌, ◌-◌, ◌<◌, ◌≤◌, ◌^◌, Bool, true, false, cond, List, [], ◌∷◌, Option, Some, None, Result, Ok, Err, refl, sym, ap, ◌∙◌, subst, slice_get, get_or, length, drop, unwrap_or, arith}
+use Rattle.std.proofs.Common.{◌≡◌, ℕ, suc, ◌+◌, ◌-◌, ◌<◌, ◌≤◌, ◌^◌, Bool, true, false, cond, List, [], ◌∷◌, Option, Some, None, Result, Ok, Err, refl, sym, ap, ◌∙◌, subst, slice_get, get_or, length, drop, unwrap_or, arith}
 use Rattle.std.specs.Prelude.{nat_lt}
 use Rattle.std.specs.List.{AllByRecursion}
 use Rattle.std.proofs.lemmas.List.{at_drop_all}
@@ -25,10 +25,10 @@ use Rattle.mdr_model.specs.declared.wire.Wire.{Wire}
 use Rattle.mdr_model.specs.declared.wire.Wire.TheVariants as wire
 use Rattle.mdr_model.specs.declared.wire.WireView.{WireView}
 use Rattle.mdr_model.specs.Values.{fits_type, natural}
-use Rattle.mdr_model.specs.Memory.{Memory, births, normal, first_memory, cell_of, put, stored, everywhere}
+use Rattle.mdr_model.specs.Memory.{Memory, births, normal, first_memory, cell_of, stored, everywhere}
 use Rattle.mdr_model.specs.Tree.{Asked, Tree}
 use Rattle.mdr_model.specs.Meaning.{func_at, critical_of, is_kernel, body_of, type_of_global, pointer_to, value, values, Here, Enters, call, keeps, statement, statements, function}
-use Rattle.mdr_model.specs.World.{World, Ran, Ended, Stopped, after, counted, when_loaded, when_stored, written, written_if, is_writel, served, as_now, in_kernel, kernel_call}
+use Rattle.mdr_model.specs.World.{World, Ran, Ended, Stopped, after, counted, when_loaded, when_stored, written, written_if, is_writel, served, in_kernel, kernel_call}
 use Rattle.mdr_model.specs.Holds.{IsSoundMemory}
 use Rattle.mdr_model.specs.Sound.{IsSoundPlace, IsSoundExpr, IsSoundWritel, IsSoundStep, IsSoundFunc, IsSound}
 use Rattle.mdr_model.proofs.MemoryLaws.{born_at-births, births-put}

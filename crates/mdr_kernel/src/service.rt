@@ -51,11 +51,7 @@ fn written_at(
 }
 
 /// What `writel` does with its arguments.
-fn written(
-    at: At,
-    args: &[Wire],
-    world: &mut World,
-) -> Result<Option<Stopped>, OutOfMemory>
+fn written(at: At, args: &[Wire], world: &mut World) -> Result<Option<Stopped>, OutOfMemory>
     requires args { args_fault 0 service_params args.now ≡ None }
     ensures { IfOk result (λ stop. written at args.now (world_of world.old) ≡ ran_of [] stop (world_of world.new)) }
 {

@@ -1,6 +1,6 @@
 // Functions of the kernel half.
 
-ghost use Rattle.std.specs.Prelude.{◌≡◌, ℕ, suc, ◌+◌, ◌-◌, ◌<◌, ◌^◌, true, List, [], ◌∷◌, Some, None, IfOk, OnErr};
+ghost use Rattle.std.specs.Prelude.{◌≡◌, ℕ, suc, ◌+◌, ◌-◌, ◌<◌, ◌^◌, true, List, [], ◌∷◌, Some, IfOk, OnErr};
 ghost use Rattle.std.specs.List.{AllByRecursion};
 ghost use Rattle.mdr_core.specs.declared.kind.Kind.{Kind as AnyKind};
 ghost use Rattle.mdr_core.specs.declared.code.Step.TheVariants as step;
@@ -42,11 +42,7 @@ fn value(program: &Program, e: &Expr, world: &World) -> Result<Wire, StopKind>
 }
 
 /// Stores into a variable, or gives the stop.
-fn stored_in(
-    memory: &mut Vec<MemoryBlock>,
-    place: Lval,
-    value: Wire,
-) -> Result<(), StopKind>
+fn stored_in(memory: &mut Vec<MemoryBlock>, place: Lval, value: Wire) -> Result<(), StopKind>
     ensures memory { (program : AnyProgram) → stored everywhere memory.old.items (pointer_to program place) value ≡ when_made result memory.new.items }
     ensures stopped { OnErr result (memory.new.items ≡ memory.old.items) }
 {
@@ -54,13 +50,7 @@ fn stored_in(
 }
 
 /// An assignment: `None` where it was made, and else why it stopped.
-fn assigned(
-    program: &Program,
-    at: At,
-    place: Lval,
-    e: &Expr,
-    world: &mut World,
-) -> Option<Stopped>
+fn assigned(program: &Program, at: At, place: Lval, e: &Expr, world: &mut World) -> Option<Stopped>
     requires program { IsSound program.now }
     requires world { IsSoundWorld program.now (world_of world.old) }
     requires step { IsSoundStep program.now true (step.Assign place e.now) }

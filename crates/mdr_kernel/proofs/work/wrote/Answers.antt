@@ -7,8 +7,8 @@ use Rattle.mdr_kernel.proofs.work.wrote.Goals as goal
 pub served-requires : goal.served-requires
 served-requires c = record {
   args = two-fit c.in-Ok.written c.in-Ok-value.place
-    (value_fits c.args.program.now c.args.number.now (world_of c.args.world.now) c.in-Ok.written c.requires.program c.requires.world c.requires.args.0 c.in-Ok.ensures)
-    (value_fits c.args.program.now c.args.register.now (world_of c.args.world.now) c.in-Ok-value.place c.requires.program c.requires.world c.requires.args.1 c.in-Ok-value.ensures);
+      (value_fits c.args.program.now c.args.number.now (world_of c.args.world.now) c.in-Ok.written c.requires.program c.requires.world c.requires.args.0 c.in-Ok.ensures)
+      (value_fits c.args.program.now c.args.register.now (world_of c.args.world.now) c.in-Ok-value.place c.requires.program c.requires.world c.requires.args.1 c.in-Ok-value.ensures);
 }
 
 pub returns-in_ok-stop-in-Ok-value-clause-by : goal.returns-in_ok-stop-in-Ok-value-clause-by
