@@ -8,4 +8,5 @@ mod sending;
 mod service;
 mod state;
 mod stubs;
+mod taken;
 mod work;
