@@ -1,3 +1,4 @@
 pub mod Deaths
 pub mod Worlds
 pub mod Accepted
+pub mod Standing

@@ -3,6 +3,7 @@
 
 mod events;
 mod legal;
+mod next;
 mod script;
 mod sending;
 mod service;
