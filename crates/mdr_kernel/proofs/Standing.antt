@@ -6,6 +6,8 @@ use Rattle.mdr_model.specs.declared.message.Run.{Run}
 use Rattle.mdr_model.specs.declared.message.Fault.{Fault}
 use Rattle.mdr_model.specs.declared.message.Message.{Message}
 use Rattle.mdr_model.specs.declared.message.Message.TheVariants as message
+use Rattle.mdr_model.specs.declared.outcome.End.{End}
+use Rattle.mdr_model.specs.declared.outcome.End.TheVariants as ends
 use Rattle.mdr_model.specs.Sound.{IsSound}
 use Rattle.mdr_model.specs.Meaning.{is_kernel}
 use Rattle.mdr_model.specs.Tree.{Asked}
@@ -28,9 +30,16 @@ pub record Standing (program : Program) (budget n sent left : ℕ) (k : Kernel) 
 abbrev pub left_in : Rest → ℕ
 left_in (Noted f fs) = length fs
 
+-- no state of the kernel half alone is a fault of the far side
+abbrev pub IsOwnEnd : End → Type 0
+IsOwnEnd ends.Ok = Unit {0}
+IsOwnEnd (ends.Stop kind at) = Unit {0}
+IsOwnEnd (ends.Refused exchange cause number) = Unit {0}
+IsOwnEnd (ends.FarFault exchange) = ⊥
+
 -- a run that waits does so in such a state
 abbrev pub Stands : Program → (budget n sent : ℕ) → Pending → Type 0
-Stands program budget n sent (Over end k) = Unit {0}
+Stands program budget n sent (Over end k) = IsOwnEnd end
 Stands program budget n sent (Waits m k rest) = Standing program budget n sent (left_in rest) k
 
 module _ (program : Program) (sound : IsSound program) (budget n : ℕ) where

@@ -4,6 +4,7 @@
 mod events;
 mod legal;
 mod next;
+mod run;
 mod script;
 mod sending;
 mod service;
