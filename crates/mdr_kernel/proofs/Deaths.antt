@@ -5,7 +5,9 @@ use Rattle.mdr_core.specs.declared.program.Program.{Program}
 use Rattle.mdr_model.specs.declared.wire.Wire.{Wire}
 use Rattle.mdr_model.specs.declared.wire.Wire.TheVariants as wire
 use Rattle.mdr_model.specs.Values.{names_block}
-use Rattle.mdr_model.specs.Memory.{Memory, MemoryBlock, Cell, swept, swept_block, killed}
+use Rattle.mdr_model.specs.declared.memory.MemoryBlock.{MemoryBlock}
+use Rattle.mdr_model.specs.declared.memory.Cell.{Cell}
+use Rattle.mdr_model.specs.Memory.{Memory, swept, swept_block, killed}
 use Rattle.mdr_model.specs.Copies.{Told, died, without, with_news, put_runs, tells, tells_no_cells, agreed_after}
 
 -- ---- values
@@ -50,24 +52,30 @@ swept_block_again s b = λ i. record { born = b.born; cells = swept_cells_again 
 killed_commutes : (s t : ℕ) (m : Memory) → killed s (killed t m) ≡ killed t (killed s m)
 unfolding killed
 killed_commutes s t [] = refl
-killed_commutes s t (b ∷ m) = of (b.born.serial == s) (b.born.serial == t) refl refl (killed_commutes s t m)
+killed_commutes s t (b ∷ m) =
+    of (b.born.serial == s) (b.born.serial == t) refl refl (killed_commutes s t m)
   where
+    rest : ℕ → Bool → Memory
+    rest n z = cond z (killed n m) (swept_block n b ∷ killed n m)
+
     of : (x y : Bool) → (b.born.serial == s) ≡ x → (b.born.serial == t) ≡ y → killed s (killed t m) ≡ killed t (killed s m)
-        → killed s (cond (b.born.serial == t) (killed t m) (swept_block t b ∷ killed t m)) ≡ killed t (cond (b.born.serial == s) (killed s m) (swept_block s b ∷ killed s m))
-    of true true e f later = rw (e, f) later
-    of true false e f later = rw (e, f, e) later
-    of false true e f later = rw (e, f, f) later
-    of false false e f later = rw (e, f, e, f) (λ i. swept_blocks_commute s t b i ∷ later i)
+        → killed s (rest t y) ≡ killed t (rest s x)
+    of true true e f later = later
+    of true false e f later = cond-true _ _ _ e ∙ later
+    of false true e f later = later ∙ sym (cond-true _ _ _ f)
+    of false false e f later = cond-false _ _ _ e ∙ (λ i. swept_blocks_commute s t b i ∷ later i) ∙ sym (cond-false _ _ _ f)
 
 killed_again : (s : ℕ) (m : Memory) → killed s (killed s m) ≡ killed s m
 unfolding killed
 killed_again s [] = refl
 killed_again s (b ∷ m) = of (b.born.serial == s) refl (killed_again s m)
   where
-    of : (x : Bool) → (b.born.serial == s) ≡ x → killed s (killed s m) ≡ killed s m
-        → killed s (cond (b.born.serial == s) (killed s m) (swept_block s b ∷ killed s m)) ≡ cond (b.born.serial == s) (killed s m) (swept_block s b ∷ killed s m)
-    of true e later = rw e later
-    of false e later = rw (e, e) (λ i. swept_block_again s b i ∷ later i)
+    rest : Bool → Memory
+    rest z = cond z (killed s m) (swept_block s b ∷ killed s m)
+
+    of : (x : Bool) → (b.born.serial == s) ≡ x → killed s (killed s m) ≡ killed s m → killed s (rest x) ≡ rest x
+    of true e later = later
+    of false e later = cond-false _ _ _ e ∙ (λ i. swept_block_again s b i ∷ later i)
 
 killed_without : (s : ℕ) (ds : List ℕ) (m : Memory) → killed s (without ds m) ≡ without ds (killed s m)
 unfolding without

@@ -3,9 +3,12 @@
 
 mod events;
 mod legal;
+mod next;
+mod run;
 mod script;
 mod sending;
 mod service;
 mod state;
 mod stubs;
+mod taken;
 mod work;
