@@ -2,3 +2,4 @@ pub mod Deaths
 pub mod Worlds
 pub mod Accepted
 pub mod Standing
+pub mod Turns
