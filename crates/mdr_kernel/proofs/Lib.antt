@@ -4,3 +4,4 @@ pub mod KernelCode
 pub mod Worlds
 pub mod Accepted
 pub mod Standing
+pub mod Turns

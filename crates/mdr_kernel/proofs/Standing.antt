@@ -1,5 +1,5 @@
 -- Where a run waits its state is sound, its messages are paid for by ticks and commands, and each turn sends one message more.
-use Rattle.std.proofs.Common.{◌≡◌, ℕ, suc, ◌+◌, ◌*◌, ◌^◌, ◌<◌, ◌≤◌, Bool, true, false, List, [], ◌∷◌, length, Option, Some, None, Ok, Err, refl, sym, ap, subst, arith}
+use Rattle.std.proofs.Common.{◌≡◌, ℕ, suc, ◌+◌, ◌-◌, ◌*◌, ◌^◌, ◌<◌, ◌≤◌, Bool, true, false, List, [], ◌∷◌, length, Option, Some, None, Ok, Err, refl, sym, ap, subst, arith}
 use Rattle.mdr_core.specs.declared.program.Program.{Program}
 use Rattle.mdr_model.specs.declared.wire.Wire.{Wire}
 use Rattle.mdr_model.specs.declared.message.Run.{Run}
@@ -15,7 +15,11 @@ use Rattle.mdr_model.specs.World.{World, Ran, Ended, Stopped, served, kernel_cal
 use Rattle.mdr_model.specs.Watched.{renewed, begun, returned, first_world}
 use Rattle.mdr_model.specs.Kernel.{Kernel, Rest, Noted, Pending, Over, Waits, Reading, calls, comes_back, answers, then_split, command_by, split_commands, applied, continued, downcalled, serviced, fault_of, taken, judged, next, first_kernel}
 use Rattle.mdr_model.proofs.FirstMemory.{first_holds}
-use Rattle.mdr_kernel.specs.States.{IsSoundWorld}
+use Rattle.mdr_kernel.specs.declared.state.Kernel.{Kernel as CodeKernel}
+use Rattle.mdr_kernel.specs.declared.state.Open.{Open}
+use Rattle.mdr_kernel.specs.declared.state.Pending.{Pending as CodePending}
+use Rattle.mdr_kernel.specs.declared.state.Pending.TheVariants as pending
+use Rattle.mdr_kernel.specs.States.{pending_of, IsSoundWorld}
 use Rattle.mdr_kernel.proofs.Worlds.{Ends, Gone, begun_is_sound, returned_is_sound, kernel_goes, service_goes}
 use Rattle.mdr_kernel.proofs.Accepted.{IsFit, IsAsked, IsDown, IsAsk, return_fits, down_fits, ask_fits, applied_is_sound}
 
@@ -201,3 +205,17 @@ first_stands program script budget sound fits = record {
   count = refl;
   commands = omega arith;
 }
+
+-- ---- the measure of a run
+
+-- twice the messages that may still be sent where this one is, and none where the run is over
+abbrev pub left_before : ℕ → CodePending → ℕ
+left_before bound (pending.Over end k) = 0
+left_before bound (pending.Waits m k upcall) = bound + 2 - 2 * k.exchanges
+
+-- a turn leaves fewer
+pub turn_smaller : (program : Program) (script : List ℕ) (budget sent : ℕ) (m : Message) (k : CodeKernel) (upcall : Open) (p : CodePending)
+    → Stands program budget (length script) sent (pending_of script (pending.Waits m k upcall)) → Stands program budget (length script) (suc sent) (pending_of script p)
+    → left_before (4 * budget + 6 * length script) p < left_before (4 * budget + 6 * length script) (pending.Waits m k upcall)
+turn_smaller program script budget sent m k upcall (pending.Over end k') s t = omega (arith, s.paid, s.clock, s.commands)
+turn_smaller program script budget sent m k upcall (pending.Waits m' k' upcall') s t = omega (arith, s.paid, s.clock, s.commands, s.count, t.count)

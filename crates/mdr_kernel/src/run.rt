@@ -4,6 +4,7 @@ ghost use Rattle.std.specs.Prelude.{◌≡◌, ◌≤◌, [], IfOk};
 ghost use Rattle.mdr_outside.specs.Count.{Rose};
 ghost use Rattle.mdr_outside.specs.Far.{IsLoaded};
 ghost use Rattle.mdr_model.specs.Sound.{IsSound};
+ghost use Rattle.mdr_model.specs.Text.{text};
 ghost use Rattle.mdr_model.specs.Kernel.{first_kernel};
 ghost use Rattle.mdr_kernel.specs.States.{world_of, kernel_of, rest_of, IsSoundWorld};
 ghost use Rattle.mdr_kernel.specs.Runs.{Turned, IsUnanswered, HasEnded, IsFarFault};
@@ -24,12 +25,23 @@ pub(crate) enum Turn {
     Unanswered(Kernel),
 }
 
-/// Sends a message, and takes the answer. A message that has no spelling is want of memory.
+/// The bytes of a message. That it has no spelling is want of memory.
+fn spelled(alloc: Global, message: Message) -> Result<Vec<u8>, OutOfMemory>
+    ensures { IfOk result (λ bytes. bytes.items ≡ text message) }
+{
+    if can_encode(&message) {
+        encode(alloc, &message)
+    } else {
+        Err(OutOfMemory)
+    }
+}
+
+/// Sends a message, and takes the answer.
 fn exchanged<F: Far>(
     alloc: Global,
     program: &Program,
     script: &[u32],
-    message: &Message,
+    message: Message,
     kernel: Kernel,
     upcall: Open,
     far: &mut F,
@@ -37,15 +49,12 @@ fn exchanged<F: Far>(
     requires program { IsSound program.now }
     requires world { IsSoundWorld program.now (world_of kernel.world) }
     requires loaded { IsLoaded (F.loaded far.old) }
-    ensures turned { IfOk result (Turned program.now script.now message.now (kernel_of kernel) (rest_of script.now upcall) (F.exchanges far.old) (F.exchanges far.new)) }
+    ensures turned { IfOk result (Turned program.now script.now message (kernel_of kernel) (rest_of script.now upcall) (F.exchanges far.old) (F.exchanges far.new)) }
     ensures loaded { F.loaded far.new ≡ F.loaded far.old }
     ensures failed { IfOk result (λ t. IsUnanswered t → Rose (F.faults far.old) (F.faults far.new)) }
     ensures faults_later { F.faults far.old ≤ F.faults far.new }
 {
-    if !can_encode(message) {
-        return Err(OutOfMemory);
-    }
-    let bytes = encode(alloc, message)?;
+    let bytes = spelled(alloc, message)?;
     match far.deliver(alloc, bytes.as_slice()) {
         DeliverAnswer::Ok(reply) => {
             let reading = reading_of(alloc, reply.as_slice())?;
@@ -79,7 +88,7 @@ pub(crate) fn run_script<F: Far>(
         match pending {
             Pending::Over(end, kernel) => return Ok((end, kernel)),
             Pending::Waits(message, kernel, upcall) => {
-                match exchanged(alloc, program, script, &message, kernel, upcall, far)? {
+                match exchanged(alloc, program, script, message, kernel, upcall, far)? {
                     Turn::Next(later) => pending = later,
                     Turn::Unanswered(kernel) => {
                         let exchange = kernel.exchanges;
