@@ -8,3 +8,5 @@ pub mod Births
 pub mod Rising
 pub mod Arguments
 pub mod Variables
+pub mod EvaluatedLaws
+pub mod SoundMemories
