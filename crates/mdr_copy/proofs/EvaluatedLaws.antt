@@ -1,5 +1,7 @@
 -- Laws of expressions: which values they have, and what a tree that begins with one does on a memory.
 use Rattle.std.proofs.Common.{◌≡◌, ℕ, Bool, true, List, Option, Result, Ok, Err, ℤ, refl, sym, ap, ◌∙◌, subst, slice_get}
+use Rattle.std.specs.Prelude.{Box}
+use Rattle.std.specs.declared.alloc.Global.{Global as Heap}
 use Rattle.mdr_core.specs.declared.kind.Kind.{Kind}
 use Rattle.mdr_core.specs.declared.types.Ty.{Ty}
 use Rattle.mdr_core.specs.declared.types.Ty.TheVariants as ty
@@ -104,6 +106,19 @@ evaluated_fits allowed program m (expr.Bin' op l p a q b) kind v sound memory s 
 pub evaluated_in_range : (allowed : Cell → Bool) (program : Program) (m : Memory) (e : Expr) (kind : Kind) (v : Wire) → IsSound program → IsSoundMemory program m → IsSoundExpr program e kind
     → evaluated allowed program m e ≡ Ok v → is_in_range kind (integer v) ≡ true
 evaluated_in_range allowed program m e kind v sound memory s h = number_in_range kind v (evaluated_fits allowed program m e kind v sound memory s h)
+
+-- the operands of an operator
+pub left_in_range : (allowed : Cell → Bool) (program : Program) (m : Memory) (op : BinOp) (kind : Kind) (left right e : Expr) (place place' : Box (Unit {0}) Heap) (v : Wire) → IsSound program → IsSoundMemory program m
+    → e ≡ expr.Bin' op kind place left place' right → (k : Kind) × IsSoundExpr program e k → evaluated allowed program m left ≡ Ok v → is_in_range kind (integer v) ≡ true
+left_in_range allowed program m op kind left right e place place' v sound memory is s h =
+    let own : (k : Kind) × IsSoundExpr program (expr.Bin' op kind place left place' right) k = subst (λ (x : Expr). (k : Kind) × IsSoundExpr program x k) is s in
+    evaluated_in_range allowed program m left kind v sound memory (subst (IsSoundExpr program left) (sym own.1.0) own.1.1) h
+
+pub right_in_range : (allowed : Cell → Bool) (program : Program) (m : Memory) (op : BinOp) (kind : Kind) (left right e : Expr) (place place' : Box (Unit {0}) Heap) (v : Wire) → IsSound program → IsSoundMemory program m
+    → e ≡ expr.Bin' op kind place left place' right → (k : Kind) × IsSoundExpr program e k → evaluated allowed program m right ≡ Ok v → is_right_operand op kind (integer v) ≡ true
+right_in_range allowed program m op kind left right e place place' v sound memory is s h =
+    let own : (k : Kind) × IsSoundExpr program (expr.Bin' op kind place left place' right) k = subst (λ (x : Expr). (k : Kind) × IsSoundExpr program x k) is s in
+    right_operand op kind (integer v) (evaluated_in_range allowed program m right kind v sound memory (subst (IsSoundExpr program right) (sym own.1.0) own.1.2) h)
 
 -- ---- trees that begin with an expression
 

@@ -1,5 +1,5 @@
 -- Where a block stands in a memory, and what is there.
-use Rattle.std.proofs.Common.{◌≡◌, ℕ, suc, ◌+◌, ◌<◌, ◌≤◌, ◌⊎◌, inl, inr, Bool, true, false, cond, not, [], ◌∷◌, length, Option, Some, None, refl, sym, ◌∙◌, ap, arith, get_or}
+use Rattle.std.proofs.Common.{◌≡◌, ℕ, suc, ◌+◌, ◌<◌, ◌≤◌, ◌⊎◌, inl, inr, Bool, true, false, cond, not, [], ◌∷◌, length, Some, None, refl, sym, ◌∙◌, ap, arith, get_or}
 use Rattle.std.specs.Prelude.{◌==◌, nat_lt, slice_get, slice_set, position}
 use Rattle.std.specs.List.{position_or_len}
 use Rattle.mdr_model.specs.declared.wire.Wire.{Wire}

@@ -58,11 +58,7 @@ fn loaded_cell(found: Option<Wire>) -> Result<Wire, StopKind>
 }
 
 /// What is loaded from a variable, or the stop. Without a set each cell may be touched.
-pub fn loaded(
-    reach: Option<&[Cell]>,
-    memory: &[MemoryBlock],
-    place: Lval,
-) -> Result<Wire, StopKind>
+pub fn loaded(reach: Option<&[Cell]>, memory: &[MemoryBlock], place: Lval) -> Result<Wire, StopKind>
     ensures { (program : AnyProgram) → result ≡ loaded (allows (option_copied reach.entry)) memory.now (pointer_to program place) }
 {
     let cell = variable_cell(place);

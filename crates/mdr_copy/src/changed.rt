@@ -46,11 +46,7 @@ fn all_held(
 }
 
 /// What the cells of a run hold. A run that goes over the last index that a cell can have fails.
-fn values_of(
-    alloc: Global,
-    memory: &[MemoryBlock],
-    run: SetRun,
-) -> Result<Items<Wire>, OutOfMemory>
+fn values_of(alloc: Global, memory: &[MemoryBlock], run: SetRun) -> Result<Items<Wire>, OutOfMemory>
     ensures { IfOk result (λ values. values ≡ map (held memory.now) (cells_of_run run)) }
 {
     let mut cells = Vec::new(alloc);

@@ -1,8 +1,10 @@
 // What expressions come to.
 
-ghost use Rattle.std.specs.Prelude.{◌≡◌};
+ghost use Rattle.std.specs.Prelude.{◌≡◌, true};
 ghost use Rattle.std.specs.Option.{option_copied};
 ghost use Rattle.mdr_core.specs.declared.kind.Kind.{Kind as AnyKind};
+ghost use Rattle.mdr_core.specs.Kinds.{is_in_range};
+ghost use Rattle.mdr_core.specs.Operators.{operated, is_right_operand};
 ghost use Rattle.mdr_model.specs.Values.{integer};
 ghost use Rattle.mdr_model.specs.Meaning.{stop_of};
 ghost use Rattle.mdr_model.specs.Sound.{IsSound, IsSoundExpr};
@@ -12,7 +14,7 @@ ghost use Rattle.mdr_copy.specs.Evaluated.{allows, evaluated, numbered_at};
 use crate::access::loaded;
 use crate::values::wire_of;
 use mdr_arith::bin;
-use mdr_core::{Expr, Kind, Program, StopKind, Undefined};
+use mdr_core::{BinOp, Expr, Kind, Program, StopKind, Undefined};
 use mdr_model::{Cell, MemoryBlock, Wire};
 
 fn stop_of(why: Undefined) -> StopKind
@@ -44,6 +46,15 @@ fn numbered_at(kind: Kind, computed: Result<i128, Undefined>) -> Result<Wire, St
     }
 }
 
+/// What an operator gives at a kind, or the stop.
+fn combined(op: BinOp, kind: Kind, left: Wire, right: Wire) -> Result<Wire, StopKind>
+    requires left { is_in_range kind (integer left) ≡ true }
+    requires right { is_right_operand op kind (integer right) ≡ true }
+    ensures { result ≡ numbered_at kind (operated op kind (integer left) (integer right)) }
+{
+    numbered_at(kind, bin(op, kind, integer(left), integer(right)))
+}
+
 /// The value of an expression, or the first stop from left to right. Without a set each cell may be touched.
 #[tactic(auto, unfolding(crate::specs::Evaluated::evaluated))]
 pub fn evaluated(
@@ -63,7 +74,7 @@ pub fn evaluated(
         Expr::Bin(op, kind, left, right) => {
             let x = evaluated(reach, program, memory, left)?;
             let y = evaluated(reach, program, memory, right)?;
-            numbered_at(*kind, bin(*op, *kind, integer(x), integer(y)))
+            combined(*op, *kind, x, y)
         }
     }
 }

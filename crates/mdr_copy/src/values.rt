@@ -87,8 +87,7 @@ pub fn fits_type(ty: &Ty, value: Wire) -> bool
     ensures { result ≡ fits_type ty.now value }
 {
     match (ty, value) {
-        (Ty::Int(kind), Wire::Int(own, n)) => kind.number() == own.number()
-            && kind.contains(n),
+        (Ty::Int(kind), Wire::Int(own, n)) => kind.number() == own.number() && kind.contains(n),
         (Ty::Lock, Wire::Lock(_)) => true,
         _ => false,
     }

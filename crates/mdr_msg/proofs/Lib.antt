@@ -3,3 +3,7 @@ pub mod Loop
 pub mod Fields
 pub mod Messages
 pub mod Lifted
+pub mod Cells
+pub mod Rows
+pub mod Sending
+pub mod Spelled

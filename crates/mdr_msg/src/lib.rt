@@ -1,6 +1,7 @@
 //! Messages as bytes (RFC 4506). Each message has one spelling.
 #![tactic(auto)]
 
+mod encodable;
 mod error;
 mod integers;
 mod item;
@@ -11,6 +12,7 @@ mod reading;
 mod values;
 mod writing;
 
+pub use encodable::can_encode;
 pub use error::MsgError;
 pub use laws::{bytes_are_one_memory, no_spelling_begins_another, one_spelling};
 pub use mdr_model::{BirthKind, Message, New, Run, SetRun, Shape64, Wire, WireView};

@@ -1,7 +1,6 @@
 // Values: a tag, and what it asks for.
 
 ghost use Rattle.std.specs.Prelude.{◌≡◌, slice_get};
-ghost use Rattle.mdr_core.specs.Kinds.{kind_number};
 ghost use Rattle.mdr_model.specs.Reading.{kinds, tagged_at};
 ghost use Rattle.mdr_msg.specs.Decoding.{Gives};
 
@@ -45,22 +44,6 @@ impl Item for WireView {
             count,
             index,
         })
-    }
-}
-
-/// The tag of the integers of a kind.
-fn tag_of(kind: Kind) -> u32
-    ensures { result ≡ kind_number kind }
-{
-    match kind {
-        Kind::U8 => 0,
-        Kind::U16 => 1,
-        Kind::U32 => 2,
-        Kind::U64 => 3,
-        Kind::S8 => 4,
-        Kind::S16 => 5,
-        Kind::S32 => 6,
-        Kind::S64 => 7,
     }
 }
 
@@ -120,7 +103,7 @@ impl Item for Wire {
     fn put(&self, out: &mut Vec<u8>) -> Result<(), OutOfMemory> {
         match *self {
             Wire::Int(kind, n) => {
-                tag_of(kind).put(out)?;
+                kind.number().put(out)?;
                 mdr_xdr::put(kind, n, out)
             }
             Wire::Null => 8u32.put(out),

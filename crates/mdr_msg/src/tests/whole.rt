@@ -1,8 +1,10 @@
-// Messages from outside. What is read is proved to be written as the same bytes.
+// Messages from outside, read and written.
 
 use super::bytes_of;
-use crate::{Message, Wire, decode, encode};
+use crate::{Message, Wire, can_encode, decode, encode};
 use mdr_core::Items;
+use std::alloc::Global;
+use std::process::Abort;
 use std::test::Fail;
 
 /// The eight messages of a run in which a user-half function calls one of the kernel half twice, and asks for a write
@@ -59,26 +61,30 @@ const OTHERS: [(&str, &str); 4] = [
     ("0000000800000002", "Refuse { reason: 2 }"),
 ];
 
+/// Bytes are read as the message that is shown so, and it is written as the same bytes.
+fn read_and_written(rt: &impl Abort, alloc: Global, hex: &str, text: &str) -> Result<(), Fail> {
+    let bytes = bytes_of(alloc, hex)?;
+    let m = decode(alloc, &bytes).ok().ok_or("the bytes are a message")?;
+    let read = format!(in alloc; "{m:?}")?;
+    assert_eq!(rt; read.as_str(), text);
+    assert!(rt; can_encode(&m), "{text}");
+    let written = encode(alloc, &m).ok().ok_or("memory was wanting")?;
+    assert_eq!(rt; written.as_slice(), bytes.as_slice(), "{text}");
+    Ok(())
+}
+
 #[test]
-fn the_messages_of_a_run_are_read(rt: HostRuntime) -> Result<(), Fail> {
-    let alloc = rt.alloc();
+fn the_messages_of_a_run(rt: HostRuntime) -> Result<(), Fail> {
     for (hex, text) in RUN {
-        let bytes = bytes_of(alloc, hex)?;
-        let m = decode(alloc, &bytes).ok().ok_or("the bytes are a message")?;
-        let read = format!(in alloc; "{m:?}")?;
-        assert_eq!(rt; read.as_str(), text);
+        read_and_written(&rt, rt.alloc(), hex, text)?;
     }
     Ok(())
 }
 
 #[test]
-fn other_messages_are_read(rt: HostRuntime) -> Result<(), Fail> {
-    let alloc = rt.alloc();
+fn other_messages(rt: HostRuntime) -> Result<(), Fail> {
     for (hex, text) in OTHERS {
-        let bytes = bytes_of(alloc, hex)?;
-        let m = decode(alloc, &bytes).ok().ok_or("the bytes are a message")?;
-        let read = format!(in alloc; "{m:?}")?;
-        assert_eq!(rt; read.as_str(), text);
+        read_and_written(&rt, rt.alloc(), hex, text)?;
     }
     Ok(())
 }

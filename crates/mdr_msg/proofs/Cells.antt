@@ -1,0 +1,193 @@
+-- The cells that user code may touch: their numbers are small, and they hold values that have spellings.
+use Rattle.std.proofs.Common.{◌≡◌, ◌≢◌, ℕ, zero, suc, ◌+◌, ◌<◌, ◌≤◌, inl, inr, Bool, true, false, cond, not, ◌||◌, List, [], ◌∷◌, ◌++◌, length, Option, Some, None, refl, sym, ◌∙◌, ap, subst, eq-eqb, arith}
+use Rattle.std.specs.Prelude.{nat_lt, slice_get, unwrap_or, IsTrue}
+use Rattle.std.specs.List.{AllByRecursion}
+use Rattle.mdr_core.specs.declared.kind.Kind.{Kind}
+use Rattle.mdr_core.specs.declared.kind.Kind.TheVariants.{U8, U16, U32, U64, S8, S16, S32, S64}
+use Rattle.mdr_core.specs.declared.types.Ty.{Ty}
+use Rattle.mdr_core.specs.declared.types.Ty.TheVariants as ty
+use Rattle.mdr_core.specs.declared.program.Program.{Program}
+use Rattle.mdr_core.specs.declared.program.GlobalDef.{GlobalDef}
+use Rattle.mdr_core.specs.Kinds.{kind_number, is_same_kind, is_in_range}
+use Rattle.mdr_model.specs.declared.wire.Wire.{Wire}
+use Rattle.mdr_model.specs.declared.wire.Wire.TheVariants as wire
+use Rattle.mdr_model.specs.declared.message.New.{New}
+use Rattle.mdr_model.specs.Values.{type_number, fits_type, fits_maybe, fits}
+use Rattle.mdr_model.specs.declared.memory.Cell.{Cell}
+use Rattle.mdr_model.specs.Memory.{Memory, births, born_at, cell_at, first_memory, global_blocks}
+use Rattle.mdr_model.specs.Sets.{is_same_cell, is_in, cells_from, is_keyed, visible_of}
+use Rattle.mdr_model.specs.Copies.{held}
+use Rattle.mdr_model.specs.Faults.{fits_block, fits_cell}
+use Rattle.mdr_model.specs.Sound.{first_types, IsSoundGlobal, IsSound}
+use Rattle.mdr_model.proofs.Tests.{not_both, and_left, and_right}
+use Rattle.mdr_model.proofs.Fair.{IsAmong}
+use Rattle.mdr_model.proofs.Relations.{globals_of, Holds}
+use Rattle.mdr_model.proofs.MemoryLaws.{born_at-births}
+use Rattle.mdr_model.proofs.CopyLaws.{same_cell}
+use Rattle.mdr_model.proofs.ValueLaws.{same_kind}
+use Rattle.mdr_model.proofs.HoldsLaws.{IsThere, global_found, cell_there, cell_fits}
+use Rattle.mdr_msg.specs.WellFormed.{IsValue}
+
+-- ---- what holds of each item of a list
+
+pub all_and : {A : Type 0} (P : A → Type 0) (xs ys : List A) → AllByRecursion P xs → AllByRecursion P ys → AllByRecursion P (xs ++ ys)
+all_and P [] ys all more = more
+all_and P (x ∷ xs) ys all more = (all.0, all_and P xs ys all.1 more)
+
+pub all_left : {A : Type 0} (P : A → Type 0) (xs ys : List A) → AllByRecursion P (xs ++ ys) → AllByRecursion P xs
+all_left P [] ys all = tt
+all_left P (x ∷ xs) ys all = (all.0, all_left P xs ys all.1)
+
+pub all_right : {A : Type 0} (P : A → Type 0) (xs ys : List A) → AllByRecursion P (xs ++ ys) → AllByRecursion P ys
+all_right P [] ys all = all
+all_right P (x ∷ xs) ys all = all_right P xs ys all.1
+
+pub all_weaker : {A : Type 0} (P Q : A → Type 0) (xs : List A) → ((x : A) → P x → Q x) → AllByRecursion P xs → AllByRecursion Q xs
+all_weaker P Q [] weaker all = tt
+all_weaker P Q (x ∷ xs) weaker all = (weaker x all.0, all_weaker P Q xs weaker all.1)
+
+all_among : (P : New → Type 0) (bs : List New) (b : New) → AllByRecursion P bs → IsAmong b bs → P b
+all_among P [] b all h = elim h [ ]
+all_among P (x ∷ bs) b all (inl e) = subst P e all.0
+all_among P (x ∷ bs) b all (inr h) = all_among P bs b all.1 h
+
+-- ---- values of cells that are no locks
+
+differ : {A : Type 0} → false ≡ true → A
+differ h = absurd (not_both h refl)
+
+pub typed_is_value : (t : Ty) (v : Wire) → t ≢ ty.Lock → fits_type t v ≡ true → IsValue v
+typed_is_value (ty.Int k) (wire.Int l n) other e =
+    subst (λ (j : Kind). IsTrue (is_in_range j n)) (same_kind k l (and_left _ _ e)) (and_right (is_same_kind k l) _ e)
+typed_is_value ty.Lock (wire.Lock s) other e = absurd (other refl)
+typed_is_value _ _ other e = differ e
+
+no_integer : (k : Kind) → ◌≡◌ {A = Option Ty} (Some (ty.Int k)) (Some ty.Lock) → ⊥
+no_integer k e = Prim.cc
+
+lock_is_eight : (n : ℕ) → slice_get first_types n ≡ Some ty.Lock → n ≡ 8
+lock_is_eight zero e = absurd (no_integer U8 e)
+lock_is_eight (suc zero) e = absurd (no_integer U16 e)
+lock_is_eight (suc (suc zero)) e = absurd (no_integer U32 e)
+lock_is_eight (suc (suc (suc zero))) e = absurd (no_integer U64 e)
+lock_is_eight (suc (suc (suc (suc zero)))) e = absurd (no_integer S8 e)
+lock_is_eight (suc (suc (suc (suc (suc zero))))) e = absurd (no_integer S16 e)
+lock_is_eight (suc (suc (suc (suc (suc (suc zero)))))) e = absurd (no_integer S32 e)
+lock_is_eight (suc (suc (suc (suc (suc (suc (suc zero))))))) e = absurd (no_integer S64 e)
+lock_is_eight (suc (suc (suc (suc (suc (suc (suc (suc zero)))))))) e = refl
+lock_is_eight (suc (suc (suc (suc (suc (suc (suc (suc (suc n))))))))) e = absurd (nothing e)
+  where
+    nothing : ◌≡◌ {A = Option Ty} None (Some ty.Lock) → ⊥
+    nothing h = Prim.cc
+
+table_value : (o : Option Ty) (v : Wire) → (o ≡ Some ty.Lock → ⊥) → fits_maybe o v ≡ true → IsValue v
+table_value None v other e = differ e
+table_value (Some t) v other e = typed_is_value t v (λ h. other (ap (λ (x : Ty). Some x) h)) e
+
+pub fits_is_value : (program : Program) (n : ℕ) (v : Wire) → IsSound program → n ≢ 8 → fits program n v ≡ true → IsValue v
+unfolding fits
+fits_is_value program n v sound other e =
+    table_value (slice_get first_types n) v (λ h. other (lock_is_eight n h)) (ap (λ (ts : List Ty). fits_maybe (slice_get ts n) v) (sym sound.types) ∙ e)
+
+-- ---- the globals' blocks
+
+kind_small : (k : Kind) → kind_number k < 10
+kind_small U8 = omega arith
+kind_small U16 = omega arith
+kind_small U32 = omega arith
+kind_small U64 = omega arith
+kind_small S8 = omega arith
+kind_small S16 = omega arith
+kind_small S32 = omega arith
+kind_small S64 = omega arith
+
+type_small : (t : Ty) → type_number t < 10
+type_small (ty.Int k) = kind_small k
+type_small ty.Lock = omega arith
+type_small ty.Void = omega arith
+
+-- a block with a serial below a limit, of a type of the table, with at most 65,536 cells
+pub record IsSmallBlock (limit : ℕ) (b : New) : Type 0 where
+  pub serial : b.serial < limit
+  pub type_number : b.ty < 10
+  pub count : b.count ≤ 65536
+
+blocks_from : (limit n : ℕ) (gs : List GlobalDef) → n + length gs ≤ limit → AllByRecursion IsSoundGlobal gs → AllByRecursion (IsSmallBlock limit) (births (global_blocks n gs))
+blocks_from limit n [] h all = tt
+blocks_from limit n (g ∷ gs) h all = (
+  record { serial = omega arith; type_number = type_small g.ty; count = all.0.limited },
+  blocks_from limit (suc n) gs (omega arith) all.1,
+)
+
+pub small_blocks : (program : Program) → IsSound program → AllByRecursion (IsSmallBlock (length program.globals)) (globals_of program)
+unfolding first_memory
+small_blocks program sound = blocks_from (length program.globals) 0 program.globals (omega arith) sound.globals
+
+-- ---- the cells that are shown
+
+row_all : (P : Cell → Type 0) (serial index n : ℕ) → ((i : ℕ) → i < index + n → P (record { serial = serial; index = i })) → AllByRecursion P (cells_from serial index n)
+unfolding cells_from
+row_all P serial index zero each = tt
+row_all P serial index (suc n) each = (each index (omega arith), row_all P serial (suc index) n (λ i high. each i (omega arith)))
+
+visible_all : (program : Program) (P : Cell → Type 0) (bs : List New) → ((b : New) → IsAmong b bs → is_keyed program b ≡ true → (i : ℕ) → i < b.count → P (record { serial = b.serial; index = i }))
+    → AllByRecursion P (visible_of program bs)
+unfolding visible_of
+visible_all program P [] each = tt
+visible_all program P (b ∷ bs) each = of (is_keyed program b) refl (visible_all program P bs (λ x h. each x (inr h)))
+  where
+    of : (t : Bool) → is_keyed program b ≡ t → AllByRecursion P (visible_of program bs) → AllByRecursion P (cond t (cells_from b.serial 0 b.count) [] ++ visible_of program bs)
+    of true t later = all_and P (cells_from b.serial 0 b.count) (visible_of program bs) (row_all P b.serial 0 b.count (λ i high. each b (inl refl) t i (omega arith))) later
+    of false t later = later
+
+pub in_all : (P : Cell → Type 0) (cs : List Cell) (c : Cell) → AllByRecursion P cs → is_in cs c ≡ true → P c
+unfolding is_in
+in_all P [] c all e = absurd (not_both e refl)
+in_all P (d ∷ cs) c all e = of (is_same_cell c d) refl e (in_all P cs c all.1)
+  where
+    of : (t : Bool) → is_same_cell c d ≡ t → (t || is_in cs c) ≡ true → (is_in cs c ≡ true → P c) → P c
+    of true t h later = subst P (sym (same_cell c d t)) all.0
+    of false t h later = later h
+
+keyed_type : (program : Program) (b : New) → is_keyed program b ≡ true → b.ty ≢ 8
+unfolding is_keyed
+keyed_type program b e = λ same. not_both (and_right (nat_lt b.serial (length program.globals)) _ e) (ap not (eq-eqb b.ty 8 same))
+
+-- a cell of a live block of a global that is no lock
+pub record IsShown (program : Program) (m : Memory) (c : Cell) : Type 0 where
+  pub block : New
+  pub born : born_at m c.serial ≡ Some block
+  pub other : block.ty ≢ 8
+  pub inside : c.index < block.count
+  pub serial : c.serial < length program.globals
+  pub index : c.index < 65536
+
+-- the visible cells
+abbrev pub cells_shown : Program → List Cell
+cells_shown program = visible_of program (globals_of program)
+
+pub all_shown : (program : Program) (m : Memory) → IsSound program → births m ≡ globals_of program → AllByRecursion (IsShown program m) (cells_shown program)
+all_shown program m sound born = visible_all program (IsShown program m) (globals_of program) (λ b among keyed i inside.
+    let small : IsSmallBlock (length program.globals) b = all_among (IsSmallBlock (length program.globals)) (globals_of program) b (small_blocks program sound) among in
+    record {
+      block = b;
+      born = born_at-births m (first_memory program) b.serial born ∙ global_found program b among;
+      other = keyed_type program b keyed;
+      inside = inside;
+      serial = small.serial;
+      index = omega (arith, small.count);
+    })
+
+-- a value that fits such a cell has a spelling
+pub fitting_is_value : (program : Program) (m : Memory) (c : Cell) (v : Wire) → IsSound program → IsShown program m c → fits_cell program m (record { cell = c; value = v }) ≡ true → IsValue v
+unfolding fits_cell
+fitting_is_value program m c v sound shown e =
+    fits_is_value program shown.block.ty v sound shown.other (ap (λ (o : Option New). fits_block program o v) (sym shown.born) ∙ e)
+
+-- and so has what the cell holds
+pub held_is_value : (program : Program) (m : Memory) (c : Cell) → IsSound program → Holds program m → IsShown program m c → IsValue (held m c)
+unfolding held
+held_is_value program m c sound holds shown =
+    let there : IsThere (cell_at m c) = cell_there program m c shown.block holds.filled shown.born shown.inside in
+    subst (λ (o : Option Wire). IsValue (unwrap_or o wire.NoValue)) (sym there.found_is)
+    (fits_is_value program shown.block.ty there.item sound shown.other (cell_fits program m c there.item shown.block holds there.found_is shown.born))

@@ -1,0 +1,252 @@
+-- Runs: those that are told of changed cells have spellings, and so have those of a legal reply.
+use Rattle.std.proofs.Common.{◌≡◌, ℕ, zero, suc, ◌+◌, ◌<◌, ◌≤◌, ◌^◌, Bool, true, false, cond, List, [], ◌∷◌, map, length, Option, Some, None, refl, sym, ◌∙◌, ap, subst, arith}
+use Rattle.std.specs.Prelude.{◌==◌}
+use Rattle.std.specs.List.{AllByRecursion, list_all}
+use Rattle.mdr_core.specs.declared.program.Program.{Program}
+use Rattle.mdr_core.specs.declared.refusal.RefuseKind.{RefuseKind}
+use Rattle.mdr_core.specs.declared.refusal.RefuseKind.TheVariants as refusal
+use Rattle.mdr_model.specs.declared.wire.Wire.{Wire}
+use Rattle.mdr_model.specs.declared.message.New.{New}
+use Rattle.mdr_model.specs.declared.message.Run.{Run}
+use Rattle.mdr_model.specs.declared.message.SetRun.{SetRun}
+use Rattle.mdr_model.specs.declared.message.Fault.{Fault}
+use Rattle.mdr_model.specs.Values.{fits}
+use Rattle.mdr_model.specs.declared.memory.Cell.{Cell}
+use Rattle.mdr_model.specs.Memory.{Memory, births, born_at, put}
+use Rattle.mdr_model.specs.Sets.{is_in, cells_from, cells_of_run, cells_of_runs, begins_behind, joined, runs_of_cells, follows_maybe}
+use Rattle.mdr_model.specs.Copies.{CellValue, numbered, values_of_runs, put_all, put_runs, held, run_from, has_changed, changed_cells, changes}
+use Rattle.mdr_model.specs.Faults.{unless, or_else, first_fault, is_known, is_view, fits_block, fits_cell, set_run_of, run_fault, runs_fault}
+use Rattle.mdr_model.specs.Sound.{IsSound}
+use Rattle.mdr_model.proofs.Tests.{is_same_number, and_left, and_right}
+use Rattle.mdr_model.proofs.Relations.{Holds}
+use Rattle.mdr_model.proofs.MemoryLaws.{born_at-births, births-put}
+use Rattle.mdr_model.proofs.SetLaws.{cells_of_runs-runs}
+use Rattle.mdr_model.proofs.HoldsLaws.{filled_put}
+use Rattle.mdr_msg.specs.WellFormed.{IsValue, IsRun, IsSetRun}
+use Rattle.mdr_msg.specs.OverBytes.{HasShortValues}
+use Rattle.mdr_msg.proofs.Cells.{all_and, all_left, all_right, in_all, IsShown, fitting_is_value}
+
+-- ---- runs of cells
+
+pub record IsSmallCell (c : Cell) : Type 0 where
+  pub serial : c.serial < 2 ^ 32
+  pub index : c.index < 65536
+
+-- a run of some cells that lies within 65,536
+pub record IsRow (r : SetRun) : Type 0 where
+  pub serial : r.serial < 2 ^ 32
+  pub some : 0 < r.len
+  pub inside : r.first + r.len ≤ 65536
+
+joined_rows : (c : Cell) (rs : List SetRun) → IsSmallCell c → AllByRecursion IsRow rs → AllByRecursion IsRow (joined c rs)
+joined_rows c [] small all = (record { serial = small.serial; some = omega arith; inside = omega (arith, small.index) }, tt)
+joined_rows c (r ∷ rs) small all = of (begins_behind c r) refl
+  where
+    of : (t : Bool) → begins_behind c r ≡ t
+        → AllByRecursion IsRow (cond t (record { serial = c.serial; first = c.index; len = suc r.len } ∷ rs) (record { serial = c.serial; first = c.index; len = 1 } ∷ r ∷ rs))
+    of true t =
+        let next : r.first ≡ suc c.index = is_same_number _ _ (and_right (r.serial == c.serial) _ t) in
+        (record { serial = small.serial; some = omega arith; inside = omega (arith, next, all.0.inside) }, all.1)
+    of false t = (record { serial = small.serial; some = omega arith; inside = omega (arith, small.index) }, all)
+
+pub rows_of : (cs : List Cell) → AllByRecursion IsSmallCell cs → AllByRecursion IsRow (runs_of_cells cs)
+unfolding runs_of_cells
+rows_of [] all = tt
+rows_of (c ∷ cs) all = joined_rows c (runs_of_cells cs) all.0 (rows_of cs all.1)
+
+pub row_is_set_run : (r : SetRun) → IsRow r → IsSetRun r
+row_is_set_run r row = record { serial = omega (arith, row.serial); first = omega (arith, row.some, row.inside); len = omega (arith, row.inside) }
+
+-- ---- runs of changes
+
+all_changed : (P : Cell → Type 0) (cs : List Cell) (agreed now : Memory) → AllByRecursion P cs → AllByRecursion P (changed_cells cs agreed now)
+unfolding changed_cells
+all_changed P [] agreed now all = tt
+all_changed P (c ∷ cs) agreed now all = of (has_changed agreed now c) (all_changed P cs agreed now all.1)
+  where
+    of : (t : Bool) → AllByRecursion P (changed_cells cs agreed now) → AllByRecursion P (cond t (c ∷ changed_cells cs agreed now) (changed_cells cs agreed now))
+    of true later = (all.0, later)
+    of false later = later
+
+abbrev pub HoldsValue : Memory → Cell → Type 0
+HoldsValue now c = IsValue (held now c)
+
+held_values : (now : Memory) (cs : List Cell) → AllByRecursion (HoldsValue now) cs → AllByRecursion IsValue (map (held now) cs)
+held_values now [] all = tt
+held_values now (c ∷ cs) all = (all.0, held_values now cs all.1)
+
+runs_from : (now : Memory) (rs : List SetRun) → AllByRecursion IsRow rs → AllByRecursion (HoldsValue now) (cells_of_runs rs) → AllByRecursion HasShortValues (map (run_from now) rs)
+    → AllByRecursion IsRun (map (run_from now) rs)
+unfolding cells_of_runs
+runs_from now [] rows all short = tt
+runs_from now (r ∷ rs) rows all short =
+    let set_run : IsSetRun r = row_is_set_run r rows.0 in (
+      record {
+        serial = set_run.serial;
+        first = set_run.first;
+        values = (omega (arith, short.0), held_values now (cells_of_run r) (all_left (HoldsValue now) (cells_of_run r) (cells_of_runs rs) all));
+      },
+      runs_from now rs rows.1 (all_right (HoldsValue now) (cells_of_run r) (cells_of_runs rs) all) short.1,
+    )
+
+-- the changes of cells that are small and hold values
+pub changes_are_runs : (cs : List Cell) (agreed now : Memory) → AllByRecursion IsSmallCell cs → AllByRecursion (HoldsValue now) cs → AllByRecursion HasShortValues (changes cs agreed now)
+    → AllByRecursion IsRun (changes cs agreed now)
+unfolding changes
+changes_are_runs cs agreed now small all short =
+    let changed : List Cell = changed_cells cs agreed now in
+    runs_from now (runs_of_cells changed) (rows_of changed (all_changed IsSmallCell cs agreed now small))
+    (subst (λ (ds : List Cell). AllByRecursion (HoldsValue now) ds) (sym (cells_of_runs-runs changed)) (all_changed (HoldsValue now) cs agreed now all)) short
+
+-- ---- runs of a reply name some cells
+
+pub record IsSome (r : Run) : Type 0 where
+  pub some : 0 < length r.values
+
+-- rows, whatever their numbers
+record HasCells (r : SetRun) : Type 0 where
+  some : 0 < r.len
+
+joined_some : (c : Cell) (rs : List SetRun) → AllByRecursion HasCells rs → AllByRecursion HasCells (joined c rs)
+joined_some c [] all = (record { some = omega arith }, tt)
+joined_some c (r ∷ rs) all = of (begins_behind c r)
+  where
+    of : (t : Bool)
+        → AllByRecursion HasCells (cond t (record { serial = c.serial; first = c.index; len = suc r.len } ∷ rs) (record { serial = c.serial; first = c.index; len = 1 } ∷ r ∷ rs))
+    of true = (record { some = omega arith }, all.1)
+    of false = (record { some = omega arith }, all)
+
+some_cells : (cs : List Cell) → AllByRecursion HasCells (runs_of_cells cs)
+unfolding runs_of_cells
+some_cells [] = tt
+some_cells (c ∷ cs) = joined_some c (runs_of_cells cs) (some_cells cs)
+
+length-row : (now : Memory) (serial index n : ℕ) → length (map (held now) (cells_from serial index n)) ≡ n
+unfolding cells_from
+length-row now serial index zero = refl
+length-row now serial index (suc n) = ap suc (length-row now serial (suc index) n)
+
+some_values : (now : Memory) (rs : List SetRun) → AllByRecursion HasCells rs → AllByRecursion IsSome (map (run_from now) rs)
+some_values now [] all = tt
+some_values now (r ∷ rs) all = (
+  record { some = let size = length-row now r.serial r.first r.len in omega (arith, size, all.0.some) },
+  some_values now rs all.1,
+)
+
+pub changes_are_some : (cs : List Cell) (agreed now : Memory) → AllByRecursion IsSome (changes cs agreed now)
+unfolding changes
+changes_are_some cs agreed now = some_values now (runs_of_cells (changed_cells cs agreed now)) (some_cells (changed_cells cs agreed now))
+
+-- ---- tests that were passed
+
+pub unless_passes : (b : Bool) (cause : RefuseKind) (n : ℕ) → unless b cause n ≡ None → b ≡ true
+unless_passes true cause n e = refl
+unless_passes false cause n e = absurd (Prim.cc)
+
+abbrev pub AreNone : List (Option Fault) → Type 0
+AreNone [] = Unit {0}
+AreNone (f ∷ fs) = (f ≡ None) × AreNone fs
+
+or_none : (f g : Option Fault) → or_else f g ≡ None → (f ≡ None) × (g ≡ None)
+or_none None g e = (refl, e)
+or_none (Some f) g e = absurd (Prim.cc)
+
+pub no_faults : (fs : List (Option Fault)) → first_fault fs ≡ None → AreNone fs
+no_faults [] e = tt
+no_faults (f ∷ fs) e = let both = or_none f (first_fault fs) e in (both.0, no_faults fs both.1)
+
+-- ---- runs without a fault
+
+module _ (program : Program) (view : List Cell) (m : Memory) where
+  abbrev is_inside : CellValue → Bool
+  is_inside x = is_in view x.cell
+
+  -- what a run without a fault says of its cells
+  pub record IsLegal (r : Run) : Type 0 where
+    pub inside : list_all is_inside (numbered r.serial r.first r.values) ≡ true
+    pub fit : list_all (fits_cell program m) (numbered r.serial r.first r.values) ≡ true
+
+  run_legal : (paired : Memory) (before : Option SetRun) (i : ℕ) (r : Run) → run_fault program view paired m before i r ≡ None → IsLegal r
+  unfolding run_fault
+  run_legal paired before i r e =
+      let tests = no_faults (
+      unless (follows_maybe before (set_run_of r)) refusal.RunOrder i
+      ∷ unless (list_all is_inside (numbered r.serial r.first r.values)) refusal.OutsideSet i
+      ∷ unless (list_all (is_known paired) r.values) refusal.UnknownSerial i
+      ∷ unless (list_all (is_view m) r.values) refusal.BadView i
+      ∷ unless (list_all (fits_cell program m) (numbered r.serial r.first r.values)) refusal.BadValue i
+      ∷ []) e in
+      record { inside = unless_passes _ _ _ tests.1.0; fit = unless_passes _ _ _ tests.1.1.1.1.0 }
+
+  pub runs_legal : (paired : Memory) (before : Option SetRun) (i : ℕ) (rs : List Run) → runs_fault program view paired m before i rs ≡ None → AllByRecursion IsLegal rs
+  unfolding runs_fault
+  runs_legal paired before i [] e = tt
+  runs_legal paired before i (r ∷ rs) e =
+      let both = or_none (run_fault program view paired m before i r) (runs_fault program view paired m (Some (set_run_of r)) (suc i) rs) e in
+      (run_legal paired before i r both.0, runs_legal paired (Some (set_run_of r)) (suc i) rs both.1)
+
+  -- ---- they have spellings
+
+  module _ (sound : IsSound program) (shown : AllByRecursion (IsShown program m) view) where
+    legal_values : (serial index : ℕ) (vs : List Wire) → list_all is_inside (numbered serial index vs) ≡ true → list_all (fits_cell program m) (numbered serial index vs) ≡ true → AllByRecursion IsValue vs
+    unfolding numbered
+    legal_values serial index [] inside fit = tt
+    legal_values serial index (v ∷ vs) inside fit =
+        let c : Cell = record { serial = serial; index = index } in
+        let x : CellValue = record { cell = c; value = v } in (
+          fitting_is_value program m c v sound (in_all (IsShown program m) view c shown (and_left (is_in view c) _ inside)) (and_left (fits_cell program m x) _ fit),
+          legal_values serial (suc index) vs (and_right (is_in view c) _ inside) (and_right (fits_cell program m x) _ fit),
+        )
+
+    first_shown : (serial index : ℕ) (vs : List Wire) → 0 < length vs → list_all is_inside (numbered serial index vs) ≡ true → IsShown program m (record { serial = serial; index = index })
+    unfolding numbered
+    first_shown serial index [] some inside = absurd (omega arith)
+    first_shown serial index (v ∷ vs) some inside =
+        let c : Cell = record { serial = serial; index = index } in in_all (IsShown program m) view c shown (and_left (is_in view c) _ inside)
+
+    pub legal_runs : (rs : List Run) → length program.globals ≤ 2 ^ 32 → AllByRecursion IsLegal rs → AllByRecursion IsSome rs → AllByRecursion HasShortValues rs → AllByRecursion IsRun rs
+    legal_runs [] small legal some short = tt
+    legal_runs (r ∷ rs) small legal some short =
+        let first : IsShown program m (record { serial = r.serial; index = r.first }) = first_shown r.serial r.first r.values some.0.some legal.0.inside in (
+          record {
+            serial = omega (arith, first.serial);
+            first = omega (arith, first.index);
+            values = (omega (arith, short.0), legal_values r.serial r.first r.values legal.0.inside legal.0.fit);
+          },
+          legal_runs rs small legal.1 some.1 short.1,
+        )
+
+  -- ---- storing them keeps a memory
+
+  abbrev FitsCell : CellValue → Type 0
+  FitsCell x = fits_cell program m x ≡ true
+
+  each_fits : (xs : List CellValue) → list_all (fits_cell program m) xs ≡ true → AllByRecursion FitsCell xs
+  each_fits [] e = tt
+  each_fits (x ∷ xs) e = (and_left (fits_cell program m x) _ e, each_fits xs (and_right (fits_cell program m x) _ e))
+
+  all_fit : (rs : List Run) → AllByRecursion IsLegal rs → AllByRecursion FitsCell (values_of_runs rs)
+  unfolding values_of_runs
+  all_fit [] legal = tt
+  all_fit (r ∷ rs) legal =
+      all_and FitsCell (numbered r.serial r.first r.values) (values_of_runs rs) (each_fits (numbered r.serial r.first r.values) legal.0.fit) (all_fit rs legal.1)
+
+  stored_fits : (n : Memory) (x : CellValue) (b : New) → births n ≡ births m → FitsCell x → born_at n x.cell.serial ≡ Some b → fits program b.ty x.value ≡ true
+  unfolding fits_cell
+  stored_fits n x b same fit born = ap (λ (o : Option New). fits_block program o x.value) (sym (sym (born_at-births n m x.cell.serial same) ∙ born)) ∙ fit
+
+  put_holds : (n : Memory) (x : CellValue) → births n ≡ births m → FitsCell x → Holds program n → Holds program (put n x.cell x.value)
+  put_holds n x same fit holds = record {
+    born = births-put n x.cell x.value ∙ holds.born;
+    filled = filled_put program n x.cell x.value holds.filled (λ b born. stored_fits n x b same fit born);
+  }
+
+  put_all_holds : (xs : List CellValue) (n : Memory) → births n ≡ births m → AllByRecursion FitsCell xs → Holds program n → Holds program (put_all xs n)
+  unfolding put_all
+  put_all_holds [] n same fit holds = holds
+  put_all_holds (x ∷ xs) n same fit holds =
+      put_all_holds xs (put n x.cell x.value) (births-put n x.cell x.value ∙ same) fit.1 (put_holds n x same fit.0 holds)
+
+  pub runs_hold : (rs : List Run) → AllByRecursion IsLegal rs → Holds program m → Holds program (put_runs rs m)
+  unfolding put_runs
+  runs_hold rs legal holds = put_all_holds (values_of_runs rs) m refl (all_fit rs legal) holds

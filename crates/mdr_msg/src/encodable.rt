@@ -1,0 +1,105 @@
+// Which messages are written.
+
+ghost use Rattle.std.specs.Prelude.{◌↔◌, IsTrue};
+ghost use Rattle.std.specs.List.{AllByRecursion};
+ghost use Rattle.mdr_msg.specs.Encoding.{CanEncode, CanPutRun, CanPutRuns, CanPutValue, CanPutValues, IsShort};
+
+use mdr_core::Items;
+use mdr_model::{Message, New, Run, SetRun, Wire};
+
+fn is_short<T>(items: &Items<T>) -> bool
+    ensures { IsTrue result ↔ IsShort items.now }
+{
+    items.len() < 1 << 31
+}
+
+fn can_put_value(value: &Wire) -> bool
+    ensures { IsTrue result ↔ CanPutValue value.now }
+{
+    match *value {
+        Wire::Int(kind, n) => kind.contains(n),
+        Wire::Lock(_) => false,
+        Wire::Null | Wire::Ptr(_) | Wire::Dead | Wire::Fn(_) | Wire::NoValue => true,
+    }
+}
+
+fn can_put_each_value(values: &[Wire]) -> bool
+    ensures { IsTrue result ↔ AllByRecursion CanPutValue values.now }
+{
+    values.iter().all(|value| can_put_value(value))
+}
+
+fn can_put_values(values: &Items<Wire>) -> bool
+    ensures { IsTrue result ↔ CanPutValues values.now }
+{
+    is_short(values) && can_put_each_value(values.as_slice())
+}
+
+fn can_put_each_run(runs: &[Run]) -> bool
+    ensures { IsTrue result ↔ AllByRecursion CanPutRun runs.now }
+{
+    runs.iter().all(|run| can_put_values(&run.values))
+}
+
+fn can_put_runs(runs: &Items<Run>) -> bool
+    ensures { IsTrue result ↔ CanPutRuns runs.now }
+{
+    is_short(runs) && can_put_each_run(runs.as_slice())
+}
+
+/// Whether births, deaths, visible cells and changes are written.
+fn can_put_memory(
+    deaths: &Items<u64>,
+    news: &Items<New>,
+    view: &Items<SetRun>,
+    runs: &Items<Run>,
+) -> bool
+    ensures { IsTrue result ↔ (IsShort deaths.now × IsShort news.now × IsShort view.now × CanPutRuns runs.now) }
+{
+    is_short(deaths) && is_short(news) && is_short(view) && can_put_runs(runs)
+}
+
+/// Whether a message has a spelling that `encode` writes: each of its lists has fewer than 2^31 items, each integer
+/// is in its kind's range, and no value is a lock.
+pub fn can_encode(m: &Message) -> bool
+    ensures { IsTrue result ↔ CanEncode m.now }
+{
+    match m {
+        Message::Call {
+            args,
+            deaths,
+            news,
+            view,
+            runs,
+            ..
+        } => can_put_values(args) && can_put_memory(deaths, news, view, runs),
+        Message::Return {
+            result: value,
+            runs,
+            ..
+        } => can_put_value(value) && can_put_runs(runs),
+        Message::Down { args, runs, .. } => can_put_values(args) && can_put_runs(runs),
+        Message::Back {
+            result: value,
+            deaths,
+            news,
+            view,
+            runs,
+            ..
+        } => can_put_value(value) && can_put_memory(deaths, news, view, runs),
+        Message::Ask {
+            args,
+            shapes,
+            bytes,
+            runs,
+            ..
+        } => { can_put_values(args) && is_short(shapes) && is_short(bytes) && can_put_runs(runs) }
+        Message::Answer {
+            results,
+            deaths,
+            news,
+        } => can_put_values(results) && is_short(deaths) && is_short(news),
+        Message::Stop { runs, .. } => can_put_runs(runs),
+        Message::Refuse { .. } => true,
+    }
+}
