@@ -4,3 +4,4 @@ pub mod TurnSteps
 pub mod ArgumentSteps
 pub mod ReplyLaws
 pub mod OpeningLaws
+pub mod Deliveries

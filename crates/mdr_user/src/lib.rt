@@ -3,6 +3,7 @@
 
 mod arguments;
 mod copies;
+mod delivery;
 mod opening;
 mod reply;
 mod state;
