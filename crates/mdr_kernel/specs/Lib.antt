@@ -1,0 +1,3 @@
+pub mod States
+pub mod Works
+pub mod Runs

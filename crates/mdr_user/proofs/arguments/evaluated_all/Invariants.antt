@@ -1,0 +1,7 @@
+use Rattle.std.proofs.Common.{◌≡◌, drop}
+use Rattle.mdr_model.specs.Sets.{is_in}
+use Rattle.mdr_user.specs.Arguments.{behind, evaluated_all}
+use Rattle.mdr_user.proofs.arguments.evaluated_all.Given as goal
+
+abbrev pub invariant-loop-e : goal.invariant-loop-e
+invariant-loop-e l = behind l.values (evaluated_all (is_in l.view) l.program l.memory (drop l.e-index l.args)) ≡ evaluated_all (is_in l.view) l.program l.memory l.args

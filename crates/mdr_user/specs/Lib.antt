@@ -1,0 +1,5 @@
+pub mod States
+pub mod Arguments
+pub mod Statements
+pub mod Replies
+pub mod Openings
