@@ -1,6 +1,14 @@
 -- What the program answers, stage by stage, with one constructor for each reason.
-use Rattle.std.specs.Prelude.{◌≡◌, ℕ, List, codes, Option, Some, None, Ok, Err}
+use Rattle.std.specs.Prelude.{◌≡◌, ◌≤◌, ℕ, List, [], ◌++◌, length, take, codes, Option, Some, None, option_map, Result, Ok, Err}
 use Rattle.mdr_core.specs.declared.program.Program.{Program}
+use Rattle.mdr_core.specs.declared.refusal.RefuseKind.TheVariants as refusal
+use Rattle.mdr_model.specs.declared.outcome.End.{End}
+use Rattle.mdr_model.specs.declared.outcome.End.TheVariants as ends
+use Rattle.mdr_model.specs.declared.outcome.Outcome.{Outcome}
+use Rattle.mdr_model.specs.Watched.{finish, first_world}
+use Rattle.mdr_model.specs.Outcome.{outcome_of}
+use Rattle.mdr_model.specs.Report.{report}
+use Rattle.mdr_model.specs.Sound.{IsSound, IsBound}
 use Rattle.mdr_syntax.specs.declared.token.Token.{Token}
 use Rattle.mdr_syntax.specs.declared.error.LexError.{LexError}
 use Rattle.mdr_syntax.specs.Reading.{whats}
@@ -10,9 +18,15 @@ use Rattle.mdr_syntax.specs.Sources.{program_of}
 use Rattle.mdr_syntax.specs.Scripts.{calls_of}
 use Rattle.mdr_outside.specs.declared.shelf.ReadAnswer.TheVariants as reads
 use Rattle.mdr_outside.specs.Shelf.{ReadsFrom}
+use Rattle.mdr_outside.specs.declared.far.LoadAnswer.TheVariants as loads
+use Rattle.mdr_outside.specs.declared.far.Loaded.{Loaded}
+use Rattle.mdr_outside.specs.declared.far.Exchange.{Exchange}
+use Rattle.mdr_outside.specs.Far.{loaded_with}
+use Rattle.mdr_kernel.specs.Runs.{IsRun}
 use Rattle.mdr_top.specs.declared.status.Status.{Status}
 use Rattle.mdr_top.specs.declared.status.Status.TheVariants as status
-use Rattle.mdr_top.specs.Lines.{source_line, begin, fault_line, script_line, file_line}
+use Rattle.mdr_top.specs.Lines.{usage_line, source_line, begin, fault_line, script_line, file_line}
+use Rattle.mdr_top.specs.Words.{command_of}
 
 -- the files as functions of their names, told or not
 abbrev pub Files : Type 0
@@ -36,11 +50,17 @@ pub data NoProgram (bytes : List ℕ) (s : Status) (text : List ℕ) : Type 0 wh
   fault : (e : LexError) → tokens_of bytes ≡ Err e → s ≡ status.SourceRefused → text ≡ fault_line e → NoProgram bytes s text
   unbuilt : (ts : List Token) → tokens_of bytes ≡ Ok ts → program_of (whats ts) ≡ None → s ≡ status.SourceRefused → text ≡ source_line begin (codes "Unbuilt") → NoProgram bytes s text
 
--- a source and its program
+-- a source and its program, which is sound
 pub record HasProgram (bytes : List ℕ) (program : Program) : Type 0 where
   pub tokens : List Token
   pub read : tokens_of bytes ≡ Ok tokens
   pub view : program_of (whats tokens) ≡ Some (program_view program)
+  pub sound : IsSound program
+
+-- a script and the functions that it calls, which the program has
+pub record HasScript (program : Program) (bytes calls : List ℕ) : Type 0 where
+  pub read : calls_of program.funcs bytes ≡ Ok calls
+  pub bound : IsBound program calls
 
 -- a script that is refused
 pub record NoScript (program : Program) (bytes : List ℕ) (s : Status) (text : List ℕ) : Type 0 where
@@ -48,3 +68,64 @@ pub record NoScript (program : Program) (bytes : List ℕ) (s : Status) (text : 
   pub refused : calls_of program.funcs bytes ≡ Err line
   pub status_is : s ≡ status.ScriptRefused
   pub text_is : text ≡ script_line line (codes "Unbuilt")
+
+-- ---- the run
+
+-- a run has a million ticks
+abbrev pub default_ticks : ℕ
+default_ticks = 1000000
+
+abbrev pub status_of : End → Status
+status_of ends.Ok = status.Done
+status_of (ends.Stop kind at) = status.Stopped
+status_of (ends.Refused exchange cause number) = status.Marshal
+status_of (ends.FarFault exchange) = status.FarFault
+
+-- the outcome where the far side loaded nothing: that of the empty script, with another end
+abbrev pub nothing_ran : Program → End → Outcome
+nothing_ran program end = outcome_of (finish end (first_world program default_ticks))
+
+-- the far side holds the source with this answer, and what is printed is the report
+pub data Ran (program : Program) (source calls : List ℕ) (loaded : Option Loaded) (es : List Exchange) (s : Status) (text : List ℕ) : Type 0 where
+  began : (o : Outcome) → loaded ≡ Some (loaded_with source [] loads.Ok) → IsRun program calls default_ticks es o → s ≡ status_of o.end → text ≡ report program o → Ran program source calls loaded es s text
+  refused : (cause : ℕ) → loaded ≡ Some (loaded_with source [] (loads.Refused cause)) → s ≡ status.Marshal → text ≡ report program (nothing_ran program (ends.Refused 0 refusal.Load 0)) → Ran program source calls loaded es s text
+  failed : loaded ≡ Some (loaded_with source [] loads.Failed) → s ≡ status.FarFault → text ≡ report program (nothing_ran program (ends.FarFault 0)) → Ran program source calls loaded es s text
+
+-- ---- the stages before it
+
+-- a script that was read
+pub data Called (program : Program) (source script : List ℕ) (loaded : Option Loaded) (es : List Exchange) (s : Status) (text : List ℕ) : Type 0 where
+  refused : NoScript program script s text → Called program source script loaded es s text
+  accepted : (calls : List ℕ) → HasScript program script calls → Ran program source calls loaded es s text → Called program source script loaded es s text
+
+-- the script's file
+pub data Scripted (files : Files) (name : List ℕ) (program : Program) (source : List ℕ) (loaded : Option Loaded) (es : List Exchange) (s : Status) (text : List ℕ) : Type 0 where
+  unread : Unread files name longest_script s text → Scripted files name program source loaded es s text
+  read : (script : List ℕ) → ReadsFrom files name longest_script (reads.Ok script) → Called program source script loaded es s text → Scripted files name program source loaded es s text
+
+-- a source that was read
+pub data Compiled (files : Files) (source script : List ℕ) (loaded : Option Loaded) (es : List Exchange) (s : Status) (text : List ℕ) : Type 0 where
+  refused : NoProgram source s text → Compiled files source script loaded es s text
+  accepted : (program : Program) → HasProgram source program → Scripted files script program source loaded es s text → Compiled files source script loaded es s text
+
+-- the source's file
+pub data Sourced (files : Files) (name script : List ℕ) (loaded : Option Loaded) (es : List Exchange) (s : Status) (text : List ℕ) : Type 0 where
+  unread : Unread files name longest_source s text → Sourced files name script loaded es s text
+  read : (source : List ℕ) → ReadsFrom files name longest_source (reads.Ok source) → Compiled files source script loaded es s text → Sourced files name script loaded es s text
+
+-- the words: the status and the text that are due
+pub data Answered (words : List (List ℕ)) (files : Files) (loaded : Option Loaded) (es : List Exchange) (s : Status) (text : List ℕ) : Type 0 where
+  usage : command_of words ≡ None → s ≡ status.Usage → text ≡ usage_line → Answered words files loaded es s text
+  command : (source script : List ℕ) → command_of words ≡ Some (source, script) → Sourced files source script loaded es s text → Answered words files loaded es s text
+
+-- ---- what is printed
+
+-- so much of the text was added to the output
+abbrev pub Adds : (old new : Option (List ℕ)) → List ℕ → Type 0
+Adds old new text = new ≡ option_map (λ bytes. bytes ++ text) old
+
+-- the whole text that is due is printed; or a part from its beginning, where the output failed; or nothing, for want of memory
+pub data Prints (words : List (List ℕ)) (files : Files) (loaded : Option Loaded) (es : List Exchange) (old new : Option (List ℕ)) (s : Status) : Type 0 where
+  whole : (text : List ℕ) → Answered words files loaded es s text → Adds old new text → Prints words files loaded es old new s
+  cut : (due : Status) (text : List ℕ) (n : ℕ) → s ≡ status.WriteFault → Answered words files loaded es due text → n ≤ length text → Adds old new (take n text) → Prints words files loaded es old new s
+  nothing : s ≡ status.OutOfMemory → new ≡ old → Prints words files loaded es old new s

@@ -1,8 +1,7 @@
 // The script's calls.
 
-ghost use Rattle.std.specs.Prelude.{◌≡◌, Ok, IfOk};
-ghost use Rattle.mdr_syntax.specs.Scripts.{calls_of};
-ghost use Rattle.mdr_top.specs.Answers.{NoScript};
+ghost use Rattle.std.specs.Prelude.{IfOk};
+ghost use Rattle.mdr_top.specs.Answers.{HasScript, NoScript};
 ghost use Rattle.mdr_top.specs.Stages.{StageIs};
 
 use crate::due::{Due, Stage};
@@ -18,7 +17,7 @@ pub(crate) fn calls(
     program: &Program,
     script: &[u8],
 ) -> Result<Stage<Items<u32>>, OutOfMemory>
-    ensures { IfOk result (StageIs (λ calls. calls_of program.now.funcs script.now ≡ Ok calls) (NoScript program.now script.now)) }
+    ensures { IfOk result (StageIs (HasScript program.now script.now) (NoScript program.now script.now)) }
 {
     match read_script(alloc, program, script) {
         Ok(calls) => Ok(Stage::Goes(calls)),

@@ -1,0 +1,51 @@
+-- What a script calls is there.
+use Rattle.std.proofs.Common.{◌≡◌, ℕ, suc, ◌+◌, ◌<◌, Bool, true, false, cond, List, [], ◌∷◌, length, Option, Some, None, Result, Ok, Err, refl, subst, arith}
+use Rattle.std.specs.Prelude.{nat_lt, if◌then◌else◌}
+use Rattle.std.specs.List.{AllByRecursion, position, position_or_len}
+use Rattle.std.specs.Str.{bytes_eq}
+use Rattle.std.proofs.lemmas.Bool.{ltb-true}
+use Rattle.mdr_core.specs.declared.program.Program.{Program}
+use Rattle.mdr_core.specs.declared.program.Func.{Func}
+use Rattle.mdr_model.specs.Sound.{IsBound}
+use Rattle.mdr_syntax.specs.declared.script.Command.{Command}
+use Rattle.mdr_syntax.specs.declared.script.Command.TheVariants.{Nothing, Call, Other}
+use Rattle.mdr_syntax.specs.Scripts.{command_of, func_number, call_or_other, with_command, calls_from, calls_of, lines_of}
+
+found_inside : (p : Func → Bool) (funcs : List Func) (f : ℕ) → position p funcs ≡ Some f → f < length funcs
+found_inside p funcs f e = of (nat_lt (position_or_len p funcs) (length funcs)) refl e
+  where
+    of : (t : Bool) → nat_lt (position_or_len p funcs) (length funcs) ≡ t → cond t (Some (position_or_len p funcs)) None ≡ Some f → f < length funcs
+    of true q h = let same : position_or_len p funcs ≡ f = Prim.cc in subst (λ (n : ℕ). n < length funcs) same (ltb-true _ _ q)
+    of false q h = absurd (Prim.cc)
+
+-- a command names a function that is there
+abbrev Names : List Func → Command → Type 0
+Names funcs Nothing = Unit {0}
+Names funcs (Call f) = f < length funcs
+Names funcs Other = Unit {0}
+
+command_names : (funcs : List Func) (line : List ℕ) → Names funcs (command_of funcs line)
+unfolding command_of
+command_names funcs line = of _ _ _ (λ f e. found_inside _ funcs f e)
+  where
+    of : (a b : Bool) (found : Option ℕ) → ((f : ℕ) → found ≡ Some f → f < length funcs) → Names funcs (if a then Nothing else (if b then call_or_other found else Other))
+    of true b found h = tt
+    of false true (Some f) h = h f refl
+    of false true None h = tt
+    of false false found h = tt
+
+calls_bound : (funcs : List Func) (n : ℕ) (lines : List (List ℕ)) (calls : List ℕ) → calls_from funcs n lines ≡ Ok calls → AllByRecursion (λ f. f < length funcs) calls
+calls_bound funcs n [] calls e = let none : [] ≡ calls = Prim.cc in subst (AllByRecursion (λ f. f < length funcs)) none tt
+calls_bound funcs n (l ∷ ls) calls e = of (command_of funcs l) (command_names funcs l) (calls_from funcs (n + 1) ls) (calls_bound funcs (n + 1) ls) e
+  where
+    of : (c : Command) → Names funcs c → (later : Result (List ℕ) ℕ) → ((more : List ℕ) → later ≡ Ok more → AllByRecursion (λ f. f < length funcs) more)
+        → with_command c n later ≡ Ok calls → AllByRecursion (λ f. f < length funcs) calls
+    of Nothing named later h g = h calls g
+    of (Call f) named (Ok more) h g = let same : f ∷ more ≡ calls = Prim.cc in subst (AllByRecursion (λ x. x < length funcs)) same (named, h more refl)
+    of (Call f) named (Err k) h g = absurd (Prim.cc)
+    of Other named later h g = absurd (Prim.cc)
+
+-- each call of a script is of a function of the program
+pub script_is_bound : (program : Program) (bytes calls : List ℕ) → calls_of program.funcs bytes ≡ Ok calls → IsBound program calls
+unfolding calls_of
+script_is_bound program bytes calls e = calls_bound program.funcs 1 (lines_of bytes) calls e
