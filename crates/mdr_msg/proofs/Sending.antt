@@ -138,7 +138,7 @@ module _ (program : Program) (sound : IsSound program) (budget : ℕ) (small : H
   small_cells : (m : Memory) → births m ≡ globals_of program → AllByRecursion IsSmallCell (cells_shown program)
   small_cells m born =
       all_weaker (IsShown program m) IsSmallCell (cells_shown program)
-      (λ c shown. record { serial = let few = small.globals in let one = shown.serial in omega arith; index = shown.index })
+      (λ c shown. record { serial = let most = small.globals in let one = shown.serial in omega arith; index = shown.index })
       (all_shown program m sound born)
 
   few_shown : length (cells_shown program) < 2 ^ 31
