@@ -3,3 +3,5 @@ pub mod Worlds
 pub mod Accepted
 pub mod Standing
 pub mod Turns
+pub mod Numbers
+pub mod KernelCode

@@ -175,7 +175,7 @@ module _ (program : Program) (sound : IsSound program) (budget n : ℕ) where
       let sends : Sends sent (left_in rest) k' k'.world = applied_sends sent (left_in rest) k ticks runs d.fit d.asked s in
       down_stands sent k' k'.world rest (kernel_call program func args depth k'.world) sends (kernel_goes program func args depth k'.world sound d.kernel sends.world)
   taken_stands (message.Ask ticks at service args shapes bytes runs) sent k rest e s =
-      let a : IsAsk program k ticks runs = ask_fits program k rest ticks at service args shapes bytes runs e in
+      let a : IsAsk program k ticks args runs = ask_fits program k rest ticks at service args shapes bytes runs e in
       let k' : Kernel = applied ticks runs k in
       let sends : Sends sent (left_in rest) k' k'.world = applied_sends sent (left_in rest) k ticks runs a.fit a.asked s in
       let asked : Asked = record { service = service; at = at; args = args; shapes = shapes; bytes = bytes } in

@@ -6,7 +6,8 @@ ghost use Rattle.mdr_model.specs.declared.message.Shape64.{Shape64 as AnyShape};
 ghost use Rattle.mdr_model.specs.Sound.{IsSound};
 ghost use Rattle.mdr_model.specs.Meaning.{is_kernel};
 ghost use Rattle.mdr_model.specs.World.{kernel_call, served};
-ghost use Rattle.mdr_model.specs.Kernel.{user_stop, applied, continued, downcalled, serviced, fault_of, taken};
+ghost use Rattle.mdr_model.specs.Faults.{args_fault};
+ghost use Rattle.mdr_model.specs.Kernel.{service_params, user_stop, applied, continued, downcalled, serviced, fault_of, taken};
 ghost use Rattle.mdr_kernel.specs.States.{world_of, kernel_of, pending_of, rest_of, IsSoundWorld};
 
 use crate::events::end;
@@ -97,6 +98,7 @@ fn serviced(
     kernel: Kernel,
     upcall: Open,
 ) -> Result<Pending, OutOfMemory>
+    requires args { args_fault 0 service_params args.now ≡ None }
     ensures { IfOk result (λ p. (script : List ℕ) (shapes : List AnyShape) (bytes : List ℕ) → pending_of script p ≡ serviced program.now (served (record { service = service; at = at; args = args.now; shapes = shapes; bytes = bytes }) (world_of kernel.world)) (kernel_of kernel) (rest_of script upcall)) }
 {
     let mut kernel = kernel;

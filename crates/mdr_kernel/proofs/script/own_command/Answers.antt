@@ -13,6 +13,6 @@ returns-in_ok-end-in-None-clause-sound c =
     let program = c.args.program.now in
     let w : World = world_of c.args.kernel.world in
     let w' : World = world_of c.kernel_call.new.world in
-    let gone = subst (λ (ran : Ran Wire). Ends (Gone program w) ran) (c.in_ok-stop.ensures [] 0) (kernel_goes program c.args.func [] 0 w c.requires.program c.requires.function c.requires.world) in
+    let gone = subst (λ (ran : Ran Wire). Ends (Gone program w) ran) (c.in_ok-stop.ensures.by [] 0) (kernel_goes program c.args.func [] 0 w c.requires.program c.requires.function c.requires.world) in
     let there : Gone program w w' = subst (λ (stop : Option CodeStop). Ends (Gone program w) (ran_of wire.NoValue stop w')) c.in-None.is gone in
     subst (λ (x : World). IsSoundWorld program x) (sym c.in_ok-end-in-None.ensures) (returned_is_sound program wire.NoValue w' there.sound)

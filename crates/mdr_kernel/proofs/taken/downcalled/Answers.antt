@@ -18,4 +18,4 @@ pub returns-in_ok-pending-in-None : goal.returns-in_ok-pending-in-None
 returns-in_ok-pending-in-None c = λ script args depth.
     let w : World = world_of c.kernel_call.new.world in
     back_in c.args.program.now w (kernel_of c.args.kernel) (rest_of script c.args.upcall) _ (pending_of script c.in_ok-pending-in-None.pending)
-    (c.in_ok-stop.ensures args depth ∙ ap (λ (stop : Option CodeStop). ran_of wire.NoValue stop w) c.in-None.is) (c.in_ok-pending-in-None.ensures script)
+    (c.in_ok-stop.ensures.by args depth ∙ ap (λ (stop : Option CodeStop). ran_of wire.NoValue stop w) c.in-None.is) (c.in_ok-pending-in-None.ensures script)
