@@ -34,6 +34,11 @@ impl<'a> Model for KernelHalf<'a> {
 
     ghost Value = { HalfState };
 
+    ghost use Rattle.mdr_core.specs.contracts.code.Expr as expr;
+    ghost use Rattle.std.specs.Coded.{codes};
+
+    ghost coded = { Prim.hlevel (codes, expr.the_row.coded) };
+
     ghost use Rattle.mdr_kernel.specs.HalfView.{half_state, IsKept};
 
     ghost view = { half_state };
@@ -109,7 +114,13 @@ impl<'a> KernelHalf<'a> {
         let (end, kernel) = run_script(alloc, self.program, script, ticks, first, far)?;
         let messages = kernel.exchanges.checked_mul(2).ok_or(OutOfMemory)?;
         let Kernel { world, .. } = kernel;
-        let outcome = outcome_of(alloc, end, world.events, world.ticks, world.memory.as_slice())?;
+        let outcome = outcome_of(
+            alloc,
+            end,
+            world.events,
+            world.ticks,
+            world.memory.as_slice(),
+        )?;
         self.memory = world.memory;
         self.messages = messages;
         Ok(outcome)

@@ -136,7 +136,10 @@ pub(crate) fn taken(
             continued(alloc, program, script, value, kernel, upcall)
         }
         Message::Down {
-            ticks, func, runs, ..
+            ticks,
+            func,
+            runs,
+            ..
         } => {
             let kernel = applied(ticks, runs.as_slice(), kernel);
             downcalled(alloc, program, func, kernel, upcall)
@@ -166,10 +169,7 @@ pub(crate) fn taken(
         | Message::Answer { .. }
         | Message::Refuse { .. } => {
             let exchange = kernel.exchanges;
-            Ok(Pending::Over(
-                End::Refused(exchange, RefuseKind::NotAwaited, 0),
-                kernel,
-            ))
+            Ok(Pending::Over(End::Refused(exchange, RefuseKind::NotAwaited, 0), kernel))
         }
     }
 }
