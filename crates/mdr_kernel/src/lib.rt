@@ -16,3 +16,6 @@ mod taken;
 mod work;
 
 pub use half::KernelHalf;
+
+#[cfg(test)]
+mod tests;
