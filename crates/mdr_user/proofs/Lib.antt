@@ -5,3 +5,5 @@ pub mod ArgumentSteps
 pub mod ReplyLaws
 pub mod OpeningLaws
 pub mod Deliveries
+pub mod HalfSteps
+pub mod SoundSources
