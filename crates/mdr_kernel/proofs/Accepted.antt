@@ -79,10 +79,10 @@ down_fits program k rest ticks at depth func args runs e =
       kernel = stub_is_kernel program func (unless_passes (has_down_stub program func) refusal.NoStub 0 all.1.1.1.1.0);
     }
 
-pub record IsAsk (program : Program) (k : Kernel) (ticks : ℕ) (given : List Wire) (runs : List Run) : Type 0 where
+pub record IsAsk (program : Program) (k : Kernel) (ticks : ℕ) (args : List Wire) (runs : List Run) : Type 0 where
   pub fit : IsFit program k ticks runs
   pub asked : IsAsked k ticks
-  pub args : args_fault 0 service_params given ≡ None
+  pub fitting : args_fault 0 service_params args ≡ None
 
 pub ask_fits : (program : Program) (k : Kernel) (rest : Rest) (ticks : ℕ) (at : At) (service : ℕ) (args : List Wire) (shapes : List Shape64) (bytes : List ℕ) (runs : List Run)
     → fault_of program k rest (message.Ask ticks at service args shapes bytes runs) ≡ None → IsAsk program k ticks args runs
@@ -91,7 +91,7 @@ ask_fits program k rest ticks at service args shapes bytes runs e =
     let faults : List (Option Fault) = unless (is_awaited k ticks) refusal.NotAwaited 0 ∷ ticks_fault k ticks ∷ unless (is_ask_place program service at) refusal.BadPlace 0 ∷ service_fault service shapes bytes ∷ args_fault 0 service_params args
     ∷ reply_runs_fault program k runs ∷ [] in
     let all : AreNone faults = no_faults faults e in
-    record { fit = fit_in program k ticks runs all.1.0 all.1.1.1.1.1.0; asked = asked_in k ticks all.0 all.1.0; args = all.1.1.1.1.0 }
+    record { fit = fit_in program k ticks runs all.1.0 all.1.1.1.1.1.0; asked = asked_in k ticks all.0 all.1.0; fitting = all.1.1.1.1.0 }
 
 pub stop_fits : (program : Program) (k : Kernel) (rest : Rest) (ticks number : ℕ) (at : At) (runs : List Run) → fault_of program k rest (message.Stop ticks number at runs) ≡ None → IsFit program k ticks runs
 unfolding fault_of

@@ -114,7 +114,6 @@ kernel_goes program func args depth w sound kernel s =
     of _ (ended x w' l p) k = gone_in program w w' s l k
     of _ (stopped kind at w' l) k = gone_in program w w' s l k
 
-
 -- a service
 pub service_goes : (program : Program) (asked : Asked) (w : World) → IsSoundWorld program w → Ends (Gone program w) (served asked w)
 service_goes program asked w s = of (served asked w) (service_leaves asked w (holds_in s)) (served_clock w asked w (record { total = refl }))

@@ -138,7 +138,10 @@ fn stop_number(kind: StopKind) -> u32
 fn stop_in(kinds: &[StopKind], number: u32) -> Option<StopKind>
     ensures { result ≡ find (λ kind. stop_number kind == number) kinds.now }
 {
-    kinds.iter().copied().find(|kind| stop_number(*kind) == number)
+    kinds
+        .iter()
+        .copied()
+        .find(|kind| stop_number(*kind) == number)
 }
 
 /// The stop with a number, if user code may end there.

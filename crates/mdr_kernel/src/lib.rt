@@ -2,8 +2,10 @@
 #![tactic(auto)]
 
 mod events;
+mod half;
 mod legal;
 mod next;
+mod outcome;
 mod run;
 mod script;
 mod sending;
@@ -12,3 +14,8 @@ mod state;
 mod stubs;
 mod taken;
 mod work;
+
+pub use half::KernelHalf;
+
+#[cfg(test)]
+mod tests;

@@ -52,10 +52,7 @@ fn misread(kind: RefuseKind, number: u64) -> Result<Message, Fault>
 }
 
 /// What bytes are as a message: the message, or why they are none.
-pub(crate) fn reading_of(
-    alloc: Global,
-    bytes: &[u8],
-) -> Result<Result<Message, Fault>, OutOfMemory>
+pub(crate) fn reading_of(alloc: Global, bytes: &[u8]) -> Result<Result<Message, Fault>, OutOfMemory>
     ensures { IfOk result (λ r. r ≡ reading_of bytes.now) }
 {
     match decode(alloc, bytes) {

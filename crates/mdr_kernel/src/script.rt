@@ -18,11 +18,7 @@ use mdr_model::{End, Wire};
 use std::alloc::Global;
 
 /// A command of the kernel half.
-fn own_command(
-    program: &Program,
-    func: u32,
-    kernel: Kernel,
-) -> Result<Commanded, OutOfMemory>
+fn own_command(program: &Program, func: u32, kernel: Kernel) -> Result<Commanded, OutOfMemory>
     requires program { IsSound program.now }
     requires function { is_kernel program.now func ≡ true }
     requires world { IsSoundWorld program.now (world_of kernel.world) }
@@ -31,10 +27,7 @@ fn own_command(
 {
     let mut kernel = kernel;
     match kernel_call(program, func, &mut kernel.world)? {
-        Some(stop) => Ok(Commanded::Rests(Pending::Over(
-            End::Stop(stop.kind, stop.at),
-            kernel,
-        ))),
+        Some(stop) => Ok(Commanded::Rests(Pending::Over(End::Stop(stop.kind, stop.at), kernel))),
         None => {
             end(Wire::NoValue, &mut kernel.world)?;
             Ok(Commanded::Returned(kernel))

@@ -7,7 +7,7 @@ ghost use Rattle.mdr_model.specs.Sound.{IsSound};
 ghost use Rattle.mdr_model.specs.Meaning.{is_kernel};
 ghost use Rattle.mdr_model.specs.World.{kernel_call, served};
 ghost use Rattle.mdr_model.specs.Faults.{args_fault};
-ghost use Rattle.mdr_model.specs.Kernel.{user_stop, service_params, applied, continued, downcalled, serviced, fault_of, taken};
+ghost use Rattle.mdr_model.specs.Kernel.{service_params, user_stop, applied, continued, downcalled, serviced, fault_of, taken};
 ghost use Rattle.mdr_kernel.specs.States.{world_of, kernel_of, pending_of, rest_of, IsSoundWorld};
 
 use crate::events::end;
@@ -136,7 +136,10 @@ pub(crate) fn taken(
             continued(alloc, program, script, value, kernel, upcall)
         }
         Message::Down {
-            ticks, func, runs, ..
+            ticks,
+            func,
+            runs,
+            ..
         } => {
             let kernel = applied(ticks, runs.as_slice(), kernel);
             downcalled(alloc, program, func, kernel, upcall)
@@ -166,10 +169,7 @@ pub(crate) fn taken(
         | Message::Answer { .. }
         | Message::Refuse { .. } => {
             let exchange = kernel.exchanges;
-            Ok(Pending::Over(
-                End::Refused(exchange, RefuseKind::NotAwaited, 0),
-                kernel,
-            ))
+            Ok(Pending::Over(End::Refused(exchange, RefuseKind::NotAwaited, 0), kernel))
         }
     }
 }

@@ -1,7 +1,6 @@
 -- Messages, by what they open.
-use Rattle.std.proofs.Common.{◌≡◌, ℕ, suc, Bool, true, false, ◌&&◌, List, [], filter, Option, Some, None, Ok, refl, sym, ◌∙◌, ap, subst}
+use Rattle.std.proofs.Common.{◌≡◌, ℕ, suc, Bool, true, false, ◌&&◌, List, filter, Some, None, Ok, refl, sym, ◌∙◌, ap}
 use Rattle.mdr_core.specs.declared.place.At.{At}
-use Rattle.mdr_core.specs.declared.plan.Half.TheVariants as half
 use Rattle.mdr_core.specs.declared.program.Program.{Program}
 use Rattle.mdr_model.specs.declared.wire.Wire.{Wire}
 use Rattle.mdr_model.specs.declared.memory.Cell.{Cell}
@@ -9,7 +8,6 @@ use Rattle.mdr_model.specs.declared.message.New.{New}
 use Rattle.mdr_model.specs.declared.message.Run.{Run}
 use Rattle.mdr_model.specs.declared.message.SetRun.{SetRun}
 use Rattle.mdr_model.specs.declared.message.Shape64.{Shape64}
-use Rattle.mdr_model.specs.declared.message.Message.{Message}
 use Rattle.mdr_model.specs.declared.message.Message.TheVariants as message
 use Rattle.mdr_model.specs.Values.{fits_result}
 use Rattle.mdr_model.specs.Memory.{Memory}
@@ -18,8 +16,7 @@ use Rattle.mdr_model.specs.Tree.{Tree}
 use Rattle.mdr_model.specs.Walk.{walk}
 use Rattle.mdr_model.specs.Meaning.{func_at, function}
 use Rattle.mdr_model.specs.Kernel.{result_type}
-use Rattle.mdr_model.specs.User as user
-use Rattle.mdr_model.specs.User.{Delivered, told, is_empty, still_live, lives_fit, cells_fit, renewed_copy, call_fits, back_fits, answer_fits, opened, replied_to, done, deliver}
+use Rattle.mdr_model.specs.User.{Delivered, told, is_empty, still_live, lives_fit, renewed_copy, call_fits, back_fits, answer_fits, opened, replied_to, deliver}
 use Rattle.mdr_model.specs.Copies.{values_of_runs, put_all, put_runs, agreed_after}
 use Rattle.mdr_user.specs.declared.state.Asked.{Asked}
 use Rattle.mdr_user.specs.declared.state.Position.{Position}

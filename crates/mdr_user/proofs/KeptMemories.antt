@@ -1,5 +1,5 @@
 -- What stores and told changes keep of memories.
-use Rattle.std.proofs.Common.{◌≡◌, ◌==◌, ℕ, zero, suc, ◌<◌, Bool, true, false, List, [], ◌∷◌, length, map, slice_set, Option, Some, None, Result, Ok, Err, refl, sym, ap, ◌∙◌, subst, length-set, arith}
+use Rattle.std.proofs.Common.{◌≡◌, ◌==◌, ℕ, zero, suc, ◌<◌, Bool, true, false, List, [], ◌∷◌, length, map, slice_set, Option, Some, Ok, sym, ap, ◌∙◌, subst, length-set, arith}
 use Rattle.std.specs.Prelude.{unwrap_or}
 use Rattle.std.specs.List.{AllByRecursion}
 use Rattle.std.proofs.lemmas.Bool.{cond-true, cond-false, cond_both}

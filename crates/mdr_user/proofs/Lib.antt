@@ -5,3 +5,6 @@ pub mod ArgumentSteps
 pub mod ReplyLaws
 pub mod OpeningLaws
 pub mod Deliveries
+pub mod HalfSteps
+pub mod SoundSources
+pub mod SameView

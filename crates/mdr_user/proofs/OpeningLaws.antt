@@ -19,7 +19,6 @@ use Rattle.mdr_model.specs.Holds.{IsSoundMemory}
 use Rattle.mdr_model.proofs.Tests.{and_left, and_right}
 use Rattle.mdr_copy.proofs.SoundMemories.{runs_are_sound, without_is_sound, news_are_sound}
 use Rattle.mdr_user.specs.declared.opening.Sight.{Sight}
-use Rattle.mdr_user.specs.declared.state.Position.{Position}
 use Rattle.mdr_user.specs.States.{IsUserFunc, IsSoundPosition}
 use Rattle.mdr_user.specs.Openings.{only_if, and_then, renewed, shown, opened_by, may_call}
 

@@ -1,6 +1,6 @@
 -- Walks through one statement.
 use mathlib.Core.Path.{fun_ext}
-use Rattle.std.proofs.Common.{◌≡◌, ℕ, suc, ◌<◌, ◌≤◌, Bool, true, false, not, List, [], ◌∷◌, Option, Some, None, Result, Ok, Err, refl, sym, ◌∙◌, ap, subst, nat_lt, ltb-true, lt-ltb, arith}
+use Rattle.std.proofs.Common.{◌≡◌, ℕ, suc, ◌<◌, ◌≤◌, Bool, true, false, List, [], ◌∷◌, Option, Result, Ok, Err, refl, sym, ◌∙◌, ap, subst, nat_lt, ltb-true, lt-ltb, arith}
 use Rattle.std.specs.List.{AllByRecursion}
 use Rattle.mdr_core.specs.declared.kind.Kind.TheVariants.{U32}
 use Rattle.mdr_core.specs.declared.stop.StopKind.{StopKind}

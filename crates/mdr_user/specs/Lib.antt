@@ -3,3 +3,9 @@ pub mod Arguments
 pub mod Statements
 pub mod Replies
 pub mod Openings
+pub mod Honest
+pub mod Halves
+pub mod HalfView
+pub mod Options
+pub mod Fars
+pub mod FarView

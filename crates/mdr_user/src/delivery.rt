@@ -71,7 +71,15 @@ fn call(
         return Ok(refused(3, State { agreed, work }));
     }
     let copy = agreed.as_slice();
-    match opened_by(alloc, program, copy, deaths, news, view.as_slice(), runs.as_slice())? {
+    match opened_by(
+        alloc,
+        program,
+        copy,
+        deaths,
+        news,
+        view.as_slice(),
+        runs.as_slice(),
+    )? {
         Some(sight) => {
             let here = Position {
                 func,
@@ -115,7 +123,15 @@ fn back(
         return Ok(refused(3, State { agreed, work }));
     }
     let copy = agreed.as_slice();
-    match opened_by(alloc, program, copy, deaths, news, view.as_slice(), runs.as_slice())? {
+    match opened_by(
+        alloc,
+        program,
+        copy,
+        deaths,
+        news,
+        view.as_slice(),
+        runs.as_slice(),
+    )? {
         Some(sight) => {
             let (message, state) = run(alloc, program, next, rest, sight.view, sight.copy)?;
             Ok((message, state))
@@ -375,9 +391,7 @@ pub(crate) fn deliver(
             news,
             view,
             runs,
-        } => on_back(
-            alloc, program, state, rest, value, deaths, news, view, runs,
-        ),
+        } => on_back(alloc, program, state, rest, value, deaths, news, view, runs),
         Message::Answer {
             results,
             deaths,

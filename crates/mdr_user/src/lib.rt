@@ -4,8 +4,17 @@
 mod arguments;
 mod copies;
 mod delivery;
+mod half;
+mod load_error;
+mod local_far;
 mod opening;
 mod reply;
+mod source;
+mod spelled;
 mod state;
 mod statement;
 mod walk;
+
+pub use half::UserHalf;
+pub use load_error::LoadError;
+pub use local_far::LocalFar;

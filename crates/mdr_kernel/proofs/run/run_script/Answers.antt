@@ -74,8 +74,7 @@ module _ (program : Program) (sound : IsSound program) (script : List ℕ) (budg
       → pending_of script now ≡ split_commands program script (kernel_of first) → StandsSo es (pending_of script now) × RunsSo es (pending_of script now)
   first_so first now es begins fits none is =
       let now_is : pending_of script now ≡ first_of program script budget = is ∙ ap (λ (k : Kernel). split_commands program script k) begins in
-      let start : Stands program budget (length script) 1 (first_of program script budget) = commands_stand program sound budget (length script) script 0 (first_kernel program budget) (first_stands program script budget sound fits) in
-      (
+      let start : Stands program budget (length script) 1 (first_of program script budget) = commands_stand program sound budget (length script) script 0 (first_kernel program budget) (first_stands program script budget sound fits) in (
         subst (λ (x : Pending). StandsSo es x) (sym now_is) (subst (λ (xs : List Exchange). Stands program budget (length script) (suc (length xs)) (first_of program script budget)) (sym none) start),
         subst (λ (x : Pending). RunsSo es x) (sym now_is) (begins_so program (first_of program script budget) es none),
       )

@@ -4,6 +4,7 @@ use Rattle.mdr_core.specs.declared.place.At.{At}
 use Rattle.mdr_core.specs.declared.program.Program.{Program}
 use Rattle.mdr_model.specs.declared.wire.Wire.{Wire}
 use Rattle.mdr_model.specs.declared.message.Run.{Run}
+use Rattle.mdr_model.specs.declared.message.Shape64.{Shape64}
 use Rattle.mdr_model.specs.declared.message.Message.{Message}
 use Rattle.mdr_model.specs.declared.message.Message.TheVariants as message
 use Rattle.mdr_model.specs.Sound.{IsSound}
@@ -57,20 +58,20 @@ downcalled-requires-clause-world c =
     (down_of c.args.program.now (kernel_of c.args.kernel) (rest_of c.args.script.now c.args.upcall) c.args.reply c.in-Down.ticks c.in-Down.at c.in-Down.depth c.in-Down.func c.in-Down.args c.in-Down.runs c.in-Down.is c.requires.legal).fit in
     applied_world c.args.program.now (kernel_of c.args.kernel) _ c.in-Down.ticks c.in-Down.runs _ c.requires.program c.requires.world fit c.as_slice-in-Down.ensures c.applied-kernel-in-Down.ensures
 
+-- a service that is asked for
+ask_of : (program : Program) (k : Kernel) (rest : Rest) (reply : Message) (ticks : ℕ) (at : At) (service : ℕ) (args : List Wire) (shapes : List Shape64) (bytes : List ℕ) (runs : List Run)
+    → reply ≡ message.Ask ticks at service args shapes bytes runs → IsLegal program k rest reply → IsAsk program k ticks args runs
+ask_of program k rest reply ticks at service args shapes bytes runs is legal = ask_fits program k rest ticks at service args shapes bytes runs (subst (IsLegal program k rest) is legal)
+
 pub applied-kernel-requires-in-Ask-clause-ticks : goal.applied-kernel-requires-in-Ask-clause-ticks
 applied-kernel-requires-in-Ask-clause-ticks c =
-    let k : Kernel = kernel_of c.args.kernel in
-    let rest : Rest = rest_of c.args.script.now c.args.upcall in
-    let legal : IsLegal c.args.program.now k rest (message.Ask c.in-Ask.ticks c.in-Ask.at c.in-Ask.service c.in-Ask.args c.in-Ask.shapes c.in-Ask.bytes c.in-Ask.runs) = subst (IsLegal c.args.program.now k rest) c.in-Ask.is c.requires.legal in
-    (ask_fits c.args.program.now k rest c.in-Ask.ticks c.in-Ask.at c.in-Ask.service c.in-Ask.args c.in-Ask.shapes c.in-Ask.bytes c.in-Ask.runs legal).fit.ticks
+    (ask_of c.args.program.now (kernel_of c.args.kernel) (rest_of c.args.script.now c.args.upcall) c.args.reply c.in-Ask.ticks c.in-Ask.at c.in-Ask.service c.in-Ask.args c.in-Ask.shapes c.in-Ask.bytes c.in-Ask.runs c.in-Ask.is c.requires.legal).fit.ticks
 
 pub serviced-requires : goal.serviced-requires
 serviced-requires c =
-    let k : Kernel = kernel_of c.args.kernel in
-    let rest : Rest = rest_of c.args.script.now c.args.upcall in
-    let legal : IsLegal c.args.program.now k rest (message.Ask c.in-Ask.ticks c.in-Ask.at c.in-Ask.service c.in-Ask.args c.in-Ask.shapes c.in-Ask.bytes c.in-Ask.runs) = subst (IsLegal c.args.program.now k rest) c.in-Ask.is c.requires.legal in
-    let fit : IsAsk c.args.program.now k c.in-Ask.ticks c.in-Ask.args c.in-Ask.runs = ask_fits c.args.program.now k rest c.in-Ask.ticks c.in-Ask.at c.in-Ask.service c.in-Ask.args c.in-Ask.shapes c.in-Ask.bytes c.in-Ask.runs legal in
-    record { args = subst (λ (vs : List Wire). args_fault 0 service_params vs ≡ None) (sym c.as_slice-in-Ask-2.ensures) fit.args }
+    let ask : IsAsk c.args.program.now (kernel_of c.args.kernel) c.in-Ask.ticks c.in-Ask.args c.in-Ask.runs =
+    ask_of c.args.program.now (kernel_of c.args.kernel) (rest_of c.args.script.now c.args.upcall) c.args.reply c.in-Ask.ticks c.in-Ask.at c.in-Ask.service c.in-Ask.args c.in-Ask.shapes c.in-Ask.bytes c.in-Ask.runs c.in-Ask.is c.requires.legal in
+    record { args = subst (λ (vs : List Wire). args_fault 0 service_params vs ≡ None) (sym c.as_slice-in-Ask-2.ensures) ask.fitting }
 
 pub applied-kernel-requires-in-Stop-clause-ticks :
     goal.applied-kernel-requires-in-Stop-clause-ticks

@@ -1,4 +1,4 @@
-use Rattle.std.proofs.Common.{sym, ◌∙◌}
+use Rattle.std.proofs.Common.{◌∙◌}
 use Rattle.mdr_user.proofs.ReplyLaws.{run_replies, run_is_sound, whole_slice}
 use Rattle.mdr_user.proofs.delivery.run.Goals as goal
 

@@ -1,0 +1,93 @@
+-- The user half from message to message.
+use Rattle.std.proofs.Common.{◌≡◌, ℕ, suc, List, [], ◌∷◌, ◌++◌, Option, Some, None, Ok, Err, IfSome, refl, sym, ◌∙◌, ap, subst, append_assoc, append-nil}
+use Rattle.mdr_core.specs.declared.program.Program.{Program}
+use Rattle.mdr_model.specs.Memory.{Memory, first_memory}
+use Rattle.mdr_model.specs.Holds.{IsSoundMemory}
+use Rattle.mdr_model.specs.Text.{text}
+use Rattle.mdr_model.specs.Reading.{reading_of}
+use Rattle.mdr_model.specs.Kernel.{Reading}
+use Rattle.mdr_model.specs.User.{User, deliver, first_user, user_after, allowance, user_reply}
+use Rattle.mdr_model.specs.Bytes.{readings, user_reply_to_bytes}
+use Rattle.mdr_model.specs.Sound.{IsSound}
+use Rattle.mdr_copy.proofs.SoundMemories.{first_is_sound}
+use Rattle.mdr_outside.specs.declared.far.Exchange.{Exchange}
+use Rattle.mdr_outside.specs.Far.{exchange}
+use Rattle.mdr_user.specs.declared.state.State.{State}
+use Rattle.mdr_user.specs.declared.state.Work.TheVariants.{Nothing}
+use Rattle.mdr_user.specs.States.{user_of, IsSoundState}
+use Rattle.mdr_user.specs.Honest.{sents, Honest}
+use Rattle.mdr_user.specs.Halves.{Follows, IsSpelled}
+use Rattle.mdr_user.specs.Options.{read_as}
+use Rattle.mdr_user.proofs.Deliveries.{refusal}
+
+-- one message more
+after_one_more : (program : Program) (fuel : ℕ) (u : User) (ms : List Reading) (m : Reading) → user_after program fuel u (ms ++ m ∷ []) ≡ (deliver program fuel (user_after program fuel u ms) m).user
+unfolding user_after
+after_one_more program fuel u [] m = refl
+after_one_more program fuel u (x ∷ ms) m = after_one_more program fuel (deliver program fuel u x).user ms m
+
+readings_more : (before : List (List ℕ)) (bytes : List ℕ) → readings (before ++ bytes ∷ []) ≡ readings before ++ reading_of bytes ∷ []
+readings_more [] bytes = refl
+readings_more (x ∷ before) bytes = ap (λ (ms : List Reading). reading_of x ∷ ms) (readings_more before bytes)
+
+sents_more : (es : List Exchange) (e : Exchange) → sents (es ++ e ∷ []) ≡ sents es ++ e.sent ∷ []
+sents_more [] e = refl
+sents_more (x ∷ es) e = ap (λ (bs : List (List ℕ)). x.sent ∷ bs) (sents_more es e)
+
+-- what a reply is, where the state follows the messages before it
+abbrev Replies : Program → State → List ℕ → List ℕ → State → Type 0
+Replies program s bytes reply next = (n : ℕ) → IsSpelled program n (deliver program (suc n) (user_of program n s) (reading_of bytes)) reply next
+
+pub reply_is : (program : Program) (before : List (List ℕ)) (s next : State) (bytes reply : List ℕ) → Follows program before s → Replies program s bytes reply next → reply ≡ user_reply_to_bytes program before bytes
+unfolding user_reply_to_bytes user_reply
+reply_is program before s next bytes reply f r =
+    let n : ℕ = allowance (readings before ++ reading_of bytes ∷ []) in
+    (r n).bytes ∙ ap (λ (u : User). text (deliver program (suc n) u (reading_of bytes)).reply) (sym (f.after n))
+
+pub follows_next : (program : Program) (es : List Exchange) (e : Exchange) (s next : State) (bytes reply : List ℕ) → e.sent ≡ bytes → Follows program (sents es) s → Replies program s bytes reply next → Follows program (sents (es ++ e ∷ [])) next
+follows_next program es e s next bytes reply same f r = record {
+  after = λ n.
+      ap (λ (bs : List (List ℕ)). user_after program (suc n) (first_user program) (readings bs)) (sents_more es e ∙ ap (λ (b : List ℕ). sents es ++ b ∷ []) same)
+      ∙ ap (user_after program (suc n) (first_user program)) (readings_more (sents es) bytes)
+      ∙ after_one_more program (suc n) (first_user program) (readings (sents es)) (reading_of bytes)
+      ∙ ap (λ (u : User). (deliver program (suc n) u (reading_of bytes)).user) (f.after n)
+      ∙ (r n).user;
+}
+
+honest_after : (program : Program) (before : List (List ℕ)) (es : List Exchange) (e : Exchange) (reply : List ℕ) → e.got ≡ Some reply → reply ≡ user_reply_to_bytes program (before ++ sents es) e.sent → Honest program before es
+    → Honest program before (es ++ e ∷ [])
+honest_after program before [] e reply got is h =
+    (subst (λ (g : Option (List ℕ)). IfSome g (λ (r : List ℕ). r ≡ user_reply_to_bytes program before e.sent)) (sym got) (is ∙ ap (λ (b : List (List ℕ)). user_reply_to_bytes program b e.sent) (append-nil before)), tt)
+honest_after program before (x ∷ es) e reply got is h =
+    (h.0, honest_after program (before ++ x.sent ∷ []) es e reply got (is ∙ ap (λ (b : List (List ℕ)). user_reply_to_bytes program b e.sent) (sym (append_assoc before (x.sent ∷ []) (sents es)))) h.1)
+
+pub honest_more : (program : Program) (es : List Exchange) (e : Exchange) (s next : State) (bytes reply : List ℕ) → e ≡ exchange bytes (Some reply) → Follows program (sents es) s → Replies program s bytes reply next → Honest program [] es → Honest program [] (es ++ e ∷ [])
+honest_more program es e s next bytes reply is f r h =
+    honest_after program [] es e reply (ap (λ (x : Exchange). x.got) is) (reply_is program (sents es) s next bytes reply f r ∙ ap (user_reply_to_bytes program (sents es)) (sym (ap (λ (x : Exchange). x.sent) is))) h
+
+-- ---- the beginning
+
+pub begins_sound : (program : Program) (agreed : Memory) → agreed ≡ first_memory program → IsSound program → IsSoundState program (record { agreed = agreed; work = Nothing })
+begins_sound program agreed is h = record { copy = subst (IsSoundMemory program) (sym is) (first_is_sound program h); awaits = tt }
+
+pub begins_following : (program : Program) (agreed : Memory) (es : List Exchange) → agreed ≡ first_memory program → es ≡ [] → Follows program (sents es) (record { agreed = agreed; work = Nothing })
+unfolding user_after first_user
+begins_following program agreed es is none = record {
+  after = λ n. ap (λ (xs : List Exchange). user_after program (suc n) (first_user program) (readings (sents xs))) none ∙ ap (λ (m : Memory). user_of program n (record { agreed = m; work = Nothing })) (sym is);
+}
+
+pub begins_honest : (program : Program) (es : List Exchange) → es ≡ [] → Honest program [] es
+begins_honest program es none = subst (Honest program []) (sym none) tt
+
+-- ---- bytes that are no message
+
+pub no_message : (program : Program) (n : ℕ) (s : State) (r : Reading) → read_as r ≡ None → deliver program (suc n) (user_of program n s) r ≡ refusal program n 1 s
+unfolding deliver
+no_message program n s (Ok m) e = absurd (Prim.cc)
+no_message program n s (Err f) e = refl
+
+-- ---- what holds of a half that isn't lost
+
+pub at_some : {A : Type 0} (P : A → Type 0) (o : Option A) (x : A) → o ≡ Some x → IfSome o P → P x
+at_some P None x e h = absurd (Prim.cc)
+at_some P (Some y) x e h = let same : y ≡ x = Prim.cc in subst P same h

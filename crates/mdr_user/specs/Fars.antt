@@ -1,0 +1,29 @@
+-- A far side in the same process.
+use Rattle.std.specs.Prelude.{◌≡◌, List, [], Option, Some, None}
+use Rattle.mdr_outside.specs.declared.far.Loaded.{Loaded}
+use Rattle.mdr_outside.specs.declared.far.Exchange.{Exchange}
+use Rattle.mdr_outside.specs.declared.far.LoadAnswer.TheVariants as loads
+use Rattle.mdr_syntax.specs.Forms.{program_view}
+use Rattle.mdr_user.specs.Honest.{program_of_text}
+use Rattle.mdr_user.specs.Halves.{HalfState}
+
+-- what a far side holds
+pub record Held : Type 0 where
+  pub loaded : Option Loaded
+  pub exchanges : List Exchange
+
+abbrev pub exchanges_of : Option HalfState → List Exchange
+exchanges_of None = []
+exchanges_of (Some h) = h.exchanges
+
+-- a half of the text's program is there
+pub record IsHalfOf (l : Loaded) (h : HalfState) : Type 0 where
+  pub read : program_of_text l.user ≡ Some (program_view h.program)
+  pub answered : l.answer ≡ loads.Ok
+
+-- a half is there where the load was answered Ok, and else none
+abbrev pub Serves : Option Loaded → Option HalfState → Type 0
+Serves None None = Unit {0}
+Serves None (Some h) = ⊥
+Serves (Some l) None = l.answer ≡ loads.Ok → ⊥
+Serves (Some l) (Some h) = IsHalfOf l h
