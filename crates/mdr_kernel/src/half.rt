@@ -103,6 +103,7 @@ impl<'a> KernelHalf<'a> {
         ensures run { IfOk result (IsRun self.old.program script.now ticks (F.exchanges far.new)) }
         ensures left { IfOk result (λ _. IsLeft self.old.program script.now ticks (F.exchanges far.new) self.new) }
         ensures fault { IfOk result (λ o. IsFarFault o.end → Rose (F.faults far.old) (F.faults far.new)) }
+        ensures loaded { IfOk result (λ _. F.loaded far.new ≡ F.loaded far.old) }
         ensures program { self.new.program ≡ self.old.program }
         ensures done { self.new.is_fresh ≡ false }
         ensures faults_later { F.faults far.old ≤ F.faults far.new }

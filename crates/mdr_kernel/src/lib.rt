@@ -16,6 +16,7 @@ mod taken;
 mod work;
 
 pub use half::KernelHalf;
+pub use outcome::nothing_ran;
 
 #[cfg(test)]
 mod tests;

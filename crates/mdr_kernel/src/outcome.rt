@@ -1,11 +1,12 @@
 // What a run shows.
 
-ghost use Rattle.std.specs.Prelude.{◌≡◌, map, IfOk};
+ghost use Rattle.std.specs.Prelude.{◌≡◌, ℕ, map, IfOk};
 ghost use Rattle.mdr_model.specs.World.{World as AnyWorld};
-ghost use Rattle.mdr_model.specs.Watched.{finish};
+ghost use Rattle.mdr_model.specs.Watched.{finish, first_world};
 ghost use Rattle.mdr_model.specs.Outcome.{seen_lock, seen_of, object_of, objects_of, outcome_of};
 
-use mdr_core::{Items, LockState, OutOfMemory};
+use mdr_copy::first_memory;
+use mdr_core::{Items, LockState, OutOfMemory, Program};
 use mdr_model::{End, Happened, MemoryBlock, Object, Outcome, Seen, Wire, WireView};
 use std::alloc::Global;
 
@@ -94,4 +95,13 @@ pub(crate) fn outcome_of(
         live: memory.len() as u64,
         objects,
     })
+}
+
+/// What is shown where nothing ran: the globals as they are born, and how it ended.
+#[tactic(auto, unfolding(mdr_model::specs::Watched::first_world))]
+pub fn nothing_ran(alloc: Global, program: &Program, end: End) -> Result<Outcome, OutOfMemory>
+    ensures { IfOk result (λ o. (budget : ℕ) → o ≡ outcome_of (finish end (first_world program.now budget))) }
+{
+    let memory = first_memory(alloc, program)?;
+    outcome_of(alloc, end, Items::new(alloc), 0, memory.as_slice())
 }

@@ -79,6 +79,7 @@ pub(crate) fn run_script<F: Far>(
     requires first { kernel_of first ≡ first_kernel program.now ticks }
     requires loaded { IsLoaded (F.loaded far.old) }
     requires fresh { F.exchanges far.old ≡ [] }
+    ensures loaded { IfOk result (λ _. F.loaded far.new ≡ F.loaded far.old) }
     ensures ended { IfOk result (λ r. HasEnded program.now script.now ticks (F.exchanges far.new) r.0 (kernel_of r.1)) }
     ensures failed { IfOk result (λ r. IsFarFault r.0 → Rose (F.faults far.old) (F.faults far.new)) }
     ensures faults_later { F.faults far.old ≤ F.faults far.new }

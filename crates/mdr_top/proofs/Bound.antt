@@ -1,5 +1,5 @@
 -- What a script calls is there.
-use Rattle.std.proofs.Common.{◌≡◌, ℕ, suc, ◌+◌, ◌<◌, Bool, true, false, cond, List, [], ◌∷◌, length, Option, Some, None, Result, Ok, Err, refl, subst, arith}
+use Rattle.std.proofs.Common.{◌≡◌, ℕ, ◌+◌, ◌<◌, Bool, true, false, cond, ◌||◌, List, [], ◌∷◌, length, Option, Some, None, Result, Ok, Err, refl, subst}
 use Rattle.std.specs.Prelude.{nat_lt, if◌then◌else◌}
 use Rattle.std.specs.List.{AllByRecursion, position, position_or_len}
 use Rattle.std.specs.Str.{bytes_eq}
@@ -9,7 +9,7 @@ use Rattle.mdr_core.specs.declared.program.Func.{Func}
 use Rattle.mdr_model.specs.Sound.{IsBound}
 use Rattle.mdr_syntax.specs.declared.script.Command.{Command}
 use Rattle.mdr_syntax.specs.declared.script.Command.TheVariants.{Nothing, Call, Other}
-use Rattle.mdr_syntax.specs.Scripts.{command_of, func_number, call_or_other, with_command, calls_from, calls_of, lines_of}
+use Rattle.mdr_syntax.specs.Scripts.{command_of, func_number, call_or_other, with_command, calls_from, calls_of, lines_of, word_at, begins_hash, is_empty, is_call}
 
 found_inside : (p : Func → Bool) (funcs : List Func) (f : ℕ) → position p funcs ≡ Some f → f < length funcs
 found_inside p funcs f e = of (nat_lt (position_or_len p funcs) (length funcs)) refl e
@@ -26,7 +26,11 @@ Names funcs Other = Unit {0}
 
 command_names : (funcs : List Func) (line : List ℕ) → Names funcs (command_of funcs line)
 unfolding command_of
-command_names funcs line = of _ _ _ (λ f e. found_inside _ funcs f e)
+command_names funcs line =
+    let word = word_at line in
+    let name = word_at word.1 in
+    let more = word_at name.1 in
+    of (begins_hash line || is_empty word.0) (is_call word.0 name.0 more.0) (func_number funcs name.0) (found_inside (λ g. bytes_eq g.name name.0) funcs)
   where
     of : (a b : Bool) (found : Option ℕ) → ((f : ℕ) → found ≡ Some f → f < length funcs) → Names funcs (if a then Nothing else (if b then call_or_other found else Other))
     of true b found h = tt

@@ -1,2 +1,6 @@
-pub mod Refusals
+pub mod StageSteps
 pub mod Bound
+pub mod Programs
+pub mod BegunCalls
+pub mod Meanings
+pub mod Pieces

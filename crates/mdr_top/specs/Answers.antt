@@ -1,5 +1,5 @@
 -- What the program answers, stage by stage, with one constructor for each reason.
-use Rattle.std.specs.Prelude.{◌≡◌, ◌≤◌, ℕ, List, [], ◌++◌, length, take, codes, Option, Some, None, option_map, Result, Ok, Err}
+use Rattle.std.specs.Prelude.{Bool, true, false, ◌≡◌, ◌≤◌, ℕ, List, [], ◌++◌, length, take, codes, Option, Some, None, option_map, Ok, Err}
 use Rattle.mdr_core.specs.declared.program.Program.{Program}
 use Rattle.mdr_core.specs.declared.refusal.RefuseKind.TheVariants as refusal
 use Rattle.mdr_model.specs.declared.outcome.End.{End}
@@ -85,11 +85,22 @@ status_of (ends.FarFault exchange) = status.FarFault
 abbrev pub nothing_ran : Program → End → Outcome
 nothing_ran program end = outcome_of (finish end (first_world program default_ticks))
 
--- the far side holds the source with this answer, and what is printed is the report
+-- an outcome's status and report
+pub record Reported (program : Program) (o : Outcome) (s : Status) (text : List ℕ) : Type 0 where
+  pub status_is : s ≡ status_of o.end
+  pub text_is : text ≡ report program o
+
+-- the report of a run over what the far side answered
+pub record Began (program : Program) (calls : List ℕ) (es : List Exchange) (s : Status) (text : List ℕ) : Type 0 where
+  pub outcome : Outcome
+  pub run_is : IsRun program calls default_ticks es outcome
+  pub reported : Reported program outcome s text
+
+-- the far side holds the source with its answer to it, and what is printed is the report
 pub data Ran (program : Program) (source calls : List ℕ) (loaded : Option Loaded) (es : List Exchange) (s : Status) (text : List ℕ) : Type 0 where
-  began : (o : Outcome) → loaded ≡ Some (loaded_with source [] loads.Ok) → IsRun program calls default_ticks es o → s ≡ status_of o.end → text ≡ report program o → Ran program source calls loaded es s text
-  refused : (cause : ℕ) → loaded ≡ Some (loaded_with source [] (loads.Refused cause)) → s ≡ status.Marshal → text ≡ report program (nothing_ran program (ends.Refused 0 refusal.Load 0)) → Ran program source calls loaded es s text
-  failed : loaded ≡ Some (loaded_with source [] loads.Failed) → s ≡ status.FarFault → text ≡ report program (nothing_ran program (ends.FarFault 0)) → Ran program source calls loaded es s text
+  began : loaded ≡ Some (loaded_with source [] loads.Ok) → Began program calls es s text → Ran program source calls loaded es s text
+  refused : (cause : ℕ) → loaded ≡ Some (loaded_with source [] (loads.Refused cause)) → Reported program (nothing_ran program (ends.Refused 0 refusal.Load 0)) s text → Ran program source calls loaded es s text
+  failed : loaded ≡ Some (loaded_with source [] loads.Failed) → Reported program (nothing_ran program (ends.FarFault 0)) s text → Ran program source calls loaded es s text
 
 -- ---- the stages before it
 
@@ -123,6 +134,11 @@ pub data Answered (words : List (List ℕ)) (files : Files) (loaded : Option Loa
 -- so much of the text was added to the output
 abbrev pub Adds : (old new : Option (List ℕ)) → List ℕ → Type 0
 Adds old new text = new ≡ option_map (λ bytes. bytes ++ text) old
+
+-- all of the text was added, or a part from its beginning
+abbrev pub AddsPart : (old new : Option (List ℕ)) → List ℕ → Bool → Type 0
+AddsPart old new text true = Adds old new text
+AddsPart old new text false = (n : ℕ) × (n ≤ length text) × Adds old new (take n text)
 
 -- the whole text that is due is printed; or a part from its beginning, where the output failed; or nothing, for want of memory
 pub data Prints (words : List (List ℕ)) (files : Files) (loaded : Option Loaded) (es : List Exchange) (old new : Option (List ℕ)) (s : Status) : Type 0 where

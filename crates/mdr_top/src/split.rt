@@ -1,16 +1,72 @@
 // The run of a script over the far side.
 
-ghost use Rattle.std.specs.Prelude.{◌≡◌, IfOk};
+ghost use Rattle.std.specs.Prelude.{◌≡◌, [], IfOk};
 ghost use Rattle.mdr_outside.specs.Count.{Rose};
+ghost use Rattle.mdr_outside.specs.Far.{IsLoaded};
 ghost use Rattle.mdr_model.specs.Sound.{IsSound, IsBound};
 ghost use Rattle.mdr_top.specs.declared.status.Status.TheVariants as status;
 ghost use Rattle.mdr_top.specs.Statuses.{Counts, HasReadCause};
-ghost use Rattle.mdr_top.specs.Answers.{Ran};
+ghost use Rattle.mdr_top.specs.Answers.{Ran, Reported, Began, nothing_ran, status_of};
 
 use crate::due::Due;
-use mdr_core::{OutOfMemory, Program};
-use mdr_outside::Far;
+use crate::status::Status;
+use mdr_core::{OutOfMemory, Program, RefuseKind};
+use mdr_kernel::{KernelHalf, nothing_ran};
+use mdr_model::{End, Outcome};
+use mdr_outside::{Far, LoadAnswer};
+use mdr_report::report;
 use std::alloc::Global;
+
+/// A run's budget.
+const TICKS: u64 = 1_000_000;
+
+fn status_of(end: &End) -> Status
+    ensures { result ≡ status_of end.now }
+{
+    match end {
+        End::Ok => Status::Done,
+        End::Stop(_, _) => Status::Stopped,
+        End::Refused(_, _, _) => Status::Marshal,
+        End::FarFault(_) => Status::FarFault,
+    }
+}
+
+/// The report of an outcome, with its status.
+fn reported(alloc: Global, program: &Program, outcome: &Outcome) -> Result<Due, OutOfMemory>
+    ensures { IfOk result (λ due. Reported program.now outcome.now due.status due.text.items) }
+{
+    Ok(Due {
+        status: status_of(&outcome.end),
+        text: report(alloc, program, outcome)?,
+    })
+}
+
+/// The report of the empty script with another end.
+fn unstarted(alloc: Global, program: &Program, end: End) -> Result<Due, OutOfMemory>
+    ensures { IfOk result (λ due. Reported program.now (nothing_ran program.now end) due.status due.text.items) }
+{
+    let outcome = nothing_ran(alloc, program, end)?;
+    reported(alloc, program, &outcome)
+}
+
+/// Runs the calls over a far side that was loaded and got no message since, and makes the report.
+fn began<F: Far>(
+    alloc: Global,
+    program: &Program,
+    calls: &[u32],
+    far: &mut F,
+) -> Result<Due, OutOfMemory>
+    requires program { IsSound program.now }
+    requires loaded { IsLoaded (F.loaded far.old) }
+    requires fresh { F.exchanges far.old ≡ [] }
+    ensures began { IfOk result (λ due. Began program.now calls.now (F.exchanges far.new) due.status due.text.items) }
+    ensures loaded { IfOk result (λ _. F.loaded far.new ≡ F.loaded far.old) }
+    ensures failed { IfOk result (λ due. due.status ≡ status.FarFault → Rose (F.faults far.old) (F.faults far.new)) }
+{
+    let mut half = KernelHalf::new(alloc, program)?;
+    let outcome = half.run(alloc, calls, TICKS, far)?;
+    reported(alloc, program, &outcome)
+}
 
 /// Loads the source into the far side, runs the calls over it, and makes the report.
 pub(crate) fn ran<F: Far>(
@@ -26,5 +82,10 @@ pub(crate) fn ran<F: Far>(
     ensures failed { IfOk result (λ due. due.status ≡ status.FarFault → Rose (F.faults far.old) (F.faults far.new)) }
     ensures read { IfOk result (λ due. (before after : Counts) → HasReadCause before after due.status) }
 {
-    Err(OutOfMemory)
+    match far.load(alloc, source, &[]) {
+        LoadAnswer::Ok => began(alloc, program, calls, far),
+        LoadAnswer::Refused(_) => unstarted(alloc, program, End::Refused(0, RefuseKind::Load, 0)),
+        LoadAnswer::Failed => unstarted(alloc, program, End::FarFault(0)),
+        LoadAnswer::OutOfMemory => Err(OutOfMemory),
+    }
 }

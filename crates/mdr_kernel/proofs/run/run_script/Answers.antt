@@ -87,7 +87,7 @@ split_commands-requires-clause-world g c =
 pub turns-init : goal.turns-init
 turns-init g c =
     let both = first_so c.args.program.now c.requires.program c.args.script.now c.args.ticks c.args.first c.in_ok-pending.pending (g.F.Far.exchanges c.args.far.now) c.requires.first (omega arith) c.requires.fresh c.in_ok-pending.ensures in
-    record { stands = both.0; so_far = both.1; loaded = c.requires.loaded; later = omega arith }
+    record { stands = both.0; so_far = both.1; loaded = c.requires.loaded; same = refl; later = omega arith }
 
 pub returns-in-Over-clause-ended : goal.returns-in-Over-clause-ended
 returns-in-Over-clause-ended g c =
@@ -111,5 +111,6 @@ turns-preserved g c = record {
   so_far = runs_after c.args.program.now c.requires.program c.args.script.now c.args.ticks (g.F.Far.exchanges c.turns.far) (g.F.Far.exchanges c.exchanged.new.far) c.turns.pending c.in-Next.later c.in-Waits.message c.in-Waits.kernel
       c.in-Waits.upcall c.in_ok-later-in-Waits.field-0 c.in-Waits.is c.in-Next.is c.in_ok-later-in-Waits.ensures.turned c.turns.invariant.so_far;
   loaded = search rules;
+  same = c.in_ok-later-in-Waits.ensures.loaded ∙ c.turns.invariant.same;
   later = search rules;
 }

@@ -1,4 +1,4 @@
-use Rattle.std.proofs.Common.{ℕ, suc, ◌+◌, ◌-◌, ◌*◌, ◌≤◌, length}
+use Rattle.std.proofs.Common.{◌≡◌, ℕ, suc, ◌+◌, ◌-◌, ◌*◌, ◌≤◌, length}
 use Rattle.mdr_outside.specs.Far.{IsLoaded}
 use Rattle.mdr_kernel.specs.States.{pending_of}
 use Rattle.mdr_kernel.proofs.Standing.{Stands, left_before}
@@ -10,6 +10,7 @@ invariant-turns g l = record {
   stands : Stands l.program l.ticks (length l.script) (suc (length (g.F.Far.exchanges l.far))) (pending_of l.script l.pending);
   so_far : SoFar l.program (first_of l.program l.script l.ticks) (pending_of l.script l.pending) (g.F.Far.exchanges l.far);
   loaded : IsLoaded (g.F.Far.loaded l.far);
+  same : g.F.Far.loaded l.far ≡ g.F.Far.loaded l.fn.far;
   later : g.F.Far.faults l.fn.far ≤ g.F.Far.faults l.far;
 }
 

@@ -1,4 +1,4 @@
-use Rattle.std.proofs.Common.{◌≡◌, List, None, subst, codes}
+use Rattle.std.proofs.Common.{◌≡◌, List, Some, None, subst, codes}
 use Rattle.mdr_syntax.specs.declared.token.Token.{Token}
 use Rattle.mdr_syntax.specs.declared.error.LexError.{LexError}
 use Rattle.mdr_syntax.specs.declared.error.LexError.TheVariants.{BadByte, BadNumber, OpenComment, OpenText}
@@ -11,7 +11,9 @@ use Rattle.mdr_top.specs.Answers.{HasProgram, NoProgram}
 use Rattle.mdr_top.specs.Answers.NoProgram.{fault, unbuilt}
 use Rattle.mdr_top.specs.Lines.{source_line, begin}
 use Rattle.mdr_top.specs.declared.status.Status.TheVariants as status
-use Rattle.mdr_top.proofs.Refusals.{due_for}
+use Rattle.mdr_syntax.specs.Forms.{program_view}
+use Rattle.mdr_top.proofs.StageSteps.{due_for}
+use Rattle.mdr_top.proofs.Programs.{has_program}
 use Rattle.mdr_top.proofs.program.program.Goals as goal
 
 pub returns-in-Err-Unbuilt : goal.returns-in-Err-Unbuilt
@@ -40,3 +42,8 @@ pub returns-in-Err-OpenText : goal.returns-in-Err-OpenText
 returns-in-Err-OpenText c =
     due_for (HasProgram c.args.source.now) (NoProgram c.args.source.now) status.SourceRefused (source_line c.in-Err-OpenText.place (codes "OpenText")) c.refused-in-Err-OpenText.result
     (λ s text h e. fault (OpenText c.in-Err-OpenText.place) (subst (λ (x : LexError). Fails x (tokens_of c.args.source.now)) c.in-Err-OpenText.field-0-is c.in-Err-OpenText.ensures.exact) h e) c.refused-in-Err-OpenText.ensures
+
+pub returns-in-Ok-read_source : goal.returns-in-Ok-read_source
+returns-in-Ok-read_source c =
+    has_program c.args.source.now c.in-Ok.tokens c.in-Ok-read_source.program c.in-Ok.ensures.exact
+    (subst (λ (ts : List Token). program_of (whats ts) ≡ Some (program_view c.in-Ok-read_source.program)) c.as_slice.ensures c.in-Ok-read_source.ensures)

@@ -1,0 +1,65 @@
+// The top call.
+
+ghost use Rattle.std.specs.Prelude.{◌≡◌, ◌≤◌, false, length, drop, map, string_bytes};
+ghost use Rattle.mdr_outside.specs.Count.{Rose};
+ghost use Rattle.mdr_outside.specs.Sink.{Takes};
+ghost use Rattle.mdr_outside.specs.declared.sink.SinkAnswer.TheVariants as sinks;
+ghost use Rattle.mdr_top.specs.declared.status.Status.TheVariants as status;
+ghost use Rattle.mdr_top.specs.Statuses.{HasReadCause};
+ghost use Rattle.mdr_top.specs.Answers.{Prints, AddsPart};
+
+use crate::answer::answered;
+use crate::status::Status;
+use mdr_outside::{Far, Shelf, Sink, SinkAnswer};
+use std::alloc::Global;
+
+/// Writes from a place of a text on.
+fn write_from<O: Sink>(out: &mut O, text: &[u8], used: usize) -> SinkAnswer
+    requires { used ≤ length text.now }
+    ensures taken { Takes (O.written out.old) (O.written out.new) (drop used text.now) result }
+    ensures failed { result ≡ sinks.Failed → Rose (O.faults out.old) (O.faults out.new) }
+    ensures faults_later { O.faults out.old ≤ O.faults out.new }
+{
+    out.write(&text[used..])
+}
+
+/// Writes a text piece by piece, and says whether the sink took all of it.
+fn written<O: Sink>(out: &mut O, text: &[u8]) -> bool
+    ensures added { AddsPart (O.written out.old) (O.written out.new) text.now result }
+    ensures failed { result ≡ false → Rose (O.faults out.old) (O.faults out.new) }
+{
+    let mut used = 0;
+    while used < text.len() {
+        match write_from(out, text, used) {
+            SinkAnswer::Ok(taken) => used += taken,
+            SinkAnswer::Failed => return false,
+        }
+    }
+    true
+}
+
+/// Does what the words say: reads the source and the script from the shelf, runs the script over the far side,
+/// and writes the report, or why there is none. Nothing is written before all of it is made.
+pub fn run<S: Shelf, O: Sink, F: Far>(
+    alloc: Global,
+    words: &Vec<String>,
+    shelf: &mut S,
+    out: &mut O,
+    far: &mut F,
+) -> Status
+    ensures prints { Prints (map string_bytes words.now.items) (S.files shelf.old) (F.loaded far.new) (F.exchanges far.new) (O.written out.old) (O.written out.new) result }
+    ensures read_cause { HasReadCause (record { faults = S.faults shelf.old; absent = S.absent shelf.old; long = S.long shelf.old }) (record { faults = S.faults shelf.new; absent = S.absent shelf.new; long = S.long shelf.new }) result }
+    ensures far_cause { result ≡ status.FarFault → Rose (F.faults far.old) (F.faults far.new) }
+    ensures write_cause { result ≡ status.WriteFault → Rose (O.faults out.old) (O.faults out.new) }
+{
+    match answered(alloc, words.as_slice(), shelf, far) {
+        Ok(due) => {
+            if written(out, due.text.as_slice()) {
+                due.status
+            } else {
+                Status::WriteFault
+            }
+        }
+        Err(_) => Status::OutOfMemory,
+    }
+}
