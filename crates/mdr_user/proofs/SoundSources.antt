@@ -95,14 +95,13 @@ module _ (program : Program) (names : List (List ℕ)) (globals : program.global
   operand_is (expr.Bin' op k p a q b) h = elim h [ ]
 
   -- the one operator that is read
-  pub record IsPlus (op : BinOp) (k : Kind) (left : List Operand) (right : Operand) : Type 0 where
-    pub operator : op ≡ Add
-    pub kind : k ≡ U32
-    pub left_is : AllByRecursion Sound left
-    pub right_is : Sound right
+  record IsPlus (op : BinOp) (k : Kind) (left : List Operand) (right : Operand) : Type 0 where
+    kind : k ≡ U32
+    left_is : AllByRecursion Sound left
+    right_is : Sound right
 
-  pub plus_is : (op : BinOp) (k : Kind) (left : List Operand) (right : Operand) → AllByRecursion Sound (plus op k left right) → IsPlus op k left right
-  plus_is Add U32 left right h = record { operator = refl; kind = refl; left_is = all_left Sound left (right ∷ []) h; right_is = (all_right Sound left (right ∷ []) h).0 }
+  plus_is : (op : BinOp) (k : Kind) (left : List Operand) (right : Operand) → AllByRecursion Sound (plus op k left right) → IsPlus op k left right
+  plus_is Add U32 left right h = record { kind = refl; left_is = all_left Sound left (right ∷ []) h; right_is = (all_right Sound left (right ∷ []) h).0 }
   plus_is Add U8 left right h = elim h.0 [ ]
   plus_is Add U16 left right h = elim h.0 [ ]
   plus_is Add U64 left right h = elim h.0 [ ]
@@ -211,7 +210,7 @@ unfolding is_in_range
 globals_are [] = tt
 globals_are (n ∷ ns) = (record { cell = tt; some = lit< tt; limited = omega arith; first = refl; fit = (refl, tt) }, globals_are ns)
 
-pub sound_view : (program : Program) → IsSoundView (program_view program) → IsSound program
+sound_view : (program : Program) → IsSoundView (program_view program) → IsSound program
 sound_view program h = record {
   types = h.types;
   structs = h.structs;
@@ -227,5 +226,5 @@ view_is_sound : (ts : Result (List Token) LexError) (v : ProgramView) → progra
 view_is_sound (Ok ts) v e = is_sound (whats ts) v e
 view_is_sound (Err f) v e = absurd (Prim.cc)
 
-pub text_is_sound : (bytes : List ℕ) (program : Program) → program_of_text bytes ≡ Some (program_view program) → IsSoundView (program_view program)
-text_is_sound bytes program e = view_is_sound (tokens_of bytes) (program_view program) e
+pub text_is_sound : (bytes : List ℕ) (program : Program) → program_of_text bytes ≡ Some (program_view program) → IsSound program
+text_is_sound bytes program e = sound_source program (program_view program) refl (view_is_sound (tokens_of bytes) (program_view program) e)

@@ -46,11 +46,11 @@ IsHonestLoad None (loads.Refused cause) = cause ≡ 2
 IsHonestLoad None loads.Failed = ⊥
 IsHonestLoad None loads.OutOfMemory = ⊥
 
--- there is a program of this source, and whoever reads one from it finds the replies honest
+-- the program that was loaded, and honest replies of it
 pub record IsServed (view : ProgramView) (es : List Exchange) : Type 0 where
   pub program : Program
   pub text : program_view program ≡ view
-  pub replies : (own : Program) → program_view own ≡ view → Honest own [] es
+  pub replies : Honest program [] es
 
 pub record IsHonestSince (l : Loaded) (es : List Exchange) : Type 0 where
   pub load : IsHonestLoad (program_of_text l.user) l.answer

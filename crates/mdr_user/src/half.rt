@@ -2,9 +2,7 @@
 
 ghost use Rattle.std.specs.Prelude.{◌≡◌, [], false, Some, IfOk, OnErr};
 ghost use Rattle.mdr_model.specs.Bytes.{user_reply_to_bytes};
-ghost use Rattle.mdr_core.specs.declared.program.Program.{Program as AnyProgram};
-ghost use Rattle.mdr_syntax.specs.Forms.{program_view};
-ghost use Rattle.mdr_syntax.specs.Sound.{IsSoundView};
+ghost use Rattle.mdr_model.specs.Sound.{IsSound};
 ghost use Rattle.mdr_user.specs.Honest.{sents, Honest};
 ghost use Rattle.mdr_user.specs.Halves.{new_half, after_reply, lost, Loads};
 
@@ -54,7 +52,7 @@ fn exchange(alloc: Global, sent: &[u8], reply: &[u8]) -> Result<Exchange, OutOfM
 
 impl UserHalf {
     fn begin(alloc: Global, program: Program) -> Result<UserHalf, OutOfMemory>
-        requires { IsSoundView (program_view program) }
+        requires { IsSound program }
         ensures { IfOk result (λ h. h ≡ new_half program) }
     {
         let agreed = first_memory(alloc, &program)?;
@@ -100,9 +98,9 @@ impl UserHalf {
         self.exchanges.as_slice()
     }
 
-    /// Each reply is the user half's reply to the messages so far, for each program that the source reads as.
+    /// Each reply is the user half's reply to the messages so far.
     pub fn replies(&self)
-        ensures { (own : AnyProgram) → program_view own ≡ program_view self.now.program → Honest own [] self.now.exchanges }
+        ensures { Honest self.now.program [] self.now.exchanges }
     {
         let _ = &self.exchanges;
     }

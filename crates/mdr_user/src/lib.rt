@@ -5,7 +5,6 @@ mod arguments;
 mod copies;
 mod delivery;
 mod half;
-mod laws;
 mod load_error;
 mod local_far;
 mod opening;
@@ -17,7 +16,6 @@ mod statement;
 mod walk;
 
 pub use half::UserHalf;
-pub use laws::replies_are_of_the_source;
 pub use load_error::LoadError;
 pub use local_far::LocalFar;
 

@@ -9,7 +9,6 @@ use Rattle.mdr_user.proofs.half.UserHalf.deliver.Goals as goal
 
 pub invariant_of-self-2 : goal.invariant_of-self-2
 invariant_of-self-2 c = record {
-  read = c.self.invariant.read;
   program = c.self.invariant.program;
   honest =
       subst (Honest c.self.inside.program []) (sym c.in_ok-push.ensures.ok)
