@@ -82,17 +82,17 @@ all_old copy m values e = record {
   news = no_news copy values m (λ serial h. is_live-births copy m serial e ∙ h);
 }
 
-abbrev only_runs : List Run → Told
+abbrev pub only_runs : List Run → Told
 only_runs runs = record { deaths = []; news = []; runs = runs }
 
 -- so a message tells the changed cells alone
-tells_changes : (view : List Cell) (values : List Wire) (copy m : Memory) → births copy ≡ births m → tells view values copy m ≡ only_runs (changes view copy m)
+pub tells_changes : (view : List Cell) (values : List Wire) (copy m : Memory) → births copy ≡ births m → tells view values copy m ≡ only_runs (changes view copy m)
 unfolding tells without
 tells_changes view values copy m e =
     let old : IsOld copy m (values ++ values_in (changes view copy m)) = all_old copy m _ e in
     rw (old.deaths, old.news) refl
 
-tells_nothing : (values : List Wire) (copy m : Memory) → births copy ≡ births m → tells_no_cells values copy m ≡ only_runs []
+pub tells_nothing : (values : List Wire) (copy m : Memory) → births copy ≡ births m → tells_no_cells values copy m ≡ only_runs []
 unfolding tells_no_cells without
 tells_nothing values copy m e =
     let old : IsOld copy m (values ++ values_in []) = all_old copy m _ e in

@@ -26,15 +26,15 @@ all_pass : {A B : Type 0} (p : B → Bool) (f : A → B) (P : A → Type 0) (xs 
 all_pass p f P [] each all = refl
 all_pass p f P (x ∷ xs) each all = and_both _ _ (each x all.0) (all_pass p f P xs each all.1)
 
-all_left : {A : Type 0} (P : A → Type 0) (xs ys : List A) → AllByRecursion P (xs ++ ys) → AllByRecursion P xs
+pub all_left : {A : Type 0} (P : A → Type 0) (xs ys : List A) → AllByRecursion P (xs ++ ys) → AllByRecursion P xs
 all_left P [] ys all = tt
 all_left P (x ∷ xs) ys all = (all.0, all_left P xs ys all.1)
 
-all_right : {A : Type 0} (P : A → Type 0) (xs ys : List A) → AllByRecursion P (xs ++ ys) → AllByRecursion P ys
+pub all_right : {A : Type 0} (P : A → Type 0) (xs ys : List A) → AllByRecursion P (xs ++ ys) → AllByRecursion P ys
 all_right P [] ys all = all
 all_right P (x ∷ xs) ys all = all_right P xs ys all.1
 
-length-cells : (now : Memory) (serial index n : ℕ) → length (map (held now) (cells_from serial index n)) ≡ n
+pub length-cells : (now : Memory) (serial index n : ℕ) → length (map (held now) (cells_from serial index n)) ≡ n
 unfolding cells_from
 length-cells now serial index zero = refl
 length-cells now serial index (suc n) = ap suc (length-cells now serial (suc index) n)
@@ -79,13 +79,13 @@ honest_runs program view paired m now before i (r ∷ rs) rise all =
 
 -- ---- the changed cells of a rising set
 
-later_still : (c d e : Cell) → IsBefore c d → IsBefore d e → IsBefore c e
+pub later_still : (c d e : Cell) → IsBefore c d → IsBefore d e → IsBefore c e
 later_still c d e (inl x) (inl y) = inl (omega arith)
 later_still c d e (inl x) (inr y) = inl (omega (arith, y.0))
 later_still c d e (inr x) (inl y) = inl (omega (arith, x.0))
 later_still c d e (inr x) (inr y) = inr (x.0 ∙ y.0, omega (arith, x.1, y.1))
 
-before_next : (c d : Cell) (ds : List Cell) → IsBefore c d → IsBeforeAll d ds → IsBeforeAll c ds
+pub before_next : (c d : Cell) (ds : List Cell) → IsBefore c d → IsBeforeAll d ds → IsBeforeAll c ds
 before_next c d [] x y = tt
 before_next c d (e ∷ es) x y = later_still c d e x y
 
@@ -107,7 +107,7 @@ changed_rise (c ∷ cs) agreed now rising = of (has_changed agreed now c) (chang
     of true later = (before_changed c cs agreed now rising.0 rising.1, later)
     of false later = later
 
-changed_all : (P : Cell → Type 0) (cs : List Cell) (agreed now : Memory) → AllByRecursion P cs → AllByRecursion P (changed_cells cs agreed now)
+pub changed_all : (P : Cell → Type 0) (cs : List Cell) (agreed now : Memory) → AllByRecursion P cs → AllByRecursion P (changed_cells cs agreed now)
 unfolding changed_cells
 changed_all P [] agreed now all = tt
 changed_all P (c ∷ cs) agreed now all = of (has_changed agreed now c) (changed_all P cs agreed now all.1)

@@ -69,7 +69,7 @@ follows_when r s (inr h) =
     or_true true b e = refl
     or_true false b e = e
 
-follows_tells : (r s : SetRun) → follows r s ≡ true → (r.serial < s.serial) ⊎ ((r.serial ≡ s.serial) × (r.first < s.first) × (r.first + r.len ≤ s.first))
+pub follows_tells : (r s : SetRun) → follows r s ≡ true → (r.serial < s.serial) ⊎ ((r.serial ≡ s.serial) × (r.first < s.first) × (r.first + r.len ≤ s.first))
 follows_tells r s e = of (nat_lt r.serial s.serial) refl e
   where
     of : (t : Bool) → nat_lt r.serial s.serial ≡ t → (t || (r.serial == s.serial && nat_lt r.first s.first && nat_le (r.first + r.len) s.first)) ≡ true

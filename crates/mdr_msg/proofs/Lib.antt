@@ -5,5 +5,6 @@ pub mod Messages
 pub mod Lifted
 pub mod Cells
 pub mod Rows
+pub mod Counts
 pub mod Sending
 pub mod Spelled

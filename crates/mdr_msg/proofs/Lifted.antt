@@ -12,7 +12,7 @@ use Rattle.mdr_model.specs.Law.{read, IsHonest, IsOneMemory}
 use Rattle.mdr_model.specs.Bytes.{readings, split_run_over_bytes, user_reply_to_bytes}
 use Rattle.mdr_model.proofs.LawProof.{split_is_one_memory}
 use Rattle.mdr_msg.specs.WellFormed.{IsMessage}
-use Rattle.mdr_msg.specs.OverBytes.{IsHonestOverBytes, HasSmallNumbers, HaveShortLists, IsOneMemoryOverBytes}
+use Rattle.mdr_msg.specs.OverBytes.{IsHonestOverBytes, HasSmallNumbers, HasFewCells, IsOneMemoryOverBytes}
 use Rattle.mdr_msg.proofs.Messages.{reading_again}
 use Rattle.mdr_msg.proofs.Spelled.{have_spellings}
 
@@ -98,11 +98,11 @@ same_run : (program : Program) (script : List ℕ) (budget : ℕ) (answers : Lis
 unfolding split_run_over_bytes
 same_run program script budget answers told are = ap (split_run program script budget) are
 
-pub bytes_are_one_memory : (program : Program) (script : List ℕ) (budget : ℕ) → IsSound program → IsBound program script → HasSmallNumbers program budget → HaveShortLists program script budget
+pub bytes_are_one_memory : (program : Program) (script : List ℕ) (budget : ℕ) → IsSound program → IsBound program script → HasSmallNumbers program budget → HasFewCells program
     → IsOneMemoryOverBytes program script budget
 unfolding split_run_over_bytes split_run
-bytes_are_one_memory program script budget sound bound small short =
-    let spellings = have_spellings program script budget sound bound small short in
+bytes_are_one_memory program script budget sound bound small few =
+    let spellings = have_spellings program script budget sound bound small few in
     let law : IsOneMemory program script budget = split_is_one_memory program script budget sound bound in
     let first : Pending = split_commands program script (first_kernel program budget) in
     record {

@@ -1,5 +1,5 @@
 -- Runs: those that are told of changed cells have spellings, and so have those of a legal reply.
-use Rattle.std.proofs.Common.{◌≡◌, ℕ, zero, suc, ◌+◌, ◌<◌, ◌≤◌, ◌^◌, Bool, true, false, cond, List, [], ◌∷◌, map, length, Option, Some, None, refl, sym, ◌∙◌, ap, subst, arith}
+use Rattle.std.proofs.Common.{◌≡◌, ℕ, suc, ◌+◌, ◌<◌, ◌≤◌, ◌^◌, Bool, true, false, cond, List, [], ◌∷◌, map, length, Option, Some, None, refl, sym, ◌∙◌, ap, subst, arith}
 use Rattle.std.specs.Prelude.{◌==◌}
 use Rattle.std.specs.List.{AllByRecursion, list_all}
 use Rattle.mdr_core.specs.declared.program.Program.{Program}
@@ -13,18 +13,19 @@ use Rattle.mdr_model.specs.declared.message.Fault.{Fault}
 use Rattle.mdr_model.specs.Values.{fits}
 use Rattle.mdr_model.specs.declared.memory.Cell.{Cell}
 use Rattle.mdr_model.specs.Memory.{Memory, births, born_at, put}
-use Rattle.mdr_model.specs.Sets.{is_in, cells_from, cells_of_run, cells_of_runs, begins_behind, joined, runs_of_cells, follows_maybe}
-use Rattle.mdr_model.specs.Copies.{CellValue, numbered, values_of_runs, put_all, put_runs, held, run_from, has_changed, changed_cells, changes}
+use Rattle.mdr_model.specs.Sets.{is_in, cells_of_run, cells_of_runs, begins_behind, joined, runs_of_cells, follows_maybe, rises_after}
+use Rattle.mdr_model.specs.Copies.{CellValue, numbered, values_of_runs, put_all, put_runs, held, run_from, changed_cells, changes}
 use Rattle.mdr_model.specs.Faults.{unless, or_else, first_fault, is_known, is_view, fits_block, fits_cell, set_run_of, run_fault, runs_fault}
 use Rattle.mdr_model.specs.Sound.{IsSound}
-use Rattle.mdr_model.proofs.Tests.{is_same_number, and_left, and_right}
+use Rattle.mdr_model.proofs.Tests.{is_same_number, and_both, and_left, and_right}
 use Rattle.mdr_model.proofs.Relations.{Holds}
 use Rattle.mdr_model.proofs.MemoryLaws.{born_at-births, births-put}
 use Rattle.mdr_model.proofs.SetLaws.{cells_of_runs-runs}
 use Rattle.mdr_model.proofs.HoldsLaws.{filled_put}
+use Rattle.mdr_model.proofs.RunLaws.{all_left, all_right, length-cells, changed_all}
 use Rattle.mdr_msg.specs.WellFormed.{IsValue, IsRun, IsSetRun}
 use Rattle.mdr_msg.specs.OverBytes.{HasShortValues}
-use Rattle.mdr_msg.proofs.Cells.{all_and, all_left, all_right, in_all, IsShown, fitting_is_value}
+use Rattle.mdr_msg.proofs.Cells.{all_and, in_all, IsShown, fitting_is_value}
 
 -- ---- runs of cells
 
@@ -59,15 +60,6 @@ row_is_set_run r row = record { serial = omega (arith, row.serial); first = omeg
 
 -- ---- runs of changes
 
-all_changed : (P : Cell → Type 0) (cs : List Cell) (agreed now : Memory) → AllByRecursion P cs → AllByRecursion P (changed_cells cs agreed now)
-unfolding changed_cells
-all_changed P [] agreed now all = tt
-all_changed P (c ∷ cs) agreed now all = of (has_changed agreed now c) (all_changed P cs agreed now all.1)
-  where
-    of : (t : Bool) → AllByRecursion P (changed_cells cs agreed now) → AllByRecursion P (cond t (c ∷ changed_cells cs agreed now) (changed_cells cs agreed now))
-    of true later = (all.0, later)
-    of false later = later
-
 abbrev pub HoldsValue : Memory → Cell → Type 0
 HoldsValue now c = IsValue (held now c)
 
@@ -75,28 +67,40 @@ held_values : (now : Memory) (cs : List Cell) → AllByRecursion (HoldsValue now
 held_values now [] all = tt
 held_values now (c ∷ cs) all = (all.0, held_values now cs all.1)
 
-runs_from : (now : Memory) (rs : List SetRun) → AllByRecursion IsRow rs → AllByRecursion (HoldsValue now) (cells_of_runs rs) → AllByRecursion HasShortValues (map (run_from now) rs)
-    → AllByRecursion IsRun (map (run_from now) rs)
+-- a run within 65,536 has no more values
+few_values : (now : Memory) (r : SetRun) → IsRow r → length (map (held now) (cells_of_run r)) ≤ 65536
+few_values now r row = let size = length-cells now r.serial r.first r.len in omega (arith, size, row.inside)
+
+runs_from : (now : Memory) (rs : List SetRun) → AllByRecursion IsRow rs → AllByRecursion (HoldsValue now) (cells_of_runs rs) → AllByRecursion IsRun (map (run_from now) rs)
 unfolding cells_of_runs
-runs_from now [] rows all short = tt
-runs_from now (r ∷ rs) rows all short =
+runs_from now [] rows all = tt
+runs_from now (r ∷ rs) rows all =
     let set_run : IsSetRun r = row_is_set_run r rows.0 in (
       record {
         serial = set_run.serial;
         first = set_run.first;
-        values = (omega (arith, short.0), held_values now (cells_of_run r) (all_left (HoldsValue now) (cells_of_run r) (cells_of_runs rs) all));
+        values = (let few = few_values now r rows.0 in omega arith, held_values now (cells_of_run r) (all_left (HoldsValue now) (cells_of_run r) (cells_of_runs rs) all));
       },
-      runs_from now rs rows.1 (all_right (HoldsValue now) (cells_of_run r) (cells_of_runs rs) all) short.1,
+      runs_from now rs rows.1 (all_right (HoldsValue now) (cells_of_run r) (cells_of_runs rs) all),
     )
 
+short_runs : (now : Memory) (rs : List SetRun) → AllByRecursion IsRow rs → AllByRecursion HasShortValues (map (run_from now) rs)
+short_runs now [] rows = tt
+short_runs now (r ∷ rs) rows = (let few = few_values now r rows.0 in omega arith, short_runs now rs rows.1)
+
 -- the changes of cells that are small and hold values
-pub changes_are_runs : (cs : List Cell) (agreed now : Memory) → AllByRecursion IsSmallCell cs → AllByRecursion (HoldsValue now) cs → AllByRecursion HasShortValues (changes cs agreed now)
-    → AllByRecursion IsRun (changes cs agreed now)
+pub changes_are_runs : (cs : List Cell) (agreed now : Memory) → AllByRecursion IsSmallCell cs → AllByRecursion (HoldsValue now) cs → AllByRecursion IsRun (changes cs agreed now)
 unfolding changes
-changes_are_runs cs agreed now small all short =
+changes_are_runs cs agreed now small all =
     let changed : List Cell = changed_cells cs agreed now in
-    runs_from now (runs_of_cells changed) (rows_of changed (all_changed IsSmallCell cs agreed now small))
-    (subst (λ (ds : List Cell). AllByRecursion (HoldsValue now) ds) (sym (cells_of_runs-runs changed)) (all_changed (HoldsValue now) cs agreed now all)) short
+    runs_from now (runs_of_cells changed) (rows_of changed (changed_all IsSmallCell cs agreed now small))
+    (subst (λ (ds : List Cell). AllByRecursion (HoldsValue now) ds) (sym (cells_of_runs-runs changed)) (changed_all (HoldsValue now) cs agreed now all))
+
+pub changes_are_short : (cs : List Cell) (agreed now : Memory) → AllByRecursion IsSmallCell cs → AllByRecursion HasShortValues (changes cs agreed now)
+unfolding changes
+changes_are_short cs agreed now small =
+    let changed : List Cell = changed_cells cs agreed now in
+    short_runs now (runs_of_cells changed) (rows_of changed (changed_all IsSmallCell cs agreed now small))
 
 -- ---- runs of a reply name some cells
 
@@ -121,15 +125,10 @@ unfolding runs_of_cells
 some_cells [] = tt
 some_cells (c ∷ cs) = joined_some c (runs_of_cells cs) (some_cells cs)
 
-length-row : (now : Memory) (serial index n : ℕ) → length (map (held now) (cells_from serial index n)) ≡ n
-unfolding cells_from
-length-row now serial index zero = refl
-length-row now serial index (suc n) = ap suc (length-row now serial (suc index) n)
-
 some_values : (now : Memory) (rs : List SetRun) → AllByRecursion HasCells rs → AllByRecursion IsSome (map (run_from now) rs)
 some_values now [] all = tt
 some_values now (r ∷ rs) all = (
-  record { some = let size = length-row now r.serial r.first r.len in omega (arith, size, all.0.some) },
+  record { some = let size = length-cells now r.serial r.first r.len in omega (arith, size, all.0.some) },
   some_values now rs all.1,
 )
 
@@ -166,7 +165,7 @@ module _ (program : Program) (view : List Cell) (m : Memory) where
     pub inside : list_all is_inside (numbered r.serial r.first r.values) ≡ true
     pub fit : list_all (fits_cell program m) (numbered r.serial r.first r.values) ≡ true
 
-  run_legal : (paired : Memory) (before : Option SetRun) (i : ℕ) (r : Run) → run_fault program view paired m before i r ≡ None → IsLegal r
+  run_legal : (paired : Memory) (before : Option SetRun) (i : ℕ) (r : Run) → run_fault program view paired m before i r ≡ None → (follows_maybe before (set_run_of r) ≡ true) × IsLegal r
   unfolding run_fault
   run_legal paired before i r e =
       let tests = no_faults (
@@ -176,14 +175,31 @@ module _ (program : Program) (view : List Cell) (m : Memory) where
       ∷ unless (list_all (is_view m) r.values) refusal.BadView i
       ∷ unless (list_all (fits_cell program m) (numbered r.serial r.first r.values)) refusal.BadValue i
       ∷ []) e in
-      record { inside = unless_passes _ _ _ tests.1.0; fit = unless_passes _ _ _ tests.1.1.1.1.0 }
+      (unless_passes _ _ _ tests.0, record { inside = unless_passes _ _ _ tests.1.0; fit = unless_passes _ _ _ tests.1.1.1.1.0 })
 
   pub runs_legal : (paired : Memory) (before : Option SetRun) (i : ℕ) (rs : List Run) → runs_fault program view paired m before i rs ≡ None → AllByRecursion IsLegal rs
   unfolding runs_fault
   runs_legal paired before i [] e = tt
   runs_legal paired before i (r ∷ rs) e =
       let both = or_none (run_fault program view paired m before i r) (runs_fault program view paired m (Some (set_run_of r)) (suc i) rs) e in
-      (run_legal paired before i r both.0, runs_legal paired (Some (set_run_of r)) (suc i) rs both.1)
+      ((run_legal paired before i r both.0).1, runs_legal paired (Some (set_run_of r)) (suc i) rs both.1)
+
+  -- a run that names some cells begins with a cell of the set
+  pub first_inside : (r : Run) → IsLegal r → IsSome r → is_in view (record { serial = r.serial; index = r.first }) ≡ true
+  unfolding numbered
+  first_inside r legal some = of r.values some.some legal.inside
+    where
+      of : (vs : List Wire) → 0 < length vs → list_all is_inside (numbered r.serial r.first vs) ≡ true → is_in view (record { serial = r.serial; index = r.first }) ≡ true
+      of [] more inside = absurd (omega arith)
+      of (v ∷ vs) more inside = and_left (is_in view (record { serial = r.serial; index = r.first })) _ inside
+
+  -- each run follows the one before it
+  pub runs_follow : (paired : Memory) (before : Option SetRun) (i : ℕ) (rs : List Run) → runs_fault program view paired m before i rs ≡ None → rises_after before (map set_run_of rs) ≡ true
+  unfolding runs_fault rises_after
+  runs_follow paired before i [] e = refl
+  runs_follow paired before i (r ∷ rs) e =
+      let both = or_none (run_fault program view paired m before i r) (runs_fault program view paired m (Some (set_run_of r)) (suc i) rs) e in
+      and_both _ _ (run_legal paired before i r both.0).0 (runs_follow paired (Some (set_run_of r)) (suc i) rs both.1)
 
   -- ---- they have spellings
 
@@ -198,23 +214,38 @@ module _ (program : Program) (view : List Cell) (m : Memory) where
           legal_values serial (suc index) vs (and_right (is_in view c) _ inside) (and_right (fits_cell program m x) _ fit),
         )
 
-    first_shown : (serial index : ℕ) (vs : List Wire) → 0 < length vs → list_all is_inside (numbered serial index vs) ≡ true → IsShown program m (record { serial = serial; index = index })
+    -- values of cells that follow one another within 65,536
+    values_within : (serial index : ℕ) (vs : List Wire) → index ≤ 65536 → list_all is_inside (numbered serial index vs) ≡ true → index + length vs ≤ 65536
     unfolding numbered
-    first_shown serial index [] some inside = absurd (omega arith)
-    first_shown serial index (v ∷ vs) some inside =
-        let c : Cell = record { serial = serial; index = index } in in_all (IsShown program m) view c shown (and_left (is_in view c) _ inside)
+    values_within serial index [] low inside = omega arith
+    values_within serial index (v ∷ vs) low inside =
+        let c : Cell = record { serial = serial; index = index } in
+        let here : IsShown program m c = in_all (IsShown program m) view c shown (and_left (is_in view c) _ inside) in
+        let more : suc index + length vs ≤ 65536 = values_within serial (suc index) vs (omega (arith, here.index)) (and_right (is_in view c) _ inside) in omega arith
 
-    pub legal_runs : (rs : List Run) → length program.globals ≤ 2 ^ 32 → AllByRecursion IsLegal rs → AllByRecursion IsSome rs → AllByRecursion HasShortValues rs → AllByRecursion IsRun rs
-    legal_runs [] small legal some short = tt
-    legal_runs (r ∷ rs) small legal some short =
-        let first : IsShown program m (record { serial = r.serial; index = r.first }) = first_shown r.serial r.first r.values some.0.some legal.0.inside in (
+    first_shown : (r : Run) → IsLegal r → IsSome r → IsShown program m (record { serial = r.serial; index = r.first })
+    first_shown r legal some = in_all (IsShown program m) view (record { serial = r.serial; index = r.first }) shown (first_inside r legal some)
+
+    legal_few : (r : Run) → IsLegal r → IsSome r → length r.values ≤ 65536
+    legal_few r legal some =
+        let first = (first_shown r legal some).index in
+        let within = values_within r.serial r.first r.values (omega arith) legal.inside in omega arith
+
+    pub legal_runs : (rs : List Run) → length program.globals ≤ 2 ^ 32 → AllByRecursion IsLegal rs → AllByRecursion IsSome rs → AllByRecursion IsRun rs
+    legal_runs [] small legal some = tt
+    legal_runs (r ∷ rs) small legal some =
+        let first : IsShown program m (record { serial = r.serial; index = r.first }) = first_shown r legal.0 some.0 in (
           record {
             serial = omega (arith, first.serial);
             first = omega (arith, first.index);
-            values = (omega (arith, short.0), legal_values r.serial r.first r.values legal.0.inside legal.0.fit);
+            values = (let few = legal_few r legal.0 some.0 in omega arith, legal_values r.serial r.first r.values legal.0.inside legal.0.fit);
           },
-          legal_runs rs small legal.1 some.1 short.1,
+          legal_runs rs small legal.1 some.1,
         )
+
+    pub legal_short : (rs : List Run) → AllByRecursion IsLegal rs → AllByRecursion IsSome rs → AllByRecursion HasShortValues rs
+    legal_short [] legal some = tt
+    legal_short (r ∷ rs) legal some = (let few = legal_few r legal.0 some.0 in omega arith, legal_short rs legal.1 some.1)
 
   -- ---- storing them keeps a memory
 

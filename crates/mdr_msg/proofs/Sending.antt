@@ -1,7 +1,7 @@
 -- The kernel half sends messages that have spellings, as long as its answers are legal.
-use Rattle.std.proofs.Common.{◌≡◌, ℕ, zero, suc, ◌<◌, ◌≤◌, ◌^◌, Bool, true, false, cond, ◌||◌, List, [], ◌∷◌, ◌++◌, length, Option, Some, None, Result, Ok, Err, refl, sym, ◌∙◌, ap, subst, arith}
-use Rattle.std.specs.Prelude.{◌==◌, nat_lt, slice_get}
-use Rattle.std.specs.List.{AllByRecursion, list_any}
+use Rattle.std.proofs.Common.{◌≡◌, ℕ, zero, suc, ◌<◌, ◌≤◌, ◌^◌, Bool, true, false, cond, List, [], ◌∷◌, length, Option, Some, None, Result, Ok, Err, refl, sym, ◌∙◌, ap, subst, arith}
+use Rattle.std.specs.Prelude.{nat_lt, slice_get}
+use Rattle.std.specs.List.{AllByRecursion}
 use Rattle.mdr_core.specs.declared.stop.StopKind.{StopKind}
 use Rattle.mdr_core.specs.declared.types.Ty.{Ty}
 use Rattle.mdr_core.specs.declared.types.Ty.TheVariants as ty
@@ -14,28 +14,28 @@ use Rattle.mdr_model.specs.declared.message.Run.{Run}
 use Rattle.mdr_model.specs.declared.message.Message.{Message}
 use Rattle.mdr_model.specs.declared.message.Message.TheVariants as message
 use Rattle.mdr_model.specs.Values.{natural, fits_result}
-use Rattle.mdr_model.specs.declared.memory.MemoryBlock.{MemoryBlock}
 use Rattle.mdr_model.specs.declared.memory.Cell.{Cell}
-use Rattle.mdr_model.specs.Memory.{Memory, births, is_live, loaded, stored, everywhere}
+use Rattle.mdr_model.specs.Memory.{Memory, births, loaded, stored, everywhere}
 use Rattle.mdr_model.specs.Sets.{runs_of_cells, visible_of, visible}
 use Rattle.mdr_model.specs.Tree.{Asked, Tree}
 use Rattle.mdr_model.specs.Meaning.{func_at, is_kernel}
 use Rattle.mdr_model.specs.World.{World, Ran, Ended, Stopped, after, counted, when_loaded, when_stored, written, written_if, is_writel, served, as_now, in_kernel, kernel_call}
 use Rattle.mdr_model.specs.Watched.{renewed, begun, returned}
-use Rattle.mdr_model.specs.Copies.{Told, died, news_of, values_in, without, with_news, tells, tells_no_cells, agreed_after, changes, values_of_runs, put_runs}
+use Rattle.mdr_model.specs.Copies.{Told, without, with_news, tells, tells_no_cells, agreed_after, changes, values_of_runs, put_runs}
 use Rattle.mdr_model.specs.Kernel.{Kernel, Noted, Pending, Over, Waits, sent, calls, comes_back, answers, values_of_result, then_split, command_by, split_commands, downcalled, serviced, result_type}
 use Rattle.mdr_model.specs.Sound.{IsSoundFunc, IsSound, IsBound}
-use Rattle.mdr_model.proofs.Tests.{same_number, not_both}
+use Rattle.mdr_model.proofs.Tests.{not_both}
 use Rattle.mdr_model.proofs.Fair.{IsResultOf, IsServed}
 use Rattle.mdr_model.proofs.Relations.{globals_of, Holds}
 use Rattle.mdr_model.proofs.KernelWork.{Later, Leaves, ended, stopped, Serviced, kernel_leaves}
-use Rattle.mdr_model.proofs.MemoryLaws.{is_live-births}
+use Rattle.mdr_model.proofs.Messages.{only_runs, tells_changes, tells_nothing}
 use Rattle.mdr_model.proofs.CopyLaws.{births-put_all}
 use Rattle.mdr_model.proofs.HoldsLaws.{all_get}
 use Rattle.mdr_msg.specs.WellFormed.{IsEight, IsListOf, IsValue, IsSetRun, IsRun, IsMessage}
-use Rattle.mdr_msg.specs.OverBytes.{HasSmallNumbers, HaveShortValues, HasShortLists}
+use Rattle.mdr_msg.specs.OverBytes.{HasSmallNumbers, HasFewCells, HaveShortValues, HasShortLists}
 use Rattle.mdr_msg.proofs.Cells.{all_weaker, IsShown, cells_shown, all_shown, held_is_value}
-use Rattle.mdr_msg.proofs.Rows.{IsSmallCell, IsRow, rows_of, row_is_set_run, HoldsValue, changes_are_runs}
+use Rattle.mdr_msg.proofs.Rows.{IsSmallCell, IsRow, rows_of, row_is_set_run, HoldsValue, changes_are_runs, changes_are_short}
+use Rattle.mdr_msg.proofs.Counts.{runs_at_most, changes_at_most}
 
 -- ---- the ticks that are left
 
@@ -95,50 +95,7 @@ module _ (n : ℕ) where
   unfolding kernel_call
   kernel_at_most program func args depth w most = tree_at_most _ w most
 
--- ---- no births and no deaths are told
-
-live_here : (b : MemoryBlock) (m : Memory) (serial : ℕ) → is_live m serial ≡ true → is_live (b ∷ m) serial ≡ true
-unfolding is_live
-live_here b m serial e = ap (λ (t : Bool). (b.born.serial == serial) || t) e ∙ or_true (b.born.serial == serial)
-  where
-    or_true : (t : Bool) → (t || true) ≡ true
-    or_true true = refl
-    or_true false = refl
-
-live_itself : (b : MemoryBlock) (m : Memory) → is_live (b ∷ m) b.born.serial ≡ true
-unfolding is_live
-live_itself b m = ap (λ (t : Bool). t || list_any (λ x. x.born.serial == b.born.serial) m) (same_number b.born.serial)
-
-no_deaths : (copy m : Memory) → ((serial : ℕ) → is_live copy serial ≡ true → is_live m serial ≡ true) → died copy m ≡ []
-unfolding died
-no_deaths [] m live = refl
-no_deaths (b ∷ copy) m live =
-    let here : is_live m b.born.serial ≡ true = live b.born.serial (live_itself b copy) in
-    rw here (no_deaths copy m (λ serial e. live serial (live_here b copy serial e)))
-
-no_news : (copy : Memory) (values : List Wire) (m : Memory) → ((serial : ℕ) → is_live m serial ≡ true → is_live copy serial ≡ true) → news_of copy values m ≡ []
-unfolding news_of
-no_news copy values [] live = refl
-no_news copy values (b ∷ m) live =
-    let here : is_live copy b.born.serial ≡ true = live b.born.serial (live_itself b m) in
-    rw here (no_news copy values m (λ serial e. live serial (live_here b m serial e)))
-
-abbrev only_runs : List Run → Told
-only_runs runs = record { deaths = []; news = []; runs = runs }
-
-tells_changes : (view : List Cell) (values : List Wire) (copy m : Memory) → births copy ≡ births m → tells view values copy m ≡ only_runs (changes view copy m)
-unfolding tells without
-tells_changes view values copy m e =
-    let deaths : died copy m ≡ [] = no_deaths copy m (λ serial h. sym (is_live-births copy m serial e) ∙ h) in
-    let news : news_of copy (values ++ values_in (changes view copy m)) m ≡ [] = no_news copy _ m (λ serial h. is_live-births copy m serial e ∙ h) in
-    rw (deaths, news) refl
-
-tells_nothing : (values : List Wire) (copy m : Memory) → births copy ≡ births m → tells_no_cells values copy m ≡ only_runs []
-unfolding tells_no_cells without
-tells_nothing values copy m e =
-    let deaths : died copy m ≡ [] = no_deaths copy m (λ serial h. sym (is_live-births copy m serial e) ∙ h) in
-    let news : news_of copy (values ++ values_in []) m ≡ [] = no_news copy _ m (λ serial h. is_live-births copy m serial e ∙ h) in
-    rw (deaths, news) refl
+-- ---- births stay
 
 pub births-put_runs : (runs : List Run) (m : Memory) → births (put_runs runs m) ≡ births m
 unfolding put_runs
@@ -156,18 +113,23 @@ pub record IsFine (program : Program) (budget : ℕ) (copy : Memory) (w : World)
   pub copied : births copy ≡ globals_of program
   pub rest : w.rest ≤ budget
 
--- it waits for an answer to a message, which has a spelling, and goes on with commands that name functions
+-- a message has a spelling and no long list
+pub record IsSpelled (m : Message) : Type 0 where
+  pub message : IsMessage m
+  pub short : HasShortLists m
+
+-- it waits for an answer to such a message, and goes on with commands that name functions
 pub record IsWaiting (program : Program) (budget : ℕ) (m : Message) (k : Kernel) (script : List ℕ) : Type 0 where
   pub fine : IsFine program budget k.agreed k.world
   pub view : k.world.view ≡ cells_shown program
   pub named : IsBound program script
-  pub spelled : HasShortLists m → IsMessage m
+  pub spelled : IsSpelled m
 
 abbrev pub IsFinePending : Program → ℕ → Pending → Type 0
 IsFinePending program budget (Over end k) = Unit {0}
 IsFinePending program budget (Waits m k (Noted f script)) = IsWaiting program budget m k script
 
-module _ (program : Program) (sound : IsSound program) (budget : ℕ) (small : HasSmallNumbers program budget) where
+module _ (program : Program) (sound : IsSound program) (budget : ℕ) (small : HasSmallNumbers program budget) (few : HasFewCells program) where
   eight_left : (w : World) → w.rest ≤ budget → IsEight w.rest
   eight_left w most = let least = small.ticks in omega arith
 
@@ -176,17 +138,30 @@ module _ (program : Program) (sound : IsSound program) (budget : ℕ) (small : H
   small_cells : (m : Memory) → births m ≡ globals_of program → AllByRecursion IsSmallCell (cells_shown program)
   small_cells m born =
       all_weaker (IsShown program m) IsSmallCell (cells_shown program)
-      (λ c shown. record { serial = let few = small.globals in let one = shown.serial in omega arith; index = shown.index })
+      (λ c shown. record { serial = let most = small.globals in let one = shown.serial in omega arith; index = shown.index })
       (all_shown program m sound born)
 
-  view_is : (m : Memory) → births m ≡ globals_of program → length (runs_of_cells (cells_shown program)) < 2 ^ 31 → IsListOf IsSetRun (runs_of_cells (cells_shown program))
-  view_is m born short = (omega (arith, short), all_weaker IsRow IsSetRun (runs_of_cells (cells_shown program)) row_is_set_run (rows_of (cells_shown program) (small_cells m born)))
+  few_shown : length (cells_shown program) < 2 ^ 31
+  unfolding visible
+  few_shown = few
 
-  changes_are : (copy m : Memory) → Holds program m → HaveShortValues (changes (cells_shown program) copy m) → IsListOf IsRun (changes (cells_shown program) copy m)
-  changes_are copy m holds short = (
-    omega (arith, short.0),
+  view_short : length (runs_of_cells (cells_shown program)) < 2 ^ 31
+  view_short = let runs = runs_at_most (cells_shown program) in omega (arith, few_shown)
+
+  view_is : (m : Memory) → births m ≡ globals_of program → IsListOf IsSetRun (runs_of_cells (cells_shown program))
+  view_is m born = (omega (arith, view_short), all_weaker IsRow IsSetRun (runs_of_cells (cells_shown program)) row_is_set_run (rows_of (cells_shown program) (small_cells m born)))
+
+  changes_short : (copy m : Memory) → births m ≡ globals_of program → HaveShortValues (changes (cells_shown program) copy m)
+  changes_short copy m born = (
+    let runs = changes_at_most (cells_shown program) copy m in omega (arith, few_shown),
+    changes_are_short (cells_shown program) copy m (small_cells m born),
+  )
+
+  changes_are : (copy m : Memory) → Holds program m → IsListOf IsRun (changes (cells_shown program) copy m)
+  changes_are copy m holds = (
+    let short = (changes_short copy m holds.born).0 in omega arith,
     changes_are_runs (cells_shown program) copy m (small_cells m holds.born)
-        (all_weaker (IsShown program m) (HoldsValue m) (cells_shown program) (λ c shown. held_is_value program m c sound holds shown) (all_shown program m sound holds.born)) short.1,
+        (all_weaker (IsShown program m) (HoldsValue m) (cells_shown program) (λ c shown. held_is_value program m c sound holds shown) (all_shown program m sound holds.born)),
   )
 
   view_now : (m : Memory) → Holds program m → visible program m ≡ cells_shown program
@@ -225,16 +200,19 @@ module _ (program : Program) (sound : IsSound program) (budget : ℕ) (small : H
         fine = record { holds = fine.holds; copied = births-agreed program runs k.agreed ∙ fine.copied; rest = fine.rest };
         view = refl;
         named = named;
-        spelled = λ short. (
-          let few = small.funcs in omega arith,
-          omega arith,
-          eight_left w fine.rest,
-          (omega arith, tt),
-          (omega arith, tt),
-          (omega arith, tt),
-          view_is w.memory fine.holds.born short.3,
-          changes_are k.agreed w.memory fine.holds short.4,
-        );
+        spelled = record {
+          message = (
+            let most = small.funcs in omega arith,
+            omega arith,
+            eight_left w fine.rest,
+            (omega arith, tt),
+            (omega arith, tt),
+            (omega arith, tt),
+            view_is w.memory fine.holds.born,
+            changes_are k.agreed w.memory fine.holds,
+          );
+          short = (omega arith, omega arith, omega arith, view_short, changes_short k.agreed w.memory fine.holds.born);
+        };
       } in
       subst (λ (t : Told). CallWaits f k w script (visible program w.memory) t) (sym told)
       (subst (λ (view : List Cell). CallWaits f k w script view (only_runs (changes view k.agreed w.memory))) (sym (view_now w.memory fine.holds)) now)
@@ -253,14 +231,10 @@ module _ (program : Program) (sound : IsSound program) (budget : ℕ) (small : H
         fine = record { holds = fine.holds; copied = births-agreed program runs k.agreed ∙ fine.copied; rest = fine.rest };
         view = refl;
         named = named;
-        spelled = λ short. (
-          eight_left w fine.rest,
-          value,
-          (omega arith, tt),
-          (omega arith, tt),
-          view_is w.memory fine.holds.born short.2,
-          changes_are k.agreed w.memory fine.holds short.3,
-        );
+        spelled = record {
+          message = (eight_left w fine.rest, value, (omega arith, tt), (omega arith, tt), view_is w.memory fine.holds.born, changes_are k.agreed w.memory fine.holds);
+          short = (omega arith, omega arith, view_short, changes_short k.agreed w.memory fine.holds.born);
+        };
       } in
       subst (λ (t : Told). BackWaits v k w script (visible program w.memory) t) (sym told)
       (subst (λ (view : List Cell). BackWaits v k w script view (only_runs (changes view k.agreed w.memory))) (sym (view_now w.memory fine.holds)) now)
@@ -276,7 +250,7 @@ module _ (program : Program) (sound : IsSound program) (budget : ℕ) (small : H
         fine = record { holds = fine.holds; copied = births-agreed program [] k.agreed ∙ fine.copied; rest = fine.rest };
         view = view;
         named = named;
-        spelled = λ short. ((omega arith, tt), (omega arith, tt), (omega arith, tt));
+        spelled = record { message = ((omega arith, tt), (omega arith, tt), (omega arith, tt)); short = (omega arith, omega arith, omega arith) };
       } in
       subst (λ (t : Told). AnswerWaits k w script t) (sym told) now
 

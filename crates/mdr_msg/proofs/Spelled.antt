@@ -1,4 +1,4 @@
--- In an honest run each message and each answer has a spelling, where no list is too long.
+-- In an honest run each message and each answer has a spelling and no long list, where numbers are small and visible cells are few.
 use Rattle.std.proofs.Common.{◌≡◌, ℕ, zero, suc, ◌<◌, ◌≤◌, ◌^◌, ◌⊎◌, inl, inr, Bool, true, false, cond, not, ◌&&◌, ◌||◌, List, [], ◌∷◌, ◌++◌, length, Option, Some, None, Ok, Err, refl, sym, ◌∙◌, ap, subst, eqb-true, arith}
 use Rattle.std.specs.Prelude.{◌==◌, map, nat_lt, nat_le, slice_get, is_none, find}
 use Rattle.std.specs.List.{AllByRecursion, list_any}
@@ -30,8 +30,8 @@ use Rattle.mdr_model.specs.Walk.{Reached, Walked, walk}
 use Rattle.mdr_model.specs.Meaning.{func_at, critical_of, body_of, is_kernel, is_user}
 use Rattle.mdr_model.specs.World.{is_writel, served, kernel_call}
 use Rattle.mdr_model.specs.Watched.{returned, first_world}
-use Rattle.mdr_model.specs.Sets.{is_in}
-use Rattle.mdr_model.specs.Faults.{fault, unless, params_of, args_fault}
+use Rattle.mdr_model.specs.Sets.{is_in, rises_after, visible}
+use Rattle.mdr_model.specs.Faults.{fault, unless, params_of, args_fault, set_run_of}
 use Rattle.mdr_model.specs.Kernel.{Kernel, Rest, Noted, Pending, Over, Waits, Reading, has_number, has_down_stub, is_user_place, is_object_service, is_ask_place, is_awaited, service_params, stop_number, user_stops, user_stop, is_stop, result_type, ticks_fault, reply_runs_fault, service_fault, fault_of, applied, judged, taken, next, run_from_pending, first_kernel, split_commands, split_run}
 use Rattle.mdr_model.specs.User.{User, Opened, Refuses, Runs, opened, done, replied, deliver, user_reply}
 use Rattle.mdr_model.specs.Sound.{IsSoundFunc, IsSound, IsBound}
@@ -39,13 +39,17 @@ use Rattle.mdr_model.specs.Law.{read, IsHonest, IsOwn, IsOneMemory}
 use Rattle.mdr_model.proofs.Tests.{not_both, and_left, and_right}
 use Rattle.mdr_model.proofs.KernelWork.{kernel_leaves, service_leaves, stub_is_kernel}
 use Rattle.mdr_model.proofs.HoldsLaws.{all_get}
+use Rattle.mdr_model.proofs.Relations.{globals_of}
+use Rattle.mdr_model.proofs.SetLaws.{Rises, visible_of-rises}
+use Rattle.mdr_model.proofs.ViewLaws.{globals_rise}
 use Rattle.mdr_model.proofs.FirstMemory.{first_holds}
 use Rattle.mdr_model.proofs.LawProof.{split_is_one_memory}
 use Rattle.mdr_msg.specs.WellFormed.{IsFour, IsListOf, IsValue, IsRun, IsShape, IsPlace, IsMessage}
-use Rattle.mdr_msg.specs.OverBytes.{HasSmallStatements, HasSmallNumbers, HaveShortValues, HasShortLists, HaveShortLists}
-use Rattle.mdr_msg.proofs.Cells.{IsShown, all_shown, typed_is_value}
-use Rattle.mdr_msg.proofs.Rows.{IsSome, changes_are_some, unless_passes, no_faults, IsLegal, runs_legal, legal_runs, runs_hold}
-use Rattle.mdr_msg.proofs.Sending.{IsFine, IsWaiting, IsFinePending, births-put_runs, kernel_at_most, service_at_most, result_is_value, commands_fine, downcall_fine, service_fine}
+use Rattle.mdr_msg.specs.OverBytes.{HasSmallStatements, HasSmallNumbers, HasFewCells, HaveShortValues, HasShortLists, HaveShortLists}
+use Rattle.mdr_msg.proofs.Cells.{all_weaker, IsShown, all_shown, typed_is_value}
+use Rattle.mdr_msg.proofs.Rows.{IsSome, changes_are_some, unless_passes, no_faults, IsLegal, runs_legal, runs_follow, legal_runs, legal_short, runs_hold}
+use Rattle.mdr_msg.proofs.Counts.{legal_at_most}
+use Rattle.mdr_msg.proofs.Sending.{IsFine, IsSpelled, IsWaiting, IsFinePending, births-put_runs, kernel_at_most, service_at_most, result_is_value, commands_fine, downcall_fine, service_fine}
 
 -- ---- replies name some cells in each run
 
@@ -117,6 +121,18 @@ stop_is_four : (number ticks rest : ℕ) → is_stop number ticks rest ≡ true 
 unfolding user_stop
 stop_is_four number ticks rest e = found_small user_stops number (and_left (not (is_none (user_stop number))) _ e)
 
+-- there are as many arguments as parameters
+counted : (i : ℕ) (ts : List Ty) (vs : List Wire) → args_fault i ts vs ≡ None → length vs ≡ length ts
+unfolding args_fault
+counted i [] [] e = refl
+counted i [] (v ∷ vs) e = absurd (Prim.cc)
+counted i (t ∷ ts) [] e = absurd (Prim.cc)
+counted i (t ∷ ts) (v ∷ vs) e = of (fits_type t v) e (counted (suc i) ts vs)
+  where
+    of : (b : Bool) → cond b (args_fault (suc i) ts vs) (Some (fault refusal.BadArgs i)) ≡ None → (args_fault (suc i) ts vs ≡ None → length vs ≡ length ts) → suc (length vs) ≡ suc (length ts)
+    of true h later = ap suc (later h)
+    of false h later = absurd (Prim.cc)
+
 abbrev IsSmallStatement : Stmt → Type 0
 IsSmallStatement s = IsFour s.number
 
@@ -163,18 +179,18 @@ writel_asked service [] [] e = record { number = eqb-true _ _ (unless_passes (is
 writel_asked service [] (b ∷ bytes) e = absurd (Prim.cc)
 writel_asked service (s ∷ shapes) bytes e = absurd (Prim.cc)
 
-module _ (program : Program) (sound : IsSound program) (budget : ℕ) (small : HasSmallNumbers program budget) where
+module _ (program : Program) (sound : IsSound program) (budget : ℕ) (small : HasSmallNumbers program budget) (few : HasFewCells program) where
   kernel_small : (func : ℕ) → is_kernel program func ≡ true → IsFour func
   unfolding is_kernel
   kernel_small func e = of (func_at program func) refl e
     where
       of : (o : Option Func) → slice_get program.funcs func ≡ o → critical_of o ≡ true → IsFour func
       of None h t = absurd (not_both t refl)
-      of (Some f) h t = let few = small.funcs in let there = inside program.funcs func f h in omega arith
+      of (Some f) h t = let most = small.funcs in let there = inside program.funcs func f h in omega arith
 
   user_small : (func : ℕ) → is_user program func ≡ true → IsFour func
   unfolding is_user
-  user_small func e = let few = small.funcs in let there = ltb-true _ _ (and_left (nat_lt func (length program.funcs)) _ e) in omega arith
+  user_small func e = let most = small.funcs in let there = ltb-true _ _ (and_left (nat_lt func (length program.funcs)) _ e) in omega arith
 
   body_small : (func n : ℕ) → list_any (has_number n) (body_of (func_at program func)) ≡ true → IsFour n
   body_small func n e = of (func_at program func) refl e
@@ -213,22 +229,43 @@ module _ (program : Program) (sound : IsSound program) (budget : ℕ) (small : H
   -- ---- a legal reply
 
   module _ (m : Message) (k : Kernel) (f : ℕ) (script : List ℕ) (w : IsWaiting program budget m k script) where
-    abbrev Legal : List Run → Type 0
-    Legal runs = AllByRecursion (IsLegal program k.world.view k.world.memory) runs
+    -- what runs without a fault say
+    record Legal (runs : List Run) : Type 0 where
+      each : AllByRecursion (IsLegal program k.world.view k.world.memory) runs
+      follow : rises_after None (map set_run_of runs) ≡ true
 
     shown : AllByRecursion (IsShown program k.world.memory) k.world.view
     shown = subst (λ (cs : List Cell). AllByRecursion (IsShown program k.world.memory) cs) (sym w.view) (all_shown program k.world.memory sound w.fine.holds.born)
 
-    legal : (runs : List Run) → reply_runs_fault program k runs ≡ None → Legal runs
-    legal runs e = runs_legal program k.world.view k.world.memory k.agreed None 0 runs e
+    rising : Rises k.world.view
+    rising = subst Rises (sym w.view) (visible_of-rises program 0 (globals_of program) (globals_rise program))
 
-    are_runs : (runs : List Run) → Legal runs → AllByRecursion IsSome runs → HaveShortValues runs → IsListOf IsRun runs
-    are_runs runs fair some short = (omega (arith, short.0), legal_runs program k.world.view k.world.memory sound shown runs small.globals fair some short.1)
+    few_shown : length k.world.view < 2 ^ 31
+    unfolding visible
+    few_shown = subst (λ (cs : List Cell). length cs < 2 ^ 31) (sym w.view) few
+
+    legal : (runs : List Run) → reply_runs_fault program k runs ≡ None → Legal runs
+    legal runs e = record {
+      each = runs_legal program k.world.view k.world.memory k.agreed None 0 runs e;
+      follow = runs_follow program k.world.view k.world.memory k.agreed None 0 runs e;
+    }
+
+    are_short : (runs : List Run) → Legal runs → AllByRecursion IsSome runs → HaveShortValues runs
+    are_short runs fair some = (
+      let most = legal_at_most program k.world.view k.world.memory None runs rising fair.each some fair.follow in omega (arith, few_shown),
+      legal_short program k.world.view k.world.memory sound shown runs fair.each some,
+    )
+
+    are_runs : (runs : List Run) → Legal runs → AllByRecursion IsSome runs → IsListOf IsRun runs
+    are_runs runs fair some = (
+      let short = (are_short runs fair some).0 in omega arith,
+      legal_runs program k.world.view k.world.memory sound shown runs small.globals fair.each some,
+    )
 
     ticks_are : (ticks : ℕ) → ticks_fault k ticks ≡ None → ticks < 2 ^ 64
     ticks_are ticks e =
         let most = leb-true _ _ (unless_passes (nat_le ticks k.world.rest) refusal.TooManyTicks 0 e) in
-        let all = w.fine.rest in let few = small.ticks in omega arith
+        let all = w.fine.rest in let least = small.ticks in omega arith
 
     record IsLegalDown (ticks : ℕ) (at : At) (depth func : ℕ) (args : List Wire) (runs : List Run) : Type 0 where
       spent : ticks < 2 ^ 64
@@ -264,6 +301,7 @@ module _ (program : Program) (sound : IsSound program) (budget : ℕ) (small : H
       spent : ticks < 2 ^ 64
       place : IsPlace at
       writel : IsWritel service shapes bytes
+      two : length args ≡ 2
       values : AllByRecursion IsValue args
       runs_fit : Legal runs
 
@@ -283,61 +321,73 @@ module _ (program : Program) (sound : IsSound program) (budget : ℕ) (small : H
           spent = ticks_are ticks tests.1.0;
           place = ask_place_is service at (unless_passes _ refusal.BadPlace 0 tests.1.1.0);
           writel = writel_asked service shapes bytes tests.1.1.1.0;
+          two = counted 0 service_params args tests.1.1.1.1.0;
           values = service_values 0 service_params args (refl, (refl, tt)) tests.1.1.1.1.0;
           runs_fit = legal runs tests.1.1.1.1.1.0;
         }
 
-    -- a legal reply that names some cells in each run, and needs no long list, has a spelling
-    legal_is_message : (a : Message) → fault_of program k (Noted f script) a ≡ None → HasSomeCells a → HasShortLists a → IsMessage a
+    -- a legal reply that names some cells in each run has a spelling, and no long list
+    legal_is_spelled : (a : Message) → fault_of program k (Noted f script) a ≡ None → HasSomeCells a → IsSpelled a
     unfolding fault_of
-    legal_is_message (message.Return ticks result runs) e some short =
-        let tests = no_faults (ticks_fault k ticks ∷ unless (fits_result (result_type (func_at program f)) result) refusal.BadResult 0 ∷ reply_runs_fault program k runs ∷ []) e in (
-          ticks_are ticks tests.0,
-          result_is_value program sound budget small f result (unless_passes _ refusal.BadResult 0 tests.1.0),
-          are_runs runs (legal runs tests.1.1.0) some short,
-        )
-    legal_is_message (message.Down ticks at depth func args runs) e some short =
-        let tests = down_tests ticks at depth func args runs e in (
-          tests.spent,
-          tests.place,
-          let limited = tests.limited in omega arith,
-          kernel_small func (stub_is_kernel program func tests.stub),
-          subst (λ (vs : List Wire). IsListOf IsValue vs) (sym tests.no_values_given) (omega arith, tt),
-          are_runs runs tests.runs_fit some short.1,
-        )
-    legal_is_message (message.Ask ticks at service args shapes bytes runs) e some short =
-        let tests = ask_tests ticks at service args shapes bytes runs e in (
-          tests.spent,
-          tests.place,
-          let number = tests.writel.number in omega arith,
-          (omega (arith, short.0), tests.values),
-          subst (λ (ss : List Shape64). IsListOf IsShape ss) (sym tests.writel.no_shapes) (omega arith, tt),
-          omega (arith, short.2),
-          are_runs runs tests.runs_fit some short.3,
-        )
-    legal_is_message (message.Stop ticks number at runs) e some short =
+    legal_is_spelled (message.Return ticks result runs) e some =
+        let tests = no_faults (ticks_fault k ticks ∷ unless (fits_result (result_type (func_at program f)) result) refusal.BadResult 0 ∷ reply_runs_fault program k runs ∷ []) e in
+        let fair : Legal runs = legal runs tests.1.1.0 in
+        record {
+          message = (ticks_are ticks tests.0, result_is_value program sound budget small few f result (unless_passes _ refusal.BadResult 0 tests.1.0), are_runs runs fair some);
+          short = are_short runs fair some;
+        }
+    legal_is_spelled (message.Down ticks at depth func args runs) e some =
+        let tests = down_tests ticks at depth func args runs e in
+        record {
+          message = (
+            tests.spent,
+            tests.place,
+            let limited = tests.limited in omega arith,
+            kernel_small func (stub_is_kernel program func tests.stub),
+            subst (λ (vs : List Wire). IsListOf IsValue vs) (sym tests.no_values_given) (omega arith, tt),
+            are_runs runs tests.runs_fit some,
+          );
+          short = (subst (λ (vs : List Wire). length vs < 2 ^ 31) (sym tests.no_values_given) (omega arith), are_short runs tests.runs_fit some);
+        }
+    legal_is_spelled (message.Ask ticks at service args shapes bytes runs) e some =
+        let tests = ask_tests ticks at service args shapes bytes runs e in
+        let no_shapes : length shapes ≡ 0 = ap length tests.writel.no_shapes in
+        let no_bytes : length bytes ≡ 0 = ap length tests.writel.no_bytes in
+        record {
+          message = (
+            tests.spent,
+            tests.place,
+            let number = tests.writel.number in omega arith,
+            (let two = tests.two in omega arith, tests.values),
+            subst (λ (ss : List Shape64). IsListOf IsShape ss) (sym tests.writel.no_shapes) (omega arith, tt),
+            omega arith,
+            are_runs runs tests.runs_fit some,
+          );
+          short = (let two = tests.two in omega arith, omega arith, omega arith, are_short runs tests.runs_fit some);
+        }
+    legal_is_spelled (message.Stop ticks number at runs) e some =
         let tests = no_faults (
         ticks_fault k ticks
         ∷ unless (is_user_place program at) refusal.BadPlace 0
         ∷ unless (is_stop number ticks k.world.rest) refusal.BadStop 0
         ∷ reply_runs_fault program k runs
-        ∷ []) e in (
-          ticks_are ticks tests.0,
-          stop_is_four number ticks k.world.rest (unless_passes _ refusal.BadStop 0 tests.1.1.0),
-          place_is at (unless_passes _ refusal.BadPlace 0 tests.1.0),
-          are_runs runs (legal runs tests.1.1.1.0) some short,
-        )
-    legal_is_message (message.Call func depth left args deaths news view runs) e some short = absurd (Prim.cc)
-    legal_is_message (message.Back left result deaths news view runs) e some short = absurd (Prim.cc)
-    legal_is_message (message.Answer results deaths news) e some short = absurd (Prim.cc)
-    legal_is_message (message.Refuse reason) e some short = absurd (Prim.cc)
+        ∷ []) e in
+        let fair : Legal runs = legal runs tests.1.1.1.0 in
+        record {
+          message = (ticks_are ticks tests.0, stop_is_four number ticks k.world.rest (unless_passes _ refusal.BadStop 0 tests.1.1.0), place_is at (unless_passes _ refusal.BadPlace 0 tests.1.0), are_runs runs fair some);
+          short = are_short runs fair some;
+        }
+    legal_is_spelled (message.Call func depth left args deaths news view runs) e some = absurd (Prim.cc)
+    legal_is_spelled (message.Back left result deaths news view runs) e some = absurd (Prim.cc)
+    legal_is_spelled (message.Answer results deaths news) e some = absurd (Prim.cc)
+    legal_is_spelled (message.Refuse reason) e some = absurd (Prim.cc)
 
     -- ---- what follows it
 
     fine_after : (ticks : ℕ) (runs : List Run) → Legal runs → IsFine program budget (applied ticks runs k).agreed (applied ticks runs k).world
     unfolding applied
     fine_after ticks runs fair = record {
-      holds = runs_hold program k.world.view k.world.memory runs fair w.fine.holds;
+      holds = runs_hold program k.world.view k.world.memory runs fair.each w.fine.holds;
       copied = births-put_runs runs k.agreed ∙ w.fine.copied;
       rest = let most = w.fine.rest in omega arith;
     }
@@ -347,19 +397,19 @@ module _ (program : Program) (sound : IsSound program) (budget : ℕ) (small : H
     taken_fine (message.Return ticks result runs) e =
         let tests = no_faults (ticks_fault k ticks ∷ unless (fits_result (result_type (func_at program f)) result) refusal.BadResult 0 ∷ reply_runs_fault program k runs ∷ []) e in
         let fine = fine_after ticks runs (legal runs tests.1.1.0) in
-        commands_fine program sound budget small script _ w.named (record { holds = fine.holds; copied = fine.copied; rest = fine.rest })
+        commands_fine program sound budget small few script _ w.named (record { holds = fine.holds; copied = fine.copied; rest = fine.rest })
     taken_fine (message.Down ticks at depth func args runs) e =
         let tests = down_tests ticks at depth func args runs e in
         let fine = fine_after ticks runs tests.runs_fit in
         let k' : Kernel = applied ticks runs k in
-        downcall_fine program sound budget small func k'.world k' f script (kernel_call program func args depth k'.world) fine.copied w.named
+        downcall_fine program sound budget small few func k'.world k' f script (kernel_call program func args depth k'.world) fine.copied w.named
         (kernel_leaves func args depth k'.world sound (stub_is_kernel program func tests.stub) fine.holds) (kernel_at_most budget program func args depth k'.world fine.rest)
     taken_fine (message.Ask ticks at service args shapes bytes runs) e =
         let tests = ask_tests ticks at service args shapes bytes runs e in
         let fine = fine_after ticks runs tests.runs_fit in
         let k' : Kernel = applied ticks runs k in
         let asked : Asked = record { service = service; at = at; args = args; shapes = shapes; bytes = bytes } in
-        service_fine program sound budget small k'.world k' f script (served asked k'.world) w.view fine.copied w.named (service_leaves asked k'.world fine.holds) (service_at_most budget asked k'.world fine.rest)
+        service_fine program sound budget small few k'.world k' f script (served asked k'.world) w.view fine.copied w.named (service_leaves asked k'.world fine.holds) (service_at_most budget asked k'.world fine.rest)
     taken_fine (message.Stop ticks number at runs) e = tt
     taken_fine (message.Call func depth left args deaths news view runs) e = tt
     taken_fine (message.Back left result deaths news view runs) e = tt
@@ -368,19 +418,14 @@ module _ (program : Program) (sound : IsSound program) (budget : ℕ) (small : H
 
   -- ---- an honest run
 
-  abbrev AreMessages : List Message → Type 0
-  AreMessages ms = AllByRecursion IsMessage ms
+  abbrev AreSpelled : List Message → Type 0
+  AreSpelled ms = AllByRecursion IsSpelled ms
 
-  -- from here on no honest run ends with a refusal, and none needs a long list
+  -- from here on no honest run ends with a refusal
   abbrev IsOwnFrom : List Message → Pending → Type 0
   IsOwnFrom before p =
       (answers : List Message) (end : End) (k : Kernel) → IsHonest program before (run_from_pending program (read answers) p).sent answers → (run_from_pending program (read answers) p).pending ≡ Over end k
       → IsOwn end
-
-  abbrev AreShortFrom : List Message → Pending → Type 0
-  AreShortFrom before p =
-      (answers : List Message) → IsHonest program before (run_from_pending program (read answers) p).sent answers
-      → AllByRecursion HasShortLists (run_from_pending program (read answers) p).sent × AllByRecursion HasShortLists answers
 
   -- an honest answer has no fault
   no_fault : (before : List Message) (m : Message) (k : Kernel) (rest : Rest) (a : Message) → IsOwnFrom before (Waits m k rest) → a ≡ user_reply program (read before) (Ok m) → fault_of program k rest a ≡ None
@@ -399,29 +444,39 @@ module _ (program : Program) (sound : IsSound program) (budget : ℕ) (small : H
   next_fine m k f script w a e =
       subst (λ (p : Pending). IsFinePending program budget p) (sym (ap (λ (o : Option Fault). judged program o a k (Noted f script)) e)) (taken_fine m k f script w a e)
 
-  spelled_from : (answers before : List Message) (p : Pending) → IsFinePending program budget p → IsOwnFrom before p → AreShortFrom before p
-      → IsHonest program before (run_from_pending program (read answers) p).sent answers → AreMessages (run_from_pending program (read answers) p).sent × AreMessages answers
+  spelled_from : (answers before : List Message) (p : Pending) → IsFinePending program budget p → IsOwnFrom before p
+      → IsHonest program before (run_from_pending program (read answers) p).sent answers → AreSpelled (run_from_pending program (read answers) p).sent × AreSpelled answers
   unfolding run_from_pending
-  spelled_from [] before (Over end k) fine own short honest = (tt, tt)
-  spelled_from [] before (Waits m k (Noted f script)) fine own short honest = ((fine.spelled (short [] tt).0.0, tt), tt)
-  spelled_from (a ∷ answers) before (Over end k) fine own short honest = absurd honest
-  spelled_from (a ∷ answers) before (Waits m k (Noted f script)) fine own short honest =
+  spelled_from [] before (Over end k) fine own honest = (tt, tt)
+  spelled_from [] before (Waits m k (Noted f script)) fine own honest = ((fine.spelled, tt), tt)
+  spelled_from (a ∷ answers) before (Over end k) fine own honest = absurd honest
+  spelled_from (a ∷ answers) before (Waits m k (Noted f script)) fine own honest =
       let legal : fault_of program k (Noted f script) a ≡ None = no_fault before m k (Noted f script) a own honest.0 in
-      let lists = short (a ∷ answers) honest in
       let some : HasSomeCells a = subst HasSomeCells (sym honest.0) (reply_some program (read before) (Ok m)) in
       let others = spelled_from answers (before ++ m ∷ []) (next program (Ok a) k (Noted f script)) (next_fine m k f script fine a legal)
-      (λ more end k' fair over. own (a ∷ more) end k' (honest.0, fair) over)
-      (λ more fair. let both = short (a ∷ more) (honest.0, fair) in (both.0.1, both.1.1)) honest.1 in
-      ((fine.spelled lists.0.0, others.0), (legal_is_message m k f script fine a legal some lists.1.0, others.1))
+      (λ more end k' fair over. own (a ∷ more) end k' (honest.0, fair) over) honest.1 in
+      ((fine.spelled, others.0), (legal_is_spelled m k f script fine a legal some, others.1))
 
--- so a run of a sound program has messages and answers that have spellings
-pub have_spellings : (program : Program) (script : List ℕ) (budget : ℕ) → IsSound program → IsBound program script → HasSmallNumbers program budget → HaveShortLists program script budget
+  -- so a run of a sound program has messages and answers that have spellings and no long list
+  are_spelled : (script : List ℕ) → IsBound program script → (answers : List Message) → IsHonest program [] (split_run program script budget (read answers)).sent answers
+      → AreSpelled (split_run program script budget (read answers)).sent × AreSpelled answers
+  unfolding split_run first_kernel first_world
+  are_spelled script named answers honest =
+      let law : IsOneMemory program script budget = split_is_one_memory program script budget sound named in
+      let k : Kernel = first_kernel program budget in
+      let fine : IsFine program budget k.agreed k.world = record { holds = first_holds program sound; copied = refl; rest = omega arith } in
+      spelled_from answers [] (split_commands program script k) (commands_fine program sound budget small few script k named fine)
+      (λ more end k' fair over. (law.same more end k' fair over).own) honest
+
+pub have_spellings : (program : Program) (script : List ℕ) (budget : ℕ) → IsSound program → IsBound program script → HasSmallNumbers program budget → HasFewCells program
     → (answers : List Message) → IsHonest program [] (split_run program script budget (read answers)).sent answers
     → AllByRecursion IsMessage (split_run program script budget (read answers)).sent × AllByRecursion IsMessage answers
-unfolding split_run first_kernel first_world
-have_spellings program script budget sound named small short answers honest =
-    let law : IsOneMemory program script budget = split_is_one_memory program script budget sound named in
-    let k : Kernel = first_kernel program budget in
-    let fine : IsFine program budget k.agreed k.world = record { holds = first_holds program sound; copied = refl; rest = omega arith } in
-    spelled_from program sound budget small answers [] (split_commands program script k) (commands_fine program sound budget small script k named fine)
-    (λ more end k' fair over. (law.same more end k' fair over).own) short honest
+have_spellings program script budget sound named small few answers honest =
+    let both = are_spelled program sound budget small few script named answers honest in
+    (all_weaker IsSpelled IsMessage _ (λ m h. h.message) both.0, all_weaker IsSpelled IsMessage _ (λ m h. h.message) both.1)
+
+pub have_short_lists : (program : Program) (script : List ℕ) (budget : ℕ) → IsSound program → IsBound program script → HasSmallNumbers program budget → HasFewCells program
+    → HaveShortLists program script budget
+have_short_lists program script budget sound named small few answers honest =
+    let both = are_spelled program sound budget small few script named answers honest in
+    (all_weaker IsSpelled HasShortLists _ (λ m h. h.short) both.0, all_weaker IsSpelled HasShortLists _ (λ m h. h.short) both.1)

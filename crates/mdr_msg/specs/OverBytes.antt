@@ -8,6 +8,8 @@ use Rattle.mdr_model.specs.declared.message.Run.{Run}
 use Rattle.mdr_model.specs.declared.message.Message.{Message}
 use Rattle.mdr_model.specs.declared.message.Message.TheVariants as message
 use Rattle.mdr_model.specs.declared.outcome.End.{End}
+use Rattle.mdr_model.specs.Memory.{first_memory}
+use Rattle.mdr_model.specs.Sets.{visible}
 use Rattle.mdr_model.specs.Text.{text}
 use Rattle.mdr_model.specs.Meaning.{body_of}
 use Rattle.mdr_model.specs.Kernel.{Kernel, Over, split_run}
@@ -59,6 +61,10 @@ pub record HasSmallNumbers (program : Program) (budget : ℕ) : Type 0 where
   pub statements : AllByRecursion HasSmallStatements program.funcs
   pub ticks : IsEight budget
 
+-- user code may touch fewer than 2^31 cells
+abbrev pub HasFewCells : Program → Type 0
+HasFewCells program = IsShort (visible program (first_memory program))
+
 abbrev pub sent_bytes : Program → List ℕ → ℕ → List (List ℕ) → List (List ℕ)
 sent_bytes program script budget answers = map text (split_run_over_bytes program script budget answers).sent
 
@@ -74,8 +80,8 @@ pub record IsOneMemoryOverBytes (program : Program) (script : List ℕ) (budget 
       × IsHonestOverBytes program [] (sent_bytes program script budget answers) answers
       × ((split_run_over_bytes program script budget answers).pending ≡ Over end k)
 
--- the law for every sound program whose numbers are small, every script of its functions and every budget with which no list is too long
+-- the law for every sound program whose numbers are small and whose visible cells are few, every script of its functions and every budget
 abbrev pub BytesAreOneMemory : Type 0
 BytesAreOneMemory =
-    (program : Program) (script : List ℕ) (budget : ℕ) → IsSound program → IsBound program script → HasSmallNumbers program budget → HaveShortLists program script budget
+    (program : Program) (script : List ℕ) (budget : ℕ) → IsSound program → IsBound program script → HasSmallNumbers program budget → HasFewCells program
     → IsOneMemoryOverBytes program script budget

@@ -17,8 +17,8 @@ pub fn no_spelling_begins_another()
 {}
 
 /// A split run over bytes, with an honest far side, is the one-memory meaning: for every sound program, every script
-/// of its functions and every budget of ticks, where numbers fit the code's types and no message needs a list of
-/// 2^31 items.
+/// of its functions and every budget of ticks, where numbers fit the code's types and user code may touch fewer than
+/// 2^31 cells.
 pub fn bytes_are_one_memory()
     ensures { BytesAreOneMemory }
 {}

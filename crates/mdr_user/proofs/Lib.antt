@@ -7,3 +7,4 @@ pub mod OpeningLaws
 pub mod Deliveries
 pub mod HalfSteps
 pub mod SoundSources
+pub mod SameView

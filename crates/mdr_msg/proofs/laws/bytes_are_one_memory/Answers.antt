@@ -2,4 +2,4 @@ use Rattle.mdr_msg.proofs.Lifted.{bytes_are_one_memory}
 use Rattle.mdr_msg.proofs.laws.bytes_are_one_memory.Goals as goal
 
 pub returns : goal.returns
-returns c = λ program script budget sound bound small short. bytes_are_one_memory program script budget sound bound small short
+returns c = λ program script budget sound bound small few. bytes_are_one_memory program script budget sound bound small few

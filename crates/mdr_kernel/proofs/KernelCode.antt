@@ -1,0 +1,267 @@
+-- Statements of the kernel half: what a tree of one does in a world, and that the world stays sound.
+use Rattle.std.proofs.Common.{◌≡◌, ℕ, suc, ◌+◌, ◌-◌, ◌<◌, ◌≤◌, ◌^◌, Bool, true, false, cond, List, [], ◌∷◌, Option, Some, None, Result, Ok, Err, refl, sym, ap, ◌∙◌, subst, slice_get, get_or, length, drop, unwrap_or, arith}
+use Rattle.std.specs.Prelude.{nat_lt}
+use Rattle.std.specs.List.{AllByRecursion}
+use Rattle.std.proofs.lemmas.List.{at_drop_all}
+use Rattle.mdr_core.specs.declared.kind.Kind.{Kind}
+use Rattle.mdr_core.specs.declared.kind.Kind.TheVariants.{U32}
+use Rattle.mdr_core.specs.declared.types.Ty.TheVariants as ty
+use Rattle.mdr_core.specs.declared.stop.StopKind.{StopKind}
+use Rattle.mdr_core.specs.declared.stop.StopKind.TheVariants as stops
+use Rattle.mdr_core.specs.declared.place.At.{At}
+use Rattle.mdr_core.specs.declared.program.Program.{Program}
+use Rattle.mdr_core.specs.declared.code.Lval.{Lval}
+use Rattle.mdr_core.specs.declared.code.Lval.TheVariants.{Global}
+use Rattle.mdr_core.specs.declared.code.Expr.{Expr}
+use Rattle.mdr_core.specs.declared.code.Callee.{Callee}
+use Rattle.mdr_core.specs.declared.code.Callee.TheVariants.{Service}
+use Rattle.mdr_core.specs.declared.code.CallForm.{CallForm}
+use Rattle.mdr_core.specs.declared.code.Step.{Step}
+use Rattle.mdr_core.specs.declared.code.Step.TheVariants as step
+use Rattle.mdr_core.specs.declared.code.Stmt.{Stmt}
+use Rattle.mdr_core.specs.declared.program.Func.{Func}
+use Rattle.mdr_core.specs.declared.plan.Half.TheVariants as half
+use Rattle.mdr_model.specs.declared.wire.Wire.{Wire}
+use Rattle.mdr_model.specs.declared.wire.Wire.TheVariants as wire
+use Rattle.mdr_model.specs.declared.wire.WireView.{WireView}
+use Rattle.mdr_model.specs.Values.{fits_type, natural}
+use Rattle.mdr_model.specs.Memory.{Memory, births, normal, first_memory, cell_of, stored, everywhere}
+use Rattle.mdr_model.specs.Tree.{Asked, Tree}
+use Rattle.mdr_model.specs.Meaning.{func_at, critical_of, is_kernel, body_of, type_of_global, pointer_to, value, values, Here, Enters, call, keeps, statement, statements, function}
+use Rattle.mdr_model.specs.World.{World, Ran, Ended, Stopped, after, counted, when_loaded, when_stored, written, written_if, is_writel, served, in_kernel, kernel_call}
+use Rattle.mdr_model.specs.Holds.{IsSoundMemory}
+use Rattle.mdr_model.specs.Sound.{IsSoundPlace, IsSoundExpr, IsSoundWritel, IsSoundStep, IsSoundFunc, IsSound}
+use Rattle.mdr_model.proofs.MemoryLaws.{born_at-births, births-put}
+use Rattle.mdr_model.proofs.ValueLaws.{typed_is_normal}
+use Rattle.mdr_model.proofs.HoldsLaws.{all_get, stored_is}
+use Rattle.mdr_copy.specs.Evaluated.{evaluated}
+use Rattle.mdr_copy.proofs.EvaluatedLaws.{kernel_value, evaluated_fits}
+use Rattle.mdr_copy.proofs.SoundMemories.{first_is_sound, stored_is_sound}
+use Rattle.mdr_kernel.specs.declared.state.Stopped.{Stopped as CodeStop}
+use Rattle.mdr_kernel.specs.States.{ran_of, IsSoundWorld}
+use Rattle.mdr_kernel.specs.Works.{goes_on}
+
+-- ---- sound worlds
+
+pub sound_memory : (program : Program) (w : World) → IsSound program → IsSoundWorld program w → IsSoundMemory program w.memory
+sound_memory program w sound h = record {
+  globals = λ number g e. born_at-births w.memory (first_memory program) number h.born ∙ (first_is_sound program sound).globals number g e;
+  filled = h.filled;
+}
+
+births_stored : (allowed : _) (program : Program) (m m' : Memory) (place : Lval) (v : Wire) → stored allowed m (pointer_to program place) v ≡ Ok m' → births m' ≡ births m
+unfolding pointer_to
+births_stored allowed program m m' (Global g) v e =
+    let p : WireView = record { serial = g; first = 0; ty = type_of_global (slice_get program.globals g); count = 1; index = 0 } in
+    ap births (sym (stored_is allowed m m' p v e)) ∙ births-put m (cell_of p) (normal m v)
+
+-- a store of a value that fits leaves a sound world
+pub store_keeps : (program : Program) (w w' : World) (place : Lval) (kind : Kind) (v : Wire) → IsSound program → IsSoundWorld program w → IsSoundPlace program place kind → fits_type (ty.Int kind) v ≡ true
+    → stored everywhere w.memory (pointer_to program place) v ≡ Ok w'.memory → w'.ticks ≡ w.ticks → w'.rest ≡ w.rest → IsSoundWorld program w'
+store_keeps program w w' place kind v sound h s fit e ticks rest = record {
+  born = births_stored everywhere program w.memory w'.memory place v e ∙ h.born;
+  filled = (stored_is_sound everywhere program w.memory w'.memory place kind v s fit sound (sound_memory program w sound h) e).filled;
+  clock = let clock : w.ticks + w.rest < 2 ^ 64 = h.clock in omega (arith, clock, ticks, rest);
+}
+
+-- ---- services
+
+abbrev world_in : {A : Type 0} → Ran A → World
+world_in (Ended x w) = w
+world_in (Stopped kind at w) = w
+
+written_keeps : (program : Program) (at : At) (vs : List Wire) (w : World) → IsSoundWorld program w → IsSoundWorld program (world_in (written at vs w))
+written_keeps program at [] w h = h
+written_keeps program at (v ∷ []) w h = h
+written_keeps program at (v ∷ r ∷ []) w h = of (nat_lt (natural r) 4096)
+  where
+    of : (t : Bool) → IsSoundWorld program (world_in (written_if t at (natural r) (natural v) w))
+    of true = record { born = h.born; filled = h.filled; clock = h.clock }
+    of false = h
+written_keeps program at (v ∷ r ∷ x ∷ vs) w h = h
+
+served_keeps : (program : Program) (asked : Asked) (w : World) → IsSoundWorld program w → IsSoundWorld program (world_in (served asked w))
+unfolding served
+served_keeps program asked w h = of (is_writel asked.service)
+  where
+    of : (t : Bool) → IsSoundWorld program (world_in (cond t (written asked.at asked.args w) (Ended [] w)))
+    of true = written_keeps program asked.at asked.args w h
+    of false = h
+
+world_ran : {A : Type 0} (x : A) (stop : Option CodeStop) (w : World) → world_in (ran_of x stop w) ≡ w
+world_ran x None w = refl
+world_ran x (Some stop) w = refl
+
+-- a service leaves a sound world
+pub served_is_sound : (program : Program) (asked : Asked) (w w' : World) (stop : Option CodeStop) → IsSoundWorld program w → served asked w ≡ ran_of [] stop w' → IsSoundWorld program w'
+served_is_sound program asked w w' stop h e = subst (IsSoundWorld program) (ap world_in e ∙ world_ran [] stop w') (served_keeps program asked w h)
+
+-- ---- assignments
+
+pub assign_refused : (program : Program) (at : At) (place : Lval) (e : Expr) (w : World) (kind : StopKind) (stop : Option CodeStop) (next : Tree) → Err kind ≡ evaluated everywhere program w.memory e
+    → stop ≡ Some (record { kind = kind; at = Some at }) → in_kernel (value program at e (λ v. Tree.Store at (pointer_to program place) v next)) w ≡ goes_on stop next w
+assign_refused program at place e w kind stop next gave is =
+    let k : Wire → Tree = λ v. Tree.Store at (pointer_to program place) v next in
+    kernel_value program at e k w
+    ∙ ap (λ (r : Result Wire StopKind). when_loaded r at w (λ v. in_kernel (k v) w)) (sym gave)
+    ∙ sym (ap (λ (s : Option CodeStop). goes_on s next w) is)
+
+assign_stores : (program : Program) (at : At) (place : Lval) (e : Expr) (w : World) (v : Wire) (r : Result Memory StopKind) (next : Tree) → Ok v ≡ evaluated everywhere program w.memory e
+    → stored everywhere w.memory (pointer_to program place) v ≡ r
+    → in_kernel (value program at e (λ v. Tree.Store at (pointer_to program place) v next)) w ≡ when_stored r at w (λ w'. in_kernel next w')
+unfolding in_kernel
+assign_stores program at place e w v r next gave made =
+    let k : Wire → Tree = λ v. Tree.Store at (pointer_to program place) v next in
+    kernel_value program at e k w
+    ∙ ap (λ (r : Result Wire StopKind). when_loaded r at w (λ v. in_kernel (k v) w)) (sym gave)
+    ∙ ap (λ (r : Result Memory StopKind). when_stored r at w (λ w'. in_kernel next w')) made
+
+pub assign_made : (program : Program) (at : At) (place : Lval) (e : Expr) (w : World) (m' : Memory) (v : Wire) (next : Tree) → Ok v ≡ evaluated everywhere program w.memory e
+    → stored everywhere w.memory (pointer_to program place) v ≡ Ok m'
+    → in_kernel (value program at e (λ v. Tree.Store at (pointer_to program place) v next)) w ≡ in_kernel next (record w { memory = m' })
+assign_made program at place e w m' v next gave made = assign_stores program at place e w v (Ok m') next gave made
+
+pub assign_stopped : (program : Program) (at : At) (place : Lval) (e : Expr) (w : World) (m' : Memory) (v : Wire) (kind : StopKind) (stop : Option CodeStop) (next : Tree) → Ok v ≡ evaluated everywhere program w.memory e
+    → stored everywhere w.memory (pointer_to program place) v ≡ Err kind → m' ≡ w.memory → stop ≡ Some (record { kind = kind; at = Some at })
+    → in_kernel (value program at e (λ v. Tree.Store at (pointer_to program place) v next)) w ≡ goes_on stop next (record w { memory = m' })
+assign_stopped program at place e w m' v kind stop next gave made stays is =
+    assign_stores program at place e w v (Err kind) next gave made
+    ∙ ap (λ (x : Memory). Stopped kind (Some at) (record w { memory = x })) (sym stays)
+    ∙ sym (ap (λ (s : Option CodeStop). goes_on s next (record w { memory = m' })) is)
+
+pub assign_keeps : (program : Program) (place : Lval) (kind : Kind) (e : Expr) (w : World) (m' : Memory) (v : Wire) → IsSound program → IsSoundWorld program w → IsSoundPlace program place kind → IsSoundExpr program e kind
+    → Ok v ≡ evaluated everywhere program w.memory e → stored everywhere w.memory (pointer_to program place) v ≡ Ok m' → IsSoundWorld program (record w { memory = m' })
+assign_keeps program place kind e w m' v sound h s t gave made =
+    store_keeps program w (record w { memory = m' }) place kind v sound h s
+    (evaluated_fits everywhere program w.memory e kind v sound (sound_memory program w sound h) t (sym gave))
+    made refl refl
+
+-- ---- calls of `writel`
+
+pub value_fits : (program : Program) (e : Expr) (w : World) (v : Wire) → IsSound program → IsSoundWorld program w → IsSoundExpr program e U32 → Ok v ≡ evaluated everywhere program w.memory e → fits_type (ty.Int U32) v ≡ true
+value_fits program e w v sound h s gave =
+    evaluated_fits everywhere program w.memory e U32 v sound (sound_memory program w sound h) s (sym gave)
+
+-- the tree of a call of a service whose result is left
+abbrev pub asks : ℕ → At → Tree → List Wire → Tree
+asks service at next vs = Tree.Ask (record { service = service; at = at; args = vs; shapes = []; bytes = [] }) (λ results. next)
+
+pub ask_refused : (program : Program) (at : At) (service : ℕ) (v r : Expr) (w : World) (kind : StopKind) (stop : Option CodeStop) (next : Tree) → Err kind ≡ evaluated everywhere program w.memory v
+    → stop ≡ Some (record { kind = kind; at = Some at }) → in_kernel (values program at (v ∷ r ∷ []) (asks service at next)) w ≡ goes_on stop next w
+ask_refused program at service v r w kind stop next gave is =
+    let k : Wire → Tree = λ x. value program at r (λ y. asks service at next (x ∷ y ∷ [])) in
+    kernel_value program at v k w
+    ∙ ap (λ (o : Result Wire StopKind). when_loaded o at w (λ x. in_kernel (k x) w)) (sym gave)
+    ∙ sym (ap (λ (s : Option CodeStop). goes_on s next w) is)
+
+ask_second : (program : Program) (at : At) (service : ℕ) (v r : Expr) (w : World) (x : Wire) (o : Result Wire StopKind) (next : Tree) → Ok x ≡ evaluated everywhere program w.memory v
+    → o ≡ evaluated everywhere program w.memory r
+    → in_kernel (values program at (v ∷ r ∷ []) (asks service at next)) w ≡ when_loaded o at w (λ y. in_kernel (asks service at next (x ∷ y ∷ [])) w)
+ask_second program at service v r w x o next gave then =
+    let k : Wire → Tree = λ x. value program at r (λ y. asks service at next (x ∷ y ∷ [])) in
+    kernel_value program at v k w
+    ∙ ap (λ (o : Result Wire StopKind). when_loaded o at w (λ x. in_kernel (k x) w)) (sym gave)
+    ∙ kernel_value program at r (λ y. asks service at next (x ∷ y ∷ [])) w
+    ∙ ap (λ (o : Result Wire StopKind). when_loaded o at w (λ y. in_kernel (asks service at next (x ∷ y ∷ [])) w)) (sym then)
+
+pub ask_refused_later : (program : Program) (at : At) (service : ℕ) (v r : Expr) (w : World) (x : Wire) (kind : StopKind) (stop : Option CodeStop) (next : Tree) → Ok x ≡ evaluated everywhere program w.memory v
+    → Err kind ≡ evaluated everywhere program w.memory r → stop ≡ Some (record { kind = kind; at = Some at }) → in_kernel (values program at (v ∷ r ∷ []) (asks service at next)) w ≡ goes_on stop next w
+ask_refused_later program at service v r w x kind stop next gave then is =
+    ask_second program at service v r w x (Err kind) next gave then
+    ∙ sym (ap (λ (s : Option CodeStop). goes_on s next w) is)
+
+-- what follows a service that gave no result
+served_on : (stop : Option CodeStop) (next : Tree) (w : World) → after {A = List Wire} (ran_of [] stop w) (λ results w'. in_kernel next w') ≡ goes_on stop next w
+served_on None next w = refl
+served_on (Some stop) next w = refl
+
+-- arguments that fit are as they are now
+two_normal : (m : Memory) (x y : Wire) → fits_type (ty.Int U32) x ≡ true → fits_type (ty.Int U32) y ≡ true → normal m x ∷ normal m y ∷ [] ≡ x ∷ y ∷ []
+two_normal m x y f g = λ i. typed_is_normal (ty.Int U32) m x f i ∷ typed_is_normal (ty.Int U32) m y g i ∷ []
+
+pub ask_done : (program : Program) (at : At) (service : ℕ) (v r : Expr) (w w' : World) (x y : Wire) (stop : Option CodeStop) (next : Tree) → IsSound program → IsSoundWorld program w → IsSoundWritel program (v ∷ r ∷ [])
+    → Ok x ≡ evaluated everywhere program w.memory v → Ok y ≡ evaluated everywhere program w.memory r
+    → served (record { service = service; at = at; args = x ∷ y ∷ []; shapes = []; bytes = [] }) w ≡ ran_of [] stop w' → in_kernel (values program at (v ∷ r ∷ []) (asks service at next)) w ≡ goes_on stop next w'
+unfolding in_kernel
+ask_done program at service v r w w' x y stop next sound h s gave then did =
+    let now : List Wire → Asked = λ vs. record { service = service; at = at; args = vs; shapes = []; bytes = [] } in
+    ask_second program at service v r w x (Ok y) next gave then
+    ∙ ap (λ (vs : List Wire). after (served (now vs) w) (λ results w'. in_kernel next w')) (two_normal w.memory x y (value_fits program v w x sound h s.0 gave) (value_fits program r w y sound h s.1 then))
+    ∙ ap (λ (o : Ran (List Wire)). after o (λ results w'. in_kernel next w')) did
+    ∙ served_on stop next w'
+
+-- ---- calls
+
+two_items : (xs : List Expr) (a b : Expr) → 2 ≤ length xs → length xs < 3 → a ≡ get_or xs 0 a → b ≡ get_or xs 1 b → xs ≡ a ∷ b ∷ []
+two_items [] a b low high e f = absurd (omega arith)
+two_items (x ∷ []) a b low high e f = absurd (omega arith)
+two_items (x ∷ y ∷ []) a b low high e f = λ i. sym e i ∷ sym f i ∷ []
+two_items (x ∷ y ∷ z ∷ xs) a b low high e f = absurd (omega arith)
+
+pub call_is : (program : Program) (at : At) (callee : Callee) (service : ℕ) (xs es : List Expr) (a b : Expr) (low : Enters) (here : Here) (next : Tree) (w : World) (ran : Ran Wire) → callee ≡ Service service
+    → xs ≡ es → 2 ≤ length xs → length xs < 3 → a ≡ get_or xs 0 a → b ≡ get_or xs 1 b → in_kernel (values program at (a ∷ b ∷ []) (asks service at next)) w ≡ ran
+    → in_kernel (values program at es (λ vs. call program half.Kernel low here at callee vs (λ v. next))) w ≡ ran
+call_is program at callee service xs es a b low here next w ran is same few many e f did =
+    ap (λ (c : Callee). in_kernel (values program at es (λ vs. call program half.Kernel low here at c vs (λ v. next))) w) is
+    ∙ ap (λ (es : List Expr). in_kernel (values program at es (asks service at next)) w) (sym same ∙ two_items xs a b few many e f)
+    ∙ did
+
+-- ---- statements
+
+pub assignment_is : (program : Program) (at : At) (s : Step) (place : Lval) (e : Expr) (low : Enters) (here : Here) (next : Tree) (w : World) (ran : Ran Wire) → s ≡ step.Assign place e
+    → in_kernel (statement program half.Kernel low here at (step.Assign place e) next) w ≡ ran → in_kernel (statement program half.Kernel low here at s next) w ≡ ran
+assignment_is program at s place e low here next w ran is did = ap (λ (x : Step). in_kernel (statement program half.Kernel low here at x next) w) is ∙ did
+
+-- no call of a sound program has a place for its value
+pub statement_is : (program : Program) (at : At) (s : Step) (target : Option Lval) (form : CallForm) (low : Enters) (here : Here) (next : Tree) (w : World) (ran : Ran Wire) → IsSoundStep program true s → s ≡ step.Call target form
+    → in_kernel (values program at form.args (λ vs. call program half.Kernel low here at form.callee vs (λ v. next))) w ≡ ran → in_kernel (statement program half.Kernel low here at s next) w ≡ ran
+statement_is program at s target form low here next w ran sound is did =
+    let own : IsSoundStep program true (step.Call target form) = subst (IsSoundStep program true) is sound in
+    ap (λ (x : Step). in_kernel (statement program half.Kernel low here at x next) w) is
+    ∙ ap (λ (t : Option Lval). in_kernel (values program at form.args (λ vs. call program half.Kernel low here at form.callee vs (λ v. keeps program at t v next))) w) own.0
+    ∙ did
+
+-- ---- ticks
+
+pub tick_wanted : (at : At) (t next : Tree) (w : World) (stop : Option CodeStop) → w.rest ≡ 0 → stop ≡ Some (record { kind = stops.Ticks; at = Some at }) → in_kernel (Tree.Tick at t) w ≡ goes_on stop next w
+unfolding in_kernel
+tick_wanted at t next w stop none is =
+    ap (λ (q : ℕ). counted q at w (λ w'. in_kernel t w')) none ∙ sym (ap (λ (s : Option CodeStop). goes_on s next w) is)
+
+pub tick_counted : (at : At) (t : Tree) (w w' : World) (ran : Ran Wire) → 0 < w.rest → w' ≡ record w { ticks = suc w.ticks; rest = w.rest - 1 } → in_kernel t w' ≡ ran → in_kernel (Tree.Tick at t) w ≡ ran
+unfolding in_kernel
+tick_counted at t w w' ran some is did =
+    let more : w.rest ≡ suc (w.rest - 1) = omega arith in
+    ap (λ (q : ℕ). counted q at w (λ w'. in_kernel t w')) more ∙ sym (ap (in_kernel t) is) ∙ did
+
+pub tick_keeps : (program : Program) (w w' : World) → IsSoundWorld program w → 0 < w.rest → w' ≡ record w { ticks = suc w.ticks; rest = w.rest - 1 } → IsSoundWorld program w'
+tick_keeps program w w' h some is =
+    subst (IsSoundWorld program) (sym is) (record { born = h.born; filled = h.filled; clock = let clock : w.ticks + w.rest < 2 ^ 64 = h.clock in omega (arith, clock, some) })
+
+-- ---- functions
+
+pub body_is_sound : (program : Program) (func : ℕ) → IsSound program → is_kernel program func ≡ true → AllByRecursion (λ (s : Stmt). IsSoundStep program true s.step) (body_of (func_at program func))
+unfolding is_kernel
+body_is_sound program func sound kernel = of (func_at program func) refl kernel
+  where
+    of : (o : Option Func) → func_at program func ≡ o → critical_of o ≡ true → AllByRecursion (λ (s : Stmt). IsSoundStep program true s.step) (body_of o)
+    of None e k = absurd (Prim.cc)
+    of (Some f) e k =
+        let own : IsSoundFunc program f = all_get (IsSoundFunc program) program.funcs func f sound.funcs e in
+        subst (λ (b : Option (List Stmt)). AllByRecursion (λ (s : Stmt). IsSoundStep program true s.step) (unwrap_or b [])) (sym own.body)
+        (subst (λ (t : Bool). AllByRecursion (λ (s : Stmt). IsSoundStep program t s.step) own.statements) k own.steps)
+
+pub call_of_body : (program : Program) (func : ℕ) (args : List Wire) (depth : ℕ) (w : World) (body : List Stmt) (ran : Ran Wire) → body ≡ body_of (func_at program func)
+    → ((low : Enters) (depth : ℕ) → in_kernel (statements program half.Kernel low (record { func = func; depth = depth }) body (Tree.Done wire.NoValue Tree.Idle)) w ≡ ran) → kernel_call program func args depth w ≡ ran
+unfolding kernel_call function
+call_of_body program func args depth w body ran is did =
+    ap (λ (b : List Stmt). in_kernel (statements program half.Kernel (function program half.Kernel w.rest) (record { func = func; depth = depth }) b (Tree.Done wire.NoValue Tree.Idle)) w) (sym is)
+    ∙ did (function program half.Kernel w.rest) depth
+
+-- no statement is left
+pub all_done : (program : Program) (func depth : ℕ) (low : Enters) (body : List Stmt) (i : ℕ) (w w' : World) → length body ≤ i
+    → in_kernel (statements program half.Kernel low (record { func = func; depth = depth }) (drop i body) (Tree.Done wire.NoValue Tree.Idle)) w' ≡ in_kernel (statements program half.Kernel low (record { func = func; depth = depth }) body (Tree.Done wire.NoValue Tree.Idle)) w
+    → in_kernel (statements program half.Kernel low (record { func = func; depth = depth }) body (Tree.Done wire.NoValue Tree.Idle)) w ≡ Ended wire.NoValue w'
+unfolding in_kernel normal
+all_done program func depth low body i w w' over so_far =
+    sym so_far ∙ at_drop_all (λ (ss : List Stmt). in_kernel (statements program half.Kernel low (record { func = func; depth = depth }) ss (Tree.Done wire.NoValue Tree.Idle)) w') body i over

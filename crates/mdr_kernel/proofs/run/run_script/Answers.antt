@@ -1,0 +1,115 @@
+-- The run stands after each turn, and the exchanges so far lead to where it stands.
+use Rattle.std.proofs.Common.{◌≡◌, ℕ, suc, ◌+◌, ◌*◌, ◌^◌, ◌<◌, List, [], ◌∷◌, ◌++◌, length, Option, Some, refl, sym, ap, ◌∙◌, subst, length-append, arith, rules}
+use Rattle.mdr_core.specs.declared.program.Program.{Program}
+use Rattle.mdr_outside.specs.declared.far.Exchange.{Exchange}
+use Rattle.mdr_model.specs.declared.message.Message.{Message}
+use Rattle.mdr_model.specs.declared.outcome.End.{End}
+use Rattle.mdr_model.specs.declared.outcome.End.TheVariants as ends
+use Rattle.mdr_model.specs.Sound.{IsSound}
+use Rattle.mdr_model.specs.Reading.{reading_of}
+use Rattle.mdr_model.specs.Kernel.{Kernel, Pending, split_commands, next, first_kernel}
+use Rattle.mdr_kernel.specs.declared.state.Kernel.{Kernel as CodeKernel}
+use Rattle.mdr_kernel.specs.declared.state.Open.{Open}
+use Rattle.mdr_kernel.specs.declared.state.Pending.{Pending as CodePending}
+use Rattle.mdr_kernel.specs.declared.state.Pending.TheVariants as pending
+use Rattle.mdr_kernel.specs.declared.run.Turn.{Turn}
+use Rattle.mdr_kernel.specs.declared.run.Turn.TheVariants as turn
+use Rattle.mdr_kernel.specs.States.{world_of, kernel_of, rest_of, pending_of, IsSoundWorld}
+use Rattle.mdr_kernel.specs.Runs.{Turned, HasEnded}
+use Rattle.mdr_kernel.proofs.Standing.{Standing, Stands, left_before, first_stands, commands_stand, next_stands, turn_smaller}
+use Rattle.mdr_kernel.proofs.Turns.{SoFar, first_of, begins_so, goes_so, over_so, fails_so}
+use Rattle.mdr_kernel.proofs.run.run_script.Goals as goal
+
+length_more : (es es' : List Exchange) (e : Exchange) → es' ≡ es ++ e ∷ [] → length es' ≡ suc (length es)
+length_more es es' e added = ap length added ∙ omega (arith, length-append es (e ∷ []))
+
+module _ (program : Program) (sound : IsSound program) (script : List ℕ) (budget : ℕ) where
+  abbrev StandsSo : List Exchange → Pending → Type 0
+  StandsSo es p = Stands program budget (length script) (suc (length es)) p
+
+  abbrev RunsSo : List Exchange → Pending → Type 0
+  RunsSo es p = SoFar program (first_of program script budget) p es
+
+  abbrev TurnedSo : Message → CodeKernel → Open → (old new : List Exchange) → Turn → Type 0
+  TurnedSo m k upcall es es' t = Turned program script m (kernel_of k) (rest_of script upcall) es es' t
+
+  stands_after : (es es' : List Exchange) (now p : CodePending) (m : Message) (k : CodeKernel) (upcall : Open) (t : Turn) → now ≡ pending.Waits m k upcall → t ≡ turn.Next p → TurnedSo m k upcall es es' t
+      → StandsSo es (pending_of script now) → StandsSo es' (pending_of script p)
+  stands_after es es' now p m k upcall t is goes turned s =
+      let one : TurnedSo m k upcall es es' (turn.Next p) = subst (TurnedSo m k upcall es es') goes turned in
+      let here : StandsSo es (pending_of script (pending.Waits m k upcall)) = subst (λ (x : CodePending). StandsSo es (pending_of script x)) is s in
+      let count : length es' ≡ suc (length es) = length_more es es' _ one.1 in
+      let leads : pending_of script p ≡ next program (reading_of one.0) (kernel_of k) (rest_of script upcall) = one.2 in
+      let later : Stands program budget (length script) (suc (suc (length es))) (next program (reading_of one.0) (kernel_of k) (rest_of script upcall)) =
+      next_stands program sound budget (length script) (reading_of one.0) (suc (length es)) (kernel_of k) (rest_of script upcall) here in
+      subst (λ (x : Pending). StandsSo es' x) (sym leads)
+      (subst (λ (n : ℕ). Stands program budget (length script) (suc n) (next program (reading_of one.0) (kernel_of k) (rest_of script upcall))) (sym count) later)
+
+  runs_after : (es es' : List Exchange) (now p : CodePending) (m : Message) (k : CodeKernel) (upcall : Open) (t : Turn) → now ≡ pending.Waits m k upcall → t ≡ turn.Next p → TurnedSo m k upcall es es' t
+      → RunsSo es (pending_of script now) → RunsSo es' (pending_of script p)
+  runs_after es es' now p m k upcall t is goes turned so =
+      let one : TurnedSo m k upcall es es' (turn.Next p) = subst (TurnedSo m k upcall es es') goes turned in
+      let here : RunsSo es (pending_of script (pending.Waits m k upcall)) = subst (λ (x : CodePending). RunsSo es (pending_of script x)) is so in
+      goes_so program (first_of program script budget) m (kernel_of k) (rest_of script upcall) es es' one.0 (pending_of script p) here one.1 one.2
+
+  smaller_after : (es es' : List Exchange) (now p : CodePending) (m : Message) (k : CodeKernel) (upcall : Open) (t : Turn) → now ≡ pending.Waits m k upcall → t ≡ turn.Next p → TurnedSo m k upcall es es' t
+      → StandsSo es (pending_of script now) → left_before (4 * budget + 6 * length script) p < left_before (4 * budget + 6 * length script) now
+  smaller_after es es' now p m k upcall t is goes turned s =
+      let one : TurnedSo m k upcall es es' (turn.Next p) = subst (TurnedSo m k upcall es es') goes turned in
+      let count : length es' ≡ suc (length es) = length_more es es' _ one.1 in
+      let here : StandsSo es (pending_of script (pending.Waits m k upcall)) = subst (λ (x : CodePending). StandsSo es (pending_of script x)) is s in
+      let later : Stands program budget (length script) (suc (suc (length es))) (pending_of script p) =
+      subst (λ (n : ℕ). Stands program budget (length script) (suc n) (pending_of script p)) count (stands_after es es' now p m k upcall t is goes turned s) in
+      subst (λ (x : CodePending). left_before (4 * budget + 6 * length script) p < left_before (4 * budget + 6 * length script) x) (sym is)
+      (turn_smaller program script budget (suc (length es)) m k upcall p here later)
+
+  unanswered : (es es' : List Exchange) (now : CodePending) (m : Message) (k k' : CodeKernel) (upcall : Open) (t : Turn) → now ≡ pending.Waits m k upcall → t ≡ turn.Unanswered k' → TurnedSo m k upcall es es' t
+      → RunsSo es (pending_of script now) → HasEnded program script budget es' (ends.FarFault k'.exchanges) (kernel_of k')
+  unanswered es es' now m k k' upcall t is goes turned so =
+      let one : TurnedSo m k upcall es es' (turn.Unanswered k') = subst (TurnedSo m k upcall es es') goes turned in
+      let here : RunsSo es (pending_of script (pending.Waits m k upcall)) = subst (λ (x : CodePending). RunsSo es (pending_of script x)) is so in
+      fails_so program script budget es es' m (kernel_of k) (kernel_of k') (rest_of script upcall) here one.0 one.1
+
+  first_so : (first : CodeKernel) (now : CodePending) (es : List Exchange) → kernel_of first ≡ first_kernel program budget → budget < 2 ^ 64 → es ≡ []
+      → pending_of script now ≡ split_commands program script (kernel_of first) → StandsSo es (pending_of script now) × RunsSo es (pending_of script now)
+  first_so first now es begins fits none is =
+      let now_is : pending_of script now ≡ first_of program script budget = is ∙ ap (λ (k : Kernel). split_commands program script k) begins in
+      let start : Stands program budget (length script) 1 (first_of program script budget) = commands_stand program sound budget (length script) script 0 (first_kernel program budget) (first_stands program script budget sound fits) in (
+        subst (λ (x : Pending). StandsSo es x) (sym now_is) (subst (λ (xs : List Exchange). Stands program budget (length script) (suc (length xs)) (first_of program script budget)) (sym none) start),
+        subst (λ (x : Pending). RunsSo es x) (sym now_is) (begins_so program (first_of program script budget) es none),
+      )
+
+pub split_commands-requires-clause-world : goal.split_commands-requires-clause-world
+split_commands-requires-clause-world g c =
+    subst (λ (k : Kernel). IsSoundWorld c.args.program.now k.world) (sym c.requires.first)
+    (first_stands c.args.program.now c.args.script.now c.args.ticks c.requires.program (omega arith)).world
+
+pub turns-init : goal.turns-init
+turns-init g c =
+    let both = first_so c.args.program.now c.requires.program c.args.script.now c.args.ticks c.args.first c.in_ok-pending.pending (g.F.Far.exchanges c.args.far.now) c.requires.first (omega arith) c.requires.fresh c.in_ok-pending.ensures in
+    record { stands = both.0; so_far = both.1; loaded = c.requires.loaded; later = omega arith }
+
+pub returns-in-Over-clause-ended : goal.returns-in-Over-clause-ended
+returns-in-Over-clause-ended g c =
+    over_so c.args.program.now c.args.script.now c.args.ticks (g.F.Far.exchanges c.turns.far) c.in-Over.end (kernel_of c.in-Over.kernel)
+    (subst (λ (x : CodePending). RunsSo c.args.program.now c.requires.program c.args.script.now c.args.ticks (g.F.Far.exchanges c.turns.far) (pending_of c.args.script.now x)) c.in-Over.is c.turns.invariant.so_far)
+
+pub returns-in-Unanswered-clause-ended : goal.returns-in-Unanswered-clause-ended
+returns-in-Unanswered-clause-ended g c =
+    unanswered c.args.program.now c.requires.program c.args.script.now c.args.ticks (g.F.Far.exchanges c.turns.far) (g.F.Far.exchanges c.exchanged.new.far) c.turns.pending c.in-Waits.message c.in-Waits.kernel c.in-Unanswered.kernel
+    c.in-Waits.upcall c.in_ok-later-in-Waits.field-0 c.in-Waits.is c.in-Unanswered.is c.in_ok-later-in-Waits.ensures.turned c.turns.invariant.so_far
+
+pub turns-smaller : goal.turns-smaller
+turns-smaller g c =
+    smaller_after c.args.program.now c.requires.program c.args.script.now c.args.ticks (g.F.Far.exchanges c.turns.far) (g.F.Far.exchanges c.exchanged.new.far) c.turns.pending c.in-Next.later c.in-Waits.message c.in-Waits.kernel
+    c.in-Waits.upcall c.in_ok-later-in-Waits.field-0 c.in-Waits.is c.in-Next.is c.in_ok-later-in-Waits.ensures.turned c.turns.invariant.stands
+
+pub turns-preserved : goal.turns-preserved
+turns-preserved g c = record {
+  stands = stands_after c.args.program.now c.requires.program c.args.script.now c.args.ticks (g.F.Far.exchanges c.turns.far) (g.F.Far.exchanges c.exchanged.new.far) c.turns.pending c.in-Next.later c.in-Waits.message c.in-Waits.kernel
+      c.in-Waits.upcall c.in_ok-later-in-Waits.field-0 c.in-Waits.is c.in-Next.is c.in_ok-later-in-Waits.ensures.turned c.turns.invariant.stands;
+  so_far = runs_after c.args.program.now c.requires.program c.args.script.now c.args.ticks (g.F.Far.exchanges c.turns.far) (g.F.Far.exchanges c.exchanged.new.far) c.turns.pending c.in-Next.later c.in-Waits.message c.in-Waits.kernel
+      c.in-Waits.upcall c.in_ok-later-in-Waits.field-0 c.in-Waits.is c.in-Next.is c.in_ok-later-in-Waits.ensures.turned c.turns.invariant.so_far;
+  loaded = search rules;
+  later = search rules;
+}

@@ -1,0 +1,14 @@
+-- The fields of a kernel half, as its state.
+use Rattle.std.specs.Prelude.{◌≡◌, true, IsSome, IfSome, is_some}
+use Rattle.mdr_model.specs.Memory.{first_memory}
+use Rattle.mdr_model.specs.Sound.{IsSound}
+use Rattle.mdr_kernel.specs.HalfState.{HalfState}
+use Rattle.mdr_kernel.specs.declared.half.KernelHalf.TheInside.{Inside}
+
+abbrev pub half_state : Inside → HalfState
+half_state s = record { program = s.program.now; is_fresh = is_some s.first; memory = s.memory.items; messages = s.messages }
+
+-- the program is sound, and before the run the first memory is held
+pub record IsKept (s : Inside) : Type 0 where
+  pub sound : IsSound s.program.now
+  pub first : IfSome s.first (λ m. m.items ≡ first_memory s.program.now)

@@ -1,0 +1,5 @@
+pub mod States
+pub mod Runs
+pub mod Works
+pub mod HalfState
+pub mod HalfView

@@ -1,0 +1,142 @@
+// The kernel half.
+
+ghost use Rattle.std.specs.Prelude.{◌≡◌, ◌≤◌, [], true, false, IfOk};
+ghost use Rattle.mdr_outside.specs.Count.{Rose};
+ghost use Rattle.mdr_outside.specs.Far.{IsLoaded};
+ghost use Rattle.mdr_model.specs.Memory.{first_memory};
+ghost use Rattle.mdr_model.specs.Sound.{IsSound};
+ghost use Rattle.mdr_model.specs.Kernel.{first_kernel};
+ghost use Rattle.mdr_kernel.specs.States.{kernel_of};
+ghost use Rattle.mdr_kernel.specs.Runs.{IsRun, IsFarFault};
+ghost use Rattle.mdr_kernel.specs.HalfState.{IsLeft};
+
+use crate::outcome::outcome_of;
+use crate::run::run_script;
+use crate::state::{Kernel, World};
+use mdr_copy::first_memory;
+use mdr_core::{Items, OutOfMemory, Program};
+use mdr_model::{MemoryBlock, Outcome};
+use mdr_outside::Far;
+use std::alloc::Global;
+use std::marker::Model;
+
+/// The kernel half of a driver, for one run. It borrows the program.
+#[derive(Debug, Drop)]
+pub struct KernelHalf<'a> {
+    program: &'a Program,
+    first: Option<Vec<MemoryBlock>>,
+    memory: Vec<MemoryBlock>,
+    messages: u64,
+}
+
+impl<'a> Model for KernelHalf<'a> {
+    ghost use Rattle.mdr_kernel.specs.HalfState.{HalfState};
+
+    ghost Value = { HalfState };
+
+    ghost use Rattle.mdr_core.specs.contracts.code.Expr as expr;
+    ghost use Rattle.std.specs.Coded.{codes};
+
+    ghost coded = { Prim.hlevel (codes, expr.the_row.coded) };
+
+    ghost use Rattle.mdr_kernel.specs.HalfView.{half_state, IsKept};
+
+    ghost view = { half_state };
+
+    ghost invariant = { IsKept };
+}
+
+/// The state in which a run begins.
+#[tactic(auto, unfolding(mdr_model::specs::Kernel::first_kernel, mdr_model::specs::Watched::first_world))]
+fn first_kernel(
+    alloc: Global,
+    program: &Program,
+    ticks: u64,
+    memory: Vec<MemoryBlock>,
+) -> Result<Kernel, OutOfMemory>
+    requires { memory.items ≡ first_memory program.now }
+    ensures { IfOk result (λ k. kernel_of k ≡ first_kernel program.now ticks) }
+{
+    let agreed = first_memory(alloc, program)?;
+    let world = World {
+        memory,
+        view: Items::new(alloc),
+        ticks: 0,
+        rest: ticks,
+        events: Items::new(alloc),
+        calls: 0,
+    };
+    Ok(Kernel {
+        world,
+        agreed,
+        exchanges: 0,
+    })
+}
+
+impl<'a> KernelHalf<'a> {
+    /// A half that had no run. The memory has the globals.
+    pub fn new(alloc: Global, program: &'a Program) -> Result<KernelHalf<'a>, OutOfMemory>
+        requires { IsSound program.now }
+        ensures { IfOk result (λ h. h ≡ record { program = program.now; is_fresh = true; memory = []; messages = 0 }) }
+    {
+        let first = first_memory(alloc, program)?;
+        Ok(KernelHalf {
+            program,
+            first: Some(first.into_vec()),
+            memory: Vec::new(alloc),
+            messages: 0,
+        })
+    }
+
+    /// Runs a script under a budget of ticks over a far side that was loaded and got no message since. After
+    /// this the half takes no further run.
+    pub fn run<F: Far>(
+        &mut self,
+        alloc: Global,
+        script: &[u32],
+        ticks: u64,
+        far: &mut F,
+    ) -> Result<Outcome, OutOfMemory>
+        requires half { self.old.is_fresh ≡ true }
+        requires loaded { IsLoaded (F.loaded far.old) }
+        requires fresh { F.exchanges far.old ≡ [] }
+        ensures run { IfOk result (IsRun self.old.program script.now ticks (F.exchanges far.new)) }
+        ensures left { IfOk result (λ _. IsLeft self.old.program script.now ticks (F.exchanges far.new) self.new) }
+        ensures fault { IfOk result (λ o. IsFarFault o.end → Rose (F.faults far.old) (F.faults far.new)) }
+        ensures program { self.new.program ≡ self.old.program }
+        ensures done { self.new.is_fresh ≡ false }
+        ensures faults_later { F.faults far.old ≤ F.faults far.new }
+    {
+        let Some(memory) = self.first.take() else {
+            return Err(OutOfMemory);
+        };
+        let first = first_kernel(alloc, self.program, ticks, memory)?;
+        let (end, kernel) = run_script(alloc, self.program, script, ticks, first, far)?;
+        let messages = kernel.exchanges.checked_mul(2).ok_or(OutOfMemory)?;
+        let Kernel { world, .. } = kernel;
+        let outcome = outcome_of(
+            alloc,
+            end,
+            world.events,
+            world.ticks,
+            world.memory.as_slice(),
+        )?;
+        self.memory = world.memory;
+        self.messages = messages;
+        Ok(outcome)
+    }
+
+    /// How many messages the run had: two for each exchange.
+    pub fn messages(&self) -> u64
+        ensures { result ≡ self.now.messages }
+    {
+        self.messages
+    }
+
+    /// Lends the memory's blocks as they are after the run.
+    pub fn cells(&self) -> &[MemoryBlock]
+        ensures { result.now ≡ self.now.memory }
+    {
+        self.memory.as_slice()
+    }
+}

@@ -1,0 +1,21 @@
+//! The kernel half of a split run, over any far side.
+#![tactic(auto)]
+
+mod events;
+mod half;
+mod legal;
+mod next;
+mod outcome;
+mod run;
+mod script;
+mod sending;
+mod service;
+mod state;
+mod stubs;
+mod taken;
+mod work;
+
+pub use half::KernelHalf;
+
+#[cfg(test)]
+mod tests;

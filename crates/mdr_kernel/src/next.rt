@@ -1,0 +1,67 @@
+// The next state of a run after an answer.
+
+ghost use Rattle.std.specs.Prelude.{◌≡◌, ℕ, List, IfOk};
+ghost use Rattle.mdr_model.specs.Sound.{IsSound};
+ghost use Rattle.mdr_model.specs.Reading.{reading_of};
+ghost use Rattle.mdr_model.specs.Faults.{fault};
+ghost use Rattle.mdr_model.specs.Kernel.{refused, next};
+ghost use Rattle.mdr_kernel.specs.States.{world_of, kernel_of, pending_of, rest_of, IsSoundWorld};
+
+use crate::legal::fault_of;
+use crate::state::{Kernel, Open, Pending};
+use crate::taken::taken;
+use mdr_core::{OutOfMemory, Program, RefuseKind};
+use mdr_model::{End, Fault, Message};
+use mdr_msg::{MsgError, decode};
+use std::alloc::Global;
+
+fn refused(fault: Fault, kernel: Kernel) -> Pending
+    ensures { (script : List ℕ) → pending_of script result ≡ refused fault (kernel_of kernel) }
+{
+    let exchange = kernel.exchanges;
+    Pending::Over(End::Refused(exchange, fault.kind, fault.number), kernel)
+}
+
+/// A reply with a fault ends the run, and nothing of it is applied; any other does what it says.
+#[tactic(auto, unfolding(mdr_model::specs::Kernel::next))]
+pub(crate) fn next(
+    alloc: Global,
+    program: &Program,
+    script: &[u32],
+    kernel: Kernel,
+    upcall: Open,
+    reading: Result<Message, Fault>,
+) -> Result<Pending, OutOfMemory>
+    requires program { IsSound program.now }
+    requires world { IsSoundWorld program.now (world_of kernel.world) }
+    ensures { IfOk result (λ p. pending_of script.now p ≡ next program.now reading (kernel_of kernel) (rest_of script.now upcall)) }
+{
+    match reading {
+        Ok(reply) => match fault_of(alloc, program, &kernel, upcall.func, &reply) {
+            Some(fault) => Ok(refused(fault, kernel)),
+            None => taken(alloc, program, script, kernel, upcall, reply),
+        },
+        Err(fault) => Ok(refused(fault, kernel)),
+    }
+}
+
+fn misread(kind: RefuseKind, number: u64) -> Result<Message, Fault>
+    ensures { result ≡ Err (fault kind number) }
+{
+    Err(Fault { kind, number })
+}
+
+/// What bytes are as a message: the message, or why they are none.
+pub(crate) fn reading_of(alloc: Global, bytes: &[u8]) -> Result<Result<Message, Fault>, OutOfMemory>
+    ensures { IfOk result (λ r. r ≡ reading_of bytes.now) }
+{
+    match decode(alloc, bytes) {
+        Ok(message) => Ok(Ok(message)),
+        Err(MsgError::Short(at)) => Ok(misread(RefuseKind::Short, at)),
+        Err(MsgError::Range(at)) => Ok(misread(RefuseKind::Range, at)),
+        Err(MsgError::Padding(at)) => Ok(misread(RefuseKind::Padding, at)),
+        Err(MsgError::Kind(at)) => Ok(misread(RefuseKind::Kind, at)),
+        Err(MsgError::Trailing(at)) => Ok(misread(RefuseKind::Trailing, at)),
+        Err(MsgError::OutOfMemory) => Err(OutOfMemory),
+    }
+}

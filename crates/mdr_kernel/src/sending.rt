@@ -1,0 +1,158 @@
+// The messages that the kernel half sends.
+
+ghost use Rattle.std.specs.Prelude.{◌≡◌, [], ℕ, List, drop, IfOk};
+ghost use Rattle.mdr_copy.specs.Tellings.{told};
+ghost use Rattle.mdr_model.specs.Sets.{visible};
+ghost use Rattle.mdr_model.specs.Copies.{tells, tells_no_cells, agreed_after};
+ghost use Rattle.mdr_model.specs.Kernel.{calls, comes_back, answers};
+ghost use Rattle.mdr_kernel.specs.States.{world_of, kernel_of, pending_of, rest_of};
+
+use crate::events::one_more;
+use crate::state::{Kernel, Open, Pending, World};
+use mdr_copy::{Telling, agreed_after, runs_of_cells, tells, tells_no_cells, visible};
+use mdr_core::{Items, OutOfMemory, Program};
+use mdr_model::{Cell, MemoryBlock, Message, Wire};
+use std::alloc::Global;
+
+/// What a message tells, and the agreed copy after it.
+fn told_cells(
+    alloc: Global,
+    program: &Program,
+    view: &[Cell],
+    values: &[Wire],
+    copy: Items<MemoryBlock>,
+    memory: &[MemoryBlock],
+) -> Result<(Telling, Items<MemoryBlock>), OutOfMemory>
+    ensures what { IfOk result (λ t. told t.0 ≡ tells view.now values.now copy memory.now) }
+    ensures agreed { IfOk result (λ t. t.1 ≡ agreed_after program.now (tells view.now values.now copy memory.now) copy) }
+{
+    let (telling, left) = tells(alloc, view, values, copy, memory)?;
+    let agreed = agreed_after(alloc, program, &telling, left)?;
+    Ok((telling, agreed))
+}
+
+/// The same of a message that names no cells.
+fn told_lives(
+    alloc: Global,
+    program: &Program,
+    values: &[Wire],
+    copy: Items<MemoryBlock>,
+    memory: &[MemoryBlock],
+) -> Result<(Telling, Items<MemoryBlock>), OutOfMemory>
+    ensures what { IfOk result (λ t. told t.0 ≡ tells_no_cells values.now copy memory.now) }
+    ensures agreed { IfOk result (λ t. t.1 ≡ agreed_after program.now (tells_no_cells values.now copy memory.now) copy) }
+{
+    let (telling, left) = tells_no_cells(alloc, values, copy, memory)?;
+    let agreed = agreed_after(alloc, program, &telling, left)?;
+    Ok((telling, agreed))
+}
+
+/// The visible set is taken anew.
+fn renewed(alloc: Global, program: &Program, world: World) -> Result<World, OutOfMemory>
+    ensures { IfOk result (λ w. w ≡ record world { view = visible program.now world.memory.items }) }
+{
+    let view = visible(alloc, program, world.memory.as_slice())?;
+    Ok(World {
+        memory: world.memory,
+        view,
+        ticks: world.ticks,
+        rest: world.rest,
+        events: world.events,
+        calls: world.calls,
+    })
+}
+
+/// An upcall begins: the visible set is taken, and the call is told.
+#[tactic(auto, unfolding(mdr_model::specs::Kernel::calls, mdr_model::specs::Watched::renewed))]
+pub(crate) fn calls(
+    alloc: Global,
+    program: &Program,
+    kernel: Kernel,
+    upcall: Open,
+) -> Result<Pending, OutOfMemory>
+    ensures { IfOk result (λ p. (script : List ℕ) → pending_of script p ≡ calls program.now upcall.func [] (world_of kernel.world) (kernel_of kernel) (drop upcall.done script)) }
+{
+    let world = renewed(alloc, program, kernel.world)?;
+    let view = world.view.as_slice();
+    let memory = world.memory.as_slice();
+    let (telling, agreed) = told_cells(alloc, program, view, &[], kernel.agreed, memory)?;
+    let message = Message::Call {
+        func: upcall.func,
+        depth: 0,
+        rest: world.rest,
+        args: Items::new(alloc),
+        deaths: telling.deaths,
+        news: telling.news,
+        view: runs_of_cells(alloc, view)?,
+        runs: telling.runs,
+    };
+    let exchanges = one_more(kernel.exchanges)?;
+    let kernel = Kernel {
+        world,
+        agreed,
+        exchanges,
+    };
+    Ok(Pending::Waits(message, kernel, upcall))
+}
+
+/// A downcall came back: the visible set is taken anew, and the result is told.
+#[tactic(auto, unfolding(mdr_model::specs::Kernel::comes_back, mdr_model::specs::Watched::renewed))]
+pub(crate) fn comes_back(
+    alloc: Global,
+    program: &Program,
+    value: Wire,
+    kernel: Kernel,
+    upcall: Open,
+) -> Result<Pending, OutOfMemory>
+    ensures { IfOk result (λ p. (script : List ℕ) → pending_of script p ≡ comes_back program.now value (world_of kernel.world) (kernel_of kernel) (rest_of script upcall)) }
+{
+    let world = renewed(alloc, program, kernel.world)?;
+    let view = world.view.as_slice();
+    let memory = world.memory.as_slice();
+    let (telling, agreed) = told_cells(alloc, program, view, &[value], kernel.agreed, memory)?;
+    let message = Message::Back {
+        rest: world.rest,
+        result: value,
+        deaths: telling.deaths,
+        news: telling.news,
+        view: runs_of_cells(alloc, view)?,
+        runs: telling.runs,
+    };
+    let exchanges = one_more(kernel.exchanges)?;
+    let kernel = Kernel {
+        world,
+        agreed,
+        exchanges,
+    };
+    Ok(Pending::Waits(message, kernel, upcall))
+}
+
+/// A service was done, and gave no result.
+#[tactic(auto, unfolding(mdr_model::specs::Kernel::answers))]
+pub(crate) fn answers(
+    alloc: Global,
+    program: &Program,
+    kernel: Kernel,
+    upcall: Open,
+) -> Result<Pending, OutOfMemory>
+    ensures { IfOk result (λ p. (script : List ℕ) → pending_of script p ≡ answers program.now [] (world_of kernel.world) (kernel_of kernel) (rest_of script upcall)) }
+{
+    let Kernel {
+        world,
+        agreed,
+        exchanges,
+    } = kernel;
+    let (telling, agreed) = told_lives(alloc, program, &[], agreed, world.memory.as_slice())?;
+    let message = Message::Answer {
+        results: Items::new(alloc),
+        deaths: telling.deaths,
+        news: telling.news,
+    };
+    let exchanges = one_more(exchanges)?;
+    let kernel = Kernel {
+        world,
+        agreed,
+        exchanges,
+    };
+    Ok(Pending::Waits(message, kernel, upcall))
+}
