@@ -35,15 +35,15 @@ Honest program before (e ∷ es) = IfSome e.got (λ reply. reply ≡ user_reply_
 
 -- ---- a far side
 
--- a text is loaded exactly where it is a program, and else refused with 2
+-- a text is loaded exactly where it is a program, and else refused with 2; a load that failed says nothing
 abbrev pub IsHonestLoad : Option ProgramView → LoadAnswer → Type 0
 IsHonestLoad (Some view) loads.Ok = Unit {0}
 IsHonestLoad (Some view) (loads.Refused cause) = ⊥
-IsHonestLoad (Some view) loads.Failed = ⊥
+IsHonestLoad (Some view) loads.Failed = Unit {0}
 IsHonestLoad (Some view) loads.OutOfMemory = ⊥
 IsHonestLoad None loads.Ok = ⊥
 IsHonestLoad None (loads.Refused cause) = cause ≡ 2
-IsHonestLoad None loads.Failed = ⊥
+IsHonestLoad None loads.Failed = Unit {0}
 IsHonestLoad None loads.OutOfMemory = ⊥
 
 -- the program that was loaded, and honest replies of it
