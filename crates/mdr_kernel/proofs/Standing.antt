@@ -1,5 +1,5 @@
 -- Where a run waits its state is sound, its messages are paid for by ticks and commands, and each turn sends one message more.
-use Rattle.std.proofs.Common.{◌≡◌, ℕ, suc, ◌+◌, ◌-◌, ◌*◌, ◌^◌, ◌<◌, ◌≤◌, Bool, true, false, List, [], ◌∷◌, length, Option, Some, None, Ok, Err, refl, sym, ap, subst, arith}
+use Rattle.std.proofs.Common.{◌≡◌, ℕ, suc, ◌+◌, ◌-◌, ◌*◌, ◌^◌, ◌<◌, ◌≤◌, Bool, true, false, List, [], ◌∷◌, length, Option, Some, None, Ok, Err, refl, ap, arith}
 use Rattle.mdr_core.specs.declared.program.Program.{Program}
 use Rattle.mdr_model.specs.declared.wire.Wire.{Wire}
 use Rattle.mdr_model.specs.declared.message.Run.{Run}
@@ -13,14 +13,14 @@ use Rattle.mdr_model.specs.Meaning.{is_kernel}
 use Rattle.mdr_model.specs.Tree.{Asked}
 use Rattle.mdr_model.specs.World.{World, Ran, Ended, Stopped, served, kernel_call}
 use Rattle.mdr_model.specs.Watched.{renewed, begun, returned, first_world}
-use Rattle.mdr_model.specs.Kernel.{Kernel, Rest, Noted, Pending, Over, Waits, Reading, calls, comes_back, answers, then_split, command_by, split_commands, applied, continued, downcalled, serviced, fault_of, taken, judged, next, first_kernel}
+use Rattle.mdr_model.specs.Kernel.{Kernel, Rest, Noted, Pending, Over, Waits, Reading, calls, comes_back, answers, then_split, command_by, split_commands, applied, downcalled, serviced, fault_of, taken, judged, next, first_kernel}
 use Rattle.mdr_model.proofs.FirstMemory.{first_holds}
 use Rattle.mdr_kernel.specs.declared.state.Kernel.{Kernel as CodeKernel}
 use Rattle.mdr_kernel.specs.declared.state.Open.{Open}
 use Rattle.mdr_kernel.specs.declared.state.Pending.{Pending as CodePending}
 use Rattle.mdr_kernel.specs.declared.state.Pending.TheVariants as pending
 use Rattle.mdr_kernel.specs.States.{pending_of, IsSoundWorld}
-use Rattle.mdr_kernel.proofs.Worlds.{Ends, Gone, begun_is_sound, returned_is_sound, kernel_goes, service_goes}
+use Rattle.mdr_kernel.proofs.Worlds.{Ends, Gone, kernel_goes, service_goes}
 use Rattle.mdr_kernel.proofs.Accepted.{IsFit, IsAsked, IsDown, IsAsk, return_fits, down_fits, ask_fits, applied_is_sound}
 
 -- a state under a budget, after so many messages, where so many commands are left of n

@@ -1,5 +1,5 @@
 -- What a run has come to after exchanges, for all answers that are still to come.
-use Rattle.std.proofs.Common.{◌≡◌, ℕ, suc, ◌+◌, ◌-◌, ◌*◌, ◌<◌, ◌≤◌, List, [], ◌∷◌, ◌++◌, map, length, Option, Some, None, refl, sym, ap, ◌∙◌, subst, append_assoc, arith}
+use Rattle.std.proofs.Common.{◌≡◌, ℕ, List, [], ◌∷◌, ◌++◌, map, Option, Some, None, refl, sym, ap, ◌∙◌, subst, append_assoc}
 use Rattle.mdr_core.specs.declared.program.Program.{Program}
 use Rattle.mdr_outside.specs.declared.far.Exchange.{Exchange}
 use Rattle.mdr_outside.specs.Far.{exchange}
@@ -9,8 +9,8 @@ use Rattle.mdr_model.specs.declared.outcome.End.TheVariants as ends
 use Rattle.mdr_model.specs.Text.{text}
 use Rattle.mdr_model.specs.Reading.{reading_of}
 use Rattle.mdr_model.specs.Bytes.{readings, split_run_over_bytes}
-use Rattle.mdr_model.specs.Watched.{Finish, finish}
-use Rattle.mdr_model.specs.Kernel.{Kernel, Rest, Pending, Over, Waits, Reading, SplitRun, next, split_commands, first_kernel, run_from_pending, split_run}
+use Rattle.mdr_model.specs.Watched.{finish}
+use Rattle.mdr_model.specs.Kernel.{Kernel, Rest, Pending, Over, Waits, SplitRun, next, split_commands, first_kernel, run_from_pending, split_run}
 use Rattle.mdr_kernel.specs.Runs.{sent_of, then_answers, answers_of, run_over, kernel_in, finish_of, HasEnded}
 
 -- ---- lists of exchanges

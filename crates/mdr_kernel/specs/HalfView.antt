@@ -1,5 +1,5 @@
 -- The fields of a kernel half, as its state.
-use Rattle.std.specs.Prelude.{◌≡◌, true, IsSome, IfSome, is_some}
+use Rattle.std.specs.Prelude.{◌≡◌, IfSome, is_some}
 use Rattle.mdr_model.specs.Memory.{first_memory}
 use Rattle.mdr_model.specs.Sound.{IsSound}
 use Rattle.mdr_kernel.specs.HalfState.{HalfState}

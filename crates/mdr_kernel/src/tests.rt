@@ -4,14 +4,14 @@ mod driver;
 mod hostile;
 mod runs;
 
+ghost use Rattle.std.specs.Prelude.{◌≡◌, []};
+ghost use Rattle.mdr_outside.specs.Far.{IsLoaded};
+
 use mdr_core::Items;
 use mdr_outside::{DeliverAnswer, Far, LoadAnswer, LyingFar};
 use std::alloc::Global;
 use std::process::Abort;
 use std::test::Fail;
-
-ghost use Rattle.std.specs.Prelude.{◌≡◌, []};
-ghost use Rattle.mdr_outside.specs.Far.{IsLoaded};
 
 /// The bytes of numbers, four each.
 fn words(alloc: Global, numbers: &[u32]) -> Result<Items<u8>, Fail> {

@@ -51,12 +51,14 @@ fn count(alloc: Global) -> Result<GlobalDef, OutOfMemory>
     })
 }
 
+#[tactic(auto, unfolding(mdr_core::specs::Kinds::is_in_range))]
 fn one() -> Expr
     ensures { (program : AnyProgram) → IsSoundExpr program result Number }
 {
     Expr::Lit(Value::Int(Kind::U32, 1))
 }
 
+#[tactic(auto, unfolding(mdr_core::specs::Kinds::is_in_range))]
 fn four() -> Expr
     ensures { (program : AnyProgram) → IsSoundExpr program result Number }
 {

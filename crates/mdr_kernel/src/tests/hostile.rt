@@ -30,11 +30,7 @@ const REFUSED: [(&[u32], RefuseKind, u64); 21] = [
     (&[2, 0, 0, 2, 0, 0], RefuseKind::BadResult, 0),
     (&[7, 0, 0, 11, 1, 1, 0], RefuseKind::BadStop, 0),
     (&[7, 0, 1, 16, 1, 1, 0], RefuseKind::BadStop, 0),
-    (
-        &[5, 0, 0, 1, 1, 15, 0, 0, 0, 0],
-        RefuseKind::BadService,
-        0,
-    ),
+    (&[5, 0, 0, 1, 1, 15, 0, 0, 0, 0], RefuseKind::BadService, 0),
     (
         &[5, 0, 0, 1, 2, 5, 1, 2, 1, 0, 0, 0],
         RefuseKind::BadArgs,
@@ -82,7 +78,10 @@ fn nothing_of_a_refused_reply_is_applied(rt: HostRuntime) -> Result<(), Fail> {
         assert_eq!(rt; outcome.ticks, 0);
         assert_eq!(rt; half.messages(), 2);
         for block in half.cells() {
-            assert_eq!(rt; block.cells.as_slice(), [Wire::Int(Kind::U32, 0)].as_slice());
+            assert_eq!(rt;
+                block.cells.as_slice(),
+                [Wire::Int(Kind::U32, 0)].as_slice()
+            );
         }
     }
     Ok(())

@@ -43,7 +43,10 @@ fn sent_so(
 fn holds(rt: &impl Abort, half: &KernelHalf, number: i128) {
     assert_eq!(rt; half.cells().len(), 1);
     for block in half.cells() {
-        assert_eq!(rt; block.cells.as_slice(), [Wire::Int(Kind::U32, number)].as_slice());
+        assert_eq!(rt;
+            block.cells.as_slice(),
+            [Wire::Int(Kind::U32, number)].as_slice()
+        );
     }
 }
 

@@ -1,9 +1,8 @@
 -- The run stands after each turn, and the exchanges so far lead to where it stands.
-use Rattle.std.proofs.Common.{◌≡◌, ℕ, suc, ◌+◌, ◌*◌, ◌^◌, ◌<◌, List, [], ◌∷◌, ◌++◌, length, Option, Some, refl, sym, ap, ◌∙◌, subst, length-append, arith, rules}
+use Rattle.std.proofs.Common.{◌≡◌, ℕ, suc, ◌+◌, ◌*◌, ◌^◌, ◌<◌, List, [], ◌∷◌, ◌++◌, length, sym, ap, ◌∙◌, subst, length-append, arith, rules}
 use Rattle.mdr_core.specs.declared.program.Program.{Program}
 use Rattle.mdr_outside.specs.declared.far.Exchange.{Exchange}
 use Rattle.mdr_model.specs.declared.message.Message.{Message}
-use Rattle.mdr_model.specs.declared.outcome.End.{End}
 use Rattle.mdr_model.specs.declared.outcome.End.TheVariants as ends
 use Rattle.mdr_model.specs.Sound.{IsSound}
 use Rattle.mdr_model.specs.Reading.{reading_of}
@@ -14,9 +13,9 @@ use Rattle.mdr_kernel.specs.declared.state.Pending.{Pending as CodePending}
 use Rattle.mdr_kernel.specs.declared.state.Pending.TheVariants as pending
 use Rattle.mdr_kernel.specs.declared.run.Turn.{Turn}
 use Rattle.mdr_kernel.specs.declared.run.Turn.TheVariants as turn
-use Rattle.mdr_kernel.specs.States.{world_of, kernel_of, rest_of, pending_of, IsSoundWorld}
+use Rattle.mdr_kernel.specs.States.{kernel_of, rest_of, pending_of, IsSoundWorld}
 use Rattle.mdr_kernel.specs.Runs.{Turned, HasEnded}
-use Rattle.mdr_kernel.proofs.Standing.{Standing, Stands, left_before, first_stands, commands_stand, next_stands, turn_smaller}
+use Rattle.mdr_kernel.proofs.Standing.{Stands, left_before, first_stands, commands_stand, next_stands, turn_smaller}
 use Rattle.mdr_kernel.proofs.Turns.{SoFar, first_of, begins_so, goes_so, over_so, fails_so}
 use Rattle.mdr_kernel.proofs.run.run_script.Goals as goal
 

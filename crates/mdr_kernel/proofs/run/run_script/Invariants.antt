@@ -1,4 +1,4 @@
-use Rattle.std.proofs.Common.{◌≡◌, ℕ, suc, ◌+◌, ◌-◌, ◌*◌, ◌≤◌, length}
+use Rattle.std.proofs.Common.{◌≡◌, suc, ◌+◌, ◌*◌, ◌≤◌, length}
 use Rattle.mdr_outside.specs.Far.{IsLoaded}
 use Rattle.mdr_kernel.specs.States.{pending_of}
 use Rattle.mdr_kernel.proofs.Standing.{Stands, left_before}
