@@ -17,3 +17,6 @@ mod words;
 pub use laws::run_is_meaning;
 pub use status::Status;
 pub use top::run;
+
+#[cfg(test)]
+mod tests;
