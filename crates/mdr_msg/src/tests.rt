@@ -1,6 +1,7 @@
 // Whole messages against bytes from outside, and damaged bytes.
 
 mod damaged;
+mod large;
 mod whole;
 
 use std::alloc::Global;
