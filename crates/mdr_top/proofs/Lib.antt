@@ -4,3 +4,4 @@ pub mod Programs
 pub mod BegunCalls
 pub mod Meanings
 pub mod Pieces
+pub mod SmallNumbers

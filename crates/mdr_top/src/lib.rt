@@ -9,6 +9,7 @@ mod lines;
 mod program;
 mod put;
 mod script;
+mod sizes;
 mod split;
 mod status;
 mod top;
