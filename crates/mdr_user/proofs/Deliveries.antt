@@ -192,3 +192,39 @@ module _ (program : Program) (n : ℕ) (copy : Memory) (deaths : List ℕ) (news
       answer_fit (and_true _ _ none r.lives)
       ∙ runs_same (filter (still_live (renewed_copy program deaths news copy)) seen) view left (rest_at program n next) (renewed_copy program deaths news copy) left_copy
       (v ∙ ap (λ (x : Memory). filter (still_live x) seen) r.copy_is) r.copy_is
+
+-- ---- kinds that aren't awaited now
+
+pub unawaited_call : (program : Program) (n : ℕ) (s : State) (func depth rest : ℕ) (args : List Wire) (deaths : List ℕ) (news : List New) (view : List SetRun) (runs : List Run) → (s.work ≡ Nothing → ⊥)
+    → deliver program (suc n) (user_of program n s) (Ok (message.Call func depth rest args deaths news view runs)) ≡ refusal program n 2 s
+unfolding deliver opened
+unawaited_call program n s func depth rest args deaths news view runs other = of s.work other
+  where
+    of : (w : Work) → (w ≡ Nothing → ⊥) → deliver program (suc n) (user_of program n (record s { work = w })) (Ok (message.Call func depth rest args deaths news view runs)) ≡ refusal program n 2 (record s { work = w })
+    of Nothing h = absurd (h refl)
+    of (AwaitsBack own seen next) h = refl
+    of (AwaitsAnswer asked seen left next) h = refl
+
+pub unawaited_back : (program : Program) (n : ℕ) (s : State) (rest : ℕ) (value : Wire) (deaths : List ℕ) (news : List New) (view : List SetRun) (runs : List Run)
+    → ((func : ℕ) (seen : List Cell) (next : Position) → s.work ≡ AwaitsBack func seen next → ⊥)
+    → deliver program (suc n) (user_of program n s) (Ok (message.Back rest value deaths news view runs)) ≡ refusal program n 2 s
+unfolding deliver opened
+unawaited_back program n s rest value deaths news view runs other = of s.work other
+  where
+    of : (w : Work) → ((func : ℕ) (seen : List Cell) (next : Position) → w ≡ AwaitsBack func seen next → ⊥)
+        → deliver program (suc n) (user_of program n (record s { work = w })) (Ok (message.Back rest value deaths news view runs)) ≡ refusal program n 2 (record s { work = w })
+    of Nothing h = refl
+    of (AwaitsBack own seen next) h = absurd (h own seen next refl)
+    of (AwaitsAnswer asked seen left next) h = refl
+
+pub unawaited_answer : (program : Program) (n : ℕ) (s : State) (results : List Wire) (deaths : List ℕ) (news : List New)
+    → ((asked : Asked) (seen : List Cell) (left : ℕ) (next : Position) → s.work ≡ AwaitsAnswer asked seen left next → ⊥)
+    → deliver program (suc n) (user_of program n s) (Ok (message.Answer results deaths news)) ≡ refusal program n 2 s
+unfolding deliver opened
+unawaited_answer program n s results deaths news other = of s.work other
+  where
+    of : (w : Work) → ((asked : Asked) (seen : List Cell) (left : ℕ) (next : Position) → w ≡ AwaitsAnswer asked seen left next → ⊥)
+        → deliver program (suc n) (user_of program n (record s { work = w })) (Ok (message.Answer results deaths news)) ≡ refusal program n 2 (record s { work = w })
+    of Nothing h = refl
+    of (AwaitsBack own seen next) h = refl
+    of (AwaitsAnswer asked seen left next) h = absurd (h asked seen left next refl)

@@ -204,7 +204,6 @@ fn answer(
 }
 
 /// An upcall, which is awaited where nothing is open.
-#[tactic(auto, unfolding(mdr_model::specs::User::deliver, mdr_model::specs::User::opened))]
 fn on_call(
     alloc: Global,
     program: &Program,
@@ -231,37 +230,17 @@ fn on_call(
             )?;
             Ok((message, state))
         }
-        Work::AwaitsBack {
-            func: own,
-            view: seen,
-            next,
-        } => {
-            let work = Work::AwaitsBack {
-                func: own,
-                view: seen,
-                next,
-            };
-            Ok(refused(2, State { agreed, work }))
-        }
-        Work::AwaitsAnswer {
-            asked,
-            view: seen,
-            left,
-            next,
-        } => {
-            let work = Work::AwaitsAnswer {
-                asked,
-                view: seen,
-                left,
-                next,
-            };
-            Ok(refused(2, State { agreed, work }))
-        }
+        other => Ok(refused(
+            2,
+            State {
+                agreed,
+                work: other,
+            },
+        )),
     }
 }
 
 /// The return of a downcall, which is awaited where one is open.
-#[tactic(auto, unfolding(mdr_model::specs::User::deliver, mdr_model::specs::User::opened))]
 fn on_back(
     alloc: Global,
     program: &Program,
@@ -290,29 +269,17 @@ fn on_back(
             )?;
             Ok((message, state))
         }
-        Work::Nothing => {
-            let work = Work::Nothing;
-            Ok(refused(2, State { agreed, work }))
-        }
-        Work::AwaitsAnswer {
-            asked,
-            view: seen,
-            left,
-            next,
-        } => {
-            let work = Work::AwaitsAnswer {
-                asked,
-                view: seen,
-                left,
-                next,
-            };
-            Ok(refused(2, State { agreed, work }))
-        }
+        other => Ok(refused(
+            2,
+            State {
+                agreed,
+                work: other,
+            },
+        )),
     }
 }
 
 /// The results of a service, which are awaited where one was asked for.
-#[tactic(auto, unfolding(mdr_model::specs::User::deliver, mdr_model::specs::User::opened))]
 fn on_answer(
     alloc: Global,
     program: &Program,
@@ -339,22 +306,13 @@ fn on_answer(
             )?;
             Ok((message, state))
         }
-        Work::Nothing => {
-            let work = Work::Nothing;
-            Ok(refused(2, State { agreed, work }))
-        }
-        Work::AwaitsBack {
-            func,
-            view: seen,
-            next,
-        } => {
-            let work = Work::AwaitsBack {
-                func,
-                view: seen,
-                next,
-            };
-            Ok(refused(2, State { agreed, work }))
-        }
+        other => Ok(refused(
+            2,
+            State {
+                agreed,
+                work: other,
+            },
+        )),
     }
 }
 

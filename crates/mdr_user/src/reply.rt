@@ -7,6 +7,9 @@ ghost use Rattle.mdr_model.specs.Copies.{changes, put_runs};
 ghost use Rattle.mdr_model.specs.Kernel.{stop_number};
 ghost use Rattle.mdr_model.specs.User.{replied};
 ghost use Rattle.mdr_model.specs.Holds.{IsSoundMemory};
+ghost use Rattle.mdr_model.specs.declared.wire.Wire.TheVariants.{NoValue};
+ghost use Rattle.mdr_model.specs.declared.message.Message.TheVariants.{Return, Stop};
+ghost use Rattle.mdr_user.specs.declared.state.Work.TheVariants.{Nothing};
 ghost use Rattle.mdr_user.specs.States.{delivered, IsSoundState};
 ghost use Rattle.mdr_user.specs.Statements.{reached_of, IsSoundEvent};
 ghost use Rattle.mdr_user.specs.Replies.{asks_so, crosses_so, told_with, IsShallow};
@@ -50,6 +53,39 @@ pub(crate) fn told_copy(copy: Items<MemoryBlock>, runs: &[Run]) -> Items<MemoryB
     let mut blocks = copy.into_vec();
     put_runs(&mut blocks, runs);
     Items::from_vec(blocks)
+}
+
+/// The reply that the function ended, after which nothing is open.
+fn ends(ticks: u64, agreed: Items<MemoryBlock>, runs: Items<Run>) -> (Message, State)
+    ensures { result ≡ (Return ticks NoValue runs, record { agreed = agreed; work = Nothing }) }
+{
+    let reply = Message::Return {
+        ticks,
+        result: Wire::NoValue,
+        runs,
+    };
+    let work = Work::Nothing;
+    (reply, State { agreed, work })
+}
+
+/// The reply that user code stopped, after which nothing is open.
+fn stops(
+    ticks: u64,
+    kind: StopKind,
+    at: At,
+    agreed: Items<MemoryBlock>,
+    runs: Items<Run>,
+) -> (Message, State)
+    ensures { result ≡ (Stop ticks (stop_number kind) at runs, record { agreed = agreed; work = Nothing }) }
+{
+    let reply = Message::Stop {
+        ticks,
+        stop: stop_number(kind),
+        at,
+        runs,
+    };
+    let work = Work::Nothing;
+    (reply, State { agreed, work })
 }
 
 /// The reply that asks for a service.
@@ -139,29 +175,8 @@ fn told_with(
     ensures sound { IfOk result (λ d. (program : AnyProgram) → IsSoundMemory program agreed → IsSoundEvent program event → IsSoundState program d.1) }
 {
     match event {
-        Event::Ended => Ok((
-            Message::Return {
-                ticks,
-                result: Wire::NoValue,
-                runs,
-            },
-            State {
-                agreed,
-                work: Work::Nothing,
-            },
-        )),
-        Event::Stopped(kind, at) => Ok((
-            Message::Stop {
-                ticks,
-                stop: stop_number(kind),
-                at,
-                runs,
-            },
-            State {
-                agreed,
-                work: Work::Nothing,
-            },
-        )),
+        Event::Ended => Ok(ends(ticks, agreed, runs)),
+        Event::Stopped(kind, at) => Ok(stops(ticks, kind, at, agreed, runs)),
         Event::Asks(asked, next) => asks(
             alloc, view, ticks, left, memory, agreed, runs, asked, next,
         ),

@@ -102,7 +102,8 @@ fn run_over<F: Far>(
     run: &[(&str, &str)],
 ) -> Result<(), Fail> {
     let answer = far.load(alloc, source.as_bytes(), &[]);
-    assert_eq!(rt; answer, LoadAnswer::Ok);
+    let is_ok = answer == LoadAnswer::Ok;
+    assert!(rt; is_ok);
     for (sent, reply) in run {
         let message = bytes_of(alloc, sent)?;
         let expected = bytes_of(alloc, reply)?;
