@@ -4,3 +4,4 @@ pub mod Lines
 pub mod Answers
 pub mod Stages
 pub mod Meanings
+pub mod Headline
