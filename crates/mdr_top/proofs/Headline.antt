@@ -48,7 +48,7 @@ fails (ends.Stop kind at) h = elim h [ ]
 fails (ends.Refused exchange cause number) h = elim h [ ]
 fails (ends.FarFault exchange) h = refl
 
-nothing_end : (program : Program) (end : End) → (nothing_ran program end).end ≡ end
+pub nothing_end : (program : Program) (end : End) → (nothing_ran program end).end ≡ end
 unfolding outcome_of
 nothing_end program end = refl
 

@@ -6,4 +6,5 @@ pub mod Meanings
 pub mod Headline
 pub mod SameScripts
 pub mod Complete
+pub mod Comes
 pub mod Pieces

@@ -5,3 +5,4 @@ pub mod Answers
 pub mod Stages
 pub mod Meanings
 pub mod Headline
+pub mod Comes

@@ -9,6 +9,7 @@ ghost use Rattle.mdr_top.specs.Statuses.{HasReadCause};
 ghost use Rattle.mdr_user.specs.Honest.{IsHonest};
 ghost use Rattle.mdr_top.specs.Answers.{Prints, AddsPart};
 ghost use Rattle.mdr_top.specs.Headline.{Rests, Means, Completes};
+ghost use Rattle.mdr_top.specs.Comes.{Comes};
 
 use crate::answer::answered;
 use crate::status::Status;
@@ -79,6 +80,7 @@ pub fn run<S: Shelf, O: Sink, F: Far>(
     ensures far_cause { result ≡ status.FarFault → Rose (F.faults far.old) (F.faults far.new) }
     ensures write_cause { result ≡ status.WriteFault → Rose (O.faults out.old) (O.faults out.new) }
     ensures meaning { IsHonest (F.loaded far.new) (F.exchanges far.new) → Means (map string_bytes words.now.items) (S.files shelf.old) (F.exchanges far.new) (O.written out.old) (O.written out.new) result }
+    ensures comes { Comes (map string_bytes words.now.items) (S.files shelf.old) (F.loaded far.new) (F.exchanges far.new) result }
     ensures complete { Rests (S.faults shelf.old) (S.faults shelf.new) → Rests (O.faults out.old) (O.faults out.new) → Rests (F.faults far.old) (F.faults far.new) → IsHonest (F.loaded far.new) (F.exchanges far.new) → Completes (map string_bytes words.now.items) (S.files shelf.old) result }
 {
     printed(alloc, words, shelf, out, far)

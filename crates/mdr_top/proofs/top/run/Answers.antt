@@ -1,5 +1,6 @@
 use Rattle.mdr_top.proofs.Headline.{prints_mean}
 use Rattle.mdr_top.proofs.Complete.{completes}
+use Rattle.mdr_top.proofs.Comes.{prints_comes}
 use Rattle.mdr_top.proofs.top.run.Goals as goal
 
 pub returns-clause-meaning : goal.returns-clause-meaning
@@ -8,3 +9,6 @@ returns-clause-meaning g c = λ honest. prints_mean _ _ _ _ _ _ _ c.printed.ensu
 pub returns-clause-complete : goal.returns-clause-complete
 returns-clause-complete g c = λ reads writes far honest source program calls told accepted.
     completes _ _ _ _ _ _ _ _ _ _ _ _ _ c.printed.ensures.prints c.printed.ensures.read_cause c.printed.ensures.write_cause c.printed.ensures.far_cause reads writes far honest source program calls told accepted
+
+pub returns-clause-comes : goal.returns-clause-comes
+returns-clause-comes g c = prints_comes _ _ _ _ _ _ _ c.printed.ensures.prints
