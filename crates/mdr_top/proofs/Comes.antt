@@ -41,14 +41,14 @@ module _ (words : List (List ℕ)) (files : Files) (loaded : Option Loaded) (es 
   end_comes (ends.FarFault exchange) h = h
 
   -- the end of a run, and its status
-  end_of : (program : Program) (source calls : List ℕ) (s : Status) (text : List ℕ) → Ran program source calls loaded es s text → (end : End) × Ends program source calls loaded es end × (s ≡ status_of end)
+  pub end_of : (program : Program) (source calls : List ℕ) (s : Status) (text : List ℕ) → Ran program source calls loaded es s text → (end : End) × Ends program source calls loaded es end × (s ≡ status_of end)
   end_of program source calls s text (Ran.began is b) = (b.outcome.end, Ends.began b.outcome is b.run_is refl, b.reported.status_is)
   end_of program source calls s text (Ran.refused cause is r) = (ends.Refused 0 refusal.Load 0, Ends.refused cause is refl, r.status_is ∙ ap status_of (nothing_end program (ends.Refused 0 refusal.Load 0)))
   end_of program source calls s text (Ran.failed is r) = (ends.FarFault 0, Ends.failed is refl, r.status_is ∙ ap status_of (nothing_end program (ends.FarFault 0)))
 
   scripted_comes : (name script_name source : List ℕ) (program : Program) (s : Status) (text : List ℕ) → command_of words ≡ Some (name, script_name) → ReadsFrom files name longest_source (reads.Ok source) → HasProgram source program
       → Scripted files script_name program source loaded es s text → Comes words files loaded es s
-  scripted_comes name script_name source program s text e r h (Scripted.unread u) = unread_comes script_name longest_script s text (IsWanted.script name source program e r h refl) u
+  scripted_comes name script_name source program s text e r h (Scripted.unread u) = unread_comes script_name longest_script s text (IsWanted.as_script name source program e r h refl) u
   scripted_comes name script_name source program s text e r h (Scripted.read script r' (Called.refused n)) =
       subst (Comes words files loaded es) (sym n.status_is) (record {
         source = source; program = program; source_name = name; script_name = script_name; command = e; source_read = r; compiled = h; script = script; script_read = r'; line = n.line; refused = n.refused;
@@ -66,7 +66,7 @@ module _ (words : List (List ℕ)) (files : Files) (loaded : Option Loaded) (es 
       }))
 
   sourced_comes : (name script_name : List ℕ) (s : Status) (text : List ℕ) → command_of words ≡ Some (name, script_name) → Sourced files name script_name loaded es s text → Comes words files loaded es s
-  sourced_comes name script_name s text e (Sourced.unread u) = unread_comes name longest_source s text (IsWanted.source script_name e refl) u
+  sourced_comes name script_name s text e (Sourced.unread u) = unread_comes name longest_source s text (IsWanted.as_source script_name e refl) u
   sourced_comes name script_name s text e (Sourced.read source r (Compiled.refused n)) = source_comes n
     where
       source_comes : NoProgram source s text → Comes words files loaded es s

@@ -31,7 +31,7 @@ use Rattle.mdr_top.proofs.Meanings.{run_is_meaning}
 
 -- ---- a run
 
-text_of : (source : List ℕ) (program : Program) → HasProgram source program → program_of_text source ≡ Some (program_view program)
+pub text_of : (source : List ℕ) (program : Program) → HasProgram source program → program_of_text source ≡ Some (program_view program)
 text_of source program h = ap program_of_tokens h.read ∙ h.view
 
 -- what an honest far side holds of a program's source

@@ -7,4 +7,5 @@ pub mod Headline
 pub mod SameScripts
 pub mod Complete
 pub mod Comes
+pub mod Exact
 pub mod Pieces

@@ -32,8 +32,8 @@ pub record IsSource (words : List (List ℕ)) (files : Files) (source : List ℕ
 
 -- a file that the words name: the source, and the script once the source is a program
 pub data IsWanted (words : List (List ℕ)) (files : Files) (name : List ℕ) (limit : ℕ) : Type 0 where
-  source : (script_name : List ℕ) → command_of words ≡ Some (name, script_name) → limit ≡ longest_source → IsWanted words files name limit
-  script : (source_name source : List ℕ) (program : Program) → command_of words ≡ Some (source_name, name) → ReadsFrom files source_name longest_source (reads.Ok source) → HasProgram source program → limit ≡ longest_script → IsWanted words files name limit
+  as_source : (script_name : List ℕ) → command_of words ≡ Some (name, script_name) → limit ≡ longest_source → IsWanted words files name limit
+  as_script : (source_name source : List ℕ) (program : Program) → command_of words ≡ Some (source_name, name) → ReadsFrom files source_name longest_source (reads.Ok source) → HasProgram source program → limit ≡ longest_script → IsWanted words files name limit
 
 -- a file that the words name is answered so
 pub record IsAnswered (words : List (List ℕ)) (files : Files) (answer : ReadAnswer) : Type 0 where
@@ -92,3 +92,61 @@ Comes words files loaded es status.Marshal = IsEnd words files loaded es status.
 Comes words files loaded es status.FarFault = IsEnd words files loaded es status.FarFault
 Comes words files loaded es status.WriteFault = Unit {0}
 Comes words files loaded es status.OutOfMemory = Unit {0}
+
+-- ---- exactly where
+
+abbrev pub heads : ProgramView → List Func
+heads view = map (λ (f : FuncView). f.head) view.funcs
+
+-- a file that is too long, or what its bytes give
+abbrev pub sized : Bool → Option Status → Option Status
+sized true given = Some status.TooLarge
+sized false given = given
+
+abbrev pub calls_due : Result (List ℕ) ℕ → Option Status
+calls_due (Ok calls) = None
+calls_due (Err line) = Some status.ScriptRefused
+
+abbrev pub script_due : List Func → Option (List ℕ) → Option Status
+script_due funcs None = Some status.Missing
+script_due funcs (Some script) = sized (nat_lt longest_script (length script)) (calls_due (calls_of funcs script))
+
+abbrev pub program_due : Option ProgramView → Option (List ℕ) → Option Status
+program_due None script = Some status.SourceRefused
+program_due (Some view) script = script_due (heads view) script
+
+abbrev pub source_due : Option (List ℕ) → Option (List ℕ) → Option Status
+source_due None script = Some status.Missing
+source_due (Some source) script = sized (nat_lt longest_source (length source)) (program_due (program_of_text source) script)
+
+-- the status that words and files give where nothing fails, or none where they give a run
+abbrev pub due_of : Option (List ℕ × List ℕ) → (List ℕ → Option (List ℕ)) → Option Status
+due_of None f = Some status.Usage
+due_of (Some names) f = source_due (f names.0) (f names.1)
+
+-- a status that a run ends with
+abbrev pub IsOfRun : Status → Type 0
+IsOfRun status.Done = Unit {0}
+IsOfRun status.Usage = ⊥
+IsOfRun status.SourceRefused = ⊥
+IsOfRun status.ScriptRefused = ⊥
+IsOfRun status.ReadFault = ⊥
+IsOfRun status.WriteFault = ⊥
+IsOfRun status.FarFault = Unit {0}
+IsOfRun status.Marshal = Unit {0}
+IsOfRun status.Stopped = Unit {0}
+IsOfRun status.OutOfMemory = ⊥
+IsOfRun status.Missing = ⊥
+IsOfRun status.TooLarge = ⊥
+
+abbrev pub IsDueTo : Option Status → Status → Type 0
+IsDueTo (Some due) s = s ≡ due
+IsDueTo None s = IsOfRun s
+
+-- the status is what words and files give, but a read or a write may fail, and memory may be wanting
+abbrev pub IsDueOrFault : Option Status → Status → Type 0
+IsDueOrFault due s = (s ≡ status.ReadFault) ⊎ ((s ≡ status.WriteFault) ⊎ ((s ≡ status.OutOfMemory) ⊎ IsDueTo due s))
+
+-- where the files are told
+abbrev pub IsExact : List (List ℕ) → Files → Status → Type 0
+IsExact words files s = IfSome files (λ f. IsDueOrFault (due_of (command_of words) f) s)

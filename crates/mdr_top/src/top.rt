@@ -1,6 +1,6 @@
 // The top call.
 
-ghost use Rattle.std.specs.Prelude.{◌≡◌, ◌≤◌, false, length, drop, map, string_bytes};
+ghost use Rattle.std.specs.Prelude.{◌≡◌, ◌≤◌, false, length, drop, map, string_bytes, ◌⊎◌, None};
 ghost use Rattle.mdr_outside.specs.Count.{Rose};
 ghost use Rattle.mdr_outside.specs.Sink.{Takes};
 ghost use Rattle.mdr_outside.specs.declared.sink.SinkAnswer.TheVariants as sinks;
@@ -9,7 +9,8 @@ ghost use Rattle.mdr_top.specs.Statuses.{HasReadCause};
 ghost use Rattle.mdr_user.specs.Honest.{IsHonest};
 ghost use Rattle.mdr_top.specs.Answers.{Prints, AddsPart};
 ghost use Rattle.mdr_top.specs.Headline.{Rests, Means, Completes};
-ghost use Rattle.mdr_top.specs.Comes.{Comes};
+ghost use Rattle.mdr_top.specs.Comes.{Comes, IsExact};
+ghost use Rattle.mdr_top.specs.Words.{command_of};
 
 use crate::answer::answered;
 use crate::status::Status;
@@ -81,6 +82,8 @@ pub fn run<S: Shelf, O: Sink, F: Far>(
     ensures write_cause { result ≡ status.WriteFault → Rose (O.faults out.old) (O.faults out.new) }
     ensures meaning { IsHonest (F.loaded far.new) (F.exchanges far.new) → Means (map string_bytes words.now.items) (S.files shelf.old) (F.exchanges far.new) (O.written out.old) (O.written out.new) result }
     ensures comes { Comes (map string_bytes words.now.items) (S.files shelf.old) (F.loaded far.new) (F.exchanges far.new) result }
+    ensures exact { IsExact (map string_bytes words.now.items) (S.files shelf.old) result }
+    ensures usage { command_of (map string_bytes words.now.items) ≡ None → (result ≡ status.Usage) ⊎ ((result ≡ status.WriteFault) ⊎ (result ≡ status.OutOfMemory)) }
     ensures complete { Rests (S.faults shelf.old) (S.faults shelf.new) → Rests (O.faults out.old) (O.faults out.new) → Rests (F.faults far.old) (F.faults far.new) → IsHonest (F.loaded far.new) (F.exchanges far.new) → Completes (map string_bytes words.now.items) (S.files shelf.old) result }
 {
     printed(alloc, words, shelf, out, far)

@@ -1,6 +1,7 @@
 use Rattle.mdr_top.proofs.Headline.{prints_mean}
 use Rattle.mdr_top.proofs.Complete.{completes}
 use Rattle.mdr_top.proofs.Comes.{prints_comes}
+use Rattle.mdr_top.proofs.Exact.{prints_exactly, usage_comes}
 use Rattle.mdr_top.proofs.top.run.Goals as goal
 
 pub returns-clause-meaning : goal.returns-clause-meaning
@@ -12,3 +13,9 @@ returns-clause-complete g c = λ reads writes far honest source program calls to
 
 pub returns-clause-comes : goal.returns-clause-comes
 returns-clause-comes g c = prints_comes _ _ _ _ _ _ _ c.printed.ensures.prints
+
+pub returns-clause-exact : goal.returns-clause-exact
+returns-clause-exact g c = prints_exactly _ _ _ _ _ _ _ c.printed.ensures.prints
+
+pub returns-clause-usage : goal.returns-clause-usage
+returns-clause-usage g c = λ none. usage_comes _ _ _ _ _ _ _ c.printed.ensures.prints none
