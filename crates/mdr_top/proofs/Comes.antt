@@ -1,5 +1,5 @@
 -- What holds where a status comes.
-use Rattle.std.proofs.Common.{◌≡◌, ℕ, ◌⊎◌, inl, inr, List, Option, Some, None, Result, Ok, Err, refl, sym, ap, ◌∙◌, subst}
+use Rattle.std.proofs.Common.{◌≡◌, ℕ, List, Option, Some, None, refl, sym, ap, ◌∙◌, subst}
 use Rattle.mdr_core.specs.declared.program.Program.{Program}
 use Rattle.mdr_core.specs.declared.refusal.RefuseKind.TheVariants as refusal
 use Rattle.mdr_model.specs.declared.outcome.End.{End}
@@ -8,9 +8,6 @@ use Rattle.mdr_outside.specs.declared.shelf.ReadAnswer.TheVariants as reads
 use Rattle.mdr_outside.specs.declared.far.Loaded.{Loaded}
 use Rattle.mdr_outside.specs.declared.far.Exchange.{Exchange}
 use Rattle.mdr_outside.specs.Shelf.{ReadsFrom}
-use Rattle.mdr_syntax.specs.declared.token.Token.{Token}
-use Rattle.mdr_syntax.specs.Reading.{whats}
-use Rattle.mdr_syntax.specs.Sources.{program_of}
 use Rattle.mdr_user.specs.Honest.{program_of_tokens, program_of_text}
 use Rattle.mdr_top.specs.declared.status.Status.{Status}
 use Rattle.mdr_top.specs.declared.status.Status.TheVariants as status
@@ -51,7 +48,17 @@ module _ (words : List (List ℕ)) (files : Files) (loaded : Option Loaded) (es 
   scripted_comes name script_name source program s text e r h (Scripted.unread u) = unread_comes script_name longest_script s text (IsWanted.as_script name source program e r h refl) u
   scripted_comes name script_name source program s text e r h (Scripted.read script r' (Called.refused n)) =
       subst (Comes words files loaded es) (sym n.status_is) (record {
-        source = source; program = program; source_name = name; script_name = script_name; command = e; source_read = r; compiled = h; script = script; script_read = r'; line = n.line; refused = n.refused;
+        source = source;
+        program = program;
+        source_name = name;
+        script_name = script_name;
+        command = e;
+        source_read = r;
+        compiled = h;
+        script = script;
+        script_read = r';
+        line = n.line;
+        refused = n.refused;
       })
   scripted_comes name script_name source program s text e r h (Scripted.read script r' (Called.accepted calls h' ran)) =
       let end = end_of program source calls s text ran in

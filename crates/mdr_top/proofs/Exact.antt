@@ -1,9 +1,8 @@
 -- The status is what words and files give.
-use Rattle.std.proofs.Common.{◌≡◌, ℕ, ◌<◌, ◌≤◌, ◌⊎◌, inl, inr, Bool, true, false, nat_lt, List, length, Option, Some, None, Result, Ok, Err, refl, sym, ap, ◌∙◌, subst}
+use Rattle.std.proofs.Common.{◌≡◌, ℕ, ◌<◌, ◌≤◌, ◌⊎◌, inl, inr, Bool, nat_lt, List, length, Option, Some, None, Result, refl, sym, ap, ◌∙◌, subst}
 use Rattle.std.specs.Prelude.{IsSomeAnd}
 use Rattle.std.proofs.lemmas.Bool.{lt-ltb, le-ltb}
 use Rattle.mdr_core.specs.declared.program.Program.{Program}
-use Rattle.mdr_core.specs.declared.program.Func.{Func}
 use Rattle.mdr_model.specs.declared.outcome.End.{End}
 use Rattle.mdr_model.specs.declared.outcome.End.TheVariants as ends
 use Rattle.mdr_outside.specs.declared.far.Loaded.{Loaded}
@@ -14,7 +13,7 @@ use Rattle.mdr_user.specs.Honest.{program_of_text}
 use Rattle.mdr_top.specs.declared.status.Status.{Status}
 use Rattle.mdr_top.specs.declared.status.Status.TheVariants as status
 use Rattle.mdr_top.specs.Words.{command_of}
-use Rattle.mdr_top.specs.Answers.{Files, longest_source, longest_script, status_of, Unread, NoProgram, HasProgram, Ran, Called, Scripted, Compiled, Sourced, Answered, Prints}
+use Rattle.mdr_top.specs.Answers.{Files, longest_source, longest_script, status_of, Unread, NoProgram, Called, Scripted, Compiled, Sourced, Answered, Prints}
 use Rattle.mdr_top.specs.Comes.{heads, sized, calls_due, script_due, program_due, source_due, due_of, IsOfRun, IsDueTo, IsDueOrFault, IsExact}
 use Rattle.mdr_top.proofs.Headline.{text_of}
 use Rattle.mdr_top.proofs.SameScripts.{head_calls}

@@ -1,5 +1,5 @@
 -- What is printed over an honest far side is the one-memory meaning.
-use Rattle.std.proofs.Common.{◌≡◌, ℕ, ◌+◌, ◌*◌, ◌≤◌, ◌⊎◌, inl, inr, List, [], length, Option, Some, None, Result, Ok, Err, refl, sym, ap, ◌∙◌, subst}
+use Rattle.std.proofs.Common.{◌≡◌, ℕ, ◌+◌, ◌*◌, ◌≤◌, ◌⊎◌, inl, inr, List, [], length, Option, Some, refl, sym, ap, ◌∙◌, subst}
 use Rattle.std.specs.Prelude.{IfSome}
 use Rattle.mdr_core.specs.declared.program.Program.{Program}
 use Rattle.mdr_model.specs.declared.outcome.End.{End}
@@ -25,7 +25,7 @@ use Rattle.mdr_top.specs.declared.status.Status.{Status}
 use Rattle.mdr_top.specs.declared.status.Status.TheVariants as status
 use Rattle.mdr_top.specs.Words.{command_of}
 use Rattle.mdr_top.specs.Meanings.{IsMeant}
-use Rattle.mdr_top.specs.Answers.{Files, longest_source, longest_script, default_ticks, status_of, nothing_ran, Unread, NoProgram, HasProgram, NoScript, HasScript, Reported, Began, Ran, Called, Scripted, Compiled, Sourced, Answered, Adds, Prints}
+use Rattle.mdr_top.specs.Answers.{Files, longest_source, longest_script, default_ticks, status_of, nothing_ran, Unread, NoProgram, HasProgram, Reported, Began, Ran, Called, Scripted, Compiled, Sourced, Answered, Prints}
 use Rattle.mdr_top.specs.Headline.{meant, IsMeaning, IsAccepted, MeansBy, Means}
 use Rattle.mdr_top.proofs.Meanings.{run_is_meaning}
 
@@ -38,9 +38,10 @@ text_of source program h = ap program_of_tokens h.read ∙ h.view
 honest_load : (source : List ℕ) (program : Program) (loaded : Option Loaded) (answer : LoadAnswer) (es : List Exchange) → HasProgram source program → loaded ≡ Some (loaded_with source [] answer)
     → IsHonest loaded es → IsHonestLoad (Some (program_view program)) answer × IsServed (program_view program) es
 honest_load source program loaded answer es h is honest =
-    let since : IsHonestSince (loaded_with source [] answer) es = subst (λ (l : Option Loaded). IsHonest l es) is honest in
-    (subst (λ (v : Option ProgramView). IsHonestLoad v answer) (text_of source program h) since.load,
-     subst (λ (v : Option ProgramView). IfSome v (λ view. IsServed view es)) (text_of source program h) since.served)
+    let since : IsHonestSince (loaded_with source [] answer) es = subst (λ (l : Option Loaded). IsHonest l es) is honest in (
+      subst (λ (v : Option ProgramView). IsHonestLoad v answer) (text_of source program h) since.load,
+      subst (λ (v : Option ProgramView). IfSome v (λ view. IsServed view es)) (text_of source program h) since.served,
+    )
 
 fails : (end : End) → IsFarFault end → status_of end ≡ status.FarFault
 fails ends.Ok h = elim h [ ]

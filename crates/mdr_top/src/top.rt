@@ -42,7 +42,7 @@ fn written<O: Sink>(out: &mut O, text: &[u8]) -> bool
     true
 }
 
-/// Does what the words say. What the run of an honest far side means, and which status comes where, follows.
+/// Does what the words say. All that `run` ensures follows from what this prints and from the causes.
 fn printed<S: Shelf, O: Sink, F: Far>(
     alloc: Global,
     words: &Vec<String>,
