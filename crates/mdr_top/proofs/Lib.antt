@@ -3,5 +3,10 @@ pub mod Bound
 pub mod Programs
 pub mod BegunCalls
 pub mod Meanings
+pub mod Headline
+pub mod SameScripts
+pub mod Complete
+pub mod Comes
+pub mod Exact
 pub mod Pieces
 pub mod SmallNumbers

@@ -5,3 +5,5 @@ pub mod Lines
 pub mod Answers
 pub mod Stages
 pub mod Meanings
+pub mod Headline
+pub mod Comes

@@ -1,12 +1,16 @@
 // The top call.
 
-ghost use Rattle.std.specs.Prelude.{◌≡◌, ◌≤◌, false, length, drop, map, string_bytes};
+ghost use Rattle.std.specs.Prelude.{◌≡◌, ◌≤◌, false, length, drop, map, string_bytes, ◌⊎◌, None};
 ghost use Rattle.mdr_outside.specs.Count.{Rose};
 ghost use Rattle.mdr_outside.specs.Sink.{Takes};
 ghost use Rattle.mdr_outside.specs.declared.sink.SinkAnswer.TheVariants as sinks;
 ghost use Rattle.mdr_top.specs.declared.status.Status.TheVariants as status;
 ghost use Rattle.mdr_top.specs.Statuses.{HasReadCause};
+ghost use Rattle.mdr_user.specs.Honest.{IsHonest};
 ghost use Rattle.mdr_top.specs.Answers.{Prints, AddsPart};
+ghost use Rattle.mdr_top.specs.Headline.{Rests, Means, Completes};
+ghost use Rattle.mdr_top.specs.Comes.{Comes, IsExact};
+ghost use Rattle.mdr_top.specs.Words.{command_of};
 
 use crate::answer::answered;
 use crate::status::Status;
@@ -38,9 +42,8 @@ fn written<O: Sink>(out: &mut O, text: &[u8]) -> bool
     true
 }
 
-/// Does what the words say: reads the source and the script from the shelf, runs the script over the far side,
-/// and writes the report, or why there is none. Nothing is written before all of it is made.
-pub fn run<S: Shelf, O: Sink, F: Far>(
+/// Does what the words say. All that `run` ensures follows from what this prints and from the causes.
+fn printed<S: Shelf, O: Sink, F: Far>(
     alloc: Global,
     words: &Vec<String>,
     shelf: &mut S,
@@ -62,4 +65,26 @@ pub fn run<S: Shelf, O: Sink, F: Far>(
         }
         Err(_) => Status::OutOfMemory,
     }
+}
+
+/// Does what the words say: reads the source and the script from the shelf, runs the script over the far side,
+/// and writes the report, or why there is none. Nothing is written before all of it is made.
+pub fn run<S: Shelf, O: Sink, F: Far>(
+    alloc: Global,
+    words: &Vec<String>,
+    shelf: &mut S,
+    out: &mut O,
+    far: &mut F,
+) -> Status
+    ensures prints { Prints (map string_bytes words.now.items) (S.files shelf.old) (F.loaded far.new) (F.exchanges far.new) (O.written out.old) (O.written out.new) result }
+    ensures read_cause { HasReadCause (record { faults = S.faults shelf.old; absent = S.absent shelf.old; long = S.long shelf.old }) (record { faults = S.faults shelf.new; absent = S.absent shelf.new; long = S.long shelf.new }) result }
+    ensures far_cause { result ≡ status.FarFault → Rose (F.faults far.old) (F.faults far.new) }
+    ensures write_cause { result ≡ status.WriteFault → Rose (O.faults out.old) (O.faults out.new) }
+    ensures meaning { IsHonest (F.loaded far.new) (F.exchanges far.new) → Means (map string_bytes words.now.items) (S.files shelf.old) (F.exchanges far.new) (O.written out.old) (O.written out.new) result }
+    ensures comes { Comes (map string_bytes words.now.items) (S.files shelf.old) (F.loaded far.new) (F.exchanges far.new) result }
+    ensures exact { IsExact (map string_bytes words.now.items) (S.files shelf.old) result }
+    ensures usage { command_of (map string_bytes words.now.items) ≡ None → (result ≡ status.Usage) ⊎ ((result ≡ status.WriteFault) ⊎ (result ≡ status.OutOfMemory)) }
+    ensures complete { Rests (S.faults shelf.old) (S.faults shelf.new) → Rests (O.faults out.old) (O.faults out.new) → Rests (F.faults far.old) (F.faults far.new) → IsHonest (F.loaded far.new) (F.exchanges far.new) → Completes (map string_bytes words.now.items) (S.files shelf.old) result }
+{
+    printed(alloc, words, shelf, out, far)
 }

@@ -1,18 +1,21 @@
-use Rattle.std.proofs.Common.{ℕ, ◌≤◌, List, length, take, map, refl, subst}
-use Rattle.std.specs.Prelude.{string_bytes}
-use Rattle.mdr_top.specs.Answers.{Answered, Adds}
-use Rattle.mdr_top.specs.Answers.Prints.{whole, cut}
+use Rattle.mdr_top.proofs.Headline.{prints_mean}
+use Rattle.mdr_top.proofs.Complete.{completes}
+use Rattle.mdr_top.proofs.Comes.{prints_comes}
+use Rattle.mdr_top.proofs.Exact.{prints_exactly, usage_comes}
 use Rattle.mdr_top.proofs.top.run.Goals as goal
 
-pub returns-then-written-clause-prints : goal.returns-then-written-clause-prints
-returns-then-written-clause-prints g c =
-    whole c.in-Ok.due.text.items
-    (subst (λ ws. Answered (map string_bytes ws) (g.S.Shelf.files c.args.shelf.now) (g.F.Far.loaded c.answered.new.far) (g.F.Far.exchanges c.answered.new.far) c.in-Ok.due.status c.in-Ok.due.text.items) c.as_slice.ensures.value c.in-Ok.ensures.answered)
-    (subst (λ (t : List ℕ). Adds (g.O.Sink.written c.args.out.now) (g.O.Sink.written c.written.new.out) t) c.as_slice-in-Ok.ensures.value c.if-written.ensures.added)
+pub returns-clause-meaning : goal.returns-clause-meaning
+returns-clause-meaning g c = λ honest. prints_mean _ _ _ _ _ _ _ c.printed.ensures.prints honest
 
-pub returns-in-Ok-clause-prints : goal.returns-in-Ok-clause-prints
-returns-in-Ok-clause-prints g c =
-    let part = subst (λ (t : List ℕ). (n : ℕ) × (n ≤ length t) × Adds (g.O.Sink.written c.args.out.now) (g.O.Sink.written c.written.new.out) (take n t)) c.as_slice-in-Ok.ensures.value c.if-written.ensures.added in
-    cut c.in-Ok.due.status c.in-Ok.due.text.items part.0 refl
-    (subst (λ ws. Answered (map string_bytes ws) (g.S.Shelf.files c.args.shelf.now) (g.F.Far.loaded c.answered.new.far) (g.F.Far.exchanges c.answered.new.far) c.in-Ok.due.status c.in-Ok.due.text.items) c.as_slice.ensures.value c.in-Ok.ensures.answered)
-    part.1 part.2
+pub returns-clause-complete : goal.returns-clause-complete
+returns-clause-complete g c = λ reads writes far honest source program calls told accepted.
+    completes _ _ _ _ _ _ _ _ _ _ _ _ _ c.printed.ensures.prints c.printed.ensures.read_cause c.printed.ensures.write_cause c.printed.ensures.far_cause reads writes far honest source program calls told accepted
+
+pub returns-clause-comes : goal.returns-clause-comes
+returns-clause-comes g c = prints_comes _ _ _ _ _ _ _ c.printed.ensures.prints
+
+pub returns-clause-exact : goal.returns-clause-exact
+returns-clause-exact g c = prints_exactly _ _ _ _ _ _ _ c.printed.ensures.prints
+
+pub returns-clause-usage : goal.returns-clause-usage
+returns-clause-usage g c = λ none. usage_comes _ _ _ _ _ _ _ c.printed.ensures.prints none

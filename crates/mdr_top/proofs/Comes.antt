@@ -1,0 +1,91 @@
+-- What holds where a status comes.
+use Rattle.std.proofs.Common.{◌≡◌, ℕ, List, Option, Some, None, refl, sym, ap, ◌∙◌, subst}
+use Rattle.mdr_core.specs.declared.program.Program.{Program}
+use Rattle.mdr_core.specs.declared.refusal.RefuseKind.TheVariants as refusal
+use Rattle.mdr_model.specs.declared.outcome.End.{End}
+use Rattle.mdr_model.specs.declared.outcome.End.TheVariants as ends
+use Rattle.mdr_outside.specs.declared.shelf.ReadAnswer.TheVariants as reads
+use Rattle.mdr_outside.specs.declared.far.Loaded.{Loaded}
+use Rattle.mdr_outside.specs.declared.far.Exchange.{Exchange}
+use Rattle.mdr_outside.specs.Shelf.{ReadsFrom}
+use Rattle.mdr_user.specs.Honest.{program_of_tokens, program_of_text}
+use Rattle.mdr_top.specs.declared.status.Status.{Status}
+use Rattle.mdr_top.specs.declared.status.Status.TheVariants as status
+use Rattle.mdr_top.specs.Words.{command_of}
+use Rattle.mdr_top.specs.Answers.{Files, longest_source, longest_script, status_of, Unread, NoProgram, HasProgram, Ran, Called, Scripted, Compiled, Sourced, Answered, Prints}
+use Rattle.mdr_top.specs.Comes.{IsWanted, Ends, IsEnd, Comes}
+use Rattle.mdr_top.proofs.Headline.{nothing_end}
+
+pub no_program : (source : List ℕ) (s : Status) (text : List ℕ) → NoProgram source s text → program_of_text source ≡ None
+no_program source s text (NoProgram.fault e r is t) = ap program_of_tokens r
+no_program source s text (NoProgram.unbuilt ts r none is t) = ap program_of_tokens r ∙ none
+
+-- a read that failed says nothing
+failed_reads : (files : Files) (name : List ℕ) (limit : ℕ) → ReadsFrom files name limit reads.Failed
+failed_reads None name limit = tt
+failed_reads (Some f) name limit = tt
+
+module _ (words : List (List ℕ)) (files : Files) (loaded : Option Loaded) (es : List Exchange) where
+  unread_comes : (name : List ℕ) (limit : ℕ) (s : Status) (text : List ℕ) → IsWanted words files name limit → Unread files name limit s text → Comes words files loaded es s
+  unread_comes name limit s text w (Unread.missing r e t) = subst (Comes words files loaded es) (sym e) (record { name = name; limit = limit; wanted = w; answers = r })
+  unread_comes name limit s text w (Unread.long r e t) = subst (Comes words files loaded es) (sym e) (record { name = name; limit = limit; wanted = w; answers = r })
+  unread_comes name limit s text w (Unread.failed e t) = subst (Comes words files loaded es) (sym e) (record { name = name; limit = limit; wanted = w; answers = failed_reads files name limit })
+
+  end_comes : (end : End) → IsEnd words files loaded es (status_of end) → Comes words files loaded es (status_of end)
+  end_comes ends.Ok h = h
+  end_comes (ends.Stop kind at) h = h
+  end_comes (ends.Refused exchange cause number) h = h
+  end_comes (ends.FarFault exchange) h = h
+
+  -- the end of a run, and its status
+  pub end_of : (program : Program) (source calls : List ℕ) (s : Status) (text : List ℕ) → Ran program source calls loaded es s text → (end : End) × Ends program source calls loaded es end × (s ≡ status_of end)
+  end_of program source calls s text (Ran.began is b) = (b.outcome.end, Ends.began b.outcome is b.run_is refl, b.reported.status_is)
+  end_of program source calls s text (Ran.refused cause is r) = (ends.Refused 0 refusal.Load 0, Ends.refused cause is refl, r.status_is ∙ ap status_of (nothing_end program (ends.Refused 0 refusal.Load 0)))
+  end_of program source calls s text (Ran.failed is r) = (ends.FarFault 0, Ends.failed is refl, r.status_is ∙ ap status_of (nothing_end program (ends.FarFault 0)))
+
+  scripted_comes : (name script_name source : List ℕ) (program : Program) (s : Status) (text : List ℕ) → command_of words ≡ Some (name, script_name) → ReadsFrom files name longest_source (reads.Ok source) → HasProgram source program
+      → Scripted files script_name program source loaded es s text → Comes words files loaded es s
+  scripted_comes name script_name source program s text e r h (Scripted.unread u) = unread_comes script_name longest_script s text (IsWanted.as_script name source program e r h refl) u
+  scripted_comes name script_name source program s text e r h (Scripted.read script r' (Called.refused n)) =
+      subst (Comes words files loaded es) (sym n.status_is) (record {
+        source = source;
+        program = program;
+        source_name = name;
+        script_name = script_name;
+        command = e;
+        source_read = r;
+        compiled = h;
+        script = script;
+        script_read = r';
+        line = n.line;
+        refused = n.refused;
+      })
+  scripted_comes name script_name source program s text e r h (Scripted.read script r' (Called.accepted calls h' ran)) =
+      let end = end_of program source calls s text ran in
+      subst (Comes words files loaded es) (sym end.2) (end_comes end.0 (record {
+        source = source;
+        program = program;
+        calls = calls;
+        accepted = record { source_name = name; script_name = script_name; command = e; source_read = r; compiled = h; script = script; script_read = r'; called = h' };
+        end = end.0;
+        ends = end.1;
+        status_is = refl;
+      }))
+
+  sourced_comes : (name script_name : List ℕ) (s : Status) (text : List ℕ) → command_of words ≡ Some (name, script_name) → Sourced files name script_name loaded es s text → Comes words files loaded es s
+  sourced_comes name script_name s text e (Sourced.unread u) = unread_comes name longest_source s text (IsWanted.as_source script_name e refl) u
+  sourced_comes name script_name s text e (Sourced.read source r (Compiled.refused n)) = source_comes n
+    where
+      source_comes : NoProgram source s text → Comes words files loaded es s
+      source_comes (NoProgram.fault f q is t) = subst (Comes words files loaded es) (sym is) (record { source = source; named = record { name = name; script_name = script_name; command = e; read = r }; none = no_program source s text (NoProgram.fault f q is t) })
+      source_comes (NoProgram.unbuilt ts q v is t) = subst (Comes words files loaded es) (sym is) (record { source = source; named = record { name = name; script_name = script_name; command = e; read = r }; none = no_program source s text (NoProgram.unbuilt ts q v is t) })
+  sourced_comes name script_name s text e (Sourced.read source r (Compiled.accepted program h c)) = scripted_comes name script_name source program s text e r h c
+
+  answered_comes : (s : Status) (text : List ℕ) → Answered words files loaded es s text → Comes words files loaded es s
+  answered_comes s text (Answered.usage e is t) = subst (Comes words files loaded es) (sym is) e
+  answered_comes s text (Answered.command name script_name e c) = sourced_comes name script_name s text e c
+
+  pub prints_comes : (old new : Option (List ℕ)) (s : Status) → Prints words files loaded es old new s → Comes words files loaded es s
+  prints_comes old new s (Prints.whole text a adds) = answered_comes s text a
+  prints_comes old new s (Prints.cut due text n is a within adds) = subst (Comes words files loaded es) (sym is) tt
+  prints_comes old new s (Prints.nothing is same) = subst (Comes words files loaded es) (sym is) tt

@@ -1,0 +1,99 @@
+-- The status is what words and files give.
+use Rattle.std.proofs.Common.{◌≡◌, ℕ, ◌<◌, ◌≤◌, ◌⊎◌, inl, inr, Bool, nat_lt, List, length, Option, Some, None, Result, refl, sym, ap, ◌∙◌, subst}
+use Rattle.std.specs.Prelude.{IsSomeAnd}
+use Rattle.std.proofs.lemmas.Bool.{lt-ltb, le-ltb}
+use Rattle.mdr_core.specs.declared.program.Program.{Program}
+use Rattle.mdr_model.specs.declared.outcome.End.{End}
+use Rattle.mdr_model.specs.declared.outcome.End.TheVariants as ends
+use Rattle.mdr_outside.specs.declared.far.Loaded.{Loaded}
+use Rattle.mdr_outside.specs.declared.far.Exchange.{Exchange}
+use Rattle.mdr_syntax.specs.Forms.{ProgramView, program_view}
+use Rattle.mdr_syntax.specs.Scripts.{calls_of}
+use Rattle.mdr_user.specs.Honest.{program_of_text}
+use Rattle.mdr_top.specs.declared.status.Status.{Status}
+use Rattle.mdr_top.specs.declared.status.Status.TheVariants as status
+use Rattle.mdr_top.specs.Words.{command_of}
+use Rattle.mdr_top.specs.Answers.{Files, longest_source, longest_script, status_of, Unread, NoProgram, Called, Scripted, Compiled, Sourced, Answered, Prints}
+use Rattle.mdr_top.specs.Comes.{heads, sized, calls_due, script_due, program_due, source_due, due_of, IsOfRun, IsDueTo, IsDueOrFault, IsExact}
+use Rattle.mdr_top.proofs.Headline.{text_of}
+use Rattle.mdr_top.proofs.SameScripts.{head_calls}
+use Rattle.mdr_top.proofs.Comes.{no_program, end_of}
+
+-- a read that failed, or what is due
+abbrev Dues : Option Status → Status → Type 0
+Dues due s = (s ≡ status.ReadFault) ⊎ IsDueTo due s
+
+end_is : (end : End) → IsOfRun (status_of end)
+end_is ends.Ok = tt
+end_is (ends.Stop kind at) = tt
+end_is (ends.Refused exchange cause number) = tt
+end_is (ends.FarFault exchange) = tt
+
+source_is : (source : List ℕ) (s : Status) (text : List ℕ) → NoProgram source s text → s ≡ status.SourceRefused
+source_is source s text (NoProgram.fault e r is t) = is
+source_is source s text (NoProgram.unbuilt ts r none is t) = is
+
+-- a file that is there and fits
+fits : (bytes : List ℕ) (limit : ℕ) (given : Option Status) (s : Status) → length bytes ≤ limit → Dues given s → Dues (sized (nat_lt limit (length bytes)) given) s
+fits bytes limit given s le d = subst (λ (b : Bool). Dues (sized b given) s) (sym (le-ltb limit (length bytes) le)) d
+
+-- a file that isn't read, where its bytes would give so
+unread_due : (f : List ℕ → Option (List ℕ)) (name : List ℕ) (limit : ℕ) (given : List ℕ → Option Status) (due : Option (List ℕ) → Option Status) (s : Status) (text : List ℕ)
+    → due None ≡ Some status.Missing → ((bytes : List ℕ) → due (Some bytes) ≡ sized (nat_lt limit (length bytes)) (given bytes)) → Unread (Some f) name limit s text → Dues (due (f name)) s
+unread_due f name limit given due s text none some (Unread.missing r e t) = inr (subst (λ (d : Option Status). IsDueTo d s) (sym (ap due r ∙ none)) e)
+unread_due f name limit given due s text none some (Unread.long r e t) = inr (of (f name) r)
+  where
+    of : (o : Option (List ℕ)) → IsSomeAnd o (λ bytes. limit < length bytes) → IsDueTo (due o) s
+    of None h = elim h [ ]
+    of (Some bytes) h = subst (λ (d : Option Status). IsDueTo d s) (sym (some bytes ∙ ap (λ (b : Bool). sized b (given bytes)) (lt-ltb limit (length bytes) h))) e
+unread_due f name limit given due s text none some (Unread.failed e t) = inl e
+
+module _ (words : List (List ℕ)) (f : List ℕ → Option (List ℕ)) (loaded : Option Loaded) (es : List Exchange) (s : Status) (text : List ℕ) where
+  called_due : (program : Program) (source script : List ℕ) → Called program source script loaded es s text → IsDueTo (calls_due (calls_of (heads (program_view program)) script)) s
+  called_due program source script (Called.refused n) = subst (λ (r : Result (List ℕ) ℕ). IsDueTo (calls_due r) s) (sym n.refused ∙ head_calls program script) n.status_is
+  called_due program source script (Called.accepted calls h ran) =
+      let end = end_of words (Some f) loaded es program source calls s text ran in
+      subst (λ (r : Result (List ℕ) ℕ). IsDueTo (calls_due r) s) (sym h.read ∙ head_calls program script) (subst IsOfRun (sym end.2) (end_is end.0))
+
+  scripted_due : (name source : List ℕ) (program : Program) → Scripted (Some f) name program source loaded es s text → Dues (script_due (heads (program_view program)) (f name)) s
+  scripted_due name source program (Scripted.unread u) =
+      unread_due f name longest_script (λ bytes. calls_due (calls_of (heads (program_view program)) bytes)) (script_due (heads (program_view program))) s text refl (λ bytes. refl) u
+  scripted_due name source program (Scripted.read script r c) =
+      subst (λ (o : Option (List ℕ)). Dues (script_due (heads (program_view program)) o) s) (sym r.0)
+      (fits script longest_script (calls_due (calls_of (heads (program_view program)) script)) s r.1 (inr (called_due program source script c)))
+
+  compiled_due : (name source : List ℕ) → Compiled (Some f) source name loaded es s text → Dues (program_due (program_of_text source) (f name)) s
+  compiled_due name source (Compiled.refused n) = subst (λ (v : Option ProgramView). Dues (program_due v (f name)) s) (sym (no_program source s text n)) (inr (source_is source s text n))
+  compiled_due name source (Compiled.accepted program h c) = subst (λ (v : Option ProgramView). Dues (program_due v (f name)) s) (sym (text_of source program h)) (scripted_due name source program c)
+
+  sourced_due : (name script_name : List ℕ) → Sourced (Some f) name script_name loaded es s text → Dues (source_due (f name) (f script_name)) s
+  sourced_due name script_name (Sourced.unread u) =
+      unread_due f name longest_source (λ bytes. program_due (program_of_text bytes) (f script_name)) (λ o. source_due o (f script_name)) s text refl (λ bytes. refl) u
+  sourced_due name script_name (Sourced.read source r c) =
+      subst (λ (o : Option (List ℕ)). Dues (source_due o (f script_name)) s) (sym r.0)
+      (fits source longest_source (program_due (program_of_text source) (f script_name)) s r.1 (compiled_due script_name source c))
+
+  answered_due : Answered words (Some f) loaded es s text → Dues (due_of (command_of words) f) s
+  answered_due (Answered.usage e is t) = inr (subst (λ (c : Option (List ℕ × List ℕ)). IsDueTo (due_of c f) s) (sym e) is)
+  answered_due (Answered.command name script_name e c) = subst (λ (c : Option (List ℕ × List ℕ)). Dues (due_of c f) s) (sym e) (sourced_due name script_name c)
+
+  or_fault : (due : Option Status) → Dues due s → IsDueOrFault due s
+  or_fault due (inl e) = inl e
+  or_fault due (inr d) = inr (inr (inr d))
+
+pub prints_exactly : (words : List (List ℕ)) (files : Files) (loaded : Option Loaded) (es : List Exchange) (old new : Option (List ℕ)) (s : Status) → Prints words files loaded es old new s → IsExact words files s
+prints_exactly words None loaded es old new s p = tt
+prints_exactly words (Some f) loaded es old new s (Prints.whole text a adds) = or_fault words f loaded es s text (due_of (command_of words) f) (answered_due words f loaded es s text a)
+prints_exactly words (Some f) loaded es old new s (Prints.cut due text n is a within adds) = inr (inl is)
+prints_exactly words (Some f) loaded es old new s (Prints.nothing is same) = inr (inr (inl is))
+
+-- words that aren't accepted
+pub usage_comes : (words : List (List ℕ)) (files : Files) (loaded : Option Loaded) (es : List Exchange) (old new : Option (List ℕ)) (s : Status) → Prints words files loaded es old new s
+    → command_of words ≡ None → (s ≡ status.Usage) ⊎ ((s ≡ status.WriteFault) ⊎ (s ≡ status.OutOfMemory))
+usage_comes words files loaded es old new s (Prints.whole text a adds) none = of a
+  where
+    of : Answered words files loaded es s text → (s ≡ status.Usage) ⊎ ((s ≡ status.WriteFault) ⊎ (s ≡ status.OutOfMemory))
+    of (Answered.usage e is t) = inl is
+    of (Answered.command name script_name e c) = absurd (Prim.cc)
+usage_comes words files loaded es old new s (Prints.cut due text n is a within adds) none = inr (inl is)
+usage_comes words files loaded es old new s (Prints.nothing is same) none = inr (inr is)

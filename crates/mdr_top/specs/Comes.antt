@@ -1,0 +1,152 @@
+-- Where each status comes.
+use Rattle.std.specs.Prelude.{◌≡◌, ℕ, Bool, true, false, nat_lt, ◌⊎◌, List, [], length, map, Option, None, Some, IfSome, Result, Ok, Err}
+use Rattle.mdr_core.specs.declared.program.Program.{Program}
+use Rattle.mdr_core.specs.declared.program.Func.{Func}
+use Rattle.mdr_core.specs.declared.refusal.RefuseKind.TheVariants as refusal
+use Rattle.mdr_model.specs.declared.outcome.End.{End}
+use Rattle.mdr_model.specs.declared.outcome.End.TheVariants as ends
+use Rattle.mdr_model.specs.declared.outcome.Outcome.{Outcome}
+use Rattle.mdr_outside.specs.declared.shelf.ReadAnswer.{ReadAnswer}
+use Rattle.mdr_outside.specs.declared.shelf.ReadAnswer.TheVariants as reads
+use Rattle.mdr_outside.specs.declared.far.LoadAnswer.TheVariants as loads
+use Rattle.mdr_outside.specs.declared.far.Loaded.{Loaded}
+use Rattle.mdr_outside.specs.declared.far.Exchange.{Exchange}
+use Rattle.mdr_outside.specs.Shelf.{ReadsFrom}
+use Rattle.mdr_outside.specs.Far.{loaded_with}
+use Rattle.mdr_syntax.specs.Forms.{FuncView, ProgramView}
+use Rattle.mdr_syntax.specs.Scripts.{calls_of}
+use Rattle.mdr_kernel.specs.Runs.{IsRun}
+use Rattle.mdr_user.specs.Honest.{program_of_text}
+use Rattle.mdr_top.specs.declared.status.Status.{Status}
+use Rattle.mdr_top.specs.declared.status.Status.TheVariants as status
+use Rattle.mdr_top.specs.Words.{command_of}
+use Rattle.mdr_top.specs.Answers.{Files, longest_source, longest_script, default_ticks, status_of, HasProgram}
+use Rattle.mdr_top.specs.Headline.{IsAccepted}
+
+-- the words name a source, which is read
+pub record IsSource (words : List (List ℕ)) (files : Files) (source : List ℕ) : Type 0 where
+  pub name : List ℕ
+  pub script_name : List ℕ
+  pub command : command_of words ≡ Some (name, script_name)
+  pub read : ReadsFrom files name longest_source (reads.Ok source)
+
+-- a file that the words name: the source, and the script once the source is a program
+pub data IsWanted (words : List (List ℕ)) (files : Files) (name : List ℕ) (limit : ℕ) : Type 0 where
+  as_source : (script_name : List ℕ) → command_of words ≡ Some (name, script_name) → limit ≡ longest_source → IsWanted words files name limit
+  as_script : (source_name source : List ℕ) (program : Program) → command_of words ≡ Some (source_name, name) → ReadsFrom files source_name longest_source (reads.Ok source) → HasProgram source program → limit ≡ longest_script → IsWanted words files name limit
+
+-- a file that the words name is answered so
+pub record IsAnswered (words : List (List ℕ)) (files : Files) (answer : ReadAnswer) : Type 0 where
+  pub name : List ℕ
+  pub limit : ℕ
+  pub wanted : IsWanted words files name limit
+  pub answers : ReadsFrom files name limit answer
+
+-- the source is no program
+pub record IsNoProgram (words : List (List ℕ)) (files : Files) : Type 0 where
+  pub source : List ℕ
+  pub named : IsSource words files source
+  pub none : program_of_text source ≡ None
+
+-- a line of the script is no call of a function of the program
+pub record IsNoScript (words : List (List ℕ)) (files : Files) : Type 0 where
+  pub source : List ℕ
+  pub program : Program
+  pub source_name : List ℕ
+  pub script_name : List ℕ
+  pub command : command_of words ≡ Some (source_name, script_name)
+  pub source_read : ReadsFrom files source_name longest_source (reads.Ok source)
+  pub compiled : HasProgram source program
+  pub script : List ℕ
+  pub script_read : ReadsFrom files script_name longest_script (reads.Ok script)
+  pub line : ℕ
+  pub refused : calls_of program.funcs script ≡ Err line
+
+-- how a run ends: by what the far side answered to the load, and then to the messages
+pub data Ends (program : Program) (source calls : List ℕ) (loaded : Option Loaded) (es : List Exchange) (end : End) : Type 0 where
+  began : (o : Outcome) → loaded ≡ Some (loaded_with source [] loads.Ok) → IsRun program calls default_ticks es o → end ≡ o.end → Ends program source calls loaded es end
+  refused : (cause : ℕ) → loaded ≡ Some (loaded_with source [] (loads.Refused cause)) → end ≡ ends.Refused 0 refusal.Load 0 → Ends program source calls loaded es end
+  failed : loaded ≡ Some (loaded_with source [] loads.Failed) → end ≡ ends.FarFault 0 → Ends program source calls loaded es end
+
+-- the words are accepted, and their run ends with this status
+pub record IsEnd (words : List (List ℕ)) (files : Files) (loaded : Option Loaded) (es : List Exchange) (s : Status) : Type 0 where
+  pub source : List ℕ
+  pub program : Program
+  pub calls : List ℕ
+  pub accepted : IsAccepted words files source program calls
+  pub end : End
+  pub ends : Ends program source calls loaded es end
+  pub status_is : s ≡ status_of end
+
+-- what holds where a status comes
+abbrev pub Comes : List (List ℕ) → Files → Option Loaded → List Exchange → Status → Type 0
+Comes words files loaded es status.Usage = command_of words ≡ None
+Comes words files loaded es status.Missing = IsAnswered words files reads.Missing
+Comes words files loaded es status.TooLarge = IsAnswered words files reads.TooLarge
+Comes words files loaded es status.ReadFault = IsAnswered words files reads.Failed
+Comes words files loaded es status.SourceRefused = IsNoProgram words files
+Comes words files loaded es status.ScriptRefused = IsNoScript words files
+Comes words files loaded es status.Done = IsEnd words files loaded es status.Done
+Comes words files loaded es status.Stopped = IsEnd words files loaded es status.Stopped
+Comes words files loaded es status.Marshal = IsEnd words files loaded es status.Marshal
+Comes words files loaded es status.FarFault = IsEnd words files loaded es status.FarFault
+Comes words files loaded es status.WriteFault = Unit {0}
+Comes words files loaded es status.OutOfMemory = Unit {0}
+
+-- ---- exactly where
+
+abbrev pub heads : ProgramView → List Func
+heads view = map (λ (f : FuncView). f.head) view.funcs
+
+-- a file that is too long, or what its bytes give
+abbrev pub sized : Bool → Option Status → Option Status
+sized true given = Some status.TooLarge
+sized false given = given
+
+abbrev pub calls_due : Result (List ℕ) ℕ → Option Status
+calls_due (Ok calls) = None
+calls_due (Err line) = Some status.ScriptRefused
+
+abbrev pub script_due : List Func → Option (List ℕ) → Option Status
+script_due funcs None = Some status.Missing
+script_due funcs (Some script) = sized (nat_lt longest_script (length script)) (calls_due (calls_of funcs script))
+
+abbrev pub program_due : Option ProgramView → Option (List ℕ) → Option Status
+program_due None script = Some status.SourceRefused
+program_due (Some view) script = script_due (heads view) script
+
+abbrev pub source_due : Option (List ℕ) → Option (List ℕ) → Option Status
+source_due None script = Some status.Missing
+source_due (Some source) script = sized (nat_lt longest_source (length source)) (program_due (program_of_text source) script)
+
+-- the status that words and files give where nothing fails, or none where they give a run
+abbrev pub due_of : Option (List ℕ × List ℕ) → (List ℕ → Option (List ℕ)) → Option Status
+due_of None f = Some status.Usage
+due_of (Some names) f = source_due (f names.0) (f names.1)
+
+-- a status that a run ends with
+abbrev pub IsOfRun : Status → Type 0
+IsOfRun status.Done = Unit {0}
+IsOfRun status.Usage = ⊥
+IsOfRun status.SourceRefused = ⊥
+IsOfRun status.ScriptRefused = ⊥
+IsOfRun status.ReadFault = ⊥
+IsOfRun status.WriteFault = ⊥
+IsOfRun status.FarFault = Unit {0}
+IsOfRun status.Marshal = Unit {0}
+IsOfRun status.Stopped = Unit {0}
+IsOfRun status.OutOfMemory = ⊥
+IsOfRun status.Missing = ⊥
+IsOfRun status.TooLarge = ⊥
+
+abbrev pub IsDueTo : Option Status → Status → Type 0
+IsDueTo (Some due) s = s ≡ due
+IsDueTo None s = IsOfRun s
+
+-- the status is what words and files give, but a read or a write may fail, and memory may be wanting
+abbrev pub IsDueOrFault : Option Status → Status → Type 0
+IsDueOrFault due s = (s ≡ status.ReadFault) ⊎ ((s ≡ status.WriteFault) ⊎ ((s ≡ status.OutOfMemory) ⊎ IsDueTo due s))
+
+-- where the files are told
+abbrev pub IsExact : List (List ℕ) → Files → Status → Type 0
+IsExact words files s = IfSome files (λ f. IsDueOrFault (due_of (command_of words) f) s)
