@@ -9,12 +9,14 @@ use std::process::Abort;
 use std::test::Fail;
 
 /// A driver whose function in the user half calls one in the kernel half twice, and writes a register between.
-const BUMP: &str = "u32 count; __critical void bump(void){count=count+1;} void open(void){bump(); writel(count,4); bump();}";
+const BUMP: &str =
+    "u32 count; __critical void bump(void){count=count+1;} void open(void){bump(); writel(count,4); bump();}";
 
 /// The report of its first run.
 const REPORT: &str = "call open\nW 4 1\nret none\nend ok\nticks 5\nlive 1\nobj 1 u32 x1: 2\n";
 
-const USAGE: &str = "usage: split FILE, report FILE, run whole FILE SCRIPT, run split FILE SCRIPT, run halves K U PLAN SCRIPT, gen SEED SIZE\n";
+const USAGE: &str =
+    "usage: split FILE, report FILE, run whole FILE SCRIPT, run split FILE SCRIPT, run halves K U PLAN SCRIPT, gen SEED SIZE\n";
 
 fn words_of(alloc: Global, words: &[&str]) -> Result<Vec<String>, Fail> {
     let mut out = Vec::new(alloc);
@@ -82,7 +84,14 @@ fn drivers_run_to_their_reports(rt: HostRuntime) -> Result<(), Fail> {
     ] {
         let mut shelf = shelf_of(&rt, source, script, &[])?;
         let words = ["run", "split", "d.c", "s"];
-        expect_run(&rt, &words, &mut shelf, &mut LocalFar::new(), Status::Done, text)?;
+        expect_run(
+            &rt,
+            &words,
+            &mut shelf,
+            &mut LocalFar::new(),
+            Status::Done,
+            text,
+        )?;
     }
     Ok(())
 }
@@ -93,19 +102,61 @@ fn a_register_that_is_not_there_stops_the_run(rt: HostRuntime) -> Result<(), Fai
     let mut shelf = shelf_of(&rt, source, "call f", &[])?;
     let words = ["run", "split", "d.c", "s"];
     let text = "call f\nW 4095 0\nstop Bounds at f 2\nticks 2\nlive 1\nobj 1 u32 x1: 0\n";
-    expect_run(&rt, &words, &mut shelf, &mut LocalFar::new(), Status::Stopped, text)
+    expect_run(
+        &rt,
+        &words,
+        &mut shelf,
+        &mut LocalFar::new(),
+        Status::Stopped,
+        text,
+    )
 }
 
 #[test]
 fn refusals_name_the_place_or_the_line(rt: HostRuntime) -> Result<(), Fail> {
     for (source, script, status, text) in [
-        ("u32 a;\n@", "", Status::SourceRefused, "source refused 2:1 BadByte\n"),
-        ("u32 a; 08", "", Status::SourceRefused, "source refused 1:8 BadNumber\n"),
-        ("u32 a; /* no end", "", Status::SourceRefused, "source refused 1:8 OpenComment\n"),
-        ("u32 a; \"no end", "", Status::SourceRefused, "source refused 1:8 OpenText\n"),
-        ("s32 a;", "", Status::SourceRefused, "source refused 1:1 Unbuilt\n"),
-        (BUMP, "idle 3", Status::ScriptRefused, "script refused 1 Unbuilt\n"),
-        (BUMP, "call open\ncall opens", Status::ScriptRefused, "script refused 2 Unbuilt\n"),
+        (
+            "u32 a;\n@",
+            "",
+            Status::SourceRefused,
+            "source refused 2:1 BadByte\n",
+        ),
+        (
+            "u32 a; 08",
+            "",
+            Status::SourceRefused,
+            "source refused 1:8 BadNumber\n",
+        ),
+        (
+            "u32 a; /* no end",
+            "",
+            Status::SourceRefused,
+            "source refused 1:8 OpenComment\n",
+        ),
+        (
+            "u32 a; \"no end",
+            "",
+            Status::SourceRefused,
+            "source refused 1:8 OpenText\n",
+        ),
+        (
+            "s32 a;",
+            "",
+            Status::SourceRefused,
+            "source refused 1:1 Unbuilt\n",
+        ),
+        (
+            BUMP,
+            "idle 3",
+            Status::ScriptRefused,
+            "script refused 1 Unbuilt\n",
+        ),
+        (
+            BUMP,
+            "call open\ncall opens",
+            Status::ScriptRefused,
+            "script refused 2 Unbuilt\n",
+        ),
     ] {
         let mut shelf = shelf_of(&rt, source, script, &[])?;
         let words = ["run", "split", "d.c", "s"];
@@ -126,7 +177,14 @@ fn other_words_print_the_usage(rt: HostRuntime) -> Result<(), Fail> {
         &["run", "split", "d.c", "s", "--wire"],
     ] {
         let mut shelf = shelf_of(&rt, BUMP, "call open", &[])?;
-        expect_run(&rt, words, &mut shelf, &mut LocalFar::new(), Status::Usage, USAGE)?;
+        expect_run(
+            &rt,
+            words,
+            &mut shelf,
+            &mut LocalFar::new(),
+            Status::Usage,
+            USAGE,
+        )?;
     }
     Ok(())
 }
@@ -152,7 +210,11 @@ fn files_that_cannot_be_read_are_named(rt: HostRuntime) -> Result<(), Fail> {
 fn a_far_side_that_fails_or_refuses_is_reported(rt: HostRuntime) -> Result<(), Fail> {
     let rest = "ticks 0\nlive 1\nobj 1 u32 x1: 0\n";
     for (load, status, end) in [
-        (LoadAnswer::Refused(2), Status::Marshal, "refused 0 Load 0\n"),
+        (
+            LoadAnswer::Refused(2),
+            Status::Marshal,
+            "refused 0 Load 0\n",
+        ),
         (LoadAnswer::Failed, Status::FarFault, "far fault 0\n"),
         (LoadAnswer::Ok, Status::FarFault, "call open\nfar fault 1\n"),
     ] {
@@ -170,10 +232,7 @@ fn a_far_side_that_fails_or_refuses_is_reported(rt: HostRuntime) -> Result<(), F
 fn an_answer_that_is_no_message_is_refused(rt: HostRuntime) -> Result<(), Fail> {
     let alloc = rt.alloc();
     let mut replies = Vec::new(alloc);
-    replies.push(DeliverAnswer::Ok(Items::from_vec(Vec::from_slice(
-        alloc,
-        &[0, 0, 0],
-    )?)))?;
+    replies.push(DeliverAnswer::Ok(Items::from_vec(Vec::from_slice(alloc, &[0, 0, 0])?)))?;
     let mut far = LyingFar::new(alloc, LoadAnswer::Ok, replies);
     let mut shelf = shelf_of(&rt, BUMP, "call open", &[])?;
     let words = ["run", "split", "d.c", "s"];

@@ -5,8 +5,8 @@ use mdr_outside::{FolderShelf, OutSink};
 use mdr_top::{Status, run};
 use mdr_user::LocalFar;
 use std::alloc::AllocGlobal;
-use std::process::ExitCode;
 use std::env::Env;
+use std::process::ExitCode;
 use std::{env, io};
 
 /// Where the system doesn't give the words.

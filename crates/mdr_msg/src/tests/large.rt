@@ -40,6 +40,10 @@ fn a_message_of_many_runs_is_written_and_read(rt: HostRuntime) -> Result<(), Fai
     let read = decode(alloc, bytes.as_slice());
     let taken = begin.elapsed(&rt)?;
     assert!(rt; read.is_ok());
-    println!(rt; "written in {} ms, read in {} ms", written.as_millis(), taken.as_millis())?;
+    println!(rt;
+        "written in {} ms, read in {} ms",
+        written.as_millis(),
+        taken.as_millis()
+    )?;
     Ok(())
 }
