@@ -1,4 +1,4 @@
-// A message with many runs, for measuring: it isn't run with the other tests.
+// A message with many runs: it shows that time goes with the number of bytes.
 
 use crate::{Message, Run, Wire, can_encode, decode, encode};
 use mdr_core::{Items, Kind};
@@ -27,7 +27,6 @@ fn many_runs(alloc: Global) -> Result<Message, Fail> {
 }
 
 #[test]
-#[ignore]
 fn a_message_of_many_runs_is_written_and_read(rt: HostRuntime) -> Result<(), Fail> {
     let alloc = rt.alloc();
     let message = many_runs(alloc)?;
