@@ -20,4 +20,6 @@ pub mod Sound
 pub mod Holds
 pub mod Law
 pub mod Bytes
+pub mod Legal
+pub mod Refusals
 pub mod Worked

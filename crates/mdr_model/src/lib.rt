@@ -8,7 +8,10 @@ mod outcome;
 mod wire;
 mod worked;
 
-pub use laws::{fuel_is_no_matter, split_is_one_memory};
+pub use laws::{
+    a_legal_reply_is_contained, a_refused_message_changes_nothing, a_refused_reply_changes_nothing,
+    any_answers_are_few, fuel_is_no_matter, refused_messages_can_be_left_out, split_is_one_memory,
+};
 pub use memory::{Cell, MemoryBlock};
 pub use message::{BirthKind, Fault, Message, New, Run, SetRun, Shape64};
 pub use outcome::{End, Happened, Object, Outcome, Seen};

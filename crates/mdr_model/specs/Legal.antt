@@ -1,0 +1,87 @@
+-- Which answers are legal; that one which isn't changes nothing, and that one which is changes visible cells alone.
+use Rattle.std.specs.Prelude.{◌≡◌, ℕ, ◌+◌, ◌*◌, ◌≤◌, Bool, true, false, List, [], ◌∷◌, ◌++◌, Option, Some, None, Ok, Err, ◌==◌}
+use Rattle.mdr_core.specs.declared.refusal.RefuseKind.{RefuseKind}
+use Rattle.mdr_core.specs.declared.program.Program.{Program}
+use Rattle.mdr_model.specs.declared.message.New.{New}
+use Rattle.mdr_model.specs.declared.message.Run.{Run}
+use Rattle.mdr_model.specs.declared.message.Fault.{Fault}
+use Rattle.mdr_model.specs.declared.message.Message.{Message}
+use Rattle.mdr_model.specs.declared.message.Message.TheVariants as message
+use Rattle.mdr_model.specs.declared.outcome.End.TheVariants as ends
+use Rattle.mdr_model.specs.Memory.{Memory, Cell, births, born_at, cell_at}
+use Rattle.mdr_model.specs.Sets.{is_in}
+use Rattle.mdr_model.specs.Faults.{fault}
+use Rattle.mdr_model.specs.Copies.{put_runs}
+use Rattle.mdr_model.specs.Kernel.{Kernel, Rest, Pending, Over, Waits, Reading, SplitRun, fault_of, refused, split_run}
+
+-- the first fault of an answer: it is no message, or the message has one
+abbrev pub answer_fault : Program → Kernel → Rest → Reading → Option Fault
+answer_fault program k rest (Err f) = Some f
+answer_fault program k rest (Ok m) = fault_of program k rest m
+
+-- nothing is at fault in an answer, where the run waits in this state
+abbrev pub IsLegal : Program → Kernel → Rest → Reading → Type 0
+IsLegal program k rest a = answer_fault program k rest a ≡ None
+
+-- ---- an answer that isn't legal
+
+-- a run that waits in state k gets one answer more. With a fault in the answer the run ends there: no message more is sent, and the whole state is still k, with its ticks, memory, visible cells, agreed copy and events. No other answer ends it so
+pub record EndsUnchanged (program : Program) (script : List ℕ) (budget : ℕ) (answers : List Reading) (a : Reading) (k : Kernel) (rest : Rest) : Type 0 where
+  pub refuses :
+      (f : Fault) → answer_fault program k rest a ≡ Some f
+      → split_run program script budget (answers ++ a ∷ []) ≡ record { sent = (split_run program script budget answers).sent; pending = refused f k }
+  pub only :
+      (exchange : ℕ) (cause : RefuseKind) (number : ℕ) (k' : Kernel)
+      → (split_run program script budget (answers ++ a ∷ [])).pending ≡ Over (ends.Refused exchange cause number) k'
+      → (answer_fault program k rest a ≡ Some (fault cause number)) × (exchange ≡ k.exchanges) × (k' ≡ k)
+
+abbrev pub RefusedChangesNothing : Type 0
+RefusedChangesNothing =
+    (program : Program) (script : List ℕ) (budget : ℕ) (answers : List Reading) (a : Reading) (m : Message) (k : Kernel) (rest : Rest)
+    → (split_run program script budget answers).pending ≡ Waits m k rest → EndsUnchanged program script budget answers a k rest
+
+-- ---- a legal answer
+
+abbrev pub is_lock_block : Option New → Bool
+is_lock_block None = false
+is_lock_block (Some block) = block.ty == 8
+
+-- the cell is one of a lock
+unfoldable pub is_lock : Memory → Cell → Bool
+is_lock m c = is_lock_block (born_at m c.serial)
+
+-- no block was born and none died, none has another kind or shape; each cell outside the view holds what it held, and so does each lock
+pub record IsContained (before after : Memory) (view : List Cell) : Type 0 where
+  pub blocks : births after ≡ births before
+  pub outside : (c : Cell) → is_in view c ≡ false → cell_at after c ≡ cell_at before c
+  pub locks : (c : Cell) → is_lock before c ≡ true → cell_at after c ≡ cell_at before c
+
+-- the runs that a reply tells
+abbrev pub runs_told : Message → List Run
+runs_told (message.Return ticks result runs) = runs
+runs_told (message.Down ticks at depth func args runs) = runs
+runs_told (message.Ask ticks at service args shapes bytes runs) = runs
+runs_told (message.Stop ticks number at runs) = runs
+runs_told (message.Call func depth left args deaths news view runs) = []
+runs_told (message.Back left result deaths news view runs) = []
+runs_told (message.Answer results deaths news) = []
+runs_told (message.Refuse reason) = []
+
+-- wherever a run waits, the storing of a legal reply changes cells that user code may touch, and nothing else
+abbrev pub LegalIsContained : Type 0
+LegalIsContained =
+    (program : Program) (script : List ℕ) (budget : ℕ) (answers : List Reading) (a m : Message) (k : Kernel) (rest : Rest)
+    → (split_run program script budget answers).pending ≡ Waits m k rest → fault_of program k rest a ≡ None
+    → IsContained k.world.memory (put_runs (runs_told a) k.world.memory) k.world.view
+
+-- ---- any answers
+
+abbrev pub kernel_in : Pending → Kernel
+kernel_in (Over end k) = k
+kernel_in (Waits m k rest) = k
+
+-- whatever the answers are, the messages sent and answered are at most 4 for each tick and 6 for each command begun
+abbrev pub AnyAnswersAreFew : Type 0
+AnyAnswersAreFew =
+    (program : Program) (script : List ℕ) (budget : ℕ) (answers : List Reading) → let k : Kernel = kernel_in (split_run program script budget answers).pending in
+    2 * k.exchanges ≤ 4 * k.world.ticks + 6 * k.world.calls
