@@ -3,6 +3,7 @@ use Rattle.std.proofs.Common.{◌≡◌, ℕ, zero, suc, Bool, true, false, cond
 use Rattle.std.specs.Prelude.{◌==◌, is_some, unwrap_or}
 use Rattle.mdr_model.specs.declared.wire.Wire.{Wire}
 use Rattle.mdr_model.specs.declared.wire.Wire.TheVariants as wire
+use Rattle.mdr_model.specs.declared.message.Run.{Run}
 use Rattle.mdr_model.specs.declared.message.SetRun.{SetRun}
 use Rattle.mdr_model.specs.Values.{is_same}
 use Rattle.mdr_model.specs.Memory.{Memory, Cell, births, cell_at, put}
@@ -70,6 +71,10 @@ pub births-put_all : (xs : List CellValue) (m : Memory) → births (put_all xs m
 unfolding put_all
 births-put_all [] m = refl
 births-put_all (x ∷ xs) m = births-put_all xs (put m x.cell x.value) ∙ births-put m x.cell x.value
+
+pub births-put_runs : (runs : List Run) (m : Memory) → births (put_runs runs m) ≡ births m
+unfolding put_runs
+births-put_runs runs m = births-put_all (values_of_runs runs) m
 
 is_in-cons : (c d : Cell) (cs : List Cell) → is_in (c ∷ cs) d ≡ (is_same_cell d c || is_in cs d)
 unfolding is_in

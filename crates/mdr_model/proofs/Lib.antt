@@ -9,10 +9,14 @@ pub mod HoldsLaws
 pub mod FairTrees
 pub mod AlikeLaws
 pub mod KernelWork
+pub mod Accepted
 pub mod VisibleLaws
 pub mod RunLaws
 pub mod ViewLaws
 pub mod ShowLaws
+pub mod AnyAnswers
+pub mod Contained
+pub mod Unchanged
 pub mod Accesses
 pub mod Replies
 pub mod Messages

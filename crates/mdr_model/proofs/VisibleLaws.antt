@@ -64,7 +64,7 @@ sized_put_all (x ∷ xs) m sized = sized_put_all xs (put m x.cell x.value) (size
 
 -- ---- the visible cells are there
 
-is_in-append : (xs ys : List Cell) (c : Cell) → is_in (xs ++ ys) c ≡ true → (is_in xs c ≡ true) ⊎ (is_in ys c ≡ true)
+pub is_in-append : (xs ys : List Cell) (c : Cell) → is_in (xs ++ ys) c ≡ true → (is_in xs c ≡ true) ⊎ (is_in ys c ≡ true)
 unfolding is_in
 is_in-append [] ys c e = inr e
 is_in-append (x ∷ xs) ys c e = of (is_same_cell c x) (is_in-append xs ys c) e
@@ -75,12 +75,12 @@ is_in-append (x ∷ xs) ys c e = of (is_same_cell c x) (is_in-append xs ys c) e
     of false later h = later h
 
 -- a cell of a row of cells
-record IsFrom (serial index n : ℕ) (c : Cell) : Type 0 where
-  block : serial ≡ c.serial
-  low : index ≤ c.index
-  high : c.index < index + n
+pub record IsFrom (serial index n : ℕ) (c : Cell) : Type 0 where
+  pub block : serial ≡ c.serial
+  pub low : index ≤ c.index
+  pub high : c.index < index + n
 
-from_row : (serial index n : ℕ) (c : Cell) → is_in (cells_from serial index n) c ≡ true → IsFrom serial index n c
+pub from_row : (serial index n : ℕ) (c : Cell) → is_in (cells_from serial index n) c ≡ true → IsFrom serial index n c
 unfolding is_in cells_from
 from_row serial index zero c e = absurd (not_both e refl)
 from_row serial index (suc n) c e = of (is_same_cell c (record { serial = serial; index = index })) refl e (from_row serial (suc index) n c)
@@ -93,7 +93,7 @@ from_row serial index (suc n) c e = of (is_same_cell c (record { serial = serial
         record { block = sym one; low = omega arith; high = omega arith }
     of false t h later = let r : IsFrom serial (suc index) n c = later h in record { block = r.block; low = omega (arith, r.low); high = omega (arith, r.high) }
 
-above : (n : ℕ) (bs : List New) (c : Cell) → RisesFrom n bs → has_cell bs c ≡ true → n ≤ c.serial
+pub above : (n : ℕ) (bs : List New) (c : Cell) → RisesFrom n bs → has_cell bs c ≡ true → n ≤ c.serial
 above n [] c rising e = absurd (not_both e refl)
 above n (b ∷ bs) c rising e = of (b.serial == c.serial) refl e (above (suc b.serial) bs c rising.1)
   where

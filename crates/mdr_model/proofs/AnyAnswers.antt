@@ -1,0 +1,242 @@
+-- What any answers come to: wherever a run stands the blocks are the globals, and its messages are paid for by ticks and commands; where it waits, user code may touch the visible cells.
+use Rattle.std.proofs.Common.{◌≡◌, ℕ, zero, suc, ◌+◌, ◌*◌, ◌≤◌, Bool, true, false, cond, List, [], ◌∷◌, nat_lt, Option, Some, None, Result, Ok, Err, refl, sym, ◌∙◌, subst, ap, arith}
+use Rattle.mdr_core.specs.declared.stop.StopKind.{StopKind}
+use Rattle.mdr_core.specs.declared.place.At.{At}
+use Rattle.mdr_core.specs.declared.program.Program.{Program}
+use Rattle.mdr_model.specs.declared.wire.Wire.{Wire}
+use Rattle.mdr_model.specs.declared.message.New.{New}
+use Rattle.mdr_model.specs.declared.message.Run.{Run}
+use Rattle.mdr_model.specs.declared.message.Fault.{Fault}
+use Rattle.mdr_model.specs.declared.message.Message.{Message}
+use Rattle.mdr_model.specs.declared.message.Message.TheVariants as message
+use Rattle.mdr_model.specs.Values.{natural}
+use Rattle.mdr_model.specs.Memory.{Memory, Cell, births, put, normal, loaded, stored, stored_into, reached, everywhere}
+use Rattle.mdr_model.specs.Sets.{visible_of, visible}
+use Rattle.mdr_model.specs.Tree.{Asked, Tree}
+use Rattle.mdr_model.specs.Meaning.{is_kernel}
+use Rattle.mdr_model.specs.World.{World, Ran, Ended, Stopped, after, counted, when_loaded, when_stored, written, written_if, is_writel, served, as_now, in_kernel, kernel_call}
+use Rattle.mdr_model.specs.Watched.{renewed, begun, returned, first_world}
+use Rattle.mdr_model.specs.Kernel.{Kernel, Rest, Noted, Pending, Over, Waits, Reading, calls, comes_back, answers, then_split, command_by, split_commands, applied, downcalled, serviced, fault_of, taken, judged, next, first_kernel, run_from_pending, split_run}
+use Rattle.mdr_model.specs.Legal.{kernel_in}
+use Rattle.mdr_model.proofs.Relations.{globals_of}
+use Rattle.mdr_model.proofs.MemoryLaws.{births-put}
+use Rattle.mdr_model.proofs.CopyLaws.{births-put_runs}
+use Rattle.mdr_model.proofs.Accepted.{IsAsked, return_fits, IsDown, down_fits, IsAsk, ask_fits}
+
+-- ---- work of the kernel half, in any program
+
+-- a fact of the world that is left, however a piece of work ended
+abbrev pub Ends : {A : Type 0} → (World → Type 0) → Ran A → Type 0
+Ends P (Ended x w) = P w
+Ends P (Stopped kind at w) = P w
+
+-- the clock runs, no command begins, the set and the blocks stay
+pub record Goes (first w : World) : Type 0 where
+  pub later : first.ticks ≤ w.ticks
+  pub calls : w.calls ≡ first.calls
+  pub view : w.view ≡ first.view
+  pub born : births w.memory ≡ births first.memory
+
+-- a store changes no block
+store_born : (allowed : Cell → Bool) (m m' : Memory) (p v : Wire) → stored allowed m p v ≡ Ok m' → births m' ≡ births m
+unfolding stored
+store_born allowed m m' p v e = of (reached allowed m p) e
+  where
+    of : (r : Result Cell StopKind) → stored_into m v r ≡ Ok m' → births m' ≡ births m
+    of (Ok c) h = let same : put m c (normal m v) ≡ m' = Prim.cc in subst (λ (x : Memory). births x ≡ births m) same (births-put m c (normal m v))
+    of (Err kind) h = absurd (Prim.cc)
+
+module _ (first : World) where
+  tick_goes : (n : ℕ) (at : At) (w : World) (go : World → Ran Wire) → Goes first w → ((w' : World) → Goes first w' → Ends (Goes first) (go w')) → Ends (Goes first) (counted n at w go)
+  tick_goes zero at w go s goes = s
+  tick_goes (suc q) at w go s goes = goes _ (record { later = omega (arith, s.later); calls = s.calls; view = s.view; born = s.born })
+
+  load_goes : (r : Result Wire StopKind) (at : At) (w : World) (go : Wire → Ran Wire) → Goes first w → ((v : Wire) → Ends (Goes first) (go v)) → Ends (Goes first) (when_loaded r at w go)
+  load_goes (Ok v) at w go s goes = goes v
+  load_goes (Err kind) at w go s goes = s
+
+  store_goes : (r : Result Memory StopKind) (at : At) (w : World) (go : World → Ran Wire) → Goes first w → ((m : Memory) → r ≡ Ok m → births m ≡ births w.memory) → ((w' : World) → Goes first w' → Ends (Goes first) (go w'))
+      → Ends (Goes first) (when_stored r at w go)
+  store_goes (Ok m) at w go s born goes = goes _ (record { later = s.later; calls = s.calls; view = s.view; born = born m refl ∙ s.born })
+  store_goes (Err kind) at w go s born goes = s
+
+  served_goes : (asked : Asked) (w : World) → Goes first w → Ends (Goes first) (served asked w)
+  unfolding served
+  served_goes asked w s = of (is_writel asked.service)
+    where
+      wrote : (b : Bool) (register number : ℕ) → Ends (Goes first) (written_if b asked.at register number w)
+      wrote true register number = record { later = s.later; calls = s.calls; view = s.view; born = s.born }
+      wrote false register number = s
+
+      with : (args : List Wire) → Ends (Goes first) (written asked.at args w)
+      with [] = s
+      with (v ∷ []) = s
+      with (v ∷ r ∷ []) = wrote (nat_lt (natural r) 4096) (natural r) (natural v)
+      with (v ∷ r ∷ x ∷ vs) = s
+
+      of : (b : Bool) → Ends (Goes first) (cond b (written asked.at asked.args w) (Ended [] w))
+      of true = with asked.args
+      of false = s
+
+  after_goes : (ran : Ran (List Wire)) (go : List Wire → World → Ran Wire) → Ends (Goes first) ran → ((vs : List Wire) (w' : World) → Goes first w' → Ends (Goes first) (go vs w')) → Ends (Goes first) (after ran go)
+  after_goes (Ended vs w) go s goes = goes vs w s
+  after_goes (Stopped kind at w) go s goes = s
+
+  tree_goes : (t : Tree) (w : World) → Goes first w → Ends (Goes first) (in_kernel t w)
+  unfolding in_kernel
+  tree_goes Tree.Idle w s = s
+  tree_goes (Tree.Done v t) w s = s
+  tree_goes (Tree.Stop kind at) w s = s
+  tree_goes (Tree.Tick at t) w s = tick_goes w.rest at w (λ w'. in_kernel t w') s (λ w' s'. tree_goes t w' s')
+  tree_goes (Tree.Load at p k) w s = load_goes (loaded everywhere w.memory p) at w (λ v. in_kernel (k v) w) s (λ v. tree_goes (k v) w s)
+  tree_goes (Tree.Store at p v t) w s =
+      store_goes (stored everywhere w.memory p v) at w (λ w'. in_kernel t w') s (λ m e. store_born everywhere w.memory m p v e) (λ w' s'. tree_goes t w' s')
+  tree_goes (Tree.Ask asked k) w s =
+      after_goes (served (as_now w.memory asked) w) (λ vs w'. in_kernel (k vs) w') (served_goes (as_now w.memory asked) w s) (λ vs w' s'. tree_goes (k vs) w' s')
+  tree_goes (Tree.Cross at func args depth k) w s = s
+
+itself : (w : World) → Goes w w
+itself w = record { later = omega arith; calls = refl; view = refl; born = refl }
+
+kernel_goes : (program : Program) (func : ℕ) (args : List Wire) (depth : ℕ) (w : World) → Ends (Goes w) (kernel_call program func args depth w)
+unfolding kernel_call
+kernel_goes program func args depth w = tree_goes w _ w (itself w)
+
+service_goes : (asked : Asked) (w : World) → Ends (Goes w) (served asked w)
+service_goes asked w = served_goes w asked w (itself w)
+
+-- ---- states
+
+-- the blocks are the globals as they were born, and the messages are paid for
+pub record IsPaid (program : Program) (k : Kernel) : Type 0 where
+  pub born : births k.world.memory ≡ globals_of program
+  pub paid : 2 * k.exchanges ≤ 4 * k.world.ticks + 6 * k.world.calls
+
+-- where a run waits user code may touch the visible cells
+abbrev pub Stays : Program → Pending → Type 0
+Stays program (Over end k) = IsPaid program k
+Stays program (Waits m k rest) = IsPaid program k × (k.world.view ≡ visible program k.world.memory)
+
+module _ (program : Program) where
+  -- a world from which a message is sent: the message is paid for
+  record CanSend (k : Kernel) (w : World) : Type 0 where
+    born : births w.memory ≡ globals_of program
+    paid : 2 * k.exchanges + 2 ≤ 4 * w.ticks + 6 * w.calls
+
+  send_later : (k : Kernel) (w w' : World) → CanSend k w → Goes w w' → CanSend k w'
+  send_later k w w' s g = record { born = g.born ∙ s.born; paid = omega (arith, g.later, g.calls, s.paid) }
+
+  paid_in : (k : Kernel) (w : World) → CanSend k w → IsPaid program (record k { world = w })
+  paid_in k w s = record { born = s.born; paid = omega (arith, s.paid) }
+
+  calls_stay : (f : ℕ) (fs : List ℕ) (k : Kernel) (w : World) → CanSend k w → Stays program (calls program f [] w k fs)
+  unfolding calls renewed
+  calls_stay f fs k w s = (record { born = s.born; paid = omega (arith, s.paid) }, refl)
+
+  back_stays : (v : Wire) (k : Kernel) (w : World) (rest : Rest) → CanSend k w → Stays program (comes_back program v w k rest)
+  unfolding comes_back renewed
+  back_stays v k w rest s = (record { born = s.born; paid = omega (arith, s.paid) }, refl)
+
+  answer_stays : (results : List Wire) (k : Kernel) (w : World) (rest : Rest) → CanSend k w → w.view ≡ visible program w.memory → Stays program (answers program results w k rest)
+  unfolding answers
+  answer_stays results k w rest s seen = (record { born = s.born; paid = omega (arith, s.paid) }, seen)
+
+  -- ---- commands
+
+  begins : (f : ℕ) (k : Kernel) → IsPaid program k → CanSend k (begun program f k.world)
+  unfolding begun
+  begins f k s = record { born = s.born; paid = omega (arith, s.paid) }
+
+  returns_paid : (k : Kernel) (v : Wire) → IsPaid program k → IsPaid program (record k { world = returned v k.world })
+  unfolding returned
+  returns_paid k v s = record { born = s.born; paid = s.paid }
+
+  own_stays : (fs : List ℕ) → ((k : Kernel) → IsPaid program k → Stays program (split_commands program fs k)) → (k : Kernel) (w : World) (ran : Ran Wire) → CanSend k w → Ends (Goes w) ran
+      → Stays program (then_split ran k (λ k'. split_commands program fs k'))
+  own_stays fs later k w (Ended v w') s g = later _ (returns_paid (record k { world = w' }) v (paid_in k w' (send_later k w w' s g)))
+  own_stays fs later k w (Stopped kind at w') s g = paid_in k w' (send_later k w w' s g)
+
+  commands_stay : (fs : List ℕ) (k : Kernel) → IsPaid program k → Stays program (split_commands program fs k)
+  unfolding split_commands
+  commands_stay [] k s = s
+  commands_stay (f ∷ fs) k s = of (is_kernel program f) (commands_stay fs)
+    where
+      w : World
+      w = begun program f k.world
+
+      of : (b : Bool) → ((k : Kernel) → IsPaid program k → Stays program (split_commands program fs k)) → Stays program (command_by b program f fs w k (λ k'. split_commands program fs k'))
+      of true later = own_stays fs later k w (kernel_call program f [] 0 w) (begins f k s) (kernel_goes program f [] 0 w)
+      of false later = calls_stay f fs k w (begins f k s)
+
+  -- ---- replies
+
+  applied_paid : (k : Kernel) (ticks : ℕ) (runs : List Run) → IsPaid program k → IsPaid program (applied ticks runs k)
+  unfolding applied
+  applied_paid k ticks runs s = record { born = births-put_runs runs k.world.memory ∙ s.born; paid = omega (arith, s.paid) }
+
+  applied_sends : (k : Kernel) (ticks : ℕ) (runs : List Run) → IsAsked k ticks → IsPaid program k → CanSend (applied ticks runs k) (applied ticks runs k).world
+  unfolding applied
+  applied_sends k ticks runs asked s = record { born = births-put_runs runs k.world.memory ∙ s.born; paid = asked.bound }
+
+  -- the visible cells depend on the blocks alone
+  still_seen : (k : Kernel) (ticks : ℕ) (runs : List Run) → k.world.view ≡ visible program k.world.memory → (applied ticks runs k).world.view ≡ visible program (applied ticks runs k).world.memory
+  unfolding applied visible
+  still_seen k ticks runs seen = seen ∙ ap (λ (bs : List New). visible_of program bs) (sym (births-put_runs runs k.world.memory))
+
+  goes_seen : (w w' : World) → Goes w w' → w.view ≡ visible program w.memory → w'.view ≡ visible program w'.memory
+  unfolding visible
+  goes_seen w w' g seen = g.view ∙ seen ∙ ap (λ (bs : List New). visible_of program bs) (sym g.born)
+
+  down_stays : (k : Kernel) (rest : Rest) (ran : Ran Wire) → CanSend k k.world → Ends (Goes k.world) ran → Stays program (downcalled program ran k rest)
+  down_stays k rest (Ended v w') s g = back_stays v k w' rest (send_later k k.world w' s g)
+  down_stays k rest (Stopped kind at w') s g = paid_in k w' (send_later k k.world w' s g)
+
+  service_stays : (k : Kernel) (rest : Rest) (ran : Ran (List Wire)) → CanSend k k.world → k.world.view ≡ visible program k.world.memory → Ends (Goes k.world) ran → Stays program (serviced program ran k rest)
+  service_stays k rest (Ended results w') s seen g = answer_stays results k w' rest (send_later k k.world w' s g) (goes_seen k.world w' g seen)
+  service_stays k rest (Stopped kind at w') s seen g = paid_in k w' (send_later k k.world w' s g)
+
+  taken_stays : (reply : Message) (k : Kernel) (rest : Rest) → fault_of program k rest reply ≡ None → IsPaid program k → k.world.view ≡ visible program k.world.memory → Stays program (taken program reply k rest)
+  unfolding taken
+  taken_stays (message.Return ticks v runs) k (Noted f fs) e s seen = commands_stay fs _ (returns_paid (applied ticks runs k) v (applied_paid k ticks runs s))
+  taken_stays (message.Down ticks at depth func args runs) k rest e s seen =
+      let d : IsDown program k ticks func runs = down_fits program k rest ticks at depth func args runs e in
+      down_stays (applied ticks runs k) rest (kernel_call program func args depth (applied ticks runs k).world) (applied_sends k ticks runs d.asked s) (kernel_goes program func args depth (applied ticks runs k).world)
+  taken_stays (message.Ask ticks at service args shapes bytes runs) k rest e s seen =
+      let a : IsAsk program k ticks args runs = ask_fits program k rest ticks at service args shapes bytes runs e in
+      let asked : Asked = record { service = service; at = at; args = args; shapes = shapes; bytes = bytes } in
+      service_stays (applied ticks runs k) rest (served asked (applied ticks runs k).world) (applied_sends k ticks runs a.asked s) (still_seen k ticks runs seen) (service_goes asked (applied ticks runs k).world)
+  taken_stays (message.Stop ticks number at runs) k rest e s seen = applied_paid k ticks runs s
+  taken_stays (message.Call func depth left args deaths news view runs) k rest e s seen = s
+  taken_stays (message.Back left result deaths news view runs) k rest e s seen = s
+  taken_stays (message.Answer results deaths news) k rest e s seen = s
+  taken_stays (message.Refuse reason) k rest e s seen = s
+
+  next_stays : (a : Reading) (m : Message) (k : Kernel) (rest : Rest) → Stays program (Waits m k rest) → Stays program (next program a k rest)
+  unfolding next
+  next_stays (Err f) m k rest s = s.0
+  next_stays (Ok reply) m k rest s = of (fault_of program k rest reply) refl
+    where
+      of : (o : Option Fault) → fault_of program k rest reply ≡ o → Stays program (judged program o reply k rest)
+      of None e = taken_stays reply k rest e s.0 s.1
+      of (Some f) e = s.0
+
+  from_pending : (readings : List Reading) (p : Pending) → Stays program p → Stays program (run_from_pending program readings p).pending
+  unfolding run_from_pending
+  from_pending [] (Over end k) s = s
+  from_pending [] (Waits m k rest) s = s
+  from_pending (a ∷ readings) (Over end k) s = s
+  from_pending (a ∷ readings) (Waits m k rest) s = from_pending readings (next program a k rest) (next_stays a m k rest s)
+
+-- wherever a run comes to
+pub run_stays : (program : Program) (script : List ℕ) (budget : ℕ) (answers : List Reading) → Stays program (split_run program script budget answers).pending
+unfolding split_run first_kernel first_world
+run_stays program script budget answers =
+    from_pending program answers (split_commands program script (first_kernel program budget)) (commands_stay program script (first_kernel program budget) (record { born = refl; paid = omega arith }))
+
+pub paid_everywhere : (program : Program) (script : List ℕ) (budget : ℕ) (answers : List Reading) → let k : Kernel = kernel_in (split_run program script budget answers).pending in
+    2 * k.exchanges ≤ 4 * k.world.ticks + 6 * k.world.calls
+paid_everywhere program script budget answers = of (split_run program script budget answers).pending (run_stays program script budget answers)
+  where
+    of : (p : Pending) → Stays program p → 2 * (kernel_in p).exchanges ≤ 4 * (kernel_in p).world.ticks + 6 * (kernel_in p).world.calls
+    of (Over end k) s = s.paid
+    of (Waits m k rest) s = s.0.paid

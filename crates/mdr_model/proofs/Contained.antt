@@ -1,0 +1,112 @@
+-- The storing of a legal reply changes cells that user code may touch, and nothing else.
+use Rattle.std.proofs.Common.{◌≡◌, ℕ, suc, ◌≤◌, Bool, true, false, cond, not, ◌&&◌, ◌⊎◌, inl, inr, List, [], ◌∷◌, ◌++◌, Option, Some, None, refl, sym, ◌∙◌, ap, subst, arith}
+use Rattle.std.specs.Prelude.{◌==◌}
+use Rattle.std.specs.List.{AllByRecursion, list_all}
+use Rattle.mdr_core.specs.declared.program.Program.{Program}
+use Rattle.mdr_model.specs.declared.message.New.{New}
+use Rattle.mdr_model.specs.declared.message.Run.{Run}
+use Rattle.mdr_model.specs.declared.message.Message.{Message}
+use Rattle.mdr_model.specs.declared.message.Message.TheVariants as message
+use Rattle.mdr_model.specs.Memory.{Memory, MemoryBlock, Cell, births, born_at, cell_at, put}
+use Rattle.mdr_model.specs.Sets.{is_same_cell, is_in, cells_from, is_keyed, visible_of, visible}
+use Rattle.mdr_model.specs.Copies.{CellValue, numbered, values_of_runs, put_all, put_runs}
+use Rattle.mdr_model.specs.Kernel.{Kernel, Rest, fault_of, reply_runs_fault}
+use Rattle.mdr_model.specs.Legal.{is_lock, is_lock_block, IsContained, runs_told}
+use Rattle.mdr_model.proofs.Tests.{same_number, other_number, not_both, and_both, and_left, and_right}
+use Rattle.mdr_model.proofs.Relations.{globals_of}
+use Rattle.mdr_model.proofs.MemoryLaws.{RisesFrom, cell_at-put_other}
+use Rattle.mdr_model.proofs.CopyLaws.{same_cell, births-put_runs}
+use Rattle.mdr_model.proofs.VisibleLaws.{IsFrom, from_row, is_in-append, above, visible_there}
+use Rattle.mdr_model.proofs.ViewLaws.{globals_rise}
+use Rattle.mdr_model.proofs.Accepted.{IsFaultless, runs_pass, return_fits, IsDown, down_fits, IsAsk, ask_fits, stop_fits}
+
+-- ---- cells outside the view
+
+all_append : (p : CellValue → Bool) (xs ys : List CellValue) → list_all p xs ≡ true → list_all p ys ≡ true → list_all p (xs ++ ys) ≡ true
+all_append p [] ys left right = right
+all_append p (x ∷ xs) ys left right = and_both _ _ (and_left _ _ left) (all_append p xs ys (and_right (p x) _ left) right)
+
+inside_all : (program : Program) (view : List Cell) (m : Memory) (rs : List Run) → AllByRecursion (IsFaultless program view m) rs → list_all (λ (x : CellValue). is_in view x.cell) (values_of_runs rs) ≡ true
+unfolding values_of_runs
+inside_all program view m [] all = refl
+inside_all program view m (r ∷ rs) all =
+    all_append (λ (x : CellValue). is_in view x.cell) (numbered r.serial r.first r.values) (values_of_runs rs) all.0.inside (inside_all program view m rs all.1)
+
+put_all-outside : (view : List Cell) (xs : List CellValue) (m : Memory) (c : Cell) → list_all (λ (x : CellValue). is_in view x.cell) xs ≡ true → is_in view c ≡ false → cell_at (put_all xs m) c ≡ cell_at m c
+unfolding put_all
+put_all-outside view [] m c all outside = refl
+put_all-outside view (x ∷ xs) m c all outside =
+    put_all-outside view xs (put m x.cell x.value) c (and_right (is_in view x.cell) _ all) outside ∙ cell_at-put_other m x.cell c x.value (apart (is_same_cell x.cell c) refl)
+  where
+    apart : (t : Bool) → is_same_cell x.cell c ≡ t → is_same_cell x.cell c ≡ false
+    apart true t = absurd (not_both (subst (λ (d : Cell). is_in view d ≡ true) (same_cell x.cell c t) (and_left _ _ all)) outside)
+    apart false t = t
+
+-- ---- locks
+
+not_true : (b : Bool) → not b ≡ true → b ≡ false
+not_true true e = absurd (not_both e refl)
+not_true false e = refl
+
+-- no visible cell is one of a lock
+visible_unlocked : (program : Program) (n : ℕ) (m : Memory) (c : Cell) → RisesFrom n (births m) → is_in (visible_of program (births m)) c ≡ true → is_lock m c ≡ false
+unfolding visible_of is_lock born_at is_in is_keyed
+visible_unlocked program n [] c rising e = refl
+visible_unlocked program n (b ∷ m) c rising e = of (is_keyed program b.born) refl e (visible_unlocked program (suc b.born.serial) m c rising.1)
+  where
+    rest : is_in (visible_of program (births m)) c ≡ true → (is_in (visible_of program (births m)) c ≡ true → is_lock m c ≡ false) → is_lock_block (cond (b.born.serial == c.serial) (Some b.born) (born_at m c.serial)) ≡ false
+    rest h later =
+        let high : suc b.born.serial ≤ c.serial = above (suc b.born.serial) (births m) c rising.1 (visible_there program (suc b.born.serial) (births m) c rising.1 h) in
+        let other : (b.born.serial == c.serial) ≡ false = other_number _ _ (λ same. absurd (clash b.born.serial c.serial high same)) in
+        rw other (later h)
+      where
+        clash : (s t : ℕ) → suc s ≤ t → s ≡ t → ⊥
+        clash s t h e = omega arith
+
+    here : is_keyed program b.born ≡ true → is_in (cells_from b.born.serial 0 b.born.count) c ≡ true → is_lock_block (cond (b.born.serial == c.serial) (Some b.born) (born_at m c.serial)) ≡ false
+    here keyed h =
+        let r : IsFrom b.born.serial 0 b.born.count c = from_row b.born.serial 0 b.born.count c h in
+        let same : (b.born.serial == c.serial) ≡ true = rw r.block (same_number _) in
+        rw same (not_true (b.born.ty == 8) (and_right _ _ keyed))
+
+    of : (t : Bool) → is_keyed program b.born ≡ t → is_in (cond t (cells_from b.born.serial 0 b.born.count) [] ++ visible_of program (births m)) c ≡ true
+        → (is_in (visible_of program (births m)) c ≡ true → is_lock m c ≡ false) → is_lock_block (cond (b.born.serial == c.serial) (Some b.born) (born_at m c.serial)) ≡ false
+    of true keyed h later = either (is_in-append (cells_from b.born.serial 0 b.born.count) (visible_of program (births m)) c h)
+      where
+        either : (is_in (cells_from b.born.serial 0 b.born.count) c ≡ true) ⊎ (is_in (visible_of program (births m)) c ≡ true) → is_lock_block (cond (b.born.serial == c.serial) (Some b.born) (born_at m c.serial)) ≡ false
+        either (inl x) = here keyed x
+        either (inr x) = rest x later
+    of false keyed h later = rest h later
+
+-- ---- a legal reply
+
+runs_are_inside : (program : Program) (k : Kernel) (rs : List Run) → reply_runs_fault program k rs ≡ None → list_all (λ (x : CellValue). is_in k.world.view x.cell) (values_of_runs rs) ≡ true
+runs_are_inside program k rs e = inside_all program k.world.view k.world.memory rs (runs_pass program k.world.view k.world.memory k.agreed None 0 rs e)
+
+told_inside : (program : Program) (k : Kernel) (rest : Rest) (a : Message) → fault_of program k rest a ≡ None → list_all (λ (x : CellValue). is_in k.world.view x.cell) (values_of_runs (runs_told a)) ≡ true
+unfolding values_of_runs
+told_inside program k rest (message.Return ticks result runs) e = runs_are_inside program k runs (return_fits program k rest ticks result runs e).runs
+told_inside program k rest (message.Down ticks at depth func args runs) e = runs_are_inside program k runs (down_fits program k rest ticks at depth func args runs e).fit.runs
+told_inside program k rest (message.Ask ticks at service args shapes bytes runs) e = runs_are_inside program k runs (ask_fits program k rest ticks at service args shapes bytes runs e).fit.runs
+told_inside program k rest (message.Stop ticks number at runs) e = runs_are_inside program k runs (stop_fits program k rest ticks number at runs e).runs
+told_inside program k rest (message.Call func depth left args deaths news view runs) e = refl
+told_inside program k rest (message.Back left result deaths news view runs) e = refl
+told_inside program k rest (message.Answer results deaths news) e = refl
+told_inside program k rest (message.Refuse reason) e = refl
+
+pub legal_is_contained : (program : Program) (k : Kernel) (rest : Rest) (a : Message) → births k.world.memory ≡ globals_of program → k.world.view ≡ visible program k.world.memory → fault_of program k rest a ≡ None
+    → IsContained k.world.memory (put_runs (runs_told a) k.world.memory) k.world.view
+unfolding put_runs visible
+legal_is_contained program k rest a born seen e = record {
+  blocks = births-put_runs (runs_told a) k.world.memory;
+  outside = out;
+  locks = λ c lock. out c (unseen c lock (is_in k.world.view c) refl);
+}
+  where
+    out : (c : Cell) → is_in k.world.view c ≡ false → cell_at (put_all (values_of_runs (runs_told a)) k.world.memory) c ≡ cell_at k.world.memory c
+    out c outside = put_all-outside k.world.view (values_of_runs (runs_told a)) k.world.memory c (told_inside program k rest a e) outside
+
+    unseen : (c : Cell) → is_lock k.world.memory c ≡ true → (t : Bool) → is_in k.world.view c ≡ t → is_in k.world.view c ≡ false
+    unseen c lock true t =
+        absurd (not_both lock (visible_unlocked program 0 k.world.memory c (subst (λ (bs : List New). RisesFrom 0 bs) (sym born) (globals_rise program)) (subst (λ (cs : List Cell). is_in cs c ≡ true) seen t)))
+    unseen c lock false t = t
