@@ -1,6 +1,6 @@
 pub mod Deaths
 pub mod Worlds
-pub mod Accepted
+pub mod Applied
 pub mod Standing
 pub mod Turns
 pub mod Numbers

@@ -21,7 +21,8 @@ use Rattle.mdr_kernel.specs.declared.state.Pending.{Pending as CodePending}
 use Rattle.mdr_kernel.specs.declared.state.Pending.TheVariants as pending
 use Rattle.mdr_kernel.specs.States.{pending_of, IsSoundWorld}
 use Rattle.mdr_kernel.proofs.Worlds.{Ends, Gone, kernel_goes, service_goes}
-use Rattle.mdr_kernel.proofs.Accepted.{IsFit, IsAsked, IsDown, IsAsk, return_fits, down_fits, ask_fits, applied_is_sound}
+use Rattle.mdr_model.proofs.Accepted.{IsFit, IsAsked, IsDown, IsAsk, return_fits, down_fits, ask_fits}
+use Rattle.mdr_kernel.proofs.Applied.{applied_is_sound}
 
 -- a state under a budget, after so many messages, where so many commands are left of n
 pub record Standing (program : Program) (budget n sent left : ℕ) (k : Kernel) : Type 0 where

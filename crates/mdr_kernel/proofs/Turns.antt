@@ -11,7 +11,8 @@ use Rattle.mdr_model.specs.Reading.{reading_of}
 use Rattle.mdr_model.specs.Bytes.{readings, split_run_over_bytes}
 use Rattle.mdr_model.specs.Watched.{finish}
 use Rattle.mdr_model.specs.Kernel.{Kernel, Rest, Pending, Over, Waits, SplitRun, next, split_commands, first_kernel, run_from_pending, split_run}
-use Rattle.mdr_kernel.specs.Runs.{sent_of, then_answers, answers_of, run_over, kernel_in, finish_of, HasEnded}
+use Rattle.mdr_model.specs.Legal.{kernel_in}
+use Rattle.mdr_kernel.specs.Runs.{sent_of, then_answers, answers_of, run_over, finish_of, HasEnded}
 
 -- ---- lists of exchanges
 

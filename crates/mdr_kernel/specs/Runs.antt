@@ -12,6 +12,7 @@ use Rattle.mdr_model.specs.Reading.{reading_of}
 use Rattle.mdr_model.specs.Watched.{Finish, finish}
 use Rattle.mdr_model.specs.Kernel.{Kernel, Rest, Pending, Over, Waits, SplitRun, next}
 use Rattle.mdr_model.specs.Bytes.{split_run_over_bytes}
+use Rattle.mdr_model.specs.Legal.{kernel_in}
 use Rattle.mdr_model.specs.Outcome.{outcome_of}
 use Rattle.mdr_kernel.specs.declared.run.Turn.{Turn}
 use Rattle.mdr_kernel.specs.declared.run.Turn.TheVariants as turn
@@ -37,10 +38,6 @@ answers_of (e ∷ es) = then_answers e.got (answers_of es)
 -- the split run over these answers
 abbrev pub run_over : Program → List ℕ → ℕ → List Exchange → SplitRun
 run_over program script budget es = split_run_over_bytes program script budget (answers_of es)
-
-abbrev pub kernel_in : Pending → Kernel
-kernel_in (Over end k) = k
-kernel_in (Waits m k rest) = k
 
 -- how it ended: where it waits for an answer the far side failed
 abbrev pub finish_of : Pending → Finish

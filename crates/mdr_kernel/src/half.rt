@@ -8,7 +8,7 @@ ghost use Rattle.mdr_model.specs.Sound.{IsSound};
 ghost use Rattle.mdr_model.specs.Kernel.{first_kernel};
 ghost use Rattle.mdr_kernel.specs.States.{kernel_of};
 ghost use Rattle.mdr_kernel.specs.Runs.{IsRun, IsFarFault};
-ghost use Rattle.mdr_kernel.specs.HalfState.{IsLeft};
+ghost use Rattle.mdr_kernel.specs.HalfState.{IsLeft, IsAsBefore, AreFew};
 
 use crate::outcome::outcome_of;
 use crate::run::run_script;
@@ -102,6 +102,8 @@ impl<'a> KernelHalf<'a> {
         requires fresh { F.exchanges far.old ≡ [] }
         ensures run { IfOk result (IsRun self.old.program script.now ticks (F.exchanges far.new)) }
         ensures left { IfOk result (λ _. IsLeft self.old.program script.now ticks (F.exchanges far.new) self.new) }
+        ensures before { IfOk result (λ o. IsAsBefore self.old.program script.now ticks (F.exchanges far.new) self.new.memory o.end) }
+        ensures few { IfOk result (λ o. AreFew self.old.program script.now ticks (F.exchanges far.new) self.new.messages o.ticks) }
         ensures fault { IfOk result (λ o. IsFarFault o.end → Rose (F.faults far.old) (F.faults far.new)) }
         ensures loaded { IfOk result (λ _. F.loaded far.new ≡ F.loaded far.old) }
         ensures program { self.new.program ≡ self.old.program }

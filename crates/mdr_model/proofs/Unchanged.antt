@@ -44,7 +44,7 @@ one_more program (x ∷ xs) a (Waits m' k' rest') m k rest e =
 -- ---- which ends are refusals
 
 -- the run goes on, or it ends by itself
-abbrev EndsItself : Pending → Type 0
+abbrev pub EndsItself : Pending → Type 0
 EndsItself (Over end k) = IsOwn end
 EndsItself (Waits m k rest) = Unit {0}
 
@@ -57,7 +57,7 @@ module _ (program : Program) where
   own_ends fs later k (Ended v w) = later _
   own_ends fs later k (Stopped kind at w) = tt
 
-  commands_end : (fs : List ℕ) (k : Kernel) → EndsItself (split_commands program fs k)
+  pub commands_end : (fs : List ℕ) (k : Kernel) → EndsItself (split_commands program fs k)
   unfolding split_commands
   commands_end [] k = tt
   commands_end (f ∷ fs) k = of (is_kernel program f) (commands_end fs)
@@ -99,19 +99,19 @@ module _ (program : Program) where
   taken_ends (message.Refuse reason) k rest e = absurd (Prim.cc)
 
   -- a fault ends the run where it stands
-  next_refuses : (a : Reading) (k : Kernel) (rest : Rest) (f : Fault) → answer_fault program k rest a ≡ Some f → next program a k rest ≡ refused f k
+  pub next_refuses : (a : Reading) (k : Kernel) (rest : Rest) (f : Fault) → answer_fault program k rest a ≡ Some f → next program a k rest ≡ refused f k
   unfolding next
   next_refuses (Err g) k rest f e = let same : g ≡ f = Prim.cc in ap (λ (x : Fault). refused x k) same
   next_refuses (Ok m) k rest f e = ap (λ (o : Option Fault). judged program o m k rest) e
 
   -- without one it doesn't end refused
-  next_ends : (a : Reading) (k : Kernel) (rest : Rest) → answer_fault program k rest a ≡ None → EndsItself (next program a k rest)
+  pub next_ends : (a : Reading) (k : Kernel) (rest : Rest) → answer_fault program k rest a ≡ None → EndsItself (next program a k rest)
   unfolding next
   next_ends (Err g) k rest e = absurd (Prim.cc)
   next_ends (Ok m) k rest e = subst (λ (o : Option Fault). EndsItself (judged program o m k rest)) (sym e) (taken_ends m k rest e)
 
   -- so a refusal tells the fault
-  next_only : (a : Reading) (k k' : Kernel) (rest : Rest) (exchange : ℕ) (cause : RefuseKind) (number : ℕ) → next program a k rest ≡ Over (ends.Refused exchange cause number) k'
+  pub next_only : (a : Reading) (k k' : Kernel) (rest : Rest) (exchange : ℕ) (cause : RefuseKind) (number : ℕ) → next program a k rest ≡ Over (ends.Refused exchange cause number) k'
       → (answer_fault program k rest a ≡ Some (fault cause number)) × (exchange ≡ k.exchanges) × (k' ≡ k)
   next_only a k k' rest exchange cause number e = of (answer_fault program k rest a) refl
     where

@@ -19,7 +19,7 @@ use Rattle.mdr_model.specs.World.{World, Ran, Ended, Stopped, after, counted, wh
 use Rattle.mdr_model.specs.Watched.{Finish, renewed, in_user, upcall, name_of, begun, returned, and_then, called_by, commands, first_world, watched}
 use Rattle.mdr_model.specs.Kernel.{Kernel, Rest, Noted, Pending, Over, Waits, Reading, SplitRun, calls, comes_back, answers, then_split, command_by, split_commands, applied, downcalled, serviced, fault_of, taken, judged, next, first_kernel, run_from_pending, split_run}
 use Rattle.mdr_model.specs.Bytes.{readings, split_run_over_bytes}
-use Rattle.mdr_kernel.specs.Runs.{kernel_in}
+use Rattle.mdr_model.specs.Legal.{kernel_in}
 use Rattle.mdr_kernel.proofs.Worlds.{Ends}
 
 -- ---- events that are calls

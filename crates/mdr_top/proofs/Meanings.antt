@@ -17,7 +17,8 @@ use Rattle.mdr_msg.specs.OverBytes.{IsHonestOverBytes, HasSmallNumbers, HasFewCe
 use Rattle.mdr_msg.proofs.Lifted.{bytes_are_one_memory}
 use Rattle.mdr_syntax.specs.Forms.{program_view}
 use Rattle.mdr_syntax.specs.Sound.{IsSoundView}
-use Rattle.mdr_kernel.specs.Runs.{sent_of, then_answers, answers_of, run_over, kernel_in, finish_of, IsRun, IsFarFault}
+use Rattle.mdr_model.specs.Legal.{kernel_in}
+use Rattle.mdr_kernel.specs.Runs.{sent_of, then_answers, answers_of, run_over, finish_of, IsRun, IsFarFault}
 use Rattle.mdr_user.specs.Honest.{Honest}
 use Rattle.mdr_user.proofs.SameView.{same_user_reply}
 use Rattle.mdr_top.specs.Meanings.{IsMeant}

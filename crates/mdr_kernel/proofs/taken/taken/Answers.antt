@@ -11,7 +11,8 @@ use Rattle.mdr_model.specs.Sound.{IsSound}
 use Rattle.mdr_model.specs.Faults.{args_fault}
 use Rattle.mdr_model.specs.Kernel.{Kernel, Rest, service_params, fault_of, applied}
 use Rattle.mdr_kernel.specs.States.{kernel_of, rest_of, IsSoundWorld}
-use Rattle.mdr_kernel.proofs.Accepted.{IsFit, IsDown, IsAsk, return_fits, down_fits, ask_fits, stop_fits, applied_is_sound}
+use Rattle.mdr_model.proofs.Accepted.{IsFit, IsDown, IsAsk, return_fits, down_fits, ask_fits, stop_fits}
+use Rattle.mdr_kernel.proofs.Applied.{applied_is_sound}
 use Rattle.mdr_kernel.proofs.taken.taken.Goals as goal
 
 -- the reply that was matched has no fault
