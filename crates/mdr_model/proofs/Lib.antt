@@ -8,6 +8,7 @@ pub mod Relations
 pub mod HoldsLaws
 pub mod FairTrees
 pub mod AlikeLaws
+pub mod FuelLaws
 pub mod KernelWork
 pub mod VisibleLaws
 pub mod RunLaws
