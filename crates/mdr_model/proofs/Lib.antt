@@ -9,6 +9,7 @@ pub mod HoldsLaws
 pub mod FairTrees
 pub mod AlikeLaws
 pub mod FuelLaws
+pub mod RefusalLaws
 pub mod KernelWork
 pub mod VisibleLaws
 pub mod RunLaws

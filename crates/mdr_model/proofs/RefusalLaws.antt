@@ -1,0 +1,95 @@
+-- Refused messages: one changes nothing, and the reply to some messages is the reply to those that were accepted.
+use Rattle.std.proofs.Common.{◌≡◌, ℕ, suc, ◌+◌, ◌<◌, ◌≤◌, Bool, true, false, cond, List, [], ◌∷◌, ◌++◌, Ok, Err, refl, sym, ◌∙◌, ap, append_assoc, arith}
+use Rattle.mdr_core.specs.declared.program.Program.{Program}
+use Rattle.mdr_model.specs.declared.message.Message.{Message}
+use Rattle.mdr_model.specs.Memory.{Memory, Cell}
+use Rattle.mdr_model.specs.Sets.{is_in}
+use Rattle.mdr_model.specs.Walk.{Reached, Walked, walk}
+use Rattle.mdr_model.specs.Text.{text}
+use Rattle.mdr_model.specs.Reading.{reading_of}
+use Rattle.mdr_model.specs.Kernel.{Reading}
+use Rattle.mdr_model.specs.User.{User, Opened, Refuses, Runs, Delivered, opened, replied, done, deliver, first_user, user_after, granted, allowance, user_reply}
+use Rattle.mdr_model.specs.Bytes.{readings, user_reply_to_bytes}
+use Rattle.mdr_model.specs.Refusals.{is_refusal, accepted, RefusedLeavesUser, RefusedAreLeftOut}
+use Rattle.mdr_model.proofs.Tests.{not_both}
+use Rattle.mdr_model.proofs.FuelLaws.{cut_user, same_deliver, same_after, allowance-append, allowance_one, reply_with_fuel}
+
+-- ---- a refused message
+
+-- what runs is never refused
+no_refusal : (view : List Cell) (rest : ℕ) (copy m : Memory) (left : ℕ) (x : Reached) → is_refusal (replied view rest copy m left x).reply ≡ false
+unfolding replied
+no_refusal view rest copy m left Reached.Idles = refl
+no_refusal view rest copy m left (Reached.Ended v t) = refl
+no_refusal view rest copy m left (Reached.Stopped kind at) = refl
+no_refusal view rest copy m left (Reached.Needs at t) = refl
+no_refusal view rest copy m left (Reached.Asks asked k) = refl
+no_refusal view rest copy m left (Reached.Crosses at func args depth k) = refl
+
+refused_done : (u : User) (o : Opened) → is_refusal (done u o).reply ≡ true → (done u o).user ≡ u
+refused_done u (Refuses reason) e = refl
+refused_done u (Runs tree rest view copy) e =
+    let w : Walked = walk (is_in view) rest tree copy in
+    absurd (not_both e (no_refusal view rest copy w.memory w.left w.reached))
+
+pub refused_leaves_user : RefusedLeavesUser
+unfolding deliver
+refused_leaves_user program fuel u (Ok m) e = refused_done u (opened program fuel u.agreed u.work m) e
+refused_leaves_user program fuel u (Err f) e = refl
+
+-- ---- messages in turn
+
+readings-append : (xs ys : List (List ℕ)) → readings (xs ++ ys) ≡ readings xs ++ readings ys
+readings-append [] ys = refl
+readings-append (x ∷ xs) ys = ap (λ (zs : List Reading). reading_of x ∷ zs) (readings-append xs ys)
+
+user_after-append : (program : Program) (fuel : ℕ) (u : User) (xs ys : List Reading) → user_after program fuel u (xs ++ ys) ≡ user_after program fuel (user_after program fuel u xs) ys
+unfolding user_after
+user_after-append program fuel u [] ys = refl
+user_after-append program fuel u (x ∷ xs) ys = user_after-append program fuel (deliver program fuel u x).user xs ys
+
+-- the ticks of messages that are any bytes
+abbrev ticks : List (List ℕ) → ℕ
+ticks xs = allowance (readings xs)
+
+ticks_more : (xs : List (List ℕ)) (x : List ℕ) → ticks (xs ++ x ∷ []) ≡ ticks xs + granted (reading_of x)
+ticks_more xs x =
+    ap allowance (readings-append xs (x ∷ [])) ∙ allowance-append (readings xs) (reading_of x ∷ [])
+    ∙ ap (λ (n : ℕ). ticks xs + n) (allowance_one (reading_of x))
+
+module _ (program : Program) where
+  -- those that are accepted grant no more than all
+  accepted_grant : (before xs : List (List ℕ)) → ticks (accepted program before xs) ≤ ticks xs
+  unfolding accepted allowance
+  accepted_grant before [] = omega arith
+  accepted_grant before (x ∷ xs) = by_test (is_refusal (user_reply program (readings before) (reading_of x))) (accepted_grant (before ++ x ∷ []) xs)
+    where
+      by_test : (b : Bool) → ticks (accepted program (before ++ x ∷ []) xs) ≤ ticks xs
+          → ticks (cond b (accepted program (before ++ x ∷ []) xs) (x ∷ accepted program (before ++ x ∷ []) xs)) ≤ granted (reading_of x) + ticks xs
+      by_test true later = omega arith
+      by_test false later = omega arith
+
+  -- what the messages so far leave
+  abbrev held : ℕ → List (List ℕ) → User
+  held fuel xs = user_after program fuel (first_user program) (readings xs)
+
+  held_more : (fuel : ℕ) (xs : List (List ℕ)) (x : List ℕ) → held fuel (xs ++ x ∷ []) ≡ (deliver program fuel (held fuel xs) (reading_of x)).user
+  unfolding user_after
+  held_more fuel xs x =
+      ap (user_after program fuel (first_user program)) (readings-append xs (x ∷ []))
+      ∙ user_after-append program fuel (first_user program) (readings xs) (reading_of x ∷ [])
+
+  -- the accepted ones of some messages leave what all leave, up to the ticks that come later
+  same_left : (n n' r : ℕ) (before xs : List (List ℕ)) (u' : User) → r + ticks before + ticks xs < n → r + ticks (accepted program before xs) < n'
+      → cut_user (r + ticks (accepted program before xs)) (held n before) ≡ cut_user (r + ticks (accepted program before xs)) u'
+      → cut_user r (user_after program n (held n before) (readings xs)) ≡ cut_user r (user_after program n' u' (readings (accepted program before xs)))
+  unfolding accepted allowance user_after
+  same_left n n' r before [] u' less less' same = ?
+  same_left n n' r before (x ∷ xs) u' less less' same = ?
+
+  pub left_out : (before : List (List ℕ)) (last : List ℕ) → user_reply_to_bytes program before last ≡ user_reply_to_bytes program (accepted program [] before) last
+  unfolding user_reply_to_bytes
+  left_out before last = ?
+
+pub refused_are_left_out : RefusedAreLeftOut
+refused_are_left_out program before last = left_out program before last
