@@ -12,7 +12,7 @@ use Rattle.mdr_model.specs.User.{User, Opened, Refuses, Runs, Delivered, opened,
 use Rattle.mdr_model.specs.Bytes.{readings, user_reply_to_bytes}
 use Rattle.mdr_model.specs.Refusals.{is_refusal, accepted, RefusedLeavesUser, RefusedAreLeftOut}
 use Rattle.mdr_model.proofs.Tests.{not_both}
-use Rattle.mdr_model.proofs.FuelLaws.{cut_user, same_deliver, same_after, allowance-append, allowance_one, reply_with_fuel}
+use Rattle.mdr_model.proofs.FuelLaws.{cut_user, cut_delivered, same_fewer, same_deliver, same_after, allowance-append, allowance_one, reply_with_fuel}
 
 -- ---- a refused message
 
@@ -84,12 +84,69 @@ module _ (program : Program) where
       → cut_user (r + ticks (accepted program before xs)) (held n before) ≡ cut_user (r + ticks (accepted program before xs)) u'
       → cut_user r (user_after program n (held n before) (readings xs)) ≡ cut_user r (user_after program n' u' (readings (accepted program before xs)))
   unfolding accepted allowance user_after
-  same_left n n' r before [] u' less less' same = ?
-  same_left n n' r before (x ∷ xs) u' less less' same = ?
+  same_left n n' r before [] u' less less' same = same_fewer r (r + 0) (held n before) u' (omega arith) same
+  same_left n n' r before (x ∷ xs) u' less less' same =
+      by_test (is_refusal (user_reply program (readings before) (reading_of x))) refl less' same
+      (λ v fewer e. same_left n n' r (before ++ x ∷ []) xs v (omega (arith, ticks_more before x)) fewer e)
+    where
+      m : Reading
+      m = reading_of x
+
+      u : User
+      u = held n before
+
+      next : User
+      next = (deliver program n u m).user
+
+      later : List (List ℕ)
+      later = accepted program (before ++ x ∷ []) xs
+
+      told : held n (before ++ x ∷ []) ≡ next
+      told = held_more n before x
+
+      by_test : (b : Bool) → is_refusal (user_reply program (readings before) m) ≡ b → r + ticks (cond b later (x ∷ later)) < n'
+          → cut_user (r + ticks (cond b later (x ∷ later))) u ≡ cut_user (r + ticks (cond b later (x ∷ later))) u'
+          → ((v : User) → r + ticks later < n' → cut_user (r + ticks later) (held n (before ++ x ∷ [])) ≡ cut_user (r + ticks later) v
+          → cut_user r (user_after program n (held n (before ++ x ∷ [])) (readings xs)) ≡ cut_user r (user_after program n' v (readings later)))
+          → cut_user r (user_after program n next (readings xs)) ≡ cut_user r (user_after program n' u' (readings (cond b later (x ∷ later))))
+      by_test true test fewer e rest =
+          let refused : is_refusal (deliver program n u m).reply ≡ true = ap is_refusal (sym (reply_with_fuel program n (readings before) m (omega arith))) ∙ test in
+          let stays : next ≡ u = refused_leaves_user program n u m refused in
+          ap (λ (v : User). cut_user r (user_after program n v (readings xs))) (sym told) ∙ rest u' fewer (ap (cut_user (r + ticks later)) (told ∙ stays) ∙ e)
+      by_test false test fewer e rest =
+          let less_accepted : ticks later ≤ ticks xs = accepted_grant (before ++ x ∷ []) xs in
+          let one : cut_user (r + ticks later) next ≡ cut_user (r + ticks later) (deliver program n' u' m).user =
+          ap (λ (d : Delivered). d.user) (same_deliver program n n' (r + ticks later) u u' m (omega arith) (omega arith)
+          (same_fewer (r + ticks later + granted m) (r + (granted m + ticks later)) u u' (omega arith) e)) in
+          ap (λ (v : User). cut_user r (user_after program n v (readings xs))) (sym told)
+          ∙ rest (deliver program n' u' m).user (omega arith) (ap (cut_user (r + ticks later)) told ∙ one)
 
   pub left_out : (before : List (List ℕ)) (last : List ℕ) → user_reply_to_bytes program before last ≡ user_reply_to_bytes program (accepted program [] before) last
-  unfolding user_reply_to_bytes
-  left_out before last = ?
+  unfolding user_reply_to_bytes allowance user_after
+  left_out before last = ap text (long ∙ ap (λ (d : Delivered). d.reply) same ∙ sym short)
+    where
+      m : Reading
+      m = reading_of last
+
+      kept : List (List ℕ)
+      kept = accepted program [] before
+
+      n : ℕ
+      n = suc (ticks before + granted m)
+
+      n' : ℕ
+      n' = suc (ticks kept + granted m)
+
+      long : user_reply program (readings before) m ≡ (deliver program n (held n before) m).reply
+      long = reply_with_fuel program n (readings before) m (omega arith)
+
+      short : user_reply program (readings kept) m ≡ (deliver program n' (held n' kept) m).reply
+      short = reply_with_fuel program n' (readings kept) m (omega arith)
+
+      same : cut_delivered 0 (deliver program n (held n before) m) ≡ cut_delivered 0 (deliver program n' (held n' kept) m)
+      same =
+          same_deliver program n n' 0 (held n before) (held n' kept) m (omega arith) (omega arith)
+          (same_left n n' (0 + granted m) [] before (first_user program) (omega arith) (omega arith) refl)
 
 pub refused_are_left_out : RefusedAreLeftOut
 refused_are_left_out program before last = left_out program before last
