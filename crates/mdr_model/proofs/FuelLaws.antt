@@ -14,13 +14,13 @@ use Rattle.mdr_model.specs.Tree.{Tree, cut}
 use Rattle.mdr_model.specs.Walk.{Reached, Walked, walked, on_load, on_store, walk}
 use Rattle.mdr_model.specs.Meaning.{started}
 use Rattle.mdr_model.specs.Kernel.{Reading}
-use Rattle.mdr_model.specs.User.{User, Work, Nothing, AwaitsBack, AwaitsAnswer, Opened, Refuses, Runs, when_fits, opened, Delivered, replied, replied_to, done, deliver, first_user, user_after, granted, allowance, user_reply}
+use Rattle.mdr_model.specs.User.{User, Work, Nothing, AwaitsBack, AwaitsAnswer, Refuses, Runs, when_fits, opened, Delivered, replied, replied_to, done, deliver, first_user, user_after, granted, allowance, user_reply}
 use Rattle.mdr_model.proofs.AlikeLaws.{fuel_no_matter}
 
 -- ---- cuts of trees
 
 -- a longer cut below a shorter one is as good as none
-pub cut_cut : (q s : ℕ) (t : Tree) → q ≤ s → cut q (cut s t) ≡ cut q t
+cut_cut : (q s : ℕ) (t : Tree) → q ≤ s → cut q (cut s t) ≡ cut q t
 unfolding cut
 cut_cut q s Tree.Idle fewer = refl
 cut_cut q s (Tree.Done v t) fewer = ap (Tree.Done v) (cut_cut q s t fewer)
@@ -37,7 +37,7 @@ cut_cut q s (Tree.Cross at func args depth k) fewer = ap (Tree.Cross at func arg
 -- ---- cuts of what a walk reaches
 
 -- what comes next is cut; the trees that no reply uses are left out
-abbrev pub cut_reached : ℕ → Reached → Reached
+abbrev cut_reached : ℕ → Reached → Reached
 cut_reached r Reached.Idles = Reached.Idles
 cut_reached r (Reached.Ended v t) = Reached.Ended v Tree.Idle
 cut_reached r (Reached.Stopped kind at) = Reached.Stopped kind at
@@ -46,7 +46,7 @@ cut_reached r (Reached.Asks asked k) = Reached.Asks asked (λ vs. cut r (k vs))
 cut_reached r (Reached.Crosses at func args depth k) = Reached.Crosses at func args depth (λ v. cut r (k v))
 
 -- the ticks that are left go on top of those that come later
-abbrev pub cut_walked : ℕ → Walked → Walked
+abbrev cut_walked : ℕ → Walked → Walked
 cut_walked r w = walked (cut_reached (r + w.left) w.reached) w.memory w.left
 
 cut_on_load : (r : ℕ) (x : Result Wire StopKind) (at : At) (m : Memory) (n : ℕ) (go go' : Wire → Walked) → ((v : Wire) → cut_walked r (go v) ≡ cut_walked r (go' v))
@@ -60,7 +60,7 @@ cut_on_store r (Ok m') at m n go go' h = h m'
 cut_on_store r (Err kind) at m n go go' h = refl
 
 -- a walk of a tree that is cut behind the walk's ticks reaches the same
-pub walk_cut : (allowed : Cell → Bool) (s r n : ℕ) (t : Tree) (m : Memory) → r + n ≤ s → cut_walked r (walk allowed n (cut s t) m) ≡ cut_walked r (walk allowed n t m)
+walk_cut : (allowed : Cell → Bool) (s r n : ℕ) (t : Tree) (m : Memory) → r + n ≤ s → cut_walked r (walk allowed n (cut s t) m) ≡ cut_walked r (walk allowed n t m)
 unfolding cut walk
 walk_cut allowed s r n Tree.Idle m fits = refl
 walk_cut allowed s r n (Tree.Done v t) m fits = refl
@@ -183,9 +183,8 @@ module _ (program : Program) where
       ∙ ap (λ (v : User). cut_delivered r (deliver program n' v x)) users
       ∙ sym (deliver_cut n' n' r u' x less' less')
 
-  -- ---- messages in turn
-
-  pub same_after : (n n' r : ℕ) (u u' : User) (xs : List Reading) → r + allowance xs < n → r + allowance xs < n' → cut_user (r + allowance xs) u ≡ cut_user (r + allowance xs) u'
+  -- messages in turn need what is held up to all the ticks that they grant
+  same_after : (n n' r : ℕ) (u u' : User) (xs : List Reading) → r + allowance xs < n → r + allowance xs < n' → cut_user (r + allowance xs) u ≡ cut_user (r + allowance xs) u'
       → cut_user r (user_after program n u xs) ≡ cut_user r (user_after program n' u' xs)
   unfolding allowance user_after
   same_after n n' r u u' [] less less' users = same_fewer r (r + 0) u u' (omega arith) users

@@ -1,7 +1,6 @@
 -- Refused messages: one changes nothing, and the reply to some messages is the reply to those that were accepted.
-use Rattle.std.proofs.Common.{◌≡◌, ℕ, suc, ◌+◌, ◌<◌, ◌≤◌, Bool, true, false, cond, List, [], ◌∷◌, ◌++◌, Ok, Err, refl, sym, ◌∙◌, ap, append_assoc, arith}
+use Rattle.std.proofs.Common.{◌≡◌, ℕ, suc, ◌+◌, ◌<◌, ◌≤◌, Bool, true, false, cond, List, [], ◌∷◌, ◌++◌, Ok, Err, refl, sym, ◌∙◌, ap, arith}
 use Rattle.mdr_core.specs.declared.program.Program.{Program}
-use Rattle.mdr_model.specs.declared.message.Message.{Message}
 use Rattle.mdr_model.specs.Memory.{Memory, Cell}
 use Rattle.mdr_model.specs.Sets.{is_in}
 use Rattle.mdr_model.specs.Walk.{Reached, Walked, walk}
@@ -12,7 +11,7 @@ use Rattle.mdr_model.specs.User.{User, Opened, Refuses, Runs, Delivered, opened,
 use Rattle.mdr_model.specs.Bytes.{readings, user_reply_to_bytes}
 use Rattle.mdr_model.specs.Refusals.{is_refusal, accepted, RefusedLeavesUser, RefusedAreLeftOut}
 use Rattle.mdr_model.proofs.Tests.{not_both}
-use Rattle.mdr_model.proofs.FuelLaws.{cut_user, cut_delivered, same_fewer, same_deliver, same_after, allowance-append, allowance_one, reply_with_fuel}
+use Rattle.mdr_model.proofs.FuelLaws.{cut_user, cut_delivered, same_fewer, same_deliver, allowance-append, allowance_one, reply_with_fuel}
 
 -- ---- a refused message
 
@@ -80,14 +79,14 @@ module _ (program : Program) where
       ∙ user_after-append program fuel (first_user program) (readings xs) (reading_of x ∷ [])
 
   -- the accepted ones of some messages leave what all leave, up to the ticks that come later
-  same_left : (n n' r : ℕ) (before xs : List (List ℕ)) (u' : User) → r + ticks before + ticks xs < n → r + ticks (accepted program before xs) < n'
+  accepted_leave_same : (n n' r : ℕ) (before xs : List (List ℕ)) (u' : User) → r + ticks before + ticks xs < n → r + ticks (accepted program before xs) < n'
       → cut_user (r + ticks (accepted program before xs)) (held n before) ≡ cut_user (r + ticks (accepted program before xs)) u'
       → cut_user r (user_after program n (held n before) (readings xs)) ≡ cut_user r (user_after program n' u' (readings (accepted program before xs)))
   unfolding accepted allowance user_after
-  same_left n n' r before [] u' less less' same = same_fewer r (r + 0) (held n before) u' (omega arith) same
-  same_left n n' r before (x ∷ xs) u' less less' same =
+  accepted_leave_same n n' r before [] u' less less' same = same_fewer r (r + 0) (held n before) u' (omega arith) same
+  accepted_leave_same n n' r before (x ∷ xs) u' less less' same =
       by_test (is_refusal (user_reply program (readings before) (reading_of x))) refl less' same
-      (λ v fewer e. same_left n n' r (before ++ x ∷ []) xs v (omega (arith, ticks_more before x)) fewer e)
+      (λ v enough e. accepted_leave_same n n' r (before ++ x ∷ []) xs v (omega (arith, ticks_more before x)) enough e)
     where
       m : Reading
       m = reading_of x
@@ -109,11 +108,11 @@ module _ (program : Program) where
           → ((v : User) → r + ticks later < n' → cut_user (r + ticks later) (held n (before ++ x ∷ [])) ≡ cut_user (r + ticks later) v
           → cut_user r (user_after program n (held n (before ++ x ∷ [])) (readings xs)) ≡ cut_user r (user_after program n' v (readings later)))
           → cut_user r (user_after program n next (readings xs)) ≡ cut_user r (user_after program n' u' (readings (cond b later (x ∷ later))))
-      by_test true test fewer e rest =
+      by_test true test enough e rest =
           let refused : is_refusal (deliver program n u m).reply ≡ true = ap is_refusal (sym (reply_with_fuel program n (readings before) m (omega arith))) ∙ test in
           let stays : next ≡ u = refused_leaves_user program n u m refused in
-          ap (λ (v : User). cut_user r (user_after program n v (readings xs))) (sym told) ∙ rest u' fewer (ap (cut_user (r + ticks later)) (told ∙ stays) ∙ e)
-      by_test false test fewer e rest =
+          ap (λ (v : User). cut_user r (user_after program n v (readings xs))) (sym told) ∙ rest u' enough (ap (cut_user (r + ticks later)) (told ∙ stays) ∙ e)
+      by_test false test enough e rest =
           let less_accepted : ticks later ≤ ticks xs = accepted_grant (before ++ x ∷ []) xs in
           let one : cut_user (r + ticks later) next ≡ cut_user (r + ticks later) (deliver program n' u' m).user =
           ap (λ (d : Delivered). d.user) (same_deliver program n n' (r + ticks later) u u' m (omega arith) (omega arith)
@@ -121,9 +120,10 @@ module _ (program : Program) where
           ap (λ (v : User). cut_user r (user_after program n v (readings xs))) (sym told)
           ∙ rest (deliver program n' u' m).user (omega arith) (ap (cut_user (r + ticks later)) told ∙ one)
 
-  pub left_out : (before : List (List ℕ)) (last : List ℕ) → user_reply_to_bytes program before last ≡ user_reply_to_bytes program (accepted program [] before) last
+  -- the last message finds the same in both
+  reply_to_accepted : (before : List (List ℕ)) (last : List ℕ) → user_reply_to_bytes program before last ≡ user_reply_to_bytes program (accepted program [] before) last
   unfolding user_reply_to_bytes allowance user_after
-  left_out before last = ap text (long ∙ ap (λ (d : Delivered). d.reply) same ∙ sym short)
+  reply_to_accepted before last = ap text (long ∙ ap (λ (d : Delivered). d.reply) same ∙ sym short)
     where
       m : Reading
       m = reading_of last
@@ -146,7 +146,7 @@ module _ (program : Program) where
       same : cut_delivered 0 (deliver program n (held n before) m) ≡ cut_delivered 0 (deliver program n' (held n' kept) m)
       same =
           same_deliver program n n' 0 (held n before) (held n' kept) m (omega arith) (omega arith)
-          (same_left n n' (0 + granted m) [] before (first_user program) (omega arith) (omega arith) refl)
+          (accepted_leave_same n n' (0 + granted m) [] before (first_user program) (omega arith) (omega arith) refl)
 
 pub refused_are_left_out : RefusedAreLeftOut
-refused_are_left_out program before last = left_out program before last
+refused_are_left_out program before last = reply_to_accepted program before last
