@@ -8,6 +8,8 @@ pub mod Relations
 pub mod HoldsLaws
 pub mod FairTrees
 pub mod AlikeLaws
+pub mod FuelLaws
+pub mod RefusalLaws
 pub mod KernelWork
 pub mod Accepted
 pub mod VisibleLaws
