@@ -137,4 +137,3 @@ stop_fits program k rest ticks number at runs e =
     let faults : List (Option Fault) = ticks_fault k ticks ∷ unless (is_user_place program at) refusal.BadPlace 0 ∷ unless (is_stop number ticks k.world.rest) refusal.BadStop 0 ∷ reply_runs_fault program k runs ∷ [] in
     let all : AreNone faults = no_faults faults e in
     fit_in program k ticks runs all.0 all.1.1.1.0
-

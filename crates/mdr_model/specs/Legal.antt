@@ -81,7 +81,7 @@ kernel_in (Over end k) = k
 kernel_in (Waits m k rest) = k
 
 -- whatever the answers are, the messages sent and answered are at most 4 for each tick and 6 for each command begun
-abbrev pub AnyAnswersAreFew : Type 0
-AnyAnswersAreFew =
+abbrev pub MessagesAreFew : Type 0
+MessagesAreFew =
     (program : Program) (script : List ℕ) (budget : ℕ) (answers : List Reading) → let k : Kernel = kernel_in (split_run program script budget answers).pending in
     2 * k.exchanges ≤ 4 * k.world.ticks + 6 * k.world.calls

@@ -2,7 +2,7 @@
 
 ghost use Rattle.mdr_model.specs.Alike.{FuelIsNoMatter};
 ghost use Rattle.mdr_model.specs.Law.{SplitIsOneMemory};
-ghost use Rattle.mdr_model.specs.Legal.{RefusedChangesNothing, LegalIsContained, AnyAnswersAreFew};
+ghost use Rattle.mdr_model.specs.Legal.{RefusedChangesNothing, LegalIsContained, MessagesAreFew};
 ghost use Rattle.mdr_model.specs.Refusals.{RefusedLeavesUser, RefusedAreLeftOut};
 
 /// Trees of any two fuels above a number of ticks are equal up to so many ticks.
@@ -28,8 +28,8 @@ pub fn a_legal_reply_is_contained()
 {}
 
 /// Whatever a run is answered, its messages are at most 4 for each tick and 6 for each command begun.
-pub fn any_answers_are_few()
-    ensures { AnyAnswersAreFew }
+pub fn messages_are_few()
+    ensures { MessagesAreFew }
 {}
 
 /// What the user half holds is as it was after a message that it refused.

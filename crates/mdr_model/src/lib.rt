@@ -10,7 +10,7 @@ mod worked;
 
 pub use laws::{
     a_legal_reply_is_contained, a_refused_message_changes_nothing, a_refused_reply_changes_nothing,
-    any_answers_are_few, fuel_is_no_matter, refused_messages_can_be_left_out, split_is_one_memory,
+    fuel_is_no_matter, messages_are_few, refused_messages_can_be_left_out, split_is_one_memory,
 };
 pub use memory::{Cell, MemoryBlock};
 pub use message::{BirthKind, Fault, Message, New, Run, SetRun, Shape64};
