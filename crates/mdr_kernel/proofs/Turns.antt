@@ -91,7 +91,7 @@ goes_so program first m k rest es es' bytes p so added leads = record {
 abbrev pub first_of : Program → List ℕ → ℕ → Pending
 first_of program script budget = split_commands program script (first_kernel program budget)
 
-run_is : (program : Program) (script : List ℕ) (budget : ℕ) (es : List Exchange) → run_over program script budget es ≡ run_from_pending program (readings (answers_of es)) (first_of program script budget)
+pub run_is : (program : Program) (script : List ℕ) (budget : ℕ) (es : List Exchange) → run_over program script budget es ≡ run_from_pending program (readings (answers_of es)) (first_of program script budget)
 unfolding split_run_over_bytes split_run
 run_is program script budget es = refl
 

@@ -1,0 +1,219 @@
+-- How a run ends that the far side ends: it waited, and the last answer was refused, or there was none.
+use Rattle.std.proofs.Common.{◌≡◌, ℕ, suc, ◌+◌, ◌*◌, ◌≤◌, List, [], ◌∷◌, ◌++◌, map, length, Option, Some, None, Ok, Err, refl, sym, ap, ◌∙◌, subst, arith}
+use Rattle.mdr_core.specs.declared.refusal.RefuseKind.{RefuseKind}
+use Rattle.mdr_core.specs.declared.program.Program.{Program}
+use Rattle.mdr_outside.specs.declared.far.Exchange.{Exchange}
+use Rattle.mdr_model.specs.declared.message.Fault.{Fault}
+use Rattle.mdr_model.specs.declared.message.Message.{Message}
+use Rattle.mdr_model.specs.declared.outcome.End.{End}
+use Rattle.mdr_model.specs.declared.outcome.End.TheVariants as ends
+use Rattle.mdr_model.specs.Memory.{Memory}
+use Rattle.mdr_model.specs.Text.{text}
+use Rattle.mdr_model.specs.Reading.{reading_of}
+use Rattle.mdr_model.specs.World.{World}
+use Rattle.mdr_model.specs.Watched.{Finish, finish}
+use Rattle.mdr_model.specs.Kernel.{Kernel, Rest, Pending, Over, Waits, Reading, SplitRun, refused, next, split_commands, first_kernel, run_from_pending, split_run}
+use Rattle.mdr_model.specs.Bytes.{readings, split_run_over_bytes}
+use Rattle.mdr_model.specs.Faults.{fault}
+use Rattle.mdr_model.specs.Law.{IsOwn}
+use Rattle.mdr_model.specs.Legal.{answer_fault, kernel_in}
+use Rattle.mdr_model.proofs.Unchanged.{EndsItself, commands_end, next_refuses, next_ends, next_only}
+use Rattle.mdr_model.proofs.AnyAnswers.{paid_everywhere}
+use Rattle.mdr_kernel.specs.Runs.{sent_of, then_answers, answers_of, run_over, finish_of, HasEnded}
+use Rattle.mdr_kernel.specs.HalfState.{HasWaited, WasRefused, IsAsBefore, AreFew}
+use Rattle.mdr_kernel.proofs.Standing.{IsOwnEnd}
+use Rattle.mdr_kernel.proofs.Turns.{first_of, run_is}
+
+-- ---- the last answer
+
+-- from a state over answers, the last of which is refused
+record RefusedLast (program : Program) (p : Pending) (answers : List (List ℕ)) (exchange : ℕ) (cause : RefuseKind) (number : ℕ) (k : Kernel) : Type 0 where
+  before : List (List ℕ)
+  last : List ℕ
+  all : answers ≡ before ++ last ∷ []
+  message : Message
+  kernel : Kernel
+  rest : Rest
+  waits : (run_from_pending program (readings before) p).pending ≡ Waits message kernel rest
+  leads : next program (reading_of last) kernel rest ≡ Over (ends.Refused exchange cause number) k
+
+module _ (program : Program) where
+  no_refusal : (end : End) (k k' : Kernel) (exchange : ℕ) (cause : RefuseKind) (number : ℕ) → IsOwn end → Over end k ≡ Over (ends.Refused exchange cause number) k' → ⊥
+  no_refusal end k k' exchange cause number own e = subst EndsItself e own
+
+  -- no more answers than messages were taken, so none came after it
+  refused_last : (answers : List (List ℕ)) (p : Pending) (exchange : ℕ) (cause : RefuseKind) (number : ℕ) (k : Kernel) → EndsItself p → length answers ≤ length (run_from_pending program (readings answers) p).sent
+      → (run_from_pending program (readings answers) p).pending ≡ Over (ends.Refused exchange cause number) k → RefusedLast program p answers exchange cause number k
+  unfolding run_from_pending
+  refused_last [] (Over end k') exchange cause number k own few e = absurd (no_refusal end k' k exchange cause number own e)
+  refused_last [] (Waits m k' rest) exchange cause number k own few e = absurd (Prim.cc)
+  refused_last (a ∷ answers) (Over end k') exchange cause number k own few e = absurd (no_refusal end k' k exchange cause number own e)
+  refused_last (a ∷ answers) (Waits m k' rest) exchange cause number k own few e =
+      of (next program (reading_of a) k' rest) refl (λ own' few' e'. refused_last answers (next program (reading_of a) k' rest) exchange cause number k own' few' e')
+    where
+      q : Pending
+      q = next program (reading_of a) k' rest
+
+      -- the answer ended the run, so no other came
+      ended : (end : End) (l : Kernel) → q ≡ Over end l → RefusedLast program (Waits m k' rest) (a ∷ answers) exchange cause number k
+      ended end l is =
+          let sent : (run_from_pending program (readings answers) q).sent ≡ (run_from_pending program (readings answers) (Over end l)).sent = ap (λ (x : Pending). (run_from_pending program (readings answers) x).sent) is in
+          let over : Over end l ≡ Over (ends.Refused exchange cause number) k = sym (ap (λ (x : Pending). (run_from_pending program (readings answers) x).pending) is) ∙ e in
+          let none : length answers ≡ 0 = no_more answers (ap length sent) in
+          record {
+            before = [];
+            last = a;
+            all = ap (λ (xs : List (List ℕ)). a ∷ xs) (nothing answers none);
+            message = m;
+            kernel = k';
+            rest = rest;
+            waits = refl;
+            leads = is ∙ over;
+          }
+        where
+          no_more : (xs : List (List ℕ)) → length (run_from_pending program (readings answers) q).sent ≡ 0 → length answers ≡ 0
+          no_more xs h = omega (arith, few, h)
+
+          nothing : (xs : List (List ℕ)) → length xs ≡ 0 → xs ≡ []
+          nothing [] h = refl
+          nothing (x ∷ xs) h = absurd (omega (arith, h))
+
+      later : RefusedLast program q answers exchange cause number k → RefusedLast program (Waits m k' rest) (a ∷ answers) exchange cause number k
+      later r = record {
+        before = a ∷ r.before;
+        last = r.last;
+        all = ap (λ (xs : List (List ℕ)). a ∷ xs) r.all;
+        message = r.message;
+        kernel = r.kernel;
+        rest = r.rest;
+        waits = r.waits;
+        leads = r.leads;
+      }
+
+      of : (x : Pending) → q ≡ x
+          → (EndsItself q → length answers ≤ length (run_from_pending program (readings answers) q).sent → (run_from_pending program (readings answers) q).pending ≡ Over (ends.Refused exchange cause number) k → RefusedLast program q answers exchange cause number k)
+          → RefusedLast program (Waits m k' rest) (a ∷ answers) exchange cause number k
+      of (Over end l) is go = ended end l is
+      of (Waits m' l rest') is go = later (go (subst EndsItself (sym is) tt) (omega (arith, few)) e)
+
+-- ---- a run ends by itself or refused
+
+abbrev EndsKnown : Pending → Type 0
+EndsKnown (Over end k) = IsOwnEnd end
+EndsKnown (Waits m k rest) = Unit {0}
+
+itself_known : (p : Pending) → EndsItself p → EndsKnown p
+itself_known (Over ends.Ok k) own = tt
+itself_known (Over (ends.Stop kind at) k) own = tt
+itself_known (Over (ends.Refused exchange cause number) k) own = tt
+itself_known (Over (ends.FarFault exchange) k) own = own
+itself_known (Waits m k rest) own = tt
+
+next_known : (program : Program) (a : Reading) (k : Kernel) (rest : Rest) → EndsKnown (next program a k rest)
+next_known program a k rest = of (answer_fault program k rest a) refl
+  where
+    of : (o : Option Fault) → answer_fault program k rest a ≡ o → EndsKnown (next program a k rest)
+    of None e = itself_known _ (next_ends program a k rest e)
+    of (Some f) e = subst EndsKnown (sym (next_refuses program a k rest f e)) tt
+
+run_known : (program : Program) (xs : List Reading) (p : Pending) → EndsKnown p → EndsKnown (run_from_pending program xs p).pending
+unfolding run_from_pending
+run_known program [] (Over end k) known = known
+run_known program [] (Waits m k rest) known = known
+run_known program (a ∷ xs) (Over end k) known = known
+run_known program (a ∷ xs) (Waits m k rest) known = run_known program xs (next program a k rest) (next_known program a k rest)
+
+-- ---- exchanges
+
+few_answers : (es : List Exchange) → length (answers_of es) ≤ length es
+few_answers [] = omega arith
+few_answers (e ∷ es) = of e.got (few_answers es)
+  where
+    of : (got : Option (List ℕ)) → length (answers_of es) ≤ length es → length (then_answers got (answers_of es)) ≤ suc (length es)
+    of None few = omega arith
+    of (Some bytes) few = omega (arith, few)
+
+sents : (es : List Exchange) → length (sent_of es) ≡ length es
+sents [] = refl
+sents (e ∷ es) = ap suc (sents es)
+
+texts : (ms : List Message) → length (map text ms) ≡ length ms
+texts [] = refl
+texts (m ∷ ms) = ap suc (texts ms)
+
+-- each exchange sent a message
+as_many : (es : List Exchange) (ms : List Message) → sent_of es ≡ map text ms → length es ≡ length ms
+as_many es ms e = sym (sents es) ∙ ap length e ∙ texts ms
+
+-- ---- the state that is left
+
+module _ (program : Program) (script : List ℕ) (budget : ℕ) (es : List Exchange) where
+  -- a run that is over ended so
+  over_is : (p : Pending) (end : End) (w : World) → EndsKnown p → IsOwnEnd end → finish_of p ≡ finish end w → (k : Kernel) → kernel_in p ≡ k → p ≡ Over end k
+  over_is (Over end' k') end w known own e k is =
+      let same : end' ≡ end = ap (λ (f : Finish). f.end) e in λ i. Over (same i) (is i)
+  over_is (Waits m k' rest) end w known own e k is =
+      let same : ends.FarFault k'.exchanges ≡ end = ap (λ (f : Finish). f.end) e in absurd (subst IsOwnEnd (sym same) own)
+
+  over_bytes : (answers : List (List ℕ)) → split_run_over_bytes program script budget answers ≡ run_from_pending program (readings answers) (first_of program script budget)
+  unfolding split_run_over_bytes split_run
+  over_bytes answers = refl
+
+  refused_so : (exchange : ℕ) (cause : RefuseKind) (number : ℕ) (k : Kernel) → HasEnded program script budget es (ends.Refused exchange cause number) k → WasRefused program script budget (answers_of es) exchange cause number k.world.memory
+  refused_so exchange cause number k h =
+      let run : SplitRun = run_from_pending program (readings (answers_of es)) (first_of program script budget) in
+      let same : run_over program script budget es ≡ run = run_is program script budget es in
+      let begins : EndsItself (first_of program script budget) = commands_end program script (first_kernel program budget) in
+      let over : run.pending ≡ Over (ends.Refused exchange cause number) k =
+      over_is run.pending (ends.Refused exchange cause number) k.world (run_known program (readings (answers_of es)) (first_of program script budget) (itself_known _ begins)) tt
+      (ap (λ (r : SplitRun). finish_of r.pending) (sym same) ∙ h.ended) k (ap (λ (r : SplitRun). kernel_in r.pending) (sym same) ∙ h.kernel) in
+      let counted : length es ≡ length run.sent = as_many es run.sent (h.messages ∙ ap (λ (r : SplitRun). map text r.sent) same) in
+      let few : length (answers_of es) ≤ length run.sent = omega (arith, few_answers es, counted) in
+      let r : RefusedLast program (first_of program script budget) (answers_of es) exchange cause number k = refused_last program (answers_of es) (first_of program script budget) exchange cause number k begins few over in
+      let told = next_only program (reading_of r.last) r.kernel k r.rest exchange cause number r.leads in
+      record {
+        before = r.before;
+        last = r.last;
+        all = r.all;
+        waited = record {
+          message = r.message;
+          kernel = r.kernel;
+          rest = r.rest;
+          waits = ap (λ (x : SplitRun). x.pending) (over_bytes r.before) ∙ r.waits;
+          same = ap (λ (x : Kernel). x.world.memory) told.2;
+        };
+        counted = told.1;
+        refused = told.0;
+      }
+
+  -- the far side failed where the run waits
+  failed_so : (exchange : ℕ) (k : Kernel) → HasEnded program script budget es (ends.FarFault exchange) k → HasWaited program script budget (answers_of es) k.world.memory
+  failed_so exchange k h = of (run_over program script budget es).pending refl h.ended h.kernel
+    where
+      begins : EndsItself (first_of program script budget)
+      begins = commands_end program script (first_kernel program budget)
+
+      known : EndsKnown (run_over program script budget es).pending
+      known = subst (λ (r : SplitRun). EndsKnown r.pending) (sym (run_is program script budget es)) (run_known program (readings (answers_of es)) (first_of program script budget) (itself_known _ begins))
+
+      of : (p : Pending) → (run_over program script budget es).pending ≡ p → finish_of p ≡ finish (ends.FarFault exchange) k.world → kernel_in p ≡ k → HasWaited program script budget (answers_of es) k.world.memory
+      of (Over end k') is e same =
+          let far : end ≡ ends.FarFault exchange = ap (λ (f : Finish). f.end) e in
+          absurd (subst IsOwnEnd far (subst EndsKnown is known))
+      of (Waits m k' rest) is e same = record { message = m; kernel = k'; rest = rest; waits = is; same = ap (λ (x : Kernel). x.world.memory) (sym same) }
+
+  pub as_before : (end : End) (k : Kernel) → HasEnded program script budget es end k → IsAsBefore program script budget es k.world.memory end
+  as_before ends.Ok k h = tt
+  as_before (ends.Stop kind at) k h = tt
+  as_before (ends.Refused exchange cause number) k h = refused_so exchange cause number k h
+  as_before (ends.FarFault exchange) k h = failed_so exchange k h
+
+  -- the messages are paid for by ticks and commands
+  pub are_few : (end : End) (k : Kernel) (messages ticks : ℕ) → HasEnded program script budget es end k → messages ≡ k.exchanges * 2 → ticks ≡ k.world.ticks → AreFew program script budget es messages ticks
+  unfolding split_run_over_bytes
+  are_few end k messages ticks h count clock =
+      let l : Kernel = kernel_in (run_over program script budget es).pending in
+      let paid : 2 * l.exchanges ≤ 4 * l.world.ticks + 6 * l.world.calls = paid_everywhere program script budget (readings (answers_of es)) in
+      let sent : l.exchanges ≡ k.exchanges = ap (λ (x : Kernel). x.exchanges) h.kernel in
+      let spent : l.world.ticks ≡ k.world.ticks = ap (λ (x : Kernel). x.world.ticks) h.kernel in
+      omega (arith, paid, sent, spent, count, clock)
