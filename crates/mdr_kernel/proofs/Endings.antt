@@ -149,10 +149,10 @@ as_many es ms e = sym (sents es) ∙ ap length e ∙ texts ms
 
 module _ (program : Program) (script : List ℕ) (budget : ℕ) (es : List Exchange) where
   -- a run that is over ended so
-  over_is : (p : Pending) (end : End) (w : World) → EndsKnown p → IsOwnEnd end → finish_of p ≡ finish end w → (k : Kernel) → kernel_in p ≡ k → p ≡ Over end k
-  over_is (Over end' k') end w known own e k is =
+  over_is : (p : Pending) (end : End) (w : World) → IsOwnEnd end → finish_of p ≡ finish end w → (k : Kernel) → kernel_in p ≡ k → p ≡ Over end k
+  over_is (Over end' k') end w own e k is =
       let same : end' ≡ end = ap (λ (f : Finish). f.end) e in λ i. Over (same i) (is i)
-  over_is (Waits m k' rest) end w known own e k is =
+  over_is (Waits m k' rest) end w own e k is =
       let same : ends.FarFault k'.exchanges ≡ end = ap (λ (f : Finish). f.end) e in absurd (subst IsOwnEnd (sym same) own)
 
   over_bytes : (answers : List (List ℕ)) → split_run_over_bytes program script budget answers ≡ run_from_pending program (readings answers) (first_of program script budget)
@@ -164,9 +164,8 @@ module _ (program : Program) (script : List ℕ) (budget : ℕ) (es : List Excha
       let run : SplitRun = run_from_pending program (readings (answers_of es)) (first_of program script budget) in
       let same : run_over program script budget es ≡ run = run_is program script budget es in
       let begins : EndsItself (first_of program script budget) = commands_end program script (first_kernel program budget) in
-      let over : run.pending ≡ Over (ends.Refused exchange cause number) k =
-      over_is run.pending (ends.Refused exchange cause number) k.world (run_known program (readings (answers_of es)) (first_of program script budget) (itself_known _ begins)) tt
-      (ap (λ (r : SplitRun). finish_of r.pending) (sym same) ∙ h.ended) k (ap (λ (r : SplitRun). kernel_in r.pending) (sym same) ∙ h.kernel) in
+      let ended : (run_over program script budget es).pending ≡ Over (ends.Refused exchange cause number) k = over_is _ (ends.Refused exchange cause number) k.world tt h.ended k h.kernel in
+      let over : run.pending ≡ Over (ends.Refused exchange cause number) k = sym (ap (λ (r : SplitRun). r.pending) same) ∙ ended in
       let counted : length es ≡ length run.sent = as_many es run.sent (h.messages ∙ ap (λ (r : SplitRun). map text r.sent) same) in
       let few : length (answers_of es) ≤ length run.sent = omega (arith, few_answers es, counted) in
       let r : RefusedLast program (first_of program script budget) (answers_of es) exchange cause number k = refused_last program (answers_of es) (first_of program script budget) exchange cause number k begins few over in
