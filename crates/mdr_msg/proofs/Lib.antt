@@ -8,3 +8,4 @@ pub mod Rows
 pub mod Counts
 pub mod Sending
 pub mod Spelled
+pub mod Prefixes

@@ -11,7 +11,8 @@ use Rattle.mdr_model.specs.Faults.{fault}
 use Rattle.mdr_model.specs.Xdr.{Input, Read, ◌>>=◌, four, four_at}
 use Rattle.mdr_model.specs.Text.{text}
 use Rattle.mdr_model.specs.Reading.{call_at, return_at, down_at, back_at, ask_at, answer_at, stop_at, refuse_at, message_by, message_at, reading_of}
-use Rattle.mdr_xdr.proofs.Readers.{IsBytes, bind_ok, holds_ok, input_is, from, IsReader}
+use Rattle.mdr_xdr.specs.Bytes.{IsBytes}
+use Rattle.mdr_xdr.proofs.Readers.{bind_ok, holds_ok, input_is, from, IsReader}
 use Rattle.mdr_xdr.proofs.Numbers.{four_reader, eight_reader}
 use Rattle.mdr_xdr.proofs.Opaque.{opaque_reader}
 use Rattle.mdr_xdr.proofs.Sequences.{TakesSome, then_takes, last_takes, Again, then_again, last_again, IsText, made_reader, list_reader, fault_takes, cond_takes, chosen_takes, chosen_again}

@@ -24,7 +24,6 @@ use Rattle.mdr_model.proofs.SetLaws.{cells_of_runs-runs}
 use Rattle.mdr_model.proofs.HoldsLaws.{filled_put}
 use Rattle.mdr_model.proofs.RunLaws.{all_left, all_right, length-cells, changed_all}
 use Rattle.mdr_msg.specs.WellFormed.{IsValue, IsRun, IsSetRun}
-use Rattle.mdr_msg.specs.OverBytes.{HasShortValues}
 use Rattle.mdr_msg.proofs.Cells.{all_and, in_all, IsShown, fitting_is_value}
 
 -- ---- runs of cells
@@ -84,10 +83,6 @@ runs_from now (r ∷ rs) rows all =
       runs_from now rs rows.1 (all_right (HoldsValue now) (cells_of_run r) (cells_of_runs rs) all),
     )
 
-short_runs : (now : Memory) (rs : List SetRun) → AllByRecursion IsRow rs → AllByRecursion HasShortValues (map (run_from now) rs)
-short_runs now [] rows = tt
-short_runs now (r ∷ rs) rows = (let few = few_values now r rows.0 in omega arith, short_runs now rs rows.1)
-
 -- the changes of cells that are small and hold values
 pub changes_are_runs : (cs : List Cell) (agreed now : Memory) → AllByRecursion IsSmallCell cs → AllByRecursion (HoldsValue now) cs → AllByRecursion IsRun (changes cs agreed now)
 unfolding changes
@@ -95,12 +90,6 @@ changes_are_runs cs agreed now small all =
     let changed : List Cell = changed_cells cs agreed now in
     runs_from now (runs_of_cells changed) (rows_of changed (changed_all IsSmallCell cs agreed now small))
     (subst (λ (ds : List Cell). AllByRecursion (HoldsValue now) ds) (sym (cells_of_runs-runs changed)) (changed_all (HoldsValue now) cs agreed now all))
-
-pub changes_are_short : (cs : List Cell) (agreed now : Memory) → AllByRecursion IsSmallCell cs → AllByRecursion HasShortValues (changes cs agreed now)
-unfolding changes
-changes_are_short cs agreed now small =
-    let changed : List Cell = changed_cells cs agreed now in
-    short_runs now (runs_of_cells changed) (rows_of changed (changed_all IsSmallCell cs agreed now small))
 
 -- ---- runs of a reply name some cells
 
@@ -242,10 +231,6 @@ module _ (program : Program) (view : List Cell) (m : Memory) where
           },
           legal_runs rs small legal.1 some.1,
         )
-
-    pub legal_short : (rs : List Run) → AllByRecursion IsLegal rs → AllByRecursion IsSome rs → AllByRecursion HasShortValues rs
-    legal_short [] legal some = tt
-    legal_short (r ∷ rs) legal some = (let few = legal_few r legal.0 some.0 in omega arith, legal_short rs legal.1 some.1)
 
   -- ---- storing them keeps a memory
 

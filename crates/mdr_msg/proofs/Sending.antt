@@ -32,9 +32,9 @@ use Rattle.mdr_model.proofs.Messages.{only_runs, tells_changes, tells_nothing}
 use Rattle.mdr_model.proofs.CopyLaws.{births-put_all}
 use Rattle.mdr_model.proofs.HoldsLaws.{all_get}
 use Rattle.mdr_msg.specs.WellFormed.{IsEight, IsListOf, IsValue, IsSetRun, IsRun, IsMessage}
-use Rattle.mdr_msg.specs.OverBytes.{HasSmallNumbers, HasFewCells, HaveShortValues, HasShortLists}
+use Rattle.mdr_msg.specs.OverBytes.{HasSmallNumbers, HasFewCells}
 use Rattle.mdr_msg.proofs.Cells.{all_weaker, IsShown, cells_shown, all_shown, held_is_value}
-use Rattle.mdr_msg.proofs.Rows.{IsSmallCell, IsRow, rows_of, row_is_set_run, HoldsValue, changes_are_runs, changes_are_short}
+use Rattle.mdr_msg.proofs.Rows.{IsSmallCell, IsRow, rows_of, row_is_set_run, HoldsValue, changes_are_runs}
 use Rattle.mdr_msg.proofs.Counts.{runs_at_most, changes_at_most}
 
 -- ---- the ticks that are left
@@ -113,17 +113,12 @@ pub record IsFine (program : Program) (budget : ℕ) (copy : Memory) (w : World)
   pub copied : births copy ≡ globals_of program
   pub rest : w.rest ≤ budget
 
--- a message has a spelling and no long list
-pub record IsSpelled (m : Message) : Type 0 where
-  pub message : IsMessage m
-  pub short : HasShortLists m
-
--- it waits for an answer to such a message, and goes on with commands that name functions
+-- it waits for an answer to a message that has a spelling, and goes on with commands that name functions
 pub record IsWaiting (program : Program) (budget : ℕ) (m : Message) (k : Kernel) (script : List ℕ) : Type 0 where
   pub fine : IsFine program budget k.agreed k.world
   pub view : k.world.view ≡ cells_shown program
   pub named : IsBound program script
-  pub spelled : IsSpelled m
+  pub spelled : IsMessage m
 
 abbrev pub IsFinePending : Program → ℕ → Pending → Type 0
 IsFinePending program budget (Over end k) = Unit {0}
@@ -151,15 +146,9 @@ module _ (program : Program) (sound : IsSound program) (budget : ℕ) (small : H
   view_is : (m : Memory) → births m ≡ globals_of program → IsListOf IsSetRun (runs_of_cells (cells_shown program))
   view_is m born = (omega (arith, view_short), all_weaker IsRow IsSetRun (runs_of_cells (cells_shown program)) row_is_set_run (rows_of (cells_shown program) (small_cells m born)))
 
-  changes_short : (copy m : Memory) → births m ≡ globals_of program → HaveShortValues (changes (cells_shown program) copy m)
-  changes_short copy m born = (
-    let runs = changes_at_most (cells_shown program) copy m in omega (arith, few_shown),
-    changes_are_short (cells_shown program) copy m (small_cells m born),
-  )
-
   changes_are : (copy m : Memory) → Holds program m → IsListOf IsRun (changes (cells_shown program) copy m)
   changes_are copy m holds = (
-    let short = (changes_short copy m holds.born).0 in omega arith,
+    let runs = changes_at_most (cells_shown program) copy m in omega (arith, few_shown),
     changes_are_runs (cells_shown program) copy m (small_cells m holds.born)
         (all_weaker (IsShown program m) (HoldsValue m) (cells_shown program) (λ c shown. held_is_value program m c sound holds shown) (all_shown program m sound holds.born)),
   )
@@ -200,19 +189,16 @@ module _ (program : Program) (sound : IsSound program) (budget : ℕ) (small : H
         fine = record { holds = fine.holds; copied = births-agreed program runs k.agreed ∙ fine.copied; rest = fine.rest };
         view = refl;
         named = named;
-        spelled = record {
-          message = (
-            let most = small.funcs in omega arith,
-            omega arith,
-            eight_left w fine.rest,
-            (omega arith, tt),
-            (omega arith, tt),
-            (omega arith, tt),
-            view_is w.memory fine.holds.born,
-            changes_are k.agreed w.memory fine.holds,
-          );
-          short = (omega arith, omega arith, omega arith, view_short, changes_short k.agreed w.memory fine.holds.born);
-        };
+        spelled = (
+          let most = small.funcs in omega arith,
+          omega arith,
+          eight_left w fine.rest,
+          (omega arith, tt),
+          (omega arith, tt),
+          (omega arith, tt),
+          view_is w.memory fine.holds.born,
+          changes_are k.agreed w.memory fine.holds,
+        );
       } in
       subst (λ (t : Told). CallWaits f k w script (visible program w.memory) t) (sym told)
       (subst (λ (view : List Cell). CallWaits f k w script view (only_runs (changes view k.agreed w.memory))) (sym (view_now w.memory fine.holds)) now)
@@ -231,10 +217,7 @@ module _ (program : Program) (sound : IsSound program) (budget : ℕ) (small : H
         fine = record { holds = fine.holds; copied = births-agreed program runs k.agreed ∙ fine.copied; rest = fine.rest };
         view = refl;
         named = named;
-        spelled = record {
-          message = (eight_left w fine.rest, value, (omega arith, tt), (omega arith, tt), view_is w.memory fine.holds.born, changes_are k.agreed w.memory fine.holds);
-          short = (omega arith, omega arith, view_short, changes_short k.agreed w.memory fine.holds.born);
-        };
+        spelled = (eight_left w fine.rest, value, (omega arith, tt), (omega arith, tt), view_is w.memory fine.holds.born, changes_are k.agreed w.memory fine.holds);
       } in
       subst (λ (t : Told). BackWaits v k w script (visible program w.memory) t) (sym told)
       (subst (λ (view : List Cell). BackWaits v k w script view (only_runs (changes view k.agreed w.memory))) (sym (view_now w.memory fine.holds)) now)
@@ -250,7 +233,7 @@ module _ (program : Program) (sound : IsSound program) (budget : ℕ) (small : H
         fine = record { holds = fine.holds; copied = births-agreed program [] k.agreed ∙ fine.copied; rest = fine.rest };
         view = view;
         named = named;
-        spelled = record { message = ((omega arith, tt), (omega arith, tt), (omega arith, tt)); short = (omega arith, omega arith, omega arith) };
+        spelled = ((omega arith, tt), (omega arith, tt), (omega arith, tt));
       } in
       subst (λ (t : Told). AnswerWaits k w script t) (sym told) now
 

@@ -1,4 +1,4 @@
--- In an honest run each message and each answer has a spelling and no long list, where numbers are small and visible cells are few.
+-- In an honest run each message and each answer has a spelling, where numbers are small and visible cells are few.
 use Rattle.std.proofs.Common.{◌≡◌, ℕ, zero, suc, ◌<◌, ◌≤◌, ◌^◌, ◌⊎◌, inl, inr, Bool, true, false, cond, not, ◌&&◌, ◌||◌, List, [], ◌∷◌, ◌++◌, length, Option, Some, None, Ok, Err, refl, sym, ◌∙◌, ap, subst, eqb-true, arith}
 use Rattle.std.specs.Prelude.{◌==◌, map, nat_lt, nat_le, slice_get, is_none, find}
 use Rattle.std.specs.List.{AllByRecursion, list_any}
@@ -45,11 +45,11 @@ use Rattle.mdr_model.proofs.ViewLaws.{globals_rise}
 use Rattle.mdr_model.proofs.FirstMemory.{first_holds}
 use Rattle.mdr_model.proofs.LawProof.{split_is_one_memory}
 use Rattle.mdr_msg.specs.WellFormed.{IsFour, IsListOf, IsValue, IsRun, IsShape, IsPlace, IsMessage}
-use Rattle.mdr_msg.specs.OverBytes.{HasSmallStatements, HasSmallNumbers, HasFewCells, HaveShortValues, HasShortLists, HaveShortLists}
-use Rattle.mdr_msg.proofs.Cells.{all_weaker, IsShown, all_shown, typed_is_value}
-use Rattle.mdr_msg.proofs.Rows.{IsSome, changes_are_some, unless_passes, no_faults, IsLegal, runs_legal, runs_follow, legal_runs, legal_short, runs_hold}
+use Rattle.mdr_msg.specs.OverBytes.{HasSmallStatements, HasSmallNumbers, HasFewCells}
+use Rattle.mdr_msg.proofs.Cells.{IsShown, all_shown, typed_is_value}
+use Rattle.mdr_msg.proofs.Rows.{IsSome, changes_are_some, unless_passes, no_faults, IsLegal, runs_legal, runs_follow, legal_runs, runs_hold}
 use Rattle.mdr_msg.proofs.Counts.{legal_at_most}
-use Rattle.mdr_msg.proofs.Sending.{IsFine, IsSpelled, IsWaiting, IsFinePending, births-put_runs, kernel_at_most, service_at_most, result_is_value, commands_fine, downcall_fine, service_fine}
+use Rattle.mdr_msg.proofs.Sending.{IsFine, IsWaiting, IsFinePending, births-put_runs, kernel_at_most, service_at_most, result_is_value, commands_fine, downcall_fine, service_fine}
 
 -- ---- replies name some cells in each run
 
@@ -250,15 +250,9 @@ module _ (program : Program) (sound : IsSound program) (budget : ℕ) (small : H
       follow = runs_follow program k.world.view k.world.memory k.agreed None 0 runs e;
     }
 
-    are_short : (runs : List Run) → Legal runs → AllByRecursion IsSome runs → HaveShortValues runs
-    are_short runs fair some = (
-      let most = legal_at_most program k.world.view k.world.memory None runs rising fair.each some fair.follow in omega (arith, few_shown),
-      legal_short program k.world.view k.world.memory sound shown runs fair.each some,
-    )
-
     are_runs : (runs : List Run) → Legal runs → AllByRecursion IsSome runs → IsListOf IsRun runs
     are_runs runs fair some = (
-      let short = (are_short runs fair some).0 in omega arith,
+      let most = legal_at_most program k.world.view k.world.memory None runs rising fair.each some fair.follow in omega (arith, few_shown),
       legal_runs program k.world.view k.world.memory sound shown runs small.globals fair.each some,
     )
 
@@ -326,45 +320,34 @@ module _ (program : Program) (sound : IsSound program) (budget : ℕ) (small : H
           runs_fit = legal runs tests.1.1.1.1.1.0;
         }
 
-    -- a legal reply that names some cells in each run has a spelling, and no long list
-    legal_is_spelled : (a : Message) → fault_of program k (Noted f script) a ≡ None → HasSomeCells a → IsSpelled a
+    -- a legal reply that names some cells in each run has a spelling
+    legal_is_spelled : (a : Message) → fault_of program k (Noted f script) a ≡ None → HasSomeCells a → IsMessage a
     unfolding fault_of
     legal_is_spelled (message.Return ticks result runs) e some =
         let tests = no_faults (ticks_fault k ticks ∷ unless (fits_result (result_type (func_at program f)) result) refusal.BadResult 0 ∷ reply_runs_fault program k runs ∷ []) e in
         let fair : Legal runs = legal runs tests.1.1.0 in
-        record {
-          message = (ticks_are ticks tests.0, result_is_value program sound budget small few f result (unless_passes _ refusal.BadResult 0 tests.1.0), are_runs runs fair some);
-          short = are_short runs fair some;
-        }
+        (ticks_are ticks tests.0, result_is_value program sound budget small few f result (unless_passes _ refusal.BadResult 0 tests.1.0), are_runs runs fair some)
     legal_is_spelled (message.Down ticks at depth func args runs) e some =
-        let tests = down_tests ticks at depth func args runs e in
-        record {
-          message = (
-            tests.spent,
-            tests.place,
-            let limited = tests.limited in omega arith,
-            kernel_small func (stub_is_kernel program func tests.stub),
-            subst (λ (vs : List Wire). IsListOf IsValue vs) (sym tests.no_values_given) (omega arith, tt),
-            are_runs runs tests.runs_fit some,
-          );
-          short = (subst (λ (vs : List Wire). length vs < 2 ^ 31) (sym tests.no_values_given) (omega arith), are_short runs tests.runs_fit some);
-        }
+        let tests = down_tests ticks at depth func args runs e in (
+          tests.spent,
+          tests.place,
+          let limited = tests.limited in omega arith,
+          kernel_small func (stub_is_kernel program func tests.stub),
+          subst (λ (vs : List Wire). IsListOf IsValue vs) (sym tests.no_values_given) (omega arith, tt),
+          are_runs runs tests.runs_fit some,
+        )
     legal_is_spelled (message.Ask ticks at service args shapes bytes runs) e some =
         let tests = ask_tests ticks at service args shapes bytes runs e in
         let no_shapes : length shapes ≡ 0 = ap length tests.writel.no_shapes in
-        let no_bytes : length bytes ≡ 0 = ap length tests.writel.no_bytes in
-        record {
-          message = (
-            tests.spent,
-            tests.place,
-            let number = tests.writel.number in omega arith,
-            (let two = tests.two in omega arith, tests.values),
-            subst (λ (ss : List Shape64). IsListOf IsShape ss) (sym tests.writel.no_shapes) (omega arith, tt),
-            omega arith,
-            are_runs runs tests.runs_fit some,
-          );
-          short = (let two = tests.two in omega arith, omega arith, omega arith, are_short runs tests.runs_fit some);
-        }
+        let no_bytes : length bytes ≡ 0 = ap length tests.writel.no_bytes in (
+          tests.spent,
+          tests.place,
+          let number = tests.writel.number in omega arith,
+          (let two = tests.two in omega arith, tests.values),
+          subst (λ (ss : List Shape64). IsListOf IsShape ss) (sym tests.writel.no_shapes) (omega arith, tt),
+          omega arith,
+          are_runs runs tests.runs_fit some,
+        )
     legal_is_spelled (message.Stop ticks number at runs) e some =
         let tests = no_faults (
         ticks_fault k ticks
@@ -373,10 +356,7 @@ module _ (program : Program) (sound : IsSound program) (budget : ℕ) (small : H
         ∷ reply_runs_fault program k runs
         ∷ []) e in
         let fair : Legal runs = legal runs tests.1.1.1.0 in
-        record {
-          message = (ticks_are ticks tests.0, stop_is_four number ticks k.world.rest (unless_passes _ refusal.BadStop 0 tests.1.1.0), place_is at (unless_passes _ refusal.BadPlace 0 tests.1.0), are_runs runs fair some);
-          short = are_short runs fair some;
-        }
+        (ticks_are ticks tests.0, stop_is_four number ticks k.world.rest (unless_passes _ refusal.BadStop 0 tests.1.1.0), place_is at (unless_passes _ refusal.BadPlace 0 tests.1.0), are_runs runs fair some)
     legal_is_spelled (message.Call func depth left args deaths news view runs) e some = absurd (Prim.cc)
     legal_is_spelled (message.Back left result deaths news view runs) e some = absurd (Prim.cc)
     legal_is_spelled (message.Answer results deaths news) e some = absurd (Prim.cc)
@@ -419,7 +399,7 @@ module _ (program : Program) (sound : IsSound program) (budget : ℕ) (small : H
   -- ---- an honest run
 
   abbrev AreSpelled : List Message → Type 0
-  AreSpelled ms = AllByRecursion IsSpelled ms
+  AreSpelled ms = AllByRecursion IsMessage ms
 
   -- from here on no honest run ends with a refusal
   abbrev IsOwnFrom : List Message → Pending → Type 0
@@ -457,7 +437,7 @@ module _ (program : Program) (sound : IsSound program) (budget : ℕ) (small : H
       (λ more end k' fair over. own (a ∷ more) end k' (honest.0, fair) over) honest.1 in
       ((fine.spelled, others.0), (legal_is_spelled m k f script fine a legal some, others.1))
 
-  -- so a run of a sound program has messages and answers that have spellings and no long list
+  -- so a run of a sound program has messages and answers that have spellings
   are_spelled : (script : List ℕ) → IsBound program script → (answers : List Message) → IsHonest program [] (split_run program script budget (read answers)).sent answers
       → AreSpelled (split_run program script budget (read answers)).sent × AreSpelled answers
   unfolding split_run first_kernel first_world
@@ -472,11 +452,4 @@ pub have_spellings : (program : Program) (script : List ℕ) (budget : ℕ) → 
     → (answers : List Message) → IsHonest program [] (split_run program script budget (read answers)).sent answers
     → AllByRecursion IsMessage (split_run program script budget (read answers)).sent × AllByRecursion IsMessage answers
 have_spellings program script budget sound named small few answers honest =
-    let both = are_spelled program sound budget small few script named answers honest in
-    (all_weaker IsSpelled IsMessage _ (λ m h. h.message) both.0, all_weaker IsSpelled IsMessage _ (λ m h. h.message) both.1)
-
-pub have_short_lists : (program : Program) (script : List ℕ) (budget : ℕ) → IsSound program → IsBound program script → HasSmallNumbers program budget → HasFewCells program
-    → HaveShortLists program script budget
-have_short_lists program script budget sound named small few answers honest =
-    let both = are_spelled program sound budget small few script named answers honest in
-    (all_weaker IsSpelled HasShortLists _ (λ m h. h.short) both.0, all_weaker IsSpelled HasShortLists _ (λ m h. h.short) both.1)
+    are_spelled program sound budget small few script named answers honest

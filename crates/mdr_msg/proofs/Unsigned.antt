@@ -14,7 +14,7 @@ use Rattle.mdr_model.specs.Xdr.{Input, Read, ◌>>=◌, four_at, eight_at, item_
 use Rattle.mdr_xdr.specs.declared.cursor.XdrError.{XdrError}
 use Rattle.mdr_xdr.specs.declared.cursor.XdrError.TheVariants as xdr
 use Rattle.mdr_xdr.specs.Reads.{fault_of}
-use Rattle.mdr_xdr.proofs.Readers.{IsBytes}
+use Rattle.mdr_xdr.specs.Bytes.{IsBytes}
 use Rattle.mdr_xdr.proofs.Numbers.{four_reader, eight_reader}
 use Rattle.mdr_msg.specs.declared.error.MsgError.{MsgError}
 use Rattle.mdr_msg.specs.declared.error.MsgError.TheVariants as errors

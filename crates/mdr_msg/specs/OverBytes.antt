@@ -4,17 +4,14 @@ use Rattle.std.specs.List.{AllByRecursion}
 use Rattle.mdr_core.specs.declared.program.Program.{Program}
 use Rattle.mdr_core.specs.declared.program.Func.{Func}
 use Rattle.mdr_core.specs.declared.code.Stmt.{Stmt}
-use Rattle.mdr_model.specs.declared.message.Run.{Run}
-use Rattle.mdr_model.specs.declared.message.Message.{Message}
-use Rattle.mdr_model.specs.declared.message.Message.TheVariants as message
 use Rattle.mdr_model.specs.declared.outcome.End.{End}
 use Rattle.mdr_model.specs.Memory.{first_memory}
 use Rattle.mdr_model.specs.Sets.{visible}
 use Rattle.mdr_model.specs.Text.{text}
 use Rattle.mdr_model.specs.Meaning.{body_of}
-use Rattle.mdr_model.specs.Kernel.{Kernel, Over, split_run}
+use Rattle.mdr_model.specs.Kernel.{Kernel, Over}
 use Rattle.mdr_model.specs.Sound.{IsSound, IsBound}
-use Rattle.mdr_model.specs.Law.{read, IsHonest, IsWatched}
+use Rattle.mdr_model.specs.Law.{IsWatched}
 use Rattle.mdr_model.specs.Bytes.{split_run_over_bytes, user_reply_to_bytes}
 use Rattle.mdr_msg.specs.Encoding.{IsShort}
 use Rattle.mdr_msg.specs.WellFormed.{IsFour, IsEight}
@@ -25,30 +22,6 @@ IsHonestOverBytes program before sent [] = Unit {0}
 IsHonestOverBytes program before [] (a ∷ answers) = ⊥
 IsHonestOverBytes program before (m ∷ sent) (a ∷ answers) =
     (a ≡ user_reply_to_bytes program before m) × IsHonestOverBytes program (before ++ m ∷ []) sent answers
-
--- no list of a message has 2^31 items; the values of each run are a list too
-abbrev pub HasShortValues : Run → Type 0
-HasShortValues r = IsShort r.values
-
-abbrev pub HaveShortValues : List Run → Type 0
-HaveShortValues runs = IsShort runs × AllByRecursion HasShortValues runs
-
-abbrev pub HasShortLists : Message → Type 0
-HasShortLists (message.Call func depth rest args deaths news view runs) = IsShort args × IsShort deaths × IsShort news × IsShort view × HaveShortValues runs
-HasShortLists (message.Return ticks result runs) = HaveShortValues runs
-HasShortLists (message.Down ticks at depth func args runs) = IsShort args × HaveShortValues runs
-HasShortLists (message.Back rest result deaths news view runs) = IsShort deaths × IsShort news × IsShort view × HaveShortValues runs
-HasShortLists (message.Ask ticks at service args shapes bytes runs) = IsShort args × IsShort shapes × IsShort bytes × HaveShortValues runs
-HasShortLists (message.Answer results deaths news) = IsShort results × IsShort deaths × IsShort news
-HasShortLists (message.Stop ticks stop at runs) = HaveShortValues runs
-HasShortLists (message.Refuse reason) = Unit {0}
-
--- whatever honest answers come, no message that the run sends and no answer to it needs a longer list
-abbrev pub HaveShortLists : Program → List ℕ → ℕ → Type 0
-HaveShortLists program script budget =
-    (answers : List Message)
-    → IsHonest program [] (split_run program script budget (read answers)).sent answers
-    → AllByRecursion HasShortLists (split_run program script budget (read answers)).sent × AllByRecursion HasShortLists answers
 
 -- numbers of statements take four bytes
 abbrev pub HasSmallStatements : Func → Type 0

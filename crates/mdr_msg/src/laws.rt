@@ -5,6 +5,7 @@ ghost use Rattle.mdr_model.specs.declared.message.Message.{Message};
 ghost use Rattle.mdr_model.specs.Text.{text};
 ghost use Rattle.mdr_msg.specs.WellFormed.{IsMessage};
 ghost use Rattle.mdr_msg.specs.OverBytes.{BytesAreOneMemory};
+ghost use Rattle.mdr_msg.specs.LegalBytes.{LegalRepliesStandAlone};
 
 /// Each message has one spelling: messages with one text are one.
 pub fn one_spelling()
@@ -21,4 +22,9 @@ pub fn no_spelling_begins_another()
 /// 2^31 cells.
 pub fn bytes_are_one_memory()
     ensures { BytesAreOneMemory }
+{}
+
+/// No legal reply begins another: with its end cut off, or with bytes added, it is legal in no state of the run.
+pub fn no_legal_reply_begins_another()
+    ensures { LegalRepliesStandAlone }
 {}

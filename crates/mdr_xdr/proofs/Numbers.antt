@@ -11,7 +11,8 @@ use Rattle.mdr_core.specs.Kinds.{is_in_range, least, greatest}
 use Rattle.mdr_core.proofs.Ranges.{in_range-least, in_range-greatest}
 use Rattle.mdr_model.specs.Faults.{fault}
 use Rattle.mdr_model.specs.Xdr.{Input, four, eight, bytes_at, bits_at, four_at, eight_at, item_width, item, number_of, item_at}
-use Rattle.mdr_xdr.proofs.Readers.{IsBytes, bind_ok, holds_ok, value_is, input_is, from, Takes, IsReader, bytes_taken-parts, bytes_again}
+use Rattle.mdr_xdr.specs.Bytes.{IsBytes}
+use Rattle.mdr_xdr.proofs.Readers.{bind_ok, holds_ok, value_is, input_is, from, Takes, IsReader, bytes_taken-parts, bytes_again}
 
 pub record IsWide (w : Width) (limit : ℕ) : Type 0 where
   pub len : (n : ℕ) → length (to_be_bytes w n) ≡ byte_len w

@@ -6,7 +6,8 @@ use Rattle.std.proofs.lemmas.Bool.{eqb-true}
 use Rattle.std.proofs.lemmas.List.{take_at, drop_at, take-append-drop, length-append, length-take, length-replicate}
 use Rattle.std.proofs.lemmas.Iterator.Adapters.{position_from-zero}
 use Rattle.mdr_model.specs.Xdr.{Input, ◌>>=◌, four, opaque, padding_of, bytes_at, four_at, padding_fault, unless_fault, opaque_at}
-use Rattle.mdr_xdr.proofs.Readers.{IsBytes, bind_ok, done, from, Takes, Takes-then, IsReader, bytes_taken-parts, bytes_again}
+use Rattle.mdr_xdr.specs.Bytes.{IsBytes}
+use Rattle.mdr_xdr.proofs.Readers.{bind_ok, done, from, Takes, Takes-then, IsReader, bytes_taken-parts, bytes_again}
 use Rattle.mdr_xdr.proofs.Numbers.{four_reader}
 
 abbrev is_nonzero : ℕ → Bool

@@ -1,16 +1,14 @@
 -- What a reader takes from the front was spelled there, and what is spelled there is read, whatever follows it.
-use Rattle.std.proofs.Common.{◌≡◌, ℕ, ◌+◌, ◌<◌, ◌≤◌, Bool, true, false, cond, ltb, List, ◌++◌, length, get_or, take, drop, Result, Ok, Err, refl, sym, ap, ◌∙◌, append_assoc, arith, inl, inr}
+use Rattle.std.proofs.Common.{◌≡◌, ℕ, ◌+◌, ◌≤◌, Bool, true, false, cond, ltb, List, ◌++◌, length, take, drop, Result, Ok, Err, refl, sym, ap, ◌∙◌, append_assoc, arith, inl, inr}
 use Rattle.std.proofs.lemmas.Bool.{cases_lt, ltb-false, le-ltb}
 use Rattle.std.proofs.lemmas.List.{take_at, drop_at, take-append-drop, length-append, length-take, get_or-drop, get_or-take, get_or_past}
 use Rattle.mdr_core.specs.declared.refusal.RefuseKind.TheVariants as refusal
 use Rattle.mdr_model.specs.declared.message.Fault.{Fault}
 use Rattle.mdr_model.specs.Faults.{fault}
 use Rattle.mdr_model.specs.Xdr.{Input, Read, ◌>>=◌, skipped, bytes_at}
+use Rattle.mdr_xdr.specs.Bytes.{IsBytes}
 
 -- ---- bytes
-
-abbrev pub IsBytes : List ℕ → Type 0
-IsBytes bytes = (i : ℕ) → get_or bytes i 0 < 256
 
 pub IsBytes-drop : (n : ℕ) (bytes : List ℕ) → IsBytes bytes → IsBytes (drop n bytes)
 IsBytes-drop n bytes h i = rw get_or-drop (h (n + i))

@@ -5,7 +5,8 @@ use Rattle.std.proofs.lemmas.List.{length-append}
 use Rattle.std.proofs.lemmas.List.Concat.{flat_map-cons}
 use Rattle.mdr_model.specs.declared.message.Fault.{Fault}
 use Rattle.mdr_model.specs.Xdr.{Input, Read, ◌>>=◌, four, four_at, listed, items_at, list_at}
-use Rattle.mdr_xdr.proofs.Readers.{IsBytes, bind_ok, done, value_is, input_is, from, Takes, Takes-then, IsReader}
+use Rattle.mdr_xdr.specs.Bytes.{IsBytes}
+use Rattle.mdr_xdr.proofs.Readers.{bind_ok, done, value_is, input_is, from, Takes, Takes-then, IsReader}
 use Rattle.mdr_xdr.proofs.Numbers.{four_reader}
 
 -- ---- one part after the other

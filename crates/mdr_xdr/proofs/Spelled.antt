@@ -5,7 +5,8 @@ use Rattle.mdr_model.specs.declared.message.Fault.{Fault}
 use Rattle.mdr_model.specs.Xdr.{Input, Read}
 use Rattle.mdr_xdr.specs.declared.cursor.XdrError.{XdrError}
 use Rattle.mdr_xdr.specs.Reads.{input_at, fault_of, Gives}
-use Rattle.mdr_xdr.proofs.Readers.{IsBytes, IsBytes-drop, value_is, from, IsReader}
+use Rattle.mdr_xdr.specs.Bytes.{IsBytes}
+use Rattle.mdr_xdr.proofs.Readers.{IsBytes-drop, value_is, from, IsReader}
 
 pub is_found : {X A : Type 0} {reader : Input → Read A} {text : A → List ℕ} {Fits : A → Type 0} → IsReader reader text Fits → (view : X → A) (bytes : List ℕ) (before after : ℕ) (r : Result X XdrError)
     → IsBytes bytes → Gives view bytes before after r reader → IfOk r (λ x. drop before bytes ≡ text (view x) ++ drop after bytes)

@@ -1,0 +1,6 @@
+-- Which numbers are bytes.
+use Rattle.std.specs.Prelude.{ℕ, ◌<◌, List, get_or}
+
+-- each item is below 256
+abbrev pub IsBytes : List ℕ → Type 0
+IsBytes bytes = (i : ℕ) → get_or bytes i 0 < 256
