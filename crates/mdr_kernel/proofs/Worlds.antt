@@ -12,13 +12,9 @@ use Rattle.mdr_model.specs.World.{World, Ran, Ended, Stopped, after, counted, wh
 use Rattle.mdr_model.specs.Watched.{begun, returned}
 use Rattle.mdr_model.specs.Sound.{IsSound}
 use Rattle.mdr_model.proofs.Relations.{Holds}
+pub use Rattle.mdr_model.proofs.AnyAnswers.{Ends}
 use Rattle.mdr_model.proofs.KernelWork.{Later, Leaves, Serviced, ended, stopped, service_leaves, kernel_leaves}
 use Rattle.mdr_kernel.specs.States.{IsSoundWorld}
-
--- a fact of the world that is left, however a piece of work ended
-abbrev pub Ends : {A : Type 0} → (World → Type 0) → Ran A → Type 0
-Ends P (Ended x w) = P w
-Ends P (Stopped kind at w) = P w
 
 -- ---- the clock
 

@@ -4,6 +4,9 @@ use Rattle.mdr_core.specs.declared.program.Program.{Program}
 use Rattle.mdr_model.specs.Memory.{Memory, Cell}
 use Rattle.mdr_model.specs.Sets.{is_in}
 use Rattle.mdr_model.specs.Walk.{Reached, Walked, walk}
+use Rattle.mdr_model.specs.declared.message.Message.{Message}
+use Rattle.mdr_model.specs.declared.message.Message.TheVariants as message
+use Rattle.mdr_model.specs.Xdr.{four}
 use Rattle.mdr_model.specs.Text.{text}
 use Rattle.mdr_model.specs.Reading.{reading_of}
 use Rattle.mdr_model.specs.Kernel.{Reading}
@@ -150,3 +153,53 @@ module _ (program : Program) where
 
 pub refused_are_left_out : RefusedAreLeftOut
 refused_are_left_out program before last = reply_to_accepted program before last
+
+-- ---- one refused message, wherever it stands
+
+-- a refusal that its spelling shows
+pub shown_refusal : (m : Message) (reason : ℕ) → text m ≡ text (message.Refuse reason) → is_refusal m ≡ true
+unfolding text four
+shown_refusal (message.Call func depth rest args deaths news view runs) reason e = absurd (Prim.cc)
+shown_refusal (message.Return ticks result runs) reason e = absurd (Prim.cc)
+shown_refusal (message.Down ticks at depth func args runs) reason e = absurd (Prim.cc)
+shown_refusal (message.Back rest result deaths news view runs) reason e = absurd (Prim.cc)
+shown_refusal (message.Ask ticks at service args shapes bytes runs) reason e = absurd (Prim.cc)
+shown_refusal (message.Answer results deaths news) reason e = absurd (Prim.cc)
+shown_refusal (message.Stop ticks number at runs) reason e = absurd (Prim.cc)
+shown_refusal (message.Refuse given) reason e = refl
+
+-- the replies to the messages behind it are those without it
+pub replies_without : (program : Program) (before : List (List ℕ)) (x : List ℕ) (more : List (List ℕ)) (last : List ℕ) → is_refusal (user_reply program (readings before) (reading_of x)) ≡ true
+    → user_reply_to_bytes program (before ++ x ∷ more) last ≡ user_reply_to_bytes program (before ++ more) last
+unfolding user_reply_to_bytes user_after allowance
+replies_without program before x more last e =
+    ap text (with_it ∙ ap (λ (u : User). (deliver program n u (reading_of last)).reply) same ∙ sym without_it)
+  where
+    n : ℕ
+    n = suc (ticks before + granted (reading_of x) + ticks more + granted (reading_of last))
+
+    first : User
+    first = user_after program n (first_user program) (readings before)
+
+    all : ticks (before ++ x ∷ more) ≡ ticks before + (granted (reading_of x) + ticks more)
+    all = ap allowance (readings-append before (x ∷ more)) ∙ allowance-append (readings before) (reading_of x ∷ readings more)
+
+    others : ticks (before ++ more) ≡ ticks before + ticks more
+    others = ap allowance (readings-append before more) ∙ allowance-append (readings before) (readings more)
+
+    with_it : user_reply program (readings (before ++ x ∷ more)) (reading_of last) ≡ (deliver program n (user_after program n (first_user program) (readings (before ++ x ∷ more))) (reading_of last)).reply
+    with_it = reply_with_fuel program n (readings (before ++ x ∷ more)) (reading_of last) (omega (arith, all))
+
+    without_it : user_reply program (readings (before ++ more)) (reading_of last) ≡ (deliver program n (user_after program n (first_user program) (readings (before ++ more))) (reading_of last)).reply
+    without_it = reply_with_fuel program n (readings (before ++ more)) (reading_of last) (omega (arith, others))
+
+    stays : (deliver program n first (reading_of x)).user ≡ first
+    stays = refused_leaves_user program n first (reading_of x) (ap is_refusal (sym (reply_with_fuel program n (readings before) (reading_of x) (omega arith))) ∙ e)
+
+    same : user_after program n (first_user program) (readings (before ++ x ∷ more)) ≡ user_after program n (first_user program) (readings (before ++ more))
+    same =
+        ap (user_after program n (first_user program)) (readings-append before (x ∷ more))
+        ∙ user_after-append program n (first_user program) (readings before) (reading_of x ∷ readings more)
+        ∙ ap (λ (u : User). user_after program n u (readings more)) stays
+        ∙ sym (user_after-append program n (first_user program) (readings before) (readings more))
+        ∙ sym (ap (user_after program n (first_user program)) (readings-append before more))

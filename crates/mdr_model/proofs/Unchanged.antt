@@ -1,5 +1,6 @@
 -- An answer ends a run refused exactly where it isn't legal, and leaves the whole state.
 use Rattle.std.proofs.Common.{◌≡◌, ℕ, Bool, true, false, List, [], ◌∷◌, ◌++◌, Option, Some, None, Ok, Err, refl, sym, ◌∙◌, ap, subst}
+use Rattle.std.proofs.lemmas.List.{append-nil}
 use Rattle.mdr_core.specs.declared.refusal.RefuseKind.{RefuseKind}
 use Rattle.mdr_core.specs.declared.program.Program.{Program}
 use Rattle.mdr_model.specs.declared.wire.Wire.{Wire}
@@ -134,10 +135,6 @@ nothing_sent : (program : Program) (f : Fault) (k : Kernel) → (alone program (
 unfolding run_from_pending
 nothing_sent program f k = refl
 
-append_none : {A : Type 0} (xs : List A) → xs ++ [] ≡ xs
-append_none [] = refl
-append_none (x ∷ xs) = ap (λ ys. x ∷ ys) (append_none xs)
-
 pub refused_changes_nothing : (program : Program) (script : List ℕ) (budget : ℕ) (xs : List Reading) (a : Reading) (m : Message) (k : Kernel) (rest : Rest) → (split_run program script budget xs).pending ≡ Waits m k rest
     → EndsUnchanged program script budget xs a k rest
 unfolding split_run
@@ -151,6 +148,6 @@ refused_changes_nothing program script budget xs a m k rest e =
           more
           ∙ ap (λ (p : Pending). record { sent = (run_from_pending program xs first).sent ++ (alone program p).sent; pending = p }) ended
           ∙ ap (λ (ms : List Message). record { sent = (run_from_pending program xs first).sent ++ ms; pending = refused f k }) (nothing_sent program f k)
-          ∙ ap (λ (ms : List Message). record { sent = ms; pending = refused f k }) (append_none (run_from_pending program xs first).sent);
+          ∙ ap (λ (ms : List Message). record { sent = ms; pending = refused f k }) (append-nil (run_from_pending program xs first).sent);
       only = λ exchange cause number k' over. next_only program a k k' rest exchange cause number (sym (ap (λ (r : SplitRun). r.pending) more) ∙ over);
     }

@@ -15,7 +15,8 @@ use Rattle.mdr_model.proofs.SetLaws.{IsBefore, IsBeforeAll, Rises, follows_tells
 use Rattle.mdr_model.proofs.CopyLaws.{same_cell}
 use Rattle.mdr_model.proofs.RunLaws.{later_still, before_next}
 use Rattle.mdr_msg.proofs.Cells.{all_weaker, in_all}
-use Rattle.mdr_msg.proofs.Rows.{IsSome, IsLegal, first_inside}
+use Rattle.mdr_model.proofs.Accepted.{IsFaultless}
+use Rattle.mdr_msg.proofs.Rows.{IsSome, first_inside}
 
 -- ---- runs of cells, and of changes
 
@@ -113,11 +114,11 @@ firsts_rise before (r ∷ rs) e =
     let later = and_right (follows_maybe before (set_run_of r)) _ e in (before_later r rs later, firsts_rise (Some (set_run_of r)) rs later)
 
 module _ (program : Program) (view : List Cell) (m : Memory) where
-  firsts_inside : (rs : List Run) → AllByRecursion (IsLegal program view m) rs → AllByRecursion IsSome rs → AllByRecursion (IsInside view) (map first_cell rs)
+  firsts_inside : (rs : List Run) → AllByRecursion (IsFaultless program view m) rs → AllByRecursion IsSome rs → AllByRecursion (IsInside view) (map first_cell rs)
   firsts_inside [] legal some = tt
   firsts_inside (r ∷ rs) legal some = (first_inside program view m r legal.0 some.0, firsts_inside rs legal.1 some.1)
 
-  pub legal_at_most : (before : Option SetRun) (rs : List Run) → Rises view → AllByRecursion (IsLegal program view m) rs → AllByRecursion IsSome rs → rises_after before (map set_run_of rs) ≡ true
+  pub legal_at_most : (before : Option SetRun) (rs : List Run) → Rises view → AllByRecursion (IsFaultless program view m) rs → AllByRecursion IsSome rs → rises_after before (map set_run_of rs) ≡ true
       → length rs ≤ length view
   legal_at_most before rs rising legal some follow =
       let firsts = rising_within view (map first_cell rs) rising (firsts_rise before rs follow) (firsts_inside rs legal some) in

@@ -24,6 +24,7 @@ use Rattle.mdr_model.proofs.SetLaws.{cells_of_runs-runs}
 use Rattle.mdr_model.proofs.HoldsLaws.{filled_put}
 use Rattle.mdr_model.proofs.RunLaws.{all_left, all_right, length-cells, changed_all}
 use Rattle.mdr_msg.specs.WellFormed.{IsValue, IsRun, IsSetRun}
+use Rattle.mdr_model.proofs.Accepted.{or_none, is_inside, IsFaultless, run_passes, runs_pass}
 use Rattle.mdr_msg.proofs.Cells.{all_and, in_all, IsShown, fitting_is_value}
 
 -- ---- runs of cells
@@ -125,60 +126,15 @@ pub changes_are_some : (cs : List Cell) (agreed now : Memory) → AllByRecursion
 unfolding changes
 changes_are_some cs agreed now = some_values now (runs_of_cells (changed_cells cs agreed now)) (some_cells (changed_cells cs agreed now))
 
--- ---- tests that were passed
-
-pub unless_passes : (b : Bool) (cause : RefuseKind) (n : ℕ) → unless b cause n ≡ None → b ≡ true
-unless_passes true cause n e = refl
-unless_passes false cause n e = absurd (Prim.cc)
-
-abbrev pub AreNone : List (Option Fault) → Type 0
-AreNone [] = Unit {0}
-AreNone (f ∷ fs) = (f ≡ None) × AreNone fs
-
-or_none : (f g : Option Fault) → or_else f g ≡ None → (f ≡ None) × (g ≡ None)
-or_none None g e = (refl, e)
-or_none (Some f) g e = absurd (Prim.cc)
-
-pub no_faults : (fs : List (Option Fault)) → first_fault fs ≡ None → AreNone fs
-no_faults [] e = tt
-no_faults (f ∷ fs) e = let both = or_none f (first_fault fs) e in (both.0, no_faults fs both.1)
-
 -- ---- runs without a fault
 
 module _ (program : Program) (view : List Cell) (m : Memory) where
-  abbrev is_inside : CellValue → Bool
-  is_inside x = is_in view x.cell
-
-  -- what a run without a fault says of its cells
-  pub record IsLegal (r : Run) : Type 0 where
-    pub inside : list_all is_inside (numbered r.serial r.first r.values) ≡ true
-    pub fit : list_all (fits_cell program m) (numbered r.serial r.first r.values) ≡ true
-
-  run_legal : (paired : Memory) (before : Option SetRun) (i : ℕ) (r : Run) → run_fault program view paired m before i r ≡ None → (follows_maybe before (set_run_of r) ≡ true) × IsLegal r
-  unfolding run_fault
-  run_legal paired before i r e =
-      let tests = no_faults (
-      unless (follows_maybe before (set_run_of r)) refusal.RunOrder i
-      ∷ unless (list_all is_inside (numbered r.serial r.first r.values)) refusal.OutsideSet i
-      ∷ unless (list_all (is_known paired) r.values) refusal.UnknownSerial i
-      ∷ unless (list_all (is_view m) r.values) refusal.BadView i
-      ∷ unless (list_all (fits_cell program m) (numbered r.serial r.first r.values)) refusal.BadValue i
-      ∷ []) e in
-      (unless_passes _ _ _ tests.0, record { inside = unless_passes _ _ _ tests.1.0; fit = unless_passes _ _ _ tests.1.1.1.1.0 })
-
-  pub runs_legal : (paired : Memory) (before : Option SetRun) (i : ℕ) (rs : List Run) → runs_fault program view paired m before i rs ≡ None → AllByRecursion IsLegal rs
-  unfolding runs_fault
-  runs_legal paired before i [] e = tt
-  runs_legal paired before i (r ∷ rs) e =
-      let both = or_none (run_fault program view paired m before i r) (runs_fault program view paired m (Some (set_run_of r)) (suc i) rs) e in
-      ((run_legal paired before i r both.0).1, runs_legal paired (Some (set_run_of r)) (suc i) rs both.1)
-
   -- a run that names some cells begins with a cell of the set
-  pub first_inside : (r : Run) → IsLegal r → IsSome r → is_in view (record { serial = r.serial; index = r.first }) ≡ true
+  pub first_inside : (r : Run) → IsFaultless program view m r → IsSome r → is_in view (record { serial = r.serial; index = r.first }) ≡ true
   unfolding numbered
   first_inside r legal some = of r.values some.some legal.inside
     where
-      of : (vs : List Wire) → 0 < length vs → list_all is_inside (numbered r.serial r.first vs) ≡ true → is_in view (record { serial = r.serial; index = r.first }) ≡ true
+      of : (vs : List Wire) → 0 < length vs → list_all (is_inside program view m) (numbered r.serial r.first vs) ≡ true → is_in view (record { serial = r.serial; index = r.first }) ≡ true
       of [] more inside = absurd (omega arith)
       of (v ∷ vs) more inside = and_left (is_in view (record { serial = r.serial; index = r.first })) _ inside
 
@@ -188,12 +144,12 @@ module _ (program : Program) (view : List Cell) (m : Memory) where
   runs_follow paired before i [] e = refl
   runs_follow paired before i (r ∷ rs) e =
       let both = or_none (run_fault program view paired m before i r) (runs_fault program view paired m (Some (set_run_of r)) (suc i) rs) e in
-      and_both _ _ (run_legal paired before i r both.0).0 (runs_follow paired (Some (set_run_of r)) (suc i) rs both.1)
+      and_both _ _ (run_passes program view m paired before i r both.0).0 (runs_follow paired (Some (set_run_of r)) (suc i) rs both.1)
 
   -- ---- they have spellings
 
   module _ (sound : IsSound program) (shown : AllByRecursion (IsShown program m) view) where
-    legal_values : (serial index : ℕ) (vs : List Wire) → list_all is_inside (numbered serial index vs) ≡ true → list_all (fits_cell program m) (numbered serial index vs) ≡ true → AllByRecursion IsValue vs
+    legal_values : (serial index : ℕ) (vs : List Wire) → list_all (is_inside program view m) (numbered serial index vs) ≡ true → list_all (fits_cell program m) (numbered serial index vs) ≡ true → AllByRecursion IsValue vs
     unfolding numbered
     legal_values serial index [] inside fit = tt
     legal_values serial index (v ∷ vs) inside fit =
@@ -204,7 +160,7 @@ module _ (program : Program) (view : List Cell) (m : Memory) where
         )
 
     -- values of cells that follow one another within 65,536
-    values_within : (serial index : ℕ) (vs : List Wire) → index ≤ 65536 → list_all is_inside (numbered serial index vs) ≡ true → index + length vs ≤ 65536
+    values_within : (serial index : ℕ) (vs : List Wire) → index ≤ 65536 → list_all (is_inside program view m) (numbered serial index vs) ≡ true → index + length vs ≤ 65536
     unfolding numbered
     values_within serial index [] low inside = omega arith
     values_within serial index (v ∷ vs) low inside =
@@ -212,15 +168,15 @@ module _ (program : Program) (view : List Cell) (m : Memory) where
         let here : IsShown program m c = in_all (IsShown program m) view c shown (and_left (is_in view c) _ inside) in
         let more : suc index + length vs ≤ 65536 = values_within serial (suc index) vs (omega (arith, here.index)) (and_right (is_in view c) _ inside) in omega arith
 
-    first_shown : (r : Run) → IsLegal r → IsSome r → IsShown program m (record { serial = r.serial; index = r.first })
+    first_shown : (r : Run) → IsFaultless program view m r → IsSome r → IsShown program m (record { serial = r.serial; index = r.first })
     first_shown r legal some = in_all (IsShown program m) view (record { serial = r.serial; index = r.first }) shown (first_inside r legal some)
 
-    legal_few : (r : Run) → IsLegal r → IsSome r → length r.values ≤ 65536
+    legal_few : (r : Run) → IsFaultless program view m r → IsSome r → length r.values ≤ 65536
     legal_few r legal some =
         let first = (first_shown r legal some).index in
         let within = values_within r.serial r.first r.values (omega arith) legal.inside in omega arith
 
-    pub legal_runs : (rs : List Run) → length program.globals ≤ 2 ^ 32 → AllByRecursion IsLegal rs → AllByRecursion IsSome rs → AllByRecursion IsRun rs
+    pub legal_runs : (rs : List Run) → length program.globals ≤ 2 ^ 32 → AllByRecursion (IsFaultless program view m) rs → AllByRecursion IsSome rs → AllByRecursion IsRun rs
     legal_runs [] small legal some = tt
     legal_runs (r ∷ rs) small legal some =
         let first : IsShown program m (record { serial = r.serial; index = r.first }) = first_shown r legal.0 some.0 in (
@@ -241,7 +197,7 @@ module _ (program : Program) (view : List Cell) (m : Memory) where
   each_fits [] e = tt
   each_fits (x ∷ xs) e = (and_left (fits_cell program m x) _ e, each_fits xs (and_right (fits_cell program m x) _ e))
 
-  all_fit : (rs : List Run) → AllByRecursion IsLegal rs → AllByRecursion FitsCell (values_of_runs rs)
+  all_fit : (rs : List Run) → AllByRecursion (IsFaultless program view m) rs → AllByRecursion FitsCell (values_of_runs rs)
   unfolding values_of_runs
   all_fit [] legal = tt
   all_fit (r ∷ rs) legal =
@@ -263,6 +219,6 @@ module _ (program : Program) (view : List Cell) (m : Memory) where
   put_all_holds (x ∷ xs) n same fit holds =
       put_all_holds xs (put n x.cell x.value) (births-put n x.cell x.value ∙ same) fit.1 (put_holds n x same fit.0 holds)
 
-  pub runs_hold : (rs : List Run) → AllByRecursion IsLegal rs → Holds program m → Holds program (put_runs rs m)
+  pub runs_hold : (rs : List Run) → AllByRecursion (IsFaultless program view m) rs → Holds program m → Holds program (put_runs rs m)
   unfolding put_runs
   runs_hold rs legal holds = put_all_holds (values_of_runs rs) m refl (all_fit rs legal) holds

@@ -21,7 +21,7 @@ use Rattle.mdr_model.specs.Tree.{Asked, Tree}
 use Rattle.mdr_model.specs.Meaning.{func_at, is_kernel}
 use Rattle.mdr_model.specs.World.{World, Ran, Ended, Stopped, after, counted, when_loaded, when_stored, written, written_if, is_writel, served, as_now, in_kernel, kernel_call}
 use Rattle.mdr_model.specs.Watched.{renewed, begun, returned}
-use Rattle.mdr_model.specs.Copies.{Told, without, with_news, tells, tells_no_cells, agreed_after, changes, values_of_runs, put_runs}
+use Rattle.mdr_model.specs.Copies.{Told, without, with_news, tells, tells_no_cells, agreed_after, changes, put_runs}
 use Rattle.mdr_model.specs.Kernel.{Kernel, Noted, Pending, Over, Waits, sent, calls, comes_back, answers, values_of_result, then_split, command_by, split_commands, downcalled, serviced, result_type}
 use Rattle.mdr_model.specs.Sound.{IsSoundFunc, IsSound, IsBound}
 use Rattle.mdr_model.proofs.Tests.{not_both}
@@ -29,7 +29,7 @@ use Rattle.mdr_model.proofs.Fair.{IsResultOf, IsServed}
 use Rattle.mdr_model.proofs.Relations.{globals_of, Holds}
 use Rattle.mdr_model.proofs.KernelWork.{Later, Leaves, ended, stopped, Serviced, kernel_leaves}
 use Rattle.mdr_model.proofs.Messages.{only_runs, tells_changes, tells_nothing}
-use Rattle.mdr_model.proofs.CopyLaws.{births-put_all}
+use Rattle.mdr_model.proofs.CopyLaws.{births-put_runs}
 use Rattle.mdr_model.proofs.HoldsLaws.{all_get}
 use Rattle.mdr_msg.specs.WellFormed.{IsEight, IsListOf, IsValue, IsSetRun, IsRun, IsMessage}
 use Rattle.mdr_msg.specs.OverBytes.{HasSmallNumbers, HasFewCells}
@@ -96,10 +96,6 @@ module _ (n : ℕ) where
   kernel_at_most program func args depth w most = tree_at_most _ w most
 
 -- ---- births stay
-
-pub births-put_runs : (runs : List Run) (m : Memory) → births (put_runs runs m) ≡ births m
-unfolding put_runs
-births-put_runs runs m = births-put_all (values_of_runs runs) m
 
 births-agreed : (program : Program) (runs : List Run) (copy : Memory) → births (agreed_after program (only_runs runs) copy) ≡ births copy
 unfolding agreed_after with_news without

@@ -47,9 +47,11 @@ use Rattle.mdr_model.proofs.LawProof.{split_is_one_memory}
 use Rattle.mdr_msg.specs.WellFormed.{IsFour, IsListOf, IsValue, IsRun, IsShape, IsPlace, IsMessage}
 use Rattle.mdr_msg.specs.OverBytes.{HasSmallStatements, HasSmallNumbers, HasFewCells}
 use Rattle.mdr_msg.proofs.Cells.{IsShown, all_shown, typed_is_value}
-use Rattle.mdr_msg.proofs.Rows.{IsSome, changes_are_some, unless_passes, no_faults, IsLegal, runs_legal, runs_follow, legal_runs, runs_hold}
+use Rattle.mdr_model.proofs.CopyLaws.{births-put_runs}
+use Rattle.mdr_model.proofs.Accepted.{unless_passes, no_faults, IsFaultless, runs_pass}
+use Rattle.mdr_msg.proofs.Rows.{IsSome, changes_are_some, runs_follow, legal_runs, runs_hold}
 use Rattle.mdr_msg.proofs.Counts.{legal_at_most}
-use Rattle.mdr_msg.proofs.Sending.{IsFine, IsWaiting, IsFinePending, births-put_runs, kernel_at_most, service_at_most, result_is_value, commands_fine, downcall_fine, service_fine}
+use Rattle.mdr_msg.proofs.Sending.{IsFine, IsWaiting, IsFinePending, kernel_at_most, service_at_most, result_is_value, commands_fine, downcall_fine, service_fine}
 
 -- ---- replies name some cells in each run
 
@@ -231,7 +233,7 @@ module _ (program : Program) (sound : IsSound program) (budget : ℕ) (small : H
   module _ (m : Message) (k : Kernel) (f : ℕ) (script : List ℕ) (w : IsWaiting program budget m k script) where
     -- what runs without a fault say
     record Legal (runs : List Run) : Type 0 where
-      each : AllByRecursion (IsLegal program k.world.view k.world.memory) runs
+      each : AllByRecursion (IsFaultless program k.world.view k.world.memory) runs
       follow : rises_after None (map set_run_of runs) ≡ true
 
     shown : AllByRecursion (IsShown program k.world.memory) k.world.view
@@ -246,7 +248,7 @@ module _ (program : Program) (sound : IsSound program) (budget : ℕ) (small : H
 
     legal : (runs : List Run) → reply_runs_fault program k runs ≡ None → Legal runs
     legal runs e = record {
-      each = runs_legal program k.world.view k.world.memory k.agreed None 0 runs e;
+      each = runs_pass program k.world.view k.world.memory k.agreed None 0 runs e;
       follow = runs_follow program k.world.view k.world.memory k.agreed None 0 runs e;
     }
 
