@@ -8,7 +8,9 @@ use Rattle.mdr_model.specs.Reading.{reading_of}
 use Rattle.mdr_model.specs.Kernel.{Reading}
 use Rattle.mdr_model.specs.User.{User, deliver, first_user, user_after, allowance, user_reply}
 use Rattle.mdr_model.specs.Bytes.{readings, user_reply_to_bytes}
+use Rattle.mdr_model.specs.declared.message.Message.TheVariants.{Refuse}
 use Rattle.mdr_model.specs.Sound.{IsSound}
+use Rattle.mdr_model.proofs.RefusalLaws.{shown_refusal, replies_without}
 use Rattle.mdr_copy.proofs.SoundMemories.{first_is_sound}
 use Rattle.mdr_outside.specs.declared.far.Exchange.{Exchange}
 use Rattle.mdr_outside.specs.Far.{exchange}
@@ -64,6 +66,16 @@ honest_after program before (x ∷ es) e reply got is h =
 pub honest_more : (program : Program) (es : List Exchange) (e : Exchange) (s next : State) (bytes reply : List ℕ) → e ≡ exchange bytes (Some reply) → Follows program (sents es) s → Replies program s bytes reply next → Honest program [] es → Honest program [] (es ++ e ∷ [])
 honest_more program es e s next bytes reply is f r h =
     honest_after program [] es e reply (ap (λ (x : Exchange). x.got) is) (reply_is program (sents es) s next bytes reply f r ∙ ap (user_reply_to_bytes program (sents es)) (sym (ap (λ (x : Exchange). x.sent) is))) h
+
+-- a refused message changes no later reply
+pub replies_on : (program : Program) (es es' : List Exchange) (e : Exchange) (bytes reply : List ℕ) (reason : ℕ) → e.sent ≡ bytes → es' ≡ es ++ e ∷ [] → reply ≡ user_reply_to_bytes program (sents es) bytes → reply ≡ text (Refuse reason)
+    → (more : List (List ℕ)) (last : List ℕ) → user_reply_to_bytes program (sents es' ++ more) last ≡ user_reply_to_bytes program (sents es ++ more) last
+unfolding user_reply_to_bytes
+replies_on program es es' e bytes reply reason same added is refused more last =
+    let sent : sents es' ≡ sents es ++ bytes ∷ [] = ap sents added ∙ sents_more es e ∙ ap (λ (b : List ℕ). sents es ++ b ∷ []) same in
+    let messages : sents es' ++ more ≡ sents es ++ bytes ∷ more = ap (λ (xs : List (List ℕ)). xs ++ more) sent ∙ append_assoc (sents es) (bytes ∷ []) more in
+    ap (λ (xs : List (List ℕ)). user_reply_to_bytes program xs last) messages
+    ∙ replies_without program (sents es) bytes more last (shown_refusal (user_reply program (readings (sents es)) (reading_of bytes)) reason (sym is ∙ refused))
 
 -- ---- the beginning
 

@@ -2,7 +2,7 @@
 use Rattle.std.specs.Prelude.{◌≡◌, ℕ, suc, Bool, true, false, List, [], ◌∷◌, ◌++◌, Option, Some, None, Result, Ok, Err}
 use Rattle.mdr_core.specs.declared.program.Program.{Program}
 use Rattle.mdr_model.specs.Text.{text}
-use Rattle.mdr_model.specs.Bytes.{readings}
+use Rattle.mdr_model.specs.Bytes.{readings, user_reply_to_bytes}
 use Rattle.mdr_model.specs.User.{Delivered, user_after, first_user}
 use Rattle.mdr_outside.specs.Far.{exchange}
 use Rattle.mdr_outside.specs.declared.far.Exchange.{Exchange}
@@ -11,7 +11,7 @@ use Rattle.mdr_user.specs.declared.state.State.{State}
 use Rattle.mdr_user.specs.declared.load_error.LoadError.TheVariants as loads
 use Rattle.mdr_user.specs.declared.load_error.LoadError.{LoadError}
 use Rattle.mdr_user.specs.States.{user_of}
-use Rattle.mdr_user.specs.Honest.{program_of_text}
+use Rattle.mdr_user.specs.Honest.{program_of_text, sents}
 
 -- the program, the messages since the load with their replies, and whether memory was wanting once
 pub record HalfState : Type 0 where
@@ -28,6 +28,12 @@ after_reply h sent reply = record h { exchanges = h.exchanges ++ exchange sent (
 
 abbrev pub lost : HalfState → HalfState
 lost h = record h { is_lost = true }
+
+-- whatever messages come, one half replies to them as the other
+abbrev pub ReplyAlike : HalfState → HalfState → Type 0
+ReplyAlike h h' =
+    (more : List (List ℕ)) (last : List ℕ)
+    → user_reply_to_bytes h.program (sents h.exchanges ++ more) last ≡ user_reply_to_bytes h'.program (sents h'.exchanges ++ more) last
 
 -- a half is one of the text's program
 pub record IsLoadedFrom (source : List ℕ) (h : HalfState) : Type 0 where

@@ -1,10 +1,12 @@
 // The user half over bytes.
 
-ghost use Rattle.std.specs.Prelude.{◌≡◌, [], false, Some, IfOk, OnErr};
+ghost use Rattle.std.specs.Prelude.{◌≡◌, ℕ, [], false, Some, IfOk, OnErr};
+ghost use Rattle.mdr_model.specs.declared.message.Message.TheVariants.{Refuse};
+ghost use Rattle.mdr_model.specs.Text.{text};
 ghost use Rattle.mdr_model.specs.Bytes.{user_reply_to_bytes};
 ghost use Rattle.mdr_model.specs.Sound.{IsSound};
 ghost use Rattle.mdr_user.specs.Honest.{sents, Honest};
-ghost use Rattle.mdr_user.specs.Halves.{new_half, after_reply, lost, Loads};
+ghost use Rattle.mdr_user.specs.Halves.{new_half, after_reply, lost, ReplyAlike, Loads};
 
 use crate::load_error::LoadError;
 use crate::source::source;
@@ -74,10 +76,12 @@ impl UserHalf {
         Ok(half)
     }
 
-    /// The reply to a message.
+    /// The reply to a message. A message that is refused leaves the half as it was: it replies from then on as if
+    /// the message hadn't come.
     pub fn deliver(&mut self, alloc: Global, bytes: &[u8]) -> Result<Vec<u8>, OutOfMemory>
         ensures reply { IfOk result (λ reply. reply.items ≡ user_reply_to_bytes self.old.program (sents self.old.exchanges) bytes.now) }
         ensures kept { IfOk result (λ reply. self.new ≡ after_reply self.old bytes.now reply.items) }
+        ensures refused { IfOk result (λ reply. (reason : ℕ) → reply.items ≡ text (Refuse reason) → ReplyAlike self.new self.old) }
         ensures err { OnErr result (self.new ≡ lost self.old) }
         ensures held { IfOk result (λ reply. self.old.is_lost ≡ false) }
     {

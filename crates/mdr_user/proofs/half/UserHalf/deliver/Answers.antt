@@ -1,10 +1,10 @@
-use Rattle.std.proofs.Common.{List, [], ℕ, Some, sym, ap, subst, ◌∙◌}
+use Rattle.std.proofs.Common.{List, [], ◌++◌, ℕ, Some, sym, ap, subst, ◌∙◌}
 use Rattle.mdr_model.specs.Bytes.{user_reply_to_bytes}
 use Rattle.mdr_outside.specs.declared.far.Exchange.{Exchange}
 use Rattle.mdr_outside.specs.Far.{exchange}
 use Rattle.mdr_user.specs.Honest.{sents, Honest}
 use Rattle.mdr_user.specs.Halves.{HalfState, Follows}
-use Rattle.mdr_user.proofs.HalfSteps.{at_some, reply_is, follows_next, honest_more}
+use Rattle.mdr_user.proofs.HalfSteps.{at_some, reply_is, follows_next, honest_more, replies_on}
 use Rattle.mdr_user.proofs.half.UserHalf.deliver.Goals as goal
 
 pub invariant_of-self-2 : goal.invariant_of-self-2
@@ -30,3 +30,11 @@ returns-clause-reply c =
     (at_some (Follows c.self.inside.program (sents c.self.inside.exchanges)) c.self.inside.state c.in-Some.state (sym c.take.ensures.value ∙ c.in-Some.is) c.self.invariant.follows)
     c.in_ok-reply.ensures.reply
     ∙ ap (λ (h : HalfState). user_reply_to_bytes h.program (sents h.exchanges) c.args.bytes.now) c.self.view_is
+
+pub returns-clause-refused : goal.returns-clause-refused
+returns-clause-refused c = λ reason refused more last.
+    replies_on c.self.inside.program c.self.inside.exchanges c.push.new.self c.in_ok-exchanged.exchanged c.args.bytes.now c.in_ok-reply.reply.items reason (ap (λ (e : Exchange). e.sent) c.in_ok-exchanged.ensures) c.in_ok-push.ensures.ok
+    (reply_is c.self.inside.program (sents c.self.inside.exchanges) c.in-Some.state c.in_ok-reply.after c.args.bytes.now c.in_ok-reply.reply.items
+    (at_some (Follows c.self.inside.program (sents c.self.inside.exchanges)) c.self.inside.state c.in-Some.state (sym c.take.ensures.value ∙ c.in-Some.is) c.self.invariant.follows)
+    c.in_ok-reply.ensures.reply) refused more last
+    ∙ ap (λ (h : HalfState). user_reply_to_bytes h.program (sents h.exchanges ++ more) last) c.self.view_is
