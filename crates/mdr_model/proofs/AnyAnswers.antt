@@ -21,7 +21,7 @@ use Rattle.mdr_model.specs.Legal.{kernel_in}
 use Rattle.mdr_model.proofs.Relations.{globals_of}
 use Rattle.mdr_model.proofs.MemoryLaws.{births-put}
 use Rattle.mdr_model.proofs.CopyLaws.{births-put_runs}
-use Rattle.mdr_model.proofs.Accepted.{IsAsked, return_fits, IsDown, down_fits, IsAsk, ask_fits}
+use Rattle.mdr_model.proofs.Accepted.{IsAsked, IsDown, down_fits, IsAsk, ask_fits}
 
 -- ---- work of the kernel half, in any program
 

@@ -1,5 +1,5 @@
 -- The storing of a legal reply changes cells that user code may touch, and nothing else.
-use Rattle.std.proofs.Common.{◌≡◌, ℕ, suc, ◌≤◌, Bool, true, false, cond, not, ◌&&◌, ◌⊎◌, inl, inr, List, [], ◌∷◌, ◌++◌, Option, Some, None, refl, sym, ◌∙◌, ap, subst, arith}
+use Rattle.std.proofs.Common.{◌≡◌, ℕ, suc, ◌≤◌, Bool, true, false, cond, not, ◌⊎◌, inl, inr, List, [], ◌∷◌, ◌++◌, Some, None, refl, sym, ◌∙◌, subst, arith}
 use Rattle.std.specs.Prelude.{◌==◌}
 use Rattle.std.specs.List.{AllByRecursion, list_all}
 use Rattle.mdr_core.specs.declared.program.Program.{Program}
@@ -7,7 +7,7 @@ use Rattle.mdr_model.specs.declared.message.New.{New}
 use Rattle.mdr_model.specs.declared.message.Run.{Run}
 use Rattle.mdr_model.specs.declared.message.Message.{Message}
 use Rattle.mdr_model.specs.declared.message.Message.TheVariants as message
-use Rattle.mdr_model.specs.Memory.{Memory, MemoryBlock, Cell, births, born_at, cell_at, put}
+use Rattle.mdr_model.specs.Memory.{Memory, Cell, births, born_at, cell_at, put}
 use Rattle.mdr_model.specs.Sets.{is_same_cell, is_in, cells_from, is_keyed, visible_of, visible}
 use Rattle.mdr_model.specs.Copies.{CellValue, numbered, values_of_runs, put_all, put_runs}
 use Rattle.mdr_model.specs.Kernel.{Kernel, Rest, fault_of, reply_runs_fault}
@@ -18,7 +18,7 @@ use Rattle.mdr_model.proofs.MemoryLaws.{RisesFrom, cell_at-put_other}
 use Rattle.mdr_model.proofs.CopyLaws.{same_cell, births-put_runs}
 use Rattle.mdr_model.proofs.VisibleLaws.{IsFrom, from_row, is_in-append, above, visible_there}
 use Rattle.mdr_model.proofs.ViewLaws.{globals_rise}
-use Rattle.mdr_model.proofs.Accepted.{IsFaultless, runs_pass, return_fits, IsDown, down_fits, IsAsk, ask_fits, stop_fits}
+use Rattle.mdr_model.proofs.Accepted.{IsFaultless, runs_pass, return_fits, down_fits, ask_fits, stop_fits}
 
 -- ---- cells outside the view
 

@@ -7,16 +7,14 @@ use Rattle.mdr_model.specs.declared.wire.Wire.{Wire}
 use Rattle.mdr_model.specs.declared.message.Fault.{Fault}
 use Rattle.mdr_model.specs.declared.message.Message.{Message}
 use Rattle.mdr_model.specs.declared.message.Message.TheVariants as message
-use Rattle.mdr_model.specs.declared.outcome.End.{End}
 use Rattle.mdr_model.specs.declared.outcome.End.TheVariants as ends
 use Rattle.mdr_model.specs.Meaning.{is_kernel}
 use Rattle.mdr_model.specs.World.{World, Ran, Ended, Stopped, served, kernel_call}
-use Rattle.mdr_model.specs.Watched.{begun, returned}
+use Rattle.mdr_model.specs.Watched.{begun}
 use Rattle.mdr_model.specs.Faults.{fault}
 use Rattle.mdr_model.specs.Kernel.{Kernel, Rest, Noted, Pending, Over, Waits, Reading, SplitRun, calls, comes_back, answers, then_split, command_by, split_commands, applied, downcalled, serviced, refused, fault_of, taken, judged, next, first_kernel, run_from_pending, split_run}
 use Rattle.mdr_model.specs.Law.{IsOwn}
 use Rattle.mdr_model.specs.Legal.{answer_fault, EndsUnchanged}
-use Rattle.mdr_model.proofs.Tests.{not_both}
 
 -- ---- one answer more
 

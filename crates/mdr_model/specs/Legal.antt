@@ -12,7 +12,7 @@ use Rattle.mdr_model.specs.Memory.{Memory, Cell, births, born_at, cell_at}
 use Rattle.mdr_model.specs.Sets.{is_in}
 use Rattle.mdr_model.specs.Faults.{fault}
 use Rattle.mdr_model.specs.Copies.{put_runs}
-use Rattle.mdr_model.specs.Kernel.{Kernel, Rest, Pending, Over, Waits, Reading, SplitRun, fault_of, refused, split_run}
+use Rattle.mdr_model.specs.Kernel.{Kernel, Rest, Pending, Over, Waits, Reading, fault_of, refused, split_run}
 
 -- the first fault of an answer: it is no message, or the message has one
 abbrev pub answer_fault : Program → Kernel → Rest → Reading → Option Fault

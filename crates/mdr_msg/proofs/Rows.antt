@@ -3,19 +3,16 @@ use Rattle.std.proofs.Common.{◌≡◌, ℕ, suc, ◌+◌, ◌<◌, ◌≤◌, 
 use Rattle.std.specs.Prelude.{◌==◌}
 use Rattle.std.specs.List.{AllByRecursion, list_all}
 use Rattle.mdr_core.specs.declared.program.Program.{Program}
-use Rattle.mdr_core.specs.declared.refusal.RefuseKind.{RefuseKind}
-use Rattle.mdr_core.specs.declared.refusal.RefuseKind.TheVariants as refusal
 use Rattle.mdr_model.specs.declared.wire.Wire.{Wire}
 use Rattle.mdr_model.specs.declared.message.New.{New}
 use Rattle.mdr_model.specs.declared.message.Run.{Run}
 use Rattle.mdr_model.specs.declared.message.SetRun.{SetRun}
-use Rattle.mdr_model.specs.declared.message.Fault.{Fault}
 use Rattle.mdr_model.specs.Values.{fits}
 use Rattle.mdr_model.specs.declared.memory.Cell.{Cell}
 use Rattle.mdr_model.specs.Memory.{Memory, births, born_at, put}
-use Rattle.mdr_model.specs.Sets.{is_in, cells_of_run, cells_of_runs, begins_behind, joined, runs_of_cells, follows_maybe, rises_after}
+use Rattle.mdr_model.specs.Sets.{is_in, cells_of_run, cells_of_runs, begins_behind, joined, runs_of_cells, rises_after}
 use Rattle.mdr_model.specs.Copies.{CellValue, numbered, values_of_runs, put_all, put_runs, held, run_from, changed_cells, changes}
-use Rattle.mdr_model.specs.Faults.{unless, or_else, first_fault, is_known, is_view, fits_block, fits_cell, set_run_of, run_fault, runs_fault}
+use Rattle.mdr_model.specs.Faults.{fits_block, fits_cell, set_run_of, run_fault, runs_fault}
 use Rattle.mdr_model.specs.Sound.{IsSound}
 use Rattle.mdr_model.proofs.Tests.{is_same_number, and_both, and_left, and_right}
 use Rattle.mdr_model.proofs.Relations.{Holds}
@@ -24,7 +21,7 @@ use Rattle.mdr_model.proofs.SetLaws.{cells_of_runs-runs}
 use Rattle.mdr_model.proofs.HoldsLaws.{filled_put}
 use Rattle.mdr_model.proofs.RunLaws.{all_left, all_right, length-cells, changed_all}
 use Rattle.mdr_msg.specs.WellFormed.{IsValue, IsRun, IsSetRun}
-use Rattle.mdr_model.proofs.Accepted.{or_none, is_inside, IsFaultless, run_passes, runs_pass}
+use Rattle.mdr_model.proofs.Accepted.{or_none, is_inside, IsFaultless, run_passes}
 use Rattle.mdr_msg.proofs.Cells.{all_and, in_all, IsShown, fitting_is_value}
 
 -- ---- runs of cells

@@ -21,7 +21,7 @@ use Rattle.mdr_model.specs.Tree.{Asked, Tree}
 use Rattle.mdr_model.specs.Meaning.{func_at, is_kernel}
 use Rattle.mdr_model.specs.World.{World, Ran, Ended, Stopped, after, counted, when_loaded, when_stored, written, written_if, is_writel, served, as_now, in_kernel, kernel_call}
 use Rattle.mdr_model.specs.Watched.{renewed, begun, returned}
-use Rattle.mdr_model.specs.Copies.{Told, without, with_news, tells, tells_no_cells, agreed_after, changes, put_runs}
+use Rattle.mdr_model.specs.Copies.{Told, without, with_news, tells, tells_no_cells, agreed_after, changes}
 use Rattle.mdr_model.specs.Kernel.{Kernel, Noted, Pending, Over, Waits, sent, calls, comes_back, answers, values_of_result, then_split, command_by, split_commands, downcalled, serviced, result_type}
 use Rattle.mdr_model.specs.Sound.{IsSoundFunc, IsSound, IsBound}
 use Rattle.mdr_model.proofs.Tests.{not_both}
