@@ -2,10 +2,10 @@
 
 use crate::{
     Telling, agreed_after, args_fault, cells_of_runs, changes, deaths_fit, first_memory, held,
-    news_fit, put, runs_fault, runs_of_cells, tells, view_fits, visible,
+    news_fit, normals, put, runs_fault, runs_of_cells, tells, tells_no_cells, view_fits, visible,
 };
 use mdr_core::{Ann, GlobalDef, Items, Kind, LockState, Program, RefuseKind, Ty, Value};
-use mdr_model::{BirthKind, Cell, MemoryBlock, New, Run, SetRun, Wire};
+use mdr_model::{BirthKind, Cell, MemoryBlock, New, Run, SetRun, Wire, WireView};
 use std::alloc::Global;
 use std::test::Fail;
 
@@ -199,6 +199,36 @@ fn a_block_is_told_of_once_and_dies_once(rt: HostRuntime) -> Result<(), Fail> {
     let memory = first_memory(alloc, &program)?;
     let (telling, left) = tells(alloc, &[], &[], copy, memory.as_slice())?;
     assert_eq!(rt; telling.deaths.as_slice(), [2].as_slice());
+    assert_eq!(rt; left.len(), 2);
+    Ok(())
+}
+
+fn pointer_to(serial: u64) -> Wire {
+    Wire::Ptr(WireView {
+        serial,
+        first: 0,
+        ty: 0,
+        count: 2,
+        index: 0,
+    })
+}
+
+#[test]
+fn only_live_blocks_that_are_named_are_told_of(rt: HostRuntime) -> Result<(), Fail> {
+    let alloc = rt.alloc();
+    let program = program(alloc)?;
+    let births = Telling {
+        deaths: Items::new(alloc),
+        news: Items::from_vec(vec![in alloc; born(2, 0, 2), born(3, 0, 2)]?),
+        runs: Items::new(alloc),
+    };
+    let copy = first_memory(alloc, &program)?;
+    let memory = agreed_after(alloc, &program, &births, first_memory(alloc, &program)?)?;
+    let values = normals(alloc, memory.as_slice(), &[pointer_to(7), pointer_to(3)])?;
+    assert_eq!(rt; values.as_slice(), [Wire::Dead, pointer_to(3)].as_slice());
+    let (telling, left) = tells_no_cells(alloc, values.as_slice(), copy, memory.as_slice())?;
+    assert_eq!(rt; telling.news.as_slice(), [born(3, 0, 2)].as_slice());
+    assert!(rt; telling.deaths.is_empty() && telling.runs.is_empty());
     assert_eq!(rt; left.len(), 2);
     Ok(())
 }
