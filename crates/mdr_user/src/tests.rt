@@ -174,6 +174,40 @@ fn a_refusal_changes_nothing(rt: HostRuntime) -> Result<(), Fail> {
     replies(&rt, alloc, &mut half, ANSWER, "0000000800000002")
 }
 
+/// The last message gets the reply that it gets as the first.
+#[test]
+fn after_refused_messages_a_run_begins(rt: HostRuntime) -> Result<(), Fail> {
+    let alloc = rt.alloc();
+    let mut half = half_of(alloc, BUMP)?;
+    for (sent, reply) in [
+        // what isn't awaited
+        (ANSWER, "0000000800000002"),
+        // a call without its last byte
+        (
+            "00000001000000010000000000000000000f42400000000000000000000000000000000100000000000000000000000000000001000000",
+            "0000000800000001",
+        ),
+        // a call of a `__critical` function
+        (
+            "00000001000000000000000000000000000f4240000000000000000000000000000000010000000000000000000000000000000100000000",
+            "0000000800000003",
+        ),
+        // a visible block, and a pointer to one, that isn't there
+        (
+            "00000001000000010000000000000000000f4240000000000000000000000000000000010000000000000003000000000000000100000000",
+            "0000000800000003",
+        ),
+        (
+            "00000001000000010000000000000000000f42400000000000000000000000000000000100000000000000000000000000000001000000010000000000000000000000000000000100000009000000000000000300000000000000020000000100000000",
+            "0000000800000003",
+        ),
+        (CALL, DOWN),
+    ] {
+        replies(&rt, alloc, &mut half, sent, reply)?;
+    }
+    Ok(())
+}
+
 #[test]
 fn a_tick_that_is_wanting_is_told_as_a_stop(rt: HostRuntime) -> Result<(), Fail> {
     let alloc = rt.alloc();

@@ -7,10 +7,12 @@ use mdr_core::{Kind, RefuseKind};
 use mdr_model::{End, Wire};
 use std::test::Fail;
 
-const REFUSED: [(&[u32], RefuseKind, u64); 21] = [
+const REFUSED: [(&[u32], RefuseKind, u64); 26] = [
     (&[], RefuseKind::Short, 0),
     (&[9], RefuseKind::Kind, 0),
     (&[2, 0, 0, 12, 0, 0], RefuseKind::Trailing, 20),
+    (&[3, 0, 1, 1, 1, 1, 0, 0], RefuseKind::Short, 32),
+    (&[3, 0, 1, 1, 1, 1, 0, 0, 0, 0], RefuseKind::Trailing, 36),
     (
         &[1, 1, 0, 0, 1_000_000, 0, 0, 0, 1, 0, 0, 0, 1, 0],
         RefuseKind::NotAwaited,
@@ -32,6 +34,16 @@ const REFUSED: [(&[u32], RefuseKind, u64); 21] = [
     (&[7, 0, 1, 16, 1, 1, 0], RefuseKind::BadStop, 0),
     (&[5, 0, 0, 1, 1, 15, 0, 0, 0, 0], RefuseKind::BadService, 0),
     (
+        &[5, 0, 0, 1, 1, 13, 0, 1, 2, 0, 0, 0, 0],
+        RefuseKind::BadService,
+        0,
+    ),
+    (
+        &[5, 0, 0, 1, 2, 4, 1, 2, 7, 0, 0, 0],
+        RefuseKind::BadService,
+        0,
+    ),
+    (
         &[5, 0, 0, 1, 2, 5, 1, 2, 1, 0, 0, 0],
         RefuseKind::BadArgs,
         1,
@@ -45,6 +57,11 @@ const REFUSED: [(&[u32], RefuseKind, u64); 21] = [
     ),
     (
         &[3, 0, 1, 1, 1, 1, 0, 0, 1, 0, 7, 0, 1, 2, 5],
+        RefuseKind::OutsideSet,
+        0,
+    ),
+    (
+        &[3, 0, 1, 1, 1, 1, 0, 0, 1, 0, 0, 0, 2, 2, 0, 2, 0],
         RefuseKind::OutsideSet,
         0,
     ),
