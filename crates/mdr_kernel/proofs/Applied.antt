@@ -1,5 +1,5 @@
 -- The world when a legal reply was applied.
-use Rattle.std.proofs.Common.{◌≡◌, ℕ, List, None, ◌∙◌, arith}
+use Rattle.std.proofs.Common.{ℕ, List, None, ◌∙◌, arith}
 use Rattle.mdr_core.specs.declared.program.Program.{Program}
 use Rattle.mdr_model.specs.declared.message.Run.{Run}
 use Rattle.mdr_model.specs.Memory.{first_memory}
