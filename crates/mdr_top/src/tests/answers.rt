@@ -8,18 +8,22 @@ use std::alloc::{AllocGlobal, Global};
 use std::process::Abort;
 use std::test::Fail;
 
-/// The user half's replies in the driver's run: it calls, asks, calls and returns.
+/// In the driver's run the user half first calls a function of the kernel half.
 const FIRST: &[u32] = &[3, 0, 1, 1, 1, 1, 0, 0, 0];
 
+/// Then it asks for a register to be written.
 const SECOND: &[u32] = &[5, 0, 1, 1, 2, 5, 2, 2, 1, 2, 4, 0, 0, 0];
 
+/// It calls again.
 const THIRD: &[u32] = &[3, 0, 1, 1, 3, 1, 0, 0, 0];
 
+/// And it returns.
 const FOURTH: &[u32] = &[2, 0, 0, 12, 0];
 
-/// The second without a tick, and the first with 5 for the global.
+/// The second reply with no tick spent.
 const NO_TICK: &[u32] = &[5, 0, 0, 1, 2, 5, 2, 2, 1, 2, 4, 0, 0, 0];
 
+/// The first with 5 for the global.
 const FIVE: &[u32] = &[3, 0, 1, 1, 1, 1, 0, 0, 1, 0, 0, 0, 1, 2, 5];
 
 /// The last lines where nothing was applied.
