@@ -4,6 +4,13 @@ use Rattle.mdr_core.specs.declared.program.Program.{Program}
 use Rattle.mdr_core.specs.declared.refusal.RefuseKind.TheVariants as refusal
 use Rattle.mdr_model.specs.declared.outcome.End.{End}
 use Rattle.mdr_model.specs.declared.outcome.End.TheVariants as ends
+use Rattle.mdr_model.specs.declared.outcome.Outcome.{Outcome}
+use Rattle.mdr_model.specs.Watched.{Finish, finish}
+use Rattle.mdr_model.specs.Kernel.{Pending, Over, Waits}
+use Rattle.mdr_model.specs.Outcome.{outcome_of}
+use Rattle.mdr_model.specs.Legal.{kernel_in}
+use Rattle.mdr_kernel.specs.Runs.{run_over, finish_of, IsRun, HasEnded}
+use Rattle.mdr_kernel.proofs.Endings.{as_before}
 use Rattle.mdr_outside.specs.declared.shelf.ReadAnswer.TheVariants as reads
 use Rattle.mdr_outside.specs.declared.far.Loaded.{Loaded}
 use Rattle.mdr_outside.specs.declared.far.Exchange.{Exchange}
@@ -11,8 +18,8 @@ use Rattle.mdr_outside.specs.Shelf.{ReadsFrom}
 use Rattle.mdr_user.specs.Honest.{program_of_tokens, program_of_text}
 use Rattle.mdr_top.specs.declared.status.Status.{Status}
 use Rattle.mdr_top.specs.Words.{command_of}
-use Rattle.mdr_top.specs.Answers.{Files, longest_source, longest_script, status_of, Unread, NoProgram, HasProgram, Ran, Called, Scripted, Compiled, Sourced, Answered, Prints}
-use Rattle.mdr_top.specs.Comes.{IsWanted, Ends, IsEnd, Comes}
+use Rattle.mdr_top.specs.Answers.{Files, longest_source, longest_script, default_ticks, status_of, Unread, NoProgram, HasProgram, Ran, Called, Scripted, Compiled, Sourced, Answered, Prints}
+use Rattle.mdr_top.specs.Comes.{IsWanted, IsDueToFar, Ends, IsEnd, Comes}
 use Rattle.mdr_top.proofs.Headline.{nothing_end}
 
 pub no_program : (source : List ℕ) (s : Status) (text : List ℕ) → NoProgram source s text → program_of_text source ≡ None
@@ -23,6 +30,26 @@ no_program source s text (NoProgram.unbuilt ts r none is t) = ap program_of_toke
 failed_reads : (files : Files) (name : List ℕ) (limit : ℕ) → ReadsFrom files name limit reads.Failed
 failed_reads None name limit = tt
 failed_reads (Some f) name limit = tt
+
+-- ---- the end of a run
+
+finish_is : (p : Pending) → finish_of p ≡ finish (finish_of p).end (kernel_in p).world
+finish_is (Over end k) = refl
+finish_is (Waits m k rest) = refl
+
+end_is : (f : Finish) → (outcome_of f).end ≡ f.end
+unfolding outcome_of
+end_is f = refl
+
+-- a run's outcome shows what the far side has to do with its end
+due_to_far : (program : Program) (calls : List ℕ) (es : List Exchange) (o : Outcome) → IsRun program calls default_ticks es o → IsDueToFar program calls es o.end
+due_to_far program calls es o run =
+    let p : Pending = (run_over program calls default_ticks es).pending in
+    let ended : HasEnded program calls default_ticks es (finish_of p).end (kernel_in p) = record { messages = run.messages; ended = finish_is p; kernel = refl } in
+    subst (IsDueToFar program calls es) (sym (ap (λ (x : Outcome). x.end) run.outcome ∙ end_is (finish_of p)))
+    (as_before program calls default_ticks es (finish_of p).end (kernel_in p) ended)
+
+-- ---- each status
 
 module _ (words : List (List ℕ)) (files : Files) (loaded : Option Loaded) (es : List Exchange) where
   unread_comes : (name : List ℕ) (limit : ℕ) (s : Status) (text : List ℕ) → IsWanted words files name limit → Unread files name limit s text → Comes words files loaded es s
@@ -38,7 +65,7 @@ module _ (words : List (List ℕ)) (files : Files) (loaded : Option Loaded) (es 
 
   -- the end of a run, and its status
   pub end_of : (program : Program) (source calls : List ℕ) (s : Status) (text : List ℕ) → Ran program source calls loaded es s text → (end : End) × Ends program source calls loaded es end × (s ≡ status_of end)
-  end_of program source calls s text (Ran.began is b) = (b.outcome.end, Ends.began b.outcome is b.run_is refl, b.reported.status_is)
+  end_of program source calls s text (Ran.began is b) = (b.outcome.end, Ends.began b.outcome is b.run_is refl (due_to_far program calls es b.outcome b.run_is), b.reported.status_is)
   end_of program source calls s text (Ran.refused cause is r) = (ends.Refused 0 refusal.Load 0, Ends.refused cause is refl, r.status_is ∙ ap status_of (nothing_end program (ends.Refused 0 refusal.Load 0)))
   end_of program source calls s text (Ran.failed is r) = (ends.FarFault 0, Ends.failed is refl, r.status_is ∙ ap status_of (nothing_end program (ends.FarFault 0)))
 

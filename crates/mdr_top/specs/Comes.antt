@@ -15,7 +15,9 @@ use Rattle.mdr_outside.specs.Shelf.{ReadsFrom}
 use Rattle.mdr_outside.specs.Far.{loaded_with}
 use Rattle.mdr_syntax.specs.Forms.{FuncView, ProgramView}
 use Rattle.mdr_syntax.specs.Scripts.{calls_of}
-use Rattle.mdr_kernel.specs.Runs.{IsRun}
+use Rattle.mdr_model.specs.Legal.{kernel_in}
+use Rattle.mdr_kernel.specs.Runs.{run_over, IsRun}
+use Rattle.mdr_kernel.specs.HalfState.{IsAsBefore}
 use Rattle.mdr_user.specs.Honest.{program_of_text}
 use Rattle.mdr_top.specs.declared.status.Status.{Status}
 use Rattle.mdr_top.specs.declared.status.Status.TheVariants as status
@@ -62,9 +64,13 @@ pub record IsNoScript (words : List (List ℕ)) (files : Files) : Type 0 where
   pub line : ℕ
   pub refused : calls_of program.funcs script ≡ Err line
 
+-- where the far side ended a run that began: the last answer isn't legal where the run waited for it, and this is its exchange and its first fault; or the run waits for an answer that didn't come
+abbrev pub IsDueToFar : Program → List ℕ → List Exchange → End → Type 0
+IsDueToFar program calls es end = IsAsBefore program calls default_ticks es (kernel_in (run_over program calls default_ticks es).pending).world.memory end
+
 -- how a run ends: by what the far side answered to the load, and then to the messages
 pub data Ends (program : Program) (source calls : List ℕ) (loaded : Option Loaded) (es : List Exchange) (end : End) : Type 0 where
-  began : (o : Outcome) → loaded ≡ Some (loaded_with source [] loads.Ok) → IsRun program calls default_ticks es o → end ≡ o.end → Ends program source calls loaded es end
+  began : (o : Outcome) → loaded ≡ Some (loaded_with source [] loads.Ok) → IsRun program calls default_ticks es o → end ≡ o.end → IsDueToFar program calls es end → Ends program source calls loaded es end
   refused : (cause : ℕ) → loaded ≡ Some (loaded_with source [] (loads.Refused cause)) → end ≡ ends.Refused 0 refusal.Load 0 → Ends program source calls loaded es end
   failed : loaded ≡ Some (loaded_with source [] loads.Failed) → end ≡ ends.FarFault 0 → Ends program source calls loaded es end
 
