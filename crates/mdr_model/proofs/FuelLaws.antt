@@ -17,6 +17,13 @@ use Rattle.mdr_model.specs.Kernel.{Reading}
 use Rattle.mdr_model.specs.User.{User, Work, Nothing, AwaitsBack, AwaitsAnswer, Refuses, Runs, when_fits, opened, Delivered, replied, replied_to, done, deliver, first_user, user_after, granted, allowance, user_reply}
 use Rattle.mdr_model.proofs.AlikeLaws.{fuel_no_matter}
 
+-- ---- messages in turn
+
+pub user_after-append : (program : Program) (fuel : ℕ) (u : User) (xs ys : List Reading) → user_after program fuel u (xs ++ ys) ≡ user_after program fuel (user_after program fuel u xs) ys
+unfolding user_after
+user_after-append program fuel u [] ys = refl
+user_after-append program fuel u (x ∷ xs) ys = user_after-append program fuel (deliver program fuel u x).user xs ys
+
 -- ---- cuts of trees
 
 -- a longer cut below a shorter one is as good as none

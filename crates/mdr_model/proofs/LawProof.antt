@@ -25,6 +25,7 @@ use Rattle.mdr_model.proofs.Tests.{and_left}
 use Rattle.mdr_model.proofs.Relations.{globals_of, Holds, Agree}
 use Rattle.mdr_model.proofs.VisibleLaws.{sized_of}
 use Rattle.mdr_model.proofs.FairTrees.{same_started}
+use Rattle.mdr_model.proofs.FuelLaws.{user_after-append}
 use Rattle.mdr_model.proofs.FirstMemory.{first_holds}
 use Rattle.mdr_model.proofs.Serves.{Finishes, meet, idle_user}
 use Rattle.mdr_model.proofs.Commands.{finishes}
@@ -82,11 +83,6 @@ reply_with program sound fuel before last =
 
 -- ---- messages in turn
 
-user_after-append : (program : Program) (fuel : ℕ) (u : User) (xs : List Reading) (x : Reading) → user_after program fuel u (xs ++ x ∷ []) ≡ (deliver program fuel (user_after program fuel u xs) x).user
-unfolding user_after
-user_after-append program fuel u [] x = refl
-user_after-append program fuel u (y ∷ ys) x = user_after-append program fuel (deliver program fuel u y).user ys x
-
 read-append : (xs : List Message) (x : Message) → read (xs ++ x ∷ []) ≡ read xs ++ Ok x ∷ []
 read-append [] x = refl
 read-append (y ∷ ys) x = ap (λ (zs : List Reading). Ok y ∷ zs) (read-append ys x)
@@ -100,7 +96,8 @@ module _ (program : Program) (sound : IsSound program) where
   reply_to before m = deliver program 1 (told_user before) (Ok m)
 
   told_more : (before : List Message) (m : Message) → told_user (before ++ m ∷ []) ≡ (reply_to before m).user
-  told_more before m = ap (λ (xs : List Reading). user_after program 1 (first_user program) xs) (read-append before m) ∙ user_after-append program 1 (first_user program) (read before) (Ok m)
+  unfolding user_after
+  told_more before m = ap (λ (xs : List Reading). user_after program 1 (first_user program) xs) (read-append before m) ∙ user_after-append program 1 (first_user program) (read before) (Ok m ∷ [])
 
   honest_is : (before : List Message) (m : Message) → user_reply program (read before) (Ok m) ≡ (reply_to before m).reply
   honest_is before m = reply_with program sound 0 (read before) (Ok m)

@@ -14,7 +14,7 @@ use Rattle.mdr_model.specs.User.{User, Opened, Refuses, Runs, Delivered, opened,
 use Rattle.mdr_model.specs.Bytes.{readings, user_reply_to_bytes}
 use Rattle.mdr_model.specs.Refusals.{is_refusal, accepted, RefusedLeavesUser, RefusedAreLeftOut}
 use Rattle.mdr_model.proofs.Tests.{not_both}
-use Rattle.mdr_model.proofs.FuelLaws.{cut_user, cut_delivered, same_fewer, same_deliver, allowance-append, allowance_one, reply_with_fuel}
+use Rattle.mdr_model.proofs.FuelLaws.{user_after-append, cut_user, cut_delivered, same_fewer, same_deliver, allowance-append, allowance_one, reply_with_fuel}
 
 -- ---- a refused message
 
@@ -41,14 +41,9 @@ refused_leaves_user program fuel u (Err f) e = refl
 
 -- ---- messages in turn
 
-readings-append : (xs ys : List (List ℕ)) → readings (xs ++ ys) ≡ readings xs ++ readings ys
+pub readings-append : (xs ys : List (List ℕ)) → readings (xs ++ ys) ≡ readings xs ++ readings ys
 readings-append [] ys = refl
 readings-append (x ∷ xs) ys = ap (λ (zs : List Reading). reading_of x ∷ zs) (readings-append xs ys)
-
-user_after-append : (program : Program) (fuel : ℕ) (u : User) (xs ys : List Reading) → user_after program fuel u (xs ++ ys) ≡ user_after program fuel (user_after program fuel u xs) ys
-unfolding user_after
-user_after-append program fuel u [] ys = refl
-user_after-append program fuel u (x ∷ xs) ys = user_after-append program fuel (deliver program fuel u x).user xs ys
 
 -- the ticks of messages that are any bytes
 abbrev ticks : List (List ℕ) → ℕ

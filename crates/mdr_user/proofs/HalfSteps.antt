@@ -10,7 +10,8 @@ use Rattle.mdr_model.specs.User.{User, deliver, first_user, user_after, allowanc
 use Rattle.mdr_model.specs.Bytes.{readings, user_reply_to_bytes}
 use Rattle.mdr_model.specs.declared.message.Message.TheVariants.{Refuse}
 use Rattle.mdr_model.specs.Sound.{IsSound}
-use Rattle.mdr_model.proofs.RefusalLaws.{shown_refusal, replies_without}
+use Rattle.mdr_model.proofs.FuelLaws.{user_after-append}
+use Rattle.mdr_model.proofs.RefusalLaws.{readings-append, shown_refusal, replies_without}
 use Rattle.mdr_copy.proofs.SoundMemories.{first_is_sound}
 use Rattle.mdr_outside.specs.declared.far.Exchange.{Exchange}
 use Rattle.mdr_outside.specs.Far.{exchange}
@@ -21,16 +22,6 @@ use Rattle.mdr_user.specs.Honest.{sents, Honest}
 use Rattle.mdr_user.specs.Halves.{Follows, IsSpelled}
 use Rattle.mdr_user.specs.Options.{read_as}
 use Rattle.mdr_user.proofs.Deliveries.{refusal}
-
--- one message more
-after_one_more : (program : Program) (fuel : ℕ) (u : User) (ms : List Reading) (m : Reading) → user_after program fuel u (ms ++ m ∷ []) ≡ (deliver program fuel (user_after program fuel u ms) m).user
-unfolding user_after
-after_one_more program fuel u [] m = refl
-after_one_more program fuel u (x ∷ ms) m = after_one_more program fuel (deliver program fuel u x).user ms m
-
-readings_more : (before : List (List ℕ)) (bytes : List ℕ) → readings (before ++ bytes ∷ []) ≡ readings before ++ reading_of bytes ∷ []
-readings_more [] bytes = refl
-readings_more (x ∷ before) bytes = ap (λ (ms : List Reading). reading_of x ∷ ms) (readings_more before bytes)
 
 sents_more : (es : List Exchange) (e : Exchange) → sents (es ++ e ∷ []) ≡ sents es ++ e.sent ∷ []
 sents_more [] e = refl
@@ -47,11 +38,12 @@ reply_is program before s next bytes reply f r =
     (r n).bytes ∙ ap (λ (u : User). text (deliver program (suc n) u (reading_of bytes)).reply) (sym (f.after n))
 
 pub follows_next : (program : Program) (es : List Exchange) (e : Exchange) (s next : State) (bytes reply : List ℕ) → e.sent ≡ bytes → Follows program (sents es) s → Replies program s bytes reply next → Follows program (sents (es ++ e ∷ [])) next
+unfolding user_after
 follows_next program es e s next bytes reply same f r = record {
   after = λ n.
       ap (λ (bs : List (List ℕ)). user_after program (suc n) (first_user program) (readings bs)) (sents_more es e ∙ ap (λ (b : List ℕ). sents es ++ b ∷ []) same)
-      ∙ ap (user_after program (suc n) (first_user program)) (readings_more (sents es) bytes)
-      ∙ after_one_more program (suc n) (first_user program) (readings (sents es)) (reading_of bytes)
+      ∙ ap (user_after program (suc n) (first_user program)) (readings-append (sents es) (bytes ∷ []))
+      ∙ user_after-append program (suc n) (first_user program) (readings (sents es)) (reading_of bytes ∷ [])
       ∙ ap (λ (u : User). (deliver program (suc n) u (reading_of bytes)).user) (f.after n)
       ∙ (r n).user;
 }
