@@ -57,7 +57,7 @@ module _ (program : Program) where
       ended end l is =
           let sent : (run_from_pending program (readings answers) q).sent ≡ (run_from_pending program (readings answers) (Over end l)).sent = ap (λ (x : Pending). (run_from_pending program (readings answers) x).sent) is in
           let over : Over end l ≡ Over (ends.Refused exchange cause number) k = sym (ap (λ (x : Pending). (run_from_pending program (readings answers) x).pending) is) ∙ e in
-          let none : length answers ≡ 0 = no_more answers (ap length sent) in
+          let none : length answers ≡ 0 = no_more (ap length sent) in
           record {
             before = [];
             last = a;
@@ -69,8 +69,8 @@ module _ (program : Program) where
             leads = is ∙ over;
           }
         where
-          no_more : (xs : List (List ℕ)) → length (run_from_pending program (readings answers) q).sent ≡ 0 → length answers ≡ 0
-          no_more xs h = omega (arith, few, h)
+          no_more : length (run_from_pending program (readings answers) q).sent ≡ 0 → length answers ≡ 0
+          no_more h = omega (arith, few, h)
 
           nothing : (xs : List (List ℕ)) → length xs ≡ 0 → xs ≡ []
           nothing [] h = refl

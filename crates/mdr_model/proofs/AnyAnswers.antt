@@ -30,9 +30,10 @@ abbrev pub Ends : {A : Type 0} → (World → Type 0) → Ran A → Type 0
 Ends P (Ended x w) = P w
 Ends P (Stopped kind at w) = P w
 
--- the clock runs, no command begins, the set and the blocks stay
+-- the clock runs, and the ticks that are counted are gone from the rest; no command begins, the set and the blocks stay
 pub record Goes (first w : World) : Type 0 where
   pub later : first.ticks ≤ w.ticks
+  pub total : w.ticks + w.rest ≡ first.ticks + first.rest
   pub calls : w.calls ≡ first.calls
   pub view : w.view ≡ first.view
   pub born : births w.memory ≡ births first.memory
@@ -47,9 +48,9 @@ store_born allowed m m' p v e = of (reached allowed m p) e
     of (Err kind) h = absurd (Prim.cc)
 
 module _ (first : World) where
-  tick_goes : (n : ℕ) (at : At) (w : World) (go : World → Ran Wire) → Goes first w → ((w' : World) → Goes first w' → Ends (Goes first) (go w')) → Ends (Goes first) (counted n at w go)
-  tick_goes zero at w go s goes = s
-  tick_goes (suc q) at w go s goes = goes _ (record { later = omega (arith, s.later); calls = s.calls; view = s.view; born = s.born })
+  tick_goes : (n : ℕ) (at : At) (w : World) (go : World → Ran Wire) → w.rest ≡ n → Goes first w → ((w' : World) → Goes first w' → Ends (Goes first) (go w')) → Ends (Goes first) (counted n at w go)
+  tick_goes zero at w go e s goes = s
+  tick_goes (suc q) at w go e s goes = goes _ (record { later = omega (arith, s.later); total = omega (arith, s.total); calls = s.calls; view = s.view; born = s.born })
 
   load_goes : (r : Result Wire StopKind) (at : At) (w : World) (go : Wire → Ran Wire) → Goes first w → ((v : Wire) → Ends (Goes first) (go v)) → Ends (Goes first) (when_loaded r at w go)
   load_goes (Ok v) at w go s goes = goes v
@@ -57,7 +58,7 @@ module _ (first : World) where
 
   store_goes : (r : Result Memory StopKind) (at : At) (w : World) (go : World → Ran Wire) → Goes first w → ((m : Memory) → r ≡ Ok m → births m ≡ births w.memory) → ((w' : World) → Goes first w' → Ends (Goes first) (go w'))
       → Ends (Goes first) (when_stored r at w go)
-  store_goes (Ok m) at w go s born goes = goes _ (record { later = s.later; calls = s.calls; view = s.view; born = born m refl ∙ s.born })
+  store_goes (Ok m) at w go s born goes = goes _ (record { later = s.later; total = s.total; calls = s.calls; view = s.view; born = born m refl ∙ s.born })
   store_goes (Err kind) at w go s born goes = s
 
   served_goes : (asked : Asked) (w : World) → Goes first w → Ends (Goes first) (served asked w)
@@ -65,7 +66,7 @@ module _ (first : World) where
   served_goes asked w s = of (is_writel asked.service)
     where
       wrote : (b : Bool) (register number : ℕ) → Ends (Goes first) (written_if b asked.at register number w)
-      wrote true register number = record { later = s.later; calls = s.calls; view = s.view; born = s.born }
+      wrote true register number = record { later = s.later; total = s.total; calls = s.calls; view = s.view; born = s.born }
       wrote false register number = s
 
       with : (args : List Wire) → Ends (Goes first) (written asked.at args w)
@@ -87,7 +88,7 @@ module _ (first : World) where
   tree_goes Tree.Idle w s = s
   tree_goes (Tree.Done v t) w s = s
   tree_goes (Tree.Stop kind at) w s = s
-  tree_goes (Tree.Tick at t) w s = tick_goes w.rest at w (λ w'. in_kernel t w') s (λ w' s'. tree_goes t w' s')
+  tree_goes (Tree.Tick at t) w s = tick_goes w.rest at w (λ w'. in_kernel t w') refl s (λ w' s'. tree_goes t w' s')
   tree_goes (Tree.Load at p k) w s = load_goes (loaded everywhere w.memory p) at w (λ v. in_kernel (k v) w) s (λ v. tree_goes (k v) w s)
   tree_goes (Tree.Store at p v t) w s =
       store_goes (stored everywhere w.memory p v) at w (λ w'. in_kernel t w') s (λ m e. store_born everywhere w.memory m p v e) (λ w' s'. tree_goes t w' s')
@@ -96,13 +97,13 @@ module _ (first : World) where
   tree_goes (Tree.Cross at func args depth k) w s = s
 
 itself : (w : World) → Goes w w
-itself w = record { later = omega arith; calls = refl; view = refl; born = refl }
+itself w = record { later = omega arith; total = refl; calls = refl; view = refl; born = refl }
 
-kernel_goes : (program : Program) (func : ℕ) (args : List Wire) (depth : ℕ) (w : World) → Ends (Goes w) (kernel_call program func args depth w)
+pub kernel_goes : (program : Program) (func : ℕ) (args : List Wire) (depth : ℕ) (w : World) → Ends (Goes w) (kernel_call program func args depth w)
 unfolding kernel_call
 kernel_goes program func args depth w = tree_goes w _ w (itself w)
 
-service_goes : (asked : Asked) (w : World) → Ends (Goes w) (served asked w)
+pub service_goes : (asked : Asked) (w : World) → Ends (Goes w) (served asked w)
 service_goes asked w = served_goes w asked w (itself w)
 
 -- ---- states

@@ -1,11 +1,15 @@
 //! The program: real files, standard output, and the user half in the same process.
 #![tactic(auto)]
 
+ghost use Rattle.std.specs.Prelude.{◌≡◌, ◌≢◌};
+ghost use Rattle.std.specs.IoError.{error_kind};
+
 use mdr_outside::{FolderShelf, OutSink};
 use mdr_top::{Status, run};
 use mdr_user::LocalFar;
 use std::alloc::AllocGlobal;
 use std::env::Env;
+use std::io::ErrorKind;
 use std::process::ExitCode;
 use std::{env, io};
 
@@ -22,11 +26,13 @@ fn words<R: Env + AllocGlobal>(rt: &R) -> io::Result<Vec<String>> {
 }
 
 /// The status where the words couldn't be had.
-fn no_words(e: &io::Error) -> u8 {
-    if e.kind() == io::ErrorKind::OutOfMemory {
-        Status::OutOfMemory.number()
-    } else {
-        NO_WORDS
+fn no_words(e: &io::Error) -> u8
+    ensures memory { error_kind e.now ≡ ErrorKind.OutOfMemory → result ≡ 9 }
+    ensures other { error_kind e.now ≢ ErrorKind.OutOfMemory → result ≡ 14 }
+{
+    match e.kind() {
+        ErrorKind::OutOfMemory => Status::OutOfMemory.number(),
+        _ => NO_WORDS,
     }
 }
 
