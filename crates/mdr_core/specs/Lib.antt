@@ -1,3 +1,4 @@
+pub mod formers
 pub mod Bits
 pub mod Conversions
 pub mod Kinds

@@ -6,7 +6,7 @@ use std::alloc::{AllocError, Global};
 use std::marker::Model;
 
 /// A vector that contracts see as its list. The fields of public types are lists of this type, so that two
-/// values are equal where their items are, whatever room they hold.
+/// values are equal where their items are, whatever room they hold. It may stand in a type that leads back to itself.
 #[derive(Debug, Drop)]
 pub struct Items<T> {
     items: Vec<T>,
@@ -17,8 +17,11 @@ pub type Name = Items<u8>;
 
 impl<T> Model for Items<T> {
     ghost use Rattle.std.specs.Prelude.{List};
+    ghost use Rattle.std.specs.Coded.{coded_list};
 
     ghost Value = { List T };
+
+    ghost coded = { coded_list T.code };
 
     ghost view = { λ s. s.items.items };
 }

@@ -1,6 +1,7 @@
 //! The typed program of a driver, its values and its layout: what every other crate speaks of.
 #![tactic(auto)]
 
+mod boxed;
 mod code;
 mod items;
 mod kind;
@@ -15,7 +16,8 @@ mod types;
 mod undefined;
 mod value;
 
-pub use code::{BinOp, CallForm, Callee, Expr, Lval, Step, Stmt};
+pub use boxed::Boxed;
+pub use code::{BinOp, CallForm, Callee, Expr, Lval, RelOp, Step, Stmt};
 pub use items::{Items, Name};
 pub use kind::Kind;
 pub use layout::view_ok;

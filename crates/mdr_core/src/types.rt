@@ -1,12 +1,22 @@
 // Types, annotations and shapes.
 
+use crate::boxed::Boxed;
+use crate::items::Items;
 use crate::kind::Kind;
 
-/// The type of a cell, or of a result.
+/// A type of the profile (C99 6.2.5), without arrays, which are counts beside a type.
 #[derive(Debug, Drop)]
 pub enum Ty {
     Int(Kind),
+    /// The profile's `combolock_t`.
     Lock,
+    /// A struct, by its number.
+    Struct(u32),
+    /// A pointer to an object of a type other than `void`.
+    Ptr(Boxed<Ty>),
+    VoidPtr,
+    /// A pointer to a function: its result, then its parameters.
+    Fun(Items<Ty>),
     /// The result of a function that gives none.
     Void,
 }
@@ -29,7 +39,9 @@ pub enum Ann {
     Array(LenOf),
     /// Up to the first element whose field of this number is zero or null.
     Sentinel(u32),
+    /// Up to the first element that is zero.
     NullTerm,
+    /// No element.
     Opaque,
 }
 
