@@ -3,11 +3,11 @@ pub mod Texts
 pub mod Lexing
 pub mod Until
 pub mod Each
-pub mod Look
 pub mod Lines
 pub mod Splitting
 pub mod Again
 pub mod Found
 pub mod Spelled
+pub mod FirstCode
 pub mod Soundness
 pub mod Longest

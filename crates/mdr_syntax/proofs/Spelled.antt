@@ -5,7 +5,8 @@ use Rattle.mdr_syntax.specs.declared.token.Lexeme.{Lexeme}
 use Rattle.mdr_syntax.specs.declared.item.Item.{Item}
 use Rattle.mdr_syntax.specs.Options.{◌>>=◌}
 use Rattle.mdr_syntax.specs.Grammar.{items_at}
-use Rattle.mdr_syntax.specs.Forms.{ProgramView, empty_program}
+use Rattle.mdr_core.specs.declared.program.Program.{Program}
+use Rattle.mdr_syntax.specs.Forms.{empty_program}
 use Rattle.mdr_syntax.specs.Sources.{declare_all, program_of}
 use Rattle.mdr_syntax.specs.Spelling.{Spells}
 use Rattle.mdr_syntax.proofs.Again.{items_again}
@@ -24,7 +25,7 @@ bind_some : {A B : Type 0} (r : Option A) (f : A → Option B) (y : B) → (r >>
 bind_some (Some x) f y e = (x, refl, e)
 bind_some None f y e = absurd cc
 
-pub its_items : (ts : List Lexeme) (p : ProgramView) → (program_of ts ≡ Some p) ↔ ((items : List Item) × Spells ts items × (declare_all empty_program items ≡ Some p))
+pub its_items : (ts : List Lexeme) (p : Program) → (program_of ts ≡ Some p) ↔ ((items : List Item) × Spells ts items × (declare_all empty_program items ≡ Some p))
 unfolding program_of
 its_items ts p = (there, back)
   where

@@ -1,38 +1,54 @@
 -- What a program of the first forms names is there.
-use Rattle.std.specs.Prelude.{◌≡◌, ℕ, ◌<◌, ◌^◌, Bool, true, false, List, [], map, Some, length, slice_get}
+use Rattle.std.specs.Prelude.{◌≡◌, ℕ, pos, ◌<◌, ◌^◌, Bool, true, false, List, [], ◌∷◌, map, Some, None, length, slice_get}
 use Rattle.std.specs.List.{AllByRecursion}
+use Rattle.mdr_core.specs.declared.kind.Kind.TheVariants.{U32}
+use Rattle.mdr_core.specs.declared.value.Value.TheVariants as value
+use Rattle.mdr_core.specs.declared.code.BinOp.TheVariants.{Add}
+use Rattle.mdr_core.specs.declared.code.Stmt.{Stmt}
 use Rattle.mdr_core.specs.declared.program.GlobalDef.{GlobalDef}
-use Rattle.mdr_syntax.specs.Forms.{Operand, number, variable, other, Action, assign, write, call, unknown, FuncView, ProgramView, first_types, global_def, func_head}
+use Rattle.mdr_core.specs.declared.program.Func.{Func}
+use Rattle.mdr_core.specs.declared.program.Program.{Program}
+use Rattle.mdr_core.specs.Code.{Term, Lvalue, Called, CallOf, Goal, Code}
+use Rattle.mdr_core.specs.Folds.{code_of}
+use Rattle.mdr_syntax.specs.Forms.{first_types, global_def, func_def}
 
 -- a number that int holds, or a global that is there
-abbrev pub IsSoundOperand : List GlobalDef → Operand → Type 0
-IsSoundOperand globals (number n) = n < 2 ^ 31
-IsSoundOperand globals (variable g) = g < length globals
-IsSoundOperand globals other = ⊥
+pub data IsSoundOperand (globals : List GlobalDef) : Term → Type 0 where
+  number : (n : ℕ) → n < 2 ^ 31 → IsSoundOperand globals (Term.Lit (value.Int U32 (pos n)))
+  variable : (g : ℕ) → g < length globals → IsSoundOperand globals (Term.Load (Lvalue.Global g))
+
+-- one operand, or more that are added at u32, grouped to the left
+pub data IsSoundSum (globals : List GlobalDef) : Term → Type 0 where
+  alone : (e : Term) → IsSoundOperand globals e → IsSoundSum globals e
+  plus : (sum e : Term) → IsSoundSum globals sum → IsSoundOperand globals e → IsSoundSum globals (Term.Bin Add U32 sum e)
 
 -- a function that is there and may be called
-pub record IsCallee (funcs : List FuncView) (n : ℕ) : Type 0 where
-  pub func : FuncView
+pub record IsCallee (funcs : List Func) (n : ℕ) : Type 0 where
+  pub func : Func
   pub declared : slice_get funcs n ≡ Some func
-  pub critical : func.head.critical ≡ true
+  pub critical : func.critical ≡ true
 
-abbrev pub IsSoundAction : List GlobalDef → List FuncView → (is_critical : Bool) → Action → Type 0
-IsSoundAction globals funcs is_critical (assign g operands) = (g < length globals) × AllByRecursion (IsSoundOperand globals) operands
-IsSoundAction globals funcs is_critical (write operands register) = AllByRecursion (IsSoundOperand globals) operands × IsSoundOperand globals register
-IsSoundAction globals funcs is_critical (call f) = (is_critical ≡ false) × IsCallee funcs f
-IsSoundAction globals funcs is_critical unknown = ⊥
+-- a call without a type or a text
+abbrev pub bare : Called → List Term → CallOf
+bare callee args = record { callee = callee; args = args; shape = None; format = None }
 
-pub record IsSoundFunc (globals : List GlobalDef) (funcs : List FuncView) (f : FuncView) : Type 0 where
+-- a global is assigned a sum, a register is written, or a function that may be called is called by one that may not
+pub data IsSoundCode (globals : List GlobalDef) (funcs : List Func) (is_critical : Bool) : Code → Type 0 where
+  assign : (n g : ℕ) (sum : Term) → g < length globals → IsSoundSum globals sum → IsSoundCode globals funcs is_critical (Code.Assign n (Lvalue.Global g) sum)
+  write : (n : ℕ) (sum register : Term) → IsSoundSum globals sum → IsSoundOperand globals register
+      → IsSoundCode globals funcs is_critical (Code.Call n Goal.Nowhere (bare (Called.Service 5) (sum ∷ register ∷ [])))
+  call : (n f : ℕ) → is_critical ≡ false → IsCallee funcs f → IsSoundCode globals funcs is_critical (Code.Call n Goal.Nowhere (bare (Called.Direct f) []))
+
+pub record IsSoundFunc (globals : List GlobalDef) (funcs : List Func) (f : Func) : Type 0 where
   pub name : List ℕ
   pub is_critical : Bool
-  pub actions : List (ℕ × Action)
-  pub head : f.head ≡ func_head name is_critical
-  pub body : f.body ≡ Some actions
-  pub sound : AllByRecursion (λ s. IsSoundAction globals funcs is_critical s.1) actions
+  pub statements : List Stmt
+  pub whole : f ≡ func_def name is_critical statements
+  pub sound : AllByRecursion (λ s. IsSoundCode globals funcs is_critical (code_of s)) statements
 
-pub record IsSoundView (p : ProgramView) : Type 0 where
+pub record IsSoundProgram (p : Program) : Type 0 where
   pub names : List (List ℕ)
-  pub types : p.shell.types ≡ first_types
-  pub structs : p.shell.structs ≡ []
-  pub globals : p.shell.globals ≡ map global_def names
-  pub funcs : AllByRecursion (IsSoundFunc p.shell.globals p.funcs) p.funcs
+  pub types : p.types ≡ first_types
+  pub structs : p.structs ≡ []
+  pub globals : p.globals ≡ map global_def names
+  pub funcs : AllByRecursion (IsSoundFunc p.globals p.funcs) p.funcs

@@ -1,10 +1,10 @@
 // The program that items declare.
 
-ghost use Rattle.std.specs.Prelude.{◌≡◌, ◌∷◌, ◌++◌, [], ◌||◌, map, IfOk};
+ghost use Rattle.std.specs.Prelude.{◌≡◌, IfOk};
 ghost use Rattle.std.specs.List.{list_any};
 ghost use Rattle.std.specs.Str.{bytes_eq};
 ghost use Rattle.mdr_syntax.specs.Reading.{Reads, whats};
-ghost use Rattle.mdr_syntax.specs.Forms.{program_view, func_view, first_types, global_def, empty_program};
+ghost use Rattle.mdr_syntax.specs.Forms.{first_types, global_def, empty_program};
 ghost use Rattle.mdr_syntax.specs.Sources.{is_declared, func_of, declare, declare_all, program_of};
 
 use crate::bytes::copied;
@@ -29,9 +29,8 @@ fn has_func(funcs: &[Func], name: &[u8]) -> bool
 }
 
 /// Whether a global or a function has this name.
-#[tactic(auto, using(crate::proofs::Look::any_mapped))]
 fn is_declared(program: &Program, name: &[u8]) -> bool
-    ensures { result ≡ is_declared (program_view program.now) name.now }
+    ensures { result ≡ is_declared program.now name.now }
 {
     has_global(program.globals.as_slice(), name) || has_func(program.funcs.as_slice(), name)
 }
@@ -78,7 +77,7 @@ fn func_def(
     name: &[u8],
     lines: &[Line],
 ) -> Result<Func, SourceError>
-    ensures { Reads func_view result (func_of (program_view program.now) is_critical name.now lines.now) }
+    ensures { Reads (λ f. f) result (func_of program.now is_critical name.now lines.now) }
 {
     let body = body(
         alloc,
@@ -101,7 +100,7 @@ fn func_def(
 /// Adds what an item declares.
 #[tactic(auto, unfolding(crate::specs::Sources::declare))]
 fn declare(alloc: Global, program: &mut Program, item: &Item) -> Result<(), SourceError>
-    ensures { Reads (λ _. program_view program.new) result (declare (program_view program.old) item.now) }
+    ensures { Reads (λ _. program.new) result (declare program.old item.now) }
 {
     match item {
         Item::Global(name) => {
@@ -131,7 +130,7 @@ fn declare(alloc: Global, program: &mut Program, item: &Item) -> Result<(), Sour
 /// The program that the items declare.
 #[tactic(auto, unfolding(crate::specs::Sources::declare_all))]
 fn declare_all(alloc: Global, items: &[Item]) -> Result<Program, SourceError>
-    ensures { Reads program_view result (declare_all empty_program items.now) }
+    ensures { Reads (λ p. p) result (declare_all empty_program items.now) }
 {
     let mut program = Program {
         types: first_types(alloc)?,
@@ -148,7 +147,7 @@ fn declare_all(alloc: Global, items: &[Item]) -> Result<Program, SourceError>
 /// The program of a source of the first forms.
 #[tactic(auto, unfolding(crate::specs::Sources::program_of))]
 pub fn read_source(alloc: Global, tokens: &[Token]) -> Result<Program, SourceError>
-    ensures { Reads program_view result (program_of (whats tokens.now)) }
+    ensures { Reads (λ p. p) result (program_of (whats tokens.now)) }
 {
     let items = items(alloc, tokens)?;
     let program = declare_all(alloc, items.as_slice())?;

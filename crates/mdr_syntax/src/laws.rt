@@ -9,10 +9,11 @@ ghost use Rattle.mdr_syntax.specs.Words.{punctuation, punctuation_len};
 ghost use Rattle.mdr_syntax.specs.Places.{first_place};
 ghost use Rattle.mdr_syntax.specs.Tokens.{tokens_of};
 ghost use Rattle.mdr_syntax.specs.Parts.{IsSplit};
-ghost use Rattle.mdr_syntax.specs.Forms.{ProgramView, empty_program};
+ghost use Rattle.mdr_core.specs.declared.program.Program.{Program};
+ghost use Rattle.mdr_syntax.specs.Forms.{empty_program};
 ghost use Rattle.mdr_syntax.specs.Sources.{declare_all, program_of};
 ghost use Rattle.mdr_syntax.specs.Spelling.{Spells};
-ghost use Rattle.mdr_syntax.specs.Sound.{IsSoundView};
+ghost use Rattle.mdr_syntax.specs.Sound.{IsSoundProgram};
 
 /// A text that has tokens is these and what separates them, joined in their order, and each token has the
 /// place behind all that stands before it.
@@ -33,11 +34,11 @@ pub fn items_have_one_spelling()
 /// There is a program exactly where the tokens are the spelling of items that declare it: each name once and
 /// before its use, with calls of `__critical` functions from others alone.
 pub fn programs_have_items()
-    ensures { (ts : List Lexeme) (p : ProgramView) → (program_of ts ≡ Some p) ↔ ((items : List Item) × Spells ts items × (declare_all empty_program items ≡ Some p)) }
+    ensures { (ts : List Lexeme) (p : Program) → (program_of ts ≡ Some p) ↔ ((items : List Item) × Spells ts items × (declare_all empty_program items ≡ Some p)) }
 {}
 
 /// A program of a source names only what is there: each number is one that int holds, each variable a global,
 /// and what is called a `__critical` function, by another alone.
 pub fn programs_are_sound()
-    ensures { (ts : List Lexeme) (p : ProgramView) → program_of ts ≡ Some p → IsSoundView p }
+    ensures { (ts : List Lexeme) (p : Program) → program_of ts ≡ Some p → IsSoundProgram p }
 {}

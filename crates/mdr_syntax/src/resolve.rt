@@ -1,16 +1,16 @@
 // The statements of the first forms, with their names resolved.
 
-ghost use Rattle.std.specs.Prelude.{◌≡◌, ◌&&◌, [], ◌∷◌, ◌++◌, map, Some, IfOk};
+ghost use Rattle.std.specs.Prelude.{◌≡◌, ◌<◌, ◌-◌, ◌^◌, ◌&&◌, Some, IfOk};
 ghost use Rattle.std.specs.List.{position};
 ghost use Rattle.std.specs.Str.{bytes_eq};
 ghost use Rattle.mdr_syntax.specs.Reading.{Reads};
-ghost use Rattle.mdr_syntax.specs.Forms.{number, write, call, operand_of, operands_of, action_of, statement_of, func_view};
-ghost use Rattle.mdr_syntax.specs.Sources.{more_operands, global_number, callee_number, term_operand, sum_operands, line_action, body_actions};
+ghost use Rattle.mdr_syntax.specs.Forms.{literal, plus, write_step, call_step};
+ghost use Rattle.mdr_syntax.specs.Sources.{global_number, callee_number, term_expr, with_terms, sum_expr, line_step, numbered_step, body_of};
 
 use crate::item::{Line, Sum, Term};
 use crate::source_error::SourceError;
 use mdr_core::{
-    BinOp, CallForm, Callee, Expr, Func, GlobalDef, Items, Kind, Lval, Step, Stmt, Value,
+    BinOp, Boxed, CallForm, Callee, Expr, Func, GlobalDef, Items, Kind, Lval, Step, Stmt, Value,
 };
 use std::alloc::{AllocError, Global};
 
@@ -50,14 +50,14 @@ fn is_callee(func: &Func, name: &[u8]) -> bool
 }
 
 fn callee_position(funcs: &[Func], name: &[u8]) -> Option<usize>
-    ensures { result ≡ position (λ f. f.critical && bytes_eq f.name name.now) funcs.now }
+    ensures { result ≡ callee_number funcs.now name.now }
 {
     funcs.iter().position(|f| is_callee(f, name))
 }
 
 /// The number of a function that may be called.
 fn callee_number(funcs: &[Func], name: &[u8]) -> Result<u32, SourceError>
-    ensures { Reads (λ n. n) result (callee_number (map func_view funcs.now) name.now) }
+    ensures { Reads (λ n. n) result (callee_number funcs.now name.now) }
 {
     match callee_position(funcs, name) {
         Some(n) => small(n),
@@ -66,14 +66,13 @@ fn callee_number(funcs: &[Func], name: &[u8]) -> Result<u32, SourceError>
 }
 
 fn literal(n: u64) -> Expr
-    ensures single { operand_of result ≡ number n }
-    ensures whole { operands_of result ≡ number n ∷ [] }
+    ensures { result ≡ literal n }
 {
     Expr::Lit(Value::Int(Kind::U32, n as i128))
 }
 
 fn operand(globals: &[GlobalDef], term: &Term) -> Result<Expr, SourceError>
-    ensures { Reads operand_of result (term_operand globals.now term.now) }
+    ensures { Reads (λ e. e) result (term_expr globals.now term.now) }
 {
     match term {
         Term::Number(n) => Ok(literal(*n)),
@@ -86,13 +85,13 @@ fn operand(globals: &[GlobalDef], term: &Term) -> Result<Expr, SourceError>
 
 /// One part more, grouped to the left.
 fn plus(alloc: Global, left: Expr, right: Expr) -> Result<Expr, AllocError>
-    ensures { IfOk result (λ e. operands_of e ≡ operands_of left ++ operand_of right ∷ []) }
+    ensures { IfOk result (λ e. e ≡ plus left right) }
 {
     Ok(Expr::Bin(
         BinOp::Add,
         Kind::U32,
-        Box::new(alloc, left)?,
-        Box::new(alloc, right)?,
+        Boxed::new(alloc, left)?,
+        Boxed::new(alloc, right)?,
     ))
 }
 
@@ -103,7 +102,7 @@ fn plus_all(
     first: Expr,
     terms: &[Term],
 ) -> Result<Expr, SourceError>
-    ensures { Reads operands_of result (more_operands globals.now (operands_of first) terms.now) }
+    ensures { Reads (λ e. e) result (with_terms globals.now first terms.now) }
 {
     let mut sum = first;
     for term in terms {
@@ -114,7 +113,7 @@ fn plus_all(
 }
 
 fn sum_expr(alloc: Global, globals: &[GlobalDef], sum: &Sum) -> Result<Expr, SourceError>
-    ensures { Reads operands_of result (sum_operands globals.now sum.now) }
+    ensures { Reads (λ e. e) result (sum_expr globals.now sum.now) }
 {
     match sum {
         Sum::Number(n) => Ok(literal(*n)),
@@ -129,7 +128,7 @@ fn sum_expr(alloc: Global, globals: &[GlobalDef], sum: &Sum) -> Result<Expr, Sou
 
 /// `writel(sum, register)`.
 fn write_step(alloc: Global, sum: Expr, register: u64) -> Result<Step, AllocError>
-    ensures { IfOk result (λ s. action_of s ≡ write (operands_of sum) (number register)) }
+    ensures { IfOk result (λ s. s ≡ write_step sum register) }
 {
     let mut args = Items::new(alloc);
     args.push(sum)?;
@@ -146,7 +145,7 @@ fn write_step(alloc: Global, sum: Expr, register: u64) -> Result<Step, AllocErro
 }
 
 fn call_step(alloc: Global, func: u32) -> Step
-    ensures { action_of result ≡ call func }
+    ensures { result ≡ call_step func }
 {
     Step::Call(
         None,
@@ -167,7 +166,7 @@ fn step(
     is_critical: bool,
     line: &Line,
 ) -> Result<Step, SourceError>
-    ensures { Reads action_of result (line_action globals.now (map func_view funcs.now) is_critical line.now) }
+    ensures { Reads (λ s. s) result (line_step globals.now funcs.now is_critical line.now) }
 {
     match line {
         Line::Assign(name, sum) => {
@@ -190,8 +189,25 @@ fn step(
     }
 }
 
+/// A statement with its number, where so many are before it.
+fn statement(
+    alloc: Global,
+    globals: &[GlobalDef],
+    funcs: &[Func],
+    is_critical: bool,
+    before: usize,
+    line: &Line,
+) -> Result<Stmt, SourceError>
+    requires { before < 2 ^ 64 - 1 }
+    ensures { Reads (λ s. s) result (numbered_step globals.now funcs.now is_critical before line.now) }
+{
+    let number = small(before + 1)?;
+    let step = step(alloc, globals, funcs, is_critical, line)?;
+    Ok(Stmt { number, step })
+}
+
 /// The statements of a body, numbered from 1.
-#[tactic(auto, unfolding(crate::specs::Sources::body_actions))]
+#[tactic(auto, unfolding(crate::specs::Sources::body_of))]
 pub fn body(
     alloc: Global,
     globals: &[GlobalDef],
@@ -199,13 +215,12 @@ pub fn body(
     is_critical: bool,
     lines: &[Line],
 ) -> Result<Items<Stmt>, SourceError>
-    ensures { Reads (λ b. map statement_of b) result (body_actions globals.now (map func_view funcs.now) is_critical lines.now) }
+    ensures { Reads (λ b. b) result (body_of globals.now funcs.now is_critical lines.now) }
 {
     let mut body = Items::new(alloc);
     for (i, line) in lines.iter().enumerate() {
-        let step = step(alloc, globals, funcs, is_critical, line)?;
-        let number = small(i + 1)?;
-        body.push(Stmt { number, step })?;
+        let statement = statement(alloc, globals, funcs, is_critical, i, line)?;
+        body.push(statement)?;
     }
     Ok(body)
 }

@@ -1,8 +1,7 @@
-use Rattle.std.proofs.Common.{◌≡◌, drop, map}
-use Rattle.mdr_syntax.specs.Forms.{statement_of, func_view}
-use Rattle.mdr_syntax.specs.Sources.{each_from, numbered_action, body_actions}
+use Rattle.std.proofs.Common.{◌≡◌, drop}
+use Rattle.mdr_syntax.specs.Sources.{each_from, numbered_step, body_of}
 use Rattle.mdr_syntax.proofs.Each.{with_front}
 use Rattle.mdr_syntax.proofs.resolve.body.Given as goal
 
 abbrev pub invariant-loop-i : goal.invariant-loop-i
-invariant-loop-i l = with_front (map statement_of l.body) (each_from (numbered_action l.globals (map func_view l.funcs) l.is_critical) l.i (drop l.i l.lines)) ≡ body_actions l.globals (map func_view l.funcs) l.is_critical l.lines
+invariant-loop-i l = with_front l.body (each_from (numbered_step l.globals l.funcs l.is_critical) l.i (drop l.i l.lines)) ≡ body_of l.globals l.funcs l.is_critical l.lines
