@@ -21,7 +21,8 @@ pub use boxed::Boxed;
 pub use code::{BinOp, CallForm, Callee, Expr, Lval, RelOp, Step, Stmt};
 pub use items::{Items, Name};
 pub use kind::Kind;
-pub use layout::view_ok;
+pub use layout::{cells_of, key_of, zero_of};
+
 pub use memory_error::OutOfMemory;
 pub use place::{At, Place};
 pub use plan::{Half, Key, Plan};
