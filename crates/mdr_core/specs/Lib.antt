@@ -2,6 +2,7 @@ pub mod formers
 pub mod Bits
 pub mod Code
 pub mod Conversions
+pub mod Fields
 pub mod Folds
 pub mod Kinds
 pub mod Layout
