@@ -3,3 +3,4 @@ pub mod Lying
 pub mod Operators
 pub mod Ranges
 pub mod Residues
+pub mod Viewed

@@ -211,7 +211,7 @@ unfolding leaves
 single known home ty n c e h = single_by known home ty (out-Ty ty) n c e h
 
 -- a product that is more than something has no factor 0
-positive : (n m c : ℕ) → c < n * m → 0 < m
+pub positive : (n m c : ℕ) → c < n * m → 0 < m
 positive n zero c h = let none : n * 0 ≡ 0 = omega arith in absurd (omega arith)
 positive n (suc m) c h = omega arith
 

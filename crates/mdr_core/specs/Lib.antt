@@ -7,3 +7,8 @@ pub mod Folds
 pub mod Kinds
 pub mod Layout
 pub mod Operators
+pub mod Services
+pub mod Sound
+pub mod Types
+pub mod Typing
+pub mod Views

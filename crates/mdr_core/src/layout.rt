@@ -23,7 +23,7 @@ fn fields(structs: &[StructDef], s: u32) -> &[Field]
 /// How many cells a struct has.
 #[cycle(size)]
 #[tactic(auto, unfolding(crate::specs::Layout::struct_cells))]
-fn struct_size(structs: &[StructDef], s: u32) -> u32
+pub fn struct_size(structs: &[StructDef], s: u32) -> u32
     requires { AreSmall structs.now }
     ensures { result ≡ length (struct_cells structs.now s) }
 {
@@ -56,15 +56,15 @@ fn size_below(structs: &[StructDef], below: u32, ty: &Ty) -> u32
 
 /// A field, by its number, and a cell of it, counted from its first one.
 #[derive(Clone, Copy)]
-struct FieldCell<'a> {
-    field: &'a Field,
-    number: u32,
-    cell: u32,
+pub struct FieldCell<'a> {
+    pub field: &'a Field,
+    pub number: u32,
+    pub cell: u32,
 }
 
 /// The field in which a cell of a struct lies.
 #[tactic(auto, unfolding(crate::specs::Layout::struct_cells))]
-fn field_at(structs: &[StructDef], s: u32, cell: u32) -> Option<FieldCell<'_>>
+pub fn field_at(structs: &[StructDef], s: u32, cell: u32) -> Option<FieldCell<'_>>
     requires small { AreSmall structs.now }
     requires few { AreFew structs.now }
     requires inside { cell < length (struct_cells structs.now s) }
@@ -96,7 +96,7 @@ struct Scalar<'a> {
 }
 
 /// The number of a type's struct.
-fn struct_named(ty: &Ty) -> Option<u32>
+pub fn struct_named(ty: &Ty) -> Option<u32>
     ensures { result ≡ struct_of ty.now }
 {
     match ty {

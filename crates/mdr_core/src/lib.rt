@@ -16,6 +16,7 @@ mod stop;
 mod types;
 mod undefined;
 mod value;
+mod view;
 
 pub use boxed::Boxed;
 pub use code::{BinOp, CallForm, Callee, Expr, Lval, RelOp, Step, Stmt};
