@@ -1,4 +1,5 @@
 pub mod Conversions
+pub mod Laid
 pub mod Lying
 pub mod Operators
 pub mod Ranges

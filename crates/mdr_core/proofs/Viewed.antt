@@ -23,7 +23,7 @@ rank (Some s) = suc s
 not_both : {b : Bool} → b ≡ true → b ≡ false → ⊥
 not_both holds fails = let e : true ≡ false = sym holds ∙ fails in cc
 
-some_same : {A : Type 0} {x y : A} → Some x ≡ Some y → x ≡ y
+pub some_same : {A : Type 0} {x y : A} → Some x ≡ Some y → x ≡ y
 some_same e = cc
 
 -- ---- where fields begin and end
@@ -41,7 +41,7 @@ start_next structs s f x size l =
     omega arith
 
 -- a field ends where the next begins, within the struct
-field_end : (structs : List StructDef) (s f : ℕ) (x : Field) → slice_get (fields_of structs s) f ≡ Some x → field_start structs s f + x.count * length (leaves (leaves_below structs s) Alone x.ty) ≤ length (struct_cells structs s)
+pub field_end : (structs : List StructDef) (s f : ℕ) (x : Field) → slice_get (fields_of structs s) f ≡ Some x → field_start structs s f + x.count * length (leaves (leaves_below structs s) Alone x.ty) ≤ length (struct_cells structs s)
 field_end structs s f x e =
     let next = start_next structs s f x (length (leaves (leaves_below structs s) Alone x.ty)) (looks_at structs s f x e) in
     let rest = start_and_rest structs s (f + 1) in

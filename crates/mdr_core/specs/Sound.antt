@@ -165,11 +165,12 @@ pub record IsSoundFunc (program : Program) (func : Func) : Type 0 where
 
 -- ---- the type table
 
--- it begins with the kinds, the lock and the structs, and has no type twice
+-- it begins with the kinds, the lock and the structs, has types of objects alone, and none twice
 pub record IsTable (program : Program) : Type 0 where
   pub kinds : (k : Kind) → slice_get program.types (kind_number k) ≡ Some (type.Int k)
   pub lock : slice_get program.types 8 ≡ Some type.Lock
   pub structs : (s : ℕ) → s < length program.structs → slice_get program.types (9 + s) ≡ Some (type.Struct s)
+  pub formed : (i : ℕ) (t : Ty) → slice_get program.types i ≡ Some t → IsObjectSort (sort_of (length program.structs) t)
   pub once : (i j : ℕ) (t : Ty) → slice_get program.types i ≡ Some t → slice_get program.types j ≡ Some t → i ≡ j
 
 -- ---- programs

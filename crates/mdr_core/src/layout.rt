@@ -4,6 +4,7 @@ ghost use Rattle.std.specs.Prelude.{◌≡◌, ◌<◌, ℕ, length, IsSomeAnd, 
 ghost use Rattle.std.specs.Option.{option_map};
 ghost use Rattle.mdr_core.specs.Layout.{AreSmall, AreFew, fields_of, leaves, leaves_below, struct_cells, struct_of, Alone, Within, cells_at, key_at, key_by, zero_at, zero_value};
 ghost use Rattle.mdr_core.specs.Fields.{IsInField};
+ghost use Rattle.mdr_core.specs.Sound.{IsSound};
 
 use crate::plan::Key;
 use crate::program::{Field, Program, StructDef};
@@ -124,7 +125,7 @@ fn scalar_at(structs: &[StructDef], s: u32, cell: u32) -> Option<Scalar<'_>>
 }
 
 /// A type of the type table.
-fn type_at(program: &Program, ty: u32) -> &Ty
+pub fn type_at(program: &Program, ty: u32) -> &Ty
     requires { ty < length program.now.types }
     ensures { slice_get program.now.types ty ≡ Some result.now }
 {
@@ -148,7 +149,7 @@ fn element_size(structs: &[StructDef], ty: &Ty) -> u32
 /// in it, each struct once for each field that has it, whatever the counts.
 pub fn cells_of(program: &Program, ty: u32) -> u32
     requires in_table { ty < length program.now.types }
-    requires small { AreSmall program.now.structs }
+    requires sound { IsSound program.now }
     ensures { result ≡ length (cells_at program.now ty) }
 {
     element_size(program.structs.as_slice(), type_at(program, ty))
@@ -181,8 +182,7 @@ fn lone_key(block: Option<u32>, ty: u32) -> Key
 /// the block is a global. The time is that of `cells_of` for each struct on the way from the type to the cell.
 pub fn key_of(program: &Program, block: Option<u32>, ty: u32, cell: u32) -> Key
     requires inside { cell < length (cells_at program.now ty) }
-    requires small { AreSmall program.now.structs }
-    requires few { AreFew program.now.structs }
+    requires sound { IsSound program.now }
     ensures { key_at program.now block ty cell ≡ Some result }
 {
     match struct_named(type_at(program, ty)) {
@@ -219,8 +219,7 @@ fn struct_zero(structs: &[StructDef], s: u32, cell: u32) -> Value
 /// free lock. The time is that of `key_of`.
 pub fn zero_of(program: &Program, ty: u32, cell: u32) -> Value
     requires inside { cell < length (cells_at program.now ty) }
-    requires small { AreSmall program.now.structs }
-    requires few { AreFew program.now.structs }
+    requires sound { IsSound program.now }
     ensures { zero_at program.now ty cell ≡ Some result }
 {
     let element = type_at(program, ty);

@@ -34,3 +34,4 @@ pub use stop::StopKind;
 pub use types::{Ann, LenOf, Shape, Ty};
 pub use undefined::Undefined;
 pub use value::{Block, LockState, Value, View};
+pub use view::view_ok;

@@ -2,12 +2,13 @@
 
 ghost use Rattle.std.specs.Prelude.{◌≡◌, ◌↔◌, ◌<◌, ◌≤◌, ◌-◌, IsTrue, length, slice_get, Some};
 ghost use Rattle.mdr_core.specs.Layout.{struct_cells};
-ghost use Rattle.mdr_core.specs.Views.{AreLaid, HasCells, IsIn, IsInFields, IsInStructs, IsWhole};
+ghost use Rattle.mdr_core.specs.Sound.{IsSound};
+ghost use Rattle.mdr_core.specs.Views.{AreLaid, HasCells, IsIn, IsViewOf, IsInFields, IsInStructs, IsWhole};
 
-use crate::layout::{field_at, struct_named, struct_size};
+use crate::layout::{field_at, struct_named, struct_size, type_at};
 use crate::program::Program;
 use crate::same::same_type;
-use crate::types::Ty;
+use crate::types::{Shape, Ty};
 use crate::value::View;
 
 /// Whether a number of the type table names a type.
@@ -74,4 +75,18 @@ fn is_in_field(program: &Program, view: View, s: u32, inside: u32) -> bool
         Some(at) => is_in(program, view, view.first - at.cell, &at.field.ty, at.field.count),
         None => false,
     }
+}
+
+/// Whether a pointer's view is one of a block of this shape, and its index at most one past the view's end. The views of
+/// a shape are the whole and, of each view whose elements are structs, each element and each field of each. The time is
+/// that of `cells_of` for each struct on the way to the view.
+pub fn view_ok(program: &Program, shape: Shape, view: View) -> bool
+    requires in_table { shape.ty < length program.now.types }
+    requires sound { IsSound program.now }
+    ensures { IsTrue result ↔ IsViewOf program.now shape view }
+{
+    if view.index > view.count {
+        return false;
+    }
+    is_in(program, view, 0, type_at(program, shape.ty), shape.count)
 }
