@@ -9,9 +9,11 @@ mod layout;
 mod memory_error;
 mod place;
 mod plan;
+mod plan_check;
 mod program;
 mod refusal;
 mod same;
+
 mod stop;
 mod types;
 mod undefined;
@@ -27,10 +29,12 @@ pub use layout::{cells_of, key_of, zero_of};
 pub use memory_error::OutOfMemory;
 pub use place::{At, Place};
 pub use plan::{Half, Key, Plan};
+pub use plan_check::suits;
 pub use program::{Field, Func, GlobalDef, Local, Param, Program, StructDef};
 pub use refusal::RefuseKind;
 pub use same::same_type;
 pub use stop::StopKind;
+
 pub use types::{Ann, LenOf, Shape, Ty};
 pub use undefined::Undefined;
 pub use value::{Block, LockState, Value, View};
