@@ -10,6 +10,7 @@ pub mod Operators
 pub mod Services
 pub mod Sound
 pub mod Suited
+pub mod TypeText
 pub mod Types
 pub mod Typing
 pub mod Views

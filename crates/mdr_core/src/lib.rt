@@ -15,6 +15,7 @@ mod refusal;
 mod same;
 
 mod stop;
+mod text;
 mod types;
 mod undefined;
 mod value;
@@ -32,9 +33,10 @@ pub use plan::{Half, Key, Plan};
 pub use plan_check::suits;
 pub use program::{Field, Func, GlobalDef, Local, Param, Program, StructDef};
 pub use refusal::RefuseKind;
-pub use same::same_type;
+pub use same::{same_type, type_number};
 pub use stop::StopKind;
 
+pub use text::type_text;
 pub use types::{Ann, LenOf, Shape, Ty};
 pub use undefined::Undefined;
 pub use value::{Block, LockState, Value, View};
