@@ -15,6 +15,8 @@ mod refusal;
 mod same;
 
 mod stop;
+#[cfg(test)]
+mod tests;
 mod text;
 mod types;
 mod undefined;
