@@ -1,5 +1,5 @@
 -- Types as texts, and the type table.
-use Rattle.std.specs.Prelude.{◌≡◌, ℕ, zero, suc, ◌+◌, ◌<◌, ◌≤◌, Bool, true, false, nat_lt, List, [], ◌∷◌, ◌++◌, length, map, Option, Some, None, slice_get, IsTrue, codes, ◌⊎◌}
+use Rattle.std.specs.Prelude.{◌≡◌, ℕ, ◌+◌, ◌≤◌, Bool, true, false, nat_lt, List, [], ◌∷◌, ◌++◌, length, Option, Some, None, slice_get, IsTrue, codes, ◌⊎◌}
 use Rattle.mdr_core.specs.declared.kind.Kind.{Kind}
 use Rattle.mdr_core.specs.declared.kind.Kind.TheVariants.{U8, U16, U32, U64, S8, S16, S32, S64}
 use Rattle.mdr_core.specs.declared.types.Ty.{Ty}
@@ -13,7 +13,7 @@ use Rattle.mdr_core.specs.declared.program.Func.{Func}
 use Rattle.mdr_core.specs.declared.program.Param.{Param}
 use Rattle.mdr_core.specs.declared.program.Local.{Local}
 use Rattle.mdr_core.specs.declared.code.Stmt.{Stmt}
-use Rattle.mdr_core.specs.Code.{CallOf, Code, Codes}
+use Rattle.mdr_core.specs.Code.{Code, Codes}
 use Rattle.mdr_core.specs.Folds.{codes_of}
 use Rattle.mdr_core.specs.Layout.{chosen}
 use Rattle.mdr_core.specs.Sound.{IsTable}

@@ -13,7 +13,6 @@ mod plan_check;
 mod program;
 mod refusal;
 mod same;
-
 mod stop;
 #[cfg(test)]
 mod tests;
@@ -28,7 +27,6 @@ pub use code::{BinOp, CallForm, Callee, Expr, Lval, RelOp, Step, Stmt};
 pub use items::{Items, Name};
 pub use kind::Kind;
 pub use layout::{cells_of, key_of, zero_of};
-
 pub use memory_error::OutOfMemory;
 pub use place::{At, Place};
 pub use plan::{Half, Key, Plan};
@@ -37,7 +35,6 @@ pub use program::{Field, Func, GlobalDef, Local, Param, Program, StructDef};
 pub use refusal::RefuseKind;
 pub use same::{same_type, type_number};
 pub use stop::StopKind;
-
 pub use text::type_text;
 pub use types::{Ann, LenOf, Shape, Ty};
 pub use undefined::Undefined;

@@ -107,7 +107,10 @@ fn are_names(names: &[Name], funcs: &[Func]) -> bool
 fn has_lists(plan: &Plan, count: usize) -> bool
     ensures { IsTrue result ↔ ((length plan.now.halves ≡ count) × (length plan.now.roots ≡ count) × (length plan.now.down ≡ count) × (length plan.now.keys ≡ count)) }
 {
-    plan.halves.len() == count && plan.roots.len() == count && plan.down.len() == count && plan.keys.len() == count
+    plan.halves.len() == count
+        && plan.roots.len() == count
+        && plan.down.len() == count
+        && plan.keys.len() == count
 }
 
 /// Whether a plan suits a program: it has the program's types and its functions' names, one item for each function in

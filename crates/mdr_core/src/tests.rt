@@ -1,8 +1,8 @@
 // The types of a network driver, and plans for it.
 
 use crate::{
-    Ann, Boxed, Field, Func, GlobalDef, Half, Items, Key, Kind, LockState, Name, Plan, Program, StructDef,
-    Ty, Value, same_type, suits, type_number, type_text,
+    Ann, Boxed, Field, Func, GlobalDef, Half, Items, Key, Kind, LockState, Name, Plan, Program,
+    StructDef, Ty, Value, same_type, suits, type_number, type_text,
 };
 use std::alloc::Global;
 use std::test::Fail;
@@ -121,13 +121,25 @@ fn types_are_spelled(rt: HostRuntime) -> Result<(), Fail> {
     let alloc = rt.alloc();
     let program = program(alloc)?;
     let twice = Ty::Ptr(Boxed::new(alloc, buffer_pointer(alloc)?)?);
-    assert_eq!(rt; text(alloc, &program, &twice)?.as_slice(), b"struct buf **".as_slice());
-    assert_eq!(rt; text(alloc, &program, &operation(alloc, Kind::U32)?)?.as_slice(), b"fn(s32;u32)".as_slice());
+    assert_eq!(rt;
+        text(alloc, &program, &twice)?.as_slice(),
+        b"struct buf **".as_slice()
+    );
+    assert_eq!(rt;
+        text(alloc, &program, &operation(alloc, Kind::U32)?)?.as_slice(),
+        b"fn(s32;u32)".as_slice()
+    );
     let parts = vec![in alloc; Ty::Void, Ty::VoidPtr, Ty::Int(Kind::S8)]?;
     let callback = Ty::Fun(Items::from_vec(parts));
-    assert_eq!(rt; text(alloc, &program, &callback)?.as_slice(), b"fn(void;void *,s8)".as_slice());
+    assert_eq!(rt;
+        text(alloc, &program, &callback)?.as_slice(),
+        b"fn(void;void *,s8)".as_slice()
+    );
     let alone = vec![in alloc; Ty::Void]?;
-    assert_eq!(rt; text(alloc, &program, &Ty::Fun(Items::from_vec(alone)))?.as_slice(), b"fn(void;)".as_slice());
+    assert_eq!(rt;
+        text(alloc, &program, &Ty::Fun(Items::from_vec(alone)))?.as_slice(),
+        b"fn(void;)".as_slice()
+    );
     Ok(())
 }
 
@@ -136,7 +148,10 @@ fn types_are_found_in_the_table(rt: HostRuntime) -> Result<(), Fail> {
     let alloc = rt.alloc();
     let program = program(alloc)?;
     assert_eq!(rt; type_number(&program, &buffer_pointer(alloc)?), Some(12));
-    assert_eq!(rt; type_number(&program, &operation(alloc, Kind::U32)?), Some(11));
+    assert_eq!(rt;
+        type_number(&program, &operation(alloc, Kind::U32)?),
+        Some(11)
+    );
     assert_eq!(rt; type_number(&program, &operation(alloc, Kind::U64)?), None);
     assert!(rt; !same_type(&operation(alloc, Kind::U32)?, &operation(alloc, Kind::U64)?));
     Ok(())

@@ -3,11 +3,10 @@
 ghost use Rattle.std.specs.Prelude.{◌≡◌, ◌++◌, OnOk, codes, drop, map, slice_get};
 ghost use Rattle.mdr_core.specs.TypeText.{behind_commas, kind_text, name_or, signature_text, star, text_of, type_text};
 
-use std::alloc::AllocError;
-
 use crate::kind::Kind;
 use crate::program::{Program, StructDef};
 use crate::types::Ty;
+use std::alloc::AllocError;
 
 fn put(out: &mut Vec<u8>, bytes: &[u8]) -> Result<(), AllocError>
     ensures { OnOk result (out.new.items ≡ out.old.items ++ bytes.now) }

@@ -72,7 +72,13 @@ fn is_in_field(program: &Program, view: View, s: u32, inside: u32) -> bool
     ensures { IsTrue result ↔ IsInFields program.now view s (view.first - inside) }
 {
     match field_at(program.structs.as_slice(), s, inside) {
-        Some(at) => is_in(program, view, view.first - at.cell, &at.field.ty, at.field.count),
+        Some(at) => is_in(
+            program,
+            view,
+            view.first - at.cell,
+            &at.field.ty,
+            at.field.count,
+        ),
         None => false,
     }
 }
