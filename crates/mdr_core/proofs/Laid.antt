@@ -1,6 +1,6 @@
 -- How the structs of a sound program are laid out.
-use Rattle.std.proofs.Common.{◌≡◌, ℕ, zero, suc, ◌+◌, ◌*◌, ◌<◌, ◌≤◌, ◌⊎◌, inl, inr, List, [], ◌∷◌, length, map, Bool, true, false, nat_lt, IsTrue, ◌↔◌, slice_get, get_or, Option, Some, None, refl, sym, ap, subst, ◌∙◌, arith}
-use Rattle.std.proofs.lemmas.Option.{slice_get_within, slice_get_cases}
+use Rattle.std.proofs.Common.{◌≡◌, ℕ, zero, suc, ◌*◌, ◌<◌, ◌≤◌, ◌⊎◌, inl, inr, List, [], ◌∷◌, length, map, Bool, true, false, nat_lt, IsTrue, ◌↔◌, slice_get, get_or, Option, Some, None, refl, sym, ap, subst, ◌∙◌, arith}
+use Rattle.std.proofs.lemmas.Option.{slice_get_cases}
 use Rattle.std.proofs.lemmas.Nat.{mul-le}
 use Rattle.mdr_core.specs.declared.types.Ty.{Ty, out-Ty}
 use Rattle.mdr_core.specs.declared.types.Ty.TheOpen.{Ty-F}
@@ -10,8 +10,8 @@ use Rattle.mdr_core.specs.declared.program.StructDef.{StructDef}
 use Rattle.mdr_core.specs.declared.program.Program.{Program}
 use Rattle.mdr_core.specs.declared.types.Shape.{Shape}
 use Rattle.mdr_core.specs.declared.value.View.{View}
-use Rattle.mdr_core.specs.Layout.{chosen, Leaf, Home, Alone, leaves, leaves_by, leaves_below, struct_by, struct_of, struct_cells, fields_of, fields_or, field_start}
-use Rattle.mdr_core.specs.Sound.{IsSound, IsSoundField, IsSoundStruct, IsTable, IsObjectSort, Sibling, sibling_field}
+use Rattle.mdr_core.specs.Layout.{chosen, Leaf, Home, Alone, leaves, leaves_by, leaves_below, struct_by, struct_of, struct_cells, fields_of, fields_or}
+use Rattle.mdr_core.specs.Sound.{IsSound, IsSoundField, IsObjectSort, Sibling, sibling_field}
 use Rattle.mdr_core.specs.Types.{Sort, Aggregate, Wrong, sort_of, sort_layer}
 use Rattle.mdr_core.specs.Views.{AreLaid, HasCells, IsIn, IsViewOf}
 use Rattle.mdr_core.proofs.Lying.{is_below}
@@ -80,8 +80,8 @@ within_by : (program : Program) (s f : ℕ) (x : Field) → slice_get (fields_of
 within_by program s f x names (inl h) = h.1
 within_by program s f x names (inr h) = let none : None ≡ Some x = sym (ap (λ (o : Option StructDef). slice_get (fields_or o) f) h.1) ∙ names in absurd (not_none none)
   where
-  not_none : None ≡ Some x → ⊥
-  not_none e = cc
+    not_none : None ≡ Some x → ⊥
+    not_none e = cc
 
 -- the structs of a sound program
 pub laid_out : (program : Program) → IsSound program → AreLaid program.structs
@@ -90,8 +90,8 @@ laid_out program sound = record {
   few = sound.few;
   lower = λ s f m x names is. (field_of program sound s f x names).1.lower m is;
   filled = λ s f x names.
-    let within = within_by program s f x names (slice_get_cases program.structs s).1 in
-    field_filled program sound s f x (λ m below. struct_filled program sound (suc m) m (omega arith) (omega arith)) names;
+      let within = within_by program s f x names (slice_get_cases program.structs s).1 in
+      field_filled program sound s f x (λ m below. struct_filled program sound (suc m) m (omega arith) (omega arith)) names;
 }
 
 struct_within_by : (n : ℕ) (t : Ty-F Ty) (m : ℕ) (b : Bool) → nat_lt m n ≡ b → IsObjectSort (sort_layer n (map-Ty Ty Sort (sort_of n) t)) → struct_by t ≡ Some m → m < n
@@ -99,13 +99,14 @@ struct_within_by n (Ty-F.Int k) m b e h s = cc
 struct_within_by n Ty-F.Lock m b e h s = cc
 struct_within_by n (Ty-F.Struct k) m b e h s = let same : k ≡ m = some_same s in named n m b e (subst (λ i. IsObjectSort (chosen (nat_lt i n) Aggregate Wrong)) same h)
   where
-  none : IsObjectSort Wrong → ⊥
-  none (inl w) = cc
-  none (inr (inl w)) = cc
-  none (inr (inr w)) = cc
-  named : (n m : ℕ) (b : Bool) → nat_lt m n ≡ b → IsObjectSort (chosen (nat_lt m n) Aggregate Wrong) → m < n
-  named n m true e h = grind arith
-  named n m false e h = absurd (none (subst (λ b. IsObjectSort (chosen b Aggregate Wrong)) e h))
+    none : IsObjectSort Wrong → ⊥
+    none (inl w) = cc
+    none (inr (inl w)) = cc
+    none (inr (inr w)) = cc
+
+    named : (n m : ℕ) (b : Bool) → nat_lt m n ≡ b → IsObjectSort (chosen (nat_lt m n) Aggregate Wrong) → m < n
+    named n m true e h = grind arith
+    named n m false e h = absurd (none (subst (λ b. IsObjectSort (chosen b Aggregate Wrong)) e h))
 struct_within_by n (Ty-F.Ptr t) m b e h s = cc
 struct_within_by n Ty-F.VoidPtr m b e h s = cc
 struct_within_by n (Ty-F.Fun ts) m b e h s = cc
@@ -119,7 +120,7 @@ struct_within n ty m h s = struct_within_by n (out-Ty ty) m (nat_lt m n) refl (s
 pub type_has_cells : (program : Program) → IsSound program → (i : ℕ) (ty : Ty) → slice_get program.types i ≡ Some ty → HasCells program.structs ty
 type_has_cells program sound i ty names = record {
   some = has_cell (struct_cells program.structs) Alone (length program.structs) ty (sound.table.formed i ty names)
-    (λ m is. struct_filled program sound (suc m) m (omega arith) (struct_within (length program.structs) ty m (sound.table.formed i ty names) is));
+      (λ m is. struct_filled program sound (suc m) m (omega arith) (struct_within (length program.structs) ty m (sound.table.formed i ty names) is));
 }
 
 pub view_right : (program : Program) (shape : Shape) (view : View) (ty : Ty) (b : Bool) → slice_get program.types shape.ty ≡ Some ty → view.index ≤ view.count → (IsTrue b ↔ IsIn program view 0 ty shape.count) → IsTrue b ↔ IsViewOf program shape view

@@ -292,9 +292,9 @@ cells_of_scalar program ty cell t e is inside =
 pub cell_not_at : (program : Program) (ty cell : ℕ) → cell < length (cells_at program ty) → ty < length program.types
 cell_not_at program ty cell inside = there (slice_get_cases program.types ty).1
   where
-  there : ((t : Ty) × (ty < length program.types) × (slice_get program.types ty ≡ Some t) × (get_or program.types ty t ≡ t)) ⊎ ((length program.types ≤ ty) × (slice_get program.types ty ≡ None)) → ty < length program.types
-  there (inl h) = h.1
-  there (inr h) = let none : length (cells_at program ty) ≡ 0 = ap (λ (o : Option Ty). length (cells_or program o)) h.1 in absurd (omega arith)
+    there : ((t : Ty) × (ty < length program.types) × (slice_get program.types ty ≡ Some t) × (get_or program.types ty t ≡ t)) ⊎ ((length program.types ≤ ty) × (slice_get program.types ty ≡ None)) → ty < length program.types
+    there (inl h) = h.1
+    there (inr h) = let none : length (cells_at program ty) ≡ 0 = ap (λ (o : Option Ty). length (cells_or program o)) h.1 in absurd (omega arith)
 
 pub struct_cell : (structs : List StructDef) (ty : Ty) (s : ℕ) (n : ℕ) → n ≡ length (struct_cells structs s) → ty ≡ type.Struct s → n ≡ length (leaves (struct_cells structs) Home.Alone ty)
 unfolding leaves

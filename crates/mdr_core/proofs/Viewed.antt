@@ -3,7 +3,7 @@ use Rattle.std.proofs.Common.{◌≡◌, ℕ, zero, suc, ◌+◌, ◌*◌, ◌-�
 use Rattle.std.proofs.lemmas.Bool.{cases_lt}
 use Rattle.std.proofs.lemmas.List.{length-append}
 use Rattle.std.proofs.lemmas.Option.{slice_get_within, slice_get_cases, get_or_from_slice_get}
-use Rattle.std.proofs.lemmas.Nat.{div-mul-add, mod-mul-add, mul-le, div-add-mod', mod_below}
+use Rattle.std.proofs.lemmas.Nat.{div-mul-add, mod-mul-add, mul-le, div-add-mod'}
 use Rattle.mdr_core.specs.declared.types.Ty.{Ty, out-Ty}
 use Rattle.mdr_core.specs.declared.types.Ty.TheOpen.{Ty-F}
 use Rattle.mdr_core.specs.declared.program.Field.{Field}
@@ -164,27 +164,32 @@ in_some program view first ty count s whole structs struct fails w i = (λ h. st
 pub in_field : (program : Program) (view : View) (s inside f r : ℕ) (x : Field) (b : Bool) → AreLaid program.structs → inside ≤ view.first → IsInField program.structs s inside x f r → (IsTrue b ↔ IsIn program view (view.first - r) x.ty x.count) → IsTrue b ↔ IsInFields program view s (view.first - inside)
 in_field program view s inside f r x b laid behind at i = (there, back)
   where
-  begins : view.first - inside + field_start program.structs s f ≡ view.first - r
-  begins = let place = at.place in omega arith
-  there : IsTrue b → IsInFields program view s (view.first - inside)
-  there h = record { number = f; field = x; names = at.names; inside = subst (λ n. IsIn program view n x.ty x.count) (sym begins) (i.0 h) }
-  here : Covers program.structs s inside f x
-  here = let place = at.place in let within = at.inside in record { names = at.names; begins = omega arith; ends = omega arith }
-  covered : (k : IsInFields program view s (view.first - inside)) → Covers program.structs s inside k.number k.field
-  covered k =
-      let known : k.field.count * length (leaves (leaves_below program.structs s) Alone k.field.ty) ≡ k.field.count * length (leaves (struct_cells program.structs) Alone k.field.ty) = ap (λ (ys : List Leaf). k.field.count * length ys) (cells_known program.structs s k.number k.field Alone laid k.names) in
-      let filled = laid.filled s k.number k.field k.names in
-      let range = ranged program view (view.first - inside + field_start program.structs s k.number) k.field.ty k.field.count laid (omega arith) k.inside in
-      let begins = range.begins in
-      let ends = range.ends in
-      record { names = k.names; begins = omega arith; ends = omega arith }
-  moved : (k : IsInFields program view s (view.first - inside)) → k.number ≡ f → IsIn program view (view.first - r) x.ty x.count
-  moved k same =
-      let alike : k.field ≡ x = some_same (sym k.names ∙ ap (slice_get (fields_of program.structs s)) same ∙ at.names) in
-      let place : view.first - inside + field_start program.structs s k.number ≡ view.first - r = ap (λ n. view.first - inside + field_start program.structs s n) same ∙ begins in
-      subst (λ (y : Field). IsIn program view (view.first - r) y.ty y.count) alike (subst (λ n. IsIn program view n k.field.ty k.field.count) place k.inside)
-  back : IsInFields program view s (view.first - inside) → IsTrue b
-  back k = i.1 (moved k (one_covers program.structs s inside k.number f k.field x (covered k) here))
+    begins : view.first - inside + field_start program.structs s f ≡ view.first - r
+    begins = let place = at.place in omega arith
+
+    there : IsTrue b → IsInFields program view s (view.first - inside)
+    there h = record { number = f; field = x; names = at.names; inside = subst (λ n. IsIn program view n x.ty x.count) (sym begins) (i.0 h) }
+
+    here : Covers program.structs s inside f x
+    here = let place = at.place in let within = at.inside in record { names = at.names; begins = omega arith; ends = omega arith }
+
+    covered : (k : IsInFields program view s (view.first - inside)) → Covers program.structs s inside k.number k.field
+    covered k =
+        let known : k.field.count * length (leaves (leaves_below program.structs s) Alone k.field.ty) ≡ k.field.count * length (leaves (struct_cells program.structs) Alone k.field.ty) = ap (λ (ys : List Leaf). k.field.count * length ys) (cells_known program.structs s k.number k.field Alone laid k.names) in
+        let filled = laid.filled s k.number k.field k.names in
+        let range = ranged program view (view.first - inside + field_start program.structs s k.number) k.field.ty k.field.count laid (omega arith) k.inside in
+        let begins = range.begins in
+        let ends = range.ends in
+        record { names = k.names; begins = omega arith; ends = omega arith }
+
+    moved : (k : IsInFields program view s (view.first - inside)) → k.number ≡ f → IsIn program view (view.first - r) x.ty x.count
+    moved k same =
+        let alike : k.field ≡ x = some_same (sym k.names ∙ ap (slice_get (fields_of program.structs s)) same ∙ at.names) in
+        let place : view.first - inside + field_start program.structs s k.number ≡ view.first - r = ap (λ n. view.first - inside + field_start program.structs s n) same ∙ begins in
+        subst (λ (y : Field). IsIn program view (view.first - r) y.ty y.count) alike (subst (λ n. IsIn program view n k.field.ty k.field.count) place k.inside)
+
+    back : IsInFields program view s (view.first - inside) → IsTrue b
+    back k = i.1 (moved k (one_covers program.structs s inside k.number f k.field x (covered k) here))
 
 -- ---- a view of one of many structs
 
@@ -243,14 +248,14 @@ pub in_fields : (program : Program) (view : View) (s first : ℕ) (ty : Ty) (cou
     (IsTrue whole ↔ IsWhole program view (view.first - (view.first - first) % size) ty 1) → (IsTrue fields ↔ IsInFields program view s (view.first - (view.first - first) % size)) → IsTrue fields ↔ IsInStructs program view s first ty count
 in_fields program view s first ty count size whole fields laid some e behind among fails w i = (there, back)
   where
-  there : IsTrue fields → IsInStructs program view s first ty count
-  there h = in_structs program view s first ty count size e behind among (inr (i.0 h))
-  back : IsInStructs program view s first ty count → IsTrue fields
-  back r =
-      let k = element_is program view s first ty count size laid some e r in
-      let place : first + r.element * length (struct_cells program.structs s) ≡ view.first - (view.first - first) % size = ap (λ n. first + r.element * n) (sym e) ∙ k.begins in
-      in_fields_by program view s (view.first - (view.first - first) % size) ty whole fields fails w i (subst (λ n. IsWhole program view n ty 1 ⊎ IsInFields program view s n) place r.inside)
+    there : IsTrue fields → IsInStructs program view s first ty count
+    there h = in_structs program view s first ty count size e behind among (inr (i.0 h))
 
+    back : IsInStructs program view s first ty count → IsTrue fields
+    back r =
+        let k = element_is program view s first ty count size laid some e r in
+        let place : first + r.element * length (struct_cells program.structs s) ≡ view.first - (view.first - first) % size = ap (λ n. first + r.element * n) (sym e) ∙ k.begins in
+        in_fields_by program view s (view.first - (view.first - first) % size) ty whole fields fails w i (subst (λ n. IsWhole program view n ty 1 ⊎ IsInFields program view s n) place r.inside)
 
 -- ---- what the walk needs on its way
 

@@ -1,5 +1,5 @@
 -- The code of a program as plain data: one line for each form.
-use Rattle.std.specs.Prelude.{ℕ, pos, Bool, List, [], ◌∷◌, map, Option, Some, None}
+use Rattle.std.specs.Prelude.{ℕ, pos, List, [], ◌∷◌, map, Option, Some, None}
 use Rattle.std.specs.Option.{option_map}
 use Rattle.mdr_core.specs.declared.kind.Kind.TheVariants.{S32}
 use Rattle.mdr_core.specs.declared.value.Value.TheVariants as value
@@ -10,7 +10,6 @@ use Rattle.mdr_core.specs.declared.code.Expr.TheFolds.{fold-Expr, fold-Lval}
 use Rattle.mdr_core.specs.declared.code.Callee.{Callee}
 use Rattle.mdr_core.specs.declared.code.Callee.TheVariants as callee
 use Rattle.mdr_core.specs.declared.code.CallForm.{CallForm}
-use Rattle.mdr_core.specs.declared.code.Step.{Step}
 use Rattle.mdr_core.specs.declared.code.Step.TheOpen.{Step-F, Stmt-F}
 use Rattle.mdr_core.specs.declared.code.Step.TheFolds.{fold-Stmt}
 use Rattle.mdr_core.specs.declared.code.Stmt.{Stmt}

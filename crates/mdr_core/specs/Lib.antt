@@ -9,6 +9,8 @@ pub mod Layout
 pub mod Operators
 pub mod Services
 pub mod Sound
+pub mod Suited
+pub mod TypeText
 pub mod Types
 pub mod Typing
 pub mod Views

@@ -1,9 +1,8 @@
 -- Sound programs.
-use Rattle.std.specs.Prelude.{◌≡◌, ℕ, ◌+◌, ◌*◌, ◌<◌, ◌≤◌, Bool, true, false, List, [], ◌∷◌, ◌++◌, length, map, take, Option, Some, None, slice_get, IsTrue, ◌⊎◌}
+use Rattle.std.specs.Prelude.{◌≡◌, ℕ, ◌+◌, ◌<◌, ◌≤◌, Bool, true, false, List, [], length, map, Option, Some, None, slice_get, IsTrue, ◌⊎◌}
 use Rattle.mdr_core.specs.declared.kind.Kind.{Kind}
 use Rattle.mdr_core.specs.declared.kind.Kind.TheVariants.{U8, S8}
-use Rattle.mdr_core.specs.declared.types.Ty.{Ty, out-Ty}
-use Rattle.mdr_core.specs.declared.types.Ty.TheOpen.{Ty-F}
+use Rattle.mdr_core.specs.declared.types.Ty.{Ty}
 use Rattle.mdr_core.specs.declared.types.Ty.TheVariants as type
 use Rattle.mdr_core.specs.declared.types.Ann.{Ann}
 use Rattle.mdr_core.specs.declared.types.Ann.TheVariants as ann
@@ -24,7 +23,7 @@ use Rattle.mdr_core.specs.declared.value.LockState.TheVariants.{Free}
 use Rattle.mdr_core.specs.Kinds.{is_in_range, kind_number}
 use Rattle.mdr_core.specs.Folds.{codes_of}
 use Rattle.mdr_core.specs.Layout.{AreSmall, AreFew, Leaf, cells, repeated, fields_of, struct_of}
-use Rattle.mdr_core.specs.Types.{Sort, Scalar, Empty, Aggregate, Locks, sort_of, HasNoLock, HasNumber, first_types, is_pointer}
+use Rattle.mdr_core.specs.Types.{Sort, Scalar, Aggregate, Locks, sort_of, HasNoLock, HasNumber, is_pointer}
 use Rattle.mdr_core.specs.Typing.{function_type, slots_of, AreTyped}
 use Rattle.mdr_core.specs.Views.{IsIn}
 

@@ -1,5 +1,5 @@
 -- The types of expressions, of lvalues and of statements (C99 6.5, 6.8). What converts does so by a form of its own.
-use Rattle.std.specs.Prelude.{◌≡◌, ℕ, zero, suc, ◌<◌, ◌≤◌, Bool, true, false, List, [], ◌∷◌, ◌++◌, length, map, Option, Some, None, slice_get, IsTrue, ◌⊎◌, pos, ◌&&◌}
+use Rattle.std.specs.Prelude.{◌≡◌, ℕ, ◌≤◌, Bool, true, false, List, [], ◌∷◌, ◌++◌, length, map, Option, Some, None, slice_get, IsTrue, ◌⊎◌}
 use Rattle.mdr_core.specs.declared.kind.Kind.{Kind}
 use Rattle.mdr_core.specs.declared.kind.Kind.TheVariants.{U8, S8, S32, S64}
 use Rattle.mdr_core.specs.declared.types.Ty.{Ty}
@@ -20,7 +20,7 @@ use Rattle.mdr_core.specs.Code.{Term, Lvalue, Called, CallOf, Goal, Way, Code, C
 use Rattle.mdr_core.specs.Kinds.{is_in_range}
 use Rattle.mdr_core.specs.Layout.{chosen, fields_of}
 use Rattle.mdr_core.specs.Services.{Service, RequestIrq, Signature, offered, service_numbered}
-use Rattle.mdr_core.specs.Types.{Sort, Scalar, Becomes, HasNumber, is_scalar, is_pointer, is_object_pointer, sort_of}
+use Rattle.mdr_core.specs.Types.{Scalar, Becomes, HasNumber, is_scalar, is_pointer, is_object_pointer, sort_of}
 
 abbrev pub int : Kind → Ty
 int k = type.Int k

@@ -12,9 +12,9 @@ use Rattle.mdr_core.specs.Layout.{AreSmall, AreFew, Alone, leaves, leaves_below,
 pub data IsIn (program : Program) (view : View) : (first : ℕ) → Ty → (count : ℕ) → Type 0 where
   Whole : (first : ℕ) (ty : Ty) (count : ℕ) → view.first ≡ first → slice_get program.types view.ty ≡ Some ty → view.count ≡ count → IsIn program view first ty count
   Element : (first : ℕ) (ty : Ty) (count s i : ℕ) → struct_of ty ≡ Some s → i < count →
-    view.first ≡ first + i * length (struct_cells program.structs s) → slice_get program.types view.ty ≡ Some ty → view.count ≡ 1 → IsIn program view first ty count
+      view.first ≡ first + i * length (struct_cells program.structs s) → slice_get program.types view.ty ≡ Some ty → view.count ≡ 1 → IsIn program view first ty count
   Inside : (first : ℕ) (ty : Ty) (count s i f : ℕ) (field : Field) → struct_of ty ≡ Some s → i < count → slice_get (fields_of program.structs s) f ≡ Some field →
-    IsIn program view (first + i * length (struct_cells program.structs s) + field_start program.structs s f) field.ty field.count → IsIn program view first ty count
+      IsIn program view (first + i * length (struct_cells program.structs s) + field_start program.structs s f) field.ty field.count → IsIn program view first ty count
 
 -- the view is one of a block of this shape, with an index up to one past its end
 pub record IsViewOf (program : Program) (shape : Shape) (view : View) : Type 0 where

@@ -12,7 +12,7 @@ use crate::types::Ty;
 use crate::value::{LockState, Value};
 
 /// The fields of a struct.
-fn fields(structs: &[StructDef], s: u32) -> &[Field]
+pub fn fields(structs: &[StructDef], s: u32) -> &[Field]
     ensures { result.now ≡ fields_of structs.now s }
 {
     match structs.get(s as usize) {

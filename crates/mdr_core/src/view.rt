@@ -72,9 +72,22 @@ fn is_in_field(program: &Program, view: View, s: u32, inside: u32) -> bool
     ensures { IsTrue result ↔ IsInFields program.now view s (view.first - inside) }
 {
     match field_at(program.structs.as_slice(), s, inside) {
-        Some(at) => is_in(program, view, view.first - at.cell, &at.field.ty, at.field.count),
+        Some(at) => is_in(
+            program,
+            view,
+            view.first - at.cell,
+            &at.field.ty,
+            at.field.count,
+        ),
         None => false,
     }
+}
+
+/// Whether a view's index is at most one past its last element.
+fn has_index(view: View) -> bool
+    ensures { IsTrue result ↔ (view.index ≤ view.count) }
+{
+    view.index <= view.count
 }
 
 /// Whether a pointer's view is one of a block of this shape, and its index at most one past the view's end. The views of
@@ -85,8 +98,9 @@ pub fn view_ok(program: &Program, shape: Shape, view: View) -> bool
     requires sound { IsSound program.now }
     ensures { IsTrue result ↔ IsViewOf program.now shape view }
 {
-    if view.index > view.count {
-        return false;
+    if has_index(view) {
+        is_in(program, view, 0, type_at(program, shape.ty), shape.count)
+    } else {
+        false
     }
-    is_in(program, view, 0, type_at(program, shape.ty), shape.count)
 }

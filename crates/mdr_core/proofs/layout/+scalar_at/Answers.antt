@@ -1,5 +1,5 @@
 -- The proof of `scalar_at`.
-use Rattle.std.proofs.Common.{◌≡◌, ◌<◌, length, slice_get, ◌%◌, sym, ap, ◌∙◌, Some, arith}
+use Rattle.std.proofs.Common.{length, slice_get, ◌%◌, sym, ap, ◌∙◌, arith}
 use Rattle.std.proofs.lemmas.Nat.{mod_below}
 use Rattle.mdr_core.specs.Layout.{Within, struct_cells}
 use Rattle.mdr_core.proofs.Lying.{inner, in_inner, scalar_found}

@@ -1,6 +1,6 @@
 -- The proof of `struct_size` and `size_below`.
-use Rattle.std.proofs.Common.{◌+◌, ◌*◌, ◌≡◌, ◌≤◌, length, drop, arith, sym}
-use Rattle.mdr_core.specs.Layout.{leaves_below, struct_cells, field_leaves, fields_of, Alone}
+use Rattle.std.proofs.Common.{length, arith}
+use Rattle.mdr_core.specs.Layout.{leaves_below, struct_cells, fields_of, Alone}
 use Rattle.mdr_core.proofs.Lying.{known_struct, unknown_struct, size_more, size_over}
 use Rattle.mdr_core.proofs.layout.+size.Goals as goal
 

@@ -1,8 +1,7 @@
 -- The proof of `is_in`, `is_in_structs` and `is_in_field`.
-use Rattle.std.proofs.Common.{rules, ◌≡◌, ◌≤◌, ◌-◌, ◌%◌, ◌/◌, ◌<◌, length, sym, ap, subst, ◌∙◌, arith, inl, Some, suc}
+use Rattle.std.proofs.Common.{rules, ◌≡◌, length, sym, ap, subst, ◌∙◌, arith, inl, Some, suc}
 use Rattle.mdr_core.specs.Layout.{struct_cells, struct_of}
 use Rattle.mdr_core.specs.Fields.{IsInField}
-use Rattle.mdr_core.specs.Views.{IsWhole}
 use Rattle.mdr_core.proofs.Viewed.{rank, whole_in, in_some, in_field, not_before, not_behind, in_structs, in_fields, has_cells_struct, has_cells_field, rank_field}
 use Rattle.mdr_core.proofs.view.+view.Goals as goal
 

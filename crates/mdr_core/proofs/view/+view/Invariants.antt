@@ -1,5 +1,5 @@
 -- The measures of the views.
-use Rattle.std.proofs.Common.{ℕ, ◌+◌, ◌*◌, Option, Some, None}
+use Rattle.std.proofs.Common.{◌+◌, ◌*◌}
 use Rattle.mdr_core.specs.Layout.{struct_of}
 use Rattle.mdr_core.proofs.Viewed.{rank}
 use Rattle.mdr_core.proofs.view.+view.Given as goal
