@@ -4,6 +4,7 @@
 mod access;
 mod changed;
 mod checks;
+mod copies;
 mod expression;
 mod extents;
 mod faults;
@@ -19,6 +20,7 @@ mod values;
 pub use access::{loaded, normal, normals, stored};
 pub use changed::changes;
 pub use checks::{deaths_fit, news_fit, view_fits};
+pub use copies::copied;
 pub use expression::evaluated;
 pub use faults::{args_fault, runs_fault};
 pub use first::first_memory;

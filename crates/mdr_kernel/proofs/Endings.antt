@@ -123,7 +123,7 @@ run_known program (a ∷ xs) (Waits m k rest) known = run_known program xs (next
 
 -- ---- exchanges
 
-few_answers : (es : List Exchange) → length (answers_of es) ≤ length es
+pub few_answers : (es : List Exchange) → length (answers_of es) ≤ length es
 few_answers [] = omega arith
 few_answers (e ∷ es) = of e.got (few_answers es)
   where
@@ -131,7 +131,7 @@ few_answers (e ∷ es) = of e.got (few_answers es)
     of None few = omega arith
     of (Some bytes) few = omega (arith, few)
 
-sents : (es : List Exchange) → length (sent_of es) ≡ length es
+pub sents : (es : List Exchange) → length (sent_of es) ≡ length es
 sents [] = refl
 sents (e ∷ es) = ap suc (sents es)
 
@@ -140,7 +140,7 @@ texts [] = refl
 texts (m ∷ ms) = ap suc (texts ms)
 
 -- each exchange sent a message
-as_many : (es : List Exchange) (ms : List Message) → sent_of es ≡ map text ms → length es ≡ length ms
+pub as_many : (es : List Exchange) (ms : List Message) → sent_of es ≡ map text ms → length es ≡ length ms
 as_many es ms e = sym (sents es) ∙ ap length e ∙ texts ms
 
 -- ---- the state that is left
@@ -206,7 +206,7 @@ module _ (program : Program) (script : List ℕ) (budget : ℕ) (es : List Excha
   as_before (ends.FarFault exchange) k h = failed_so exchange k h
 
   -- the messages are paid for by ticks and commands
-  pub are_few : (end : End) (k : Kernel) (messages ticks : ℕ) → HasEnded program script budget es end k → messages ≡ k.exchanges * 2 → ticks ≡ k.world.ticks → AreFew program script budget es messages ticks
+  pub are_few : (end : End) (k : Kernel) (messages ticks : ℕ) → HasEnded program script budget es end k → messages ≤ 2 * k.exchanges → ticks ≡ k.world.ticks → AreFew program script budget es messages ticks
   unfolding split_run_over_bytes
   are_few end k messages ticks h count clock =
       let l : Kernel = kernel_in (run_over program script budget es).pending in

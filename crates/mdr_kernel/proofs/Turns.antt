@@ -24,7 +24,7 @@ abbrev pub AllAnswered : List Exchange → Type 0
 AllAnswered [] = Unit {0}
 AllAnswered (e ∷ es) = IsAnswered e × AllAnswered es
 
-answers_more : (es : List Exchange) (e : Exchange) → AllAnswered es → answers_of (es ++ e ∷ []) ≡ answers_of es ++ then_answers e.got []
+pub answers_more : (es : List Exchange) (e : Exchange) → AllAnswered es → answers_of (es ++ e ∷ []) ≡ answers_of es ++ then_answers e.got []
 answers_more [] e all = refl
 answers_more (x ∷ es) e all = of x.got all.0.0 all.0.1 (answers_more es e all.1)
   where
@@ -37,7 +37,7 @@ all_answered : (es : List Exchange) (e : Exchange) → AllAnswered es → IsAnsw
 all_answered [] e all one = (one, tt)
 all_answered (x ∷ es) e all one = (all.0, all_answered es e all.1 one)
 
-sent_more : (es : List Exchange) (e : Exchange) → sent_of (es ++ e ∷ []) ≡ sent_of es ++ e.sent ∷ []
+pub sent_more : (es : List Exchange) (e : Exchange) → sent_of (es ++ e ∷ []) ≡ sent_of es ++ e.sent ∷ []
 sent_more [] e = refl
 sent_more (x ∷ es) e = ap (λ (xs : List (List ℕ)). x.sent ∷ xs) (sent_more es e)
 

@@ -1,5 +1,5 @@
 -- What a kernel half holds.
-use Rattle.std.specs.Prelude.{◌≡◌, ℕ, ◌+◌, ◌*◌, ◌≤◌, Bool, List, [], ◌∷◌, ◌++◌, Some}
+use Rattle.std.specs.Prelude.{◌≡◌, ℕ, ◌+◌, ◌*◌, ◌≤◌, Bool, List, [], ◌∷◌, ◌++◌, length, Some}
 use Rattle.mdr_core.specs.declared.program.Program.{Program}
 use Rattle.mdr_outside.specs.declared.far.Exchange.{Exchange}
 use Rattle.mdr_core.specs.declared.refusal.RefuseKind.{RefuseKind}
@@ -21,10 +21,10 @@ pub record HalfState : Type 0 where
   pub memory : Memory
   pub messages : ℕ
 
--- what a run leaves: the memory as it is then, and two messages for each exchange
+-- what a run leaves: the memory as it is then, and the count of the messages sent and got
 pub record IsLeft (program : Program) (script : List ℕ) (budget : ℕ) (es : List Exchange) (h : HalfState) : Type 0 where
   pub cells : h.memory ≡ (kernel_in (run_over program script budget es).pending).world.memory
-  pub count : h.messages ≡ 2 * (kernel_in (run_over program script budget es).pending).exchanges
+  pub count : h.messages ≡ length es + length (answers_of es)
 
 -- ---- a run that the far side ended
 

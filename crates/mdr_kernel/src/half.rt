@@ -1,19 +1,20 @@
 // The kernel half.
 
-ghost use Rattle.std.specs.Prelude.{◌≡◌, ◌≤◌, [], true, false, IfOk};
+ghost use Rattle.std.specs.Prelude.{◌≡◌, ◌≤◌, [], ◌++◌, true, false, IfOk, OnErr};
 ghost use Rattle.mdr_outside.specs.Count.{Rose};
 ghost use Rattle.mdr_outside.specs.Far.{IsLoaded};
 ghost use Rattle.mdr_model.specs.Memory.{first_memory};
 ghost use Rattle.mdr_model.specs.Sound.{IsSound};
 ghost use Rattle.mdr_model.specs.Kernel.{first_kernel};
 ghost use Rattle.mdr_kernel.specs.States.{kernel_of};
-ghost use Rattle.mdr_kernel.specs.Runs.{IsRun, IsFarFault};
+ghost use Rattle.mdr_kernel.specs.Runs.{sent_of, IsRun, IsFarFault};
 ghost use Rattle.mdr_kernel.specs.HalfState.{IsLeft, IsAsBefore, AreFew};
+ghost use Rattle.mdr_kernel.specs.Calls.{sends, IsStopped};
 
 use crate::outcome::outcome_of;
 use crate::run::run_script;
 use crate::state::{Kernel, World};
-use mdr_copy::first_memory;
+use mdr_copy::{copied, first_memory};
 use mdr_core::{Items, OutOfMemory, Program};
 use mdr_model::{MemoryBlock, Outcome};
 use mdr_outside::Far;
@@ -24,7 +25,7 @@ use std::marker::Model;
 #[derive(Debug, Drop)]
 pub struct KernelHalf<'a> {
     program: &'a Program,
-    first: Option<Vec<MemoryBlock>>,
+    is_fresh: bool,
     memory: Vec<MemoryBlock>,
     messages: u64,
 }
@@ -77,19 +78,20 @@ impl<'a> KernelHalf<'a> {
     /// A half that had no run. The memory has the globals.
     pub fn new(alloc: Global, program: &'a Program) -> Result<KernelHalf<'a>, OutOfMemory>
         requires { IsSound program.now }
-        ensures { IfOk result (λ h. h ≡ record { program = program.now; is_fresh = true; memory = []; messages = 0 }) }
+        ensures { IfOk result (λ h. h ≡ record { program = program.now; is_fresh = true; memory = first_memory program.now; messages = 0 }) }
     {
         let first = first_memory(alloc, program)?;
         Ok(KernelHalf {
             program,
-            first: Some(first.into_vec()),
-            memory: Vec::new(alloc),
+            is_fresh: true,
+            memory: first.into_vec(),
             messages: 0,
         })
     }
 
     /// Runs a script under a budget of ticks over a far side that was loaded and got no message since. After
-    /// this the half takes no further run.
+    /// this the half takes no further run. Where memory was wanting it holds what it held where the run last
+    /// waited for an answer, or before the run where it never did.
     pub fn run<F: Far>(
         &mut self,
         alloc: Global,
@@ -104,18 +106,27 @@ impl<'a> KernelHalf<'a> {
         ensures left { IfOk result (λ _. IsLeft self.old.program script.now ticks (F.exchanges far.new) self.new) }
         ensures before { IfOk result (λ o. IsAsBefore self.old.program script.now ticks (F.exchanges far.new) self.new.memory o.end) }
         ensures few { IfOk result (λ o. AreFew self.old.program script.now ticks (F.exchanges far.new) self.new.messages o.ticks) }
+        ensures called { IfOk result (λ _. F.calls far.new ≡ F.calls far.old ++ sends (sent_of (F.exchanges far.new))) }
+        ensures stopped { OnErr result (IsStopped self.old.program script.now ticks (F.calls far.old) (F.calls far.new) (F.exchanges far.new) self.new) }
         ensures fault { IfOk result (λ o. IsFarFault o.end → Rose (F.faults far.old) (F.faults far.new)) }
         ensures loaded { IfOk result (λ _. F.loaded far.new ≡ F.loaded far.old) }
         ensures program { self.new.program ≡ self.old.program }
         ensures done { self.new.is_fresh ≡ false }
         ensures faults_later { F.faults far.old ≤ F.faults far.new }
     {
-        let Some(memory) = self.first.take() else {
-            return Err(OutOfMemory);
-        };
+        self.is_fresh = false;
+        let memory = copied(alloc, self.memory.as_slice())?;
         let first = first_kernel(alloc, self.program, ticks, memory)?;
-        let (end, kernel) = run_script(alloc, self.program, script, ticks, first, far)?;
-        let messages = kernel.exchanges.checked_mul(2).ok_or(OutOfMemory)?;
+        let (end, kernel) = run_script(
+            alloc,
+            self.program,
+            script,
+            ticks,
+            first,
+            far,
+            &mut self.memory,
+            &mut self.messages,
+        )?;
         let Kernel { world, .. } = kernel;
         let outcome = outcome_of(
             alloc,
@@ -125,18 +136,17 @@ impl<'a> KernelHalf<'a> {
             world.memory.as_slice(),
         )?;
         self.memory = world.memory;
-        self.messages = messages;
         Ok(outcome)
     }
 
-    /// How many messages the run had: two for each exchange.
+    /// How many messages the run sent and got.
     pub fn messages(&self) -> u64
         ensures { result ≡ self.now.messages }
     {
         self.messages
     }
 
-    /// Lends the memory's blocks as they are after the run.
+    /// Lends the memory's blocks as they are before or after the run.
     pub fn cells(&self) -> &[MemoryBlock]
         ensures { result.now ≡ self.now.memory }
     {

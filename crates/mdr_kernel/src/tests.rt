@@ -1,7 +1,6 @@
 // Runs of one driver over far sides that give the answers that they were told to give.
 
 mod driver;
-mod hostile;
 mod runs;
 
 ghost use Rattle.std.specs.Prelude.{◌≡◌, []};

@@ -1,4 +1,5 @@
 pub mod Count
+pub mod Calls
 pub mod Far
 pub mod LyingFar
 pub mod LyingFarView

@@ -10,4 +10,5 @@ far_state s = record {
   loaded = s.loaded;
   exchanges = s.exchanges;
   faults = s.faults;
+  calls = s.calls;
 }

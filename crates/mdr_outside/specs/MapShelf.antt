@@ -3,6 +3,7 @@ use Rattle.std.specs.Prelude.{ℕ, ◌≤◌, Bool, true, not, ◌&&◌, List, [
 use Rattle.std.specs.List.{list_any}
 use Rattle.std.specs.Str.{bytes_eq}
 use Rattle.std.specs.String.{string_bytes}
+use Rattle.mdr_outside.specs.Calls.{ShelfCall, Read, Written, and_then}
 use Rattle.mdr_outside.specs.Count.{raised, is_failing}
 use Rattle.mdr_outside.specs.declared.shelf.ReadAnswer.{ReadAnswer}
 use Rattle.mdr_outside.specs.declared.shelf.ReadAnswer.TheVariants as reads
@@ -17,6 +18,7 @@ pub record ShelfState : Type 0 where
   pub absent : ℕ
   pub long : ℕ
   pub unwritten : ℕ
+  pub history : List ShelfCall
 
 -- the bytes of a file's name
 abbrev pub key_of : {A : Type 0} → String A × Vec ℕ A → List ℕ
@@ -41,7 +43,7 @@ file_in files name = option_map (λ file. file.1) (find (λ file. bytes_eq file.
 -- no call was made
 abbrev pub new_shelf : List (List ℕ × List ℕ) → List ℕ → ShelfState
 new_shelf files fails =
-    record { files = files; fails = fails; calls = 0; faults = 0; absent = 0; long = 0; unwritten = 0 }
+    record { files = files; fails = fails; calls = 0; faults = 0; absent = 0; long = 0; unwritten = 0; history = [] }
 
 -- whether the next call fails
 abbrev pub is_next_failing : ShelfState → Bool
@@ -67,16 +69,23 @@ read_answer s name limit = if is_next_failing s then reads.Failed else found (fi
 abbrev pub write_answer : ShelfState → WriteAnswer
 write_answer s = if is_next_failing s then writes.Failed else writes.Ok
 
--- the shelf after a read: the call is counted, and its answer. Where memory was wanting all is as before
-abbrev pub after_read : ShelfState → ReadAnswer → ShelfState
-after_read s (reads.Ok bytes) = record s { calls = raised s.calls }
-after_read s reads.Missing = record s { calls = raised s.calls; absent = raised s.absent }
-after_read s reads.TooLarge = record s { calls = raised s.calls; long = raised s.long }
-after_read s reads.Failed = record s { calls = raised s.calls; faults = raised s.faults }
-after_read s reads.OutOfMemory = s
+-- the shelf after a read: the call is counted, and its answer. Where memory was wanting no count changes
+abbrev pub count_read : ShelfState → ReadAnswer → ShelfState
+count_read s (reads.Ok bytes) = record s { calls = raised s.calls }
+count_read s reads.Missing = record s { calls = raised s.calls; absent = raised s.absent }
+count_read s reads.TooLarge = record s { calls = raised s.calls; long = raised s.long }
+count_read s reads.Failed = record s { calls = raised s.calls; faults = raised s.faults }
+count_read s reads.OutOfMemory = s
+
+abbrev pub after_read : ShelfState → List ℕ → ℕ → ReadAnswer → ShelfState
+after_read s name limit answer = record (count_read s answer) { history = and_then s.history (Read name limit answer) }
 
 -- the shelf after a write which left these files
-abbrev pub after_write : ShelfState → List (List ℕ × List ℕ) → WriteAnswer → ShelfState
-after_write s files writes.Ok = record s { files = files; calls = raised s.calls }
-after_write s files writes.Failed = record s { calls = raised s.calls; unwritten = raised s.unwritten }
-after_write s files writes.OutOfMemory = s
+abbrev pub count_write : ShelfState → List (List ℕ × List ℕ) → WriteAnswer → ShelfState
+count_write s files writes.Ok = record s { files = files; calls = raised s.calls }
+count_write s files writes.Failed = record s { calls = raised s.calls; unwritten = raised s.unwritten }
+count_write s files writes.OutOfMemory = s
+
+abbrev pub after_write : ShelfState → List (List ℕ × List ℕ) → List ℕ → List ℕ → WriteAnswer → ShelfState
+after_write s files name bytes answer =
+    record (count_write s files answer) { history = and_then s.history (Written name bytes answer) }

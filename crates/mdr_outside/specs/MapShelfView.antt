@@ -11,4 +11,5 @@ shelf_state s = record {
   absent = s.absent;
   long = s.long;
   unwritten = s.unwritten;
+  history = s.history;
 }

@@ -1,5 +1,7 @@
 -- What a shelf's answers say of its files, which are a function of the name.
 use Rattle.std.specs.Prelude.{ℕ, ◌≡◌, ◌≢◌, ◌≤◌, ◌<◌, List, length, Option, None, Some, IfSome, IsSomeAnd}
+use Rattle.mdr_outside.specs.Count.{raised}
+use Rattle.mdr_outside.specs.declared.counts.Counts.{Counts}
 use Rattle.mdr_outside.specs.declared.shelf.ReadAnswer.{ReadAnswer}
 use Rattle.mdr_outside.specs.declared.shelf.ReadAnswer.TheVariants as reads
 use Rattle.mdr_outside.specs.declared.shelf.WriteAnswer.{WriteAnswer}
@@ -40,3 +42,26 @@ abbrev pub WritesTo : Option (List ℕ → Option (List ℕ)) → Option (List �
 WritesTo old new name bytes writes.Ok = IsWritten old new name bytes
 WritesTo old new name bytes writes.Failed = new ≡ old
 WritesTo old new name bytes writes.OutOfMemory = new ≡ old
+
+-- ---- counts
+
+-- every count is what it was, or greater
+pub record NoneFell (old new : Counts) : Type 0 where
+  pub faults : old.faults ≤ new.faults
+  pub absent : old.absent ≤ new.absent
+  pub long : old.long ≤ new.long
+  pub unwritten : old.unwritten ≤ new.unwritten
+
+-- the count of a read's answer is raised, and no other changes
+abbrev pub counts_after_read : Counts → ReadAnswer → Counts
+counts_after_read c (reads.Ok bytes) = c
+counts_after_read c reads.Missing = record c { absent = raised c.absent }
+counts_after_read c reads.TooLarge = record c { long = raised c.long }
+counts_after_read c reads.Failed = record c { faults = raised c.faults }
+counts_after_read c reads.OutOfMemory = c
+
+-- likewise for a write
+abbrev pub counts_after_write : Counts → WriteAnswer → Counts
+counts_after_write c writes.Ok = c
+counts_after_write c writes.Failed = record c { unwritten = raised c.unwritten }
+counts_after_write c writes.OutOfMemory = c

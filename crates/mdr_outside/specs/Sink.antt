@@ -1,6 +1,7 @@
 -- What a sink's answers say of the bytes that it holds.
 use Rattle.std.specs.Prelude.{ℕ, ◌≡◌, ◌≤◌, ◌<◌, List, ◌++◌, length, take, Option, option_map}
 use Rattle.std.specs.Io.KnownBytes.{Keeps, Appends as KnownAppends}
+use Rattle.mdr_outside.specs.Count.{raised}
 use Rattle.mdr_outside.specs.declared.sink.SinkAnswer.{SinkAnswer}
 use Rattle.mdr_outside.specs.declared.sink.SinkAnswer.TheVariants as sinks
 
@@ -19,3 +20,8 @@ Takes old new piece sinks.Failed = new ≡ old
 abbrev pub HandsOn : Option (List ℕ) → Option (List ℕ) → List ℕ → SinkAnswer → Type 0
 HandsOn old new piece (sinks.Ok n) = KnownAppends old new (take n piece)
 HandsOn old new piece sinks.Failed = Keeps old new
+
+-- the count of faults after an answer
+abbrev pub count_after : ℕ → SinkAnswer → ℕ
+count_after faults (sinks.Ok n) = faults
+count_after faults sinks.Failed = raised faults

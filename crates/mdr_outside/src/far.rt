@@ -43,9 +43,11 @@ pub struct Exchange {
 /// The far side. It holds the last load, `None` before the first and after one that wanted memory, and the
 /// exchanges since then.
 ///
-/// `faults` says how often an answer failed. At the greatest `u64` it stands still.
+/// `faults` says how often an answer failed. At the greatest `u64` it stands still. `calls` are all loads and
+/// messages so far, in their order, whatever was answered.
 pub trait Far {
     ghost use Rattle.std.specs.Prelude.{◌≡◌, ◌≤◌, ℕ, List, [], Option};
+    ghost use Rattle.mdr_outside.specs.Calls.{FarCall, Loads, Sends, and_then};
     ghost use Rattle.mdr_outside.specs.Count.{Rose};
     ghost use Rattle.mdr_outside.specs.Far.{LoadsAs, IsLoaded, Exchanges};
     ghost use Rattle.mdr_outside.specs.declared.far.LoadAnswer.{LoadAnswer};
@@ -59,10 +61,13 @@ pub trait Far {
 
     ghost faults: { Self → ℕ };
 
+    ghost calls: { Self → List FarCall };
+
     /// Loads the text of the user half and the text of the plan. A new list of exchanges begins.
     fn load(&mut self, alloc: Global, user: &[u8], plan: &[u8]) -> LoadAnswer
         ensures loaded { LoadsAs user.now plan.now result (loaded self.new) }
         ensures empty { exchanges self.new ≡ [] }
+        ensures called { calls self.new ≡ and_then (calls self.old) (Loads user.now plan.now) }
         ensures failed { result ≡ LoadAnswer.Failed → Rose (faults self.old) (faults self.new) }
         ensures faults_later { faults self.old ≤ faults self.new };
 
@@ -70,6 +75,7 @@ pub trait Far {
     fn deliver(&mut self, alloc: Global, bytes: &[u8]) -> DeliverAnswer
         requires { IsLoaded (loaded self.old) }
         ensures exchanged { Exchanges (exchanges self.old) (exchanges self.new) bytes.now result }
+        ensures called { calls self.new ≡ and_then (calls self.old) (Sends bytes.now) }
         ensures loaded { loaded self.new ≡ loaded self.old }
         ensures failed { result ≡ DeliverAnswer.Failed → Rose (faults self.old) (faults self.new) }
         ensures faults_later { faults self.old ≤ faults self.new };

@@ -4,18 +4,22 @@
 
 mod calls;
 mod copied;
+mod counts;
 mod far;
+mod far_calls;
 mod folder_shelf;
 mod lying_far;
 mod map_shelf;
 mod out_sink;
 mod shelf;
+mod shelf_calls;
 mod sink;
 #[cfg(test)]
 mod tests;
 mod vec_sink;
 
 pub use far::{DeliverAnswer, Exchange, Far, LoadAnswer, Loaded};
+pub use far_calls::FarCalls;
 pub use folder_shelf::FolderShelf;
 pub use lying_far::LyingFar;
 pub use map_shelf::MapShelf;

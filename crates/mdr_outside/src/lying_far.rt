@@ -3,9 +3,11 @@
 ghost use Rattle.std.specs.Prelude.{◌≡◌, ◌≤◌, ◌⊎◌, ◌++◌, IfOk, OnOk, OnErr};
 ghost use Rattle.mdr_outside.specs.Far.{LoadsAs, loaded_with};
 ghost use Rattle.mdr_outside.specs.LyingFar.{new_far, reply_at, added, after_load, Gives};
+ghost use Rattle.mdr_outside.specs.Calls.{Loads, Sends, and_then};
 
 use crate::copied::copied;
 use crate::far::{DeliverAnswer, Exchange, Far, LoadAnswer, Loaded};
+use crate::far_calls::FarCalls;
 use mdr_core::Items;
 use std::alloc::{AllocError, Global};
 use std::marker::Model;
@@ -20,6 +22,7 @@ pub struct LyingFar {
     loaded: Option<Loaded>,
     exchanges: Items<Exchange>,
     faults: u64,
+    calls: FarCalls,
 }
 
 impl Model for LyingFar {
@@ -44,6 +47,7 @@ impl LyingFar {
             loaded: None,
             exchanges: Items::new(alloc),
             faults: 0,
+            calls: FarCalls::new(),
         }
     }
 
@@ -104,12 +108,15 @@ impl Far for LyingFar {
 
     ghost faults = { λ s. s.faults };
 
+    ghost calls = { λ s. s.calls };
+
     fn load(&mut self, alloc: Global, user: &[u8], plan: &[u8]) -> LoadAnswer
         ensures answers { (result ≡ LoadAnswer.OutOfMemory) ⊎ (result ≡ self.old.load) }
         ensures loaded { LoadsAs user.now plan.now result self.new.loaded }
-        ensures after { self.new ≡ after_load self.old self.new.loaded result }
+        ensures after { self.new ≡ after_load self.old self.new.loaded (Loads user.now plan.now) result }
         ensures faults_later { self.old.faults ≤ self.new.faults }
     {
+        self.calls = self.calls.and_load(user, plan);
         self.exchanges = Items::new(alloc);
         self.loaded = None;
         if self.load == LoadAnswer::OutOfMemory {
@@ -129,6 +136,7 @@ impl Far for LyingFar {
         ensures gives { Gives self.old self.new bytes.now result }
         ensures faults_later { self.old.faults ≤ self.new.faults }
     {
+        self.calls = self.calls.and_send(bytes);
         let Ok(reply) = self.next_reply(alloc) else {
             return DeliverAnswer::OutOfMemory;
         };

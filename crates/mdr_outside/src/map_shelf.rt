@@ -5,11 +5,12 @@ ghost use Rattle.std.specs.List.{list_any};
 ghost use Rattle.std.specs.Option.{option_copied};
 ghost use Rattle.std.specs.Str.{bytes_eq};
 ghost use Rattle.mdr_outside.specs.Shelf.{WritesTo, Puts};
-ghost use Rattle.mdr_outside.specs.MapShelf.{named, key_of, are_distinct, file_in, new_shelf, read_answer, write_answer, after_read, after_write, NoCountFell};
+ghost use Rattle.mdr_outside.specs.MapShelf.{named, key_of, are_distinct, file_in, new_shelf, read_answer, write_answer, count_read, count_write, after_read, after_write, NoCountFell};
 
 use crate::calls::Calls;
 use crate::copied::copied;
 use crate::shelf::{ReadAnswer, Shelf, WriteAnswer};
+use crate::shelf_calls::ShelfCalls;
 use std::alloc::{AllocError, Global};
 use std::marker::Model;
 
@@ -22,6 +23,7 @@ pub struct MapShelf {
     absent: u64,
     long: u64,
     unwritten: u64,
+    history: ShelfCalls,
 }
 
 impl Model for MapShelf {
@@ -48,6 +50,7 @@ impl MapShelf {
             absent: 0,
             long: 0,
             unwritten: 0,
+            history: ShelfCalls::new(),
         }
     }
 
@@ -90,7 +93,7 @@ impl MapShelf {
 
     // Counts a read and its answer.
     fn count_read(&mut self, answer: &ReadAnswer)
-        ensures after { self.new ≡ after_read self.old answer.now }
+        ensures after { self.new ≡ count_read self.old answer.now }
         ensures later { NoCountFell self.old self.new }
     {
         match answer {
@@ -101,6 +104,27 @@ impl MapShelf {
             ReadAnswer::OutOfMemory => return,
         }
         self.calls.count();
+    }
+
+    // Writes, and counts the write and its answer.
+    fn put(&mut self, alloc: Global, name: &str, bytes: &[u8]) -> WriteAnswer
+        ensures answers { (result ≡ WriteAnswer.OutOfMemory) ⊎ (result ≡ write_answer self.old) }
+        ensures told { WritesTo (Some (file_in self.old.files)) (Some (file_in self.new.files)) name.now bytes.now result }
+        ensures after { self.new ≡ count_write self.old self.new.files result }
+        ensures later { NoCountFell self.old self.new }
+    {
+        if self.calls.is_next_failing() {
+            self.calls.count();
+            self.unwritten = self.unwritten.saturating_add(1);
+            return WriteAnswer::Failed;
+        }
+        match put(alloc, &mut self.files, name, bytes) {
+            Ok(()) => {
+                self.calls.count();
+                WriteAnswer::Ok
+            }
+            Err(_) => WriteAnswer::OutOfMemory,
+        }
     }
 }
 
@@ -154,33 +178,27 @@ impl Shelf for MapShelf {
 
     ghost unwritten = { λ s. s.unwritten };
 
+    ghost calls = { λ s. s.history };
+
     fn read(&mut self, alloc: Global, name: &str, limit: u64) -> ReadAnswer
         ensures answers { (result ≡ ReadAnswer.OutOfMemory) ⊎ (result ≡ read_answer self.old name.now limit) }
-        ensures after { self.new ≡ after_read self.old result }
+        ensures after { self.new ≡ after_read self.old name.now limit result }
         ensures later { NoCountFell self.old self.new }
     {
         let answer = self.answer(alloc, name, limit);
         self.count_read(&answer);
+        self.history = self.history.and_read(name, limit, &answer);
         answer
     }
 
     fn write(&mut self, alloc: Global, name: &str, bytes: &[u8]) -> WriteAnswer
         ensures answers { (result ≡ WriteAnswer.OutOfMemory) ⊎ (result ≡ write_answer self.old) }
         ensures told { WritesTo (Some (file_in self.old.files)) (Some (file_in self.new.files)) name.now bytes.now result }
-        ensures after { self.new ≡ after_write self.old self.new.files result }
+        ensures after { self.new ≡ after_write self.old self.new.files name.now bytes.now result }
         ensures later { NoCountFell self.old self.new }
     {
-        if self.calls.is_next_failing() {
-            self.calls.count();
-            self.unwritten = self.unwritten.saturating_add(1);
-            return WriteAnswer::Failed;
-        }
-        match put(alloc, &mut self.files, name, bytes) {
-            Ok(()) => {
-                self.calls.count();
-                WriteAnswer::Ok
-            }
-            Err(_) => WriteAnswer::OutOfMemory,
-        }
+        let answer = self.put(alloc, name, bytes);
+        self.history = self.history.and_written(name, bytes, answer);
+        answer
     }
 }

@@ -2,7 +2,7 @@
 
 ghost use Rattle.std.specs.Prelude.{◌≡◌, ◌≤◌, None};
 ghost use Rattle.mdr_outside.specs.Count.{Rose};
-ghost use Rattle.mdr_outside.specs.Sink.{Takes, HandsOn};
+ghost use Rattle.mdr_outside.specs.Sink.{Takes, HandsOn, count_after};
 
 use crate::sink::{Sink, SinkAnswer};
 use std::io::Write;
@@ -32,6 +32,7 @@ impl<W: Write> Sink for OutSink<W> {
     fn write(&mut self, piece: &[u8]) -> SinkAnswer
         ensures taken { Takes None None piece.now result }
         ensures failed { result ≡ SinkAnswer.Failed → Rose self.old.faults self.new.faults }
+        ensures counted { self.new.faults ≡ count_after self.old.faults result }
         ensures faults_later { self.old.faults ≤ self.new.faults }
 
         // A writer that knows its bytes gets those that were taken.

@@ -31,8 +31,10 @@ pub enum WriteAnswer {
 ///
 /// Each count says how often an answer came: `faults` that a read failed, `absent` that a file was missing,
 /// `long` that one was too large, `unwritten` that a write failed. At the greatest `u64` a count stands still.
+/// `calls` are all calls so far with their answers, in their order.
 pub trait Shelf {
     ghost use Rattle.std.specs.Prelude.{◌≡◌, ◌≤◌, ℕ, List, Option};
+    ghost use Rattle.mdr_outside.specs.Calls.{ShelfCall, Read, Written, and_then};
     ghost use Rattle.mdr_outside.specs.Count.{Rose};
     ghost use Rattle.mdr_outside.specs.Shelf.{ReadsFrom, IsShort, WritesTo};
     ghost use Rattle.mdr_outside.specs.declared.shelf.ReadAnswer.{ReadAnswer};
@@ -48,11 +50,14 @@ pub trait Shelf {
 
     ghost unwritten: { Self → ℕ };
 
+    ghost calls: { Self → List ShelfCall };
+
     /// Reads a file of at most `limit` bytes.
     fn read(&mut self, alloc: Global, name: &str, limit: u64) -> ReadAnswer
         ensures told { ReadsFrom (files self.old) name.now limit result }
         ensures short { IsShort limit result }
         ensures kept { files self.new ≡ files self.old }
+        ensures called { calls self.new ≡ and_then (calls self.old) (Read name.now limit result) }
 
         // Each answer but `Ok` raises its count, and no count falls.
         ensures failed { result ≡ ReadAnswer.Failed → Rose (faults self.old) (faults self.new) }
@@ -66,6 +71,7 @@ pub trait Shelf {
     /// Makes the bytes the file of that name, in place of one that was there.
     fn write(&mut self, alloc: Global, name: &str, bytes: &[u8]) -> WriteAnswer
         ensures told { WritesTo (files self.old) (files self.new) name.now bytes.now result }
+        ensures called { calls self.new ≡ and_then (calls self.old) (Written name.now bytes.now result) }
 
         // `Failed` raises its count, and no other count changes.
         ensures failed { result ≡ WriteAnswer.Failed → Rose (unwritten self.old) (unwritten self.new) }

@@ -35,7 +35,7 @@ pub text_of : (source : List ℕ) (program : Program) → HasProgram source prog
 text_of source program h = ap program_of_tokens h.read ∙ h.view
 
 -- what an honest far side holds of a program's source
-honest_load : (source : List ℕ) (program : Program) (loaded : Option Loaded) (answer : LoadAnswer) (es : List Exchange) → HasProgram source program → loaded ≡ Some (loaded_with source [] answer)
+pub honest_load : (source : List ℕ) (program : Program) (loaded : Option Loaded) (answer : LoadAnswer) (es : List Exchange) → HasProgram source program → loaded ≡ Some (loaded_with source [] answer)
     → IsHonest loaded es → IsHonestLoad (Some (program_view program)) answer × IsServed (program_view program) es
 honest_load source program loaded answer es h is honest =
     let since : IsHonestSince (loaded_with source [] answer) es = subst (λ (l : Option Loaded). IsHonest l es) is honest in (
@@ -53,7 +53,7 @@ pub nothing_end : (program : Program) (end : End) → (nothing_ran program end).
 unfolding outcome_of
 nothing_end program end = refl
 
-began_means : (program : Program) (source calls : List ℕ) (es : List Exchange) (s : Status) (text : List ℕ) → HasProgram source program → IsBound program calls → IsServed (program_view program) es
+pub began_means : (program : Program) (source calls : List ℕ) (es : List Exchange) (s : Status) (text : List ℕ) → HasProgram source program → IsBound program calls → IsServed (program_view program) es
     → Began program calls es s text → (s ≡ status.FarFault) ⊎ IsMeaning program calls es s text
 began_means program source calls es s text h bound served b =
     of (run_is_meaning program served.program calls default_ticks es b.outcome h.sound (is_sound (whats h.tokens) (program_view program) h.view) (sym served.text) b.small b.few bound served.replies b.run_is)
@@ -89,83 +89,12 @@ IsEarly status.OutOfMemory = Unit {0}
 IsEarly status.Missing = Unit {0}
 IsEarly status.TooLarge = Unit {0}
 
--- a run of what the words name
-pub record RanBy (words : List (List ℕ)) (files : Files) (loaded : Option Loaded) (es : List Exchange) (s : Status) (text : List ℕ) : Type 0 where
-  pub source : List ℕ
-  pub program : Program
-  pub calls : List ℕ
-  pub accepted : IsAccepted words files source program calls
-  pub ran : Ran program source calls loaded es s text
-
-unread_early : (files : Files) (name : List ℕ) (limit : ℕ) (s : Status) (text : List ℕ) → Unread files name limit s text → IsEarly s
-unread_early files name limit s text (Unread.missing r e t) = subst IsEarly (sym e) tt
-unread_early files name limit s text (Unread.long r e t) = subst IsEarly (sym e) tt
-unread_early files name limit s text (Unread.failed e t) = subst IsEarly (sym e) tt
-
-source_early : (source : List ℕ) (s : Status) (text : List ℕ) → NoProgram source s text → IsEarly s
+pub source_early : (source : List ℕ) (s : Status) (text : List ℕ) → NoProgram source s text → IsEarly s
 source_early source s text (NoProgram.fault f r e t) = subst IsEarly (sym e) tt
 source_early source s text (NoProgram.unbuilt ts r v e t) = subst IsEarly (sym e) tt
 
-module _ (words : List (List ℕ)) (files : Files) (loaded : Option Loaded) (es : List Exchange) (s : Status) (text : List ℕ) where
-  abbrev Cases : Type 0
-  Cases = IsEarly s ⊎ RanBy words files loaded es s text
-
-  scripted_cases : (name script_name source : List ℕ) (program : Program) → command_of words ≡ Some (name, script_name) → ReadsFrom files name longest_source (reads.Ok source) → HasProgram source program
-      → Scripted files script_name program source loaded es s text → Cases
-  scripted_cases name script_name source program e r h (Scripted.unread u) = inl (unread_early files script_name longest_script s text u)
-  scripted_cases name script_name source program e r h (Scripted.read script r' (Called.refused n)) = inl (subst IsEarly (sym n.status_is) tt)
-  scripted_cases name script_name source program e r h (Scripted.read script r' (Called.accepted calls h' ran')) = inr (record {
-    source = source;
-    program = program;
-    calls = calls;
-    accepted = record { source_name = name; script_name = script_name; command = e; source_read = r; compiled = h; script = script; script_read = r'; called = h' };
-    ran = ran';
-  })
-
-  sourced_cases : (name script_name : List ℕ) → command_of words ≡ Some (name, script_name) → Sourced files name script_name loaded es s text → Cases
-  sourced_cases name script_name e (Sourced.unread u) = inl (unread_early files name longest_source s text u)
-  sourced_cases name script_name e (Sourced.read source r (Compiled.refused n)) = inl (source_early source s text n)
-  sourced_cases name script_name e (Sourced.read source r (Compiled.accepted program h c)) = scripted_cases name script_name source program e r h c
-
-  pub answered_cases : Answered words files loaded es s text → Cases
-  answered_cases (Answered.usage e is t) = inl (subst IsEarly (sym is) tt)
-  answered_cases (Answered.command name script_name e c) = sourced_cases name script_name e c
-
--- ---- what is printed
-
-own_never : (end : End) → IsOwn end → status_of end ≡ status.Marshal → ⊥
+pub own_never : (end : End) → IsOwn end → status_of end ≡ status.Marshal → ⊥
 own_never ends.Ok own e = Prim.cc
 own_never (ends.Stop kind at) own e = Prim.cc
 own_never (ends.Refused exchange cause number) own e = own
 own_never (ends.FarFault exchange) own e = own
-
-module _ (words : List (List ℕ)) (files : Files) (loaded : Option Loaded) (es : List Exchange) (old new : Option (List ℕ)) (s : Status) where
-  early_means : IsEarly s → Means words files es old new s
-  early_means early = record { never = λ e. subst IsEarly e early; means = of }
-    where
-      of : (s ≡ status.Done) ⊎ (s ≡ status.Stopped) → MeansBy words files es old new s
-      of (inl e) = absurd (subst IsEarly e early)
-      of (inr e) = absurd (subst IsEarly e early)
-
-  fault_means : s ≡ status.FarFault → Means words files es old new s
-  fault_means is = record { never = λ e. let no : status.FarFault ≡ status.Marshal = sym is ∙ e in Prim.cc; means = of }
-    where
-      of : (s ≡ status.Done) ⊎ (s ≡ status.Stopped) → MeansBy words files es old new s
-      of (inl e) = let no : status.FarFault ≡ status.Done = sym is ∙ e in absurd (Prim.cc)
-      of (inr e) = let no : status.FarFault ≡ status.Stopped = sym is ∙ e in absurd (Prim.cc)
-
-  pub prints_mean : Prints words files loaded es old new s → IsHonest loaded es → Means words files es old new s
-  prints_mean (Prints.cut due text n e a within adds) honest = early_means (subst IsEarly (sym e) tt)
-  prints_mean (Prints.nothing e same) honest = early_means (subst IsEarly (sym e) tt)
-  prints_mean (Prints.whole text a adds) honest = of (answered_cases words files loaded es s text a)
-    where
-      ran_by : (r : RanBy words files loaded es s text) → (s ≡ status.FarFault) ⊎ IsMeaning r.program r.calls es s text → Means words files es old new s
-      ran_by r (inl e) = fault_means e
-      ran_by r (inr m) = record {
-        never = λ e. own_never (meant r.program r.calls).end m.own (sym m.reported.status_is ∙ e);
-        means = λ e. record { source = r.source; program = r.program; calls = r.calls; accepted = r.accepted; text = text; printed = adds; meaning = m };
-      }
-
-      of : IsEarly s ⊎ RanBy words files loaded es s text → Means words files es old new s
-      of (inl early) = early_means early
-      of (inr r) = ran_by r (ran_means r.program r.source r.calls loaded es s text r.accepted.compiled r.accepted.called.bound honest r.ran)

@@ -1,7 +1,6 @@
 pub mod StageSteps
 pub mod Bound
 pub mod Programs
-pub mod BegunCalls
 pub mod Meanings
 pub mod Headline
 pub mod SameScripts
@@ -10,3 +9,4 @@ pub mod Comes
 pub mod Exact
 pub mod Pieces
 pub mod SmallNumbers
+pub mod DoneLaws

@@ -22,7 +22,7 @@ use Rattle.mdr_kernel.specs.Runs.{sent_of, then_answers, answers_of, run_over, f
 use Rattle.mdr_user.specs.Honest.{Honest}
 use Rattle.mdr_user.proofs.SameView.{same_user_reply}
 use Rattle.mdr_top.specs.Meanings.{IsMeant}
-use Rattle.mdr_top.proofs.BegunCalls.{calls_in, IsTold, IsTotal, watched_told, total_of}
+use Rattle.mdr_kernel.proofs.BegunCalls.{calls_in, IsTold, IsTotal, watched_told, total_of}
 
 -- ---- honest exchanges
 

@@ -1,12 +1,16 @@
 -- What is printed over an honest far side, and where it is.
-use Rattle.std.specs.Prelude.{◌≡◌, ◌≢◌, ℕ, ◌+◌, ◌*◌, ◌≤◌, ◌⊎◌, List, length, Option, Some, IsSomeAnd}
+use Rattle.std.specs.Prelude.{◌≡◌, ◌≢◌, ℕ, ◌+◌, ◌*◌, ◌≤◌, ◌⊎◌, List, [], length, Option, Some, IsSomeAnd}
 use Rattle.mdr_core.specs.declared.program.Program.{Program}
 use Rattle.mdr_model.specs.declared.outcome.Outcome.{Outcome}
 use Rattle.mdr_model.specs.Watched.{watched}
 use Rattle.mdr_model.specs.Outcome.{outcome_of}
 use Rattle.mdr_model.specs.Law.{IsOwn}
 use Rattle.mdr_outside.specs.declared.shelf.ReadAnswer.TheVariants as reads
+use Rattle.mdr_outside.specs.declared.far.LoadAnswer.TheVariants as loads
+use Rattle.mdr_outside.specs.declared.far.Loaded.{Loaded}
 use Rattle.mdr_outside.specs.declared.far.Exchange.{Exchange}
+use Rattle.mdr_outside.specs.Calls.{ShelfCall, Read, and_then}
+use Rattle.mdr_outside.specs.Far.{loaded_with}
 use Rattle.mdr_outside.specs.Count.{Rose}
 use Rattle.mdr_outside.specs.Shelf.{ReadsFrom}
 use Rattle.mdr_top.specs.declared.status.Status.{Status}
@@ -35,20 +39,22 @@ pub record IsAccepted (words : List (List ℕ)) (files : Files) (source : List �
   pub script_read : ReadsFrom files script_name longest_script (reads.Ok script)
   pub called : HasScript program script calls
 
--- the words are accepted, and what was added to the output is the report of what they mean
-pub record MeansBy (words : List (List ℕ)) (files : Files) (es : List Exchange) (old new : Option (List ℕ)) (s : Status) : Type 0 where
+-- the words are accepted for what these very reads gave, the far side holds this source, and what was added to the output is the report of what they mean
+pub record MeansBy (words : List (List ℕ)) (files : Files) (shelf shelf' : List ShelfCall) (loaded : Option Loaded) (es : List Exchange) (old new : Option (List ℕ)) (s : Status) : Type 0 where
   pub source : List ℕ
   pub program : Program
   pub calls : List ℕ
   pub accepted : IsAccepted words files source program calls
+  pub read : shelf' ≡ and_then (and_then shelf (Read accepted.source_name longest_source (reads.Ok source))) (Read accepted.script_name longest_script (reads.Ok accepted.script))
+  pub held : loaded ≡ Some (loaded_with source [] loads.Ok)
   pub text : List ℕ
   pub printed : Adds old new text
   pub meaning : IsMeaning program calls es s text
 
 -- no reply is refused, and a run that ends by itself is what its source and its script mean
-pub record Means (words : List (List ℕ)) (files : Files) (es : List Exchange) (old new : Option (List ℕ)) (s : Status) : Type 0 where
+pub record Means (words : List (List ℕ)) (files : Files) (shelf shelf' : List ShelfCall) (loaded : Option Loaded) (es : List Exchange) (old new : Option (List ℕ)) (s : Status) : Type 0 where
   pub never : s ≢ status.Marshal
-  pub means : (s ≡ status.Done) ⊎ (s ≡ status.Stopped) → MeansBy words files es old new s
+  pub means : (s ≡ status.Done) ⊎ (s ≡ status.Stopped) → MeansBy words files shelf shelf' loaded es old new s
 
 -- ---- nothing outside fails
 

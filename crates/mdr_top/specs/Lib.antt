@@ -3,6 +3,7 @@ pub mod Words
 pub mod Sizes
 pub mod Lines
 pub mod Answers
+pub mod Done
 pub mod Stages
 pub mod Meanings
 pub mod Headline

@@ -1,9 +1,8 @@
 // Files that are read.
 
-ghost use Rattle.std.specs.Prelude.{◌≡◌, ◌≤◌, IfOk};
+ghost use Rattle.std.specs.Prelude.{◌≡◌, ◌≤◌, IfOk, OnErr};
 ghost use Rattle.mdr_outside.specs.declared.shelf.ReadAnswer.TheVariants as reads;
-ghost use Rattle.mdr_outside.specs.Shelf.{ReadsFrom};
-ghost use Rattle.mdr_top.specs.Answers.{Unread};
+ghost use Rattle.mdr_top.specs.Done.{IsRead, WasRead, UnreadBy};
 ghost use Rattle.mdr_top.specs.Stages.{StageIs, HasStageCause};
 
 use crate::due::{Due, Stage};
@@ -20,7 +19,8 @@ pub(crate) fn file<S: Shelf>(
     name: &str,
     limit: u64,
 ) -> Result<Stage<Items<u8>>, OutOfMemory>
-    ensures read { IfOk result (StageIs (λ bytes. ReadsFrom (S.files shelf.old) name.now limit (reads.Ok bytes)) (Unread (S.files shelf.old) name.now limit)) }
+    ensures read { IfOk result (StageIs (λ bytes. IsRead (S.files shelf.old) name.now limit (S.calls shelf.old) (S.calls shelf.new) (reads.Ok bytes)) (UnreadBy (S.files shelf.old) name.now limit (S.calls shelf.old) (S.calls shelf.new))) }
+    ensures part { OnErr result (WasRead (S.files shelf.old) name.now limit (S.calls shelf.old) (S.calls shelf.new)) }
     ensures kept { S.files shelf.new ≡ S.files shelf.old }
     ensures cause { IfOk result (HasStageCause (record { faults = S.faults shelf.old; absent = S.absent shelf.old; long = S.long shelf.old }) (record { faults = S.faults shelf.new; absent = S.absent shelf.new; long = S.long shelf.new })) }
     ensures faults_later { S.faults shelf.old ≤ S.faults shelf.new }

@@ -1,12 +1,15 @@
 // The run of a script over the far side.
 
-ghost use Rattle.std.specs.Prelude.{◌≡◌, [], IfOk};
+ghost use Rattle.std.specs.Prelude.{◌≡◌, ◌++◌, [], IfOk, OnErr};
 ghost use Rattle.mdr_outside.specs.Count.{Rose};
 ghost use Rattle.mdr_outside.specs.Far.{IsLoaded};
 ghost use Rattle.mdr_model.specs.Sound.{IsSound, IsBound};
 ghost use Rattle.mdr_top.specs.declared.status.Status.TheVariants as status;
 ghost use Rattle.mdr_top.specs.Statuses.{Counts, HasReadCause};
+ghost use Rattle.mdr_kernel.specs.Runs.{sent_of};
+ghost use Rattle.mdr_kernel.specs.Calls.{sends};
 ghost use Rattle.mdr_top.specs.Answers.{Ran, Reported, Began, nothing_ran, status_of};
+ghost use Rattle.mdr_top.specs.Done.{LoadedOnce, LoadedPart, SentPart};
 
 use crate::due::Due;
 use crate::sizes::sizes_fit;
@@ -61,6 +64,8 @@ fn began<F: Far>(
     requires loaded { IsLoaded (F.loaded far.old) }
     requires fresh { F.exchanges far.old ≡ [] }
     ensures began { IfOk result (λ due. Began program.now calls.now (F.exchanges far.new) due.status due.text.items) }
+    ensures called { IfOk result (λ _. F.calls far.new ≡ F.calls far.old ++ sends (sent_of (F.exchanges far.new))) }
+    ensures part { OnErr result (SentPart program.now calls.now (F.calls far.old) (F.calls far.new) (F.exchanges far.new)) }
     ensures loaded { IfOk result (λ _. F.loaded far.new ≡ F.loaded far.old) }
     ensures failed { IfOk result (λ due. due.status ≡ status.FarFault → Rose (F.faults far.old) (F.faults far.new)) }
 {
@@ -81,6 +86,8 @@ pub(crate) fn ran<F: Far>(
     requires program { IsSound program.now }
     requires calls { IsBound program.now calls.now }
     ensures ran { IfOk result (λ due. Ran program.now source.now calls.now (F.loaded far.new) (F.exchanges far.new) due.status due.text.items) }
+    ensures called { IfOk result (λ _. LoadedOnce source.now (F.calls far.old) (F.calls far.new) (sent_of (F.exchanges far.new))) }
+    ensures part { OnErr result (LoadedPart program.now source.now calls.now (F.calls far.old) (F.calls far.new) (F.exchanges far.new)) }
     ensures failed { IfOk result (λ due. due.status ≡ status.FarFault → Rose (F.faults far.old) (F.faults far.new)) }
     ensures read { IfOk result (λ due. (before after : Counts) → HasReadCause before after due.status) }
 {

@@ -8,6 +8,7 @@ ghost use Rattle.mdr_top.specs.declared.status.Status.TheVariants as status;
 ghost use Rattle.mdr_top.specs.Statuses.{HasReadCause};
 ghost use Rattle.mdr_user.specs.Honest.{IsHonest};
 ghost use Rattle.mdr_top.specs.Answers.{Prints, AddsPart};
+ghost use Rattle.mdr_top.specs.Done.{Does};
 ghost use Rattle.mdr_top.specs.Headline.{Rests, Means, Completes};
 ghost use Rattle.mdr_top.specs.Comes.{Comes, IsExact};
 ghost use Rattle.mdr_top.specs.Words.{command_of};
@@ -50,7 +51,7 @@ fn printed<S: Shelf, O: Sink, F: Far>(
     out: &mut O,
     far: &mut F,
 ) -> Status
-    ensures prints { Prints (map string_bytes words.now.items) (S.files shelf.old) (F.loaded far.new) (F.exchanges far.new) (O.written out.old) (O.written out.new) result }
+    ensures does { Does (map string_bytes words.now.items) (S.files shelf.old) (S.calls shelf.old) (S.calls shelf.new) (F.calls far.old) (F.calls far.new) (F.loaded far.new) (F.exchanges far.new) (O.written out.old) (O.written out.new) result }
     ensures read_cause { HasReadCause (record { faults = S.faults shelf.old; absent = S.absent shelf.old; long = S.long shelf.old }) (record { faults = S.faults shelf.new; absent = S.absent shelf.new; long = S.long shelf.new }) result }
     ensures far_cause { result ≡ status.FarFault → Rose (F.faults far.old) (F.faults far.new) }
     ensures write_cause { result ≡ status.WriteFault → Rose (O.faults out.old) (O.faults out.new) }
@@ -77,10 +78,11 @@ pub fn run<S: Shelf, O: Sink, F: Far>(
     far: &mut F,
 ) -> Status
     ensures prints { Prints (map string_bytes words.now.items) (S.files shelf.old) (F.loaded far.new) (F.exchanges far.new) (O.written out.old) (O.written out.new) result }
+    ensures does { Does (map string_bytes words.now.items) (S.files shelf.old) (S.calls shelf.old) (S.calls shelf.new) (F.calls far.old) (F.calls far.new) (F.loaded far.new) (F.exchanges far.new) (O.written out.old) (O.written out.new) result }
     ensures read_cause { HasReadCause (record { faults = S.faults shelf.old; absent = S.absent shelf.old; long = S.long shelf.old }) (record { faults = S.faults shelf.new; absent = S.absent shelf.new; long = S.long shelf.new }) result }
     ensures far_cause { result ≡ status.FarFault → Rose (F.faults far.old) (F.faults far.new) }
     ensures write_cause { result ≡ status.WriteFault → Rose (O.faults out.old) (O.faults out.new) }
-    ensures meaning { IsHonest (F.loaded far.new) (F.exchanges far.new) → Means (map string_bytes words.now.items) (S.files shelf.old) (F.exchanges far.new) (O.written out.old) (O.written out.new) result }
+    ensures meaning { IsHonest (F.loaded far.new) (F.exchanges far.new) → Means (map string_bytes words.now.items) (S.files shelf.old) (S.calls shelf.old) (S.calls shelf.new) (F.loaded far.new) (F.exchanges far.new) (O.written out.old) (O.written out.new) result }
     ensures comes { Comes (map string_bytes words.now.items) (S.files shelf.old) (F.loaded far.new) (F.exchanges far.new) result }
     ensures exact { IsExact (map string_bytes words.now.items) (S.files shelf.old) result }
     ensures usage { command_of (map string_bytes words.now.items) ≡ None → (result ≡ status.Usage) ⊎ ((result ≡ status.WriteFault) ⊎ (result ≡ status.OutOfMemory)) }

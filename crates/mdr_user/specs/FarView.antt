@@ -4,7 +4,7 @@ use Rattle.mdr_user.specs.Honest.{IsHonest}
 use Rattle.mdr_user.specs.Fars.{Held, exchanges_of, Serves}
 
 abbrev pub held : Inside → Held
-held s = record { loaded = s.loaded; exchanges = exchanges_of s.half }
+held s = record { loaded = s.loaded; exchanges = exchanges_of s.half; calls = s.calls }
 
 pub record IsKeptFar (s : Inside) : Type 0 where
   pub honest : IsHonest s.loaded (exchanges_of s.half)

@@ -1,5 +1,6 @@
 -- A far side in the same process.
 use Rattle.std.specs.Prelude.{◌≡◌, List, [], Option, Some, None}
+use Rattle.mdr_outside.specs.Calls.{FarCall}
 use Rattle.mdr_outside.specs.declared.far.Loaded.{Loaded}
 use Rattle.mdr_outside.specs.declared.far.Exchange.{Exchange}
 use Rattle.mdr_outside.specs.declared.far.LoadAnswer.TheVariants as loads
@@ -11,6 +12,7 @@ use Rattle.mdr_user.specs.Halves.{HalfState}
 pub record Held : Type 0 where
   pub loaded : Option Loaded
   pub exchanges : List Exchange
+  pub calls : List FarCall
 
 abbrev pub exchanges_of : Option HalfState → List Exchange
 exchanges_of None = []

@@ -10,11 +10,11 @@ ghost use Rattle.mdr_model.specs.Sound.{IsSound};
 ghost use Rattle.mdr_user.specs.declared.state.Work.TheVariants.{Nothing, AwaitsBack, AwaitsAnswer};
 ghost use Rattle.mdr_user.specs.States.{rest_at, user_of, delivered, IsSoundPosition, IsSoundState};
 
-use crate::copies::copied;
 use crate::opening::{may_call, may_return, opened_by, renewed, still_live};
 use crate::reply::replied;
 use crate::state::{Asked, Position, State, Work};
 use crate::walk::walk;
+use mdr_copy::copied;
 use mdr_core::{Items, OutOfMemory, Program};
 use mdr_model::{Cell, MemoryBlock, Message, New, Run, SetRun, Wire};
 use std::alloc::Global;

@@ -2,7 +2,6 @@
 #![tactic(auto)]
 
 mod arguments;
-mod copies;
 mod delivery;
 mod half;
 mod load_error;

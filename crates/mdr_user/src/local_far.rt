@@ -9,7 +9,7 @@ ghost use Rattle.mdr_user.specs.Fars.{Serves, exchanges_of};
 use crate::half::UserHalf;
 use crate::load_error::LoadError;
 use mdr_core::{Items, OutOfMemory};
-use mdr_outside::{DeliverAnswer, Exchange, Far, LoadAnswer, Loaded};
+use mdr_outside::{DeliverAnswer, Exchange, Far, FarCalls, LoadAnswer, Loaded};
 use std::alloc::Global;
 use std::marker::Model;
 
@@ -18,6 +18,7 @@ use std::marker::Model;
 pub struct LocalFar {
     loaded: Option<Loaded>,
     half: Option<UserHalf>,
+    calls: FarCalls,
 }
 
 impl Model for LocalFar {
@@ -35,11 +36,12 @@ impl Model for LocalFar {
 impl LocalFar {
     /// Nothing is loaded yet. It takes no memory.
     pub fn new() -> Self
-        ensures { result ≡ record { loaded = None; exchanges = [] } }
+        ensures { result ≡ record { loaded = None; exchanges = []; calls = [] } }
     {
         LocalFar {
             loaded: None,
             half: None,
+            calls: FarCalls::new(),
         }
     }
 
@@ -74,7 +76,10 @@ impl Far for LocalFar {
 
     ghost faults = { λ _. 0 };
 
+    ghost calls = { λ s. s.calls };
+
     fn load(&mut self, alloc: Global, user: &[u8], plan: &[u8]) -> LoadAnswer {
+        self.calls = self.calls.and_load(user, plan);
         self.loaded = None;
         self.half = None;
         let (half, answer) = match UserHalf::load(alloc, user, plan) {
@@ -92,6 +97,7 @@ impl Far for LocalFar {
     }
 
     fn deliver(&mut self, alloc: Global, bytes: &[u8]) -> DeliverAnswer {
+        self.calls = self.calls.and_send(bytes);
         match &mut self.half {
             Some(half) => match half.deliver(alloc, bytes) {
                 Ok(reply) => {

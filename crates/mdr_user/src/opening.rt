@@ -11,11 +11,10 @@ ghost use Rattle.mdr_model.specs.Sound.{IsSound};
 ghost use Rattle.mdr_model.specs.Holds.{IsSoundMemory};
 ghost use Rattle.mdr_user.specs.Openings.{renewed, shown, opened_by, may_call};
 
-use crate::copies::copied;
 use crate::reply::told_copy;
 use mdr_copy::{
-    Telling, agreed_after, args_fault, cells_of_runs, deaths_fit, fits_result, is_live, news_fit,
-    runs_fault, view_fits,
+    Telling, agreed_after, args_fault, cells_of_runs, copied, deaths_fit, fits_result, is_live,
+    news_fit, runs_fault, view_fits,
 };
 use mdr_core::{Items, OutOfMemory, Program, Ty};
 use mdr_model::{Cell, MemoryBlock, New, Run, SetRun, Wire};

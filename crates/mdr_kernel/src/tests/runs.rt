@@ -122,6 +122,6 @@ fn a_far_side_fails_in_the_second_exchange(rt: HostRuntime) -> Result<(), Fail> 
     assert_eq!(rt; outcome.end, End::FarFault(2));
     assert_eq!(rt; outcome.ticks, 2);
     holds(&rt, &half, 6);
-    assert_eq!(rt; half.messages(), 4);
+    assert_eq!(rt; half.messages(), 3);
     Ok(())
 }

@@ -1,0 +1,115 @@
+-- What was done is what is printed, and what is meant.
+use Rattle.std.proofs.Common.{◌≡◌, ℕ, ◌⊎◌, inl, inr, List, [], Option, Some, refl, sym, ap, ◌∙◌, subst}
+use Rattle.mdr_core.specs.declared.program.Program.{Program}
+use Rattle.mdr_model.specs.declared.outcome.End.TheVariants as ends
+use Rattle.mdr_model.specs.Sound.{IsBound}
+use Rattle.mdr_outside.specs.Calls.{ShelfCall, Read, FarCall, and_then}
+use Rattle.mdr_outside.specs.Shelf.{ReadsFrom}
+use Rattle.mdr_outside.specs.Far.{loaded_with}
+use Rattle.mdr_outside.specs.declared.shelf.ReadAnswer.{ReadAnswer}
+use Rattle.mdr_outside.specs.declared.shelf.ReadAnswer.TheVariants as reads
+use Rattle.mdr_outside.specs.declared.far.LoadAnswer.TheVariants as loads
+use Rattle.mdr_outside.specs.declared.far.Loaded.{Loaded}
+use Rattle.mdr_outside.specs.declared.far.Exchange.{Exchange}
+use Rattle.mdr_user.specs.Honest.{IsHonest}
+use Rattle.mdr_top.specs.declared.status.Status.{Status}
+use Rattle.mdr_top.specs.declared.status.Status.TheVariants as status
+use Rattle.mdr_top.specs.Words.{command_of}
+use Rattle.mdr_top.specs.Answers.{Files, longest_source, longest_script, status_of, nothing_ran, Unread, HasProgram, HasScript, Ran, Called, Scripted, Compiled, Sourced, Answered, Prints}
+use Rattle.mdr_top.specs.Done.{IsRead, IsUnread, UnreadBy, Done, DonePart, Does}
+use Rattle.mdr_top.specs.Headline.{meant, IsMeaning, IsAccepted, MeansBy, Means}
+use Rattle.mdr_top.proofs.Headline.{honest_load, began_means, nothing_end, IsEarly, source_early, own_never}
+
+-- ---- what is printed
+
+unread_so : (files : Files) (name : List ℕ) (limit : ℕ) (old new : List ShelfCall) (s : Status) (text : List ℕ) → UnreadBy files name limit old new s text → Unread files name limit s text
+unread_so files name limit old new s text u = of u.why u.read.told
+  where
+    of : IsUnread name u.answer s text → ReadsFrom files name limit u.answer → Unread files name limit s text
+    of (IsUnread.missing a e t) r = Unread.missing (subst (ReadsFrom files name limit) a r) e t
+    of (IsUnread.long a e t) r = Unread.long (subst (ReadsFrom files name limit) a r) e t
+    of (IsUnread.failed a e t) r = Unread.failed e t
+
+module _ (words : List (List ℕ)) (files : Files) (shelf shelf' : List ShelfCall) (far far' : List FarCall) (loaded : Option Loaded) (es : List Exchange) where
+  answered_so : (s : Status) (text : List ℕ) → Done words files shelf shelf' far far' loaded es s text → Answered words files loaded es s text
+  answered_so s text (Done.usage e r f is t) = Answered.usage e is t
+  answered_so s text (Done.source_unread name script_name e u f) = Answered.command name script_name e (Sourced.unread (unread_so files name longest_source shelf shelf' s text u))
+  answered_so s text (Done.source_refused name script_name source e r n f) = Answered.command name script_name e (Sourced.read source r.told (Compiled.refused n))
+  answered_so s text (Done.script_unread name script_name source program between e r h u f) =
+      Answered.command name script_name e (Sourced.read source r.told (Compiled.accepted program h (Scripted.unread (unread_so files script_name longest_script between shelf' s text u))))
+  answered_so s text (Done.script_refused name script_name source script program between e r h r' n f) =
+      Answered.command name script_name e (Sourced.read source r.told (Compiled.accepted program h (Scripted.read script r'.told (Called.refused n))))
+  answered_so s text (Done.ran name script_name source script calls program between e r h r' c f run') =
+      Answered.command name script_name e (Sourced.read source r.told (Compiled.accepted program h (Scripted.read script r'.told (Called.accepted calls c run'))))
+
+  pub prints_so : (old new : Option (List ℕ)) (s : Status) → Does words files shelf shelf' far far' loaded es old new s → Prints words files loaded es old new s
+  prints_so old new s (Does.whole text d adds) = Prints.whole text (answered_so s text d) adds
+  prints_so old new s (Does.cut due text n is d within adds) = Prints.cut due text n is (answered_so due text d) within adds
+  prints_so old new s (Does.nothing is d same) = Prints.nothing is same
+
+-- ---- what is meant
+
+-- the far side was loaded with the source, and the run is what it means
+record MeansSo (program : Program) (source calls : List ℕ) (loaded : Option Loaded) (es : List Exchange) (s : Status) (text : List ℕ) : Type 0 where
+  held : loaded ≡ Some (loaded_with source [] loads.Ok)
+  meaning : IsMeaning program calls es s text
+
+means_so : (program : Program) (source calls : List ℕ) (loaded : Option Loaded) (es : List Exchange) (s : Status) (text : List ℕ) → HasProgram source program → IsBound program calls → IsHonest loaded es
+    → Ran program source calls loaded es s text → (s ≡ status.FarFault) ⊎ MeansSo program source calls loaded es s text
+means_so program source calls loaded es s text h bound honest (Ran.began is b) = of (began_means program source calls es s text h bound (honest_load source program loaded loads.Ok es h is honest).1 b)
+  where
+    of : (s ≡ status.FarFault) ⊎ IsMeaning program calls es s text → (s ≡ status.FarFault) ⊎ MeansSo program source calls loaded es s text
+    of (inl e) = inl e
+    of (inr m) = inr (record { held = is; meaning = m })
+means_so program source calls loaded es s text h bound honest (Ran.refused cause is r) = elim (honest_load source program loaded (loads.Refused cause) es h is honest).0 [ ]
+means_so program source calls loaded es s text h bound honest (Ran.failed is r) = inl (r.status_is ∙ ap status_of (nothing_end program (ends.FarFault 0)))
+
+unread_early : (name : List ℕ) (answer : ReadAnswer) (s : Status) (text : List ℕ) → IsUnread name answer s text → IsEarly s
+unread_early name answer s text (IsUnread.missing a e t) = subst IsEarly (sym e) tt
+unread_early name answer s text (IsUnread.long a e t) = subst IsEarly (sym e) tt
+unread_early name answer s text (IsUnread.failed a e t) = subst IsEarly (sym e) tt
+
+module _ (words : List (List ℕ)) (files : Files) (shelf shelf' : List ShelfCall) (far far' : List FarCall) (loaded : Option Loaded) (es : List Exchange) (old new : Option (List ℕ)) (s : Status) where
+  abbrev MeansIt : Type 0
+  MeansIt = Means words files shelf shelf' loaded es old new s
+
+  early_means : IsEarly s → MeansIt
+  early_means early = record { never = λ e. subst IsEarly e early; means = of }
+    where
+      of : (s ≡ status.Done) ⊎ (s ≡ status.Stopped) → MeansBy words files shelf shelf' loaded es old new s
+      of (inl e) = absurd (subst IsEarly e early)
+      of (inr e) = absurd (subst IsEarly e early)
+
+  fault_means : s ≡ status.FarFault → MeansIt
+  fault_means is = record { never = λ e. let no : status.FarFault ≡ status.Marshal = sym is ∙ e in Prim.cc; means = of }
+    where
+      of : (s ≡ status.Done) ⊎ (s ≡ status.Stopped) → MeansBy words files shelf shelf' loaded es old new s
+      of (inl e) = let no : status.FarFault ≡ status.Done = sym is ∙ e in absurd (Prim.cc)
+      of (inr e) = let no : status.FarFault ≡ status.Stopped = sym is ∙ e in absurd (Prim.cc)
+
+  pub does_mean : Does words files shelf shelf' far far' loaded es old new s → IsHonest loaded es → MeansIt
+  does_mean (Does.cut due text n e d within adds) honest = early_means (subst IsEarly (sym e) tt)
+  does_mean (Does.nothing e d same) honest = early_means (subst IsEarly (sym e) tt)
+  does_mean (Does.whole text (Done.usage e r f is t) adds) honest = early_means (subst IsEarly (sym is) tt)
+  does_mean (Does.whole text (Done.source_unread name script_name e u f) adds) honest = early_means (unread_early name u.answer s text u.why)
+  does_mean (Does.whole text (Done.source_refused name script_name source e r n f) adds) honest = early_means (source_early source s text n)
+  does_mean (Does.whole text (Done.script_unread name script_name source program between e r h u f) adds) honest = early_means (unread_early script_name u.answer s text u.why)
+  does_mean (Does.whole text (Done.script_refused name script_name source script program between e r h r' n f) adds) honest = early_means (subst IsEarly (sym n.status_is) tt)
+  does_mean (Does.whole text (Done.ran name script_name source script calls program between e r h r' c f run') adds) honest = of (means_so program source calls loaded es s text h c.bound honest run')
+    where
+      of : (s ≡ status.FarFault) ⊎ MeansSo program source calls loaded es s text → MeansIt
+      of (inl is) = fault_means is
+      of (inr m) = record {
+        never = λ is. own_never (meant program calls).end m.meaning.own (sym m.meaning.reported.status_is ∙ is);
+        means = λ is. record {
+          source = source;
+          program = program;
+          calls = calls;
+          accepted = record { source_name = name; script_name = script_name; command = e; source_read = r.told; compiled = h; script = script; script_read = r'.told; called = c };
+          read = r'.called ∙ ap (λ (xs : List ShelfCall). and_then xs (Read script_name longest_script (reads.Ok script))) r.called;
+          held = m.held;
+          text = text;
+          printed = adds;
+          meaning = m.meaning;
+        };
+      }
