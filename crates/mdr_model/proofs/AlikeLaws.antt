@@ -1,5 +1,5 @@
 -- Trees of one function are alike whatever fuel stands for it, as far as the fuel goes.
-use Rattle.std.proofs.Common.{◌≡◌, ℕ, zero, suc, ◌<◌, ◌≤◌, Bool, true, false, List, [], ◌∷◌, nat_lt, Option, Some, None, Result, Ok, Err, ℤ, refl, ap, le_refl, arith}
+use Rattle.std.proofs.Common.{◌≡◌, ℕ, zero, suc, ◌<◌, ◌≤◌, Bool, true, false, List, [], ◌∷◌, nat_lt, Result, Ok, Err, ℤ, refl, ap, le_refl, arith}
 use mathlib.Core.Path.{fun_ext}
 use Rattle.mdr_core.specs.declared.kind.Kind.{Kind}
 use Rattle.mdr_core.specs.declared.undefined.Undefined.{Undefined}
@@ -7,20 +7,14 @@ use Rattle.mdr_core.specs.declared.stop.StopKind.TheVariants as stop
 use Rattle.mdr_core.specs.declared.place.At.{At}
 use Rattle.mdr_core.specs.declared.plan.Half.{Half}
 use Rattle.mdr_core.specs.declared.program.Program.{Program}
-use Rattle.mdr_core.specs.declared.code.Lval.{Lval}
-use Rattle.mdr_core.specs.declared.code.Expr.{Expr}
-use Rattle.mdr_core.specs.declared.code.Expr.TheVariants as expr
-use Rattle.mdr_core.specs.declared.code.Callee.{Callee}
-use Rattle.mdr_core.specs.declared.code.Callee.TheVariants.{Direct, Service}
-use Rattle.mdr_core.specs.declared.code.Step.{Step}
-use Rattle.mdr_core.specs.declared.code.Step.TheVariants as step
-use Rattle.mdr_core.specs.declared.code.Stmt.{Stmt}
+use Rattle.mdr_core.specs.Code.{Term, Called, Goal, Code, Codes}
+use Rattle.mdr_core.specs.Folds.{codes_of}
 use Rattle.mdr_core.specs.Operators.{operated}
 use Rattle.mdr_model.specs.declared.wire.Wire.{Wire}
 use Rattle.mdr_model.specs.declared.wire.Wire.TheVariants as wire
 use Rattle.mdr_model.specs.Values.{wire_of, integer}
 use Rattle.mdr_model.specs.Tree.{Tree, cut}
-use Rattle.mdr_model.specs.Meaning.{func_at, is_own, body_of, pointer_to, stop_of, given, value, values, Here, Enters, by_half, at_depth, call, keeps, statement, statements, function, first_result}
+use Rattle.mdr_model.specs.Meaning.{func_at, is_own, body_of, pointer_to, stop_of, given, value, values, Here, Enters, by_half, at_depth, call, keeps, statement, number_of, statements, function, first_result}
 use Rattle.mdr_model.specs.Alike.{IsCongruence, FuelIsNoMatter}
 
 -- ---- any congruence
@@ -42,29 +36,31 @@ module _ (R : ℕ → Tree → Tree → Type 0) (c : IsCongruence R) where
     alike_given r (Ok n) kind at k l h = h (wire.Int kind n)
     alike_given r (Err why) kind at k l h = c.stop r (stop_of why) at
 
-    alike_value : (r : ℕ) (e : Expr) (at : At) (k l : Wire → Tree) → ((v : Wire) → R r (k v) (l v)) → R r (value program at e k) (value program at e l)
-    alike_value r (expr.Lit v) at k l h = h (wire_of v)
-    alike_value r (expr.Load place) at k l h = c.load r at (pointer_to program place) k l h
-    alike_value r (expr.Bin' op kind p a q b) at k l h =
+    alike_value : (r : ℕ) (e : Term) (at : At) (k l : Wire → Tree) → ((v : Wire) → R r (k v) (l v)) → R r (value program at e k) (value program at e l)
+    alike_value r (Term.Lit v) at k l h = h (wire_of v)
+    alike_value r (Term.Load place) at k l h = c.load r at (pointer_to program place) k l h
+    alike_value r (Term.Bin op kind a b) at k l h =
         alike_value r a at (λ x. value program at b (λ y. given (operated op kind (integer x) (integer y)) kind at k)) (λ x. value program at b (λ y. given (operated op kind (integer x) (integer y)) kind at l))
         (λ x. alike_value r b at (λ y. given (operated op kind (integer x) (integer y)) kind at k) (λ y. given (operated op kind (integer x) (integer y)) kind at l)
         (λ y. alike_given r (operated op kind (integer x) (integer y)) kind at k l h))
+    alike_value r _ at k l h = c.stop r stop.NoValue at
 
-    alike_values : (r : ℕ) (es : List Expr) (at : At) (k l : List Wire → Tree) → ((vs : List Wire) → R r (k vs) (l vs)) → R r (values program at es k) (values program at es l)
+    alike_values : (r : ℕ) (es : List Term) (at : At) (k l : List Wire → Tree) → ((vs : List Wire) → R r (k vs) (l vs)) → R r (values program at es k) (values program at es l)
     alike_values r [] at k l h = h []
     alike_values r (e ∷ es) at k l h =
         alike_value r e at (λ v. values program at es (λ vs. k (v ∷ vs))) (λ v. values program at es (λ vs. l (v ∷ vs)))
         (λ v. alike_values r es at (λ vs. k (v ∷ vs)) (λ vs. l (v ∷ vs)) (λ vs. h (v ∷ vs)))
 
-    alike_keeps : (r : ℕ) (at : At) (target : Option Lval) (v : Wire) (t u : Tree) → R r t u → R r (keeps program at target v t) (keeps program at target v u)
-    alike_keeps r at None v t u h = h
-    alike_keeps r at (Some place) wire.NoValue t u h = c.stop r stop.NoValue at
-    alike_keeps r at (Some place) (wire.Int k n) t u h = c.store r at (pointer_to program place) (wire.Int k n) t u h
-    alike_keeps r at (Some place) wire.Null t u h = c.store r at (pointer_to program place) wire.Null t u h
-    alike_keeps r at (Some place) (wire.Ptr p) t u h = c.store r at (pointer_to program place) (wire.Ptr p) t u h
-    alike_keeps r at (Some place) wire.Dead t u h = c.store r at (pointer_to program place) wire.Dead t u h
-    alike_keeps r at (Some place) (wire.Fn f) t u h = c.store r at (pointer_to program place) (wire.Fn f) t u h
-    alike_keeps r at (Some place) (wire.Lock s) t u h = c.store r at (pointer_to program place) (wire.Lock s) t u h
+    alike_keeps : (r : ℕ) (at : At) (goal : Goal) (v : Wire) (t u : Tree) → R r t u → R r (keeps program at goal v t) (keeps program at goal v u)
+    alike_keeps r at Goal.Nowhere v t u h = h
+    alike_keeps r at (Goal.Into place) wire.NoValue t u h = c.stop r stop.NoValue at
+    alike_keeps r at (Goal.Into place) (wire.Int k n) t u h = c.store r at (pointer_to program place) (wire.Int k n) t u h
+    alike_keeps r at (Goal.Into place) wire.Null t u h = c.store r at (pointer_to program place) wire.Null t u h
+    alike_keeps r at (Goal.Into place) (wire.Ptr p) t u h = c.store r at (pointer_to program place) (wire.Ptr p) t u h
+    alike_keeps r at (Goal.Into place) wire.Dead t u h = c.store r at (pointer_to program place) wire.Dead t u h
+    alike_keeps r at (Goal.Into place) (wire.Fn f) t u h = c.store r at (pointer_to program place) (wire.Fn f) t u h
+    alike_keeps r at (Goal.Into place) (wire.Lock s) t u h = c.store r at (pointer_to program place) (wire.Lock s) t u h
+    alike_keeps r at Goal.Back v t u h = c.stop r stop.NoValue at
 
     alike_depth : (r : ℕ) (b : Bool) (at : At) (t u : Tree) → R r t u → R r (at_depth b at (λ z. t)) (at_depth b at (λ z. u))
     alike_depth r true at t u h = h
@@ -75,36 +71,38 @@ module _ (R : ℕ → Tree → Tree → Type 0) (c : IsCongruence R) where
     alike_by_half r false t u t' u' inside across = across
 
     module _ (side : Half) (low low' : Enters) (here : Here) where
-      alike_call : (r : ℕ) → AreEntered r low low' → (callee : Callee) (at : At) (vs : List Wire) (k l : Wire → Tree) → ((v : Wire) → AreNext r (k v) (l v))
+      alike_call : (r : ℕ) → AreEntered r low low' → (callee : Called) (at : At) (vs : List Wire) (k l : Wire → Tree) → ((v : Wire) → AreNext r (k v) (l v))
           → R r (call program side low here at callee vs k) (call program side low' here at callee vs l)
-      alike_call r entered (Direct g) at vs k l h =
+      alike_call r entered (Called.Direct g) at vs k l h =
           alike_depth r (nat_lt (suc here.depth) 256) at
           (by_half (is_own program side g) (λ z. low g vs (suc here.depth) k) (Tree.Cross at g vs (suc here.depth) k))
           (by_half (is_own program side g) (λ z. low' g vs (suc here.depth) l) (Tree.Cross at g vs (suc here.depth) l))
           (alike_by_half r (is_own program side g) (low g vs (suc here.depth) k) (low' g vs (suc here.depth) l) (Tree.Cross at g vs (suc here.depth) k) (Tree.Cross at g vs (suc here.depth) l)
           (entered.by r (le_refl r) g vs (suc here.depth) k l h)
           (c.cross r at g vs (suc here.depth) k l (λ v. (h v).by r (le_refl r))))
-      alike_call r entered (Service n) at vs k l h =
+      alike_call r entered (Called.Service n) at vs k l h =
           c.ask r (record { service = n; at = at; args = vs; shapes = []; bytes = [] }) (λ results. k (first_result results)) (λ results. l (first_result results))
           (λ results. (h (first_result results)).by r (le_refl r))
+      alike_call r entered (Called.Through e) at vs k l h = c.stop r stop.NoValue at
 
-      alike_statement : (r : ℕ) → AreEntered r low low' → (st : Step) (at : At) (t u : Tree) → AreNext r t u → R r (statement program side low here at st t) (statement program side low' here at st u)
-      alike_statement r entered (step.Assign place e) at t u h =
+      alike_statement : (r : ℕ) → AreEntered r low low' → (c' : Code) (at : At) (t u : Tree) → AreNext r t u → R r (statement program side low here at c' t) (statement program side low' here at c' u)
+      alike_statement r entered (Code.Assign n place e) at t u h =
           alike_value r e at (λ v. Tree.Store at (pointer_to program place) v t) (λ v. Tree.Store at (pointer_to program place) v u)
           (λ v. c.store r at (pointer_to program place) v t u (h.by r (le_refl r)))
-      alike_statement r entered (step.Call target form) at t u h =
-          alike_values r form.args at (λ vs. call program side low here at form.callee vs (λ v. keeps program at target v t)) (λ vs. call program side low' here at form.callee vs (λ v. keeps program at target v u))
-          (λ vs. alike_call r entered form.callee at vs (λ v. keeps program at target v t) (λ v. keeps program at target v u)
-          (λ v. record { by = λ q fewer. alike_keeps q at target v t u (h.by q fewer) }))
+      alike_statement r entered (Code.Call n goal form) at t u h =
+          alike_values r form.args at (λ vs. call program side low here at form.callee vs (λ v. keeps program at goal v t)) (λ vs. call program side low' here at form.callee vs (λ v. keeps program at goal v u))
+          (λ vs. alike_call r entered form.callee at vs (λ v. keeps program at goal v t) (λ v. keeps program at goal v u)
+          (λ v. record { by = λ q fewer. alike_keeps q at goal v t u (h.by q fewer) }))
+      alike_statement r entered _ at t u h = c.stop r stop.NoValue at
 
       -- bodies are entered after a tick, so they need to be alike for fewer ticks alone
-      alike_statements : (r : ℕ) → ((q : ℕ) → suc q ≤ r → AreEntered q low low') → (ss : List Stmt) (t u : Tree) → AreNext r t u
-          → R r (statements program side low here ss t) (statements program side low' here ss u)
-      alike_statements r entered [] t u h = h.by r (le_refl r)
-      alike_statements r entered (s ∷ ss) t u h =
-          let at : At = record { func = here.func; stmt = s.number } in
-          c.tick r at (statement program side low here at s.step (statements program side low here ss t)) (statement program side low' here at s.step (statements program side low' here ss u))
-          (λ q fewer. alike_statement q (entered q fewer) s.step at (statements program side low here ss t) (statements program side low' here ss u)
+      alike_statements : (r : ℕ) → ((q : ℕ) → suc q ≤ r → AreEntered q low low') → (cs : Codes) (t u : Tree) → AreNext r t u
+          → R r (statements program side low here cs t) (statements program side low' here cs u)
+      alike_statements r entered Codes.End t u h = h.by r (le_refl r)
+      alike_statements r entered (Codes.Then s ss) t u h =
+          let at : At = record { func = here.func; stmt = number_of s } in
+          c.tick r at (statement program side low here at s (statements program side low here ss t)) (statement program side low' here at s (statements program side low' here ss u))
+          (λ q fewer. alike_statement q (entered q fewer) s at (statements program side low here ss t) (statements program side low' here ss u)
           (record { by = λ p h'. alike_statements p (λ q' fewer'. entered q' (omega (arith, fewer', h', fewer))) ss t u (next_fewer p (omega (arith, h', fewer)) h) }))
 
     -- trees of any two fuels above r
@@ -116,7 +114,7 @@ module _ (R : ℕ → Tree → Tree → Type 0) (c : IsCongruence R) where
     alike_function side (suc n) (suc m) r func less less' args depth k l h =
         alike_statements side (function program side n) (function program side m) (record { func = func; depth = depth }) r
         (λ q fewer. record { by = λ p h' func' args' depth' k' l' next. alike_function side n m p func' (omega (arith, h', fewer, less)) (omega (arith, h', fewer, less')) args' depth' k' l' (λ v. (next v).by) })
-        (body_of (func_at program func)) (k wire.NoValue) (l wire.NoValue) (record { by = h wire.NoValue })
+        (codes_of (body_of (func_at program func))) (k wire.NoValue) (l wire.NoValue) (record { by = h wire.NoValue })
 
 -- ---- the same up to so many ticks
 

@@ -15,15 +15,9 @@ use Rattle.mdr_core.specs.declared.plan.Half.TheVariants as half
 use Rattle.mdr_core.specs.declared.program.Program.{Program}
 use Rattle.mdr_core.specs.declared.program.GlobalDef.{GlobalDef}
 use Rattle.mdr_core.specs.declared.program.Func.{Func}
-use Rattle.mdr_core.specs.declared.code.Lval.{Lval}
-use Rattle.mdr_core.specs.declared.code.Lval.TheVariants.{Global}
-use Rattle.mdr_core.specs.declared.code.Expr.{Expr}
-use Rattle.mdr_core.specs.declared.code.Expr.TheVariants as expr
-use Rattle.mdr_core.specs.declared.code.Callee.{Callee}
-use Rattle.mdr_core.specs.declared.code.Callee.TheVariants.{Direct, Service}
-use Rattle.mdr_core.specs.declared.code.Step.{Step}
-use Rattle.mdr_core.specs.declared.code.Step.TheVariants as step
 use Rattle.mdr_core.specs.declared.code.Stmt.{Stmt}
+use Rattle.mdr_core.specs.Code.{Term, Lvalue, Called, Goal, Code, Codes}
+use Rattle.mdr_core.specs.Folds.{codes_of}
 use Rattle.mdr_core.specs.Kinds.{kind_number, is_same_kind, is_in_range}
 use Rattle.mdr_core.specs.Operators.{operated}
 use Rattle.mdr_core.proofs.Operators.{operated-in_range}
@@ -34,10 +28,10 @@ use Rattle.mdr_model.specs.declared.message.BirthKind.TheVariants.{Static}
 use Rattle.mdr_model.specs.Values.{type_number, fits_type, fits_maybe, fits, fits_result, is_view_of, wire_of, integer}
 use Rattle.mdr_model.specs.Memory.{births, global_blocks, first_memory}
 use Rattle.mdr_model.specs.Tree.{Tree}
-use Rattle.mdr_model.specs.Meaning.{func_at, critical_of, is_kernel, is_user, is_own, body_of, type_of_global, pointer_to, stop_of, given, value, values, Here, Enters, by_half, at_depth, call, keeps, statement, statements, function, started}
+use Rattle.mdr_model.specs.Meaning.{func_at, critical_of, is_kernel, is_user, is_own, body_of, type_of_global, pointer_to, stop_of, given, value, values, Here, Enters, by_half, at_depth, call, keeps, statement, number_of, statements, function, started}
 use Rattle.mdr_model.specs.Faults.{params_of, args_fault}
-use Rattle.mdr_model.specs.Kernel.{callee_is, step_calls, calls_func, has_down_stub, has_number, is_user_place, user_stop}
-use Rattle.mdr_model.specs.Sound.{first_types, IsVariable, IsSoundPlace, IsSoundExpr, IsSoundWritel, IsSoundCall, IsSoundStep, IsSoundFunc, IsSound}
+use Rattle.mdr_model.specs.Kernel.{callee_is, calls_func, any_calls, has_down_stub, has_number, any_has_number, is_user_place, user_stop}
+use Rattle.mdr_model.specs.Sound.{first_types, IsVariable, IsSoundPlace, IsSoundExpr, IsSoundWritel, IsSoundCall, IsSoundStep, IsSoundBody, IsSoundFunc, IsSound}
 use Rattle.mdr_model.proofs.Fair.{Knowledge, IsAmong, Grows, IsKnownPointer, IsValueAt, IsPlace, IsUserStop, Fair}
 use Rattle.mdr_model.proofs.Relations.{globals_of}
 use Rattle.mdr_model.proofs.HoldsLaws.{all_get, IsThere, get_inside}
@@ -61,6 +55,31 @@ each_in {X} (x ∷ xs) = (
 
 at_in : {X : Type 0} (xs : List X) (i : ℕ) (x : X) → slice_get xs i ≡ Some x → IsIn x xs
 at_in {X} xs i x e = all_get (λ (y : X). IsIn y xs) xs i x (each_in xs) e
+
+-- ---- parts of bodies
+
+-- what this code calls, and the numbers in it, are the body's
+record IsPart (cs body : Codes) : Type 0 where
+  calls : (g : ℕ) → any_calls g cs ≡ true → any_calls g body ≡ true
+  numbers : (n : ℕ) → any_has_number n cs ≡ true → any_has_number n body ≡ true
+
+whole : (body : Codes) → IsPart body body
+whole body = record { calls = λ g e. e; numbers = λ n e. e }
+
+behind_first : (c : Code) (cs body : Codes) → IsPart (Codes.Then c cs) body → IsPart cs body
+behind_first c cs body part = record {
+  calls = λ g e. part.calls g (or_right (calls_func g c) (any_calls g cs) e);
+  numbers = λ n e. part.numbers n (or_right (has_number n c) (any_has_number n cs) e);
+}
+
+first_calls : (c : Code) (cs body : Codes) → IsPart (Codes.Then c cs) body → (g : ℕ) → calls_func g c ≡ true → any_calls g body ≡ true
+first_calls c cs body part g e = part.calls g (or_left (calls_func g c) (any_calls g cs) e)
+
+-- a statement has its own number
+own_number : (program : Program) (is_critical : Bool) (c : Code) → IsSoundStep program is_critical c → has_number (number_of c) c ≡ true
+own_number program is_critical (Code.Assign n place e) s = eq-eqb n n refl
+own_number program is_critical (Code.Call n goal form) s = eq-eqb n n refl
+own_number program is_critical _ s = elim s [ ]
 
 -- ---- kinds
 
@@ -116,9 +135,9 @@ variable_type : (program : Program) (g : ℕ) (k : Kind) → IsVariable program 
 variable_type program g k v = ap type_of_global v.declared ∙ ap type_number v.kind
 
 -- code names known cells alone
-known_place : (program : Program) (place : Lval) (k : Kind) (K : Knowledge) → IsSoundPlace program place k → Grows (globals_of program) K → IsKnownPointer K (pointer_to program place)
+known_place : (program : Program) (place : Lvalue) (k : Kind) (K : Knowledge) → IsSoundPlace program place k → Grows (globals_of program) K → IsKnownPointer K (pointer_to program place)
 unfolding pointer_to is_view_of first_memory
-known_place program (Global g) k K v grows =
+known_place program (Lvalue.Global g) k K v grows =
     let t : ℕ = type_of_global (slice_get program.globals g) in
     let block : New = record { serial = g; kind = Static; ty = t; count = 1 } in
     let born : New = record { serial = g; kind = Static; ty = type_number v.global.ty; count = v.global.count } in
@@ -130,18 +149,21 @@ known_place program (Global g) k K v grows =
       serial = refl;
       view = ap (λ (x : Bool). x && true && true) (eq-eqb t t refl);
     }
+known_place program _ k K v grows = elim v [ ]
 
 -- and stores values of their types
-value_at_place : (program : Program) (place : Lval) (k : Kind) (v : Wire) → IsSound program → IsSoundPlace program place k → IsOfKind k v → IsValueAt program (pointer_to program place) v
+value_at_place : (program : Program) (place : Lvalue) (k : Kind) (v : Wire) → IsSound program → IsSoundPlace program place k → IsOfKind k v → IsValueAt program (pointer_to program place) v
 unfolding pointer_to
-value_at_place program (Global g) k v sound is_variable h =
+value_at_place program (Lvalue.Global g) k v sound is_variable h =
     ap (λ (n : ℕ). fits program n v) (variable_type program g k is_variable) ∙ fits_kind program k v sound ∙ h.fit
+value_at_place program _ k v sound is_variable h = elim is_variable [ ]
 
-value_of_place : (program : Program) (place : Lval) (k : Kind) (v : Wire) → IsSound program → IsSoundPlace program place k → IsValueAt program (pointer_to program place) v → IsOfKind k v
+value_of_place : (program : Program) (place : Lvalue) (k : Kind) (v : Wire) → IsSound program → IsSoundPlace program place k → IsValueAt program (pointer_to program place) v → IsOfKind k v
 unfolding pointer_to
-value_of_place program (Global g) k v sound is_variable h = record {
+value_of_place program (Lvalue.Global g) k v sound is_variable h = record {
   fit = sym (ap (λ (n : ℕ). fits program n v) (variable_type program g k is_variable) ∙ fits_kind program k v sound) ∙ h;
 }
+value_of_place program _ k v sound is_variable h = elim is_variable [ ]
 
 -- ---- stops of expressions
 
@@ -167,16 +189,16 @@ IsOfHalf half.User is_critical = is_critical ≡ false
 IsOfHalf half.Kernel is_critical = is_critical ≡ true
 
 -- a sound function with its statements
-record IsBody (program : Program) (side : Half) (func : ℕ) (f : Func) (body : List Stmt) : Type 0 where
+record IsBody (program : Program) (side : Half) (func : ℕ) (f : Func) (body : Codes) : Type 0 where
   found : func_at program func ≡ Some f
   own : IsOfHalf side f.critical
   called : IsFunctionOf program side func
-  has : f.body ≡ Some body
-  steps : AllByRecursion (λ (s : Stmt). IsSoundStep program f.critical s.step) body
+  has : codes_of (body_of (Some f)) ≡ body
+  steps : IsSoundBody program f.critical body
 
 record HasBody (program : Program) (side : Half) (func : ℕ) : Type 0 where
   f : Func
-  body : List Stmt
+  body : Codes
   is : IsBody program side func f body
 
 and_first : (x y : Bool) → (x && y) ≡ true → x ≡ true
@@ -211,8 +233,14 @@ has_body program side func sound e =
     let s : IsSoundFunc program there.item = sound_func program func there.item sound there.found_is in
     record {
       f = there.item;
-      body = s.statements;
-      is = record { found = there.found_is; own = function_half program side func there.item e there.found_is; called = e; has = s.body; steps = s.steps };
+      body = codes_of s.statements;
+      is = record {
+        found = there.found_is;
+        own = function_half program side func there.item e there.found_is;
+        called = e;
+        has = ap (λ (b : Option (List Stmt)). codes_of (unwrap_or b [])) s.body;
+        steps = s.steps;
+      };
     }
 
 -- a sound function has no parameters
@@ -224,24 +252,26 @@ no_params program func sound kernel =
 
 -- ---- the tree of a body
 
-module _ (program : Program) (sound : IsSound program) (side : Half) (func : ℕ) (f : Func) (body : List Stmt) (runs : IsBody program side func f body) where
+module _ (program : Program) (sound : IsSound program) (side : Half) (func : ℕ) (f : Func) (body : Codes) (runs : IsBody program side func f body) where
   -- whatever is known beyond the globals, and whatever credit is left
   record IsFair (t : Tree) : Type 0 where
     by : (K : Knowledge) (credit : ℕ) → Grows (globals_of program) K → Fair program side func K credit t
 
-  body_is : body_of (func_at program func) ≡ body
-  body_is = ap body_of runs.found ∙ ap (λ (b : Option (List Stmt)). unwrap_or b []) runs.has
+  body_is : codes_of (body_of (func_at program func)) ≡ body
+  body_is = ap (λ (o : Option Func). codes_of (body_of o)) runs.found ∙ runs.has
 
   -- a statement's place
-  statement_place : (s : Stmt) → IsIn s body → IsPlace program side (record { func = func; stmt = s.number })
+  statement_place : (c : Code) (cs : Codes) → IsSoundStep program f.critical c → IsPart (Codes.Then c cs) body → IsPlace program side (record { func = func; stmt = number_of c })
   unfolding is_user_place
-  statement_place s inside = of side runs.called
+  statement_place c cs s part = of side runs.called
     where
-      numbered : list_any (has_number s.number) (body_of (func_at program func)) ≡ true
-      numbered = ap (list_any (has_number s.number)) body_is ∙ inside.any (has_number s.number) (eq-eqb s.number s.number refl)
+      numbered : any_has_number (number_of c) (codes_of (body_of (func_at program func))) ≡ true
+      numbered =
+          ap (any_has_number (number_of c)) body_is
+          ∙ part.numbers (number_of c) (or_left (has_number (number_of c) c) (any_has_number (number_of c) cs) (own_number program f.critical c s))
 
-      of : (side' : Half) → IsFunctionOf program side' func → IsPlace program side' (record { func = func; stmt = s.number })
-      of half.User e = and_from (is_user program func) (list_any (has_number s.number) (body_of (func_at program func))) e numbered
+      of : (side' : Half) → IsFunctionOf program side' func → IsPlace program side' (record { func = func; stmt = number_of c })
+      of half.User e = and_from (is_user program func) (any_has_number (number_of c) (codes_of (body_of (func_at program func)))) e numbered
       of half.Kernel e = tt
 
   given_fair : (r : Result ℤ Undefined) (k : Kind) (at : At) (next : Wire → Tree) (K : Knowledge) (credit : ℕ) → IsPlace program side at
@@ -249,12 +279,12 @@ module _ (program : Program) (sound : IsSound program) (side : Half) (func : ℕ
   given_fair (Ok n) k at next K credit place ranged later = later (wire.Int k n) (of_kind k n (ranged n refl))
   given_fair (Err why) k at next K credit place ranged later = (place, operator_stop why)
 
-  value_fair : (e : Expr) (k : Kind) (at : At) (next : Wire → Tree) (K : Knowledge) (credit : ℕ) → IsSoundExpr program e k → IsPlace program side at → Grows (globals_of program) K
+  value_fair : (e : Term) (k : Kind) (at : At) (next : Wire → Tree) (K : Knowledge) (credit : ℕ) → IsSoundExpr program e k → IsPlace program side at → Grows (globals_of program) K
       → ((v : Wire) → IsOfKind k v → Fair program side func K credit (next v)) → Fair program side func K credit (value program at e next)
-  value_fair (expr.Lit v) k at next K credit s place grows later = later (wire_of v) (record { fit = s })
-  value_fair (expr.Load p) k at next K credit s place grows later =
+  value_fair (Term.Lit v) k at next K credit s place grows later = later (wire_of v) (record { fit = s })
+  value_fair (Term.Load p) k at next K credit s place grows later =
       (place, known_place program p k K s grows, λ v h. later v (value_of_place program p k v sound s h))
-  value_fair (expr.Bin' op l p a q b) k at next K credit s place grows later =
+  value_fair (Term.Bin op l a b) k at next K credit s place grows later =
       value_fair a k at (λ x. value program at b (λ y. given (operated op l (integer x) (integer y)) l at next)) K credit s.1 place grows
       (λ x hx. value_fair b k at (λ y. given (operated op l (integer x) (integer y)) l at next) K credit s.2 place grows
       (λ y hy. of x y hx hy))
@@ -265,9 +295,10 @@ module _ (program : Program) (sound : IsSound program) (side : Half) (func : ℕ
           subst (λ (m : Kind). Fair program side func K credit (given (operated op m (integer x) (integer y)) m at next)) same
           (given_fair (operated op k (integer x) (integer y)) k at next K credit place
           (λ n e. operated-in_range op k (integer x) (integer y) n (number_in_range k x hx.fit) (number_in_range k y hy.fit) e) later)
+  value_fair _ k at next K credit s place grows later = elim s [ ]
 
   -- `writel` of two u32 numbers
-  writel_fair : (n : ℕ) (args : List Expr) (at : At) (next : List Wire → Tree) (K : Knowledge) (credit : ℕ) → n ≡ 5 → IsSoundWritel program args → IsPlace program side at → Grows (globals_of program) K
+  writel_fair : (n : ℕ) (args : List Term) (at : At) (next : List Wire → Tree) (K : Knowledge) (credit : ℕ) → n ≡ 5 → IsSoundWritel program args → IsPlace program side at → Grows (globals_of program) K
       → ((K' : Knowledge) → Grows (globals_of program) K' → (vs : List Wire) → Fair program side func K' credit (next vs))
       → Fair program side func K (suc credit) (values program at args (λ vs. Tree.Ask (record { service = n; at = at; args = vs; shapes = []; bytes = [] }) next))
   unfolding args_fault
@@ -304,7 +335,7 @@ module _ (program : Program) (sound : IsSound program) (side : Half) (func : ℕ
     here = record { func = func; depth = depth }
 
     crosses : (g : ℕ) (vs : List Wire) (at : At) (next : Wire → Tree) → f.critical ≡ false → is_kernel program g ≡ true
-        → call program side low here at (Direct g) vs next ≡ at_depth (nat_lt (suc depth) 256) at (λ z. Tree.Cross at g vs (suc depth) next)
+        → call program side low here at (Called.Direct g) vs next ≡ at_depth (nat_lt (suc depth) 256) at (λ z. Tree.Cross at g vs (suc depth) next)
     crosses g vs at next user kernel =
         let over : by_half (is_own program side g) (λ z. low g vs (suc depth) next) (Tree.Cross at g vs (suc depth) next) ≡ Tree.Cross at g vs (suc depth) next =
         ap (λ (own : Bool). by_half own (λ z. low g vs (suc depth) next) (Tree.Cross at g vs (suc depth) next)) (leaves_half g user kernel) in
@@ -318,18 +349,18 @@ module _ (program : Program) (sound : IsSound program) (side : Half) (func : ℕ
           of half.User own within = within
           of half.Kernel own within = absurd (let clash : true ≡ false = sym own ∙ user in Prim.cc)
 
-      direct_fair : (g : ℕ) (at : At) (next : Wire → Tree) (K : Knowledge) (credit : ℕ) → f.critical ≡ false → is_kernel program g ≡ true → list_any (calls_func g) body ≡ true
+      direct_fair : (g : ℕ) (at : At) (next : Wire → Tree) (K : Knowledge) (credit : ℕ) → f.critical ≡ false → is_kernel program g ≡ true → any_calls g body ≡ true
           → IsPlace program side at → Grows (globals_of program) K → ((K' : Knowledge) → Grows (globals_of program) K' → (v : Wire) → Fair program side func K' credit (next v))
-          → Fair program side func K (suc credit) (call program side low here at (Direct g) [] next)
+          → Fair program side func K (suc credit) (call program side low here at (Called.Direct g) [] next)
       unfolding has_down_stub args_fault
       direct_fair g at next K credit user kernel named place grows later =
           let inside : suc depth ≤ 255 = is_within user in
           let deep : nat_lt (suc depth) 256 ≡ true = lt-ltb (suc depth) 256 (omega arith) in
-          let is_cross : call program side low here at (Direct g) [] next ≡ Tree.Cross at g [] (suc depth) next =
+          let is_cross : call program side low here at (Called.Direct g) [] next ≡ Tree.Cross at g [] (suc depth) next =
           crosses g [] at next user kernel ∙ ap (λ (b : Bool). at_depth b at (λ z. Tree.Cross at g [] (suc depth) next)) deep in
-          let callers : Func → Bool = λ h. not h.critical && list_any (calls_func g) (body_of (Some h)) in
-          let named_here : list_any (calls_func g) (body_of (Some f)) ≡ true = ap (λ (b : Option (List Stmt)). list_any (calls_func g) (unwrap_or b [])) runs.has ∙ named in
-          let calling : callers f ≡ true = and_from (not f.critical) (list_any (calls_func g) (body_of (Some f))) (ap not user) named_here in
+          let callers : Func → Bool = λ h. not h.critical && any_calls g (codes_of (body_of (Some h))) in
+          let named_here : any_calls g (codes_of (body_of (Some f))) ≡ true = ap (any_calls g) runs.has ∙ named in
+          let calling : callers f ≡ true = and_from (not f.critical) (any_calls g (codes_of (body_of (Some f)))) (ap not user) named_here in
           subst (Fair program side func K (suc credit)) (sym is_cross) (
             place,
             record {
@@ -341,54 +372,58 @@ module _ (program : Program) (sound : IsSound program) (side : Half) (func : ℕ
             λ K' more v given. later K' (record { stays = λ b h. more.stays b (grows.stays b h) }) v,
           )
 
-      called_fair : (target : Option Lval) (callee : Callee) (args : List Expr) (at : At) (next : Tree) (K : Knowledge) (credit : ℕ) → target ≡ None → IsSoundCall program f.critical callee args
-          → ((g : ℕ) → callee_is g callee ≡ true → list_any (calls_func g) body ≡ true) → IsPlace program side at → Grows (globals_of program) K → IsFair next
-          → Fair program side func K (suc credit) (values program at args (λ vs. call program side low here at callee vs (λ v. keeps program at target v next)))
-      called_fair (Some l) callee args at next K credit unused s named place grows later = absurd (Prim.cc)
-      called_fair None (Direct g) args at next K credit unused s named place grows later =
-          subst (λ (es : List Expr). Fair program side func K (suc credit) (values program at es (λ vs. call program side low here at (Direct g) vs (λ v. next)))) (sym s.2)
+      called_fair : (goal : Goal) (callee : Called) (args : List Term) (at : At) (next : Tree) (K : Knowledge) (credit : ℕ) → goal ≡ Goal.Nowhere → IsSoundCall program f.critical callee args
+          → ((g : ℕ) → callee_is g callee ≡ true → any_calls g body ≡ true) → IsPlace program side at → Grows (globals_of program) K → IsFair next
+          → Fair program side func K (suc credit) (values program at args (λ vs. call program side low here at callee vs (λ v. keeps program at goal v next)))
+      called_fair (Goal.Into l) callee args at next K credit unused s named place grows later = absurd (Prim.cc)
+      called_fair Goal.Back callee args at next K credit unused s named place grows later = absurd (Prim.cc)
+      called_fair Goal.Nowhere (Called.Through e) args at next K credit unused s named place grows later = elim s [ ]
+      called_fair Goal.Nowhere (Called.Direct g) args at next K credit unused s named place grows later =
+          subst (λ (es : List Term). Fair program side func K (suc credit) (values program at es (λ vs. call program side low here at (Called.Direct g) vs (λ v. next)))) (sym s.2)
           (direct_fair g at (λ v. next) K credit s.0 s.1 (named g (eq-eqb g g refl)) place grows (λ K' more v. later.by K' credit more))
-      called_fair None (Service n) args at next K credit unused s named place grows later =
+      called_fair Goal.Nowhere (Called.Service n) args at next K credit unused s named place grows later =
           writel_fair n args at (λ results. next) K credit s.0 s.1 place grows (λ K' more vs. later.by K' credit more)
 
-      statement_fair : (st : Step) (at : At) (next : Tree) (K : Knowledge) (credit : ℕ) → IsSoundStep program f.critical st → ((g : ℕ) → step_calls g st ≡ true → list_any (calls_func g) body ≡ true)
-          → IsPlace program side at → Grows (globals_of program) K → IsFair next → Fair program side func K (suc credit) (statement program side low here at st next)
-      statement_fair (step.Assign p e) at next K credit s named place grows later =
+      statement_fair : (c : Code) (at : At) (next : Tree) (K : Knowledge) (credit : ℕ) → IsSoundStep program f.critical c → ((g : ℕ) → calls_func g c ≡ true → any_calls g body ≡ true)
+          → IsPlace program side at → Grows (globals_of program) K → IsFair next → Fair program side func K (suc credit) (statement program side low here at c next)
+      statement_fair (Code.Assign n p e) at next K credit s named place grows later =
           value_fair e s.0 at (λ v. Tree.Store at (pointer_to program p) v next) K (suc credit) s.2 place grows
           (λ v hv. (place, known_place program p s.0 K s.1 grows, value_at_place program p s.0 v sound s.1 hv, later.by K (suc credit) grows))
-      statement_fair (step.Call target form) at next K credit s named place grows later =
-          called_fair target form.callee form.args at next K credit s.0 s.1 named place grows later
+      statement_fair (Code.Call n goal form) at next K credit s named place grows later =
+          called_fair goal form.callee form.args at next K credit s.0 s.1 named place grows later
+      statement_fair _ at next K credit s named place grows later = elim s [ ]
 
-      statements_fair : (ss : List Stmt) (next : Tree) → AllByRecursion (λ (s : Stmt). IsSoundStep program f.critical s.step) ss → AllByRecursion (λ (s : Stmt). IsIn s body) ss → IsFair next
-          → IsFair (statements program side low here ss next)
-      statements_fair [] next sounds inside later = later
-      statements_fair (s ∷ ss) next sounds inside later =
-          let at : At = record { func = func; stmt = s.number } in
-          let place : IsPlace program side at = statement_place s inside.0 in
-          let rest : IsFair (statements program side low here ss next) = statements_fair ss next sounds.1 inside.1 later in
-          record { by = λ K credit grows. (place, statement_fair s.step at (statements program side low here ss next) K (suc credit) sounds.0 (λ g. inside.0.any (calls_func g)) place grows rest) }
+      statements_fair : (cs : Codes) (next : Tree) → IsSoundBody program f.critical cs → IsPart cs body → IsFair next → IsFair (statements program side low here cs next)
+      statements_fair Codes.End next sounds part later = later
+      statements_fair (Codes.Then c cs) next sounds part later =
+          let at : At = record { func = func; stmt = number_of c } in
+          let place : IsPlace program side at = statement_place c cs sounds.0 part in
+          let rest : IsFair (statements program side low here cs next) = statements_fair cs next sounds.1 (behind_first c cs body part) later in
+          record { by = λ K credit grows. (place, statement_fair c at (statements program side low here cs next) K (suc credit) sounds.0 (first_calls c cs body part) place grows rest) }
 
   -- the same tree, whatever stands for bodies of the own half
   module _ (depth : ℕ) (low low' : Enters) where
     abbrev over : Here
     over = record { func = func; depth = depth }
 
-    called_same : (target : Option Lval) (callee : Callee) (args : List Expr) (at : At) (next : Tree) → target ≡ None → IsSoundCall program f.critical callee args
-        → values program at args (λ vs. call program side low over at callee vs (λ v. keeps program at target v next)) ≡ values program at args (λ vs. call program side low' over at callee vs (λ v. keeps program at target v next))
-    called_same target (Direct g) args at next unused s =
-        let next' : Wire → Tree = λ v. keeps program at target v next in
+    called_same : (goal : Goal) (callee : Called) (args : List Term) (at : At) (next : Tree) → goal ≡ Goal.Nowhere → IsSoundCall program f.critical callee args
+        → values program at args (λ vs. call program side low over at callee vs (λ v. keeps program at goal v next)) ≡ values program at args (λ vs. call program side low' over at callee vs (λ v. keeps program at goal v next))
+    called_same goal (Called.Direct g) args at next unused s =
+        let next' : Wire → Tree = λ v. keeps program at goal v next in
         ap (values program at args) (fun_ext (λ vs. crosses depth low g vs at next' s.0 s.1 ∙ sym (crosses depth low' g vs at next' s.0 s.1)))
-    called_same target (Service n) args at next unused s = refl
+    called_same goal (Called.Service n) args at next unused s = refl
+    called_same goal (Called.Through e) args at next unused s = elim s [ ]
 
-    statement_same : (st : Step) (at : At) (next : Tree) → IsSoundStep program f.critical st → statement program side low over at st next ≡ statement program side low' over at st next
-    statement_same (step.Assign p e) at next s = refl
-    statement_same (step.Call target form) at next s = called_same target form.callee form.args at next s.0 s.1
+    statement_same : (c : Code) (at : At) (next : Tree) → IsSoundStep program f.critical c → statement program side low over at c next ≡ statement program side low' over at c next
+    statement_same (Code.Assign n p e) at next s = refl
+    statement_same (Code.Call n goal form) at next s = called_same goal form.callee form.args at next s.0 s.1
+    statement_same _ at next s = elim s [ ]
 
-    statements_same : (ss : List Stmt) (next : Tree) → AllByRecursion (λ (s : Stmt). IsSoundStep program f.critical s.step) ss → statements program side low over ss next ≡ statements program side low' over ss next
-    statements_same [] next sounds = refl
-    statements_same (s ∷ ss) next sounds =
-        let at : At = record { func = func; stmt = s.number } in
-        ap (Tree.Tick at) (ap (statement program side low over at s.step) (statements_same ss next sounds.1) ∙ statement_same s.step at (statements program side low' over ss next) sounds.0)
+    statements_same : (cs : Codes) (next : Tree) → IsSoundBody program f.critical cs → statements program side low over cs next ≡ statements program side low' over cs next
+    statements_same Codes.End next sounds = refl
+    statements_same (Codes.Then c cs) next sounds =
+        let at : At = record { func = func; stmt = number_of c } in
+        ap (Tree.Tick at) (ap (statement program side low over at c) (statements_same cs next sounds.1) ∙ statement_same c at (statements program side low' over cs next) sounds.0)
 
   ends_fair : IsFair (Tree.Done wire.NoValue Tree.Idle)
   unfolding fits_result
@@ -404,8 +439,8 @@ fair_started program sound side n func args depth K credit called shallow known 
     let here : Here = record { func = func; depth = depth } in
     let ends : Tree = Tree.Done wire.NoValue Tree.Idle in
     let is_fair : IsFair program sound side func h.f h.body h.is (statements program side low here h.body ends) =
-    statements_fair program sound side func h.f h.body h.is depth low shallow h.body ends h.is.steps (each_in h.body) (ends_fair program sound side func h.f h.body h.is) in
-    subst (λ (ss : List Stmt). Fair program side func K credit (statements program side low here ss ends)) (sym (body_is program sound side func h.f h.body h.is))
+    statements_fair program sound side func h.f h.body h.is depth low shallow h.body ends h.is.steps (whole h.body) (ends_fair program sound side func h.f h.body h.is) in
+    subst (λ (cs : Codes). Fair program side func K credit (statements program side low here cs ends)) (sym (body_is program sound side func h.f h.body h.is))
     (is_fair.by K credit (record { stays = known }))
 
 -- what a command starts
@@ -426,7 +461,7 @@ same_started program sound side n m func args depth called =
     let h : HasBody program side func = has_body program side func sound called in
     let ends : Tree = Tree.Done wire.NoValue Tree.Idle in
     let here : Here = record { func = func; depth = depth } in
-    let is : body_of (func_at program func) ≡ h.body = body_is program sound side func h.f h.body h.is in
-    ap (λ (ss : List Stmt). statements program side (function program side n) here ss ends) is
+    let is : codes_of (body_of (func_at program func)) ≡ h.body = body_is program sound side func h.f h.body h.is in
+    ap (λ (cs : Codes). statements program side (function program side n) here cs ends) is
     ∙ statements_same program sound side func h.f h.body h.is depth (function program side n) (function program side m) h.body ends h.is.steps
-    ∙ sym (ap (λ (ss : List Stmt). statements program side (function program side m) here ss ends) is)
+    ∙ sym (ap (λ (cs : Codes). statements program side (function program side m) here cs ends) is)

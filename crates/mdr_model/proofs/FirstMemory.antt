@@ -17,7 +17,7 @@ use Rattle.mdr_model.proofs.Relations.{IsFilled, Holds}
 type_named : (t : Ty) → IsCellType t → slice_get first_types (type_number t) ≡ Some t
 type_named (ty.Int k) cell = kind_type k
 type_named ty.Lock cell = refl
-type_named ty.Void cell = elim cell [ ]
+type_named _ cell = elim cell [ ]
 
 length-map : {A B : Type 0} (f : A → B) (xs : List A) → length (map f xs) ≡ length xs
 length-map f [] = refl

@@ -26,4 +26,5 @@ pub mod Serves
 pub mod FirstMemory
 pub mod Commands
 pub mod LawProof
+pub mod WorkedCode
 pub mod WorkedProofs

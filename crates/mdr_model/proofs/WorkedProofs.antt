@@ -1,19 +1,35 @@
 -- The worked examples compute to what they say.
-use Rattle.std.proofs.Common.{[], ◌∷◌, refl}
+use Rattle.std.proofs.Common.{◌≡◌, ℕ, ◌-◌, List, [], ◌∷◌, Ok, refl, sym, ap}
+use Rattle.std.specs.Prelude.{codes}
 use Rattle.std.specs.Fmt.{digits}
-use Rattle.mdr_model.specs.Kernel.{Kernel, Pending, Over}
-use Rattle.mdr_model.specs.Law.{read}
-use Rattle.mdr_model.specs.Worked.{Place, bump, bump_answers, BumpPrints, BumpIdles, BumpStops, AddOnePrints, BumpSends, BumpSpells, reset, reset_answers, ResetPrints, ResetSends}
+use Rattle.mdr_core.specs.declared.program.Program.{Program}
+use Rattle.mdr_core.specs.declared.value.Value.TheVariants as value
+use Rattle.mdr_model.specs.declared.wire.Wire.{Wire}
+use Rattle.mdr_model.specs.declared.wire.Wire.TheVariants as wire
+use Rattle.mdr_model.specs.declared.message.BirthKind.TheVariants.{Static}
+use Rattle.mdr_model.specs.declared.message.Message.{Message}
+use Rattle.mdr_model.specs.declared.message.Message.TheVariants as message
+use Rattle.mdr_model.specs.declared.outcome.Happened.{Happened}
+use Rattle.mdr_model.specs.declared.outcome.Happened.TheVariants as happened
+use Rattle.mdr_model.specs.declared.outcome.End.TheVariants as ends
+use Rattle.mdr_model.specs.Kernel.{Kernel, Reading}
+use Rattle.mdr_model.specs.Memory.{Memory}
+use Rattle.mdr_model.specs.Watched.{Finish, finish}
+use Rattle.mdr_model.specs.User.{Delivered, Runs, done, told}
+use Rattle.mdr_core.specs.declared.plan.Half.TheVariants as half
+use Rattle.mdr_model.specs.Meaning.{function}
+use Rattle.mdr_model.proofs.WorkedCode.{add_one_bodies, add_one_code, bump_bodies, bump_code, reset_bodies, reset_code, entered, is_entered, bump_stub, bump_place, reset_stub, reset_place}
+use Rattle.mdr_model.specs.Worked.{add_one, bump, u32_value, count_view, count_is, BumpPrints, BumpIdles, BumpStops, AddOnePrints, BumpSends, BumpSpells, reset, ResetPrints, ResetSends}
 use Rattle.mdr_model.specs.Copies.{numbered, values_of_runs, put_all, put_runs, held, changed_cells, changes, died, without, with_news, news_of, values_in, agreed_after, tells, tells_no_cells}
 use Rattle.mdr_model.specs.Faults.{args_fault, fits_cell, run_fault, runs_fault}
-use Rattle.mdr_model.specs.Kernel.{has_down_stub, is_user_place, is_ask_place, is_awaited, user_stop, fault_of, calls, comes_back, answers, split_commands, applied, taken, next, first_kernel, run_from_pending, split_run}
-use Rattle.mdr_model.specs.Meaning.{is_kernel, is_user, pointer_to, function}
+use Rattle.mdr_model.specs.Kernel.{is_ask_place, is_awaited, user_stop, fault_of, calls, comes_back, answers, split_commands, applied, taken, next, first_kernel, run_from_pending, split_run}
+use Rattle.mdr_model.specs.Meaning.{is_kernel, is_user, pointer_to}
 use Rattle.mdr_model.specs.Memory.{born_at, is_live, cell_at, put, killed, normal, first_memory, reached, loaded, stored}
 use Rattle.mdr_model.specs.Outcome.{outcome_of}
 use Rattle.mdr_model.specs.Report.{value_shown, argument_shown, cell_shown, arguments_shown, cells_shown, event_line, event_lines, end_line, object_line, object_lines, report}
 use Rattle.mdr_model.specs.Sets.{is_in, cells_from, cells_of_runs, runs_of_cells, rises_after, is_keyed, visible_of, visible}
 use Rattle.mdr_model.specs.Text.{value_text, new_text, run_text, set_run_text, shape_text, text}
-use Rattle.mdr_model.specs.Tree.{}
+use Rattle.mdr_model.specs.Tree.{Tree}
 use Rattle.mdr_model.specs.User.{view_fits, runs_fit, lives_fit, call_fits, back_fits, answer_fits, opened, replied, deliver, first_user, user_after, allowance, user_reply}
 use Rattle.mdr_model.specs.Values.{fits, fits_result, is_view_of, is_same_view, is_same}
 use Rattle.mdr_model.specs.Walk.{walk}
@@ -24,76 +40,130 @@ use Rattle.mdr_core.specs.Bits.{bit_of, of_bits}
 use Rattle.mdr_core.specs.Kinds.{is_in_range}
 use Rattle.mdr_core.specs.Operators.{fitted_or, fitted, quotient, bitwise, operated, negated, flipped, is_right_operand}
 
--- where the run stands when it is over
-abbrev over_in : Pending → Kernel → Kernel
-over_in (Over end k) other = k
-over_in _ other = other
+-- functions by the trees of their bodies. A fold doesn't compute, so each stands for its function where the run calls it
+bump_user : function bump half.User ≡ entered bump bump_bodies half.User
+bump_user = is_entered bump bump_bodies bump_code half.User
 
--- the examples whose expressions have boxed parts, wherever these lie
-record Placed (place : Place) : Type 0 where
-  prints : BumpPrints place
-  idles : BumpIdles place
-  stops : BumpStops place
-  one_added : AddOnePrints place
-  sends : BumpSends place
+bump_kernel : function bump half.Kernel ≡ entered bump bump_bodies half.Kernel
+bump_kernel = is_entered bump bump_bodies bump_code half.Kernel
 
-placed : (place : Place) → Placed place
-unfolding numbered values_of_runs put_all put_runs held changed_cells changes died without with_news news_of values_in agreed_after tells tells_no_cells args_fault fits_cell run_fault runs_fault has_down_stub is_user_place is_ask_place is_awaited user_stop fault_of calls comes_back answers split_commands applied taken next first_kernel run_from_pending split_run is_kernel is_user pointer_to function born_at is_live cell_at put killed normal first_memory reached loaded stored outcome_of value_shown argument_shown cell_shown arguments_shown cells_shown event_line event_lines end_line object_line object_lines report is_in cells_from cells_of_runs runs_of_cells rises_after is_keyed visible_of visible value_text new_text run_text set_run_text shape_text text view_fits runs_fit lives_fit call_fits back_fits answer_fits opened replied deliver first_user user_after allowance user_reply fits fits_result is_view_of is_same_view is_same walk renewed in_user upcall begun returned commands first_world watched served in_kernel kernel_call four eight item opaque listed bit_of of_bits is_in_range fitted_or fitted quotient bitwise operated negated flipped is_right_operand digits
-placed place = record {
-  prints = refl;
-  idles = refl;
-  stops = refl;
-  one_added = refl;
-  sends = record {
-    sent = refl;
-    honest = (refl, (refl, (refl, (refl, tt))));
-    kernel = over_in (split_run (bump place) (1 ∷ []) 1000000 (read bump_answers)).pending (first_kernel (bump place) 0);
-    over = refl;
-    outcome = refl;
-    exchanges = refl;
-  };
+reset_user : function reset half.User ≡ entered reset reset_bodies half.User
+reset_user = is_entered reset reset_bodies reset_code half.User
+
+reset_kernel : function reset half.Kernel ≡ entered reset reset_bodies half.Kernel
+reset_kernel = is_entered reset reset_bodies reset_code half.Kernel
+
+-- ---- replies
+
+-- what the message that begins a run comes to, by the tree of its function
+abbrev opens : Program → Tree → Delivered
+opens program tree =
+    done (first_user program) (Runs tree 1000000 (cells_of_runs count_view) (agreed_after program (told [] [] []) (first_memory program)))
+
+-- that message
+abbrev begins : Reading
+begins = Ok (message.Call 1 0 1000000 [] [] [] count_view [])
+
+abbrev ends_run : Wire → Tree
+ends_run v = Tree.Done v Tree.Idle
+
+bump_opens : (fuel : ℕ) → opens bump (entered bump bump_bodies half.User fuel 1 [] 0 ends_run) ≡ deliver bump fuel (first_user bump) begins
+unfolding numbered values_of_runs put_all put_runs held changed_cells changes died without with_news news_of values_in agreed_after tells tells_no_cells args_fault fits_cell run_fault runs_fault is_ask_place is_awaited user_stop fault_of calls comes_back answers split_commands applied taken next first_kernel run_from_pending split_run is_kernel is_user pointer_to born_at is_live cell_at put killed normal first_memory reached loaded stored outcome_of value_shown argument_shown cell_shown arguments_shown cells_shown event_line event_lines end_line object_line object_lines report is_in cells_from cells_of_runs runs_of_cells rises_after is_keyed visible_of visible value_text new_text run_text set_run_text shape_text text view_fits runs_fit lives_fit call_fits back_fits answer_fits opened replied deliver first_user user_after allowance user_reply fits fits_result is_view_of is_same_view is_same walk renewed in_user upcall begun returned commands first_world watched served in_kernel kernel_call four eight item opaque listed bit_of of_bits is_in_range fitted_or fitted quotient bitwise operated negated flipped is_right_operand digits
+bump_opens fuel = ap (opens bump) (λ i. sym bump_user i fuel 1 [] 0 ends_run)
+
+reset_opens : (fuel : ℕ) → opens reset (entered reset reset_bodies half.User fuel 1 [] 0 ends_run) ≡ deliver reset fuel (first_user reset) begins
+unfolding numbered values_of_runs put_all put_runs held changed_cells changes died without with_news news_of values_in agreed_after tells tells_no_cells args_fault fits_cell run_fault runs_fault is_ask_place is_awaited user_stop fault_of calls comes_back answers split_commands applied taken next first_kernel run_from_pending split_run is_kernel is_user pointer_to born_at is_live cell_at put killed normal first_memory reached loaded stored outcome_of value_shown argument_shown cell_shown arguments_shown cells_shown event_line event_lines end_line object_line object_lines report is_in cells_from cells_of_runs runs_of_cells rises_after is_keyed visible_of visible value_text new_text run_text set_run_text shape_text text view_fits runs_fit lives_fit call_fits back_fits answer_fits opened replied deliver first_user user_after allowance user_reply fits fits_result is_view_of is_same_view is_same walk renewed in_user upcall begun returned commands first_world watched served in_kernel kernel_call four eight item opaque listed bit_of of_bits is_in_range fitted_or fitted quotient bitwise operated negated flipped is_right_operand digits
+reset_opens fuel = ap (opens reset) (λ i. sym reset_user i fuel 1 [] 0 ends_run)
+
+-- the reply to the last of these messages, which follow on that one
+abbrev replies : Program → ℕ → List Reading → Reading → Delivered → Message
+replies program fuel before last d = (deliver program fuel (user_after program fuel d.user before) last).reply
+
+-- ---- ends
+
+abbrev only_cell : ℕ → Memory
+only_cell n = record { born = record { serial = 0; kind = Static; ty = 2; count = 1 }; cells = u32_value n ∷ [] } ∷ []
+
+-- the kernel half at the end of a run of one command
+abbrev ended : (value ticks exchanges : ℕ) → List Happened → Kernel
+ended value ticks exchanges events = record {
+  world = record { memory = only_cell value; view = record { serial = 0; index = 0 } ∷ []; ticks = ticks; rest = 1000000 - ticks; events = events; calls = 1 };
+  agreed = only_cell value;
+  exchanges = exchanges;
 }
 
--- the others
-record Others : Type 0 where
-  spells : BumpSpells
-  prints : ResetPrints
-  sends : ResetSends
+abbrev bump_end : Kernel
+bump_end = ended 2 5 4 (happened.Call (codes "open") [] ∷ happened.Wrote 4 1 ∷ happened.Ret value.NoValue ∷ [])
 
-others : Others
-unfolding numbered values_of_runs put_all put_runs held changed_cells changes died without with_news news_of values_in agreed_after tells tells_no_cells args_fault fits_cell run_fault runs_fault has_down_stub is_user_place is_ask_place is_awaited user_stop fault_of calls comes_back answers split_commands applied taken next first_kernel run_from_pending split_run is_kernel is_user pointer_to function born_at is_live cell_at put killed normal first_memory reached loaded stored outcome_of value_shown argument_shown cell_shown arguments_shown cells_shown event_line event_lines end_line object_line object_lines report is_in cells_from cells_of_runs runs_of_cells rises_after is_keyed visible_of visible value_text new_text run_text set_run_text shape_text text view_fits runs_fit lives_fit call_fits back_fits answer_fits opened replied deliver first_user user_after allowance user_reply fits fits_result is_view_of is_same_view is_same walk renewed in_user upcall begun returned commands first_world watched served in_kernel kernel_call four eight item opaque listed bit_of of_bits is_in_range fitted_or fitted quotient bitwise operated negated flipped is_right_operand digits
-others = record {
-  spells = record { sent = refl; answers = refl };
-  prints = refl;
-  sends = record {
-    sent = refl;
-    honest = (refl, (refl, (refl, tt)));
-    kernel = over_in (split_run reset (1 ∷ []) 1000000 (read reset_answers)).pending (first_kernel reset 0);
-    over = refl;
-    outcome = refl;
-  };
+abbrev reset_end : Kernel
+reset_end = ended 0 4 3 (happened.Call (codes "f") [] ∷ happened.Wrote 0 0 ∷ happened.Ret value.NoValue ∷ [])
+
+-- ---- the examples
+
+bump_runs : watched bump (1 ∷ []) 1000000 ≡ finish ends.Ok bump_end.world
+unfolding numbered values_of_runs put_all put_runs held changed_cells changes died without with_news news_of values_in agreed_after tells tells_no_cells args_fault fits_cell run_fault runs_fault is_ask_place is_awaited user_stop fault_of calls comes_back answers split_commands applied taken next first_kernel run_from_pending split_run is_kernel is_user pointer_to born_at is_live cell_at put killed normal first_memory reached loaded stored is_in cells_from cells_of_runs runs_of_cells rises_after is_keyed visible_of visible view_fits runs_fit lives_fit call_fits back_fits answer_fits opened replied deliver first_user user_after allowance user_reply fits fits_result is_view_of is_same_view is_same walk renewed in_user upcall begun returned commands first_world watched served in_kernel kernel_call is_in_range fitted_or fitted quotient bitwise operated negated flipped is_right_operand
+bump_runs = rw (bump_user, bump_kernel) refl
+
+pub bump_prints : BumpPrints
+unfolding outcome_of value_shown argument_shown cell_shown arguments_shown cells_shown event_line event_lines end_line object_line object_lines report digits
+bump_prints = ap (λ (f : Finish). report bump (outcome_of f)) bump_runs
+
+pub bump_idles : BumpIdles
+unfolding numbered values_of_runs put_all put_runs held changed_cells changes died without with_news news_of values_in agreed_after tells tells_no_cells args_fault fits_cell run_fault runs_fault is_ask_place is_awaited user_stop fault_of calls comes_back answers split_commands applied taken next first_kernel run_from_pending split_run is_kernel is_user pointer_to born_at is_live cell_at put killed normal first_memory reached loaded stored outcome_of value_shown argument_shown cell_shown arguments_shown cells_shown event_line event_lines end_line object_line object_lines report is_in cells_from cells_of_runs runs_of_cells rises_after is_keyed visible_of visible value_text new_text run_text set_run_text shape_text text view_fits runs_fit lives_fit call_fits back_fits answer_fits opened replied deliver first_user user_after allowance user_reply fits fits_result is_view_of is_same_view is_same walk renewed in_user upcall begun returned commands first_world watched served in_kernel kernel_call four eight item opaque listed bit_of of_bits is_in_range fitted_or fitted quotient bitwise operated negated flipped is_right_operand digits
+bump_idles = refl
+
+pub bump_stops : BumpStops
+unfolding numbered values_of_runs put_all put_runs held changed_cells changes died without with_news news_of values_in agreed_after tells tells_no_cells args_fault fits_cell run_fault runs_fault is_ask_place is_awaited user_stop fault_of calls comes_back answers split_commands applied taken next first_kernel run_from_pending split_run is_kernel is_user pointer_to born_at is_live cell_at put killed normal first_memory reached loaded stored outcome_of value_shown argument_shown cell_shown arguments_shown cells_shown event_line event_lines end_line object_line object_lines report is_in cells_from cells_of_runs runs_of_cells rises_after is_keyed visible_of visible value_text new_text run_text set_run_text shape_text text view_fits runs_fit lives_fit call_fits back_fits answer_fits opened replied deliver first_user user_after allowance user_reply fits fits_result is_view_of is_same_view is_same walk renewed in_user upcall begun returned commands first_world watched served in_kernel kernel_call four eight item opaque listed bit_of of_bits is_in_range fitted_or fitted quotient bitwise operated negated flipped is_right_operand digits
+bump_stops = rw (bump_user, bump_kernel) refl
+
+pub add_one_prints : AddOnePrints
+unfolding numbered values_of_runs put_all put_runs held changed_cells changes died without with_news news_of values_in agreed_after tells tells_no_cells args_fault fits_cell run_fault runs_fault is_ask_place is_awaited user_stop fault_of calls comes_back answers split_commands applied taken next first_kernel run_from_pending split_run is_kernel is_user pointer_to born_at is_live cell_at put killed normal first_memory reached loaded stored outcome_of value_shown argument_shown cell_shown arguments_shown cells_shown event_line event_lines end_line object_line object_lines report is_in cells_from cells_of_runs runs_of_cells rises_after is_keyed visible_of visible value_text new_text run_text set_run_text shape_text text view_fits runs_fit lives_fit call_fits back_fits answer_fits opened replied deliver first_user user_after allowance user_reply fits fits_result is_view_of is_same_view is_same walk renewed in_user upcall begun returned commands first_world watched served in_kernel kernel_call four eight item opaque listed bit_of of_bits is_in_range fitted_or fitted quotient bitwise operated negated flipped is_right_operand digits
+add_one_prints = rw (is_entered add_one add_one_bodies add_one_code half.User) refl
+
+pub bump_sends : BumpSends
+unfolding numbered values_of_runs put_all put_runs held changed_cells changes died without with_news news_of values_in agreed_after tells tells_no_cells args_fault fits_cell run_fault runs_fault is_ask_place is_awaited user_stop fault_of calls comes_back answers split_commands applied taken next first_kernel run_from_pending split_run is_kernel is_user pointer_to born_at is_live cell_at put killed normal first_memory reached loaded stored is_in cells_from cells_of_runs runs_of_cells rises_after is_keyed visible_of visible view_fits runs_fit lives_fit call_fits back_fits answer_fits opened replied deliver first_user user_after allowance user_reply fits fits_result is_view_of is_same_view is_same walk renewed in_user upcall begun returned commands first_world watched served in_kernel kernel_call is_in_range fitted_or fitted quotient bitwise operated negated flipped is_right_operand
+bump_sends = record {
+  sent = rw (bump_place 1, bump_stub, bump_kernel, bump_place 2, bump_place 3, bump_stub, bump_kernel) refl;
+  honest = (
+    ap (λ (d : Delivered). d.reply) (bump_opens 1000001),
+    (
+      ap (replies bump 1999999 [] (Ok (message.Back 999998 wire.NoValue [] [] count_view (count_is 1)))) (bump_opens 1999999),
+      (
+        ap (replies bump 1999999 (Ok (message.Back 999998 wire.NoValue [] [] count_view (count_is 1)) ∷ []) (Ok (message.Answer [] [] []))) (bump_opens 1999999),
+        (ap (replies bump 2999994 (Ok (message.Back 999998 wire.NoValue [] [] count_view (count_is 1)) ∷ Ok (message.Answer [] [] []) ∷ []) (Ok (message.Back 999995 wire.NoValue [] [] count_view (count_is 2)))) (bump_opens 2999994), tt),
+      ),
+    ),
+  );
+  kernel = bump_end;
+  over = rw (bump_place 1, split_run, run_from_pending, bump_stub, bump_kernel, bump_place 2, bump_place 3, bump_stub, bump_kernel) refl;
+  outcome = ap outcome_of (sym bump_runs);
+  exchanges = refl;
 }
-
-pub bump_prints : (place : Place) → BumpPrints place
-bump_prints place = (placed place).prints
-
-pub bump_idles : (place : Place) → BumpIdles place
-bump_idles place = (placed place).idles
-
-pub bump_stops : (place : Place) → BumpStops place
-bump_stops place = (placed place).stops
-
-pub add_one_prints : (place : Place) → AddOnePrints place
-add_one_prints place = (placed place).one_added
-
-pub bump_sends : (place : Place) → BumpSends place
-bump_sends place = (placed place).sends
 
 pub bump_spells : BumpSpells
-bump_spells = others.spells
+unfolding four eight item opaque listed value_text new_text run_text set_run_text shape_text text bit_of of_bits
+bump_spells = record { sent = refl; answers = refl }
+
+reset_runs : watched reset (1 ∷ []) 1000000 ≡ finish ends.Ok reset_end.world
+unfolding numbered values_of_runs put_all put_runs held changed_cells changes died without with_news news_of values_in agreed_after tells tells_no_cells args_fault fits_cell run_fault runs_fault is_ask_place is_awaited user_stop fault_of calls comes_back answers split_commands applied taken next first_kernel run_from_pending split_run is_kernel is_user pointer_to born_at is_live cell_at put killed normal first_memory reached loaded stored is_in cells_from cells_of_runs runs_of_cells rises_after is_keyed visible_of visible view_fits runs_fit lives_fit call_fits back_fits answer_fits opened replied deliver first_user user_after allowance user_reply fits fits_result is_view_of is_same_view is_same walk renewed in_user upcall begun returned commands first_world watched served in_kernel kernel_call is_in_range fitted_or fitted quotient bitwise operated negated flipped is_right_operand
+reset_runs = rw (reset_user, reset_kernel) refl
 
 pub reset_prints : ResetPrints
-reset_prints = others.prints
+unfolding outcome_of value_shown argument_shown cell_shown arguments_shown cells_shown event_line event_lines end_line object_line object_lines report digits
+reset_prints = ap (λ (f : Finish). report reset (outcome_of f)) reset_runs
 
 pub reset_sends : ResetSends
-reset_sends = others.sends
+unfolding numbered values_of_runs put_all put_runs held changed_cells changes died without with_news news_of values_in agreed_after tells tells_no_cells args_fault fits_cell run_fault runs_fault is_ask_place is_awaited user_stop fault_of calls comes_back answers split_commands applied taken next first_kernel run_from_pending split_run is_kernel is_user pointer_to born_at is_live cell_at put killed normal first_memory reached loaded stored is_in cells_from cells_of_runs runs_of_cells rises_after is_keyed visible_of visible view_fits runs_fit lives_fit call_fits back_fits answer_fits opened replied deliver first_user user_after allowance user_reply fits fits_result is_view_of is_same_view is_same walk renewed in_user upcall begun returned commands first_world watched served in_kernel kernel_call is_in_range fitted_or fitted quotient bitwise operated negated flipped is_right_operand
+reset_sends = record {
+  sent = rw (reset_place 2, reset_stub, reset_kernel, reset_place 3) refl;
+  honest = (
+    ap (λ (d : Delivered). d.reply) (reset_opens 1000001),
+    (
+      ap (replies reset 1999998 [] (Ok (message.Back 999997 wire.NoValue [] [] count_view (count_is 0)))) (reset_opens 1999998),
+      (ap (replies reset 1999998 (Ok (message.Back 999997 wire.NoValue [] [] count_view (count_is 0)) ∷ []) (Ok (message.Answer [] [] []))) (reset_opens 1999998), tt),
+    ),
+  );
+  kernel = reset_end;
+  over = rw (reset_place 2, split_run, run_from_pending, reset_stub, reset_kernel, reset_place 3) refl;
+  outcome = ap outcome_of (sym reset_runs);
+}

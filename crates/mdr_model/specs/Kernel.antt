@@ -10,11 +10,8 @@ use Rattle.mdr_core.specs.declared.refusal.RefuseKind.TheVariants as refusal
 use Rattle.mdr_core.specs.declared.place.At.{At}
 use Rattle.mdr_core.specs.declared.program.Program.{Program}
 use Rattle.mdr_core.specs.declared.program.Func.{Func}
-use Rattle.mdr_core.specs.declared.code.Callee.{Callee}
-use Rattle.mdr_core.specs.declared.code.Callee.TheVariants.{Direct, Service}
-use Rattle.mdr_core.specs.declared.code.Step.{Step}
-use Rattle.mdr_core.specs.declared.code.Step.TheVariants as step
-use Rattle.mdr_core.specs.declared.code.Stmt.{Stmt}
+use Rattle.mdr_core.specs.Code.{Called, Code, Codes}
+use Rattle.mdr_core.specs.Folds.{codes_of}
 use Rattle.mdr_model.specs.declared.wire.Wire.{Wire}
 use Rattle.mdr_model.specs.declared.message.Shape64.{Shape64}
 use Rattle.mdr_model.specs.declared.message.Run.{Run}
@@ -56,28 +53,50 @@ Reading = Result Message Fault
 
 -- ---- which replies are legal
 
-abbrev pub callee_is : ℕ → Callee → Bool
-callee_is f (Direct g) = g == f
-callee_is f (Service n) = false
+-- a function is named by a call; which one a value names isn't known from the text
+abbrev pub callee_is : ℕ → Called → Bool
+callee_is f (Called.Direct g) = g == f
+callee_is f (Called.Through e) = false
+callee_is f (Called.Service n) = false
 
-abbrev pub step_calls : ℕ → Step → Bool
-step_calls f (step.Assign place e) = false
-step_calls f (step.Call target form) = callee_is f form.callee
+-- a statement, or one in it, calls a function
+abbrev mutual
+  pub calls_func : ℕ → Code → Bool
+  calls_func f (Code.Call n goal form) = callee_is f form.callee
+  calls_func f (Code.If n e one other) = any_calls f one || any_calls f other
+  calls_func f (Code.Loop n e step body) = any_calls f step || any_calls f body
+  calls_func f (Code.Block body) = any_calls f body
+  calls_func f _ = false
 
-abbrev pub calls_func : ℕ → Stmt → Bool
-calls_func f s = step_calls f s.step
+  pub any_calls : ℕ → Codes → Bool
+  any_calls f Codes.End = false
+  any_calls f (Codes.Then c cs) = calls_func f c || any_calls f cs
 
 -- a function that user code may call has a down stub: it is of the kernel half, and a body of the user half names it
 unfoldable pub has_down_stub : Program → ℕ → Bool
 has_down_stub program f =
-    is_kernel program f && list_any (λ (g : Func). not g.critical && list_any (calls_func f) (body_of (Some g))) program.funcs
+    is_kernel program f && list_any (λ (g : Func). not g.critical && any_calls f (codes_of (body_of (Some g)))) program.funcs
 
-abbrev pub has_number : ℕ → Stmt → Bool
-has_number n s = s.number == n
+-- a statement, or one in it, has a number; a block has none
+abbrev mutual
+  pub has_number : ℕ → Code → Bool
+  has_number n (Code.Declare own slot) = own == n
+  has_number n (Code.Text own slot bytes) = own == n
+  has_number n (Code.Assign own place e) = own == n
+  has_number n (Code.Call own goal form) = own == n
+  has_number n (Code.If own e one other) = own == n || any_has_number n one || any_has_number n other
+  has_number n (Code.Loop own e step body) = own == n || any_has_number n step || any_has_number n body
+  has_number n (Code.Block body) = any_has_number n body
+  has_number n (Code.Return own e) = own == n
+  has_number n (Code.Jump own way) = own == n
+
+  pub any_has_number : ℕ → Codes → Bool
+  any_has_number n Codes.End = false
+  any_has_number n (Codes.Then c cs) = has_number n c || any_has_number n cs
 
 -- a place is a statement of a function of the user half
 unfoldable pub is_user_place : Program → At → Bool
-is_user_place program at = is_user program at.func && list_any (has_number at.stmt) (body_of (func_at program at.func))
+is_user_place program at = is_user program at.func && any_has_number at.stmt (codes_of (body_of (func_at program at.func)))
 
 -- objects of locals are born and die at statement 0 of their function
 abbrev pub is_object_service : ℕ → Bool

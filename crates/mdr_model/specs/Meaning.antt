@@ -11,15 +11,9 @@ use Rattle.mdr_core.specs.declared.plan.Half.TheVariants as half
 use Rattle.mdr_core.specs.declared.program.Program.{Program}
 use Rattle.mdr_core.specs.declared.program.GlobalDef.{GlobalDef}
 use Rattle.mdr_core.specs.declared.program.Func.{Func}
-use Rattle.mdr_core.specs.declared.code.Lval.{Lval}
-use Rattle.mdr_core.specs.declared.code.Lval.TheVariants.{Global}
-use Rattle.mdr_core.specs.declared.code.Expr.{Expr}
-use Rattle.mdr_core.specs.declared.code.Expr.TheVariants as expr
-use Rattle.mdr_core.specs.declared.code.Callee.{Callee}
-use Rattle.mdr_core.specs.declared.code.Callee.TheVariants.{Direct, Service}
-use Rattle.mdr_core.specs.declared.code.Step.{Step}
-use Rattle.mdr_core.specs.declared.code.Step.TheVariants as step
 use Rattle.mdr_core.specs.declared.code.Stmt.{Stmt}
+use Rattle.mdr_core.specs.Code.{Term, Lvalue, Called, Goal, Code, Codes}
+use Rattle.mdr_core.specs.Folds.{codes_of}
 use Rattle.mdr_core.specs.Operators.{operated}
 use Rattle.mdr_model.specs.declared.wire.Wire.{Wire}
 use Rattle.mdr_model.specs.declared.wire.Wire.TheVariants as wire
@@ -59,9 +53,11 @@ type_of_global None = 0
 type_of_global (Some g) = type_number g.ty
 
 -- the address of an lvalue: a view of one element
-unfoldable pub pointer_to : Program → Lval → Wire
-pointer_to program (Global g) =
+unfoldable pub pointer_to : Program → Lvalue → Wire
+pointer_to program (Lvalue.Global g) =
     wire.Ptr (record { serial = g; first = 0; ty = type_of_global (slice_get program.globals g); count = 1; index = 0 })
+-- other lvalues aren't built: no sound program has one
+pointer_to program _ = wire.Null
 
 abbrev pub stop_of : Undefined → StopKind
 stop_of undefined.Overflow = stop.Overflow
@@ -72,13 +68,15 @@ abbrev pub given : Result ℤ Undefined → Kind → At → (Wire → Tree) → 
 given (Ok n) kind at k = k (wire.Int kind n)
 given (Err why) kind at k = Tree.Stop (stop_of why) at
 
-abbrev pub value : Program → At → Expr → (Wire → Tree) → Tree
-value program at (expr.Lit v) k = k (wire_of v)
-value program at (expr.Load place) k = Tree.Load at (pointer_to program place) k
-value program at (expr.Bin' op kind p a q b) k =
+abbrev pub value : Program → At → Term → (Wire → Tree) → Tree
+value program at (Term.Lit v) k = k (wire_of v)
+value program at (Term.Load place) k = Tree.Load at (pointer_to program place) k
+value program at (Term.Bin op kind a b) k =
     value program at a (λ x. value program at b (λ y. given (operated op kind (integer x) (integer y)) kind at k))
+-- other expressions aren't built: no sound program has one, and it ends here
+value program at _ k = Tree.Stop stop.NoValue at
 
-abbrev pub values : Program → At → List Expr → (List Wire → Tree) → Tree
+abbrev pub values : Program → At → List Term → (List Wire → Tree) → Tree
 values program at [] k = k []
 values program at (e ∷ es) k = value program at e (λ v. values program at es (λ vs. k (v ∷ vs)))
 
@@ -107,39 +105,57 @@ abbrev pub first_result : List Wire → Wire
 first_result [] = wire.NoValue
 first_result (v ∷ vs) = v
 
-abbrev pub call : Program → Half → Enters → Here → At → Callee → List Wire → (Wire → Tree) → Tree
-call program half low here at (Direct f) vs k =
+abbrev pub call : Program → Half → Enters → Here → At → Called → List Wire → (Wire → Tree) → Tree
+call program half low here at (Called.Direct f) vs k =
     at_depth (nat_lt (suc here.depth) 256) at
     (λ z. by_half (is_own program half f) (λ z. low f vs (suc here.depth) k) (Tree.Cross at f vs (suc here.depth) k))
-call program half low here at (Service n) vs k =
+call program half low here at (Called.Service n) vs k =
     Tree.Ask (record { service = n; at = at; args = vs; shapes = []; bytes = [] }) (λ results. k (first_result results))
+-- a call through a value isn't built: no sound program has one
+call program half low here at (Called.Through e) vs k = Tree.Stop stop.NoValue at
 
 -- where the value of a call goes; a value that is used must be there (C99 6.9.1, paragraph 12)
-abbrev pub keeps : Program → At → Option Lval → Wire → Tree → Tree
-keeps program at None v next = next
-keeps program at (Some place) wire.NoValue next = Tree.Stop stop.NoValue at
-keeps program at (Some place) v next = Tree.Store at (pointer_to program place) v next
+abbrev pub keeps : Program → At → Goal → Wire → Tree → Tree
+keeps program at Goal.Nowhere v next = next
+keeps program at (Goal.Into place) wire.NoValue next = Tree.Stop stop.NoValue at
+keeps program at (Goal.Into place) v next = Tree.Store at (pointer_to program place) v next
+-- a returned call isn't built: no sound program has one
+keeps program at Goal.Back v next = Tree.Stop stop.NoValue at
 
 -- one statement; the right side of an assignment is evaluated before the left
-abbrev pub statement : Program → Half → Enters → Here → At → Step → Tree → Tree
-statement program half low here at (step.Assign place e) next =
+abbrev pub statement : Program → Half → Enters → Here → At → Code → Tree → Tree
+statement program half low here at (Code.Assign n place e) next =
     value program at e (λ v. Tree.Store at (pointer_to program place) v next)
-statement program half low here at (step.Call target form) next =
-    values program at form.args (λ vs. call program half low here at form.callee vs (λ v. keeps program at target v next))
+statement program half low here at (Code.Call n goal form) next =
+    values program at form.args (λ vs. call program half low here at form.callee vs (λ v. keeps program at goal v next))
+-- other statements aren't built: no sound program has one, and it ends here
+statement program half low here at _ next = Tree.Stop stop.NoValue at
+
+-- a statement's number; a block has none
+abbrev pub number_of : Code → ℕ
+number_of (Code.Declare n slot) = n
+number_of (Code.Text n slot bytes) = n
+number_of (Code.Assign n place e) = n
+number_of (Code.Call n goal form) = n
+number_of (Code.If n e one other) = n
+number_of (Code.Loop n e step body) = n
+number_of (Code.Block body) = 0
+number_of (Code.Return n e) = n
+number_of (Code.Jump n way) = n
 
 -- each statement takes a tick, and the end of the function none
-abbrev pub statements : Program → Half → Enters → Here → List Stmt → Tree → Tree
-statements program half low here [] next = next
-statements program half low here (s ∷ ss) next =
-    let at : At = record { func = here.func; stmt = s.number } in
-    Tree.Tick at (statement program half low here at s.step (statements program half low here ss next))
+abbrev pub statements : Program → Half → Enters → Here → Codes → Tree → Tree
+statements program half low here Codes.End next = next
+statements program half low here (Codes.Then c cs) next =
+    let at : At = record { func = here.func; stmt = number_of c } in
+    Tree.Tick at (statement program half low here at c (statements program half low here cs next))
 
 -- a function of the own half. Fuel is used where a called body is entered, which a tick precedes; where it runs out no tick is left
 unfoldable pub function : Program → Half → ℕ → Enters
 function program half zero f args depth k =
     let at : At = record { func = f; stmt = 0 } in Tree.Tick at (Tree.Stop stop.Ticks at)
 function program half (suc n) f args depth k =
-    statements program half (function program half n) (record { func = f; depth = depth }) (body_of (func_at program f)) (k wire.NoValue)
+    statements program half (function program half n) (record { func = f; depth = depth }) (codes_of (body_of (func_at program f))) (k wire.NoValue)
 
 -- a function that was started with nothing below it
 abbrev pub started : Program → Half → ℕ → (func : ℕ) (args : List Wire) (depth : ℕ) → Tree

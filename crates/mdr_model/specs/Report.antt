@@ -100,6 +100,8 @@ abbrev pub type_name : Ty → List ℕ
 type_name (ty.Int k) = kind_name k
 type_name ty.Lock = codes "combolock_t"
 type_name ty.Void = codes "void"
+-- other types aren't built: no object has one
+type_name _ = []
 
 abbrev pub type_name_or : Option Ty → List ℕ
 type_name_or None = []

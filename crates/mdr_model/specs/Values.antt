@@ -21,7 +21,8 @@ use Rattle.mdr_model.specs.declared.message.New.{New}
 abbrev pub type_number : Ty → ℕ
 type_number (ty.Int k) = kind_number k
 type_number ty.Lock = 8
-type_number ty.Void = 9
+-- other types aren't built: no table has one
+type_number _ = 9
 
 -- the type with a number
 abbrev pub type_at : Program → ℕ → Option Ty
@@ -36,6 +37,8 @@ fits_type (ty.Int k) _ = false
 fits_type ty.Lock (wire.Lock s) = true
 fits_type ty.Lock _ = false
 fits_type ty.Void _ = false
+-- other types aren't built: no value fits one
+fits_type _ _ = false
 
 abbrev pub fits_maybe : Option Ty → Wire → Bool
 fits_maybe None v = false
@@ -60,6 +63,8 @@ abbrev pub zero_of_type : Ty → Wire
 zero_of_type (ty.Int k) = wire.Int k (pos 0)
 zero_of_type ty.Lock = wire.Lock Free
 zero_of_type ty.Void = wire.NoValue
+-- other types aren't built: no cell has one
+zero_of_type _ = wire.NoValue
 
 abbrev pub zero_maybe : Option Ty → Wire
 zero_maybe None = wire.NoValue

@@ -1,6 +1,5 @@
 -- Drivers worked out: what the definitions compute to on them.
-use Rattle.std.specs.Prelude.{◌≡◌, ℕ, Bool, true, false, List, [], ◌∷◌, ◌++◌, map, Some, None, codes, pos, Box}
-use Rattle.std.specs.declared.alloc.Global.{Global as Heap}
+use Rattle.std.specs.Prelude.{◌≡◌, ℕ, Bool, true, false, List, [], ◌∷◌, ◌++◌, map, Some, None, codes, pos}
 use Rattle.mdr_core.specs.declared.kind.Kind.TheVariants.{U32}
 use Rattle.mdr_core.specs.declared.types.Ty.TheVariants as ty
 use Rattle.mdr_core.specs.declared.types.Ann.TheVariants.{Single}
@@ -30,10 +29,6 @@ use Rattle.mdr_model.specs.Report.{report}
 use Rattle.mdr_model.specs.Sound.{first_types}
 use Rattle.mdr_model.specs.Law.{read, IsHonest}
 
--- where a boxed part of an expression lies, which no definition reads
-abbrev pub Place : Type 0
-Place = Box (Unit {0}) Heap
-
 abbrev pub number : ℕ → Expr
 number n = expr.Lit (value.Int U32 (pos n))
 
@@ -45,20 +40,20 @@ function_named name critical body =
     record { name = name; params = []; result = ty.Void; ann = Single; locals = []; critical = critical; body = Some body }
 
 -- G = G + 1;
-abbrev pub increment : Place → ℕ → Stmt
-increment place n = record { number = n; step = step.Assign (Global 0) (expr.Bin' Add U32 place (expr.Load (Global 0)) place (number 1)) }
+abbrev pub increment : ℕ → Stmt
+increment n = record { number = n; step = step.Assign (Global 0) (expr.Bin Add U32 (expr.Load (Global 0)) (number 1)) }
 
 abbrev pub call_of : ℕ → ℕ → Stmt
 call_of n f = record { number = n; step = step.Call None (record { callee = Direct f; args = []; shape = None; format = None }) }
 
 -- u32 count; __critical void bump(void){count=count+1;} void open(void){bump(); writel(count,4); bump();}
-abbrev pub bump : Place → Program
-bump place = record {
+abbrev pub bump : Program
+bump = record {
   types = first_types;
   structs = [];
   globals = global (codes "count") ∷ [];
   funcs =
-      function_named (codes "bump") true (increment place 1 ∷ [])
+      function_named (codes "bump") true (increment 1 ∷ [])
       ∷ function_named (codes "open") false (
       call_of 1 0
       ∷ record { number = 2; step = step.Call None (record { callee = Service 5; args = expr.Load (Global 0) ∷ number 4 ∷ []; shape = None; format = None }) }
@@ -68,12 +63,12 @@ bump place = record {
 }
 
 -- u32 a; void f(void){a=a+1;}
-abbrev pub add_one : Place → Program
-add_one place = record {
+abbrev pub add_one : Program
+add_one = record {
   types = first_types;
   structs = [];
   globals = global (codes "a") ∷ [];
-  funcs = function_named (codes "f") false (increment place 1 ∷ []) ∷ [];
+  funcs = function_named (codes "f") false (increment 1 ∷ []) ∷ [];
 }
 
 -- G = n;
@@ -101,21 +96,21 @@ reset = record {
 abbrev pub printed : Program → List ℕ → List ℕ
 printed program script = report program (outcome_of (watched program script 1000000))
 
-abbrev pub BumpPrints : Place → Type 0
-BumpPrints place = printed (bump place) (1 ∷ []) ≡ codes "call open\nW 4 1\nret none\nend ok\nticks 5\nlive 1\nobj 1 u32 x1: 2\n"
+abbrev pub BumpPrints : Type 0
+BumpPrints = printed bump (1 ∷ []) ≡ codes "call open\nW 4 1\nret none\nend ok\nticks 5\nlive 1\nobj 1 u32 x1: 2\n"
 
 -- the empty script
-abbrev pub BumpIdles : Place → Type 0
-BumpIdles place = printed (bump place) [] ≡ codes "end ok\nticks 0\nlive 1\nobj 1 u32 x1: 0\n"
+abbrev pub BumpIdles : Type 0
+BumpIdles = printed bump [] ≡ codes "end ok\nticks 0\nlive 1\nobj 1 u32 x1: 0\n"
 
 -- four ticks are one too few
-abbrev pub BumpStops : Place → Type 0
-BumpStops place =
-    report (bump place) (outcome_of (watched (bump place) (1 ∷ []) 4))
+abbrev pub BumpStops : Type 0
+BumpStops =
+    report bump (outcome_of (watched bump (1 ∷ []) 4))
     ≡ codes "call open\nW 4 1\nstop Ticks at bump 1\nticks 4\nlive 1\nobj 1 u32 x1: 1\n"
 
-abbrev pub AddOnePrints : Place → Type 0
-AddOnePrints place = printed (add_one place) (0 ∷ []) ≡ codes "call f\nret none\nend ok\nticks 1\nlive 1\nobj 1 u32 x1: 1\n"
+abbrev pub AddOnePrints : Type 0
+AddOnePrints = printed add_one (0 ∷ []) ≡ codes "call f\nret none\nend ok\nticks 1\nlive 1\nobj 1 u32 x1: 1\n"
 
 -- what the user half set and the kernel half set back
 abbrev pub ResetPrints : Type 0
@@ -151,12 +146,12 @@ bump_answers =
     ∷ []
 
 -- the eight messages: these are sent over these answers, these answers are honest, and the run is over with the report's outcome
-pub record BumpSends (place : Place) : Type 0 where
-  pub sent : (split_run (bump place) (1 ∷ []) 1000000 (read bump_answers)).sent ≡ bump_sent
-  pub honest : IsHonest (bump place) [] bump_sent bump_answers
+pub record BumpSends : Type 0 where
+  pub sent : (split_run bump (1 ∷ []) 1000000 (read bump_answers)).sent ≡ bump_sent
+  pub honest : IsHonest bump [] bump_sent bump_answers
   pub kernel : Kernel
-  pub over : (split_run (bump place) (1 ∷ []) 1000000 (read bump_answers)).pending ≡ Over ends.Ok kernel
-  pub outcome : outcome_of (finish ends.Ok kernel.world) ≡ outcome_of (watched (bump place) (1 ∷ []) 1000000)
+  pub over : (split_run bump (1 ∷ []) 1000000 (read bump_answers)).pending ≡ Over ends.Ok kernel
+  pub outcome : outcome_of (finish ends.Ok kernel.world) ≡ outcome_of (watched bump (1 ∷ []) 1000000)
   pub exchanges : kernel.exchanges ≡ 4
 
 -- the messages of the driver that sets back: each change is compared with what was told last by either half

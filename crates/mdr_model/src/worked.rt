@@ -1,31 +1,30 @@
-// Worked examples, each a law that computing shows. `place` is where the boxed parts of the driver's expressions
-// lie, which no definition reads.
+// Worked examples, each a law that computing shows.
 
-ghost use Rattle.mdr_model.specs.Worked.{Place, BumpPrints, BumpIdles, BumpStops, AddOnePrints, BumpSends, BumpSpells, ResetPrints, ResetSends};
+ghost use Rattle.mdr_model.specs.Worked.{BumpPrints, BumpIdles, BumpStops, AddOnePrints, BumpSends, BumpSpells, ResetPrints, ResetSends};
 
 /// A driver whose function in the user half calls one in the kernel half twice, and writes a register between.
 pub fn bump_prints_its_report()
-    ensures { (place : Place) → BumpPrints place }
+    ensures { BumpPrints }
 {}
 
 /// The same driver with an empty script.
 pub fn an_empty_script_ends_at_once()
-    ensures { (place : Place) → BumpIdles place }
+    ensures { BumpIdles }
 {}
 
 /// The same driver under a budget that ends within its last call.
 pub fn a_budget_stops_the_run()
-    ensures { (place : Place) → BumpStops place }
+    ensures { BumpStops }
 {}
 
 /// A driver without a kernel half.
 pub fn add_one_prints_its_report()
-    ensures { (place : Place) → AddOnePrints place }
+    ensures { AddOnePrints }
 {}
 
 /// The messages of the first driver's run: eight, honest, and to the report's outcome.
 pub fn bump_sends_eight_messages()
-    ensures { (place : Place) → BumpSends place }
+    ensures { BumpSends }
 {}
 
 /// The bytes of these messages.
