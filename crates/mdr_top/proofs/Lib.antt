@@ -4,7 +4,6 @@ pub mod Programs
 pub mod BegunCalls
 pub mod Meanings
 pub mod Headline
-pub mod SameScripts
 pub mod Complete
 pub mod Comes
 pub mod Exact
