@@ -9,3 +9,4 @@ pub mod Rising
 pub mod Arguments
 pub mod EvaluatedLaws
 pub mod SoundMemories
+pub mod CodeForms
