@@ -1,7 +1,5 @@
 -- Laws of expressions: which values they have, and what a tree that begins with one does on a memory.
 use Rattle.std.proofs.Common.{◌≡◌, ℕ, Bool, true, List, Option, Result, Ok, Err, ℤ, refl, sym, ap, ◌∙◌, subst, slice_get}
-use Rattle.std.specs.Prelude.{Box}
-use Rattle.std.specs.declared.alloc.Global.{Global as Heap}
 use Rattle.mdr_core.specs.declared.kind.Kind.{Kind}
 use Rattle.mdr_core.specs.declared.types.Ty.{Ty}
 use Rattle.mdr_core.specs.declared.types.Ty.TheVariants as ty
@@ -9,11 +7,14 @@ use Rattle.mdr_core.specs.declared.undefined.Undefined.{Undefined}
 use Rattle.mdr_core.specs.declared.stop.StopKind.{StopKind}
 use Rattle.mdr_core.specs.declared.place.At.{At}
 use Rattle.mdr_core.specs.declared.program.Program.{Program}
-use Rattle.mdr_core.specs.declared.code.Lval.{Lval}
-use Rattle.mdr_core.specs.declared.code.Lval.TheVariants.{Global}
 use Rattle.mdr_core.specs.declared.code.BinOp.{BinOp}
 use Rattle.mdr_core.specs.declared.code.Expr.{Expr}
+use Rattle.mdr_core.specs.declared.code.Expr.TheOpen.{Expr-F}
+use Rattle.mdr_core.specs.declared.code.Expr.TheFolds.{fold-roll-Expr}
 use Rattle.mdr_core.specs.declared.code.Expr.TheVariants as expr
+use Rattle.mdr_core.specs.declared.code.Expr.TheVariants.{rolls-Bin}
+use Rattle.mdr_core.specs.Code.{Term, Lvalue}
+use Rattle.mdr_core.specs.Folds.{term_layer, lvalue_layer, term_of}
 use Rattle.mdr_core.specs.Kinds.{kind_number, is_same_kind, is_in_range}
 use Rattle.mdr_core.specs.Operators.{operated, is_right_operand}
 use Rattle.mdr_core.proofs.Operators.{right_operand_in_range, operated-in_range}
@@ -61,14 +62,15 @@ fits_kind program kind v sound = ap (λ (t : Option Ty). fits_maybe t v) (ap (λ
 -- ---- the values of expressions
 
 -- what is loaded from a variable fits its kind
-variable_fits : (allowed : Cell → Bool) (program : Program) (m : Memory) (place : Lval) (kind : Kind) (v : Wire) → IsSound program → IsSoundMemory program m → IsSoundPlace program place kind
+variable_fits : (allowed : Cell → Bool) (program : Program) (m : Memory) (place : Lvalue) (kind : Kind) (v : Wire) → IsSound program → IsSoundMemory program m → IsSoundPlace program place kind
     → loaded allowed m (pointer_to program place) ≡ Ok v → fits_type (ty.Int kind) v ≡ true
 unfolding pointer_to
-variable_fits allowed program m (Global g) kind v sound memory s e =
+variable_fits allowed program m (Lvalue.Global g) kind v sound memory s e =
     let p : WireView = record { serial = g; first = 0; ty = type_of_global (slice_get program.globals g); count = 1; index = 0 } in
     let fit : fits program (type_number s.global.ty) v ≡ true =
     cell_filled program m (cell_of p) v _ memory.filled (loaded_is allowed m p v e) (memory.globals g s.global s.declared) in
     sym (fits_kind program kind v sound) ∙ sym (ap (λ (t : Ty). fits program (type_number t) v) s.kind) ∙ fit
+variable_fits allowed program m _ kind v sound memory s e = elim s [ ]
 
 computed_fits : (op : BinOp) (kind : Kind) (x y v : Wire) → fits_type (ty.Int kind) x ≡ true → fits_type (ty.Int kind) y ≡ true
     → numbered_at kind (operated op kind (integer x) (integer y)) ≡ Ok v → fits_type (ty.Int kind) v ≡ true
@@ -82,14 +84,14 @@ computed_fits op kind x y v hx hy e = of (operated op kind (integer x) (integer 
     of (Err why) q h = absurd (Prim.cc)
 
 -- an expression's value fits its kind
-pub evaluated_fits : (allowed : Cell → Bool) (program : Program) (m : Memory) (e : Expr) (kind : Kind) (v : Wire) → IsSound program → IsSoundMemory program m → IsSoundExpr program e kind
+pub evaluated_fits : (allowed : Cell → Bool) (program : Program) (m : Memory) (e : Term) (kind : Kind) (v : Wire) → IsSound program → IsSoundMemory program m → IsSoundExpr program e kind
     → evaluated allowed program m e ≡ Ok v → fits_type (ty.Int kind) v ≡ true
 unfolding evaluated
-evaluated_fits allowed program m (expr.Lit w) kind v sound memory s e =
+evaluated_fits allowed program m (Term.Lit w) kind v sound memory s e =
     let same : wire_of w ≡ v = Prim.cc in
     subst (λ (x : Wire). fits_type (ty.Int kind) x ≡ true) same s
-evaluated_fits allowed program m (expr.Load place) kind v sound memory s e = variable_fits allowed program m place kind v sound memory s e
-evaluated_fits allowed program m (expr.Bin' op l p a q b) kind v sound memory s e =
+evaluated_fits allowed program m (Term.Load place) kind v sound memory s e = variable_fits allowed program m place kind v sound memory s e
+evaluated_fits allowed program m (Term.Bin op l a b) kind v sound memory s e =
     first (evaluated allowed program m a) (λ x h. evaluated_fits allowed program m a kind x sound memory s.1 h) (λ y h. evaluated_fits allowed program m b kind y sound memory s.2 h) e
   where
     second : (x : Wire) (r : Result Wire StopKind) → fits_type (ty.Int kind) x ≡ true → ((y : Wire) → r ≡ Ok y → fits_type (ty.Int kind) y ≡ true)
@@ -102,33 +104,37 @@ evaluated_fits allowed program m (expr.Bin' op l p a q b) kind v sound memory s 
         → after_value r (λ x. after_value (evaluated allowed program m b) (λ y. numbered_at l (operated op l (integer x) (integer y)))) ≡ Ok v → fits_type (ty.Int kind) v ≡ true
     first (Ok x) fit fit' h = second x (evaluated allowed program m b) (fit x refl) fit' h
     first (Err why) fit fit' h = absurd (Prim.cc)
+evaluated_fits allowed program m _ kind v sound memory s e = elim s [ ]
 
-pub evaluated_in_range : (allowed : Cell → Bool) (program : Program) (m : Memory) (e : Expr) (kind : Kind) (v : Wire) → IsSound program → IsSoundMemory program m → IsSoundExpr program e kind
+pub evaluated_in_range : (allowed : Cell → Bool) (program : Program) (m : Memory) (e : Term) (kind : Kind) (v : Wire) → IsSound program → IsSoundMemory program m → IsSoundExpr program e kind
     → evaluated allowed program m e ≡ Ok v → is_in_range kind (integer v) ≡ true
 evaluated_in_range allowed program m e kind v sound memory s h = number_in_range kind v (evaluated_fits allowed program m e kind v sound memory s h)
 
 -- the operands of an operator
-pub left_in_range : (allowed : Cell → Bool) (program : Program) (m : Memory) (op : BinOp) (kind : Kind) (left right e : Expr) (place place' : Box (Unit {0}) Heap) (v : Wire) → IsSound program → IsSoundMemory program m
-    → e ≡ expr.Bin' op kind place left place' right → (k : Kind) × IsSoundExpr program e k → evaluated allowed program m left ≡ Ok v → is_in_range kind (integer v) ≡ true
-left_in_range allowed program m op kind left right e place place' v sound memory is s h =
-    let own : (k : Kind) × IsSoundExpr program (expr.Bin' op kind place left place' right) k = subst (λ (x : Expr). (k : Kind) × IsSoundExpr program x k) is s in
-    evaluated_in_range allowed program m left kind v sound memory (subst (IsSoundExpr program left) (sym own.1.0) own.1.1) h
+bin_is : (op : BinOp) (kind : Kind) (a b : Expr) → term_of (expr.Bin op kind a b) ≡ Term.Bin op kind (term_of a) (term_of b)
+bin_is op kind a b = ap term_of (sym (rolls-Bin op kind a b)) ∙ fold-roll-Expr Term Lvalue term_layer lvalue_layer (Expr-F.Bin op kind a b)
 
-pub right_in_range : (allowed : Cell → Bool) (program : Program) (m : Memory) (op : BinOp) (kind : Kind) (left right e : Expr) (place place' : Box (Unit {0}) Heap) (v : Wire) → IsSound program → IsSoundMemory program m
-    → e ≡ expr.Bin' op kind place left place' right → (k : Kind) × IsSoundExpr program e k → evaluated allowed program m right ≡ Ok v → is_right_operand op kind (integer v) ≡ true
-right_in_range allowed program m op kind left right e place place' v sound memory is s h =
-    let own : (k : Kind) × IsSoundExpr program (expr.Bin' op kind place left place' right) k = subst (λ (x : Expr). (k : Kind) × IsSoundExpr program x k) is s in
-    right_operand op kind (integer v) (evaluated_in_range allowed program m right kind v sound memory (subst (IsSoundExpr program right) (sym own.1.0) own.1.2) h)
+pub left_in_range : (allowed : Cell → Bool) (program : Program) (m : Memory) (op : BinOp) (kind : Kind) (left right e : Expr) (v : Wire) → IsSound program → IsSoundMemory program m
+    → e ≡ expr.Bin op kind left right → (k : Kind) × IsSoundExpr program (term_of e) k → evaluated allowed program m (term_of left) ≡ Ok v → is_in_range kind (integer v) ≡ true
+left_in_range allowed program m op kind left right e v sound memory is s h =
+    let own : (k : Kind) × IsSoundExpr program (Term.Bin op kind (term_of left) (term_of right)) k = subst (λ (x : Term). (k : Kind) × IsSoundExpr program x k) (ap term_of is ∙ bin_is op kind left right) s in
+    evaluated_in_range allowed program m (term_of left) kind v sound memory (subst (IsSoundExpr program (term_of left)) (sym own.1.0) own.1.1) h
+
+pub right_in_range : (allowed : Cell → Bool) (program : Program) (m : Memory) (op : BinOp) (kind : Kind) (left right e : Expr) (v : Wire) → IsSound program → IsSoundMemory program m
+    → e ≡ expr.Bin op kind left right → (k : Kind) × IsSoundExpr program (term_of e) k → evaluated allowed program m (term_of right) ≡ Ok v → is_right_operand op kind (integer v) ≡ true
+right_in_range allowed program m op kind left right e v sound memory is s h =
+    let own : (k : Kind) × IsSoundExpr program (Term.Bin op kind (term_of left) (term_of right)) k = subst (λ (x : Term). (k : Kind) × IsSoundExpr program x k) (ap term_of is ∙ bin_is op kind left right) s in
+    right_operand op kind (integer v) (evaluated_in_range allowed program m (term_of right) kind v sound memory (subst (IsSoundExpr program (term_of right)) (sym own.1.0) own.1.2) h)
 
 -- ---- trees that begin with an expression
 
 -- a walk evaluates it, and goes on with its value
-pub walk_value : (allowed : Cell → Bool) (n : ℕ) (program : Program) (at : At) (e : Expr) (k : Wire → Tree) (m : Memory)
+pub walk_value : (allowed : Cell → Bool) (n : ℕ) (program : Program) (at : At) (e : Term) (k : Wire → Tree) (m : Memory)
     → walk allowed n (value program at e k) m ≡ on_load (evaluated allowed program m e) at m n (λ v. walk allowed n (k v) m)
 unfolding walk evaluated
-walk_value allowed n program at (expr.Lit v) k m = refl
-walk_value allowed n program at (expr.Load place) k m = refl
-walk_value allowed n program at (expr.Bin' op kind p a q b) k m =
+walk_value allowed n program at (Term.Lit v) k m = refl
+walk_value allowed n program at (Term.Load place) k m = refl
+walk_value allowed n program at (Term.Bin op kind a b) k m =
     walk_value allowed n program at a (λ x. value program at b (λ y. given (operated op kind (integer x) (integer y)) kind at k)) m
     ∙ first (evaluated allowed program m a) (λ x. walk_value allowed n program at b (λ y. given (operated op kind (integer x) (integer y)) kind at k) m)
   where
@@ -149,14 +155,15 @@ walk_value allowed n program at (expr.Bin' op kind p a q b) k m =
         ≡ on_load (after_value r (λ x. after_value (evaluated allowed program m b) (λ y. numbered_at kind (operated op kind (integer x) (integer y))))) at m n (λ v. walk allowed n (k v) m)
     first (Ok x) later = later x ∙ second x (evaluated allowed program m b)
     first (Err why) later = refl
+walk_value allowed n program at _ k m = refl
 
 -- and so does the kernel half
-pub kernel_value : (program : Program) (at : At) (e : Expr) (k : Wire → Tree) (w : World)
+pub kernel_value : (program : Program) (at : At) (e : Term) (k : Wire → Tree) (w : World)
     → in_kernel (value program at e k) w ≡ when_loaded (evaluated everywhere program w.memory e) at w (λ v. in_kernel (k v) w)
 unfolding in_kernel evaluated
-kernel_value program at (expr.Lit v) k w = refl
-kernel_value program at (expr.Load place) k w = refl
-kernel_value program at (expr.Bin' op kind p a q b) k w =
+kernel_value program at (Term.Lit v) k w = refl
+kernel_value program at (Term.Load place) k w = refl
+kernel_value program at (Term.Bin op kind a b) k w =
     kernel_value program at a (λ x. value program at b (λ y. given (operated op kind (integer x) (integer y)) kind at k)) w
     ∙ first (evaluated everywhere program w.memory a) (λ x. kernel_value program at b (λ y. given (operated op kind (integer x) (integer y)) kind at k) w)
   where
@@ -177,3 +184,4 @@ kernel_value program at (expr.Bin' op kind p a q b) k w =
         ≡ when_loaded (after_value r (λ x. after_value (evaluated everywhere program w.memory b) (λ y. numbered_at kind (operated op kind (integer x) (integer y))))) at w (λ v. in_kernel (k v) w)
     first (Ok x) later = later x ∙ second x (evaluated everywhere program w.memory b)
     first (Err why) later = refl
+kernel_value program at _ k w = refl

@@ -7,6 +7,6 @@ pub mod FirstFaults
 pub mod Births
 pub mod Rising
 pub mod Arguments
-pub mod Variables
 pub mod EvaluatedLaws
 pub mod SoundMemories
+pub mod CodeForms

@@ -9,8 +9,7 @@ use Rattle.mdr_core.specs.declared.types.Ty.{Ty}
 use Rattle.mdr_core.specs.declared.types.Ty.TheVariants as ty
 use Rattle.mdr_core.specs.declared.program.Program.{Program}
 use Rattle.mdr_core.specs.declared.program.GlobalDef.{GlobalDef}
-use Rattle.mdr_core.specs.declared.code.Lval.{Lval}
-use Rattle.mdr_core.specs.declared.code.Lval.TheVariants.{Global}
+use Rattle.mdr_core.specs.Code.{Lvalue}
 use Rattle.mdr_core.specs.declared.refusal.RefuseKind.TheVariants as refusal
 use Rattle.mdr_core.specs.Kinds.{is_in_range}
 use Rattle.mdr_model.specs.declared.wire.Wire.{Wire}
@@ -69,10 +68,10 @@ put_is_sound program m c v h fit = record {
   filled = filled_put program m c v h.filled fit;
 }
 
-pub stored_is_sound : (allowed : Cell → Bool) (program : Program) (m m' : Memory) (place : Lval) (kind : Kind) (v : Wire) → IsSoundPlace program place kind → fits_type (ty.Int kind) v ≡ true
+pub stored_is_sound : (allowed : Cell → Bool) (program : Program) (m m' : Memory) (place : Lvalue) (kind : Kind) (v : Wire) → IsSoundPlace program place kind → fits_type (ty.Int kind) v ≡ true
     → IsSound program → IsSoundMemory program m → stored allowed m (pointer_to program place) v ≡ Ok m' → IsSoundMemory program m'
 unfolding pointer_to
-stored_is_sound allowed program m m' (Global g) kind v s fit sound memory e =
+stored_is_sound allowed program m m' (Lvalue.Global g) kind v s fit sound memory e =
     let p : WireView = record { serial = g; first = 0; ty = type_of_global (slice_get program.globals g); count = 1; index = 0 } in
     let fits_it : fits program (type_number s.global.ty) v ≡ true = ap (λ (t : Ty). fits program (type_number t) v) s.kind ∙ fits_kind program kind v sound ∙ fit in
     let is_born : born_at m g ≡ Some (global_block g s.global).born = memory.globals g s.global s.declared in
@@ -80,6 +79,7 @@ stored_is_sound allowed program m m' (Global g) kind v s fit sound memory e =
     (subst (λ (w : Wire). IsSoundMemory program (put m (cell_of p) w)) (sym (typed_is_normal (ty.Int kind) m v fit))
     (put_is_sound program m (cell_of p) v memory
     (λ b q. let same : (global_block g s.global).born ≡ b = Prim.cc in subst (λ (n : New). fits program n.ty v ≡ true) same fits_it)))
+stored_is_sound allowed program m m' _ kind v s fit sound memory e = elim s [ ]
 
 -- ---- runs of values
 
@@ -148,7 +148,7 @@ unswept o serial wire.Null e = refl
 unswept None serial (wire.Ptr p) e = absurd (Prim.cc)
 unswept (Some (ty.Int k)) serial (wire.Ptr p) e = absurd (Prim.cc)
 unswept (Some ty.Lock) serial (wire.Ptr p) e = absurd (Prim.cc)
-unswept (Some ty.Void) serial (wire.Ptr p) e = absurd (Prim.cc)
+unswept (Some _) serial (wire.Ptr p) e = absurd (Prim.cc)
 unswept o serial wire.Dead e = refl
 unswept o serial (wire.Fn f) e = refl
 unswept o serial (wire.Lock s) e = refl

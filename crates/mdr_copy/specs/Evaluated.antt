@@ -5,10 +5,7 @@ use Rattle.mdr_core.specs.declared.undefined.Undefined.{Undefined}
 use Rattle.mdr_core.specs.declared.stop.StopKind.{StopKind}
 use Rattle.mdr_core.specs.declared.stop.StopKind.TheVariants as stop
 use Rattle.mdr_core.specs.declared.program.Program.{Program}
-use Rattle.mdr_core.specs.declared.code.Lval.{Lval}
-use Rattle.mdr_core.specs.declared.code.Lval.TheVariants.{Global}
-use Rattle.mdr_core.specs.declared.code.Expr.{Expr}
-use Rattle.mdr_core.specs.declared.code.Expr.TheVariants as expr
+use Rattle.mdr_core.specs.Code.{Term}
 use Rattle.mdr_core.specs.Operators.{operated}
 use Rattle.mdr_model.specs.declared.wire.Wire.{Wire}
 use Rattle.mdr_model.specs.declared.wire.Wire.TheVariants as wire
@@ -22,10 +19,6 @@ use Rattle.mdr_model.specs.Meaning.{pointer_to, stop_of}
 abbrev pub allows : Option (List Cell) → Cell → Bool
 allows None c = true
 allows (Some cells) c = is_in cells c
-
--- the one cell of a variable
-abbrev pub variable_cell : Lval → Cell
-variable_cell (Global number) = record { serial = number; index = 0 }
 
 -- the tests of an access to a variable in their order: the block lives, and the cell may be touched
 abbrev pub tested_by : (is_alive is_allowed : Bool) → Result (Unit {0}) StopKind
@@ -52,8 +45,10 @@ numbered_at kind (Ok n) = Ok (wire.Int kind n)
 numbered_at kind (Err why) = Err (stop_of why)
 
 -- the value, or the first stop from left to right
-unfoldable pub evaluated : (Cell → Bool) → Program → Memory → Expr → Result Wire StopKind
-evaluated allowed program m (expr.Lit v) = Ok (wire_of v)
-evaluated allowed program m (expr.Load place) = loaded allowed m (pointer_to program place)
-evaluated allowed program m (expr.Bin' op kind p a q b) =
+unfoldable pub evaluated : (Cell → Bool) → Program → Memory → Term → Result Wire StopKind
+evaluated allowed program m (Term.Lit v) = Ok (wire_of v)
+evaluated allowed program m (Term.Load place) = loaded allowed m (pointer_to program place)
+evaluated allowed program m (Term.Bin op kind a b) =
     after_value (evaluated allowed program m a) (λ x. after_value (evaluated allowed program m b) (λ y. numbered_at kind (operated op kind (integer x) (integer y))))
+-- other expressions aren't built: no sound program has one
+evaluated allowed program m _ = Err stop.NoValue

@@ -3,9 +3,10 @@
 ghost use Rattle.std.specs.Prelude.{◌≡◌, map, IfOk, OnErr};
 ghost use Rattle.std.specs.Option.{option_copied};
 ghost use Rattle.mdr_core.specs.declared.program.Program.{Program as AnyProgram};
-ghost use Rattle.mdr_model.specs.Memory.{normal, loaded_cell, loaded, stored};
+ghost use Rattle.mdr_core.specs.Folds.{lvalue_of};
+ghost use Rattle.mdr_model.specs.Memory.{reached, normal, loaded_cell, loaded, stored};
 ghost use Rattle.mdr_model.specs.Meaning.{pointer_to};
-ghost use Rattle.mdr_copy.specs.Evaluated.{allows, variable_cell, tested, when_made};
+ghost use Rattle.mdr_copy.specs.Evaluated.{allows, tested, when_made};
 
 use crate::sets::is_in;
 use crate::store::{cell_at, is_live, put};
@@ -22,18 +23,6 @@ fn is_allowed(reach: Option<&[Cell]>, cell: Cell) -> bool
     }
 }
 
-/// The one cell of a variable.
-fn variable_cell(place: Lval) -> Cell
-    ensures { result ≡ variable_cell place }
-{
-    match place {
-        Lval::Global(number) => Cell {
-            serial: number as u64,
-            index: 0,
-        },
-    }
-}
-
 /// The tests of an access in their order: the block lives, and the cell may be touched.
 fn tested(reach: Option<&[Cell]>, memory: &[MemoryBlock], cell: Cell) -> Result<(), StopKind>
     ensures { result ≡ tested (option_copied reach.entry) memory.now cell }
@@ -44,6 +33,25 @@ fn tested(reach: Option<&[Cell]>, memory: &[MemoryBlock], cell: Cell) -> Result<
         Err(StopKind::Annotation)
     } else {
         Ok(())
+    }
+}
+
+/// The cell of an access to a variable, or the stop. Other lvalues aren't built, and name no object yet.
+#[tactic(auto, unfolding(mdr_model::specs::Memory::reached, mdr_model::specs::Meaning::pointer_to))]
+fn reached(reach: Option<&[Cell]>, memory: &[MemoryBlock], place: &Lval) -> Result<Cell, StopKind>
+    ensures { (program : AnyProgram) → result ≡ reached (allows (option_copied reach.entry)) memory.now (pointer_to program (lvalue_of place.now)) }
+{
+    match place {
+        Lval::Global(number) => {
+            let cell = Cell {
+                serial: *number as u64,
+                index: 0,
+            };
+            tested(reach, memory, cell)?;
+            Ok(cell)
+        }
+        Lval::Slot(_) | Lval::Object(_) | Lval::Deref(_) | Lval::Member(_, _) | Lval::Index(_, _) =>
+            Err(StopKind::Null),
     }
 }
 
@@ -58,12 +66,16 @@ fn loaded_cell(found: Option<Wire>) -> Result<Wire, StopKind>
 }
 
 /// What is loaded from a variable, or the stop. Without a set each cell may be touched.
-pub fn loaded(reach: Option<&[Cell]>, memory: &[MemoryBlock], place: Lval) -> Result<Wire, StopKind>
-    ensures { (program : AnyProgram) → result ≡ loaded (allows (option_copied reach.entry)) memory.now (pointer_to program place) }
+#[tactic(auto, unfolding(mdr_model::specs::Memory::loaded))]
+pub fn loaded(
+    reach: Option<&[Cell]>,
+    memory: &[MemoryBlock],
+    place: &Lval,
+) -> Result<Wire, StopKind>
+    ensures { (program : AnyProgram) → result ≡ loaded (allows (option_copied reach.entry)) memory.now (pointer_to program (lvalue_of place.now)) }
 {
-    let cell = variable_cell(place);
-    match tested(reach, memory, cell) {
-        Ok(()) => loaded_cell(cell_at(memory, cell)),
+    match reached(reach, memory, place) {
+        Ok(cell) => loaded_cell(cell_at(memory, cell)),
         Err(kind) => Err(kind),
     }
 }
@@ -101,18 +113,18 @@ pub fn normals(
 }
 
 /// Stores into a variable, or gives the stop. Without a set each cell may be touched. It takes no memory.
+#[tactic(auto, unfolding(mdr_model::specs::Memory::stored))]
 pub fn stored(
     reach: Option<&[Cell]>,
     memory: &mut [MemoryBlock],
-    place: Lval,
+    place: &Lval,
     value: Wire,
 ) -> Result<(), StopKind>
-    ensures memory { (program : AnyProgram) → stored (allows (option_copied reach.entry)) memory.old (pointer_to program place) value ≡ when_made result memory.new }
+    ensures memory { (program : AnyProgram) → stored (allows (option_copied reach.entry)) memory.old (pointer_to program (lvalue_of place.now)) value ≡ when_made result memory.new }
     ensures stopped { OnErr result (memory.new ≡ memory.old) }
 {
-    let cell = variable_cell(place);
-    match tested(reach, memory, cell) {
-        Ok(()) => {
+    match reached(reach, memory, place) {
+        Ok(cell) => {
             let kept = normal(memory, value);
             put(memory, cell.serial, cell.index as usize, kept);
             Ok(())

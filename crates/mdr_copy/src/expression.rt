@@ -4,6 +4,7 @@ ghost use Rattle.std.specs.Prelude.{◌≡◌, true};
 ghost use Rattle.std.specs.Option.{option_copied};
 ghost use Rattle.mdr_core.specs.declared.kind.Kind.{Kind as AnyKind};
 ghost use Rattle.mdr_core.specs.Kinds.{is_in_range};
+ghost use Rattle.mdr_core.specs.Folds.{term_of};
 ghost use Rattle.mdr_core.specs.Operators.{operated, is_right_operand};
 ghost use Rattle.mdr_model.specs.Values.{integer};
 ghost use Rattle.mdr_model.specs.Meaning.{stop_of};
@@ -56,6 +57,7 @@ fn combined(op: BinOp, kind: Kind, left: Wire, right: Wire) -> Result<Wire, Stop
 }
 
 /// The value of an expression, or the first stop from left to right. Without a set each cell may be touched.
+/// Literals, loads and operators are built.
 #[tactic(auto, unfolding(crate::specs::Evaluated::evaluated))]
 pub fn evaluated(
     reach: Option<&[Cell]>,
@@ -65,16 +67,29 @@ pub fn evaluated(
 ) -> Result<Wire, StopKind>
     requires program { IsSound program.now }
     requires memory { IsSoundMemory program.now memory.now }
-    requires expression { (kind : AnyKind) × IsSoundExpr program.now e.now kind }
-    ensures { result ≡ evaluated (allows (option_copied reach.entry)) program.now memory.now e.now }
+    requires expression { (kind : AnyKind) × IsSoundExpr program.now (term_of e.now) kind }
+    ensures { result ≡ evaluated (allows (option_copied reach.entry)) program.now memory.now (term_of e.now) }
 {
     match e {
         Expr::Lit(value) => Ok(wire_of(*value)),
-        Expr::Load(place) => loaded(reach, memory, *place),
+        Expr::Load(place) => loaded(reach, memory, place),
         Expr::Bin(op, kind, left, right) => {
-            let x = evaluated(reach, program, memory, left)?;
-            let y = evaluated(reach, program, memory, right)?;
+            let x = evaluated(reach, program, memory, left.get())?;
+            let y = evaluated(reach, program, memory, right.get())?;
             combined(*op, *kind, x, y)
         }
+        Expr::Addr(_)
+        | Expr::Decay(_)
+        | Expr::Neg(_, _)
+        | Expr::Flip(_, _)
+        | Expr::Not(_)
+        | Expr::Rel(_, _, _)
+        | Expr::And(_, _)
+        | Expr::Or(_, _)
+        | Expr::Conv(_, _)
+        | Expr::ToVoid(_)
+        | Expr::FromVoid(_, _)
+        | Expr::Move(_, _, _)
+        | Expr::Diff(_, _) => Err(StopKind::NoValue),
     }
 }

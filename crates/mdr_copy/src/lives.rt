@@ -88,7 +88,7 @@ fn zero_of_type(ty: &Ty) -> Wire
     match ty {
         Ty::Int(kind) => Wire::Int(*kind, 0),
         Ty::Lock => Wire::Lock(LockState::Free),
-        Ty::Void => Wire::NoValue,
+        Ty::Struct(_) | Ty::Ptr(_) | Ty::VoidPtr | Ty::Fun(_) | Ty::Void => Wire::NoValue,
     }
 }
 

@@ -6,14 +6,14 @@ ghost use Rattle.mdr_model.specs.Values.{type_number, wire_view, wire_of, lock_n
 use mdr_core::{LockState, Program, Ty, Value, View};
 use mdr_model::{New, Wire, WireView};
 
-/// The number of a type in the table.
+/// The number of a type in the table. Of the others than integers and the lock none is built, and none is in it.
 pub fn type_number(ty: &Ty) -> u32
     ensures { result ≡ type_number ty.now }
 {
     match ty {
         Ty::Int(kind) => kind.number(),
         Ty::Lock => 8,
-        Ty::Void => 9,
+        Ty::Struct(_) | Ty::Ptr(_) | Ty::VoidPtr | Ty::Fun(_) | Ty::Void => 9,
     }
 }
 

@@ -45,6 +45,8 @@ fn type_word(ty: &Ty) -> &'static str
         Ty::Int(kind) => kind_word(*kind),
         Ty::Lock => "combolock_t",
         Ty::Void => "void",
+        // No object has one of these: they aren't built.
+        Ty::Struct(_) | Ty::Ptr(_) | Ty::VoidPtr | Ty::Fun(_) => "",
     }
 }
 
