@@ -1,11 +1,8 @@
 -- Where nothing outside fails, what is accepted runs to its end.
-use Rattle.std.proofs.Common.{◌≡◌, ℕ, ◌<◌, ◌⊎◌, inl, inr, List, length, Option, Some, None, Result, Ok, Err, sym, ap, ◌∙◌, subst, arith}
+use Rattle.std.proofs.Common.{◌≡◌, ℕ, ◌<◌, ◌⊎◌, inl, inr, List, length, Option, Some, None, Result, Ok, Err, ap, ◌∙◌, subst, arith}
 use Rattle.std.specs.Prelude.{IsSomeAnd}
 use Rattle.mdr_core.specs.declared.program.Program.{Program}
-use Rattle.mdr_model.specs.declared.outcome.Outcome.{Outcome}
 use Rattle.mdr_model.specs.Sound.{IsBound}
-use Rattle.mdr_model.specs.Outcome.{outcome_of}
-use Rattle.mdr_model.specs.Law.{IsOwn}
 use Rattle.mdr_outside.specs.declared.shelf.ReadAnswer.TheVariants as reads
 use Rattle.mdr_outside.specs.declared.far.Loaded.{Loaded}
 use Rattle.mdr_outside.specs.declared.far.Exchange.{Exchange}
@@ -21,8 +18,8 @@ use Rattle.mdr_top.specs.declared.status.Status.{Status}
 use Rattle.mdr_top.specs.declared.status.Status.TheVariants as status
 use Rattle.mdr_top.specs.Words.{command_of}
 use Rattle.mdr_top.specs.Statuses.{Counts, HasReadCause}
-use Rattle.mdr_top.specs.Answers.{Files, longest_source, longest_script, default_ticks, status_of, Unread, NoProgram, HasProgram, Ran, Called, Scripted, Compiled, Sourced, Answered, Prints}
-use Rattle.mdr_top.specs.Headline.{meant, IsMeaning, IsAccepted, Rests, AreTold, EndsAsMeant, Completes}
+use Rattle.mdr_top.specs.Answers.{Files, longest_source, longest_script, Unread, NoProgram, HasProgram, Ran, Called, Scripted, Compiled, Sourced, Answered, Prints}
+use Rattle.mdr_top.specs.Headline.{IsMeaning, IsAccepted, Rests, AreTold, EndsAsMeant, Completes}
 use Rattle.mdr_top.proofs.Programs.{some_same, ok_same, same_program}
 use Rattle.mdr_top.proofs.Headline.{ran_means}
 
