@@ -1,11 +1,8 @@
 -- Where nothing outside fails, what is accepted runs to its end.
-use Rattle.std.proofs.Common.{◌≡◌, ℕ, ◌<◌, ◌⊎◌, inl, inr, List, length, Option, Some, None, Result, Ok, Err, sym, ap, ◌∙◌, subst, arith}
+use Rattle.std.proofs.Common.{◌≡◌, ℕ, ◌<◌, ◌⊎◌, inl, inr, List, length, Option, Some, None, Result, Ok, Err, ap, ◌∙◌, subst, arith}
 use Rattle.std.specs.Prelude.{IsSomeAnd}
 use Rattle.mdr_core.specs.declared.program.Program.{Program}
-use Rattle.mdr_model.specs.declared.outcome.Outcome.{Outcome}
 use Rattle.mdr_model.specs.Sound.{IsBound}
-use Rattle.mdr_model.specs.Outcome.{outcome_of}
-use Rattle.mdr_model.specs.Law.{IsOwn}
 use Rattle.mdr_outside.specs.declared.shelf.ReadAnswer.TheVariants as reads
 use Rattle.mdr_outside.specs.declared.far.Loaded.{Loaded}
 use Rattle.mdr_outside.specs.declared.far.Exchange.{Exchange}
@@ -16,17 +13,14 @@ use Rattle.mdr_syntax.specs.Reading.{whats}
 use Rattle.mdr_syntax.specs.Tokens.{tokens_of}
 use Rattle.mdr_syntax.specs.Sources.{program_of}
 use Rattle.mdr_syntax.specs.Scripts.{calls_of}
-use Rattle.mdr_syntax.specs.Forms.{program_view}
-use Rattle.mdr_syntax.proofs.Soundness.{is_sound}
 use Rattle.mdr_user.specs.Honest.{IsHonest}
-use Rattle.mdr_user.proofs.SameView.{same_watched}
 use Rattle.mdr_top.specs.declared.status.Status.{Status}
 use Rattle.mdr_top.specs.declared.status.Status.TheVariants as status
 use Rattle.mdr_top.specs.Words.{command_of}
 use Rattle.mdr_top.specs.Statuses.{Counts, HasReadCause}
-use Rattle.mdr_top.specs.Answers.{Files, longest_source, longest_script, default_ticks, status_of, Unread, NoProgram, HasProgram, Ran, Called, Scripted, Compiled, Sourced, Answered, Prints}
-use Rattle.mdr_top.specs.Headline.{meant, IsMeaning, IsAccepted, Rests, AreTold, EndsAsMeant, Completes}
-use Rattle.mdr_top.proofs.SameScripts.{some_same, ok_same, same_view, same_calls}
+use Rattle.mdr_top.specs.Answers.{Files, longest_source, longest_script, Unread, NoProgram, HasProgram, Ran, Called, Scripted, Compiled, Sourced, Answered, Prints}
+use Rattle.mdr_top.specs.Headline.{IsMeaning, IsAccepted, Rests, AreTold, EndsAsMeant, Completes}
+use Rattle.mdr_top.proofs.Programs.{some_same, ok_same, same_program}
 use Rattle.mdr_top.proofs.Headline.{ran_means}
 
 -- ---- answers exclude each other
@@ -54,45 +48,39 @@ not_long (Some f) name limit a told r r' =
 pub not_refused : (source : List ℕ) (program : Program) (s : Status) (text : List ℕ) → HasProgram source program → NoProgram source s text → ⊥
 not_refused source program s text h (NoProgram.fault e r is t) = not_ok (tokens_of source) h.tokens e h.read r
 not_refused source program s text h (NoProgram.unbuilt ts r none is t) =
-    not_some (program_of (whats ts)) (program_view program) (ap (λ (us : List Token). program_of (whats us)) (ok_same (tokens_of source) ts h.tokens r h.read) ∙ h.view) none
+    not_some (program_of (whats ts)) program (ap (λ (us : List Token). program_of (whats us)) (ok_same (tokens_of source) ts h.tokens r h.read) ∙ h.declared) none
 
 -- ---- what is accepted runs
 
--- a run of a program that reads the same
+-- a run of the program
 pub record RanOn (source : List ℕ) (program : Program) (calls : List ℕ) (loaded : Option Loaded) (es : List Exchange) (s : Status) (text : List ℕ) : Type 0 where
-  pub other : Program
-  pub compiled : HasProgram source other
-  pub view : program_view program ≡ program_view other
-  pub bound : IsBound other calls
-  pub ran : Ran other source calls loaded es s text
+  pub bound : IsBound program calls
+  pub ran : Ran program source calls loaded es s text
 
 module _ (words : List (List ℕ)) (files : Files) (loaded : Option Loaded) (es : List Exchange) (s : Status) (text : List ℕ) (source : List ℕ) (program : Program) (calls : List ℕ) where
-  called_runs : (script : List ℕ) (q : Program) → HasProgram source program → HasProgram source q → calls_of program.funcs script ≡ Ok calls → Called q source script loaded es s text → RanOn source program calls loaded es s text
-  called_runs script q h k c (Called.refused n) = absurd (not_ok (calls_of program.funcs script) calls n.line c (same_calls program q script (same_view source program q h k) ∙ n.refused))
-  called_runs script q h k c (Called.accepted others b r) =
-      let view : program_view program ≡ program_view q = same_view source program q h k in
-      let same : others ≡ calls = ok_same (calls_of program.funcs script) others calls (same_calls program q script view ∙ b.read) c in
+  called_runs : (script : List ℕ) → calls_of program.funcs script ≡ Ok calls → Called program source script loaded es s text → RanOn source program calls loaded es s text
+  called_runs script c (Called.refused n) = absurd (not_ok (calls_of program.funcs script) calls n.line c n.refused)
+  called_runs script c (Called.accepted others b r) =
+      let same : others ≡ calls = ok_same (calls_of program.funcs script) others calls b.read c in
       record {
-        other = q;
-        compiled = k;
-        view = view;
-        bound = subst (IsBound q) same b.bound;
-        ran = subst (λ (cs : List ℕ). Ran q source cs loaded es s text) same r;
+        bound = subst (IsBound program) same b.bound;
+        ran = subst (λ (cs : List ℕ). Ran program source cs loaded es s text) same r;
       }
 
-  scripted_runs : (name script : List ℕ) (q : Program) → AreTold files → HasProgram source program → HasProgram source q → ReadsFrom files name longest_script (reads.Ok script) → calls_of program.funcs script ≡ Ok calls
-      → Scripted files name q source loaded es s text → (s ≡ status.ReadFault) ⊎ RanOn source program calls loaded es s text
-  scripted_runs name script q told h k r c (Scripted.unread (Unread.missing r' e t)) = absurd (not_missing files name longest_script script told r r')
-  scripted_runs name script q told h k r c (Scripted.unread (Unread.long r' e t)) = absurd (not_long files name longest_script script told r r')
-  scripted_runs name script q told h k r c (Scripted.unread (Unread.failed e t)) = inl e
-  scripted_runs name script q told h k r c (Scripted.read other r' d) =
+  scripted_runs : (name script : List ℕ) → AreTold files → ReadsFrom files name longest_script (reads.Ok script) → calls_of program.funcs script ≡ Ok calls
+      → Scripted files name program source loaded es s text → (s ≡ status.ReadFault) ⊎ RanOn source program calls loaded es s text
+  scripted_runs name script told r c (Scripted.unread (Unread.missing r' e t)) = absurd (not_missing files name longest_script script told r r')
+  scripted_runs name script told r c (Scripted.unread (Unread.long r' e t)) = absurd (not_long files name longest_script script told r r')
+  scripted_runs name script told r c (Scripted.unread (Unread.failed e t)) = inl e
+  scripted_runs name script told r c (Scripted.read other r' d) =
       let same : other ≡ script = same_file files name longest_script other script told r' r in
-      inr (called_runs script q h k c (subst (λ (b : List ℕ). Called q source b loaded es s text) same d))
+      inr (called_runs script c (subst (λ (b : List ℕ). Called program source b loaded es s text) same d))
 
   compiled_runs : (name script : List ℕ) → AreTold files → HasProgram source program → ReadsFrom files name longest_script (reads.Ok script) → calls_of program.funcs script ≡ Ok calls
       → Compiled files source name loaded es s text → (s ≡ status.ReadFault) ⊎ RanOn source program calls loaded es s text
   compiled_runs name script told h r c (Compiled.refused n) = absurd (not_refused source program s text h n)
-  compiled_runs name script told h r c (Compiled.accepted q k d) = scripted_runs name script q told h k r c d
+  compiled_runs name script told h r c (Compiled.accepted q k d) =
+      scripted_runs name script told r c (subst (λ (p : Program). Scripted files name p source loaded es s text) (same_program source q program k h) d)
 
   sourced_runs : (name script_name script : List ℕ) → AreTold files → ReadsFrom files name longest_source (reads.Ok source) → HasProgram source program → ReadsFrom files script_name longest_script (reads.Ok script) → calls_of program.funcs script ≡ Ok calls
       → Sourced files name script_name loaded es s text → (s ≡ status.ReadFault) ⊎ RanOn source program calls loaded es s text
@@ -113,10 +101,6 @@ module _ (words : List (List ℕ)) (files : Files) (loaded : Option Loaded) (es 
 
 -- ---- and ends as is meant
 
--- programs that read the same mean the same
-same_meant : (source : List ℕ) (p q : Program) (calls : List ℕ) → HasProgram source p → program_view p ≡ program_view q → meant p calls ≡ meant q calls
-same_meant source p q calls h e = ap outcome_of (same_watched p q e (is_sound (whats h.tokens) (program_view p) h.view) calls default_ticks)
-
 pub completes : (words : List (List ℕ)) (files : Files) (loaded : Option Loaded) (es : List Exchange) (old new : Option (List ℕ)) (s : Status) (before after : Counts) (w w' f f' : ℕ)
     → Prints words files loaded es old new s → HasReadCause before after s → (s ≡ status.WriteFault → Rose w w') → (s ≡ status.FarFault → Rose f f')
     → Rests before.faults after.faults → Rests w w' → Rests f f' → IsHonest loaded es → Completes words files s
@@ -125,12 +109,10 @@ completes words files loaded es old new s before after w w' f f' (Prints.nothing
 completes words files loaded es old new s before after w w' f f' (Prints.whole text a adds) reads_cause writes_cause far_cause reads_rest writes_rest far_rest honest source program calls told accepted =
     of (accepted_runs words files loaded es s text source program calls told accepted a)
   where
-    ended : (r : RanOn source program calls loaded es s text) → (s ≡ status.FarFault) ⊎ IsMeaning r.other calls es s text → (s ≡ status.OutOfMemory) ⊎ EndsAsMeant program calls s
-    ended r (inl is) = absurd (far_rest (far_cause is))
-    ended r (inr m) =
-        let same : meant r.other calls ≡ meant program calls = sym (same_meant source program r.other calls accepted.compiled r.view) in
-        inr (record { status_is = m.reported.status_is ∙ ap (λ (o : Outcome). status_of o.end) same; own = subst (λ (o : Outcome). IsOwn o.end) same m.own })
+    ended : (s ≡ status.FarFault) ⊎ IsMeaning program calls es s text → (s ≡ status.OutOfMemory) ⊎ EndsAsMeant program calls s
+    ended (inl is) = absurd (far_rest (far_cause is))
+    ended (inr m) = inr (record { status_is = m.reported.status_is; own = m.own })
 
     of : (s ≡ status.ReadFault) ⊎ RanOn source program calls loaded es s text → (s ≡ status.OutOfMemory) ⊎ EndsAsMeant program calls s
     of (inl is) = absurd (reads_rest (subst (HasReadCause before after) is reads_cause))
-    of (inr r) = ended r (ran_means r.other source calls loaded es s text r.compiled r.bound honest r.ran)
+    of (inr r) = ended (ran_means program source calls loaded es s text accepted.compiled r.bound honest r.ran)

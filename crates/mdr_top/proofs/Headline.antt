@@ -16,9 +16,6 @@ use Rattle.mdr_outside.specs.declared.far.Loaded.{Loaded}
 use Rattle.mdr_outside.specs.declared.far.Exchange.{Exchange}
 use Rattle.mdr_outside.specs.Shelf.{ReadsFrom}
 use Rattle.mdr_outside.specs.Far.{loaded_with}
-use Rattle.mdr_syntax.specs.Reading.{whats}
-use Rattle.mdr_syntax.specs.Forms.{ProgramView, program_view}
-use Rattle.mdr_syntax.proofs.Soundness.{is_sound}
 use Rattle.mdr_kernel.specs.Runs.{IsFarFault}
 use Rattle.mdr_user.specs.Honest.{program_of_tokens, program_of_text, IsHonestLoad, IsServed, IsHonestSince, IsHonest}
 use Rattle.mdr_top.specs.declared.status.Status.{Status}
@@ -31,16 +28,16 @@ use Rattle.mdr_top.proofs.Meanings.{run_is_meaning}
 
 -- ---- a run
 
-pub text_of : (source : List ℕ) (program : Program) → HasProgram source program → program_of_text source ≡ Some (program_view program)
-text_of source program h = ap program_of_tokens h.read ∙ h.view
+pub text_of : (source : List ℕ) (program : Program) → HasProgram source program → program_of_text source ≡ Some program
+text_of source program h = ap program_of_tokens h.read ∙ h.declared
 
 -- what an honest far side holds of a program's source
 pub honest_load : (source : List ℕ) (program : Program) (loaded : Option Loaded) (answer : LoadAnswer) (es : List Exchange) → HasProgram source program → loaded ≡ Some (loaded_with source [] answer)
-    → IsHonest loaded es → IsHonestLoad (Some (program_view program)) answer × IsServed (program_view program) es
+    → IsHonest loaded es → IsHonestLoad (Some program) answer × IsServed program es
 honest_load source program loaded answer es h is honest =
     let since : IsHonestSince (loaded_with source [] answer) es = subst (λ (l : Option Loaded). IsHonest l es) is honest in (
-      subst (λ (v : Option ProgramView). IsHonestLoad v answer) (text_of source program h) since.load,
-      subst (λ (v : Option ProgramView). IfSome v (λ view. IsServed view es)) (text_of source program h) since.served,
+      subst (λ (p : Option Program). IsHonestLoad p answer) (text_of source program h) since.load,
+      subst (λ (p : Option Program). IfSome p (λ q. IsServed q es)) (text_of source program h) since.served,
     )
 
 fails : (end : End) → IsFarFault end → status_of end ≡ status.FarFault
@@ -53,10 +50,10 @@ pub nothing_end : (program : Program) (end : End) → (nothing_ran program end).
 unfolding outcome_of
 nothing_end program end = refl
 
-pub began_means : (program : Program) (source calls : List ℕ) (es : List Exchange) (s : Status) (text : List ℕ) → HasProgram source program → IsBound program calls → IsServed (program_view program) es
+pub began_means : (program : Program) (source calls : List ℕ) (es : List Exchange) (s : Status) (text : List ℕ) → HasProgram source program → IsBound program calls → IsServed program es
     → Began program calls es s text → (s ≡ status.FarFault) ⊎ IsMeaning program calls es s text
 began_means program source calls es s text h bound served b =
-    of (run_is_meaning program served.program calls default_ticks es b.outcome h.sound (is_sound (whats h.tokens) (program_view program) h.view) (sym served.text) b.small b.few bound served.replies b.run_is)
+    of (run_is_meaning program calls default_ticks es b.outcome h.sound b.small b.few bound served b.run_is)
   where
     of : IsFarFault b.outcome.end ⊎ IsMeant program calls default_ticks es b.outcome → (s ≡ status.FarFault) ⊎ IsMeaning program calls es s text
     of (inl f) = inl (b.reported.status_is ∙ fails b.outcome.end f)

@@ -3,7 +3,6 @@ pub mod Bound
 pub mod Programs
 pub mod Meanings
 pub mod Headline
-pub mod SameScripts
 pub mod Complete
 pub mod Comes
 pub mod Exact

@@ -15,25 +15,13 @@ use Rattle.mdr_model.specs.Outcome.{outcome_of}
 use Rattle.mdr_model.specs.Law.{IsOwn, IsWatched}
 use Rattle.mdr_msg.specs.OverBytes.{IsHonestOverBytes, HasSmallNumbers, HasFewCells, IsOneMemoryOverBytes}
 use Rattle.mdr_msg.proofs.Lifted.{bytes_are_one_memory}
-use Rattle.mdr_syntax.specs.Forms.{program_view}
-use Rattle.mdr_syntax.specs.Sound.{IsSoundView}
 use Rattle.mdr_model.specs.Legal.{kernel_in}
 use Rattle.mdr_kernel.specs.Runs.{sent_of, then_answers, answers_of, run_over, finish_of, IsRun, IsFarFault}
 use Rattle.mdr_user.specs.Honest.{Honest}
-use Rattle.mdr_user.proofs.SameView.{same_user_reply}
 use Rattle.mdr_top.specs.Meanings.{IsMeant}
 use Rattle.mdr_kernel.proofs.BegunCalls.{calls_in, IsTold, IsTotal, watched_told, total_of}
 
 -- ---- honest exchanges
-
--- honest for a program is honest for each that replies the same
-same_honest : (p q : Program) → ((before : List (List ℕ)) (last : List ℕ) → user_reply_to_bytes p before last ≡ user_reply_to_bytes q before last) → (before : List (List ℕ)) (es : List Exchange) → Honest q before es → Honest p before es
-same_honest p q same before [] h = tt
-same_honest p q same before (e ∷ es) h = (of e.got h.0, same_honest p q same (before ++ e.sent ∷ []) es h.1)
-  where
-    of : (got : Option (List ℕ)) → IfSome got (λ reply. reply ≡ user_reply_to_bytes q before e.sent) → IfSome got (λ reply. reply ≡ user_reply_to_bytes p before e.sent)
-    of None h = tt
-    of (Some reply) h = h ∙ sym (same before e.sent)
 
 -- the answers up to the first message without one are honest
 honest_answers : (program : Program) (before : List (List ℕ)) (es : List Exchange) → Honest program before es → IsHonestOverBytes program before (sent_of es) (answers_of es)
@@ -90,15 +78,14 @@ is_meant program calls budget es o end k sent over is w =
       messages = omega (arith, w.messages, exchanged, messages, begun, ticks);
     }
 
-pub run_is_meaning : (program q : Program) (calls : List ℕ) (budget : ℕ) (es : List Exchange) (o : Outcome) → IsSound program → IsSoundView (program_view program) → program_view program ≡ program_view q
-    → HasSmallNumbers program budget → HasFewCells program → IsBound program calls → Honest q [] es → IsRun program calls budget es o → IsFarFault o.end ⊎ IsMeant program calls budget es o
-run_is_meaning program q calls budget es o sound shape same small few bound honest ran = of (run_over program calls budget es).pending refl
+pub run_is_meaning : (program : Program) (calls : List ℕ) (budget : ℕ) (es : List Exchange) (o : Outcome) → IsSound program → HasSmallNumbers program budget → HasFewCells program → IsBound program calls → Honest program [] es → IsRun program calls budget es o → IsFarFault o.end ⊎ IsMeant program calls budget es o
+run_is_meaning program calls budget es o sound small few bound honest ran = of (run_over program calls budget es).pending refl
   where
     law : IsOneMemoryOverBytes program calls budget
     law = bytes_are_one_memory program calls budget sound bound small few
 
     fair : IsHonestOverBytes program [] (map text (run_over program calls budget es).sent) (answers_of es)
-    fair = subst (λ (sent : List (List ℕ)). IsHonestOverBytes program [] sent (answers_of es)) ran.messages (honest_answers program [] es (same_honest program q (same_user_reply program q same shape) [] es honest))
+    fair = subst (λ (sent : List (List ℕ)). IsHonestOverBytes program [] sent (answers_of es)) ran.messages (honest_answers program [] es honest)
 
     ends_so : (p : Pending) → (run_over program calls budget es).pending ≡ p → o ≡ outcome_of (finish_of p)
     ends_so p e = ran.outcome ∙ ap (λ (x : Pending). outcome_of (finish_of x)) e

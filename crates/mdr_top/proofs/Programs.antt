@@ -1,14 +1,24 @@
--- A program that is read is sound.
-use Rattle.std.proofs.Common.{◌≡◌, ℕ, List, Some, Ok, refl}
+-- The program of a source: there is one, and it is sound.
+use Rattle.std.proofs.Common.{◌≡◌, ℕ, List, Option, Some, Result, Ok, ap, ◌∙◌}
 use Rattle.mdr_core.specs.declared.program.Program.{Program}
 use Rattle.mdr_syntax.specs.declared.token.Token.{Token}
 use Rattle.mdr_syntax.specs.Reading.{whats}
 use Rattle.mdr_syntax.specs.Tokens.{tokens_of}
-use Rattle.mdr_syntax.specs.Forms.{program_view}
 use Rattle.mdr_syntax.specs.Sources.{program_of}
 use Rattle.mdr_syntax.proofs.Soundness.{is_sound}
-use Rattle.mdr_user.proofs.SoundSources.{sound_source}
+use Rattle.mdr_user.proofs.SoundSources.{program_is_sound}
 use Rattle.mdr_top.specs.Answers.{HasProgram}
 
-pub has_program : (bytes : List ℕ) (ts : List Token) (program : Program) → tokens_of bytes ≡ Ok ts → program_of (whats ts) ≡ Some (program_view program) → HasProgram bytes program
-has_program bytes ts program e v = record { tokens = ts; read = e; view = v; sound = sound_source program (program_view program) refl (is_sound (whats ts) (program_view program) v) }
+pub has_program : (bytes : List ℕ) (ts : List Token) (program : Program) → tokens_of bytes ≡ Ok ts → program_of (whats ts) ≡ Some program → HasProgram bytes program
+has_program bytes ts program e d = record { tokens = ts; read = e; declared = d; sound = program_is_sound program (is_sound (whats ts) program d) }
+
+pub some_same : {X : Type 0} (o : Option X) (x y : X) → o ≡ Some x → o ≡ Some y → x ≡ y
+some_same o x y e f = Prim.cc
+
+pub ok_same : {X Y : Type 0} (r : Result X Y) (x y : X) → r ≡ Ok x → r ≡ Ok y → x ≡ y
+ok_same r x y e f = Prim.cc
+
+pub same_program : (source : List ℕ) (p q : Program) → HasProgram source p → HasProgram source q → p ≡ q
+same_program source p q h k =
+    let same : h.tokens ≡ k.tokens = ok_same (tokens_of source) h.tokens k.tokens h.read k.read in
+    some_same (program_of (whats h.tokens)) p q h.declared (ap (λ (ts : List Token). program_of (whats ts)) same ∙ k.declared)

@@ -13,7 +13,6 @@ use Rattle.mdr_syntax.specs.declared.token.Token.{Token}
 use Rattle.mdr_syntax.specs.declared.error.LexError.{LexError}
 use Rattle.mdr_syntax.specs.Reading.{whats}
 use Rattle.mdr_syntax.specs.Tokens.{tokens_of}
-use Rattle.mdr_syntax.specs.Forms.{program_view}
 use Rattle.mdr_syntax.specs.Sources.{program_of}
 use Rattle.mdr_syntax.specs.Scripts.{calls_of}
 use Rattle.mdr_outside.specs.declared.shelf.ReadAnswer.TheVariants as reads
@@ -51,11 +50,11 @@ pub data NoProgram (bytes : List ℕ) (s : Status) (text : List ℕ) : Type 0 wh
   fault : (e : LexError) → tokens_of bytes ≡ Err e → s ≡ status.SourceRefused → text ≡ fault_line e → NoProgram bytes s text
   unbuilt : (ts : List Token) → tokens_of bytes ≡ Ok ts → program_of (whats ts) ≡ None → s ≡ status.SourceRefused → text ≡ source_line begin (codes "Unbuilt") → NoProgram bytes s text
 
--- a source and its program, which is sound
+-- a source and the program that it declares, which is sound
 pub record HasProgram (bytes : List ℕ) (program : Program) : Type 0 where
   pub tokens : List Token
   pub read : tokens_of bytes ≡ Ok tokens
-  pub view : program_of (whats tokens) ≡ Some (program_view program)
+  pub declared : program_of (whats tokens) ≡ Some program
   pub sound : IsSound program
 
 -- a script and the functions that it calls, which the program has

@@ -1,5 +1,5 @@
 -- Where each status comes.
-use Rattle.std.specs.Prelude.{◌≡◌, ℕ, Bool, true, false, nat_lt, ◌⊎◌, List, [], length, map, Option, None, Some, IfSome, Result, Ok, Err}
+use Rattle.std.specs.Prelude.{◌≡◌, ℕ, Bool, true, false, nat_lt, ◌⊎◌, List, [], length, Option, None, Some, IfSome, Result, Ok, Err}
 use Rattle.mdr_core.specs.declared.program.Program.{Program}
 use Rattle.mdr_core.specs.declared.program.Func.{Func}
 use Rattle.mdr_core.specs.declared.refusal.RefuseKind.TheVariants as refusal
@@ -13,7 +13,6 @@ use Rattle.mdr_outside.specs.declared.far.Loaded.{Loaded}
 use Rattle.mdr_outside.specs.declared.far.Exchange.{Exchange}
 use Rattle.mdr_outside.specs.Shelf.{ReadsFrom}
 use Rattle.mdr_outside.specs.Far.{loaded_with}
-use Rattle.mdr_syntax.specs.Forms.{FuncView, ProgramView}
 use Rattle.mdr_syntax.specs.Scripts.{calls_of}
 use Rattle.mdr_model.specs.Legal.{kernel_in}
 use Rattle.mdr_kernel.specs.Runs.{run_over, IsRun}
@@ -101,9 +100,6 @@ Comes words files loaded es status.OutOfMemory = Unit {0}
 
 -- ---- exactly where
 
-abbrev pub heads : ProgramView → List Func
-heads view = map (λ (f : FuncView). f.head) view.funcs
-
 -- a file that is too long, or what its bytes give
 abbrev pub sized : Bool → Option Status → Option Status
 sized true given = Some status.TooLarge
@@ -117,9 +113,9 @@ abbrev pub script_due : List Func → Option (List ℕ) → Option Status
 script_due funcs None = Some status.Missing
 script_due funcs (Some script) = sized (nat_lt longest_script (length script)) (calls_due (calls_of funcs script))
 
-abbrev pub program_due : Option ProgramView → Option (List ℕ) → Option Status
+abbrev pub program_due : Option Program → Option (List ℕ) → Option Status
 program_due None script = Some status.SourceRefused
-program_due (Some view) script = script_due (heads view) script
+program_due (Some program) script = script_due program.funcs script
 
 abbrev pub source_due : Option (List ℕ) → Option (List ℕ) → Option Status
 source_due None script = Some status.Missing

@@ -8,8 +8,6 @@ use Rattle.mdr_model.specs.Outcome.{outcome_of}
 use Rattle.mdr_model.specs.Law.{IsOwn}
 use Rattle.mdr_msg.specs.OverBytes.{HasSmallNumbers, HasFewCells}
 use Rattle.mdr_outside.specs.declared.far.Exchange.{Exchange}
-use Rattle.mdr_syntax.specs.Forms.{program_view}
-use Rattle.mdr_syntax.specs.Sound.{IsSoundView}
 use Rattle.mdr_kernel.specs.Runs.{IsRun, IsFarFault}
 use Rattle.mdr_user.specs.Honest.{Honest}
 
@@ -19,11 +17,10 @@ pub record IsMeant (program : Program) (calls : List ℕ) (budget : ℕ) (es : L
   pub own : IsOwn o.end
   pub messages : 2 * length es ≤ 4 * o.ticks + 6 * (watched program calls budget).world.calls
 
--- a run whose far side answers as the user half of a program that reads the same means what one memory does, or the far side failed
+-- a run whose far side answers as the user half means what one memory does, or the far side failed
 abbrev pub RunIsMeaning : Type 0
 RunIsMeaning =
-    (program q : Program) (calls : List ℕ) (budget : ℕ) (es : List Exchange) (o : Outcome)
-    → IsSound program → IsSoundView (program_view program) → program_view program ≡ program_view q
-    → HasSmallNumbers program budget → HasFewCells program → IsBound program calls
-    → Honest q [] es → IsRun program calls budget es o
+    (program : Program) (calls : List ℕ) (budget : ℕ) (es : List Exchange) (o : Outcome)
+    → IsSound program → HasSmallNumbers program budget → HasFewCells program → IsBound program calls
+    → Honest program [] es → IsRun program calls budget es o
     → IsFarFault o.end ⊎ IsMeant program calls budget es o

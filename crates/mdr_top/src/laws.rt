@@ -2,10 +2,9 @@
 
 ghost use Rattle.mdr_top.specs.Meanings.{RunIsMeaning};
 
-/// A run over a far side that answers as the user half, whose program may have been read apart: unless the far side
-/// failed the run comes to the outcome of the one-memory meaning, and within 4 messages for each tick and 6 for each
-/// command begun. The budget and the program's numbers fit the code's types, and user code may touch fewer than 2^31
-/// cells.
+/// A run over a far side that answers as the user half: unless the far side failed the run comes to the outcome of the
+/// one-memory meaning, and within 4 messages for each tick and 6 for each command begun. The budget and the program's
+/// numbers fit the code's types, and user code may touch fewer than 2^31 cells.
 pub fn run_is_meaning()
     ensures { RunIsMeaning }
 {}

@@ -7,4 +7,3 @@ pub mod OpeningLaws
 pub mod Deliveries
 pub mod HalfSteps
 pub mod SoundSources
-pub mod SameView

@@ -4,7 +4,6 @@ use Rattle.mdr_outside.specs.Calls.{FarCall}
 use Rattle.mdr_outside.specs.declared.far.Loaded.{Loaded}
 use Rattle.mdr_outside.specs.declared.far.Exchange.{Exchange}
 use Rattle.mdr_outside.specs.declared.far.LoadAnswer.TheVariants as loads
-use Rattle.mdr_syntax.specs.Forms.{program_view}
 use Rattle.mdr_user.specs.Honest.{program_of_text}
 use Rattle.mdr_user.specs.Halves.{HalfState}
 
@@ -20,7 +19,7 @@ exchanges_of (Some h) = h.exchanges
 
 -- a half of the text's program is there
 pub record IsHalfOf (l : Loaded) (h : HalfState) : Type 0 where
-  pub read : program_of_text l.user ≡ Some (program_view h.program)
+  pub read : program_of_text l.user ≡ Some h.program
   pub answered : l.answer ≡ loads.Ok
 
 -- a half is there where the load was answered Ok, and else none

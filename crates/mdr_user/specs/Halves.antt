@@ -6,7 +6,6 @@ use Rattle.mdr_model.specs.Bytes.{readings, user_reply_to_bytes}
 use Rattle.mdr_model.specs.User.{Delivered, user_after, first_user}
 use Rattle.mdr_outside.specs.Far.{exchange}
 use Rattle.mdr_outside.specs.declared.far.Exchange.{Exchange}
-use Rattle.mdr_syntax.specs.Forms.{ProgramView, program_view}
 use Rattle.mdr_user.specs.declared.state.State.{State}
 use Rattle.mdr_user.specs.declared.load_error.LoadError.TheVariants as loads
 use Rattle.mdr_user.specs.declared.load_error.LoadError.{LoadError}
@@ -37,7 +36,7 @@ ReplyAlike h h' =
 
 -- a half is one of the text's program
 pub record IsLoadedFrom (source : List ℕ) (h : HalfState) : Type 0 where
-  pub read : program_of_text source ≡ Some (program_view h.program)
+  pub read : program_of_text source ≡ Some h.program
   pub begins : h ≡ new_half h.program
 
 abbrev pub FailsToLoad : List ℕ → LoadError → Type 0
@@ -51,11 +50,11 @@ Loads source (Ok h) = IsLoadedFrom source h
 Loads source (Err e) = FailsToLoad source e
 
 -- the program of a text is read, unless memory was wanting
-abbrev pub ReadsAs : Option ProgramView → Result Program LoadError → Type 0
-ReadsAs view (Ok program) = view ≡ Some (program_view program)
-ReadsAs view (Err loads.Plan) = ⊥
-ReadsAs view (Err loads.Source) = view ≡ None
-ReadsAs view (Err loads.OutOfMemory) = Unit {0}
+abbrev pub ReadsAs : Option Program → Result Program LoadError → Type 0
+ReadsAs read (Ok program) = read ≡ Some program
+ReadsAs read (Err loads.Plan) = ⊥
+ReadsAs read (Err loads.Source) = read ≡ None
+ReadsAs read (Err loads.OutOfMemory) = Unit {0}
 
 -- ---- inside
 

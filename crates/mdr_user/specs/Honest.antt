@@ -10,17 +10,16 @@ use Rattle.mdr_syntax.specs.declared.error.LexError.{LexError}
 use Rattle.mdr_syntax.specs.declared.token.Token.{Token}
 use Rattle.mdr_syntax.specs.Tokens.{tokens_of}
 use Rattle.mdr_syntax.specs.Reading.{whats}
-use Rattle.mdr_syntax.specs.Forms.{ProgramView, program_view}
 use Rattle.mdr_syntax.specs.Sources.{program_of}
 
 -- ---- texts
 
-abbrev pub program_of_tokens : Result (List Token) LexError → Option ProgramView
+abbrev pub program_of_tokens : Result (List Token) LexError → Option Program
 program_of_tokens (Ok ts) = program_of (whats ts)
 program_of_tokens (Err e) = None
 
 -- the program of a source, if it is one
-abbrev pub program_of_text : List ℕ → Option ProgramView
+abbrev pub program_of_text : List ℕ → Option Program
 program_of_text bytes = program_of_tokens (tokens_of bytes)
 
 -- ---- exchanges
@@ -36,25 +35,23 @@ Honest program before (e ∷ es) = IfSome e.got (λ reply. reply ≡ user_reply_
 -- ---- a far side
 
 -- a text is loaded exactly where it is a program, and else refused with 2; a load that failed says nothing
-abbrev pub IsHonestLoad : Option ProgramView → LoadAnswer → Type 0
-IsHonestLoad (Some view) loads.Ok = Unit {0}
-IsHonestLoad (Some view) (loads.Refused cause) = ⊥
-IsHonestLoad (Some view) loads.Failed = Unit {0}
-IsHonestLoad (Some view) loads.OutOfMemory = ⊥
+abbrev pub IsHonestLoad : Option Program → LoadAnswer → Type 0
+IsHonestLoad (Some program) loads.Ok = Unit {0}
+IsHonestLoad (Some program) (loads.Refused cause) = ⊥
+IsHonestLoad (Some program) loads.Failed = Unit {0}
+IsHonestLoad (Some program) loads.OutOfMemory = ⊥
 IsHonestLoad None loads.Ok = ⊥
 IsHonestLoad None (loads.Refused cause) = cause ≡ 2
 IsHonestLoad None loads.Failed = Unit {0}
 IsHonestLoad None loads.OutOfMemory = ⊥
 
--- the program that was loaded, and honest replies of it
-pub record IsServed (view : ProgramView) (es : List Exchange) : Type 0 where
-  pub program : Program
-  pub text : program_view program ≡ view
-  pub replies : Honest program [] es
+-- the replies since the load are this program's
+abbrev pub IsServed : Program → List Exchange → Type 0
+IsServed program es = Honest program [] es
 
 pub record IsHonestSince (l : Loaded) (es : List Exchange) : Type 0 where
   pub load : IsHonestLoad (program_of_text l.user) l.answer
-  pub served : IfSome (program_of_text l.user) (λ view. IsServed view es)
+  pub served : IfSome (program_of_text l.user) (λ program. IsServed program es)
 
 -- what a far side holds is what an honest one would: without a load there is no exchange
 abbrev pub IsHonest : Option Loaded → List Exchange → Type 0

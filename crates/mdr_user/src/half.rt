@@ -28,12 +28,13 @@ pub struct UserHalf {
 
 impl Model for UserHalf {
     ghost use Rattle.std.specs.Coded.{codes};
-    ghost use Rattle.mdr_core.specs.contracts.code.Expr as e;
+    ghost use Rattle.mdr_core.specs.contracts.types.Ty as t;
+    ghost use Rattle.mdr_core.specs.contracts.code.Stmt as s;
     ghost use Rattle.mdr_user.specs.Halves.{HalfState};
 
     ghost Value = { HalfState };
 
-    ghost coded = { Prim.hlevel (codes, e.the_row.coded) };
+    ghost coded = { Prim.hlevel (codes, t.the_row.coded, s.the_row.coded) };
 
     ghost use Rattle.mdr_user.specs.HalfView.{half_state, IsKeptHalf};
 

@@ -11,7 +11,6 @@ use Rattle.mdr_top.specs.Answers.{HasProgram, NoProgram}
 use Rattle.mdr_top.specs.Answers.NoProgram.{fault, unbuilt}
 use Rattle.mdr_top.specs.Lines.{source_line, begin}
 use Rattle.mdr_top.specs.declared.status.Status.TheVariants as status
-use Rattle.mdr_syntax.specs.Forms.{program_view}
 use Rattle.mdr_top.proofs.StageSteps.{due_for}
 use Rattle.mdr_top.proofs.Programs.{has_program}
 use Rattle.mdr_top.proofs.program.program.Goals as goal
@@ -46,4 +45,4 @@ returns-in-Err-OpenText c =
 pub returns-in-Ok-read_source : goal.returns-in-Ok-read_source
 returns-in-Ok-read_source c =
     has_program c.args.source.now c.in-Ok.tokens c.in-Ok-read_source.program c.in-Ok.ensures.exact
-    (subst (λ (ts : List Token). program_of (whats ts) ≡ Some (program_view c.in-Ok-read_source.program)) c.as_slice.ensures c.in-Ok-read_source.ensures)
+    (subst (λ (ts : List Token). program_of (whats ts) ≡ Some c.in-Ok-read_source.program) c.as_slice.ensures c.in-Ok-read_source.ensures)
