@@ -18,6 +18,7 @@ mod script;
 mod script_error;
 mod source_error;
 mod token;
+mod tree;
 mod words;
 
 pub use declare::read_source;
@@ -31,6 +32,10 @@ pub use script::read_script;
 pub use script_error::ScriptError;
 pub use source_error::SourceError;
 pub use token::{Lexeme, Token};
+pub use tree::{
+    AnnText, Base, Clause, Const, Decl, Elem, Enumerator, FieldName, Form, FormWhat, Head, Init, Item,
+    ItemWhat, Label, Node, NodeWhat, Tree,
+};
 
 #[cfg(test)]
 mod tests;
