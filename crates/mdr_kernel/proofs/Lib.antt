@@ -6,3 +6,4 @@ pub mod Turns
 pub mod Endings
 pub mod Numbers
 pub mod KernelCode
+pub mod Walks
