@@ -97,6 +97,10 @@ type_small : (t : Ty) → type_number t < 10
 type_small (ty.Int k) = kind_small k
 type_small ty.Lock = omega arith
 type_small ty.Void = omega arith
+type_small (ty.Struct s) = omega arith
+type_small (ty.Ptr' p t) = omega arith
+type_small ty.VoidPtr = omega arith
+type_small (ty.Fun' p ts) = omega arith
 
 -- a block with a serial below a limit, of a type of the table, with at most 65,536 cells
 pub record IsSmallBlock (limit : ℕ) (b : New) : Type 0 where

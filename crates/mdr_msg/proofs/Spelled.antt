@@ -1,7 +1,7 @@
 -- In an honest run each message and each answer has a spelling, where numbers are small and visible cells are few.
 use Rattle.std.proofs.Common.{◌≡◌, ℕ, zero, suc, ◌<◌, ◌≤◌, ◌^◌, ◌⊎◌, inl, inr, Bool, true, false, cond, not, ◌&&◌, ◌||◌, List, [], ◌∷◌, ◌++◌, length, Option, Some, None, Ok, Err, refl, sym, ◌∙◌, ap, subst, eqb-true, arith}
-use Rattle.std.specs.Prelude.{◌==◌, map, nat_lt, nat_le, slice_get, is_none, find}
-use Rattle.std.specs.List.{AllByRecursion, list_any}
+use Rattle.std.specs.Prelude.{◌==◌, map, nat_lt, nat_le, slice_get, is_none, unwrap_or, find}
+use Rattle.std.specs.List.{AllByRecursion}
 use Rattle.std.proofs.lemmas.Bool.{ltb-true, leb-true}
 use Rattle.mdr_core.specs.declared.kind.Kind.TheVariants.{U32}
 use Rattle.mdr_core.specs.declared.stop.StopKind.{StopKind}
@@ -14,6 +14,10 @@ use Rattle.mdr_core.specs.declared.program.Program.{Program}
 use Rattle.mdr_core.specs.declared.program.Param.{Param}
 use Rattle.mdr_core.specs.declared.program.Func.{Func}
 use Rattle.mdr_core.specs.declared.code.Stmt.{Stmt}
+use Rattle.mdr_core.specs.declared.code.Step.TheOpen.{Step-F}
+use Rattle.mdr_core.specs.declared.code.Step.TheFolds.{fold_out-Step, fold_out-Stmt}
+use Rattle.mdr_core.specs.Code.{Code}
+use Rattle.mdr_core.specs.Folds.{step_layer, stmt_layer, code_of, codes_of}
 use Rattle.mdr_model.specs.declared.wire.Wire.{Wire}
 use Rattle.mdr_model.specs.declared.message.Run.{Run}
 use Rattle.mdr_model.specs.declared.message.Shape64.{Shape64}
@@ -32,9 +36,9 @@ use Rattle.mdr_model.specs.World.{is_writel, served, kernel_call}
 use Rattle.mdr_model.specs.Watched.{returned, first_world}
 use Rattle.mdr_model.specs.Sets.{is_in, rises_after, visible}
 use Rattle.mdr_model.specs.Faults.{fault, unless, params_of, args_fault, set_run_of}
-use Rattle.mdr_model.specs.Kernel.{Kernel, Rest, Noted, Pending, Over, Waits, Reading, has_number, has_down_stub, is_user_place, is_object_service, is_ask_place, is_awaited, service_params, stop_number, user_stops, user_stop, is_stop, result_type, ticks_fault, reply_runs_fault, service_fault, fault_of, applied, judged, taken, next, run_from_pending, first_kernel, split_commands, split_run}
+use Rattle.mdr_model.specs.Kernel.{Kernel, Rest, Noted, Pending, Over, Waits, Reading, has_number, any_has_number, has_down_stub, is_user_place, is_object_service, is_ask_place, is_awaited, service_params, stop_number, user_stops, user_stop, is_stop, result_type, ticks_fault, reply_runs_fault, service_fault, fault_of, applied, judged, taken, next, run_from_pending, first_kernel, split_commands, split_run}
 use Rattle.mdr_model.specs.User.{User, Opened, Refuses, Runs, opened, done, replied, deliver, user_reply}
-use Rattle.mdr_model.specs.Sound.{IsSoundFunc, IsSound, IsBound}
+use Rattle.mdr_model.specs.Sound.{IsSoundStep, IsSoundBody, IsSoundFunc, IsSound, IsBound}
 use Rattle.mdr_model.specs.Law.{read, IsHonest, IsOwn, IsOneMemory}
 use Rattle.mdr_model.proofs.Tests.{not_both, and_left, and_right}
 use Rattle.mdr_model.proofs.KernelWork.{kernel_leaves, service_leaves, stub_is_kernel}
@@ -138,12 +142,40 @@ counted i (t ∷ ts) (v ∷ vs) e = of (fits_type t v) e (counted (suc i) ts vs)
 abbrev IsSmallStatement : Stmt → Type 0
 IsSmallStatement s = IsFour s.number
 
-numbered_small : (n : ℕ) (ss : List Stmt) → AllByRecursion IsSmallStatement ss → list_any (has_number n) ss ≡ true → IsFour n
-numbered_small n [] all e = absurd (not_both e refl)
-numbered_small n (s ∷ ss) all e = of (has_number n s) refl e (numbered_small n ss all.1)
+-- what a statement does with its number
+abbrev Layer : Type 0
+Layer = Step-F (ℕ → Code) Code
+
+code_layer : (s : Stmt) → (y : Layer) × (code_of s ≡ step_layer y s.number)
+code_layer s = (_, fold_out-Stmt (ℕ → Code) Code step_layer stmt_layer s ∙ ap (λ (f : ℕ → Code). f s.number) (fold_out-Step (ℕ → Code) Code step_layer stmt_layer s.step))
+
+-- a sound statement has its own number alone
+own_number : (program : Program) (k : Bool) (y : Layer) (own n : ℕ) → IsSoundStep program k (step_layer y own) → has_number n (step_layer y own) ≡ true → own ≡ n
+own_number program k (Step-F.Assign p e) own n h t = eqb-true own n t
+own_number program k (Step-F.Call target form) own n h t = eqb-true own n t
+own_number program k (Step-F.ReturnCall form) own n h t = eqb-true own n t
+own_number program k (Step-F.Declare i) own n h t = elim h [ ]
+own_number program k (Step-F.Text i text) own n h t = elim h [ ]
+own_number program k (Step-F.If e one other) own n h t = elim h [ ]
+own_number program k (Step-F.While e body) own n h t = elim h [ ]
+own_number program k (Step-F.For init test step body) own n h t = elim h [ ]
+own_number program k (Step-F.Return e) own n h t = elim h [ ]
+own_number program k Step-F.Break own n h t = elim h [ ]
+own_number program k Step-F.Continue own n h t = elim h [ ]
+own_number program k Step-F.Empty own n h t = elim h [ ]
+own_number program k (Step-F.Block body) own n h t = elim h [ ]
+
+numbered_small : (program : Program) (k : Bool) (n : ℕ) (ss : List Stmt) → IsSoundBody program k (codes_of ss) → AllByRecursion IsSmallStatement ss → any_has_number n (codes_of ss) ≡ true → IsFour n
+numbered_small program k n [] sound all e = absurd (not_both e refl)
+numbered_small program k n (s ∷ ss) sound all e = of (has_number n (code_of s)) refl e (numbered_small program k n ss sound.1 all.1)
   where
-    of : (t : Bool) → has_number n s ≡ t → (t || list_any (has_number n) ss) ≡ true → (list_any (has_number n) ss ≡ true → IsFour n) → IsFour n
-    of true t h later = subst IsFour (eqb-true _ _ t) all.0
+    own : has_number n (code_of s) ≡ true → s.number ≡ n
+    own t =
+        let does = code_layer s in
+        own_number program k does.0 s.number n (subst (IsSoundStep program k) does.1 sound.0) (ap (has_number n) (sym does.1) ∙ t)
+
+    of : (t : Bool) → has_number n (code_of s) ≡ t → (t || any_has_number n (codes_of ss)) ≡ true → (any_has_number n (codes_of ss) ≡ true → IsFour n) → IsFour n
+    of true t h later = subst IsFour (own t) all.0
     of false t h later = later h
 
 or_cases : (a b : Bool) → (a || b) ≡ true → (a ≡ true) ⊎ (b ≡ true)
@@ -194,12 +226,15 @@ module _ (program : Program) (sound : IsSound program) (budget : ℕ) (small : H
   unfolding is_user
   user_small func e = let most = small.funcs in let there = ltb-true _ _ (and_left (nat_lt func (length program.funcs)) _ e) in omega arith
 
-  body_small : (func n : ℕ) → list_any (has_number n) (body_of (func_at program func)) ≡ true → IsFour n
+  body_small : (func n : ℕ) → any_has_number n (codes_of (body_of (func_at program func))) ≡ true → IsFour n
   body_small func n e = of (func_at program func) refl e
     where
-      of : (o : Option Func) → slice_get program.funcs func ≡ o → list_any (has_number n) (body_of o) ≡ true → IsFour n
+      of : (o : Option Func) → slice_get program.funcs func ≡ o → any_has_number n (codes_of (body_of o)) ≡ true → IsFour n
       of None h t = absurd (not_both t refl)
-      of (Some f) h t = numbered_small n (body_of (Some f)) (all_get HasSmallStatements program.funcs func f small.statements h) t
+      of (Some f) h t =
+          let s : IsSoundFunc program f = all_get (IsSoundFunc program) program.funcs func f sound.funcs h in
+          let body : body_of (Some f) ≡ s.statements = ap (λ (b : Option (List Stmt)). unwrap_or b []) s.body in
+          numbered_small program f.critical n (body_of (Some f)) (subst (λ (ss : List Stmt). IsSoundBody program f.critical (codes_of ss)) (sym body) s.steps) (all_get HasSmallStatements program.funcs func f small.statements h) t
 
   place_is : (at : At) → is_user_place program at ≡ true → IsPlace at
   unfolding is_user_place
