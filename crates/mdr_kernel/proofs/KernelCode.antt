@@ -1,5 +1,5 @@
 -- Statements of the kernel half: what a tree of one does in a world, and that the world stays sound.
-use Rattle.std.proofs.Common.{◌≡◌, ℕ, suc, ◌+◌, ◌-◌, ◌<◌, ◌≤◌, ◌^◌, Bool, true, false, cond, List, [], ◌∷◌, Option, Some, None, Result, Ok, Err, refl, sym, ap, ◌∙◌, subst, slice_get, get_or, length, drop, unwrap_or, arith}
+use Rattle.std.proofs.Common.{◌≡◌, ℕ, zero, suc, ◌+◌, ◌-◌, ◌<◌, ◌≤◌, ◌^◌, Bool, true, false, cond, List, [], ◌∷◌, map, Option, Some, None, Result, Ok, Err, refl, sym, ap, ◌∙◌, subst, slice_get, get_or, length, drop, unwrap_or, arith}
 use Rattle.std.specs.Prelude.{nat_lt}
 use Rattle.std.specs.List.{AllByRecursion}
 use Rattle.std.proofs.lemmas.List.{at_drop_all}
@@ -10,27 +10,22 @@ use Rattle.mdr_core.specs.declared.stop.StopKind.{StopKind}
 use Rattle.mdr_core.specs.declared.stop.StopKind.TheVariants as stops
 use Rattle.mdr_core.specs.declared.place.At.{At}
 use Rattle.mdr_core.specs.declared.program.Program.{Program}
-use Rattle.mdr_core.specs.declared.code.Lval.{Lval}
-use Rattle.mdr_core.specs.declared.code.Lval.TheVariants.{Global}
 use Rattle.mdr_core.specs.declared.code.Expr.{Expr}
-use Rattle.mdr_core.specs.declared.code.Callee.{Callee}
-use Rattle.mdr_core.specs.declared.code.Callee.TheVariants.{Service}
-use Rattle.mdr_core.specs.declared.code.CallForm.{CallForm}
-use Rattle.mdr_core.specs.declared.code.Step.{Step}
-use Rattle.mdr_core.specs.declared.code.Step.TheVariants as step
 use Rattle.mdr_core.specs.declared.code.Stmt.{Stmt}
+use Rattle.mdr_core.specs.Code.{Term, Lvalue, Called, CallOf, Goal, Code}
+use Rattle.mdr_core.specs.Folds.{term_of, code_of, codes_of}
 use Rattle.mdr_core.specs.declared.program.Func.{Func}
 use Rattle.mdr_core.specs.declared.plan.Half.TheVariants as half
 use Rattle.mdr_model.specs.declared.wire.Wire.{Wire}
 use Rattle.mdr_model.specs.declared.wire.Wire.TheVariants as wire
 use Rattle.mdr_model.specs.declared.wire.WireView.{WireView}
 use Rattle.mdr_model.specs.Values.{fits_type, natural}
-use Rattle.mdr_model.specs.Memory.{Memory, births, normal, first_memory, cell_of, stored, everywhere}
+use Rattle.mdr_model.specs.Memory.{Memory, births, normal, first_memory, cell_of, reached, stored, everywhere}
 use Rattle.mdr_model.specs.Tree.{Asked, Tree}
 use Rattle.mdr_model.specs.Meaning.{func_at, critical_of, is_kernel, body_of, type_of_global, pointer_to, value, values, Here, Enters, call, keeps, statement, statements, function}
 use Rattle.mdr_model.specs.World.{World, Ran, Ended, Stopped, after, counted, when_loaded, when_stored, written, written_if, is_writel, served, in_kernel, kernel_call}
 use Rattle.mdr_model.specs.Holds.{IsSoundMemory}
-use Rattle.mdr_model.specs.Sound.{IsSoundPlace, IsSoundExpr, IsSoundWritel, IsSoundStep, IsSoundFunc, IsSound}
+use Rattle.mdr_model.specs.Sound.{IsSoundPlace, IsSoundExpr, IsSoundWritel, IsSoundStep, IsSoundBody, IsSoundFunc, IsSound}
 use Rattle.mdr_model.proofs.MemoryLaws.{born_at-births, births-put}
 use Rattle.mdr_model.proofs.ValueLaws.{typed_is_normal}
 use Rattle.mdr_model.proofs.HoldsLaws.{all_get, stored_is}
@@ -49,14 +44,15 @@ sound_memory program w sound h = record {
   filled = h.filled;
 }
 
-births_stored : (allowed : _) (program : Program) (m m' : Memory) (place : Lval) (v : Wire) → stored allowed m (pointer_to program place) v ≡ Ok m' → births m' ≡ births m
-unfolding pointer_to
-births_stored allowed program m m' (Global g) v e =
+births_stored : (allowed : _) (program : Program) (m m' : Memory) (place : Lvalue) (v : Wire) → stored allowed m (pointer_to program place) v ≡ Ok m' → births m' ≡ births m
+unfolding pointer_to stored reached
+births_stored allowed program m m' (Lvalue.Global g) v e =
     let p : WireView = record { serial = g; first = 0; ty = type_of_global (slice_get program.globals g); count = 1; index = 0 } in
     ap births (sym (stored_is allowed m m' p v e)) ∙ births-put m (cell_of p) (normal m v)
+births_stored allowed program m m' _ v e = absurd (Prim.cc)
 
 -- a store of a value that fits leaves a sound world
-pub store_keeps : (program : Program) (w w' : World) (place : Lval) (kind : Kind) (v : Wire) → IsSound program → IsSoundWorld program w → IsSoundPlace program place kind → fits_type (ty.Int kind) v ≡ true
+pub store_keeps : (program : Program) (w w' : World) (place : Lvalue) (kind : Kind) (v : Wire) → IsSound program → IsSoundWorld program w → IsSoundPlace program place kind → fits_type (ty.Int kind) v ≡ true
     → stored everywhere w.memory (pointer_to program place) v ≡ Ok w'.memory → w'.ticks ≡ w.ticks → w'.rest ≡ w.rest → IsSoundWorld program w'
 store_keeps program w w' place kind v sound h s fit e ticks rest = record {
   born = births_stored everywhere program w.memory w'.memory place v e ∙ h.born;
@@ -98,7 +94,7 @@ served_is_sound program asked w w' stop h e = subst (IsSoundWorld program) (ap w
 
 -- ---- assignments
 
-pub assign_refused : (program : Program) (at : At) (place : Lval) (e : Expr) (w : World) (kind : StopKind) (stop : Option CodeStop) (next : Tree) → Err kind ≡ evaluated everywhere program w.memory e
+pub assign_refused : (program : Program) (at : At) (place : Lvalue) (e : Term) (w : World) (kind : StopKind) (stop : Option CodeStop) (next : Tree) → Err kind ≡ evaluated everywhere program w.memory e
     → stop ≡ Some (record { kind = kind; at = Some at }) → in_kernel (value program at e (λ v. Tree.Store at (pointer_to program place) v next)) w ≡ goes_on stop next w
 assign_refused program at place e w kind stop next gave is =
     let k : Wire → Tree = λ v. Tree.Store at (pointer_to program place) v next in
@@ -106,7 +102,7 @@ assign_refused program at place e w kind stop next gave is =
     ∙ ap (λ (r : Result Wire StopKind). when_loaded r at w (λ v. in_kernel (k v) w)) (sym gave)
     ∙ sym (ap (λ (s : Option CodeStop). goes_on s next w) is)
 
-assign_stores : (program : Program) (at : At) (place : Lval) (e : Expr) (w : World) (v : Wire) (r : Result Memory StopKind) (next : Tree) → Ok v ≡ evaluated everywhere program w.memory e
+assign_stores : (program : Program) (at : At) (place : Lvalue) (e : Term) (w : World) (v : Wire) (r : Result Memory StopKind) (next : Tree) → Ok v ≡ evaluated everywhere program w.memory e
     → stored everywhere w.memory (pointer_to program place) v ≡ r
     → in_kernel (value program at e (λ v. Tree.Store at (pointer_to program place) v next)) w ≡ when_stored r at w (λ w'. in_kernel next w')
 unfolding in_kernel
@@ -116,12 +112,12 @@ assign_stores program at place e w v r next gave made =
     ∙ ap (λ (r : Result Wire StopKind). when_loaded r at w (λ v. in_kernel (k v) w)) (sym gave)
     ∙ ap (λ (r : Result Memory StopKind). when_stored r at w (λ w'. in_kernel next w')) made
 
-pub assign_made : (program : Program) (at : At) (place : Lval) (e : Expr) (w : World) (m' : Memory) (v : Wire) (next : Tree) → Ok v ≡ evaluated everywhere program w.memory e
+pub assign_made : (program : Program) (at : At) (place : Lvalue) (e : Term) (w : World) (m' : Memory) (v : Wire) (next : Tree) → Ok v ≡ evaluated everywhere program w.memory e
     → stored everywhere w.memory (pointer_to program place) v ≡ Ok m'
     → in_kernel (value program at e (λ v. Tree.Store at (pointer_to program place) v next)) w ≡ in_kernel next (record w { memory = m' })
 assign_made program at place e w m' v next gave made = assign_stores program at place e w v (Ok m') next gave made
 
-pub assign_stopped : (program : Program) (at : At) (place : Lval) (e : Expr) (w : World) (m' : Memory) (v : Wire) (kind : StopKind) (stop : Option CodeStop) (next : Tree) → Ok v ≡ evaluated everywhere program w.memory e
+pub assign_stopped : (program : Program) (at : At) (place : Lvalue) (e : Term) (w : World) (m' : Memory) (v : Wire) (kind : StopKind) (stop : Option CodeStop) (next : Tree) → Ok v ≡ evaluated everywhere program w.memory e
     → stored everywhere w.memory (pointer_to program place) v ≡ Err kind → m' ≡ w.memory → stop ≡ Some (record { kind = kind; at = Some at })
     → in_kernel (value program at e (λ v. Tree.Store at (pointer_to program place) v next)) w ≡ goes_on stop next (record w { memory = m' })
 assign_stopped program at place e w m' v kind stop next gave made stays is =
@@ -129,7 +125,7 @@ assign_stopped program at place e w m' v kind stop next gave made stays is =
     ∙ ap (λ (x : Memory). Stopped kind (Some at) (record w { memory = x })) (sym stays)
     ∙ sym (ap (λ (s : Option CodeStop). goes_on s next (record w { memory = m' })) is)
 
-pub assign_keeps : (program : Program) (place : Lval) (kind : Kind) (e : Expr) (w : World) (m' : Memory) (v : Wire) → IsSound program → IsSoundWorld program w → IsSoundPlace program place kind → IsSoundExpr program e kind
+pub assign_keeps : (program : Program) (place : Lvalue) (kind : Kind) (e : Term) (w : World) (m' : Memory) (v : Wire) → IsSound program → IsSoundWorld program w → IsSoundPlace program place kind → IsSoundExpr program e kind
     → Ok v ≡ evaluated everywhere program w.memory e → stored everywhere w.memory (pointer_to program place) v ≡ Ok m' → IsSoundWorld program (record w { memory = m' })
 assign_keeps program place kind e w m' v sound h s t gave made =
     store_keeps program w (record w { memory = m' }) place kind v sound h s
@@ -138,7 +134,7 @@ assign_keeps program place kind e w m' v sound h s t gave made =
 
 -- ---- calls of `writel`
 
-pub value_fits : (program : Program) (e : Expr) (w : World) (v : Wire) → IsSound program → IsSoundWorld program w → IsSoundExpr program e U32 → Ok v ≡ evaluated everywhere program w.memory e → fits_type (ty.Int U32) v ≡ true
+pub value_fits : (program : Program) (e : Term) (w : World) (v : Wire) → IsSound program → IsSoundWorld program w → IsSoundExpr program e U32 → Ok v ≡ evaluated everywhere program w.memory e → fits_type (ty.Int U32) v ≡ true
 value_fits program e w v sound h s gave =
     evaluated_fits everywhere program w.memory e U32 v sound (sound_memory program w sound h) s (sym gave)
 
@@ -146,7 +142,7 @@ value_fits program e w v sound h s gave =
 abbrev pub asks : ℕ → At → Tree → List Wire → Tree
 asks service at next vs = Tree.Ask (record { service = service; at = at; args = vs; shapes = []; bytes = [] }) (λ results. next)
 
-pub ask_refused : (program : Program) (at : At) (service : ℕ) (v r : Expr) (w : World) (kind : StopKind) (stop : Option CodeStop) (next : Tree) → Err kind ≡ evaluated everywhere program w.memory v
+pub ask_refused : (program : Program) (at : At) (service : ℕ) (v r : Term) (w : World) (kind : StopKind) (stop : Option CodeStop) (next : Tree) → Err kind ≡ evaluated everywhere program w.memory v
     → stop ≡ Some (record { kind = kind; at = Some at }) → in_kernel (values program at (v ∷ r ∷ []) (asks service at next)) w ≡ goes_on stop next w
 ask_refused program at service v r w kind stop next gave is =
     let k : Wire → Tree = λ x. value program at r (λ y. asks service at next (x ∷ y ∷ [])) in
@@ -154,7 +150,7 @@ ask_refused program at service v r w kind stop next gave is =
     ∙ ap (λ (o : Result Wire StopKind). when_loaded o at w (λ x. in_kernel (k x) w)) (sym gave)
     ∙ sym (ap (λ (s : Option CodeStop). goes_on s next w) is)
 
-ask_second : (program : Program) (at : At) (service : ℕ) (v r : Expr) (w : World) (x : Wire) (o : Result Wire StopKind) (next : Tree) → Ok x ≡ evaluated everywhere program w.memory v
+ask_second : (program : Program) (at : At) (service : ℕ) (v r : Term) (w : World) (x : Wire) (o : Result Wire StopKind) (next : Tree) → Ok x ≡ evaluated everywhere program w.memory v
     → o ≡ evaluated everywhere program w.memory r
     → in_kernel (values program at (v ∷ r ∷ []) (asks service at next)) w ≡ when_loaded o at w (λ y. in_kernel (asks service at next (x ∷ y ∷ [])) w)
 ask_second program at service v r w x o next gave then =
@@ -164,7 +160,7 @@ ask_second program at service v r w x o next gave then =
     ∙ kernel_value program at r (λ y. asks service at next (x ∷ y ∷ [])) w
     ∙ ap (λ (o : Result Wire StopKind). when_loaded o at w (λ y. in_kernel (asks service at next (x ∷ y ∷ [])) w)) (sym then)
 
-pub ask_refused_later : (program : Program) (at : At) (service : ℕ) (v r : Expr) (w : World) (x : Wire) (kind : StopKind) (stop : Option CodeStop) (next : Tree) → Ok x ≡ evaluated everywhere program w.memory v
+pub ask_refused_later : (program : Program) (at : At) (service : ℕ) (v r : Term) (w : World) (x : Wire) (kind : StopKind) (stop : Option CodeStop) (next : Tree) → Ok x ≡ evaluated everywhere program w.memory v
     → Err kind ≡ evaluated everywhere program w.memory r → stop ≡ Some (record { kind = kind; at = Some at }) → in_kernel (values program at (v ∷ r ∷ []) (asks service at next)) w ≡ goes_on stop next w
 ask_refused_later program at service v r w x kind stop next gave then is =
     ask_second program at service v r w x (Err kind) next gave then
@@ -179,7 +175,7 @@ served_on (Some stop) next w = refl
 two_normal : (m : Memory) (x y : Wire) → fits_type (ty.Int U32) x ≡ true → fits_type (ty.Int U32) y ≡ true → normal m x ∷ normal m y ∷ [] ≡ x ∷ y ∷ []
 two_normal m x y f g = λ i. typed_is_normal (ty.Int U32) m x f i ∷ typed_is_normal (ty.Int U32) m y g i ∷ []
 
-pub ask_done : (program : Program) (at : At) (service : ℕ) (v r : Expr) (w w' : World) (x y : Wire) (stop : Option CodeStop) (next : Tree) → IsSound program → IsSoundWorld program w → IsSoundWritel program (v ∷ r ∷ [])
+pub ask_done : (program : Program) (at : At) (service : ℕ) (v r : Term) (w w' : World) (x y : Wire) (stop : Option CodeStop) (next : Tree) → IsSound program → IsSoundWorld program w → IsSoundWritel program (v ∷ r ∷ [])
     → Ok x ≡ evaluated everywhere program w.memory v → Ok y ≡ evaluated everywhere program w.memory r
     → served (record { service = service; at = at; args = x ∷ y ∷ []; shapes = []; bytes = [] }) w ≡ ran_of [] stop w' → in_kernel (values program at (v ∷ r ∷ []) (asks service at next)) w ≡ goes_on stop next w'
 unfolding in_kernel
@@ -192,33 +188,34 @@ ask_done program at service v r w w' x y stop next sound h s gave then did =
 
 -- ---- calls
 
-two_items : (xs : List Expr) (a b : Expr) → 2 ≤ length xs → length xs < 3 → a ≡ get_or xs 0 a → b ≡ get_or xs 1 b → xs ≡ a ∷ b ∷ []
+-- the terms of two items of a list
+two_items : (xs : List Expr) (a b : Expr) → 2 ≤ length xs → length xs < 3 → a ≡ get_or xs 0 a → b ≡ get_or xs 1 b → map term_of xs ≡ term_of a ∷ term_of b ∷ []
 two_items [] a b low high e f = absurd (omega arith)
 two_items (x ∷ []) a b low high e f = absurd (omega arith)
-two_items (x ∷ y ∷ []) a b low high e f = λ i. sym e i ∷ sym f i ∷ []
+two_items (x ∷ y ∷ []) a b low high e f = λ i. term_of (sym e i) ∷ term_of (sym f i) ∷ []
 two_items (x ∷ y ∷ z ∷ xs) a b low high e f = absurd (omega arith)
 
-pub call_is : (program : Program) (at : At) (callee : Callee) (service : ℕ) (xs es : List Expr) (a b : Expr) (low : Enters) (here : Here) (next : Tree) (w : World) (ran : Ran Wire) → callee ≡ Service service
-    → xs ≡ es → 2 ≤ length xs → length xs < 3 → a ≡ get_or xs 0 a → b ≡ get_or xs 1 b → in_kernel (values program at (a ∷ b ∷ []) (asks service at next)) w ≡ ran
-    → in_kernel (values program at es (λ vs. call program half.Kernel low here at callee vs (λ v. next))) w ≡ ran
+pub call_is : (program : Program) (at : At) (callee : Called) (service : ℕ) (xs es : List Expr) (a b : Expr) (low : Enters) (here : Here) (next : Tree) (w : World) (ran : Ran Wire) → callee ≡ Called.Service service
+    → xs ≡ es → 2 ≤ length xs → length xs < 3 → a ≡ get_or xs 0 a → b ≡ get_or xs 1 b → in_kernel (values program at (term_of a ∷ term_of b ∷ []) (asks service at next)) w ≡ ran
+    → in_kernel (values program at (map term_of es) (λ vs. call program half.Kernel low here at callee vs (λ v. next))) w ≡ ran
 call_is program at callee service xs es a b low here next w ran is same few many e f did =
-    ap (λ (c : Callee). in_kernel (values program at es (λ vs. call program half.Kernel low here at c vs (λ v. next))) w) is
-    ∙ ap (λ (es : List Expr). in_kernel (values program at es (asks service at next)) w) (sym same ∙ two_items xs a b few many e f)
+    ap (λ (c : Called). in_kernel (values program at (map term_of es) (λ vs. call program half.Kernel low here at c vs (λ v. next))) w) is
+    ∙ ap (λ (ts : List Term). in_kernel (values program at ts (asks service at next)) w) (ap (map term_of) (sym same) ∙ two_items xs a b few many e f)
     ∙ did
 
 -- ---- statements
 
-pub assignment_is : (program : Program) (at : At) (s : Step) (place : Lval) (e : Expr) (low : Enters) (here : Here) (next : Tree) (w : World) (ran : Ran Wire) → s ≡ step.Assign place e
-    → in_kernel (statement program half.Kernel low here at (step.Assign place e) next) w ≡ ran → in_kernel (statement program half.Kernel low here at s next) w ≡ ran
-assignment_is program at s place e low here next w ran is did = ap (λ (x : Step). in_kernel (statement program half.Kernel low here at x next) w) is ∙ did
+pub assignment_is : (program : Program) (at : At) (c : Code) (n : ℕ) (place : Lvalue) (e : Term) (low : Enters) (here : Here) (next : Tree) (w : World) (ran : Ran Wire) → c ≡ Code.Assign n place e
+    → in_kernel (statement program half.Kernel low here at (Code.Assign n place e) next) w ≡ ran → in_kernel (statement program half.Kernel low here at c next) w ≡ ran
+assignment_is program at c n place e low here next w ran is did = ap (λ (x : Code). in_kernel (statement program half.Kernel low here at x next) w) is ∙ did
 
 -- no call of a sound program has a place for its value
-pub statement_is : (program : Program) (at : At) (s : Step) (target : Option Lval) (form : CallForm) (low : Enters) (here : Here) (next : Tree) (w : World) (ran : Ran Wire) → IsSoundStep program true s → s ≡ step.Call target form
-    → in_kernel (values program at form.args (λ vs. call program half.Kernel low here at form.callee vs (λ v. next))) w ≡ ran → in_kernel (statement program half.Kernel low here at s next) w ≡ ran
-statement_is program at s target form low here next w ran sound is did =
-    let own : IsSoundStep program true (step.Call target form) = subst (IsSoundStep program true) is sound in
-    ap (λ (x : Step). in_kernel (statement program half.Kernel low here at x next) w) is
-    ∙ ap (λ (t : Option Lval). in_kernel (values program at form.args (λ vs. call program half.Kernel low here at form.callee vs (λ v. keeps program at t v next))) w) own.0
+pub statement_is : (program : Program) (at : At) (c : Code) (n : ℕ) (goal : Goal) (form : CallOf) (low : Enters) (here : Here) (next : Tree) (w : World) (ran : Ran Wire) → IsSoundStep program true c → c ≡ Code.Call n goal form
+    → in_kernel (values program at form.args (λ vs. call program half.Kernel low here at form.callee vs (λ v. next))) w ≡ ran → in_kernel (statement program half.Kernel low here at c next) w ≡ ran
+statement_is program at c n goal form low here next w ran sound is did =
+    let own : IsSoundStep program true (Code.Call n goal form) = subst (IsSoundStep program true) is sound in
+    ap (λ (x : Code). in_kernel (statement program half.Kernel low here at x next) w) is
+    ∙ ap (λ (g : Goal). in_kernel (values program at form.args (λ vs. call program half.Kernel low here at form.callee vs (λ v. keeps program at g v next))) w) own.0
     ∙ did
 
 -- ---- ticks
@@ -240,28 +237,37 @@ tick_keeps program w w' h some is =
 
 -- ---- functions
 
-pub body_is_sound : (program : Program) (func : ℕ) → IsSound program → is_kernel program func ≡ true → AllByRecursion (λ (s : Stmt). IsSoundStep program true s.step) (body_of (func_at program func))
+pub body_is_sound : (program : Program) (func : ℕ) → IsSound program → is_kernel program func ≡ true → IsSoundBody program true (codes_of (body_of (func_at program func)))
 unfolding is_kernel
 body_is_sound program func sound kernel = of (func_at program func) refl kernel
   where
-    of : (o : Option Func) → func_at program func ≡ o → critical_of o ≡ true → AllByRecursion (λ (s : Stmt). IsSoundStep program true s.step) (body_of o)
+    of : (o : Option Func) → func_at program func ≡ o → critical_of o ≡ true → IsSoundBody program true (codes_of (body_of o))
     of None e k = absurd (Prim.cc)
     of (Some f) e k =
         let own : IsSoundFunc program f = all_get (IsSoundFunc program) program.funcs func f sound.funcs e in
-        subst (λ (b : Option (List Stmt)). AllByRecursion (λ (s : Stmt). IsSoundStep program true s.step) (unwrap_or b [])) (sym own.body)
-        (subst (λ (t : Bool). AllByRecursion (λ (s : Stmt). IsSoundStep program t s.step) own.statements) k own.steps)
+        subst (λ (b : Option (List Stmt)). IsSoundBody program true (codes_of (unwrap_or b []))) (sym own.body)
+        (subst (λ (t : Bool). IsSoundBody program t (codes_of own.statements)) k own.steps)
+
+sound_at : (program : Program) (ss : List Stmt) (i : ℕ) (d : Stmt) → IsSoundBody program true (codes_of ss) → i < length ss → IsSoundStep program true (code_of (get_or ss i d))
+sound_at program [] i d h inside = absurd (omega arith)
+sound_at program (s ∷ ss) zero d h inside = h.0
+sound_at program (s ∷ ss) (suc i) d h inside = sound_at program ss i d h.1 (omega arith)
+
+-- and so is each statement of it
+pub step_is_sound : (program : Program) (ss : List Stmt) (i : ℕ) (s : Stmt) → IsSoundBody program true (codes_of ss) → i < length ss → s ≡ get_or ss i s → IsSoundStep program true (code_of s)
+step_is_sound program ss i s h inside is = subst (λ (x : Stmt). IsSoundStep program true (code_of x)) (sym is) (sound_at program ss i s h inside)
 
 pub call_of_body : (program : Program) (func : ℕ) (args : List Wire) (depth : ℕ) (w : World) (body : List Stmt) (ran : Ran Wire) → body ≡ body_of (func_at program func)
-    → ((low : Enters) (depth : ℕ) → in_kernel (statements program half.Kernel low (record { func = func; depth = depth }) body (Tree.Done wire.NoValue Tree.Idle)) w ≡ ran) → kernel_call program func args depth w ≡ ran
+    → ((low : Enters) (depth : ℕ) → in_kernel (statements program half.Kernel low (record { func = func; depth = depth }) (codes_of body) (Tree.Done wire.NoValue Tree.Idle)) w ≡ ran) → kernel_call program func args depth w ≡ ran
 unfolding kernel_call function
 call_of_body program func args depth w body ran is did =
-    ap (λ (b : List Stmt). in_kernel (statements program half.Kernel (function program half.Kernel w.rest) (record { func = func; depth = depth }) b (Tree.Done wire.NoValue Tree.Idle)) w) (sym is)
+    ap (λ (b : List Stmt). in_kernel (statements program half.Kernel (function program half.Kernel w.rest) (record { func = func; depth = depth }) (codes_of b) (Tree.Done wire.NoValue Tree.Idle)) w) (sym is)
     ∙ did (function program half.Kernel w.rest) depth
 
 -- no statement is left
 pub all_done : (program : Program) (func depth : ℕ) (low : Enters) (body : List Stmt) (i : ℕ) (w w' : World) → length body ≤ i
-    → in_kernel (statements program half.Kernel low (record { func = func; depth = depth }) (drop i body) (Tree.Done wire.NoValue Tree.Idle)) w' ≡ in_kernel (statements program half.Kernel low (record { func = func; depth = depth }) body (Tree.Done wire.NoValue Tree.Idle)) w
-    → in_kernel (statements program half.Kernel low (record { func = func; depth = depth }) body (Tree.Done wire.NoValue Tree.Idle)) w ≡ Ended wire.NoValue w'
+    → in_kernel (statements program half.Kernel low (record { func = func; depth = depth }) (codes_of (drop i body)) (Tree.Done wire.NoValue Tree.Idle)) w' ≡ in_kernel (statements program half.Kernel low (record { func = func; depth = depth }) (codes_of body) (Tree.Done wire.NoValue Tree.Idle)) w
+    → in_kernel (statements program half.Kernel low (record { func = func; depth = depth }) (codes_of body) (Tree.Done wire.NoValue Tree.Idle)) w ≡ Ended wire.NoValue w'
 unfolding in_kernel normal
 all_done program func depth low body i w w' over so_far =
-    sym so_far ∙ at_drop_all (λ (ss : List Stmt). in_kernel (statements program half.Kernel low (record { func = func; depth = depth }) ss (Tree.Done wire.NoValue Tree.Idle)) w') body i over
+    sym so_far ∙ at_drop_all (λ (ss : List Stmt). in_kernel (statements program half.Kernel low (record { func = func; depth = depth }) (codes_of ss) (Tree.Done wire.NoValue Tree.Idle)) w') body i over

@@ -8,3 +8,4 @@ pub mod Stops
 pub mod Endings
 pub mod Numbers
 pub mod KernelCode
+pub mod Walks

@@ -35,10 +35,11 @@ impl<'a> Model for KernelHalf<'a> {
 
     ghost Value = { HalfState };
 
-    ghost use Rattle.mdr_core.specs.contracts.code.Expr as expr;
+    ghost use Rattle.mdr_core.specs.contracts.types.Ty as ty;
+    ghost use Rattle.mdr_core.specs.contracts.code.Stmt as stmt;
     ghost use Rattle.std.specs.Coded.{codes};
 
-    ghost coded = { Prim.hlevel (codes, expr.the_row.coded) };
+    ghost coded = { Prim.hlevel (codes, ty.the_row.coded, stmt.the_row.coded) };
 
     ghost use Rattle.mdr_kernel.specs.HalfView.{half_state, IsKept};
 

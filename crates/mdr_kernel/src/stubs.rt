@@ -4,8 +4,9 @@ ghost use Rattle.std.specs.Prelude.{◌≡◌, not, ◌&&◌};
 ghost use Rattle.std.specs.List.{list_any};
 ghost use Rattle.std.specs.Option.{option_copied};
 ghost use Rattle.mdr_core.specs.declared.program.Func.{Func as AnyFunc};
+ghost use Rattle.mdr_core.specs.Folds.{called_of, code_of, codes_of};
 ghost use Rattle.mdr_model.specs.Meaning.{func_at, body_of, is_kernel, is_user};
-ghost use Rattle.mdr_model.specs.Kernel.{callee_is, step_calls, calls_func, has_down_stub, has_number, is_user_place, is_ask_place};
+ghost use Rattle.mdr_model.specs.Kernel.{callee_is, calls_func, any_calls, has_down_stub, has_number, any_has_number, is_user_place, is_ask_place};
 
 use mdr_core::{At, Callee, Func, Program, Step, Stmt};
 
@@ -35,47 +36,69 @@ fn is_user(program: &Program, func: u32) -> bool
     (func as usize) < program.funcs.len() && !is_kernel(program, func)
 }
 
-fn callee_is(func: u32, callee: Callee) -> bool
-    ensures { result ≡ callee_is func callee }
+fn callee_is(func: u32, callee: &Callee) -> bool
+    ensures { result ≡ callee_is func (called_of callee.now) }
 {
     match callee {
-        Callee::Direct(own) => own == func,
-        Callee::Service(_) => false,
+        Callee::Direct(own) => *own == func,
+        Callee::Through(_) | Callee::Service(_) => false,
     }
 }
 
-fn calls_func(func: u32, statement: &Stmt) -> bool
-    ensures { result ≡ calls_func func statement.now }
+/// Whether a statement, or one in it, names a function in a call.
+#[cycle(calls)]
+fn calls_func(statement: &Stmt, func: u32) -> bool
+    ensures { result ≡ calls_func func (code_of statement.now) }
 {
     match &statement.step {
-        Step::Assign(_, _) => false,
-        Step::Call(_, form) => callee_is(func, form.callee),
+        Step::Call(_, form) | Step::ReturnCall(form) => callee_is(func, &form.callee),
+        Step::If(_, one, other) => {
+            any_calls(one.as_slice(), func) || any_calls(other.as_slice(), func)
+        }
+        Step::While(_, body) | Step::Block(body) => any_calls(body.as_slice(), func),
+        Step::For(init, _, step, body) => {
+            any_calls(init.as_slice(), func)
+                || (any_calls(step.as_slice(), func) || any_calls(body.as_slice(), func))
+        }
+        Step::Declare(_)
+        | Step::Text(_, _)
+        | Step::Assign(_, _)
+        | Step::Return(_)
+        | Step::Break
+        | Step::Continue
+        | Step::Empty => false,
     }
 }
 
-fn any_calls(func: u32, body: &[Stmt]) -> bool
-    ensures { result ≡ list_any (calls_func func) body.now }
+#[cycle(calls)]
+fn any_calls(body: &[Stmt], func: u32) -> bool
+    ensures { result ≡ any_calls func (codes_of body.now) }
 {
-    body.iter().any(|s| calls_func(func, s))
+    for s in body {
+        if calls_func(s, func) {
+            return true;
+        }
+    }
+    false
 }
 
 fn body_calls(func: u32, own: &Func) -> bool
-    ensures { result ≡ list_any (calls_func func) (body_of (Some own.now)) }
+    ensures { result ≡ any_calls func (codes_of (body_of (Some own.now))) }
 {
     match &own.body {
-        Some(body) => any_calls(func, body.as_slice()),
+        Some(body) => any_calls(body.as_slice(), func),
         None => false,
     }
 }
 
 fn calls_down(func: u32, own: &Func) -> bool
-    ensures { result ≡ (not own.now.critical && list_any (calls_func func) (body_of (Some own.now))) }
+    ensures { result ≡ (not own.now.critical && any_calls func (codes_of (body_of (Some own.now)))) }
 {
     !own.critical && body_calls(func, own)
 }
 
 fn any_calls_down(program: &Program, func: u32) -> bool
-    ensures { result ≡ list_any (λ (g : AnyFunc). not g.critical && list_any (calls_func func) (body_of (Some g))) program.now.funcs }
+    ensures { result ≡ list_any (λ (g : AnyFunc). not g.critical && any_calls func (codes_of (body_of (Some g)))) program.now.funcs }
 {
     program.funcs.as_slice().iter().any(|g| calls_down(func, g))
 }
@@ -88,18 +111,57 @@ pub(crate) fn has_down_stub(program: &Program, func: u32) -> bool
     is_kernel(program, func) && any_calls_down(program, func)
 }
 
-fn any_has_number(number: u32, body: &[Stmt]) -> bool
-    ensures { result ≡ list_any (has_number number) body.now }
+/// Whether a statement, or one in it, has a number.
+#[cycle(numbers)]
+fn has_number(statement: &Stmt, number: u32) -> bool
+    ensures { result ≡ has_number number (code_of statement.now) }
 {
-    body.iter().any(|s| s.number == number)
+    match &statement.step {
+        Step::If(_, one, other) => {
+            statement.number == number
+                || any_has_number(one.as_slice(), number)
+                || any_has_number(other.as_slice(), number)
+        }
+        Step::While(_, body) => {
+            statement.number == number || any_has_number(body.as_slice(), number)
+        }
+        Step::For(init, _, step, body) => {
+            any_has_number(init.as_slice(), number)
+                || (statement.number == number
+                    || (any_has_number(step.as_slice(), number)
+                        || any_has_number(body.as_slice(), number)))
+        }
+        Step::Block(body) => any_has_number(body.as_slice(), number),
+        Step::Declare(_)
+        | Step::Text(_, _)
+        | Step::Assign(_, _)
+        | Step::Call(_, _)
+        | Step::Return(_)
+        | Step::ReturnCall(_)
+        | Step::Break
+        | Step::Continue
+        | Step::Empty => statement.number == number,
+    }
+}
+
+#[cycle(numbers)]
+fn any_has_number(body: &[Stmt], number: u32) -> bool
+    ensures { result ≡ any_has_number number (codes_of body.now) }
+{
+    for s in body {
+        if has_number(s, number) {
+            return true;
+        }
+    }
+    false
 }
 
 fn has_statement(program: &Program, at: At) -> bool
-    ensures { result ≡ list_any (has_number at.stmt) (body_of (func_at program.now at.func)) }
+    ensures { result ≡ any_has_number at.stmt (codes_of (body_of (func_at program.now at.func))) }
 {
     match func_at(program, at.func) {
         Some(own) => match &own.body {
-            Some(body) => any_has_number(at.stmt, body.as_slice()),
+            Some(body) => any_has_number(body.as_slice(), at.stmt),
             None => false,
         },
         None => false,

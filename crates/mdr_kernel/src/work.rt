@@ -1,15 +1,14 @@
 // Functions of the kernel half.
 
-ghost use Rattle.std.specs.Prelude.{◌≡◌, ℕ, suc, ◌+◌, ◌-◌, ◌<◌, ◌^◌, true, List, [], ◌∷◌, Some, IfOk, OnErr};
-ghost use Rattle.std.specs.List.{AllByRecursion};
+ghost use Rattle.std.specs.Prelude.{◌≡◌, ℕ, suc, ◌+◌, ◌-◌, ◌<◌, ◌^◌, true, List, [], ◌∷◌, map, Some, IfOk, OnErr};
 ghost use Rattle.mdr_core.specs.declared.kind.Kind.{Kind as AnyKind};
-ghost use Rattle.mdr_core.specs.declared.code.Step.TheVariants as step;
-ghost use Rattle.mdr_core.specs.declared.code.Stmt.{Stmt as AnyStmt};
+ghost use Rattle.mdr_core.specs.Code.{Assign as Assigns};
+ghost use Rattle.mdr_core.specs.Folds.{term_of, lvalue_of, called_of, code_of, codes_of};
 ghost use Rattle.mdr_core.specs.declared.program.Program.{Program as AnyProgram};
 ghost use Rattle.mdr_core.specs.declared.plan.Half.TheVariants as half;
 ghost use Rattle.mdr_model.specs.declared.wire.Wire.TheVariants as wire;
 ghost use Rattle.mdr_model.specs.declared.wire.Wire.{Wire as AnyWire};
-ghost use Rattle.mdr_model.specs.Sound.{IsSoundStep, IsSoundCall, IsSoundExpr, IsSoundWritel, IsSound};
+ghost use Rattle.mdr_model.specs.Sound.{IsSoundStep, IsSoundBody, IsSoundCall, IsSoundExpr, IsSoundWritel, IsSound};
 ghost use Rattle.mdr_model.specs.Tree.{Tree as AnyTree, Ask as Asks, Tick as Ticks, Done as Ends, Idle as Nothing};
 ghost use Rattle.mdr_model.specs.Memory.{stored, everywhere};
 ghost use Rattle.mdr_model.specs.Meaning.{pointer_to, Enters, Here as AnyHere, func_at, body_of, is_kernel, values, call, statement, statements};
@@ -21,7 +20,7 @@ ghost use Rattle.mdr_kernel.specs.Works.{goes_on};
 use crate::service::served;
 use crate::state::{Stopped, World};
 use crate::stubs::func_at;
-use mdr_copy::{evaluated, stored};
+use mdr_copy::{evaluated, number_of, stored};
 use mdr_core::{At, CallForm, Callee, Expr, Lval, OutOfMemory, Program, Step, Stmt, StopKind};
 use mdr_model::{MemoryBlock, Wire};
 
@@ -35,26 +34,26 @@ fn stops(kind: StopKind, at: At) -> Option<Stopped>
 fn value(program: &Program, e: &Expr, world: &World) -> Result<Wire, StopKind>
     requires program { IsSound program.now }
     requires world { IsSoundWorld program.now (world_of world.now) }
-    requires expression { (kind : AnyKind) × IsSoundExpr program.now e.now kind }
-    ensures { result ≡ evaluated everywhere program.now world.now.memory.items e.now }
+    requires expression { (kind : AnyKind) × IsSoundExpr program.now (term_of e.now) kind }
+    ensures { result ≡ evaluated everywhere program.now world.now.memory.items (term_of e.now) }
 {
     evaluated(None, program, world.memory.as_slice(), e)
 }
 
 /// Stores into a variable, or gives the stop.
-fn stored_in(memory: &mut Vec<MemoryBlock>, place: Lval, value: Wire) -> Result<(), StopKind>
-    ensures memory { (program : AnyProgram) → stored everywhere memory.old.items (pointer_to program place) value ≡ when_made result memory.new.items }
+fn stored_in(memory: &mut Vec<MemoryBlock>, place: &Lval, value: Wire) -> Result<(), StopKind>
+    ensures memory { (program : AnyProgram) → stored everywhere memory.old.items (pointer_to program (lvalue_of place.now)) value ≡ when_made result memory.new.items }
     ensures stopped { OnErr result (memory.new.items ≡ memory.old.items) }
 {
     stored(None, memory.as_mut_slice(), place, value)
 }
 
 /// An assignment: `None` where it was made, and else why it stopped.
-fn assigned(program: &Program, at: At, place: Lval, e: &Expr, world: &mut World) -> Option<Stopped>
+fn assigned(program: &Program, at: At, place: &Lval, e: &Expr, world: &mut World) -> Option<Stopped>
     requires program { IsSound program.now }
     requires world { IsSoundWorld program.now (world_of world.old) }
-    requires step { IsSoundStep program.now true (step.Assign place e.now) }
-    ensures by { (low : Enters) (here : AnyHere) (next : AnyTree) → in_kernel (statement program.now half.Kernel low here at (step.Assign place e.now) next) (world_of world.old) ≡ goes_on result next (world_of world.new) }
+    requires step { IsSoundStep program.now true (Assigns at.stmt (lvalue_of place.now) (term_of e.now)) }
+    ensures by { (low : Enters) (here : AnyHere) (next : AnyTree) → in_kernel (statement program.now half.Kernel low here at (Assigns at.stmt (lvalue_of place.now) (term_of e.now)) next) (world_of world.old) ≡ goes_on result next (world_of world.new) }
     ensures sound { IsSoundWorld program.now (world_of world.new) }
 {
     match value(program, e, world) {
@@ -77,8 +76,8 @@ fn wrote(
 ) -> Result<Option<Stopped>, OutOfMemory>
     requires program { IsSound program.now }
     requires world { IsSoundWorld program.now (world_of world.old) }
-    requires args { IsSoundWritel program.now (number.now ∷ register.now ∷ []) }
-    ensures by { IfOk result (λ stop. (next : AnyTree) → in_kernel (values program.now at (number.now ∷ register.now ∷ []) (λ vs. Asks (record { service = service; at = at; args = vs; shapes = []; bytes = [] }) (λ results. next))) (world_of world.old) ≡ goes_on stop next (world_of world.new)) }
+    requires args { IsSoundWritel program.now (term_of number.now ∷ term_of register.now ∷ []) }
+    ensures by { IfOk result (λ stop. (next : AnyTree) → in_kernel (values program.now at (term_of number.now ∷ term_of register.now ∷ []) (λ vs. Asks (record { service = service; at = at; args = vs; shapes = []; bytes = [] }) (λ results. next))) (world_of world.old) ≡ goes_on stop next (world_of world.new)) }
     ensures sound { IfOk result (λ stop. IsSoundWorld program.now (world_of world.new)) }
 {
     match value(program, number, world) {
@@ -102,13 +101,13 @@ fn called(
 ) -> Result<Option<Stopped>, OutOfMemory>
     requires program { IsSound program.now }
     requires world { IsSoundWorld program.now (world_of world.old) }
-    requires form { IsSoundCall program.now true form.now.callee form.now.args }
-    ensures by { IfOk result (λ stop. (low : Enters) (here : AnyHere) (next : AnyTree) → in_kernel (values program.now at form.now.args (λ vs. call program.now half.Kernel low here at form.now.callee vs (λ v. next))) (world_of world.old) ≡ goes_on stop next (world_of world.new)) }
+    requires form { IsSoundCall program.now true (called_of form.now.callee) (map term_of form.now.args) }
+    ensures by { IfOk result (λ stop. (low : Enters) (here : AnyHere) (next : AnyTree) → in_kernel (values program.now at (map term_of form.now.args) (λ vs. call program.now half.Kernel low here at (called_of form.now.callee) vs (λ v. next))) (world_of world.old) ≡ goes_on stop next (world_of world.new)) }
     ensures sound { IfOk result (λ stop. IsSoundWorld program.now (world_of world.new)) }
 {
-    match (form.callee, form.args.as_slice()) {
+    match (&form.callee, form.args.as_slice()) {
         (Callee::Service(service), [number, register]) => {
-            let stop = wrote(program, at, service, number, register, world)?;
+            let stop = wrote(program, at, *service, number, register, world)?;
             Ok(stop)
         }
         _ => Ok(None),
@@ -119,21 +118,32 @@ fn called(
 fn statement(
     program: &Program,
     at: At,
-    step: &Step,
+    next: &Stmt,
     world: &mut World,
 ) -> Result<Option<Stopped>, OutOfMemory>
     requires program { IsSound program.now }
     requires world { IsSoundWorld program.now (world_of world.old) }
-    requires step { IsSoundStep program.now true step.now }
-    ensures by { IfOk result (λ stop. (low : Enters) (here : AnyHere) (next : AnyTree) → in_kernel (statement program.now half.Kernel low here at step.now next) (world_of world.old) ≡ goes_on stop next (world_of world.new)) }
+    requires step { IsSoundStep program.now true (code_of next.now) }
+    ensures by { IfOk result (λ stop. (low : Enters) (here : AnyHere) (rest : AnyTree) → in_kernel (statement program.now half.Kernel low here at (code_of next.now) rest) (world_of world.old) ≡ goes_on stop rest (world_of world.new)) }
     ensures sound { IfOk result (λ stop. IsSoundWorld program.now (world_of world.new)) }
 {
-    match step {
-        Step::Assign(place, e) => Ok(assigned(program, at, *place, e, world)),
+    match &next.step {
+        Step::Assign(place, e) => Ok(assigned(program, at, place, e, world)),
         Step::Call(_, form) => {
             let stop = called(program, at, form, world)?;
             Ok(stop)
         }
+        Step::Declare(_)
+        | Step::Text(_, _)
+        | Step::If(_, _, _)
+        | Step::While(_, _)
+        | Step::For(_, _, _, _)
+        | Step::Return(_)
+        | Step::ReturnCall(_)
+        | Step::Break
+        | Step::Continue
+        | Step::Empty
+        | Step::Block(_) => Ok(stops(StopKind::NoValue, at)),
     }
 }
 
@@ -151,20 +161,20 @@ fn tick(world: &mut World)
 fn turn(
     program: &Program,
     at: At,
-    step: &Step,
+    next: &Stmt,
     world: &mut World,
 ) -> Result<Option<Stopped>, OutOfMemory>
     requires program { IsSound program.now }
     requires world { IsSoundWorld program.now (world_of world.old) }
-    requires step { IsSoundStep program.now true step.now }
-    ensures by { IfOk result (λ stop. (low : Enters) (here : AnyHere) (next : AnyTree) → in_kernel (Ticks at (statement program.now half.Kernel low here at step.now next)) (world_of world.old) ≡ goes_on stop next (world_of world.new)) }
+    requires step { IsSoundStep program.now true (code_of next.now) }
+    ensures by { IfOk result (λ stop. (low : Enters) (here : AnyHere) (rest : AnyTree) → in_kernel (Ticks at (statement program.now half.Kernel low here at (code_of next.now) rest)) (world_of world.old) ≡ goes_on stop rest (world_of world.new)) }
     ensures sound { IfOk result (λ stop. IsSoundWorld program.now (world_of world.new)) }
 {
     if world.rest == 0 {
         return Ok(stops(StopKind::Ticks, at));
     }
     tick(world);
-    let stop = statement(program, at, step, world)?;
+    let stop = statement(program, at, next, world)?;
     Ok(stop)
 }
 
@@ -177,16 +187,16 @@ fn statements(
 ) -> Result<Option<Stopped>, OutOfMemory>
     requires program { IsSound program.now }
     requires world { IsSoundWorld program.now (world_of world.old) }
-    requires body { AllByRecursion (λ (s : AnyStmt). IsSoundStep program.now true s.step) body.now }
-    ensures by { IfOk result (λ stop. (low : Enters) (depth : ℕ) → in_kernel (statements program.now half.Kernel low (record { func = func; depth = depth }) body.now (Ends wire.NoValue Nothing)) (world_of world.old) ≡ ran_of wire.NoValue stop (world_of world.new)) }
+    requires body { IsSoundBody program.now true (codes_of body.now) }
+    ensures by { IfOk result (λ stop. (low : Enters) (depth : ℕ) → in_kernel (statements program.now half.Kernel low (record { func = func; depth = depth }) (codes_of body.now) (Ends wire.NoValue Nothing)) (world_of world.old) ≡ ran_of wire.NoValue stop (world_of world.new)) }
     ensures sound { IfOk result (λ stop. IsSoundWorld program.now (world_of world.new)) }
 {
     for s in body {
         let at = At {
             func,
-            stmt: s.number,
+            stmt: number_of(s),
         };
-        let stop = turn(program, at, &s.step, world)?;
+        let stop = turn(program, at, s, world)?;
         if stop.is_some() {
             return Ok(stop);
         }

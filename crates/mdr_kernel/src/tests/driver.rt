@@ -4,13 +4,13 @@ ghost use Rattle.std.specs.Prelude.{◌≡◌, ◌∷◌, [], true, false, IfOk}
 ghost use Rattle.std.specs.List.{AllByRecursion};
 ghost use Rattle.mdr_core.specs.declared.kind.Kind.TheVariants.{U32 as Number};
 ghost use Rattle.mdr_core.specs.declared.program.Program.{Program as AnyProgram};
-ghost use Rattle.mdr_core.specs.declared.code.Stmt.{Stmt as AnyStmt};
+ghost use Rattle.mdr_core.specs.Folds.{term_of, code_of};
 ghost use Rattle.mdr_model.specs.Meaning.{is_kernel};
 ghost use Rattle.mdr_model.specs.Sound.{first_types, IsSoundGlobal, IsVariable, IsSoundExpr, IsSoundStep, IsSoundFunc, IsSound};
 
 use mdr_core::{
-    Ann, BinOp, CallForm, Callee, Expr, Func, GlobalDef, Items, Kind, Lval, OutOfMemory, Program,
-    Step, Stmt, Ty, Value,
+    Ann, BinOp, Boxed, CallForm, Callee, Expr, Func, GlobalDef, Items, Kind, Lval, OutOfMemory,
+    Program, Step, Stmt, Ty, Value,
 };
 use std::alloc::Global;
 
@@ -53,38 +53,38 @@ fn count(alloc: Global) -> Result<GlobalDef, OutOfMemory>
 
 #[tactic(auto, unfolding(mdr_core::specs::Kinds::is_in_range))]
 fn one() -> Expr
-    ensures { (program : AnyProgram) → IsSoundExpr program result Number }
+    ensures { (program : AnyProgram) → IsSoundExpr program (term_of result) Number }
 {
     Expr::Lit(Value::Int(Kind::U32, 1))
 }
 
 #[tactic(auto, unfolding(mdr_core::specs::Kinds::is_in_range))]
 fn four() -> Expr
-    ensures { (program : AnyProgram) → IsSoundExpr program result Number }
+    ensures { (program : AnyProgram) → IsSoundExpr program (term_of result) Number }
 {
     Expr::Lit(Value::Int(Kind::U32, 4))
 }
 
 fn load() -> Expr
-    ensures { (program : AnyProgram) → IsVariable program 0 Number → IsSoundExpr program result Number }
+    ensures { (program : AnyProgram) → IsVariable program 0 Number → IsSoundExpr program (term_of result) Number }
 {
     Expr::Load(Lval::Global(0))
 }
 
 fn plus(alloc: Global, left: Expr, right: Expr) -> Result<Expr, OutOfMemory>
-    ensures { IfOk result (λ e. (program : AnyProgram) → IsSoundExpr program left Number → IsSoundExpr program right Number → IsSoundExpr program e Number) }
+    ensures { IfOk result (λ e. (program : AnyProgram) → IsSoundExpr program (term_of left) Number → IsSoundExpr program (term_of right) Number → IsSoundExpr program (term_of e) Number) }
 {
     Ok(Expr::Bin(
         BinOp::Add,
         Kind::U32,
-        Box::new(alloc, left)?,
-        Box::new(alloc, right)?,
+        Boxed::new(alloc, left)?,
+        Boxed::new(alloc, right)?,
     ))
 }
 
 /// count = count + 1;
 fn increment(alloc: Global) -> Result<Stmt, OutOfMemory>
-    ensures { IfOk result (λ s. (program : AnyProgram) → IsVariable program 0 Number → IsSoundStep program true s.step) }
+    ensures { IfOk result (λ s. (program : AnyProgram) → IsVariable program 0 Number → IsSoundStep program true (code_of s)) }
 {
     let sum = plus(alloc, load(), one())?;
     Ok(Stmt {
@@ -95,7 +95,7 @@ fn increment(alloc: Global) -> Result<Stmt, OutOfMemory>
 
 /// bump();
 fn call(alloc: Global, number: u32) -> Stmt
-    ensures { (program : AnyProgram) → is_kernel program 0 ≡ true → IsSoundStep program false result.step }
+    ensures { (program : AnyProgram) → is_kernel program 0 ≡ true → IsSoundStep program false (code_of result) }
 {
     Stmt {
         number,
@@ -113,7 +113,7 @@ fn call(alloc: Global, number: u32) -> Stmt
 
 /// writel(count, 4);
 fn write(alloc: Global) -> Result<Stmt, OutOfMemory>
-    ensures { IfOk result (λ s. (program : AnyProgram) → IsVariable program 0 Number → IsSoundStep program false s.step) }
+    ensures { IfOk result (λ s. (program : AnyProgram) → IsVariable program 0 Number → IsSoundStep program false (code_of s)) }
 {
     let mut args = Items::new(alloc);
     args.push(load())?;

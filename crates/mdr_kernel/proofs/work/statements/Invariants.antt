@@ -1,4 +1,5 @@
 use Rattle.std.proofs.Common.{◌≡◌, ℕ, drop}
+use Rattle.mdr_core.specs.Folds.{codes_of}
 use Rattle.mdr_core.specs.declared.plan.Half.TheVariants as half
 use Rattle.mdr_model.specs.declared.wire.Wire.TheVariants as wire
 use Rattle.mdr_model.specs.Tree.{Tree}
@@ -10,7 +11,7 @@ use Rattle.mdr_kernel.proofs.work.statements.Given as goal
 abbrev pub invariant-loop-s : goal.invariant-loop-s
 invariant-loop-s l = record {
   so_far : (low : Enters) (depth : ℕ)
-      → in_kernel (statements l.program half.Kernel low (record { func = l.func; depth = depth }) (drop l.s-index l.body) (Tree.Done wire.NoValue Tree.Idle)) (world_of l.world)
-      ≡ in_kernel (statements l.program half.Kernel low (record { func = l.func; depth = depth }) l.body (Tree.Done wire.NoValue Tree.Idle)) (world_of l.fn.world);
+      → in_kernel (statements l.program half.Kernel low (record { func = l.func; depth = depth }) (codes_of (drop l.s-index l.body)) (Tree.Done wire.NoValue Tree.Idle)) (world_of l.world)
+      ≡ in_kernel (statements l.program half.Kernel low (record { func = l.func; depth = depth }) (codes_of l.body) (Tree.Done wire.NoValue Tree.Idle)) (world_of l.fn.world);
   sound : IsSoundWorld l.program (world_of l.world);
 }
