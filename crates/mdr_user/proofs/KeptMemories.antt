@@ -4,16 +4,13 @@ use Rattle.std.specs.Prelude.{unwrap_or}
 use Rattle.std.specs.List.{AllByRecursion}
 use Rattle.std.proofs.lemmas.Bool.{cond-true, cond-false, cond_both}
 use Rattle.mdr_core.specs.declared.program.Program.{Program}
-use Rattle.mdr_core.specs.declared.code.Expr.{Expr}
-use Rattle.mdr_core.specs.declared.code.Step.TheVariants as step
-use Rattle.mdr_core.specs.declared.code.Lval.{Lval}
-use Rattle.mdr_core.specs.declared.code.Lval.TheVariants.{Global}
+use Rattle.mdr_core.specs.Code.{Term, Lvalue, Code}
 use Rattle.mdr_model.specs.declared.wire.Wire.{Wire}
 use Rattle.mdr_model.specs.declared.wire.Wire.TheVariants as wire
 use Rattle.mdr_model.specs.declared.message.New.{New}
 use Rattle.mdr_model.specs.Values.{fits}
 use Rattle.mdr_model.specs.declared.memory.Cell.{Cell}
-use Rattle.mdr_model.specs.Memory.{Memory, births, born_at, cell_at, put, stored}
+use Rattle.mdr_model.specs.Memory.{Memory, births, born_at, cell_at, put, reached, stored}
 use Rattle.mdr_model.specs.Copies.{held, put_all, put_runs, changed_cells, changes}
 use Rattle.mdr_model.specs.Meaning.{pointer_to}
 use Rattle.mdr_model.specs.Holds.{IsFilled, IsSoundMemory}
@@ -26,9 +23,10 @@ use Rattle.mdr_model.proofs.HoldsLaws.{IsThere, cell_there, cell_filled, stored_
 use Rattle.mdr_model.proofs.CopyLaws.{with_value, put_runs-changes, births-stores}
 
 -- a store keeps which blocks there are
-pub stored_births : (allowed : Cell → Bool) (program : Program) (m m' : Memory) (place : Lval) (v : Wire) → stored allowed m (pointer_to program place) v ≡ Ok m' → births m' ≡ births m
-unfolding pointer_to
-stored_births allowed program m m' (Global g) v e = ap (λ (x : Memory). births x) (sym (stored_is allowed m m' _ v e)) ∙ births-put m _ _
+pub stored_births : (allowed : Cell → Bool) (program : Program) (m m' : Memory) (place : Lvalue) (v : Wire) → stored allowed m (pointer_to program place) v ≡ Ok m' → births m' ≡ births m
+unfolding pointer_to stored reached
+stored_births allowed program m m' (Lvalue.Global g) v e = ap (λ (x : Memory). births x) (sym (stored_is allowed m m' _ v e)) ∙ births-put m _ _
+stored_births allowed program m m' _ v e = absurd (Prim.cc)
 
 all_set_inside : {X : Type 0} (P : X → Type 0) (xs : List X) (i : ℕ) (x : X) → AllByRecursion P xs → (i < length xs → P x) → AllByRecursion P (slice_set xs i x)
 all_set_inside P [] i x h p = h
@@ -75,7 +73,7 @@ told_is_sound program view copy now h k same = record {
 }
 
 -- and keeps a memory sound where the assignment is
-pub assigned_is_sound : (allowed : Cell → Bool) (program : Program) (m m' : Memory) (place : Lval) (e : Expr) (v : Wire) → IsSound program → IsSoundMemory program m → IsSoundStep program false (step.Assign place e)
+pub assigned_is_sound : (allowed : Cell → Bool) (program : Program) (m m' : Memory) (n : ℕ) (place : Lvalue) (e : Term) (v : Wire) → IsSound program → IsSoundMemory program m → IsSoundStep program false (Code.Assign n place e)
     → evaluated allowed program m e ≡ Ok v → stored allowed m (pointer_to program place) v ≡ Ok m' → IsSoundMemory program m'
-assigned_is_sound allowed program m m' place e v sound memory h is made =
+assigned_is_sound allowed program m m' n place e v sound memory h is made =
     stored_is_sound allowed program m m' place h.0 v h.1 (evaluated_fits allowed program m e h.0 v sound memory h.2 is) sound memory made

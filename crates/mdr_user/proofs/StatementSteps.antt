@@ -1,6 +1,6 @@
 -- Walks through one statement.
 use mathlib.Core.Path.{fun_ext}
-use Rattle.std.proofs.Common.{◌≡◌, ℕ, suc, ◌<◌, ◌≤◌, Bool, true, false, List, [], ◌∷◌, Option, Result, Ok, Err, refl, sym, ◌∙◌, ap, subst, nat_lt, ltb-true, lt-ltb, arith}
+use Rattle.std.proofs.Common.{◌≡◌, ℕ, suc, ◌<◌, ◌≤◌, Bool, true, false, List, [], ◌∷◌, map, Result, Ok, Err, refl, sym, ◌∙◌, ap, subst, nat_lt, ltb-true, lt-ltb, arith}
 use Rattle.std.specs.List.{AllByRecursion}
 use Rattle.mdr_core.specs.declared.kind.Kind.TheVariants.{U32}
 use Rattle.mdr_core.specs.declared.stop.StopKind.{StopKind}
@@ -9,12 +9,8 @@ use Rattle.mdr_core.specs.declared.place.At.{At}
 use Rattle.mdr_core.specs.declared.plan.Half.TheVariants as half
 use Rattle.mdr_core.specs.declared.program.Program.{Program}
 use Rattle.mdr_core.specs.declared.code.Expr.{Expr}
-use Rattle.mdr_core.specs.declared.code.Lval.{Lval}
-use Rattle.mdr_core.specs.declared.code.Callee.{Callee}
-use Rattle.mdr_core.specs.declared.code.Callee.TheVariants.{Direct, Service}
-use Rattle.mdr_core.specs.declared.code.CallForm.{CallForm}
-use Rattle.mdr_core.specs.declared.code.Step.{Step}
-use Rattle.mdr_core.specs.declared.code.Step.TheVariants as step
+use Rattle.mdr_core.specs.Code.{Term, Lvalue, Called, CallOf, Goal, Code}
+use Rattle.mdr_core.specs.Folds.{term_of}
 use Rattle.mdr_model.specs.declared.wire.Wire.{Wire}
 use Rattle.mdr_model.specs.declared.memory.Cell.{Cell}
 use Rattle.mdr_model.specs.Memory.{Memory, stored}
@@ -27,9 +23,9 @@ use Rattle.mdr_user.specs.Arguments.{IsSoundArgument, then_others, evaluated_all
 use Rattle.mdr_user.specs.Statements.{IsAcross}
 use Rattle.mdr_copy.proofs.EvaluatedLaws.{walk_value}
 
-module _ (allowed : Cell → Bool) (left : ℕ) (program : Program) (low : Enters) (here : Here) (at : At) (place : Lval) (e : Expr) (next : Tree) (m : Memory) where
+module _ (allowed : Cell → Bool) (left : ℕ) (program : Program) (low : Enters) (here : Here) (at : At) (n : ℕ) (place : Lvalue) (e : Term) (next : Tree) (m : Memory) where
   abbrev assignment : Walked
-  assignment = walk allowed left (statement program half.User low here at (step.Assign place e) next) m
+  assignment = walk allowed left (statement program half.User low here at (Code.Assign n place e) next) m
 
   assigned : assignment ≡ on_load (evaluated allowed program m e) at m left (λ v. on_store (stored allowed m (pointer_to program place) v) at m left (λ m'. walk allowed left next m'))
   unfolding walk
@@ -57,7 +53,7 @@ first_then (Ok v) (Ok vs) at m n go = refl
 first_then (Ok v) (Err kind) at m n go = refl
 first_then (Err kind) ys at m n go = refl
 
-pub walk_values : (allowed : Cell → Bool) (n : ℕ) (program : Program) (at : At) (es : List Expr) (k : List Wire → Tree) (m : Memory)
+pub walk_values : (allowed : Cell → Bool) (n : ℕ) (program : Program) (at : At) (es : List Term) (k : List Wire → Tree) (m : Memory)
     → walk allowed n (values program at es k) m ≡ on_values (evaluated_all allowed program m es) at m n (λ vs. walk allowed n (k vs) m)
 unfolding evaluated_all
 walk_values allowed n program at [] k m = refl
@@ -69,37 +65,37 @@ walk_values allowed n program at (e ∷ es) k m =
 -- ---- calls
 
 module _ (allowed : Cell → Bool) (left : ℕ) (program : Program) (low : Enters) (here : Here) (at : At) (args : List Wire) (next : Tree) (m : Memory) where
-  abbrev calling : Callee → Walked
+  abbrev calling : Called → Walked
   calling callee = walk allowed left (call program half.User low here at callee args (λ v. next)) m
 
-  calls_across : (f depth : ℕ) → here.depth ≡ depth → depth < 255 → is_kernel program f ≡ true → calling (Direct f) ≡ walked (Reached.Crosses at f args (suc here.depth) (λ v. next)) m left
+  calls_across : (f depth : ℕ) → here.depth ≡ depth → depth < 255 → is_kernel program f ≡ true → calling (Called.Direct f) ≡ walked (Reached.Crosses at f args (suc here.depth) (λ v. next)) m left
   unfolding walk
   calls_across f depth at_depth h k =
       let deep : nat_lt (suc here.depth) 256 ≡ true = lt-ltb (suc here.depth) 256 (omega arith) in
       rw (deep, k) refl
 
-  calls_too_deep : (f depth : ℕ) → here.depth ≡ depth → 255 ≤ depth → calling (Direct f) ≡ walked (Reached.Stopped stop.Depth at) m left
+  calls_too_deep : (f depth : ℕ) → here.depth ≡ depth → 255 ≤ depth → calling (Called.Direct f) ≡ walked (Reached.Stopped stop.Depth at) m left
   unfolding walk
   calls_too_deep f depth at_depth h = of (nat_lt (suc here.depth) 256) refl
     where
-      of : (t : Bool) → nat_lt (suc here.depth) 256 ≡ t → calling (Direct f) ≡ walked (Reached.Stopped stop.Depth at) m left
+      of : (t : Bool) → nat_lt (suc here.depth) 256 ≡ t → calling (Called.Direct f) ≡ walked (Reached.Stopped stop.Depth at) m left
       of true t = absurd (omega (arith, ltb-true (suc here.depth) 256 t))
       of false t = rw t refl
 
-  pub crosses : (callee : Callee) (f depth : ℕ) → callee ≡ Direct f → here.depth ≡ depth → depth < 255 → IsAcross program callee → calling callee ≡ walked (Reached.Crosses at f args (suc here.depth) (λ v. next)) m left
+  pub crosses : (callee : Called) (f depth : ℕ) → callee ≡ Called.Direct f → here.depth ≡ depth → depth < 255 → IsAcross program callee → calling callee ≡ walked (Reached.Crosses at f args (suc here.depth) (λ v. next)) m left
   crosses callee f depth e same h across =
       ap calling e ∙ calls_across f depth same h (subst (IsAcross program) e across)
 
-  pub is_too_deep : (callee : Callee) (f depth : ℕ) → callee ≡ Direct f → here.depth ≡ depth → 255 ≤ depth → calling callee ≡ walked (Reached.Stopped stop.Depth at) m left
+  pub is_too_deep : (callee : Called) (f depth : ℕ) → callee ≡ Called.Direct f → here.depth ≡ depth → 255 ≤ depth → calling callee ≡ walked (Reached.Stopped stop.Depth at) m left
   is_too_deep callee f depth e same h = ap calling e ∙ calls_too_deep f depth same h
 
-  pub asks : (callee : Callee) (service : ℕ) → callee ≡ Service service
+  pub asks : (callee : Called) (service : ℕ) → callee ≡ Called.Service service
       → calling callee ≡ walked (Reached.Asks (record { service = service; at = at; args = args; shapes = []; bytes = [] }) (λ results. next)) m left
   unfolding walk
   asks callee service e = ap calling e
 
 -- a call, by what its arguments come to
-module _ (allowed : Cell → Bool) (left : ℕ) (program : Program) (low : Enters) (here : Here) (at : At) (callee : Callee) (es : List Expr) (next : Tree) (m : Memory) where
+module _ (allowed : Cell → Bool) (left : ℕ) (program : Program) (low : Enters) (here : Here) (at : At) (callee : Called) (es : List Term) (next : Tree) (m : Memory) where
   abbrev call_walk : Walked
   call_walk = walk allowed left (values program at es (λ vs. call program half.User low here at callee vs (λ v. next))) m
 
@@ -111,21 +107,31 @@ module _ (allowed : Cell → Bool) (left : ℕ) (program : Program) (low : Enter
 
 -- ---- what soundness says of a call
 
-pub sound_across : (program : Program) (critical : Bool) (callee : Callee) (es : List Expr) → IsSoundCall program critical callee es → IsAcross program callee
-sound_across program critical (Direct f) es h = h.1
-sound_across program critical (Service n) es h = tt
+pub sound_across : (program : Program) (critical : Bool) (callee : Called) (es : List Term) → IsSoundCall program critical callee es → IsAcross program callee
+sound_across program critical (Called.Direct f) es h = h.1
+sound_across program critical (Called.Service n) es h = tt
+sound_across program critical (Called.Through e) es h = elim h [ ]
 
-pub sound_arguments : (program : Program) (critical : Bool) (callee : Callee) (es : List Expr) → IsSoundCall program critical callee es → AllByRecursion (IsSoundArgument program) es
-sound_arguments program critical (Direct f) es h = subst (AllByRecursion (IsSoundArgument program)) (sym h.2) tt
-sound_arguments program critical (Service n) (value ∷ register ∷ []) h = ((U32, h.1.0), ((U32, h.1.1), tt))
-sound_arguments program critical (Service n) [] h = tt
-sound_arguments program critical (Service n) (a ∷ []) h = elim h.1 [ ]
-sound_arguments program critical (Service n) (a ∷ b ∷ c ∷ es) h = elim h.1 [ ]
+sound_terms : (program : Program) (critical : Bool) (callee : Called) (es : List Term) → IsSoundCall program critical callee es → AllByRecursion (IsSoundArgument program) es
+sound_terms program critical (Called.Direct f) es h = subst (AllByRecursion (IsSoundArgument program)) (sym h.2) tt
+sound_terms program critical (Called.Service n) (value ∷ register ∷ []) h = ((U32, h.1.0), ((U32, h.1.1), tt))
+sound_terms program critical (Called.Service n) [] h = tt
+sound_terms program critical (Called.Service n) (a ∷ []) h = elim h.1 [ ]
+sound_terms program critical (Called.Service n) (a ∷ b ∷ c ∷ es) h = elim h.1 [ ]
+sound_terms program critical (Called.Through e) es h = elim h [ ]
+
+each_term : (program : Program) (es : List Expr) → AllByRecursion (IsSoundArgument program) (map term_of es) → AllByRecursion (λ (e : Expr). IsSoundArgument program (term_of e)) es
+each_term program [] h = tt
+each_term program (e ∷ es) h = (h.0, each_term program es h.1)
+
+pub sound_arguments : (program : Program) (critical : Bool) (callee : Called) (es : List Expr) → IsSoundCall program critical callee (map term_of es)
+    → AllByRecursion (λ (e : Expr). IsSoundArgument program (term_of e)) es
+sound_arguments program critical callee es h = each_term program es (sound_terms program critical callee (map term_of es) h)
 
 -- the value of a call goes nowhere
-pub call_step : (allowed : Cell → Bool) (left : ℕ) (program : Program) (low : Enters) (here : Here) (at : At) (target : Option Lval) (form : CallForm) (st : Step) (next : Tree) (m : Memory) → st ≡ step.Call target form → IsSoundStep program false st
-    → walk allowed left (statement program half.User low here at st next) m ≡ walk allowed left (values program at form.args (λ vs. call program half.User low here at form.callee vs (λ v. next))) m
-call_step allowed left program low here at target form st next m e h =
-    let sound : IsSoundStep program false (step.Call target form) = subst (IsSoundStep program false) e h in
-    ap (λ (x : Step). walk allowed left (statement program half.User low here at x next) m) e
-    ∙ ap (λ (t : Option Lval). walk allowed left (statement program half.User low here at (step.Call t form) next) m) sound.0
+pub call_step : (allowed : Cell → Bool) (left : ℕ) (program : Program) (low : Enters) (here : Here) (at : At) (n : ℕ) (goal : Goal) (form : CallOf) (c : Code) (next : Tree) (m : Memory) → c ≡ Code.Call n goal form → IsSoundStep program false c
+    → walk allowed left (statement program half.User low here at c next) m ≡ walk allowed left (values program at form.args (λ vs. call program half.User low here at form.callee vs (λ v. next))) m
+call_step allowed left program low here at n goal form c next m e h =
+    let sound : IsSoundStep program false (Code.Call n goal form) = subst (IsSoundStep program false) e h in
+    ap (λ (x : Code). walk allowed left (statement program half.User low here at x next) m) e
+    ∙ ap (λ (g : Goal). walk allowed left (statement program half.User low here at (Code.Call n g form) next) m) sound.0

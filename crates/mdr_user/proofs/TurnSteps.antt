@@ -7,12 +7,13 @@ use Rattle.mdr_core.specs.declared.place.At.{At}
 use Rattle.mdr_core.specs.declared.plan.Half.TheVariants as half
 use Rattle.mdr_core.specs.declared.program.Program.{Program}
 use Rattle.mdr_core.specs.declared.code.Stmt.{Stmt}
+use Rattle.mdr_core.specs.Folds.{code_of, codes_of}
 use Rattle.mdr_model.specs.declared.wire.Wire.TheVariants as wire
 use Rattle.mdr_model.specs.Memory.{Memory}
 use Rattle.mdr_model.specs.Tree.{Tree}
 use Rattle.mdr_model.specs.Walk.{Reached, Walked, walked, walk}
-use Rattle.mdr_model.specs.Meaning.{body_of, function, statement}
-use Rattle.mdr_model.specs.Sound.{IsSound, IsSoundFunc, IsSoundStep}
+use Rattle.mdr_model.specs.Meaning.{body_of, function, statement, number_of}
+use Rattle.mdr_model.specs.Sound.{IsSound, IsSoundFunc, IsSoundStep, IsSoundBody}
 use Rattle.mdr_model.proofs.HoldsLaws.{all_get}
 use Rattle.mdr_user.specs.declared.state.Position.{Position}
 use Rattle.mdr_user.specs.States.{here_of, tree_of, body_at, rest_at, IsUserFunc}
@@ -20,7 +21,7 @@ use Rattle.mdr_user.specs.Statements.{Cells, told_walk, next_of}
 
 -- where the statement at a position stands
 abbrev pub place_of : Position → Stmt → At
-place_of p s = record { func = p.func; stmt = s.number }
+place_of p s = record { func = p.func; stmt = number_of (code_of s) }
 
 -- the statement at a position of a function
 pub record IsAt (program : Program) (p : Position) (s : Stmt) : Type 0 where
@@ -34,7 +35,7 @@ is_at program p body s e inside item = record {
 }
 
 abbrev step_tree : Program → ℕ → Position → Stmt → Tree
-step_tree program n p s = statement program half.User (function program half.User n) (here_of p) (place_of p s) s.step (rest_at program n (next_of p))
+step_tree program n p s = statement program half.User (function program half.User n) (here_of p) (place_of p s) (code_of s) (rest_at program n (next_of p))
 
 -- the tree at a position begins with its statement's tick
 tree_at : (program : Program) (n : ℕ) (p : Position) (s : Stmt) → IsAt program p s → rest_at program n p ≡ Tree.Tick (place_of p s) (step_tree program n p s)
@@ -77,17 +78,22 @@ all_at P [] i d h inside = absurd (omega arith)
 all_at P (x ∷ xs) zero d h inside = h.0
 all_at P (x ∷ xs) (suc i) d h inside = all_at P xs i d h.1 (omega arith)
 
-body_is_sound : (program : Program) (f : ℕ) → IsSound program → (own : IsUserFunc program f) → AllByRecursion (λ (s : Stmt). IsSoundStep program own.func.critical s.step) (body_at program f)
+sound_at : (program : Program) (critical : Bool) (ss : List Stmt) (i : ℕ) (d : Stmt) → IsSoundBody program critical (codes_of ss) → i < length ss → IsSoundStep program critical (code_of (get_or ss i d))
+sound_at program critical [] i d h inside = absurd (omega arith)
+sound_at program critical (s ∷ ss) zero d h inside = h.0
+sound_at program critical (s ∷ ss) (suc i) d h inside = sound_at program critical ss i d h.1 (omega arith)
+
+body_is_sound : (program : Program) (f : ℕ) → IsSound program → (own : IsUserFunc program f) → IsSoundBody program own.func.critical (codes_of (body_at program f))
 body_is_sound program f h own =
     let sound : IsSoundFunc program own.func = all_get (IsSoundFunc program) program.funcs f own.func h.funcs own.declared in
     let body : body_at program f ≡ sound.statements = ap body_of own.declared ∙ of own.func.body sound.statements sound.body in
-    subst (AllByRecursion (λ (s : Stmt). IsSoundStep program own.func.critical s.step)) (sym body) sound.steps
+    subst (λ (ss : List Stmt). IsSoundBody program own.func.critical (codes_of ss)) (sym body) sound.steps
   where
     of : (b : Option (List Stmt)) (ss : List Stmt) → b ≡ Some ss → unwrap_or b [] ≡ ss
     of b ss e = ap (λ (x : Option (List Stmt)). unwrap_or x []) e
 
-pub step_is_sound : (program : Program) (p : Position) (s : Stmt) → IsSound program → IsUserFunc program p.func → IsAt program p s → IsSoundStep program false s.step
+pub step_is_sound : (program : Program) (p : Position) (s : Stmt) → IsSound program → IsUserFunc program p.func → IsAt program p s → IsSoundStep program false (code_of s)
 step_is_sound program p s h own at =
-    let Step : Stmt → Type 0 = λ x. IsSoundStep program own.func.critical x.step in
-    let found : Step (get_or (body_at program p.func) p.next s) = all_at Step (body_at program p.func) p.next s (body_is_sound program p.func h own) at.inside in
-    subst (λ (critical : Bool). IsSoundStep program critical s.step) own.user (subst Step (sym at.item) found)
+    let Sound : Stmt → Type 0 = λ x. IsSoundStep program own.func.critical (code_of x) in
+    let found : Sound (get_or (body_at program p.func) p.next s) = sound_at program own.func.critical (body_at program p.func) p.next s (body_is_sound program p.func h own) at.inside in
+    subst (λ (critical : Bool). IsSoundStep program critical (code_of s)) own.user (subst Sound (sym at.item) found)

@@ -2,7 +2,7 @@
 use Rattle.std.specs.Prelude.{Bool, List, [], ◌∷◌, ◌++◌, Result, Ok, Err}
 use Rattle.mdr_core.specs.declared.stop.StopKind.{StopKind}
 use Rattle.mdr_core.specs.declared.program.Program.{Program}
-use Rattle.mdr_core.specs.declared.code.Expr.{Expr}
+use Rattle.mdr_core.specs.Code.{Term}
 use Rattle.mdr_core.specs.declared.kind.Kind.{Kind}
 use Rattle.mdr_model.specs.declared.wire.Wire.{Wire}
 use Rattle.mdr_model.specs.declared.memory.Cell.{Cell}
@@ -11,7 +11,7 @@ use Rattle.mdr_model.specs.Sound.{IsSoundExpr}
 use Rattle.mdr_copy.specs.Evaluated.{evaluated}
 
 -- an argument has a kind
-abbrev pub IsSoundArgument : Program → Expr → Type 0
+abbrev pub IsSoundArgument : Program → Term → Type 0
 IsSoundArgument program e = (kind : Kind) × IsSoundExpr program e kind
 
 -- values in front of others
@@ -24,6 +24,6 @@ then_others (Ok v) others = behind (v ∷ []) others
 then_others (Err kind) others = Err kind
 
 -- the values, or the first stop from left to right
-unfoldable pub evaluated_all : (Cell → Bool) → Program → Memory → List Expr → Result (List Wire) StopKind
+unfoldable pub evaluated_all : (Cell → Bool) → Program → Memory → List Term → Result (List Wire) StopKind
 evaluated_all allowed program m [] = Ok []
 evaluated_all allowed program m (e ∷ es) = then_others (evaluated allowed program m e) (evaluated_all allowed program m es)

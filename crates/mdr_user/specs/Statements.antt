@@ -2,8 +2,7 @@
 use Rattle.std.specs.Prelude.{◌≡◌, ℕ, suc, ◌+◌, Bool, true}
 use Rattle.mdr_core.specs.declared.stop.StopKind.TheVariants as stop
 use Rattle.mdr_core.specs.declared.place.At.{At}
-use Rattle.mdr_core.specs.declared.code.Callee.{Callee}
-use Rattle.mdr_core.specs.declared.code.Callee.TheVariants.{Direct, Service}
+use Rattle.mdr_core.specs.Code.{Called}
 use Rattle.mdr_core.specs.declared.program.Program.{Program}
 use Rattle.mdr_model.specs.declared.wire.Wire.TheVariants as wire
 use Rattle.mdr_model.specs.declared.memory.Cell.{Cell}
@@ -24,10 +23,11 @@ use Rattle.mdr_user.specs.declared.walk.Progress.TheVariants as progress
 abbrev pub Cells : Type 0
 Cells = Cell → Bool
 
--- what is called is a function of the other half, or a service
-abbrev pub IsAcross : Program → Callee → Type 0
-IsAcross program (Direct f) = is_kernel program f ≡ true
-IsAcross program (Service n) = Unit {0}
+-- what is called is a function of the other half, or a service; a call through a value isn't built
+abbrev pub IsAcross : Program → Called → Type 0
+IsAcross program (Called.Direct f) = is_kernel program f ≡ true
+IsAcross program (Called.Service n) = Unit {0}
+IsAcross program (Called.Through e) = ⊥
 
 -- a walk with this tree behind a statement that did so
 abbrev pub after_statement : Cells → Here → At → Did → ℕ → tree.Tree → Memory → Walked

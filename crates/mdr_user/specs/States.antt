@@ -4,6 +4,7 @@ use Rattle.mdr_core.specs.declared.plan.Half.TheVariants as half
 use Rattle.mdr_core.specs.declared.program.Program.{Program}
 use Rattle.mdr_core.specs.declared.program.Func.{Func}
 use Rattle.mdr_core.specs.declared.code.Stmt.{Stmt}
+use Rattle.mdr_core.specs.Folds.{codes_of}
 use Rattle.mdr_model.specs.declared.wire.Wire.TheVariants as wire
 use Rattle.mdr_model.specs.declared.message.Message.{Message}
 use Rattle.mdr_model.specs.Tree as tree
@@ -24,7 +25,7 @@ here_of p = record { func = p.func; depth = p.depth }
 -- the function that runs, from statements of its body on
 abbrev pub tree_of : Program → ℕ → Here → List Stmt → tree.Tree
 tree_of program n here rest =
-    statements program half.User (function program half.User n) here rest (tree.Tree.Done wire.NoValue tree.Tree.Idle)
+    statements program half.User (function program half.User n) here (codes_of rest) (tree.Tree.Done wire.NoValue tree.Tree.Idle)
 
 abbrev pub body_at : Program → ℕ → List Stmt
 body_at program f = body_of (func_at program f)

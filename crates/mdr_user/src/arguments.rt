@@ -1,7 +1,9 @@
 // The arguments of a call.
 
-ghost use Rattle.std.specs.Prelude.{◌≡◌, IfOk};
+ghost use Rattle.std.specs.Prelude.{◌≡◌, map, IfOk};
 ghost use Rattle.std.specs.List.{AllByRecursion};
+ghost use Rattle.mdr_core.specs.declared.code.Expr.{Expr as AnyExpr};
+ghost use Rattle.mdr_core.specs.Folds.{term_of};
 ghost use Rattle.mdr_model.specs.Holds.{IsSoundMemory};
 ghost use Rattle.mdr_model.specs.Sets.{is_in};
 ghost use Rattle.mdr_model.specs.Sound.{IsSound};
@@ -22,8 +24,8 @@ pub(crate) fn evaluated_all(
 ) -> Result<Result<Items<Wire>, StopKind>, OutOfMemory>
     requires program { IsSound program.now }
     requires memory { IsSoundMemory program.now memory.now }
-    requires arguments { AllByRecursion (IsSoundArgument program.now) args.now }
-    ensures { IfOk result (λ values. values ≡ evaluated_all (is_in view.now) program.now memory.now args.now) }
+    requires arguments { AllByRecursion (λ (e : AnyExpr). IsSoundArgument program.now (term_of e)) args.now }
+    ensures { IfOk result (λ values. values ≡ evaluated_all (is_in view.now) program.now memory.now (map term_of args.now)) }
 {
     let mut values = Items::new(alloc);
     for e in args {

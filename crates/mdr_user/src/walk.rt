@@ -12,6 +12,7 @@ ghost use Rattle.mdr_user.specs.Statements.{Cells, after_statement, reached_of, 
 
 use crate::state::{Asked, Position};
 use crate::statement::{Did, statement};
+use mdr_copy::number_of;
 use mdr_core::{At, Items, OutOfMemory, Program, Stmt, StopKind};
 use mdr_model::{Cell, MemoryBlock, Wire};
 use std::alloc::Global;
@@ -85,12 +86,12 @@ fn turn(
     let stmt = &body[here.next];
     let at = At {
         func: here.func,
-        stmt: stmt.number,
+        stmt: number_of(stmt),
     };
     if left == 0 {
         return Ok(Progress::Over(Event::Stopped(StopKind::Ticks, at), 0));
     }
-    let did = statement(alloc, view, program, &stmt.step, memory, here.depth, at)?;
+    let did = statement(alloc, view, program, stmt, memory, here.depth, at)?;
     let next = Position {
         func: here.func,
         depth: here.depth,

@@ -1,4 +1,6 @@
-use Rattle.std.proofs.Common.{sym, ap, ◌∙◌}
+use Rattle.std.proofs.Common.{List, map, sym, ap, ◌∙◌}
+use Rattle.mdr_core.specs.declared.code.Expr.{Expr}
+use Rattle.mdr_core.specs.Folds.{term_of, called_of}
 use Rattle.mdr_model.specs.Sets.{is_in}
 use Rattle.mdr_user.specs.Arguments.{evaluated_all}
 use Rattle.mdr_user.proofs.StatementSteps.{arguments_are, arguments_stop, sound_across}
@@ -6,11 +8,11 @@ use Rattle.mdr_user.proofs.statement.call.Goals as goal
 
 pub returns-in-Ok : goal.returns-in-Ok
 returns-in-Ok c = λ left low here next same.
-    arguments_are (is_in c.args.view.now) left c.args.program.now low here c.args.at c.args.form.now.callee c.args.form.now.args next c.args.memory.now c.in-Ok.args
-    (ap (evaluated_all (is_in c.args.view.now) c.args.program.now c.args.memory.now) (sym c.as_slice.ensures) ∙ sym c.in_ok-args.ensures ∙ c.in-Ok.is)
-    ∙ c.called.ensures c.args.program.now left low here next (is_in c.args.view.now) c.args.memory.now same (sound_across c.args.program.now _ c.args.form.now.callee c.args.form.now.args c.requires.statement)
+    arguments_are (is_in c.args.view.now) left c.args.program.now low here c.args.at (called_of c.args.form.now.callee) (map term_of c.args.form.now.args) next c.args.memory.now c.in-Ok.args
+    (ap (λ (es : List Expr). evaluated_all (is_in c.args.view.now) c.args.program.now c.args.memory.now (map term_of es)) (sym c.as_slice.ensures) ∙ sym c.in_ok-args.ensures ∙ c.in-Ok.is)
+    ∙ c.called.ensures c.args.program.now left low here next (is_in c.args.view.now) c.args.memory.now same (sound_across c.args.program.now _ (called_of c.args.form.now.callee) (map term_of c.args.form.now.args) c.requires.statement)
 
 pub returns-in-Err : goal.returns-in-Err
 returns-in-Err c = λ left low here next same.
-    arguments_stop (is_in c.args.view.now) left c.args.program.now low here c.args.at c.args.form.now.callee c.args.form.now.args next c.args.memory.now c.in-Err.kind
-    (ap (evaluated_all (is_in c.args.view.now) c.args.program.now c.args.memory.now) (sym c.as_slice.ensures) ∙ sym c.in_ok-args.ensures ∙ c.in-Err.is)
+    arguments_stop (is_in c.args.view.now) left c.args.program.now low here c.args.at (called_of c.args.form.now.callee) (map term_of c.args.form.now.args) next c.args.memory.now c.in-Err.kind
+    (ap (λ (es : List Expr). evaluated_all (is_in c.args.view.now) c.args.program.now c.args.memory.now (map term_of es)) (sym c.as_slice.ensures) ∙ sym c.in_ok-args.ensures ∙ c.in-Err.is)
