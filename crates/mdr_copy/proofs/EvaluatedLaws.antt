@@ -28,7 +28,7 @@ use Rattle.mdr_model.specs.Tree.{Tree}
 use Rattle.mdr_model.specs.Meaning.{type_of_global, pointer_to, given, value}
 use Rattle.mdr_model.specs.Walk.{on_load, walk}
 use Rattle.mdr_model.specs.World.{World, when_loaded, in_kernel}
-use Rattle.mdr_model.specs.Sound.{IsSoundPlace, IsSoundExpr, IsSound}
+use Rattle.mdr_model.specs.Runnable.{IsRunnablePlace, IsRunnableExpr, IsRunnable}
 use Rattle.mdr_model.specs.Holds.{IsSoundMemory}
 use Rattle.mdr_model.proofs.Tests.{and_right, and_both, same_number}
 use Rattle.mdr_model.proofs.FairTrees.{kind_type}
@@ -55,14 +55,14 @@ pub number_fits : (kind : Kind) (n : ℤ) → is_in_range kind n ≡ true → fi
 number_fits kind n e = and_both (is_same_kind kind kind) (is_in_range kind n) (same_number (kind_number kind)) e
 
 -- a cell of a kind's type takes the values that fit the kind
-pub fits_kind : (program : Program) (kind : Kind) (v : Wire) → IsSound program → fits program (kind_number kind) v ≡ fits_type (ty.Int kind) v
+pub fits_kind : (program : Program) (kind : Kind) (v : Wire) → IsRunnable program → fits program (kind_number kind) v ≡ fits_type (ty.Int kind) v
 unfolding fits
 fits_kind program kind v sound = ap (λ (t : Option Ty). fits_maybe t v) (ap (λ (ts : List Ty). slice_get ts (kind_number kind)) sound.types ∙ kind_type kind)
 
 -- ---- the values of expressions
 
 -- what is loaded from a variable fits its kind
-variable_fits : (allowed : Cell → Bool) (program : Program) (m : Memory) (place : Lvalue) (kind : Kind) (v : Wire) → IsSound program → IsSoundMemory program m → IsSoundPlace program place kind
+variable_fits : (allowed : Cell → Bool) (program : Program) (m : Memory) (place : Lvalue) (kind : Kind) (v : Wire) → IsRunnable program → IsSoundMemory program m → IsRunnablePlace program place kind
     → loaded allowed m (pointer_to program place) ≡ Ok v → fits_type (ty.Int kind) v ≡ true
 unfolding pointer_to
 variable_fits allowed program m (Lvalue.Global g) kind v sound memory s e =
@@ -84,7 +84,7 @@ computed_fits op kind x y v hx hy e = of (operated op kind (integer x) (integer 
     of (Err why) q h = absurd (Prim.cc)
 
 -- an expression's value fits its kind
-pub evaluated_fits : (allowed : Cell → Bool) (program : Program) (m : Memory) (e : Term) (kind : Kind) (v : Wire) → IsSound program → IsSoundMemory program m → IsSoundExpr program e kind
+pub evaluated_fits : (allowed : Cell → Bool) (program : Program) (m : Memory) (e : Term) (kind : Kind) (v : Wire) → IsRunnable program → IsSoundMemory program m → IsRunnableExpr program e kind
     → evaluated allowed program m e ≡ Ok v → fits_type (ty.Int kind) v ≡ true
 unfolding evaluated
 evaluated_fits allowed program m (Term.Lit w) kind v sound memory s e =
@@ -106,7 +106,7 @@ evaluated_fits allowed program m (Term.Bin op l a b) kind v sound memory s e =
     first (Err why) fit fit' h = absurd (Prim.cc)
 evaluated_fits allowed program m _ kind v sound memory s e = elim s [ ]
 
-pub evaluated_in_range : (allowed : Cell → Bool) (program : Program) (m : Memory) (e : Term) (kind : Kind) (v : Wire) → IsSound program → IsSoundMemory program m → IsSoundExpr program e kind
+pub evaluated_in_range : (allowed : Cell → Bool) (program : Program) (m : Memory) (e : Term) (kind : Kind) (v : Wire) → IsRunnable program → IsSoundMemory program m → IsRunnableExpr program e kind
     → evaluated allowed program m e ≡ Ok v → is_in_range kind (integer v) ≡ true
 evaluated_in_range allowed program m e kind v sound memory s h = number_in_range kind v (evaluated_fits allowed program m e kind v sound memory s h)
 
@@ -114,17 +114,17 @@ evaluated_in_range allowed program m e kind v sound memory s h = number_in_range
 bin_is : (op : BinOp) (kind : Kind) (a b : Expr) → term_of (expr.Bin op kind a b) ≡ Term.Bin op kind (term_of a) (term_of b)
 bin_is op kind a b = ap term_of (sym (rolls-Bin op kind a b)) ∙ fold-roll-Expr Term Lvalue term_layer lvalue_layer (Expr-F.Bin op kind a b)
 
-pub left_in_range : (allowed : Cell → Bool) (program : Program) (m : Memory) (op : BinOp) (kind : Kind) (left right e : Expr) (v : Wire) → IsSound program → IsSoundMemory program m
-    → e ≡ expr.Bin op kind left right → (k : Kind) × IsSoundExpr program (term_of e) k → evaluated allowed program m (term_of left) ≡ Ok v → is_in_range kind (integer v) ≡ true
+pub left_in_range : (allowed : Cell → Bool) (program : Program) (m : Memory) (op : BinOp) (kind : Kind) (left right e : Expr) (v : Wire) → IsRunnable program → IsSoundMemory program m
+    → e ≡ expr.Bin op kind left right → (k : Kind) × IsRunnableExpr program (term_of e) k → evaluated allowed program m (term_of left) ≡ Ok v → is_in_range kind (integer v) ≡ true
 left_in_range allowed program m op kind left right e v sound memory is s h =
-    let own : (k : Kind) × IsSoundExpr program (Term.Bin op kind (term_of left) (term_of right)) k = subst (λ (x : Term). (k : Kind) × IsSoundExpr program x k) (ap term_of is ∙ bin_is op kind left right) s in
-    evaluated_in_range allowed program m (term_of left) kind v sound memory (subst (IsSoundExpr program (term_of left)) (sym own.1.0) own.1.1) h
+    let own : (k : Kind) × IsRunnableExpr program (Term.Bin op kind (term_of left) (term_of right)) k = subst (λ (x : Term). (k : Kind) × IsRunnableExpr program x k) (ap term_of is ∙ bin_is op kind left right) s in
+    evaluated_in_range allowed program m (term_of left) kind v sound memory (subst (IsRunnableExpr program (term_of left)) (sym own.1.0) own.1.1) h
 
-pub right_in_range : (allowed : Cell → Bool) (program : Program) (m : Memory) (op : BinOp) (kind : Kind) (left right e : Expr) (v : Wire) → IsSound program → IsSoundMemory program m
-    → e ≡ expr.Bin op kind left right → (k : Kind) × IsSoundExpr program (term_of e) k → evaluated allowed program m (term_of right) ≡ Ok v → is_right_operand op kind (integer v) ≡ true
+pub right_in_range : (allowed : Cell → Bool) (program : Program) (m : Memory) (op : BinOp) (kind : Kind) (left right e : Expr) (v : Wire) → IsRunnable program → IsSoundMemory program m
+    → e ≡ expr.Bin op kind left right → (k : Kind) × IsRunnableExpr program (term_of e) k → evaluated allowed program m (term_of right) ≡ Ok v → is_right_operand op kind (integer v) ≡ true
 right_in_range allowed program m op kind left right e v sound memory is s h =
-    let own : (k : Kind) × IsSoundExpr program (Term.Bin op kind (term_of left) (term_of right)) k = subst (λ (x : Term). (k : Kind) × IsSoundExpr program x k) (ap term_of is ∙ bin_is op kind left right) s in
-    right_operand op kind (integer v) (evaluated_in_range allowed program m (term_of right) kind v sound memory (subst (IsSoundExpr program (term_of right)) (sym own.1.0) own.1.2) h)
+    let own : (k : Kind) × IsRunnableExpr program (Term.Bin op kind (term_of left) (term_of right)) k = subst (λ (x : Term). (k : Kind) × IsRunnableExpr program x k) (ap term_of is ∙ bin_is op kind left right) s in
+    right_operand op kind (integer v) (evaluated_in_range allowed program m (term_of right) kind v sound memory (subst (IsRunnableExpr program (term_of right)) (sym own.1.0) own.1.2) h)
 
 -- ---- trees that begin with an expression
 

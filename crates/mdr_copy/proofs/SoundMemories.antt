@@ -27,7 +27,8 @@ use Rattle.mdr_model.specs.Sets.{is_in, follows_maybe}
 use Rattle.mdr_model.specs.Copies.{CellValue, numbered, put_all, put_runs, without, with_news}
 use Rattle.mdr_model.specs.Faults.{or_else, first_fault, unless, is_known, is_view, fits_block, fits_cell, set_run_of, run_fault, runs_fault}
 use Rattle.mdr_model.specs.Meaning.{type_of_global, pointer_to}
-use Rattle.mdr_model.specs.Sound.{first_types, IsSoundPlace, IsSound}
+use Rattle.mdr_core.specs.Types.{first_types}
+use Rattle.mdr_model.specs.Runnable.{IsRunnablePlace, IsRunnable}
 use Rattle.mdr_model.specs.User.{rise_after, may_die, deaths_fit, has_type, may_come, news_fit}
 use Rattle.mdr_model.specs.Holds.{IsFilled, IsSoundMemory}
 use Rattle.mdr_model.proofs.Tests.{and_left, and_right, not_both, is_same_number, other_number}
@@ -51,7 +52,7 @@ born_from n (x ∷ xs) zero serial g e at =
 born_from n (x ∷ xs) (suc i) serial g e at =
     cond-false (n == serial) _ _ (other_number n serial (λ h. absurd (omega (arith, at, h)))) ∙ born_from (suc n) xs i serial g e (omega (arith, at))
 
-pub first_is_sound : (program : Program) → IsSound program → IsSoundMemory program (first_memory program)
+pub first_is_sound : (program : Program) → IsRunnable program → IsSoundMemory program (first_memory program)
 unfolding first_memory
 first_is_sound program sound = record {
   globals = λ number g e. born_from 0 program.globals number number g e (omega arith);
@@ -68,8 +69,8 @@ put_is_sound program m c v h fit = record {
   filled = filled_put program m c v h.filled fit;
 }
 
-pub stored_is_sound : (allowed : Cell → Bool) (program : Program) (m m' : Memory) (place : Lvalue) (kind : Kind) (v : Wire) → IsSoundPlace program place kind → fits_type (ty.Int kind) v ≡ true
-    → IsSound program → IsSoundMemory program m → stored allowed m (pointer_to program place) v ≡ Ok m' → IsSoundMemory program m'
+pub stored_is_sound : (allowed : Cell → Bool) (program : Program) (m m' : Memory) (place : Lvalue) (kind : Kind) (v : Wire) → IsRunnablePlace program place kind → fits_type (ty.Int kind) v ≡ true
+    → IsRunnable program → IsSoundMemory program m → stored allowed m (pointer_to program place) v ≡ Ok m' → IsSoundMemory program m'
 unfolding pointer_to
 stored_is_sound allowed program m m' (Lvalue.Global g) kind v s fit sound memory e =
     let p : WireView = record { serial = g; first = 0; ty = type_of_global (slice_get program.globals g); count = 1; index = 0 } in
@@ -214,7 +215,7 @@ without_keeps program copy (serial ∷ serials) m all h =
     not_true false e = refl
 
 -- deaths that fit keep the memory sound
-pub without_is_sound : (program : Program) (deaths : List ℕ) (m : Memory) → IsSound program → IsSoundMemory program m → deaths_fit program m deaths ≡ true → IsSoundMemory program (without deaths m)
+pub without_is_sound : (program : Program) (deaths : List ℕ) (m : Memory) → IsRunnable program → IsSoundMemory program m → deaths_fit program m deaths ≡ true → IsSoundMemory program (without deaths m)
 without_is_sound program deaths m sound h e = without_keeps program m deaths m (and_right (rise_after None deaths) (list_all (may_die program m) deaths) e) h
 
 -- ---- births
@@ -236,7 +237,7 @@ first_zeroed : AllByRecursion IsZeroed first_types
 unfolding is_in_range
 first_zeroed = (refl, (refl, (refl, (refl, (refl, (refl, (refl, (refl, (refl, tt)))))))))
 
-zero_fits : (program : Program) (n : ℕ) → IsSound program → has_type program n ≡ true → fits program n (zero_maybe (type_at program n)) ≡ true
+zero_fits : (program : Program) (n : ℕ) → IsRunnable program → has_type program n ≡ true → fits program n (zero_maybe (type_at program n)) ≡ true
 unfolding fits
 zero_fits program n sound has =
     let typed : type_at program n ≡ slice_get first_types n = ap (λ (ts : List Ty). slice_get ts n) sound.types in
@@ -258,20 +259,20 @@ born_at-with (x ∷ m) b serial born e = of (x.born.serial == serial) e (born_at
     of true h later = h
     of false h later = later h
 
-zero_filled : (program : Program) (n : New) → IsSound program → has_type program n.ty ≡ true → IsFilled program (zero_block program n)
+zero_filled : (program : Program) (n : New) → IsRunnable program → has_type program n.ty ≡ true → IsFilled program (zero_block program n)
 zero_filled program n sound has = record {
   size = length-replicate n.count (zero_maybe (type_at program n.ty));
   fit = all_replicated (λ (v : Wire). fits program n.ty v ≡ true) n.count (zero_maybe (type_at program n.ty)) (zero_fits program n.ty sound has);
 }
 
-new_is_sound : (program : Program) (n : New) (m : Memory) → IsSound program → has_type program n.ty ≡ true → IsSoundMemory program m → IsSoundMemory program (m ++ zero_block program n ∷ [])
+new_is_sound : (program : Program) (n : New) (m : Memory) → IsRunnable program → has_type program n.ty ≡ true → IsSoundMemory program m → IsSoundMemory program (m ++ zero_block program n ∷ [])
 new_is_sound program n m sound has h = record {
   globals = λ number g e. born_at-with m (zero_block program n) number (global_block number g).born (h.globals number g e);
   filled = all_with (IsFilled program) m (zero_block program n) h.filled (zero_filled program n sound has);
 }
 
 -- where each new block has a type
-news_keep : (program : Program) (copy : Memory) (news : List New) (m : Memory) → IsSound program → list_all (may_come program copy) news ≡ true → IsSoundMemory program m → IsSoundMemory program (with_news program news m)
+news_keep : (program : Program) (copy : Memory) (news : List New) (m : Memory) → IsRunnable program → list_all (may_come program copy) news ≡ true → IsSoundMemory program m → IsSoundMemory program (with_news program news m)
 unfolding with_news
 news_keep program copy [] m sound all h = h
 news_keep program copy (n ∷ news) m sound all h =
@@ -280,6 +281,6 @@ news_keep program copy (n ∷ news) m sound all h =
     (new_is_sound program n m sound (and_right (not (is_live copy n.serial)) (has_type program n.ty) (and_left _ _ (and_left _ _ here))) h)
 
 -- new blocks that fit keep the memory sound
-pub news_are_sound : (program : Program) (news : List New) (m : Memory) → IsSound program → IsSoundMemory program m → news_fit program m news ≡ true → IsSoundMemory program (with_news program news m)
+pub news_are_sound : (program : Program) (news : List New) (m : Memory) → IsRunnable program → IsSoundMemory program m → news_fit program m news ≡ true → IsSoundMemory program (with_news program news m)
 news_are_sound program news m sound h e =
     news_keep program m news m sound (and_right (rise_after None (map (λ (n : New). n.serial) news)) (list_all (may_come program m) news) e) h

@@ -8,7 +8,7 @@ ghost use Rattle.mdr_core.specs.Folds.{term_of};
 ghost use Rattle.mdr_core.specs.Operators.{operated, is_right_operand};
 ghost use Rattle.mdr_model.specs.Values.{integer};
 ghost use Rattle.mdr_model.specs.Meaning.{stop_of};
-ghost use Rattle.mdr_model.specs.Sound.{IsSound, IsSoundExpr};
+ghost use Rattle.mdr_model.specs.Runnable.{IsRunnable, IsRunnableExpr};
 ghost use Rattle.mdr_model.specs.Holds.{IsSoundMemory};
 ghost use Rattle.mdr_copy.specs.Evaluated.{allows, evaluated, numbered_at};
 
@@ -65,9 +65,9 @@ pub fn evaluated(
     memory: &[MemoryBlock],
     e: &Expr,
 ) -> Result<Wire, StopKind>
-    requires program { IsSound program.now }
+    requires program { IsRunnable program.now }
     requires memory { IsSoundMemory program.now memory.now }
-    requires expression { (kind : AnyKind) × IsSoundExpr program.now (term_of e.now) kind }
+    requires expression { (kind : AnyKind) × IsRunnableExpr program.now (term_of e.now) kind }
     ensures { result ≡ evaluated (allows (option_copied reach.entry)) program.now memory.now (term_of e.now) }
 {
     match e {

@@ -174,19 +174,10 @@ pub record IsTable (program : Program) : Type 0 where
 
 -- ---- programs
 
--- how much of each there may be
-pub record KeepsLimits (program : Program) : Type 0 where
-  pub functions : length program.funcs ≤ 1024
-  pub structs : length program.structs ≤ 256
-  pub globals : length program.globals ≤ 1024
-  pub params : (f : ℕ) (func : Func) → slice_get program.funcs f ≡ Some func → length func.params ≤ 8
-  pub locals : (f : ℕ) (func : Func) → slice_get program.funcs f ≡ Some func → length func.locals ≤ 64
-
 pub record IsSound (program : Program) : Type 0 where
   -- the cells of structs and their number of fields keep the limits
   pub small : AreSmall program.structs
   pub few : AreFew program.structs
-  pub limits : KeepsLimits program
   pub table : IsTable program
   pub structs : (s : ℕ) (def : StructDef) → slice_get program.structs s ≡ Some def → IsSoundStruct program s def
   pub globals : (g : ℕ) (def : GlobalDef) → slice_get program.globals g ≡ Some def → IsSoundGlobal program g def

@@ -25,7 +25,7 @@ use Rattle.mdr_model.specs.Tree.{Asked, Tree}
 use Rattle.mdr_model.specs.Meaning.{func_at, critical_of, is_kernel, body_of, type_of_global, pointer_to, value, values, Here, Enters, call, keeps, statement, statements, function}
 use Rattle.mdr_model.specs.World.{World, Ran, Ended, Stopped, after, counted, when_loaded, when_stored, written, written_if, is_writel, served, in_kernel, kernel_call}
 use Rattle.mdr_model.specs.Holds.{IsSoundMemory}
-use Rattle.mdr_model.specs.Sound.{IsSoundPlace, IsSoundExpr, IsSoundWritel, IsSoundStep, IsSoundBody, IsSoundFunc, IsSound}
+use Rattle.mdr_model.specs.Runnable.{IsRunnablePlace, IsRunnableExpr, IsRunnableWritel, IsRunnableStep, IsRunnableBody, IsRunnableFunc, IsRunnable}
 use Rattle.mdr_model.proofs.MemoryLaws.{born_at-births, births-put}
 use Rattle.mdr_model.proofs.ValueLaws.{typed_is_normal}
 use Rattle.mdr_model.proofs.HoldsLaws.{all_get, stored_is}
@@ -38,7 +38,7 @@ use Rattle.mdr_kernel.specs.Works.{goes_on}
 
 -- ---- sound worlds
 
-pub sound_memory : (program : Program) (w : World) → IsSound program → IsSoundWorld program w → IsSoundMemory program w.memory
+pub sound_memory : (program : Program) (w : World) → IsRunnable program → IsSoundWorld program w → IsSoundMemory program w.memory
 sound_memory program w sound h = record {
   globals = λ number g e. born_at-births w.memory (first_memory program) number h.born ∙ (first_is_sound program sound).globals number g e;
   filled = h.filled;
@@ -52,7 +52,7 @@ births_stored allowed program m m' (Lvalue.Global g) v e =
 births_stored allowed program m m' _ v e = absurd (Prim.cc)
 
 -- a store of a value that fits leaves a sound world
-pub store_keeps : (program : Program) (w w' : World) (place : Lvalue) (kind : Kind) (v : Wire) → IsSound program → IsSoundWorld program w → IsSoundPlace program place kind → fits_type (ty.Int kind) v ≡ true
+pub store_keeps : (program : Program) (w w' : World) (place : Lvalue) (kind : Kind) (v : Wire) → IsRunnable program → IsSoundWorld program w → IsRunnablePlace program place kind → fits_type (ty.Int kind) v ≡ true
     → stored everywhere w.memory (pointer_to program place) v ≡ Ok w'.memory → w'.ticks ≡ w.ticks → w'.rest ≡ w.rest → IsSoundWorld program w'
 store_keeps program w w' place kind v sound h s fit e ticks rest = record {
   born = births_stored everywhere program w.memory w'.memory place v e ∙ h.born;
@@ -125,7 +125,7 @@ assign_stopped program at place e w m' v kind stop next gave made stays is =
     ∙ ap (λ (x : Memory). Stopped kind (Some at) (record w { memory = x })) (sym stays)
     ∙ sym (ap (λ (s : Option CodeStop). goes_on s next (record w { memory = m' })) is)
 
-pub assign_keeps : (program : Program) (place : Lvalue) (kind : Kind) (e : Term) (w : World) (m' : Memory) (v : Wire) → IsSound program → IsSoundWorld program w → IsSoundPlace program place kind → IsSoundExpr program e kind
+pub assign_keeps : (program : Program) (place : Lvalue) (kind : Kind) (e : Term) (w : World) (m' : Memory) (v : Wire) → IsRunnable program → IsSoundWorld program w → IsRunnablePlace program place kind → IsRunnableExpr program e kind
     → Ok v ≡ evaluated everywhere program w.memory e → stored everywhere w.memory (pointer_to program place) v ≡ Ok m' → IsSoundWorld program (record w { memory = m' })
 assign_keeps program place kind e w m' v sound h s t gave made =
     store_keeps program w (record w { memory = m' }) place kind v sound h s
@@ -134,7 +134,7 @@ assign_keeps program place kind e w m' v sound h s t gave made =
 
 -- ---- calls of `writel`
 
-pub value_fits : (program : Program) (e : Term) (w : World) (v : Wire) → IsSound program → IsSoundWorld program w → IsSoundExpr program e U32 → Ok v ≡ evaluated everywhere program w.memory e → fits_type (ty.Int U32) v ≡ true
+pub value_fits : (program : Program) (e : Term) (w : World) (v : Wire) → IsRunnable program → IsSoundWorld program w → IsRunnableExpr program e U32 → Ok v ≡ evaluated everywhere program w.memory e → fits_type (ty.Int U32) v ≡ true
 value_fits program e w v sound h s gave =
     evaluated_fits everywhere program w.memory e U32 v sound (sound_memory program w sound h) s (sym gave)
 
@@ -175,7 +175,7 @@ served_on (Some stop) next w = refl
 two_normal : (m : Memory) (x y : Wire) → fits_type (ty.Int U32) x ≡ true → fits_type (ty.Int U32) y ≡ true → normal m x ∷ normal m y ∷ [] ≡ x ∷ y ∷ []
 two_normal m x y f g = λ i. typed_is_normal (ty.Int U32) m x f i ∷ typed_is_normal (ty.Int U32) m y g i ∷ []
 
-pub ask_done : (program : Program) (at : At) (service : ℕ) (v r : Term) (w w' : World) (x y : Wire) (stop : Option CodeStop) (next : Tree) → IsSound program → IsSoundWorld program w → IsSoundWritel program (v ∷ r ∷ [])
+pub ask_done : (program : Program) (at : At) (service : ℕ) (v r : Term) (w w' : World) (x y : Wire) (stop : Option CodeStop) (next : Tree) → IsRunnable program → IsSoundWorld program w → IsRunnableWritel program (v ∷ r ∷ [])
     → Ok x ≡ evaluated everywhere program w.memory v → Ok y ≡ evaluated everywhere program w.memory r
     → served (record { service = service; at = at; args = x ∷ y ∷ []; shapes = []; bytes = [] }) w ≡ ran_of [] stop w' → in_kernel (values program at (v ∷ r ∷ []) (asks service at next)) w ≡ goes_on stop next w'
 unfolding in_kernel
@@ -210,10 +210,10 @@ pub assignment_is : (program : Program) (at : At) (c : Code) (n : ℕ) (place : 
 assignment_is program at c n place e low here next w ran is did = ap (λ (x : Code). in_kernel (statement program half.Kernel low here at x next) w) is ∙ did
 
 -- no call of a sound program has a place for its value
-pub statement_is : (program : Program) (at : At) (c : Code) (n : ℕ) (goal : Goal) (form : CallOf) (low : Enters) (here : Here) (next : Tree) (w : World) (ran : Ran Wire) → IsSoundStep program true c → c ≡ Code.Call n goal form
+pub statement_is : (program : Program) (at : At) (c : Code) (n : ℕ) (goal : Goal) (form : CallOf) (low : Enters) (here : Here) (next : Tree) (w : World) (ran : Ran Wire) → IsRunnableStep program true c → c ≡ Code.Call n goal form
     → in_kernel (values program at form.args (λ vs. call program half.Kernel low here at form.callee vs (λ v. next))) w ≡ ran → in_kernel (statement program half.Kernel low here at c next) w ≡ ran
 statement_is program at c n goal form low here next w ran sound is did =
-    let own : IsSoundStep program true (Code.Call n goal form) = subst (IsSoundStep program true) is sound in
+    let own : IsRunnableStep program true (Code.Call n goal form) = subst (IsRunnableStep program true) is sound in
     ap (λ (x : Code). in_kernel (statement program half.Kernel low here at x next) w) is
     ∙ ap (λ (g : Goal). in_kernel (values program at form.args (λ vs. call program half.Kernel low here at form.callee vs (λ v. keeps program at g v next))) w) own.0
     ∙ did
@@ -237,25 +237,25 @@ tick_keeps program w w' h some is =
 
 -- ---- functions
 
-pub body_is_sound : (program : Program) (func : ℕ) → IsSound program → is_kernel program func ≡ true → IsSoundBody program true (codes_of (body_of (func_at program func)))
+pub body_is_sound : (program : Program) (func : ℕ) → IsRunnable program → is_kernel program func ≡ true → IsRunnableBody program true (codes_of (body_of (func_at program func)))
 unfolding is_kernel
 body_is_sound program func sound kernel = of (func_at program func) refl kernel
   where
-    of : (o : Option Func) → func_at program func ≡ o → critical_of o ≡ true → IsSoundBody program true (codes_of (body_of o))
+    of : (o : Option Func) → func_at program func ≡ o → critical_of o ≡ true → IsRunnableBody program true (codes_of (body_of o))
     of None e k = absurd (Prim.cc)
     of (Some f) e k =
-        let own : IsSoundFunc program f = all_get (IsSoundFunc program) program.funcs func f sound.funcs e in
-        subst (λ (b : Option (List Stmt)). IsSoundBody program true (codes_of (unwrap_or b []))) (sym own.body)
-        (subst (λ (t : Bool). IsSoundBody program t (codes_of own.statements)) k own.steps)
+        let own : IsRunnableFunc program f = all_get (IsRunnableFunc program) program.funcs func f sound.funcs e in
+        subst (λ (b : Option (List Stmt)). IsRunnableBody program true (codes_of (unwrap_or b []))) (sym own.body)
+        (subst (λ (t : Bool). IsRunnableBody program t (codes_of own.statements)) k own.steps)
 
-sound_at : (program : Program) (ss : List Stmt) (i : ℕ) (d : Stmt) → IsSoundBody program true (codes_of ss) → i < length ss → IsSoundStep program true (code_of (get_or ss i d))
+sound_at : (program : Program) (ss : List Stmt) (i : ℕ) (d : Stmt) → IsRunnableBody program true (codes_of ss) → i < length ss → IsRunnableStep program true (code_of (get_or ss i d))
 sound_at program [] i d h inside = absurd (omega arith)
 sound_at program (s ∷ ss) zero d h inside = h.0
 sound_at program (s ∷ ss) (suc i) d h inside = sound_at program ss i d h.1 (omega arith)
 
 -- and so is each statement of it
-pub step_is_sound : (program : Program) (ss : List Stmt) (i : ℕ) (s : Stmt) → IsSoundBody program true (codes_of ss) → i < length ss → s ≡ get_or ss i s → IsSoundStep program true (code_of s)
-step_is_sound program ss i s h inside is = subst (λ (x : Stmt). IsSoundStep program true (code_of x)) (sym is) (sound_at program ss i s h inside)
+pub step_is_sound : (program : Program) (ss : List Stmt) (i : ℕ) (s : Stmt) → IsRunnableBody program true (codes_of ss) → i < length ss → s ≡ get_or ss i s → IsRunnableStep program true (code_of s)
+step_is_sound program ss i s h inside is = subst (λ (x : Stmt). IsRunnableStep program true (code_of x)) (sym is) (sound_at program ss i s h inside)
 
 pub call_of_body : (program : Program) (func : ℕ) (args : List Wire) (depth : ℕ) (w : World) (body : List Stmt) (ran : Ran Wire) → body ≡ body_of (func_at program func)
     → ((low : Enters) (depth : ℕ) → in_kernel (statements program half.Kernel low (record { func = func; depth = depth }) (codes_of body) (Tree.Done wire.NoValue Tree.Idle)) w ≡ ran) → kernel_call program func args depth w ≡ ran

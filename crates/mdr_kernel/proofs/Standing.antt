@@ -8,7 +8,7 @@ use Rattle.mdr_model.specs.declared.message.Message.{Message}
 use Rattle.mdr_model.specs.declared.message.Message.TheVariants as message
 use Rattle.mdr_model.specs.declared.outcome.End.{End}
 use Rattle.mdr_model.specs.declared.outcome.End.TheVariants as ends
-use Rattle.mdr_model.specs.Sound.{IsSound}
+use Rattle.mdr_model.specs.Runnable.{IsRunnable}
 use Rattle.mdr_model.specs.Meaning.{is_kernel}
 use Rattle.mdr_model.specs.Tree.{Asked}
 use Rattle.mdr_model.specs.World.{World, Ran, Ended, Stopped, served, kernel_call}
@@ -47,7 +47,7 @@ abbrev pub Stands : Program → (budget n sent : ℕ) → Pending → Type 0
 Stands program budget n sent (Over end k) = IsOwnEnd end
 Stands program budget n sent (Waits m k rest) = Standing program budget n sent (left_in rest) k
 
-module _ (program : Program) (sound : IsSound program) (budget n : ℕ) where
+module _ (program : Program) (sound : IsRunnable program) (budget n : ℕ) where
   -- a world from which a message is sent: the message is paid for
   record Sends (sent left : ℕ) (k : Kernel) (w : World) : Type 0 where
     world : IsSoundWorld program w
@@ -197,7 +197,7 @@ module _ (program : Program) (sound : IsSound program) (budget n : ℕ) where
       of (Some f) e = tt
 
 -- the state in which a run begins
-pub first_stands : (program : Program) (script : List ℕ) (budget : ℕ) → IsSound program → budget < 2 ^ 64 → Standing program budget (length script) 0 (length script) (first_kernel program budget)
+pub first_stands : (program : Program) (script : List ℕ) (budget : ℕ) → IsRunnable program → budget < 2 ^ 64 → Standing program budget (length script) 0 (length script) (first_kernel program budget)
 unfolding first_kernel first_world
 first_stands program script budget sound fits = record {
   world = record { born = refl; filled = (first_holds program sound).filled; clock = omega (arith, fits) };

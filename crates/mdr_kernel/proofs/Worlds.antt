@@ -6,7 +6,7 @@ use Rattle.mdr_model.specs.Tree.{Asked}
 use Rattle.mdr_model.specs.Meaning.{is_kernel}
 use Rattle.mdr_model.specs.World.{World, Ran, served, kernel_call}
 use Rattle.mdr_model.specs.Watched.{begun, returned}
-use Rattle.mdr_model.specs.Sound.{IsSound}
+use Rattle.mdr_model.specs.Runnable.{IsRunnable}
 use Rattle.mdr_model.proofs.Relations.{Holds}
 pub use Rattle.mdr_model.proofs.AnyAnswers.{Ends}
 use Rattle.mdr_model.proofs.AnyAnswers.{Goes, kernel_goes as any_call_goes, service_goes as any_service_goes}
@@ -42,7 +42,7 @@ gone_in program w w' s l k = record {
 }
 
 -- a function of the kernel half
-pub kernel_goes : (program : Program) (func : ℕ) (args : List Wire) (depth : ℕ) (w : World) → IsSound program → is_kernel program func ≡ true → IsSoundWorld program w
+pub kernel_goes : (program : Program) (func : ℕ) (args : List Wire) (depth : ℕ) (w : World) → IsRunnable program → is_kernel program func ≡ true → IsSoundWorld program w
     → Ends (Gone program w) (kernel_call program func args depth w)
 kernel_goes program func args depth w sound kernel s =
     of (kernel_call program func args depth w) (kernel_leaves func args depth w sound kernel (holds_in s)) (any_call_goes program func args depth w)

@@ -4,7 +4,8 @@ ghost use Rattle.std.specs.Prelude.{◌≡◌, ◌≤◌, [], ◌++◌, true, fa
 ghost use Rattle.mdr_outside.specs.Count.{Rose};
 ghost use Rattle.mdr_outside.specs.Far.{IsLoaded};
 ghost use Rattle.mdr_model.specs.Memory.{first_memory};
-ghost use Rattle.mdr_model.specs.Sound.{IsSound};
+ghost use Rattle.mdr_core.specs.Sound.{IsSound};
+ghost use Rattle.mdr_model.specs.Built.{IsBuilt};
 ghost use Rattle.mdr_model.specs.Kernel.{first_kernel};
 ghost use Rattle.mdr_kernel.specs.States.{kernel_of};
 ghost use Rattle.mdr_kernel.specs.Runs.{sent_of, IsRun, IsFarFault};
@@ -77,8 +78,10 @@ fn first_kernel(
 
 impl<'a> KernelHalf<'a> {
     /// A half that had no run. The memory has the globals.
+    #[tactic(auto, using(mdr_model::proofs::BuiltLaws::runnable))]
     pub fn new(alloc: Global, program: &'a Program) -> Result<KernelHalf<'a>, OutOfMemory>
-        requires { IsSound program.now }
+        requires sound { IsSound program.now }
+        requires built { IsBuilt program.now }
         ensures { IfOk result (λ h. h ≡ record { program = program.now; is_fresh = true; memory = first_memory program.now; messages = 0 }) }
     {
         let first = first_memory(alloc, program)?;

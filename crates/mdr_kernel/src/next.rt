@@ -1,7 +1,7 @@
 // The next state of a run after an answer.
 
 ghost use Rattle.std.specs.Prelude.{◌≡◌, ℕ, List, IfOk};
-ghost use Rattle.mdr_model.specs.Sound.{IsSound};
+ghost use Rattle.mdr_model.specs.Runnable.{IsRunnable};
 ghost use Rattle.mdr_model.specs.Reading.{reading_of};
 ghost use Rattle.mdr_model.specs.Faults.{fault};
 ghost use Rattle.mdr_model.specs.Kernel.{refused, next};
@@ -32,7 +32,7 @@ pub(crate) fn next(
     upcall: Open,
     reading: Result<Message, Fault>,
 ) -> Result<Pending, OutOfMemory>
-    requires program { IsSound program.now }
+    requires program { IsRunnable program.now }
     requires world { IsSoundWorld program.now (world_of kernel.world) }
     ensures { IfOk result (λ p. pending_of script.now p ≡ next program.now reading (kernel_of kernel) (rest_of script.now upcall)) }
 {

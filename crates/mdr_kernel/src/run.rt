@@ -5,7 +5,7 @@ ghost use Rattle.mdr_outside.specs.Count.{Rose};
 ghost use Rattle.mdr_outside.specs.Calls.{Sends, and_then};
 ghost use Rattle.mdr_outside.specs.Far.{IsLoaded};
 ghost use Rattle.mdr_model.specs.Memory.{first_memory};
-ghost use Rattle.mdr_model.specs.Sound.{IsSound};
+ghost use Rattle.mdr_model.specs.Runnable.{IsRunnable};
 ghost use Rattle.mdr_model.specs.Text.{text};
 ghost use Rattle.mdr_model.specs.Kernel.{first_kernel};
 ghost use Rattle.mdr_kernel.specs.States.{world_of, kernel_of, rest_of, IsSoundWorld};
@@ -51,7 +51,7 @@ fn exchanged<F: Far>(
     far: &mut F,
     messages: &mut u64,
 ) -> Result<Turn, OutOfMemory>
-    requires program { IsSound program.now }
+    requires program { IsRunnable program.now }
     requires world { IsSoundWorld program.now (world_of kernel.world) }
     requires loaded { IsLoaded (F.loaded far.old) }
     ensures turned { IfOk result (Turned program.now script.now message (kernel_of kernel) (rest_of script.now upcall) (F.exchanges far.old) (F.exchanges far.new)) }
@@ -89,7 +89,7 @@ pub(crate) fn run_script<F: Far>(
     memory: &mut Vec<MemoryBlock>,
     messages: &mut u64,
 ) -> Result<(End, Kernel), OutOfMemory>
-    requires program { IsSound program.now }
+    requires program { IsRunnable program.now }
     requires first { kernel_of first ≡ first_kernel program.now ticks }
     requires memory { memory.old.items ≡ first_memory program.now }
     requires messages { messages.old ≡ 0 }

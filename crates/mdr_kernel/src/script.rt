@@ -1,7 +1,7 @@
 // The commands of a script, up to the first message.
 
 ghost use Rattle.std.specs.Prelude.{◌≡◌, [], ℕ, true, List, drop, IfOk};
-ghost use Rattle.mdr_model.specs.Sound.{IsSound};
+ghost use Rattle.mdr_model.specs.Runnable.{IsRunnable};
 ghost use Rattle.mdr_model.specs.Meaning.{is_kernel};
 ghost use Rattle.mdr_model.specs.World.{kernel_call, World as AnyWorld};
 ghost use Rattle.mdr_model.specs.Watched.{begun};
@@ -19,7 +19,7 @@ use std::alloc::Global;
 
 /// A command of the kernel half.
 fn own_command(program: &Program, func: u32, kernel: Kernel) -> Result<Commanded, OutOfMemory>
-    requires program { IsSound program.now }
+    requires program { IsRunnable program.now }
     requires function { is_kernel program.now func ≡ true }
     requires world { IsSoundWorld program.now (world_of kernel.world) }
     ensures by { IfOk result (λ c. (script : List ℕ) (before : AnyWorld) (go : AnyKernel → AnyPending) → then_split (kernel_call program.now func [] 0 (world_of kernel.world)) (record { world = before; agreed = kernel.agreed; exchanges = kernel.exchanges }) go ≡ then_by script c go) }
@@ -43,7 +43,7 @@ fn command(
     kernel: Kernel,
     done: usize,
 ) -> Result<Commanded, OutOfMemory>
-    requires program { IsSound program.now }
+    requires program { IsRunnable program.now }
     requires world { IsSoundWorld program.now (world_of kernel.world) }
     ensures by { IfOk result (λ c. (script : List ℕ) (go : AnyKernel → AnyPending) → command_by (is_kernel program.now func) program.now func (drop done script) (begun program.now func (world_of kernel.world)) (kernel_of kernel) go ≡ then_by script c go) }
     ensures sound { IfOk result (ReturnsSound program.now) }
@@ -67,7 +67,7 @@ pub(crate) fn split_commands(
     from: usize,
     kernel: Kernel,
 ) -> Result<Pending, OutOfMemory>
-    requires program { IsSound program.now }
+    requires program { IsRunnable program.now }
     requires world { IsSoundWorld program.now (world_of kernel.world) }
     ensures { IfOk result (λ p. pending_of script.now p ≡ split_commands program.now (drop from script.now) (kernel_of kernel)) }
 {

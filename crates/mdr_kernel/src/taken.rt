@@ -3,7 +3,7 @@
 ghost use Rattle.std.specs.Prelude.{◌≡◌, ◌+◌, ◌^◌, ◌<◌, ◌≤◌, [], true, ℕ, List, None, unwrap_or, IfOk};
 ghost use Rattle.mdr_model.specs.declared.wire.Wire.{Wire as AnyWire};
 ghost use Rattle.mdr_model.specs.declared.message.Shape64.{Shape64 as AnyShape};
-ghost use Rattle.mdr_model.specs.Sound.{IsSound};
+ghost use Rattle.mdr_model.specs.Runnable.{IsRunnable};
 ghost use Rattle.mdr_model.specs.Meaning.{is_kernel};
 ghost use Rattle.mdr_model.specs.World.{kernel_call, served};
 ghost use Rattle.mdr_model.specs.Faults.{args_fault};
@@ -56,7 +56,7 @@ fn continued(
     kernel: Kernel,
     upcall: Open,
 ) -> Result<Pending, OutOfMemory>
-    requires program { IsSound program.now }
+    requires program { IsRunnable program.now }
     requires world { IsSoundWorld program.now (world_of kernel.world) }
     ensures { IfOk result (λ p. pending_of script.now p ≡ continued program.now value (kernel_of kernel) (rest_of script.now upcall)) }
 {
@@ -73,7 +73,7 @@ fn downcalled(
     kernel: Kernel,
     upcall: Open,
 ) -> Result<Pending, OutOfMemory>
-    requires program { IsSound program.now }
+    requires program { IsRunnable program.now }
     requires function { is_kernel program.now func ≡ true }
     requires world { IsSoundWorld program.now (world_of kernel.world) }
     ensures { IfOk result (λ p. (script : List ℕ) (args : List AnyWire) (depth : ℕ) → pending_of script p ≡ downcalled program.now (kernel_call program.now func args depth (world_of kernel.world)) (kernel_of kernel) (rest_of script upcall)) }
@@ -121,7 +121,7 @@ pub(crate) fn taken(
     upcall: Open,
     reply: Message,
 ) -> Result<Pending, OutOfMemory>
-    requires program { IsSound program.now }
+    requires program { IsRunnable program.now }
     requires world { IsSoundWorld program.now (world_of kernel.world) }
     requires legal { fault_of program.now (kernel_of kernel) (rest_of script.now upcall) reply ≡ None }
     ensures { IfOk result (λ p. pending_of script.now p ≡ taken program.now reply (kernel_of kernel) (rest_of script.now upcall)) }

@@ -8,7 +8,7 @@ ghost use Rattle.mdr_core.specs.declared.program.Program.{Program as AnyProgram}
 ghost use Rattle.mdr_core.specs.declared.plan.Half.TheVariants as half;
 ghost use Rattle.mdr_model.specs.declared.wire.Wire.TheVariants as wire;
 ghost use Rattle.mdr_model.specs.declared.wire.Wire.{Wire as AnyWire};
-ghost use Rattle.mdr_model.specs.Sound.{IsSoundStep, IsSoundBody, IsSoundCall, IsSoundExpr, IsSoundWritel, IsSound};
+ghost use Rattle.mdr_model.specs.Runnable.{IsRunnableStep, IsRunnableBody, IsRunnableCall, IsRunnableExpr, IsRunnableWritel, IsRunnable};
 ghost use Rattle.mdr_model.specs.Tree.{Tree as AnyTree, Ask as Asks, Tick as Ticks, Done as Ends, Idle as Nothing};
 ghost use Rattle.mdr_model.specs.Memory.{stored, everywhere};
 ghost use Rattle.mdr_model.specs.Meaning.{pointer_to, Enters, Here as AnyHere, func_at, body_of, is_kernel, values, call, statement, statements};
@@ -32,9 +32,9 @@ fn stops(kind: StopKind, at: At) -> Option<Stopped>
 
 /// The value of an expression, or the stop.
 fn value(program: &Program, e: &Expr, world: &World) -> Result<Wire, StopKind>
-    requires program { IsSound program.now }
+    requires program { IsRunnable program.now }
     requires world { IsSoundWorld program.now (world_of world.now) }
-    requires expression { (kind : AnyKind) × IsSoundExpr program.now (term_of e.now) kind }
+    requires expression { (kind : AnyKind) × IsRunnableExpr program.now (term_of e.now) kind }
     ensures { result ≡ evaluated everywhere program.now world.now.memory.items (term_of e.now) }
 {
     evaluated(None, program, world.memory.as_slice(), e)
@@ -50,9 +50,9 @@ fn stored_in(memory: &mut Vec<MemoryBlock>, place: &Lval, value: Wire) -> Result
 
 /// An assignment: `None` where it was made, and else why it stopped.
 fn assigned(program: &Program, at: At, place: &Lval, e: &Expr, world: &mut World) -> Option<Stopped>
-    requires program { IsSound program.now }
+    requires program { IsRunnable program.now }
     requires world { IsSoundWorld program.now (world_of world.old) }
-    requires step { IsSoundStep program.now true (Assigns at.stmt (lvalue_of place.now) (term_of e.now)) }
+    requires step { IsRunnableStep program.now true (Assigns at.stmt (lvalue_of place.now) (term_of e.now)) }
     ensures by { (low : Enters) (here : AnyHere) (next : AnyTree) → in_kernel (statement program.now half.Kernel low here at (Assigns at.stmt (lvalue_of place.now) (term_of e.now)) next) (world_of world.old) ≡ goes_on result next (world_of world.new) }
     ensures sound { IsSoundWorld program.now (world_of world.new) }
 {
@@ -74,9 +74,9 @@ fn wrote(
     register: &Expr,
     world: &mut World,
 ) -> Result<Option<Stopped>, OutOfMemory>
-    requires program { IsSound program.now }
+    requires program { IsRunnable program.now }
     requires world { IsSoundWorld program.now (world_of world.old) }
-    requires args { IsSoundWritel program.now (term_of number.now ∷ term_of register.now ∷ []) }
+    requires args { IsRunnableWritel program.now (term_of number.now ∷ term_of register.now ∷ []) }
     ensures by { IfOk result (λ stop. (next : AnyTree) → in_kernel (values program.now at (term_of number.now ∷ term_of register.now ∷ []) (λ vs. Asks (record { service = service; at = at; args = vs; shapes = []; bytes = [] }) (λ results. next))) (world_of world.old) ≡ goes_on stop next (world_of world.new)) }
     ensures sound { IfOk result (λ stop. IsSoundWorld program.now (world_of world.new)) }
 {
@@ -99,9 +99,9 @@ fn called(
     form: &CallForm,
     world: &mut World,
 ) -> Result<Option<Stopped>, OutOfMemory>
-    requires program { IsSound program.now }
+    requires program { IsRunnable program.now }
     requires world { IsSoundWorld program.now (world_of world.old) }
-    requires form { IsSoundCall program.now true (called_of form.now.callee) (map term_of form.now.args) }
+    requires form { IsRunnableCall program.now true (called_of form.now.callee) (map term_of form.now.args) }
     ensures by { IfOk result (λ stop. (low : Enters) (here : AnyHere) (next : AnyTree) → in_kernel (values program.now at (map term_of form.now.args) (λ vs. call program.now half.Kernel low here at (called_of form.now.callee) vs (λ v. next))) (world_of world.old) ≡ goes_on stop next (world_of world.new)) }
     ensures sound { IfOk result (λ stop. IsSoundWorld program.now (world_of world.new)) }
 {
@@ -121,9 +121,9 @@ fn statement(
     next: &Stmt,
     world: &mut World,
 ) -> Result<Option<Stopped>, OutOfMemory>
-    requires program { IsSound program.now }
+    requires program { IsRunnable program.now }
     requires world { IsSoundWorld program.now (world_of world.old) }
-    requires step { IsSoundStep program.now true (code_of next.now) }
+    requires step { IsRunnableStep program.now true (code_of next.now) }
     ensures by { IfOk result (λ stop. (low : Enters) (here : AnyHere) (rest : AnyTree) → in_kernel (statement program.now half.Kernel low here at (code_of next.now) rest) (world_of world.old) ≡ goes_on stop rest (world_of world.new)) }
     ensures sound { IfOk result (λ stop. IsSoundWorld program.now (world_of world.new)) }
 {
@@ -164,9 +164,9 @@ fn turn(
     next: &Stmt,
     world: &mut World,
 ) -> Result<Option<Stopped>, OutOfMemory>
-    requires program { IsSound program.now }
+    requires program { IsRunnable program.now }
     requires world { IsSoundWorld program.now (world_of world.old) }
-    requires step { IsSoundStep program.now true (code_of next.now) }
+    requires step { IsRunnableStep program.now true (code_of next.now) }
     ensures by { IfOk result (λ stop. (low : Enters) (here : AnyHere) (rest : AnyTree) → in_kernel (Ticks at (statement program.now half.Kernel low here at (code_of next.now) rest)) (world_of world.old) ≡ goes_on stop rest (world_of world.new)) }
     ensures sound { IfOk result (λ stop. IsSoundWorld program.now (world_of world.new)) }
 {
@@ -185,9 +185,9 @@ fn statements(
     body: &[Stmt],
     world: &mut World,
 ) -> Result<Option<Stopped>, OutOfMemory>
-    requires program { IsSound program.now }
+    requires program { IsRunnable program.now }
     requires world { IsSoundWorld program.now (world_of world.old) }
-    requires body { IsSoundBody program.now true (codes_of body.now) }
+    requires body { IsRunnableBody program.now true (codes_of body.now) }
     ensures by { IfOk result (λ stop. (low : Enters) (depth : ℕ) → in_kernel (statements program.now half.Kernel low (record { func = func; depth = depth }) (codes_of body.now) (Ends wire.NoValue Nothing)) (world_of world.old) ≡ ran_of wire.NoValue stop (world_of world.new)) }
     ensures sound { IfOk result (λ stop. IsSoundWorld program.now (world_of world.new)) }
 {
@@ -224,7 +224,7 @@ pub(crate) fn kernel_call(
     func: u32,
     world: &mut World,
 ) -> Result<Option<Stopped>, OutOfMemory>
-    requires program { IsSound program.now }
+    requires program { IsRunnable program.now }
     requires function { is_kernel program.now func ≡ true }
     requires world { IsSoundWorld program.now (world_of world.old) }
     ensures by { IfOk result (λ stop. (args : List AnyWire) (depth : ℕ) → kernel_call program.now func args depth (world_of world.old) ≡ ran_of wire.NoValue stop (world_of world.new)) }

@@ -19,7 +19,7 @@ use Rattle.mdr_model.specs.Copies.{Told, agreed_after}
 use Rattle.mdr_model.specs.Kernel.{Kernel, Noted, calls, then_split, command_by, split_commands}
 use Rattle.mdr_model.specs.Faults.{params_of, args_fault}
 use Rattle.mdr_model.specs.User.{deliver, opened, call_fits}
-use Rattle.mdr_model.specs.Sound.{IsSoundFunc, IsSound, IsBound}
+use Rattle.mdr_model.specs.Runnable.{IsRunnableFunc, IsRunnable, IsBound}
 use Rattle.mdr_model.proofs.Tests.{and_both}
 use Rattle.mdr_model.proofs.Fair.{Knowledge, IsAmong, IsResultOf, Fair}
 use Rattle.mdr_model.proofs.Relations.{Agree}
@@ -30,21 +30,21 @@ use Rattle.mdr_model.proofs.Messages
 use Rattle.mdr_model.proofs.Serves.{Finishes, one_more, is_over, idle_user, GoesOn, Serves, serves, reply_of}
 
 -- a sound function has no parameters
-no_params : (program : Program) → IsSound program → (func : ℕ) → params_of (func_at program func) ≡ []
+no_params : (program : Program) → IsRunnable program → (func : ℕ) → params_of (func_at program func) ≡ []
 no_params program sound func = of (func_at program func) refl
   where
     of : (o : Option Func) → slice_get program.funcs func ≡ o → params_of o ≡ []
     of None e = refl
-    of (Some f) e = ap (λ (ps : List Param). map (λ (p : Param). p.ty) ps) (all_get (IsSoundFunc program) program.funcs func f sound.funcs e).params
+    of (Some f) e = ap (λ (ps : List Param). map (λ (p : Param). p.ty) ps) (all_get (IsRunnableFunc program) program.funcs func f sound.funcs e).params
 
 -- the user half accepts a call
-deliver_call : {program : Program} (fuel func e : ℕ) {K : Knowledge} (copy : Memory) (w : World) (told : Told) → is_user program func ≡ true → IsSound program → Messages.Messaged program K copy w e told
+deliver_call : {program : Program} (fuel func e : ℕ) {K : Knowledge} (copy : Memory) (w : World) (told : Told) → is_user program func ≡ true → IsRunnable program → Messages.Messaged program K copy w e told
     → deliver program fuel (idle_user copy) (Ok (message.Call func 0 w.rest [] told.deaths told.news (runs_of_cells w.view) told.runs))
     ≡ reply_of (Messages.waiting program told copy w e) w (agreed_after program told copy) w.rest (started program half.User fuel func [] 0)
 unfolding deliver opened call_fits args_fault
 deliver_call {program} fuel func e copy w told user sound m = rw (user, no_params program sound func, m.lives, m.cells, m.view) refl
 
-module _ (program : Program) (sound : IsSound program) (fuel : ℕ) where
+module _ (program : Program) (sound : IsRunnable program) (fuel : ℕ) where
   -- a script comes to its end
   abbrev pub FinishesAll : List ℕ → Type 0
   FinishesAll script = (K : Knowledge) (k : Kernel) → Agree program K k.agreed k.world → 2 * k.exchanges ≤ 4 * k.world.ticks + 6 * k.world.calls

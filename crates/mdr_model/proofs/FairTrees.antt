@@ -31,7 +31,8 @@ use Rattle.mdr_model.specs.Tree.{Tree}
 use Rattle.mdr_model.specs.Meaning.{func_at, critical_of, is_kernel, is_user, is_own, body_of, type_of_global, pointer_to, stop_of, given, value, values, Here, Enters, by_half, at_depth, call, keeps, statement, number_of, statements, function, started}
 use Rattle.mdr_model.specs.Faults.{params_of, args_fault}
 use Rattle.mdr_model.specs.Kernel.{callee_is, calls_func, any_calls, has_down_stub, has_number, any_has_number, is_user_place, user_stop}
-use Rattle.mdr_model.specs.Sound.{first_types, IsVariable, IsSoundPlace, IsSoundExpr, IsSoundWritel, IsSoundCall, IsSoundStep, IsSoundBody, IsSoundFunc, IsSound}
+use Rattle.mdr_core.specs.Types.{first_types}
+use Rattle.mdr_model.specs.Runnable.{IsVariable, IsRunnablePlace, IsRunnableExpr, IsRunnableWritel, IsRunnableCall, IsRunnableStep, IsRunnableBody, IsRunnableFunc, IsRunnable}
 use Rattle.mdr_model.proofs.Fair.{Knowledge, IsAmong, Grows, IsKnownPointer, IsValueAt, IsPlace, IsUserStop, Fair}
 use Rattle.mdr_model.proofs.Relations.{globals_of}
 use Rattle.mdr_model.proofs.HoldsLaws.{all_get, IsThere, get_inside}
@@ -76,7 +77,7 @@ first_calls : (c : Code) (cs body : Codes) → IsPart (Codes.Then c cs) body →
 first_calls c cs body part g e = part.calls g (or_left (calls_func g c) (any_calls g cs) e)
 
 -- a statement has its own number
-own_number : (program : Program) (is_critical : Bool) (c : Code) → IsSoundStep program is_critical c → has_number (number_of c) c ≡ true
+own_number : (program : Program) (is_critical : Bool) (c : Code) → IsRunnableStep program is_critical c → has_number (number_of c) c ≡ true
 own_number program is_critical (Code.Assign n place e) s = eq-eqb n n refl
 own_number program is_critical (Code.Call n goal form) s = eq-eqb n n refl
 own_number program is_critical _ s = elim s [ ]
@@ -116,7 +117,7 @@ number_in_range k wire.NoValue e = absurd (Prim.cc)
 of_kind : (k : Kind) (n : ℤ) → is_in_range k n ≡ true → IsOfKind k (wire.Int k n)
 of_kind k n e = record { fit = and_from (is_same_kind k k) (is_in_range k n) (same_kind k) e }
 
-fits_kind : (program : Program) (k : Kind) (v : Wire) → IsSound program → fits program (kind_number k) v ≡ fits_type (ty.Int k) v
+fits_kind : (program : Program) (k : Kind) (v : Wire) → IsRunnable program → fits program (kind_number k) v ≡ fits_type (ty.Int k) v
 unfolding fits
 fits_kind program k v sound = ap (λ (t : Option Ty). fits_maybe t v) (ap (λ (ts : List Ty). slice_get ts (kind_number k)) sound.types ∙ kind_type k)
 
@@ -135,7 +136,7 @@ variable_type : (program : Program) (g : ℕ) (k : Kind) → IsVariable program 
 variable_type program g k v = ap type_of_global v.declared ∙ ap type_number v.kind
 
 -- code names known cells alone
-known_place : (program : Program) (place : Lvalue) (k : Kind) (K : Knowledge) → IsSoundPlace program place k → Grows (globals_of program) K → IsKnownPointer K (pointer_to program place)
+known_place : (program : Program) (place : Lvalue) (k : Kind) (K : Knowledge) → IsRunnablePlace program place k → Grows (globals_of program) K → IsKnownPointer K (pointer_to program place)
 unfolding pointer_to is_view_of first_memory
 known_place program (Lvalue.Global g) k K v grows =
     let t : ℕ = type_of_global (slice_get program.globals g) in
@@ -152,13 +153,13 @@ known_place program (Lvalue.Global g) k K v grows =
 known_place program _ k K v grows = elim v [ ]
 
 -- and stores values of their types
-value_at_place : (program : Program) (place : Lvalue) (k : Kind) (v : Wire) → IsSound program → IsSoundPlace program place k → IsOfKind k v → IsValueAt program (pointer_to program place) v
+value_at_place : (program : Program) (place : Lvalue) (k : Kind) (v : Wire) → IsRunnable program → IsRunnablePlace program place k → IsOfKind k v → IsValueAt program (pointer_to program place) v
 unfolding pointer_to
 value_at_place program (Lvalue.Global g) k v sound is_variable h =
     ap (λ (n : ℕ). fits program n v) (variable_type program g k is_variable) ∙ fits_kind program k v sound ∙ h.fit
 value_at_place program _ k v sound is_variable h = elim is_variable [ ]
 
-value_of_place : (program : Program) (place : Lvalue) (k : Kind) (v : Wire) → IsSound program → IsSoundPlace program place k → IsValueAt program (pointer_to program place) v → IsOfKind k v
+value_of_place : (program : Program) (place : Lvalue) (k : Kind) (v : Wire) → IsRunnable program → IsRunnablePlace program place k → IsValueAt program (pointer_to program place) v → IsOfKind k v
 unfolding pointer_to
 value_of_place program (Lvalue.Global g) k v sound is_variable h = record {
   fit = sym (ap (λ (n : ℕ). fits program n v) (variable_type program g k is_variable) ∙ fits_kind program k v sound) ∙ h;
@@ -194,7 +195,7 @@ record IsBody (program : Program) (side : Half) (func : ℕ) (f : Func) (body : 
   own : IsOfHalf side f.critical
   called : IsFunctionOf program side func
   has : codes_of (body_of (Some f)) ≡ body
-  steps : IsSoundBody program f.critical body
+  steps : IsRunnableBody program f.critical body
 
 record HasBody (program : Program) (side : Half) (func : ℕ) : Type 0 where
   f : Func
@@ -224,13 +225,13 @@ function_half program half.User func f e at =
     ap critical_of (sym at) ∙ not_true (is_kernel program func) (and_second (nat_lt func (length program.funcs)) (not (is_kernel program func)) e)
 function_half program half.Kernel func f e at = ap critical_of (sym at) ∙ e
 
-sound_func : (program : Program) (func : ℕ) (f : Func) → IsSound program → func_at program func ≡ Some f → IsSoundFunc program f
-sound_func program func f sound at = all_get (IsSoundFunc program) program.funcs func f sound.funcs at
+sound_func : (program : Program) (func : ℕ) (f : Func) → IsRunnable program → func_at program func ≡ Some f → IsRunnableFunc program f
+sound_func program func f sound at = all_get (IsRunnableFunc program) program.funcs func f sound.funcs at
 
-has_body : (program : Program) (side : Half) (func : ℕ) → IsSound program → IsFunctionOf program side func → HasBody program side func
+has_body : (program : Program) (side : Half) (func : ℕ) → IsRunnable program → IsFunctionOf program side func → HasBody program side func
 has_body program side func sound e =
     let there : IsThere (func_at program func) = function_there program side func e in
-    let s : IsSoundFunc program there.item = sound_func program func there.item sound there.found_is in
+    let s : IsRunnableFunc program there.item = sound_func program func there.item sound there.found_is in
     record {
       f = there.item;
       body = codes_of s.statements;
@@ -244,15 +245,15 @@ has_body program side func sound e =
     }
 
 -- a sound function has no parameters
-no_params : (program : Program) (func : ℕ) → IsSound program → is_kernel program func ≡ true → params_of (func_at program func) ≡ []
+no_params : (program : Program) (func : ℕ) → IsRunnable program → is_kernel program func ≡ true → params_of (func_at program func) ≡ []
 no_params program func sound kernel =
     let there : IsThere (func_at program func) = function_there program half.Kernel func kernel in
-    let s : IsSoundFunc program there.item = sound_func program func there.item sound there.found_is in
+    let s : IsRunnableFunc program there.item = sound_func program func there.item sound there.found_is in
     ap params_of there.found_is ∙ ap (map (λ p. p.ty)) s.params
 
 -- ---- the tree of a body
 
-module _ (program : Program) (sound : IsSound program) (side : Half) (func : ℕ) (f : Func) (body : Codes) (runs : IsBody program side func f body) where
+module _ (program : Program) (sound : IsRunnable program) (side : Half) (func : ℕ) (f : Func) (body : Codes) (runs : IsBody program side func f body) where
   -- whatever is known beyond the globals, and whatever credit is left
   record IsFair (t : Tree) : Type 0 where
     by : (K : Knowledge) (credit : ℕ) → Grows (globals_of program) K → Fair program side func K credit t
@@ -261,7 +262,7 @@ module _ (program : Program) (sound : IsSound program) (side : Half) (func : ℕ
   body_is = ap (λ (o : Option Func). codes_of (body_of o)) runs.found ∙ runs.has
 
   -- a statement's place
-  statement_place : (c : Code) (cs : Codes) → IsSoundStep program f.critical c → IsPart (Codes.Then c cs) body → IsPlace program side (record { func = func; stmt = number_of c })
+  statement_place : (c : Code) (cs : Codes) → IsRunnableStep program f.critical c → IsPart (Codes.Then c cs) body → IsPlace program side (record { func = func; stmt = number_of c })
   unfolding is_user_place
   statement_place c cs s part = of side runs.called
     where
@@ -279,7 +280,7 @@ module _ (program : Program) (sound : IsSound program) (side : Half) (func : ℕ
   given_fair (Ok n) k at next K credit place ranged later = later (wire.Int k n) (of_kind k n (ranged n refl))
   given_fair (Err why) k at next K credit place ranged later = (place, operator_stop why)
 
-  value_fair : (e : Term) (k : Kind) (at : At) (next : Wire → Tree) (K : Knowledge) (credit : ℕ) → IsSoundExpr program e k → IsPlace program side at → Grows (globals_of program) K
+  value_fair : (e : Term) (k : Kind) (at : At) (next : Wire → Tree) (K : Knowledge) (credit : ℕ) → IsRunnableExpr program e k → IsPlace program side at → Grows (globals_of program) K
       → ((v : Wire) → IsOfKind k v → Fair program side func K credit (next v)) → Fair program side func K credit (value program at e next)
   value_fair (Term.Lit v) k at next K credit s place grows later = later (wire_of v) (record { fit = s })
   value_fair (Term.Load p) k at next K credit s place grows later =
@@ -298,7 +299,7 @@ module _ (program : Program) (sound : IsSound program) (side : Half) (func : ℕ
   value_fair _ k at next K credit s place grows later = elim s [ ]
 
   -- `writel` of two u32 numbers
-  writel_fair : (n : ℕ) (args : List Term) (at : At) (next : List Wire → Tree) (K : Knowledge) (credit : ℕ) → n ≡ 5 → IsSoundWritel program args → IsPlace program side at → Grows (globals_of program) K
+  writel_fair : (n : ℕ) (args : List Term) (at : At) (next : List Wire → Tree) (K : Knowledge) (credit : ℕ) → n ≡ 5 → IsRunnableWritel program args → IsPlace program side at → Grows (globals_of program) K
       → ((K' : Knowledge) → Grows (globals_of program) K' → (vs : List Wire) → Fair program side func K' credit (next vs))
       → Fair program side func K (suc credit) (values program at args (λ vs. Tree.Ask (record { service = n; at = at; args = vs; shapes = []; bytes = [] }) next))
   unfolding args_fault
@@ -372,7 +373,7 @@ module _ (program : Program) (sound : IsSound program) (side : Half) (func : ℕ
             λ K' more v given. later K' (record { stays = λ b h. more.stays b (grows.stays b h) }) v,
           )
 
-      called_fair : (goal : Goal) (callee : Called) (args : List Term) (at : At) (next : Tree) (K : Knowledge) (credit : ℕ) → goal ≡ Goal.Nowhere → IsSoundCall program f.critical callee args
+      called_fair : (goal : Goal) (callee : Called) (args : List Term) (at : At) (next : Tree) (K : Knowledge) (credit : ℕ) → goal ≡ Goal.Nowhere → IsRunnableCall program f.critical callee args
           → ((g : ℕ) → callee_is g callee ≡ true → any_calls g body ≡ true) → IsPlace program side at → Grows (globals_of program) K → IsFair next
           → Fair program side func K (suc credit) (values program at args (λ vs. call program side low here at callee vs (λ v. keeps program at goal v next)))
       called_fair (Goal.Into l) callee args at next K credit unused s named place grows later = absurd (Prim.cc)
@@ -384,7 +385,7 @@ module _ (program : Program) (sound : IsSound program) (side : Half) (func : ℕ
       called_fair Goal.Nowhere (Called.Service n) args at next K credit unused s named place grows later =
           writel_fair n args at (λ results. next) K credit s.0 s.1 place grows (λ K' more vs. later.by K' credit more)
 
-      statement_fair : (c : Code) (at : At) (next : Tree) (K : Knowledge) (credit : ℕ) → IsSoundStep program f.critical c → ((g : ℕ) → calls_func g c ≡ true → any_calls g body ≡ true)
+      statement_fair : (c : Code) (at : At) (next : Tree) (K : Knowledge) (credit : ℕ) → IsRunnableStep program f.critical c → ((g : ℕ) → calls_func g c ≡ true → any_calls g body ≡ true)
           → IsPlace program side at → Grows (globals_of program) K → IsFair next → Fair program side func K (suc credit) (statement program side low here at c next)
       statement_fair (Code.Assign n p e) at next K credit s named place grows later =
           value_fair e s.0 at (λ v. Tree.Store at (pointer_to program p) v next) K (suc credit) s.2 place grows
@@ -393,7 +394,7 @@ module _ (program : Program) (sound : IsSound program) (side : Half) (func : ℕ
           called_fair goal form.callee form.args at next K credit s.0 s.1 named place grows later
       statement_fair _ at next K credit s named place grows later = elim s [ ]
 
-      statements_fair : (cs : Codes) (next : Tree) → IsSoundBody program f.critical cs → IsPart cs body → IsFair next → IsFair (statements program side low here cs next)
+      statements_fair : (cs : Codes) (next : Tree) → IsRunnableBody program f.critical cs → IsPart cs body → IsFair next → IsFair (statements program side low here cs next)
       statements_fair Codes.End next sounds part later = later
       statements_fair (Codes.Then c cs) next sounds part later =
           let at : At = record { func = func; stmt = number_of c } in
@@ -406,7 +407,7 @@ module _ (program : Program) (sound : IsSound program) (side : Half) (func : ℕ
     abbrev over : Here
     over = record { func = func; depth = depth }
 
-    called_same : (goal : Goal) (callee : Called) (args : List Term) (at : At) (next : Tree) → goal ≡ Goal.Nowhere → IsSoundCall program f.critical callee args
+    called_same : (goal : Goal) (callee : Called) (args : List Term) (at : At) (next : Tree) → goal ≡ Goal.Nowhere → IsRunnableCall program f.critical callee args
         → values program at args (λ vs. call program side low over at callee vs (λ v. keeps program at goal v next)) ≡ values program at args (λ vs. call program side low' over at callee vs (λ v. keeps program at goal v next))
     called_same goal (Called.Direct g) args at next unused s =
         let next' : Wire → Tree = λ v. keeps program at goal v next in
@@ -414,12 +415,12 @@ module _ (program : Program) (sound : IsSound program) (side : Half) (func : ℕ
     called_same goal (Called.Service n) args at next unused s = refl
     called_same goal (Called.Through e) args at next unused s = elim s [ ]
 
-    statement_same : (c : Code) (at : At) (next : Tree) → IsSoundStep program f.critical c → statement program side low over at c next ≡ statement program side low' over at c next
+    statement_same : (c : Code) (at : At) (next : Tree) → IsRunnableStep program f.critical c → statement program side low over at c next ≡ statement program side low' over at c next
     statement_same (Code.Assign n p e) at next s = refl
     statement_same (Code.Call n goal form) at next s = called_same goal form.callee form.args at next s.0 s.1
     statement_same _ at next s = elim s [ ]
 
-    statements_same : (cs : Codes) (next : Tree) → IsSoundBody program f.critical cs → statements program side low over cs next ≡ statements program side low' over cs next
+    statements_same : (cs : Codes) (next : Tree) → IsRunnableBody program f.critical cs → statements program side low over cs next ≡ statements program side low' over cs next
     statements_same Codes.End next sounds = refl
     statements_same (Codes.Then c cs) next sounds =
         let at : At = record { func = func; stmt = number_of c } in
@@ -430,7 +431,7 @@ module _ (program : Program) (sound : IsSound program) (side : Half) (func : ℕ
   ends_fair = record { by = λ K credit grows. record { fits = refl } }
 
 -- whatever credit it begins with, and whatever is known as long as the globals are
-pub fair_started : (program : Program) → IsSound program → (side : Half) (n func : ℕ) (args : List Wire) (depth : ℕ) (K : Knowledge) (credit : ℕ) → IsFunctionOf program side func → IsShallow side depth
+pub fair_started : (program : Program) → IsRunnable program → (side : Half) (n func : ℕ) (args : List Wire) (depth : ℕ) (K : Knowledge) (credit : ℕ) → IsFunctionOf program side func → IsShallow side depth
     → ((b : New) → IsAmong b (globals_of program) → IsAmong b K) → Fair program side func K credit (started program side (suc n) func args depth)
 unfolding function
 fair_started program sound side n func args depth K credit called shallow known =
@@ -444,17 +445,17 @@ fair_started program sound side n func args depth K credit called shallow known 
     (is_fair.by K credit (record { stays = known }))
 
 -- what a command starts
-pub fair_user : (program : Program) → IsSound program → (n func : ℕ) (K : Knowledge) (credit : ℕ) → is_user program func ≡ true → ((b : New) → IsAmong b (globals_of program) → IsAmong b K)
+pub fair_user : (program : Program) → IsRunnable program → (n func : ℕ) (K : Knowledge) (credit : ℕ) → is_user program func ≡ true → ((b : New) → IsAmong b (globals_of program) → IsAmong b K)
     → Fair program half.User func K credit (started program half.User (suc n) func [] 0)
 fair_user program sound n func K credit called known = fair_started program sound half.User n func [] 0 K credit called (omega arith) known
 
 -- what a command or a downcall starts in the kernel half
-pub fair_kernel : (program : Program) → IsSound program → (n func : ℕ) (args : List Wire) (depth : ℕ) (K : Knowledge) (credit : ℕ) → is_kernel program func ≡ true
+pub fair_kernel : (program : Program) → IsRunnable program → (n func : ℕ) (args : List Wire) (depth : ℕ) (K : Knowledge) (credit : ℕ) → is_kernel program func ≡ true
     → ((b : New) → IsAmong b (globals_of program) → IsAmong b K) → Fair program half.Kernel func K credit (started program half.Kernel (suc n) func args depth)
 fair_kernel program sound n func args depth K credit called known = fair_started program sound half.Kernel n func args depth K credit called tt known
 
 -- a sound function enters no body of its own half, so fuel is no matter
-pub same_started : (program : Program) → IsSound program → (side : Half) (n m func : ℕ) (args : List Wire) (depth : ℕ) → IsFunctionOf program side func
+pub same_started : (program : Program) → IsRunnable program → (side : Half) (n m func : ℕ) (args : List Wire) (depth : ℕ) → IsFunctionOf program side func
     → started program side (suc n) func args depth ≡ started program side (suc m) func args depth
 unfolding function
 same_started program sound side n m func args depth called =

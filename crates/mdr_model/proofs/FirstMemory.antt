@@ -10,11 +10,13 @@ use Rattle.mdr_core.specs.declared.program.GlobalDef.{GlobalDef}
 use Rattle.mdr_model.specs.declared.wire.Wire.{Wire}
 use Rattle.mdr_model.specs.Values.{type_number, fits, fits_maybe, fits_type, wire_of}
 use Rattle.mdr_model.specs.Memory.{global_blocks, first_memory}
-use Rattle.mdr_model.specs.Sound.{first_types, IsCellType, IsSoundGlobal, IsSound}
+use Rattle.mdr_core.specs.Types.{first_types}
+use Rattle.mdr_model.specs.Built.{IsBuiltCell}
+use Rattle.mdr_model.specs.Runnable.{IsRunnableGlobal, IsRunnable}
 use Rattle.mdr_model.proofs.FairTrees.{kind_type}
 use Rattle.mdr_model.proofs.Relations.{IsFilled, Holds}
 
-type_named : (t : Ty) → IsCellType t → slice_get first_types (type_number t) ≡ Some t
+type_named : (t : Ty) → IsBuiltCell t → slice_get first_types (type_number t) ≡ Some t
 type_named (ty.Int k) cell = kind_type k
 type_named ty.Lock cell = refl
 type_named _ cell = elim cell [ ]
@@ -23,7 +25,7 @@ length-map : {A B : Type 0} (f : A → B) (xs : List A) → length (map f xs) �
 length-map f [] = refl
 length-map f (x ∷ xs) = ap suc (length-map f xs)
 
-first_values : (program : Program) (t : Ty) (vs : List Value) → IsSound program → IsCellType t → AllByRecursion (λ (v : Value). fits_type t (wire_of v) ≡ true) vs
+first_values : (program : Program) (t : Ty) (vs : List Value) → IsRunnable program → IsBuiltCell t → AllByRecursion (λ (v : Value). fits_type t (wire_of v) ≡ true) vs
     → AllByRecursion (λ (v : Wire). fits program (type_number t) v ≡ true) (map wire_of vs)
 unfolding fits
 first_values program t [] sound cell all = tt
@@ -32,13 +34,13 @@ first_values program t (v ∷ vs) sound cell all = (
   first_values program t vs sound cell all.1,
 )
 
-filled_from : (program : Program) (n : ℕ) (gs : List GlobalDef) → IsSound program → AllByRecursion IsSoundGlobal gs → AllByRecursion (IsFilled program) (global_blocks n gs)
+filled_from : (program : Program) (n : ℕ) (gs : List GlobalDef) → IsRunnable program → AllByRecursion IsRunnableGlobal gs → AllByRecursion (IsFilled program) (global_blocks n gs)
 filled_from program n [] sound all = tt
 filled_from program n (g ∷ gs) sound all = (
   record { size = length-map wire_of g.init ∙ all.0.first; fit = first_values program g.ty g.init sound all.0.cell all.0.fit },
   filled_from program (suc n) gs sound all.1,
 )
 
-pub first_holds : (program : Program) → IsSound program → Holds program (first_memory program)
+pub first_holds : (program : Program) → IsRunnable program → Holds program (first_memory program)
 unfolding first_memory
 first_holds program sound = record { born = refl; filled = filled_from program 0 program.globals sound sound.globals }

@@ -11,7 +11,7 @@ use Rattle.mdr_model.specs.Tree.{Asked, Tree}
 use Rattle.mdr_model.specs.Meaning.{func_at, is_kernel}
 use Rattle.mdr_model.specs.World.{World, Ran, Ended, Stopped, after, counted, when_loaded, when_stored, written, written_if, is_writel, served, as_now, in_kernel, kernel_call}
 use Rattle.mdr_model.specs.Kernel.{has_down_stub, result_type}
-use Rattle.mdr_model.specs.Sound.{IsSound}
+use Rattle.mdr_model.specs.Runnable.{IsRunnable}
 use Rattle.mdr_model.proofs.Fair.{IsResultOf, IsServed, Fair}
 use Rattle.mdr_model.proofs.Relations.{Holds, globals_of}
 use Rattle.mdr_model.proofs.ValueLaws.{result_is_normal}
@@ -110,7 +110,7 @@ module _ (program : Program) (func : ℕ) (first : World) where
   tree_leaves (Tree.Cross at g args depth k) zero fair w l = elim fair [ ]
   tree_leaves (Tree.Cross at g args depth k) (suc credit) fair w l = ended _ w l (record { fits = refl })
 
-pub kernel_leaves : {program : Program} (func : ℕ) (args : List Wire) (depth : ℕ) (w : World) → IsSound program → is_kernel program func ≡ true → Holds program w.memory → Leaves (Later program w) (IsResultOf program func) (kernel_call program func args depth w)
+pub kernel_leaves : {program : Program} (func : ℕ) (args : List Wire) (depth : ℕ) (w : World) → IsRunnable program → is_kernel program func ≡ true → Holds program w.memory → Leaves (Later program w) (IsResultOf program func) (kernel_call program func args depth w)
 unfolding kernel_call
 kernel_leaves {program} func args depth w sound kernel holds =
     tree_leaves program func w _ 0 (fair_kernel program sound w.rest func args depth (globals_of program) 0 kernel (λ b h. h)) w

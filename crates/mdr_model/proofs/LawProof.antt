@@ -19,7 +19,7 @@ use Rattle.mdr_model.specs.Copies.{agreed_after}
 use Rattle.mdr_model.specs.Kernel.{Kernel, Pending, Over, Waits, Reading, next, split_commands, first_kernel, run_from_pending, split_run}
 use Rattle.mdr_model.specs.User.{User, Work, Nothing, AwaitsBack, AwaitsAnswer, Runs, Delivered, Opened, deliver, opened, done, when_fits, call_fits, told, first_user, user_after, user_reply, allowance}
 use Rattle.mdr_model.specs.Outcome.{outcome_of}
-use Rattle.mdr_model.specs.Sound.{IsSound, IsBound}
+use Rattle.mdr_model.specs.Runnable.{IsRunnable, IsBound}
 use Rattle.mdr_model.specs.Law.{read, IsHonest, IsOwn, IsOneMemory}
 use Rattle.mdr_model.proofs.Tests.{and_left}
 use Rattle.mdr_model.proofs.Relations.{globals_of, Holds, Agree}
@@ -36,7 +36,7 @@ user_of_fits : (program : Program) (copy : Memory) (func depth : ℕ) (args : Li
 unfolding call_fits
 user_of_fits program copy func depth args deaths news view runs e = and_left _ _ (and_left _ _ (and_left _ _ (and_left _ _ e)))
 
-module _ (program : Program) (sound : IsSound program) (n m : ℕ) where
+module _ (program : Program) (sound : IsRunnable program) (n m : ℕ) where
   same_call : (copy : Memory) (func depth rest : ℕ) (args : List Wire) (deaths : List ℕ) (news : List New) (view : List SetRun) (runs : List Run)
       → opened program (suc n) copy Nothing (message.Call func depth rest args deaths news view runs) ≡ opened program (suc m) copy Nothing (message.Call func depth rest args deaths news view runs)
   unfolding opened
@@ -73,7 +73,7 @@ module _ (program : Program) (sound : IsSound program) (n m : ℕ) where
   same_user u (x ∷ xs) = ap (λ (d : Delivered). user_after program (suc n) d.user xs) (same_delivered u x) ∙ same_user (deliver program (suc m) u x).user xs
 
 -- the reply made with any fuel
-pub reply_with : (program : Program) (sound : IsSound program) (fuel : ℕ) (before : List Reading) (last : Reading)
+pub reply_with : (program : Program) (sound : IsRunnable program) (fuel : ℕ) (before : List Reading) (last : Reading)
     → user_reply program before last ≡ (deliver program (suc fuel) (user_after program (suc fuel) (first_user program) before) last).reply
 unfolding user_reply
 reply_with program sound fuel before last =
@@ -87,7 +87,7 @@ read-append : (xs : List Message) (x : Message) → read (xs ++ x ∷ []) ≡ re
 read-append [] x = refl
 read-append (y ∷ ys) x = ap (λ (zs : List Reading). Ok y ∷ zs) (read-append ys x)
 
-module _ (program : Program) (sound : IsSound program) where
+module _ (program : Program) (sound : IsRunnable program) where
   -- the user half after messages, with fuel for one call
   abbrev told_user : List Message → User
   told_user before = user_after program 1 (first_user program) (read before)
@@ -166,7 +166,7 @@ own_end program (f ∷ fs) w = after_own (called_by (is_kernel program f) progra
 
 -- ---- the law
 
-pub split_is_one_memory : (program : Program) (script : List ℕ) (budget : ℕ) → IsSound program → IsBound program script → IsOneMemory program script budget
+pub split_is_one_memory : (program : Program) (script : List ℕ) (budget : ℕ) → IsRunnable program → IsBound program script → IsOneMemory program script budget
 unfolding split_run watched first_kernel first_world first_user user_after
 split_is_one_memory program script budget sound named =
     let k0 : Kernel = first_kernel program budget in

@@ -6,6 +6,7 @@ pub mod CopyLaws
 pub mod Fair
 pub mod Relations
 pub mod HoldsLaws
+pub mod BuiltLaws
 pub mod FairTrees
 pub mod AlikeLaws
 pub mod FuelLaws

@@ -21,7 +21,7 @@ use Rattle.mdr_model.specs.Watched.{renewed, in_user, Finish, finish, and_then, 
 use Rattle.mdr_model.specs.Copies.{Told, tells_no_cells, agreed_after, put_runs}
 use Rattle.mdr_model.specs.Kernel.{Kernel, Rest, Noted, Pending, Over, Waits, fault_of, upcall_of, applied, stop_number, user_stop, next, judged, taken, continued, downcalled, serviced, comes_back, answers}
 use Rattle.mdr_model.specs.User.{User, Nothing, AwaitsBack, AwaitsAnswer, Runs, Delivered, deliver, opened, replied, replied_to, back_fits, answer_fits, when_fits, still_live, told as user_told, done as user_done}
-use Rattle.mdr_model.specs.Sound.{IsSound}
+use Rattle.mdr_model.specs.Runnable.{IsRunnable}
 use Rattle.mdr_model.proofs.Fair.{Knowledge, Grows, Fair, IsKnownPointer, IsValueAt, IsPlace, IsUserStop, IsAskable, IsDowncall, IsResultOf, IsServed}
 use Rattle.mdr_model.proofs.Relations.{Agree, Rel}
 use Rattle.mdr_model.proofs.Accesses
@@ -172,7 +172,7 @@ deliver_answer {program} fuel e copy w left view results asked goes told none sa
 
 -- ---- the induction
 
-module _ (program : Program) (sound : IsSound program) (fuel : ℕ) (rest : Rest) (goes_on : GoesOn program fuel rest) where
+module _ (program : Program) (sound : IsRunnable program) (fuel : ℕ) (rest : Rest) (goes_on : GoesOn program fuel rest) where
   -- a reply after which the run is over
   stops_at : {K : Knowledge} {k : Kernel} {w : World} {um : Memory} (credit : ℕ) (kind : StopKind) (at : At) → Rel program K k w um → IsPlace program half.User at → IsUserStop kind → Replies.IsWithin k w credit
       → Finishes program fuel (next program (Ok (message.Stop (Replies.used k w) (stop_number kind) at (Replies.told_runs k w um))) k rest)

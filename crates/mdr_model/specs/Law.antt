@@ -8,7 +8,9 @@ use Rattle.mdr_model.specs.Watched.{finish, watched}
 use Rattle.mdr_model.specs.Kernel.{Kernel, Over, Reading, split_run}
 use Rattle.mdr_model.specs.User.{user_reply}
 use Rattle.mdr_model.specs.Outcome.{outcome_of}
-use Rattle.mdr_model.specs.Sound.{IsSound, IsBound}
+use Rattle.mdr_core.specs.Sound.{IsSound}
+use Rattle.mdr_model.specs.Built.{IsBuilt}
+use Rattle.mdr_model.specs.Runnable.{IsBound}
 
 -- messages that were read
 abbrev pub read : List Message → List Reading
@@ -47,6 +49,6 @@ pub record IsOneMemory (program : Program) (script : List ℕ) (budget : ℕ) : 
       × IsHonest program [] (split_run program script budget (read answers)).sent answers
       × ((split_run program script budget (read answers)).pending ≡ Over end k)
 
--- the law for every sound program, every script of its functions and every budget
+-- the law for every sound program that is built, every script of its functions and every budget
 abbrev pub SplitIsOneMemory : Type 0
-SplitIsOneMemory = (program : Program) (script : List ℕ) (budget : ℕ) → IsSound program → IsBound program script → IsOneMemory program script budget
+SplitIsOneMemory = (program : Program) (script : List ℕ) (budget : ℕ) → IsSound program → IsBuilt program → IsBound program script → IsOneMemory program script budget

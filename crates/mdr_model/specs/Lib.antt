@@ -16,7 +16,8 @@ pub mod Kernel
 pub mod User
 pub mod Outcome
 pub mod Report
-pub mod Sound
+pub mod Built
+pub mod Runnable
 pub mod Holds
 pub mod Law
 pub mod Bytes

@@ -26,7 +26,7 @@ use Rattle.mdr_model.specs.Watched.{watched, finish}
 use Rattle.mdr_model.specs.Kernel.{Kernel, Over, split_run}
 use Rattle.mdr_model.specs.Outcome.{outcome_of}
 use Rattle.mdr_model.specs.Report.{report}
-use Rattle.mdr_model.specs.Sound.{first_types}
+use Rattle.mdr_core.specs.Types.{first_types}
 use Rattle.mdr_model.specs.Law.{read, IsHonest}
 
 abbrev pub number : ℕ → Expr

@@ -18,7 +18,8 @@ use Rattle.mdr_model.specs.Memory.{Memory, births, born_at, cell_at, first_memor
 use Rattle.mdr_model.specs.Sets.{is_same_cell, is_in, cells_from, is_keyed, visible_of}
 use Rattle.mdr_model.specs.Copies.{held}
 use Rattle.mdr_model.specs.Faults.{fits_block, fits_cell}
-use Rattle.mdr_model.specs.Sound.{first_types, IsSoundGlobal, IsSound}
+use Rattle.mdr_core.specs.Types.{first_types}
+use Rattle.mdr_model.specs.Runnable.{IsRunnableGlobal, IsRunnable}
 use Rattle.mdr_model.proofs.Tests.{not_both, and_left, and_right}
 use Rattle.mdr_model.proofs.Fair.{IsAmong}
 use Rattle.mdr_model.proofs.Relations.{globals_of, Holds}
@@ -76,7 +77,7 @@ table_value : (o : Option Ty) (v : Wire) → (o ≡ Some ty.Lock → ⊥) → fi
 table_value None v other e = differ e
 table_value (Some t) v other e = typed_is_value t v (λ h. other (ap (λ (x : Ty). Some x) h)) e
 
-pub fits_is_value : (program : Program) (n : ℕ) (v : Wire) → IsSound program → n ≢ 8 → fits program n v ≡ true → IsValue v
+pub fits_is_value : (program : Program) (n : ℕ) (v : Wire) → IsRunnable program → n ≢ 8 → fits program n v ≡ true → IsValue v
 unfolding fits
 fits_is_value program n v sound other e =
     table_value (slice_get first_types n) v (λ h. other (lock_is_eight n h)) (ap (λ (ts : List Ty). fits_maybe (slice_get ts n) v) (sym sound.types) ∙ e)
@@ -108,14 +109,14 @@ pub record IsSmallBlock (limit : ℕ) (b : New) : Type 0 where
   pub type_number : b.ty < 10
   pub count : b.count ≤ 65536
 
-blocks_from : (limit n : ℕ) (gs : List GlobalDef) → n + length gs ≤ limit → AllByRecursion IsSoundGlobal gs → AllByRecursion (IsSmallBlock limit) (births (global_blocks n gs))
+blocks_from : (limit n : ℕ) (gs : List GlobalDef) → n + length gs ≤ limit → AllByRecursion IsRunnableGlobal gs → AllByRecursion (IsSmallBlock limit) (births (global_blocks n gs))
 blocks_from limit n [] h all = tt
 blocks_from limit n (g ∷ gs) h all = (
   record { serial = omega arith; type_number = type_small g.ty; count = all.0.limited },
   blocks_from limit (suc n) gs (omega arith) all.1,
 )
 
-pub small_blocks : (program : Program) → IsSound program → AllByRecursion (IsSmallBlock (length program.globals)) (globals_of program)
+pub small_blocks : (program : Program) → IsRunnable program → AllByRecursion (IsSmallBlock (length program.globals)) (globals_of program)
 unfolding first_memory
 small_blocks program sound = blocks_from (length program.globals) 0 program.globals (omega arith) sound.globals
 
@@ -162,7 +163,7 @@ pub record IsShown (program : Program) (m : Memory) (c : Cell) : Type 0 where
 abbrev pub cells_shown : Program → List Cell
 cells_shown program = visible_of program (globals_of program)
 
-pub all_shown : (program : Program) (m : Memory) → IsSound program → births m ≡ globals_of program → AllByRecursion (IsShown program m) (cells_shown program)
+pub all_shown : (program : Program) (m : Memory) → IsRunnable program → births m ≡ globals_of program → AllByRecursion (IsShown program m) (cells_shown program)
 all_shown program m sound born = visible_all program (IsShown program m) (globals_of program) (λ b among keyed i inside.
     let small : IsSmallBlock (length program.globals) b = all_among (IsSmallBlock (length program.globals)) (globals_of program) b (small_blocks program sound) among in
     record {
@@ -175,13 +176,13 @@ all_shown program m sound born = visible_all program (IsShown program m) (global
     })
 
 -- a value that fits such a cell has a spelling
-pub fitting_is_value : (program : Program) (m : Memory) (c : Cell) (v : Wire) → IsSound program → IsShown program m c → fits_cell program m (record { cell = c; value = v }) ≡ true → IsValue v
+pub fitting_is_value : (program : Program) (m : Memory) (c : Cell) (v : Wire) → IsRunnable program → IsShown program m c → fits_cell program m (record { cell = c; value = v }) ≡ true → IsValue v
 unfolding fits_cell
 fitting_is_value program m c v sound shown e =
     fits_is_value program shown.block.ty v sound shown.other (ap (λ (o : Option New). fits_block program o v) (sym shown.born) ∙ e)
 
 -- and so has what the cell holds
-pub held_is_value : (program : Program) (m : Memory) (c : Cell) → IsSound program → Holds program m → IsShown program m c → IsValue (held m c)
+pub held_is_value : (program : Program) (m : Memory) (c : Cell) → IsRunnable program → Holds program m → IsShown program m c → IsValue (held m c)
 unfolding held
 held_is_value program m c sound holds shown =
     let there : IsThere (cell_at m c) = cell_there program m c shown.block holds.filled shown.born shown.inside in

@@ -7,7 +7,7 @@ use Rattle.mdr_model.specs.Text.{text}
 use Rattle.mdr_model.specs.Reading.{reading_of}
 use Rattle.mdr_model.specs.Kernel.{Pending, Over, Waits, Reading, SplitRun, next, first_kernel, split_commands, run_from_pending, split_run}
 use Rattle.mdr_model.specs.User.{user_reply}
-use Rattle.mdr_model.specs.Sound.{IsSound, IsBound}
+use Rattle.mdr_model.specs.Runnable.{IsRunnable, IsBound}
 use Rattle.mdr_model.specs.Law.{read, IsHonest, IsOneMemory}
 use Rattle.mdr_model.specs.Bytes.{readings, split_run_over_bytes, user_reply_to_bytes}
 use Rattle.mdr_model.proofs.LawProof.{split_is_one_memory}
@@ -98,7 +98,7 @@ same_run : (program : Program) (script : List ℕ) (budget : ℕ) (answers : Lis
 unfolding split_run_over_bytes
 same_run program script budget answers told are = ap (split_run program script budget) are
 
-pub bytes_are_one_memory : (program : Program) (script : List ℕ) (budget : ℕ) → IsSound program → IsBound program script → HasSmallNumbers program budget → HasFewCells program
+pub bytes_are_one_memory : (program : Program) (script : List ℕ) (budget : ℕ) → IsRunnable program → IsBound program script → HasSmallNumbers program budget → HasFewCells program
     → IsOneMemoryOverBytes program script budget
 unfolding split_run_over_bytes split_run
 bytes_are_one_memory program script budget sound bound small few =

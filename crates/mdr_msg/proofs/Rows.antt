@@ -13,7 +13,7 @@ use Rattle.mdr_model.specs.Memory.{Memory, births, born_at, put}
 use Rattle.mdr_model.specs.Sets.{is_in, cells_of_run, cells_of_runs, begins_behind, joined, runs_of_cells, rises_after}
 use Rattle.mdr_model.specs.Copies.{CellValue, numbered, values_of_runs, put_all, put_runs, held, run_from, changed_cells, changes}
 use Rattle.mdr_model.specs.Faults.{fits_block, fits_cell, set_run_of, run_fault, runs_fault}
-use Rattle.mdr_model.specs.Sound.{IsSound}
+use Rattle.mdr_model.specs.Runnable.{IsRunnable}
 use Rattle.mdr_model.proofs.Tests.{is_same_number, and_both, and_left, and_right}
 use Rattle.mdr_model.proofs.Relations.{Holds}
 use Rattle.mdr_model.proofs.MemoryLaws.{born_at-births, births-put}
@@ -145,7 +145,7 @@ module _ (program : Program) (view : List Cell) (m : Memory) where
 
   -- ---- they have spellings
 
-  module _ (sound : IsSound program) (shown : AllByRecursion (IsShown program m) view) where
+  module _ (sound : IsRunnable program) (shown : AllByRecursion (IsShown program m) view) where
     legal_values : (serial index : ℕ) (vs : List Wire) → list_all (is_inside program view m) (numbered serial index vs) ≡ true → list_all (fits_cell program m) (numbered serial index vs) ≡ true → AllByRecursion IsValue vs
     unfolding numbered
     legal_values serial index [] inside fit = tt

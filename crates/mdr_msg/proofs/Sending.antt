@@ -23,7 +23,7 @@ use Rattle.mdr_model.specs.World.{World, Ran, Ended, Stopped, after, counted, wh
 use Rattle.mdr_model.specs.Watched.{renewed, begun, returned}
 use Rattle.mdr_model.specs.Copies.{Told, without, with_news, tells, tells_no_cells, agreed_after, changes}
 use Rattle.mdr_model.specs.Kernel.{Kernel, Noted, Pending, Over, Waits, sent, calls, comes_back, answers, values_of_result, then_split, command_by, split_commands, downcalled, serviced, result_type}
-use Rattle.mdr_model.specs.Sound.{IsSoundFunc, IsSound, IsBound}
+use Rattle.mdr_model.specs.Runnable.{IsRunnableFunc, IsRunnable, IsBound}
 use Rattle.mdr_model.proofs.Tests.{not_both}
 use Rattle.mdr_model.proofs.Fair.{IsResultOf, IsServed}
 use Rattle.mdr_model.proofs.Relations.{globals_of, Holds}
@@ -120,7 +120,7 @@ abbrev pub IsFinePending : Program → ℕ → Pending → Type 0
 IsFinePending program budget (Over end k) = Unit {0}
 IsFinePending program budget (Waits m k (Noted f script)) = IsWaiting program budget m k script
 
-module _ (program : Program) (sound : IsSound program) (budget : ℕ) (small : HasSmallNumbers program budget) (few : HasFewCells program) where
+module _ (program : Program) (sound : IsRunnable program) (budget : ℕ) (small : HasSmallNumbers program budget) (few : HasFewCells program) where
   eight_left : (w : World) → w.rest ≤ budget → IsEight w.rest
   eight_left w most = let least = small.ticks in omega arith
 
@@ -158,7 +158,7 @@ module _ (program : Program) (sound : IsSound program) (budget : ℕ) (small : H
     where
       of : (o : Option Func) → slice_get program.funcs func ≡ o → result_type o ≡ ty.Void
       of None e = refl
-      of (Some f) e = (all_get (IsSoundFunc program) program.funcs func f sound.funcs e).result
+      of (Some f) e = (all_get (IsRunnableFunc program) program.funcs func f sound.funcs e).result
 
   pub result_is_value : (func : ℕ) (v : Wire) → fits_result (result_type (func_at program func)) v ≡ true → IsValue v
   unfolding fits_result

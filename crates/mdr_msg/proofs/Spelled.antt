@@ -38,7 +38,7 @@ use Rattle.mdr_model.specs.Sets.{is_in, rises_after, visible}
 use Rattle.mdr_model.specs.Faults.{fault, unless, params_of, args_fault, set_run_of}
 use Rattle.mdr_model.specs.Kernel.{Kernel, Rest, Noted, Pending, Over, Waits, Reading, has_number, any_has_number, has_down_stub, is_user_place, is_object_service, is_ask_place, is_awaited, service_params, stop_number, user_stops, user_stop, is_stop, result_type, ticks_fault, reply_runs_fault, service_fault, fault_of, applied, judged, taken, next, run_from_pending, first_kernel, split_commands, split_run}
 use Rattle.mdr_model.specs.User.{User, Opened, Refuses, Runs, opened, done, replied, deliver, user_reply}
-use Rattle.mdr_model.specs.Sound.{IsSoundStep, IsSoundBody, IsSoundFunc, IsSound, IsBound}
+use Rattle.mdr_model.specs.Runnable.{IsRunnableStep, IsRunnableBody, IsRunnableFunc, IsRunnable, IsBound}
 use Rattle.mdr_model.specs.Law.{read, IsHonest, IsOwn, IsOneMemory}
 use Rattle.mdr_model.proofs.Tests.{not_both, and_left, and_right}
 use Rattle.mdr_model.proofs.KernelWork.{kernel_leaves, service_leaves, stub_is_kernel}
@@ -150,7 +150,7 @@ code_layer : (s : Stmt) → (y : Layer) × (code_of s ≡ step_layer y s.number)
 code_layer s = (_, fold_out-Stmt (ℕ → Code) Code step_layer stmt_layer s ∙ ap (λ (f : ℕ → Code). f s.number) (fold_out-Step (ℕ → Code) Code step_layer stmt_layer s.step))
 
 -- a sound statement has its own number alone
-own_number : (program : Program) (k : Bool) (y : Layer) (own n : ℕ) → IsSoundStep program k (step_layer y own) → has_number n (step_layer y own) ≡ true → own ≡ n
+own_number : (program : Program) (k : Bool) (y : Layer) (own n : ℕ) → IsRunnableStep program k (step_layer y own) → has_number n (step_layer y own) ≡ true → own ≡ n
 own_number program k (Step-F.Assign p e) own n h t = eqb-true own n t
 own_number program k (Step-F.Call target form) own n h t = eqb-true own n t
 own_number program k (Step-F.ReturnCall form) own n h t = eqb-true own n t
@@ -165,14 +165,14 @@ own_number program k Step-F.Continue own n h t = elim h [ ]
 own_number program k Step-F.Empty own n h t = elim h [ ]
 own_number program k (Step-F.Block body) own n h t = elim h [ ]
 
-numbered_small : (program : Program) (k : Bool) (n : ℕ) (ss : List Stmt) → IsSoundBody program k (codes_of ss) → AllByRecursion IsSmallStatement ss → any_has_number n (codes_of ss) ≡ true → IsFour n
+numbered_small : (program : Program) (k : Bool) (n : ℕ) (ss : List Stmt) → IsRunnableBody program k (codes_of ss) → AllByRecursion IsSmallStatement ss → any_has_number n (codes_of ss) ≡ true → IsFour n
 numbered_small program k n [] sound all e = absurd (not_both e refl)
 numbered_small program k n (s ∷ ss) sound all e = of (has_number n (code_of s)) refl e (numbered_small program k n ss sound.1 all.1)
   where
     own : has_number n (code_of s) ≡ true → s.number ≡ n
     own t =
         let does = code_layer s in
-        own_number program k does.0 s.number n (subst (IsSoundStep program k) does.1 sound.0) (ap (has_number n) (sym does.1) ∙ t)
+        own_number program k does.0 s.number n (subst (IsRunnableStep program k) does.1 sound.0) (ap (has_number n) (sym does.1) ∙ t)
 
     of : (t : Bool) → has_number n (code_of s) ≡ t → (t || any_has_number n (codes_of ss)) ≡ true → (any_has_number n (codes_of ss) ≡ true → IsFour n) → IsFour n
     of true t h later = subst IsFour (own t) all.0
@@ -213,7 +213,7 @@ writel_asked service [] [] e = record { number = eqb-true _ _ (unless_passes (is
 writel_asked service [] (b ∷ bytes) e = absurd (Prim.cc)
 writel_asked service (s ∷ shapes) bytes e = absurd (Prim.cc)
 
-module _ (program : Program) (sound : IsSound program) (budget : ℕ) (small : HasSmallNumbers program budget) (few : HasFewCells program) where
+module _ (program : Program) (sound : IsRunnable program) (budget : ℕ) (small : HasSmallNumbers program budget) (few : HasFewCells program) where
   kernel_small : (func : ℕ) → is_kernel program func ≡ true → IsFour func
   unfolding is_kernel
   kernel_small func e = of (func_at program func) refl e
@@ -232,9 +232,9 @@ module _ (program : Program) (sound : IsSound program) (budget : ℕ) (small : H
       of : (o : Option Func) → slice_get program.funcs func ≡ o → any_has_number n (codes_of (body_of o)) ≡ true → IsFour n
       of None h t = absurd (not_both t refl)
       of (Some f) h t =
-          let s : IsSoundFunc program f = all_get (IsSoundFunc program) program.funcs func f sound.funcs h in
+          let s : IsRunnableFunc program f = all_get (IsRunnableFunc program) program.funcs func f sound.funcs h in
           let body : body_of (Some f) ≡ s.statements = ap (λ (b : Option (List Stmt)). unwrap_or b []) s.body in
-          numbered_small program f.critical n (body_of (Some f)) (subst (λ (ss : List Stmt). IsSoundBody program f.critical (codes_of ss)) (sym body) s.steps) (all_get HasSmallStatements program.funcs func f small.statements h) t
+          numbered_small program f.critical n (body_of (Some f)) (subst (λ (ss : List Stmt). IsRunnableBody program f.critical (codes_of ss)) (sym body) s.steps) (all_get HasSmallStatements program.funcs func f small.statements h) t
 
   place_is : (at : At) → is_user_place program at ≡ true → IsPlace at
   unfolding is_user_place
@@ -258,7 +258,7 @@ module _ (program : Program) (sound : IsSound program) (budget : ℕ) (small : H
     where
       of : (o : Option Func) → slice_get program.funcs func ≡ o → params_of o ≡ []
       of None e = refl
-      of (Some f) e = ap (λ (ps : List Param). map (λ (p : Param). p.ty) ps) (all_get (IsSoundFunc program) program.funcs func f sound.funcs e).params
+      of (Some f) e = ap (λ (ps : List Param). map (λ (p : Param). p.ty) ps) (all_get (IsRunnableFunc program) program.funcs func f sound.funcs e).params
 
   no_arguments : (func : ℕ) (args : List Wire) → args_fault 0 (params_of (func_at program func)) args ≡ None → args ≡ []
   no_arguments func args e = no_values args (subst (λ (ts : List Ty). args_fault 0 ts args ≡ None) (no_params func) e)
@@ -485,7 +485,7 @@ module _ (program : Program) (sound : IsSound program) (budget : ℕ) (small : H
       spelled_from answers [] (split_commands program script k) (commands_fine program sound budget small few script k named fine)
       (λ more end k' fair over. (law.same more end k' fair over).own) honest
 
-pub have_spellings : (program : Program) (script : List ℕ) (budget : ℕ) → IsSound program → IsBound program script → HasSmallNumbers program budget → HasFewCells program
+pub have_spellings : (program : Program) (script : List ℕ) (budget : ℕ) → IsRunnable program → IsBound program script → HasSmallNumbers program budget → HasFewCells program
     → (answers : List Message) → IsHonest program [] (split_run program script budget (read answers)).sent answers
     → AllByRecursion IsMessage (split_run program script budget (read answers)).sent × AllByRecursion IsMessage answers
 have_spellings program script budget sound named small few answers honest =

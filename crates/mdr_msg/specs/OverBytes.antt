@@ -10,7 +10,9 @@ use Rattle.mdr_model.specs.Sets.{visible}
 use Rattle.mdr_model.specs.Text.{text}
 use Rattle.mdr_model.specs.Meaning.{body_of}
 use Rattle.mdr_model.specs.Kernel.{Kernel, Over}
-use Rattle.mdr_model.specs.Sound.{IsSound, IsBound}
+use Rattle.mdr_core.specs.Sound.{IsSound}
+use Rattle.mdr_model.specs.Built.{IsBuilt}
+use Rattle.mdr_model.specs.Runnable.{IsBound}
 use Rattle.mdr_model.specs.Law.{IsWatched}
 use Rattle.mdr_model.specs.Bytes.{split_run_over_bytes, user_reply_to_bytes}
 use Rattle.mdr_msg.specs.Encoding.{IsShort}
@@ -53,8 +55,8 @@ pub record IsOneMemoryOverBytes (program : Program) (script : List ℕ) (budget 
       × IsHonestOverBytes program [] (sent_bytes program script budget answers) answers
       × ((split_run_over_bytes program script budget answers).pending ≡ Over end k)
 
--- the law for every sound program whose numbers are small and whose visible cells are few, every script of its functions and every budget
+-- the law for every sound program that is built, whose numbers are small and whose visible cells are few, every script of its functions and every budget
 abbrev pub BytesAreOneMemory : Type 0
 BytesAreOneMemory =
-    (program : Program) (script : List ℕ) (budget : ℕ) → IsSound program → IsBound program script → HasSmallNumbers program budget → HasFewCells program
+    (program : Program) (script : List ℕ) (budget : ℕ) → IsSound program → IsBuilt program → IsBound program script → HasSmallNumbers program budget → HasFewCells program
     → IsOneMemoryOverBytes program script budget

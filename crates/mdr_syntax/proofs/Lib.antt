@@ -11,3 +11,4 @@ pub mod Spelled
 pub mod FirstCode
 pub mod Soundness
 pub mod Longest
+pub mod SoundPrograms

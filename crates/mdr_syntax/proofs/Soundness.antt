@@ -1,5 +1,5 @@
 -- What is read names what is there.
-use Rattle.std.proofs.Common.{◌≡◌, ℕ, Bool, true, false, cond, Option, Some, None, ◌+◌, ◌<◌, ◌^◌, List, [], ◌∷◌, ◌++◌, length, get_or, refl, sym, ap, subst, ◌∙◌, arith, length-append}
+use Rattle.std.proofs.Common.{◌≡◌, ℕ, Bool, true, false, cond, Option, Some, None, ◌+◌, ◌<◌, ◌≤◌, ◌^◌, List, [], ◌∷◌, ◌++◌, length, get_or, refl, sym, ap, subst, ◌∙◌, arith, length-append}
 use Rattle.std.specs.Prelude.{◌&&◌}
 use Rattle.std.specs.List.{AllByRecursion}
 use Rattle.std.specs.Str.{bytes_eq}
@@ -110,22 +110,22 @@ sum_sound globals (sums.Names name more) x h e =
 
 -- a step is sound, whatever its number
 abbrev IsSoundStep : List GlobalDef → List Func → (is_critical : Bool) → Step → Type 0
-IsSoundStep globals funcs k s = (n : ℕ) → IsSoundCode globals funcs k (code_of (record { number = n; step = s }))
+IsSoundStep globals funcs k s = (n : ℕ) → 1 ≤ n → IsSoundCode globals funcs k (code_of (record { number = n; step = s }))
 
 line_sound : (globals : List GlobalDef) (funcs : List Func) (is_critical : Bool) (l : Line) (s : Step) → IsProperLine l → line_step globals funcs is_critical l ≡ Some s → IsSoundStep globals funcs is_critical s
 line_sound globals funcs k (line.Assign name sum) x h e =
     let a = bind_some (global_number globals name) (λ g. sum_expr globals sum >>= λ given. Some (step.Assign (lval.Global g) given)) x e in
     let b = bind_some (sum_expr globals sum) (λ given. Some (step.Assign (lval.Global a.0) given)) x a.2 in
     subst (IsSoundStep globals funcs k) (some_is (step.Assign (lval.Global a.0) b.0) x b.2)
-    (λ n. subst (IsSoundCode globals funcs k) (sym (assign_is n a.0 b.0)) (IsSoundCode.assign n a.0 (term_of b.0) (global_there globals name a.0 a.1) (sum_sound globals sum b.0 h.1 b.1)))
+    (λ n some. subst (IsSoundCode globals funcs k) (sym (assign_is n a.0 b.0)) (IsSoundCode.assign n a.0 (term_of b.0) some (global_there globals name a.0 a.1) (sum_sound globals sum b.0 h.1 b.1)))
 line_sound globals funcs k (line.Write sum register) x h e =
     let b = bind_some (sum_expr globals sum) (λ given. Some (write_step given register)) x e in
     subst (IsSoundStep globals funcs k) (some_is (write_step b.0 register) x b.2)
-    (λ n. subst (IsSoundCode globals funcs k) (sym (call_is n _)) (IsSoundCode.write n (term_of b.0) (term_of (literal register)) (sum_sound globals sum b.0 h.0 b.1) (literal_sound globals register h.1)))
+    (λ n some. subst (IsSoundCode globals funcs k) (sym (call_is n _)) (IsSoundCode.write n (term_of b.0) (term_of (literal register)) some (sum_sound globals sum b.0 h.0 b.1) (literal_sound globals register h.1)))
 line_sound globals funcs k (line.Call name) x h e =
     let r = refused k (callee_number funcs name >>= λ f. Some (call_step f)) x e in
     let b = bind_some (callee_number funcs name) (λ f. Some (call_step f)) x r.1 in
-    subst (IsSoundStep globals funcs k) (some_is (call_step b.0) x b.2) (λ n. subst (IsSoundCode globals funcs k) (sym (call_is n _)) (IsSoundCode.call n b.0 r.0 (callee_there funcs name b.0 b.1)))
+    subst (IsSoundStep globals funcs k) (some_is (call_step b.0) x b.2) (λ n some. subst (IsSoundCode globals funcs k) (sym (call_is n _)) (IsSoundCode.call n b.0 some r.0 (callee_there funcs name b.0 b.1)))
 
 body_sound : (globals : List GlobalDef) (funcs : List Func) (is_critical : Bool) (lines : List Line) (body : List Stmt) → AllByRecursion IsProperLine lines
     → body_of globals funcs is_critical lines ≡ Some body → AllByRecursion (λ s. IsSoundCode globals funcs is_critical (code_of s)) body
@@ -135,7 +135,7 @@ body_sound globals funcs k lines body h e = each_sound (numbered_step globals fu
     one : (i : ℕ) (l : Line) (s : Stmt) → IsProperLine l → numbered_step globals funcs k i l ≡ Some s → IsSoundCode globals funcs k (code_of s)
     one i l s p q =
         let a = bind_some (line_step globals funcs k l) (λ does. Some (record { number = i + 1; step = does })) s q in
-        subst (λ (t : Stmt). IsSoundCode globals funcs k (code_of t)) (some_is (record { number = i + 1; step = a.0 }) s a.2) (line_sound globals funcs k l a.0 p a.1 (i + 1))
+        subst (λ (t : Stmt). IsSoundCode globals funcs k (code_of t)) (some_is (record { number = i + 1; step = a.0 }) s a.2) (line_sound globals funcs k l a.0 p a.1 (i + 1) (omega arith))
 
 -- ---- declarations that come later change nothing
 
@@ -158,12 +158,12 @@ callee_grows funcs more f c =
     record { func = c.func; declared = slice_get-get_or (funcs ++ more) f c.func wider ∙ ap (λ (x : Func). Some x) there; critical = c.critical }
 
 code_grows : (globals later : List GlobalDef) (funcs more : List Func) (k : Bool) (c : Code) → IsSoundCode globals funcs k c → IsSoundCode (globals ++ later) (funcs ++ more) k c
-code_grows globals later funcs more k _ (IsSoundCode.assign n g sum h s) = IsSoundCode.assign n g sum (wider g h) (sum_grows globals later sum s)
+code_grows globals later funcs more k _ (IsSoundCode.assign n g sum o h s) = IsSoundCode.assign n g sum o (wider g h) (sum_grows globals later sum s)
   where
     wider : (g : ℕ) → g < length globals → g < length (globals ++ later)
     wider g h = omega (arith, length-append globals later)
-code_grows globals later funcs more k _ (IsSoundCode.write n sum register s r) = IsSoundCode.write n sum register (sum_grows globals later sum s) (operand_grows globals later register r)
-code_grows globals later funcs more k _ (IsSoundCode.call n f is c) = IsSoundCode.call n f is (callee_grows funcs more f c)
+code_grows globals later funcs more k _ (IsSoundCode.write n sum register o s r) = IsSoundCode.write n sum register o (sum_grows globals later sum s) (operand_grows globals later register r)
+code_grows globals later funcs more k _ (IsSoundCode.call n f o is c) = IsSoundCode.call n f o is (callee_grows funcs more f c)
 
 func_grows : (globals later : List GlobalDef) (funcs more : List Func) (f : Func) → IsSoundFunc globals funcs f → IsSoundFunc (globals ++ later) (funcs ++ more) f
 func_grows globals later funcs more f s = record {

@@ -1,7 +1,6 @@
 -- What the first forms give: the parts of a program.
 use Rattle.std.specs.Prelude.{ℕ, pos, Bool, false, List, [], ◌∷◌, Some, None}
-use Rattle.mdr_core.specs.declared.kind.Kind.TheVariants.{U8, U16, U32, U64, S8, S16, S32, S64}
-use Rattle.mdr_core.specs.declared.types.Ty.{Ty}
+use Rattle.mdr_core.specs.declared.kind.Kind.TheVariants.{U32}
 use Rattle.mdr_core.specs.declared.types.Ty.TheVariants as ty
 use Rattle.mdr_core.specs.declared.types.Ann.TheVariants.{Single}
 use Rattle.mdr_core.specs.declared.value.Value.TheVariants as value
@@ -17,6 +16,7 @@ use Rattle.mdr_core.specs.declared.code.Callee.TheVariants.{Direct, Service}
 use Rattle.mdr_core.specs.declared.code.Step.{Step}
 use Rattle.mdr_core.specs.declared.code.Step.TheVariants as step
 use Rattle.mdr_core.specs.declared.code.Stmt.{Stmt}
+use Rattle.mdr_core.specs.Types.{first_types}
 
 -- ---- statements
 
@@ -44,10 +44,6 @@ abbrev pub call_step : ℕ → Step
 call_step f = bare_call (Direct f) []
 
 -- ---- declarations
-
--- the integer kinds in their order, and the lock
-abbrev pub first_types : List Ty
-first_types = ty.Int U8 ∷ ty.Int U16 ∷ ty.Int U32 ∷ ty.Int U64 ∷ ty.Int S8 ∷ ty.Int S16 ∷ ty.Int S32 ∷ ty.Int S64 ∷ ty.Lock ∷ []
 
 -- a u32 that begins as 0
 abbrev pub global_def : List ℕ → GlobalDef

@@ -1,5 +1,5 @@
 -- What a program of the first forms names is there.
-use Rattle.std.specs.Prelude.{◌≡◌, ℕ, pos, ◌<◌, ◌^◌, Bool, true, false, List, [], ◌∷◌, map, Some, None, length, slice_get}
+use Rattle.std.specs.Prelude.{◌≡◌, ℕ, pos, ◌<◌, ◌≤◌, ◌^◌, Bool, true, false, List, [], ◌∷◌, map, Some, None, length, slice_get}
 use Rattle.std.specs.List.{AllByRecursion}
 use Rattle.mdr_core.specs.declared.kind.Kind.TheVariants.{U32}
 use Rattle.mdr_core.specs.declared.value.Value.TheVariants as value
@@ -10,7 +10,8 @@ use Rattle.mdr_core.specs.declared.program.Func.{Func}
 use Rattle.mdr_core.specs.declared.program.Program.{Program}
 use Rattle.mdr_core.specs.Code.{Term, Lvalue, Called, CallOf, Goal, Code}
 use Rattle.mdr_core.specs.Folds.{code_of}
-use Rattle.mdr_syntax.specs.Forms.{first_types, global_def, func_def}
+use Rattle.mdr_core.specs.Types.{first_types}
+use Rattle.mdr_syntax.specs.Forms.{global_def, func_def}
 
 -- a number that int holds, or a global that is there
 pub data IsSoundOperand (globals : List GlobalDef) : Term → Type 0 where
@@ -32,12 +33,12 @@ pub record IsCallee (funcs : List Func) (n : ℕ) : Type 0 where
 abbrev pub bare : Called → List Term → CallOf
 bare callee args = record { callee = callee; args = args; shape = None; format = None }
 
--- a global is assigned a sum, a register is written, or a function that may be called is called by one that may not
+-- a global is assigned a sum, a register is written, or a function that may be called is called by one that may not; statements are numbered from 1
 pub data IsSoundCode (globals : List GlobalDef) (funcs : List Func) (is_critical : Bool) : Code → Type 0 where
-  assign : (n g : ℕ) (sum : Term) → g < length globals → IsSoundSum globals sum → IsSoundCode globals funcs is_critical (Code.Assign n (Lvalue.Global g) sum)
-  write : (n : ℕ) (sum register : Term) → IsSoundSum globals sum → IsSoundOperand globals register
+  assign : (n g : ℕ) (sum : Term) → 1 ≤ n → g < length globals → IsSoundSum globals sum → IsSoundCode globals funcs is_critical (Code.Assign n (Lvalue.Global g) sum)
+  write : (n : ℕ) (sum register : Term) → 1 ≤ n → IsSoundSum globals sum → IsSoundOperand globals register
       → IsSoundCode globals funcs is_critical (Code.Call n Goal.Nowhere (bare (Called.Service 5) (sum ∷ register ∷ [])))
-  call : (n f : ℕ) → is_critical ≡ false → IsCallee funcs f → IsSoundCode globals funcs is_critical (Code.Call n Goal.Nowhere (bare (Called.Direct f) []))
+  call : (n f : ℕ) → 1 ≤ n → is_critical ≡ false → IsCallee funcs f → IsSoundCode globals funcs is_critical (Code.Call n Goal.Nowhere (bare (Called.Direct f) []))
 
 pub record IsSoundFunc (globals : List GlobalDef) (funcs : List Func) (f : Func) : Type 0 where
   pub name : List ℕ

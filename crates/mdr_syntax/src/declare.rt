@@ -4,7 +4,8 @@ ghost use Rattle.std.specs.Prelude.{◌≡◌, IfOk};
 ghost use Rattle.std.specs.List.{list_any};
 ghost use Rattle.std.specs.Str.{bytes_eq};
 ghost use Rattle.mdr_syntax.specs.Reading.{Reads, whats};
-ghost use Rattle.mdr_syntax.specs.Forms.{first_types, global_def, empty_program};
+ghost use Rattle.mdr_core.specs.Types.{first_types};
+ghost use Rattle.mdr_syntax.specs.Forms.{global_def, empty_program};
 ghost use Rattle.mdr_syntax.specs.Sources.{is_declared, func_of, declare, declare_all, program_of};
 
 use crate::bytes::copied;

@@ -13,6 +13,7 @@ ghost use Rattle.mdr_core.specs.declared.program.Program.{Program};
 ghost use Rattle.mdr_syntax.specs.Forms.{empty_program};
 ghost use Rattle.mdr_syntax.specs.Sources.{declare_all, program_of};
 ghost use Rattle.mdr_syntax.specs.Spelling.{Spells};
+ghost use Rattle.mdr_core.specs.Sound.{IsSound};
 ghost use Rattle.mdr_syntax.specs.Sound.{IsSoundProgram};
 
 /// A text that has tokens is these and what separates them, joined in their order, and each token has the
@@ -37,8 +38,9 @@ pub fn programs_have_items()
     ensures { (ts : List Lexeme) (p : Program) → (program_of ts ≡ Some p) ↔ ((items : List Item) × Spells ts items × (declare_all empty_program items ≡ Some p)) }
 {}
 
-/// A program of a source names only what is there: each number is one that int holds, each variable a global,
+/// A program of a source is sound, and of the first forms: each number is one that int holds, each variable a global,
 /// and what is called a `__critical` function, by another alone.
 pub fn programs_are_sound()
-    ensures { (ts : List Lexeme) (p : Program) → program_of ts ≡ Some p → IsSoundProgram p }
+    ensures sound { (ts : List Lexeme) (p : Program) → program_of ts ≡ Some p → IsSound p }
+    ensures first { (ts : List Lexeme) (p : Program) → program_of ts ≡ Some p → IsSoundProgram p }
 {}

@@ -6,7 +6,7 @@ use Rattle.std.specs.Str.{bytes_eq}
 use Rattle.std.proofs.lemmas.Bool.{ltb-true}
 use Rattle.mdr_core.specs.declared.program.Program.{Program}
 use Rattle.mdr_core.specs.declared.program.Func.{Func}
-use Rattle.mdr_model.specs.Sound.{IsBound}
+use Rattle.mdr_model.specs.Runnable.{IsBound}
 use Rattle.mdr_syntax.specs.declared.script.Command.{Command}
 use Rattle.mdr_syntax.specs.declared.script.Command.TheVariants.{Nothing, Call, Other}
 use Rattle.mdr_syntax.specs.Scripts.{command_of, func_number, call_or_other, with_command, calls_from, calls_of, lines_of, word_at, begins_hash, is_empty, is_call}

@@ -5,7 +5,7 @@ use Rattle.mdr_core.specs.declared.program.Program.{Program}
 use Rattle.mdr_model.specs.declared.outcome.End.{End}
 use Rattle.mdr_model.specs.declared.outcome.End.TheVariants as ends
 use Rattle.mdr_model.specs.declared.outcome.Outcome.{Outcome}
-use Rattle.mdr_model.specs.Sound.{IsBound}
+use Rattle.mdr_model.specs.Runnable.{IsBound}
 use Rattle.mdr_model.specs.Watched.{watched}
 use Rattle.mdr_model.specs.Outcome.{outcome_of}
 use Rattle.mdr_model.specs.Law.{IsOwn}
@@ -53,7 +53,7 @@ nothing_end program end = refl
 pub began_means : (program : Program) (source calls : List ℕ) (es : List Exchange) (s : Status) (text : List ℕ) → HasProgram source program → IsBound program calls → IsServed program es
     → Began program calls es s text → (s ≡ status.FarFault) ⊎ IsMeaning program calls es s text
 began_means program source calls es s text h bound served b =
-    of (run_is_meaning program calls default_ticks es b.outcome h.sound b.small b.few bound served b.run_is)
+    of (run_is_meaning program calls default_ticks es b.outcome h.sound h.built b.small b.few bound served b.run_is)
   where
     of : IsFarFault b.outcome.end ⊎ IsMeant program calls default_ticks es b.outcome → (s ≡ status.FarFault) ⊎ IsMeaning program calls es s text
     of (inl f) = inl (b.reported.status_is ∙ fails b.outcome.end f)

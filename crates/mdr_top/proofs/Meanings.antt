@@ -7,7 +7,10 @@ use Rattle.mdr_model.specs.declared.message.Message.{Message}
 use Rattle.mdr_model.specs.declared.outcome.End.{End}
 use Rattle.mdr_model.specs.declared.outcome.Outcome.{Outcome}
 use Rattle.mdr_model.specs.Text.{text}
-use Rattle.mdr_model.specs.Sound.{IsSound, IsBound}
+use Rattle.mdr_core.specs.Sound.{IsSound}
+use Rattle.mdr_model.specs.Built.{IsBuilt}
+use Rattle.mdr_model.specs.Runnable.{IsBound}
+use Rattle.mdr_model.proofs.BuiltLaws.{runnable}
 use Rattle.mdr_model.specs.Watched.{Finish, finish, watched}
 use Rattle.mdr_model.specs.Kernel.{Kernel, Pending, Over, Waits}
 use Rattle.mdr_model.specs.Bytes.{user_reply_to_bytes}
@@ -78,11 +81,11 @@ is_meant program calls budget es o end k sent over is w =
       messages = omega (arith, w.messages, exchanged, messages, begun, ticks);
     }
 
-pub run_is_meaning : (program : Program) (calls : List ℕ) (budget : ℕ) (es : List Exchange) (o : Outcome) → IsSound program → HasSmallNumbers program budget → HasFewCells program → IsBound program calls → Honest program [] es → IsRun program calls budget es o → IsFarFault o.end ⊎ IsMeant program calls budget es o
-run_is_meaning program calls budget es o sound small few bound honest ran = of (run_over program calls budget es).pending refl
+pub run_is_meaning : (program : Program) (calls : List ℕ) (budget : ℕ) (es : List Exchange) (o : Outcome) → IsSound program → IsBuilt program → HasSmallNumbers program budget → HasFewCells program → IsBound program calls → Honest program [] es → IsRun program calls budget es o → IsFarFault o.end ⊎ IsMeant program calls budget es o
+run_is_meaning program calls budget es o sound built small few bound honest ran = of (run_over program calls budget es).pending refl
   where
     law : IsOneMemoryOverBytes program calls budget
-    law = bytes_are_one_memory program calls budget sound bound small few
+    law = bytes_are_one_memory program calls budget (runnable program sound built) bound small few
 
     fair : IsHonestOverBytes program [] (map text (run_over program calls budget es).sent) (answers_of es)
     fair = subst (λ (sent : List (List ℕ)). IsHonestOverBytes program [] sent (answers_of es)) ran.messages (honest_answers program [] es honest)

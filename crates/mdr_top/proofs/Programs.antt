@@ -6,11 +6,11 @@ use Rattle.mdr_syntax.specs.Reading.{whats}
 use Rattle.mdr_syntax.specs.Tokens.{tokens_of}
 use Rattle.mdr_syntax.specs.Sources.{program_of}
 use Rattle.mdr_syntax.proofs.Soundness.{is_sound}
-use Rattle.mdr_user.proofs.SoundSources.{program_is_sound}
+use Rattle.mdr_user.proofs.SoundSources.{program_is_sound, program_is_built}
 use Rattle.mdr_top.specs.Answers.{HasProgram}
 
 pub has_program : (bytes : List ℕ) (ts : List Token) (program : Program) → tokens_of bytes ≡ Ok ts → program_of (whats ts) ≡ Some program → HasProgram bytes program
-has_program bytes ts program e d = record { tokens = ts; read = e; declared = d; sound = program_is_sound program (is_sound (whats ts) program d) }
+has_program bytes ts program e d = record { tokens = ts; read = e; declared = d; sound = program_is_sound program (is_sound (whats ts) program d); built = program_is_built program (is_sound (whats ts) program d) }
 
 pub some_same : {X : Type 0} (o : Option X) (x y : X) → o ≡ Some x → o ≡ Some y → x ≡ y
 some_same o x y e f = Prim.cc

@@ -8,7 +8,9 @@ use Rattle.mdr_model.specs.declared.outcome.Outcome.{Outcome}
 use Rattle.mdr_model.specs.Watched.{finish, first_world}
 use Rattle.mdr_model.specs.Outcome.{outcome_of}
 use Rattle.mdr_model.specs.Report.{report}
-use Rattle.mdr_model.specs.Sound.{IsSound, IsBound}
+use Rattle.mdr_core.specs.Sound.{IsSound}
+use Rattle.mdr_model.specs.Built.{IsBuilt}
+use Rattle.mdr_model.specs.Runnable.{IsBound}
 use Rattle.mdr_syntax.specs.declared.token.Token.{Token}
 use Rattle.mdr_syntax.specs.declared.error.LexError.{LexError}
 use Rattle.mdr_syntax.specs.Reading.{whats}
@@ -50,12 +52,13 @@ pub data NoProgram (bytes : List ℕ) (s : Status) (text : List ℕ) : Type 0 wh
   fault : (e : LexError) → tokens_of bytes ≡ Err e → s ≡ status.SourceRefused → text ≡ fault_line e → NoProgram bytes s text
   unbuilt : (ts : List Token) → tokens_of bytes ≡ Ok ts → program_of (whats ts) ≡ None → s ≡ status.SourceRefused → text ≡ source_line begin (codes "Unbuilt") → NoProgram bytes s text
 
--- a source and the program that it declares, which is sound
+-- a source and the program that it declares, which is sound, and of forms that are built
 pub record HasProgram (bytes : List ℕ) (program : Program) : Type 0 where
   pub tokens : List Token
   pub read : tokens_of bytes ≡ Ok tokens
   pub declared : program_of (whats tokens) ≡ Some program
   pub sound : IsSound program
+  pub built : IsBuilt program
 
 -- a script and the functions that it calls, which the program has
 pub record HasScript (program : Program) (bytes calls : List ℕ) : Type 0 where

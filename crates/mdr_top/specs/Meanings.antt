@@ -2,7 +2,9 @@
 use Rattle.std.specs.Prelude.{◌≡◌, ℕ, ◌+◌, ◌*◌, ◌≤◌, ◌⊎◌, List, [], length}
 use Rattle.mdr_core.specs.declared.program.Program.{Program}
 use Rattle.mdr_model.specs.declared.outcome.Outcome.{Outcome}
-use Rattle.mdr_model.specs.Sound.{IsSound, IsBound}
+use Rattle.mdr_core.specs.Sound.{IsSound}
+use Rattle.mdr_model.specs.Built.{IsBuilt}
+use Rattle.mdr_model.specs.Runnable.{IsBound}
 use Rattle.mdr_model.specs.Watched.{watched}
 use Rattle.mdr_model.specs.Outcome.{outcome_of}
 use Rattle.mdr_model.specs.Law.{IsOwn}
@@ -21,6 +23,6 @@ pub record IsMeant (program : Program) (calls : List ℕ) (budget : ℕ) (es : L
 abbrev pub RunIsMeaning : Type 0
 RunIsMeaning =
     (program : Program) (calls : List ℕ) (budget : ℕ) (es : List Exchange) (o : Outcome)
-    → IsSound program → HasSmallNumbers program budget → HasFewCells program → IsBound program calls
+    → IsSound program → IsBuilt program → HasSmallNumbers program budget → HasFewCells program → IsBound program calls
     → Honest program [] es → IsRun program calls budget es o
     → IsFarFault o.end ⊎ IsMeant program calls budget es o

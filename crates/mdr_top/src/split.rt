@@ -3,7 +3,9 @@
 ghost use Rattle.std.specs.Prelude.{◌≡◌, ◌++◌, [], IfOk, OnErr};
 ghost use Rattle.mdr_outside.specs.Count.{Rose};
 ghost use Rattle.mdr_outside.specs.Far.{IsLoaded};
-ghost use Rattle.mdr_model.specs.Sound.{IsSound, IsBound};
+ghost use Rattle.mdr_core.specs.Sound.{IsSound};
+ghost use Rattle.mdr_model.specs.Built.{IsBuilt};
+ghost use Rattle.mdr_model.specs.Runnable.{IsBound};
 ghost use Rattle.mdr_top.specs.declared.status.Status.TheVariants as status;
 ghost use Rattle.mdr_top.specs.Statuses.{Counts, HasReadCause};
 ghost use Rattle.mdr_kernel.specs.Runs.{sent_of};
@@ -60,7 +62,8 @@ fn began<F: Far>(
     calls: &[u32],
     far: &mut F,
 ) -> Result<Due, OutOfMemory>
-    requires program { IsSound program.now }
+    requires sound { IsSound program.now }
+    requires built { IsBuilt program.now }
     requires loaded { IsLoaded (F.loaded far.old) }
     requires fresh { F.exchanges far.old ≡ [] }
     ensures began { IfOk result (λ due. Began program.now calls.now (F.exchanges far.new) due.status due.text.items) }
@@ -83,7 +86,8 @@ pub(crate) fn ran<F: Far>(
     calls: &[u32],
     far: &mut F,
 ) -> Result<Due, OutOfMemory>
-    requires program { IsSound program.now }
+    requires sound { IsSound program.now }
+    requires built { IsBuilt program.now }
     requires calls { IsBound program.now calls.now }
     ensures ran { IfOk result (λ due. Ran program.now source.now calls.now (F.loaded far.new) (F.exchanges far.new) due.status due.text.items) }
     ensures called { IfOk result (λ _. LoadedOnce source.now (F.calls far.old) (F.calls far.new) (sent_of (F.exchanges far.new))) }

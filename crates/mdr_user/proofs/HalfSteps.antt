@@ -9,7 +9,7 @@ use Rattle.mdr_model.specs.Kernel.{Reading}
 use Rattle.mdr_model.specs.User.{User, deliver, first_user, user_after, allowance, user_reply}
 use Rattle.mdr_model.specs.Bytes.{readings, user_reply_to_bytes}
 use Rattle.mdr_model.specs.declared.message.Message.TheVariants.{Refuse}
-use Rattle.mdr_model.specs.Sound.{IsSound}
+use Rattle.mdr_model.specs.Runnable.{IsRunnable}
 use Rattle.mdr_model.proofs.FuelLaws.{user_after-append}
 use Rattle.mdr_model.proofs.RefusalLaws.{readings-append, shown_refusal, replies_without}
 use Rattle.mdr_copy.proofs.SoundMemories.{first_is_sound}
@@ -71,7 +71,7 @@ replies_on program es es' e bytes reply reason same added is refused more last =
 
 -- ---- the beginning
 
-pub begins_sound : (program : Program) (agreed : Memory) → agreed ≡ first_memory program → IsSound program → IsSoundState program (record { agreed = agreed; work = Nothing })
+pub begins_sound : (program : Program) (agreed : Memory) → agreed ≡ first_memory program → IsRunnable program → IsSoundState program (record { agreed = agreed; work = Nothing })
 begins_sound program agreed is h = record { copy = subst (IsSoundMemory program) (sym is) (first_is_sound program h); awaits = tt }
 
 pub begins_following : (program : Program) (agreed : Memory) (es : List Exchange) → agreed ≡ first_memory program → es ≡ [] → Follows program (sents es) (record { agreed = agreed; work = Nothing })

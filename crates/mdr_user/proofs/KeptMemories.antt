@@ -14,7 +14,7 @@ use Rattle.mdr_model.specs.Memory.{Memory, births, born_at, cell_at, put, reache
 use Rattle.mdr_model.specs.Copies.{held, put_all, put_runs, changed_cells, changes}
 use Rattle.mdr_model.specs.Meaning.{pointer_to}
 use Rattle.mdr_model.specs.Holds.{IsFilled, IsSoundMemory}
-use Rattle.mdr_model.specs.Sound.{IsSound, IsSoundStep}
+use Rattle.mdr_model.specs.Runnable.{IsRunnable, IsRunnableStep}
 use Rattle.mdr_copy.specs.Evaluated.{evaluated}
 use Rattle.mdr_copy.proofs.EvaluatedLaws.{evaluated_fits}
 use Rattle.mdr_copy.proofs.SoundMemories.{stored_is_sound}
@@ -73,7 +73,7 @@ told_is_sound program view copy now h k same = record {
 }
 
 -- and keeps a memory sound where the assignment is
-pub assigned_is_sound : (allowed : Cell → Bool) (program : Program) (m m' : Memory) (n : ℕ) (place : Lvalue) (e : Term) (v : Wire) → IsSound program → IsSoundMemory program m → IsSoundStep program false (Code.Assign n place e)
+pub assigned_is_sound : (allowed : Cell → Bool) (program : Program) (m m' : Memory) (n : ℕ) (place : Lvalue) (e : Term) (v : Wire) → IsRunnable program → IsSoundMemory program m → IsRunnableStep program false (Code.Assign n place e)
     → evaluated allowed program m e ≡ Ok v → stored allowed m (pointer_to program place) v ≡ Ok m' → IsSoundMemory program m'
 assigned_is_sound allowed program m m' n place e v sound memory h is made =
     stored_is_sound allowed program m m' place h.0 v h.1 (evaluated_fits allowed program m e h.0 v sound memory h.2 is) sound memory made

@@ -14,7 +14,7 @@ use Rattle.mdr_model.specs.Copies.{values_of_runs, put_all, put_runs, without, w
 use Rattle.mdr_model.specs.declared.message.Fault.{Fault}
 use Rattle.mdr_model.specs.Faults.{runs_fault}
 use Rattle.mdr_model.specs.User.{told, deaths_fit, view_fits, runs_fit, lives_fit, cells_fit, renewed_copy}
-use Rattle.mdr_model.specs.Sound.{IsSound}
+use Rattle.mdr_model.specs.Runnable.{IsRunnable}
 use Rattle.mdr_model.specs.Holds.{IsSoundMemory}
 use Rattle.mdr_model.proofs.Tests.{and_left, and_right}
 use Rattle.mdr_copy.proofs.SoundMemories.{runs_are_sound, without_is_sound, news_are_sound}
@@ -101,7 +101,7 @@ opens_not program copy deaths news view runs e = of (lives_fit program copy deat
 
 -- ---- soundness
 
-pub renewed_is_sound : (program : Program) (copy : Memory) (deaths : List ℕ) (news : List New) (left : Memory) → Some left ≡ renewed program copy deaths news → IsSound program → IsSoundMemory program copy → IsSoundMemory program left
+pub renewed_is_sound : (program : Program) (copy : Memory) (deaths : List ℕ) (news : List New) (left : Memory) → Some left ≡ renewed program copy deaths news → IsRunnable program → IsSoundMemory program copy → IsSoundMemory program left
 unfolding lives_fit
 renewed_is_sound program copy deaths news left e sound h =
     let r : IsRenewed program copy deaths news left = renewed_is program copy deaths news left e in
@@ -111,7 +111,7 @@ renewed_is_sound program copy deaths news left e sound h =
     (and_right (deaths_fit program copy deaths) _ r.lives))
 
 pub opens_sound : (program : Program) (copy : Memory) (deaths : List ℕ) (news : List New) (view : List SetRun) (runs : List Run) (s : Sight) → Some s ≡ opened_by program copy deaths news view runs
-    → IsSound program → IsSoundMemory program copy → IsSoundMemory program s.copy
+    → IsRunnable program → IsSoundMemory program copy → IsSoundMemory program s.copy
 unfolding agreed_after runs_fit
 opens_sound program copy deaths news view runs s e sound h =
     let o : Opens program copy deaths news view runs s = opens program copy deaths news view runs s e in

@@ -17,7 +17,7 @@ use Rattle.mdr_model.specs.Memory.{Memory, stored}
 use Rattle.mdr_model.specs.Tree.{Tree}
 use Rattle.mdr_model.specs.Walk.{Reached, Walked, walked, walk, on_load, on_store}
 use Rattle.mdr_model.specs.Meaning.{Here, Enters, is_kernel, pointer_to, value, values, call, statement}
-use Rattle.mdr_model.specs.Sound.{IsSoundCall, IsSoundStep}
+use Rattle.mdr_model.specs.Runnable.{IsRunnableCall, IsRunnableStep}
 use Rattle.mdr_copy.specs.Evaluated.{evaluated}
 use Rattle.mdr_user.specs.Arguments.{IsSoundArgument, then_others, evaluated_all}
 use Rattle.mdr_user.specs.Statements.{IsAcross}
@@ -107,12 +107,12 @@ module _ (allowed : Cell → Bool) (left : ℕ) (program : Program) (low : Enter
 
 -- ---- what soundness says of a call
 
-pub sound_across : (program : Program) (critical : Bool) (callee : Called) (es : List Term) → IsSoundCall program critical callee es → IsAcross program callee
+pub sound_across : (program : Program) (critical : Bool) (callee : Called) (es : List Term) → IsRunnableCall program critical callee es → IsAcross program callee
 sound_across program critical (Called.Direct f) es h = h.1
 sound_across program critical (Called.Service n) es h = tt
 sound_across program critical (Called.Through e) es h = elim h [ ]
 
-sound_terms : (program : Program) (critical : Bool) (callee : Called) (es : List Term) → IsSoundCall program critical callee es → AllByRecursion (IsSoundArgument program) es
+sound_terms : (program : Program) (critical : Bool) (callee : Called) (es : List Term) → IsRunnableCall program critical callee es → AllByRecursion (IsSoundArgument program) es
 sound_terms program critical (Called.Direct f) es h = subst (AllByRecursion (IsSoundArgument program)) (sym h.2) tt
 sound_terms program critical (Called.Service n) (value ∷ register ∷ []) h = ((U32, h.1.0), ((U32, h.1.1), tt))
 sound_terms program critical (Called.Service n) [] h = tt
@@ -124,14 +124,14 @@ each_term : (program : Program) (es : List Expr) → AllByRecursion (IsSoundArgu
 each_term program [] h = tt
 each_term program (e ∷ es) h = (h.0, each_term program es h.1)
 
-pub sound_arguments : (program : Program) (critical : Bool) (callee : Called) (es : List Expr) → IsSoundCall program critical callee (map term_of es)
+pub sound_arguments : (program : Program) (critical : Bool) (callee : Called) (es : List Expr) → IsRunnableCall program critical callee (map term_of es)
     → AllByRecursion (λ (e : Expr). IsSoundArgument program (term_of e)) es
 sound_arguments program critical callee es h = each_term program es (sound_terms program critical callee (map term_of es) h)
 
 -- the value of a call goes nowhere
-pub call_step : (allowed : Cell → Bool) (left : ℕ) (program : Program) (low : Enters) (here : Here) (at : At) (n : ℕ) (goal : Goal) (form : CallOf) (c : Code) (next : Tree) (m : Memory) → c ≡ Code.Call n goal form → IsSoundStep program false c
+pub call_step : (allowed : Cell → Bool) (left : ℕ) (program : Program) (low : Enters) (here : Here) (at : At) (n : ℕ) (goal : Goal) (form : CallOf) (c : Code) (next : Tree) (m : Memory) → c ≡ Code.Call n goal form → IsRunnableStep program false c
     → walk allowed left (statement program half.User low here at c next) m ≡ walk allowed left (values program at form.args (λ vs. call program half.User low here at form.callee vs (λ v. next))) m
 call_step allowed left program low here at n goal form c next m e h =
-    let sound : IsSoundStep program false (Code.Call n goal form) = subst (IsSoundStep program false) e h in
+    let sound : IsRunnableStep program false (Code.Call n goal form) = subst (IsRunnableStep program false) e h in
     ap (λ (x : Code). walk allowed left (statement program half.User low here at x next) m) e
     ∙ ap (λ (g : Goal). walk allowed left (statement program half.User low here at (Code.Call n g form) next) m) sound.0

@@ -13,7 +13,7 @@ use Rattle.mdr_model.specs.Memory.{Memory}
 use Rattle.mdr_model.specs.Tree.{Tree}
 use Rattle.mdr_model.specs.Walk.{Reached, Walked, walked, walk}
 use Rattle.mdr_model.specs.Meaning.{body_of, function, statement, number_of}
-use Rattle.mdr_model.specs.Sound.{IsSound, IsSoundFunc, IsSoundStep, IsSoundBody}
+use Rattle.mdr_model.specs.Runnable.{IsRunnable, IsRunnableFunc, IsRunnableStep, IsRunnableBody}
 use Rattle.mdr_model.proofs.HoldsLaws.{all_get}
 use Rattle.mdr_user.specs.declared.state.Position.{Position}
 use Rattle.mdr_user.specs.States.{here_of, tree_of, body_at, rest_at, IsUserFunc}
@@ -78,22 +78,22 @@ all_at P [] i d h inside = absurd (omega arith)
 all_at P (x ∷ xs) zero d h inside = h.0
 all_at P (x ∷ xs) (suc i) d h inside = all_at P xs i d h.1 (omega arith)
 
-sound_at : (program : Program) (critical : Bool) (ss : List Stmt) (i : ℕ) (d : Stmt) → IsSoundBody program critical (codes_of ss) → i < length ss → IsSoundStep program critical (code_of (get_or ss i d))
+sound_at : (program : Program) (critical : Bool) (ss : List Stmt) (i : ℕ) (d : Stmt) → IsRunnableBody program critical (codes_of ss) → i < length ss → IsRunnableStep program critical (code_of (get_or ss i d))
 sound_at program critical [] i d h inside = absurd (omega arith)
 sound_at program critical (s ∷ ss) zero d h inside = h.0
 sound_at program critical (s ∷ ss) (suc i) d h inside = sound_at program critical ss i d h.1 (omega arith)
 
-body_is_sound : (program : Program) (f : ℕ) → IsSound program → (own : IsUserFunc program f) → IsSoundBody program own.func.critical (codes_of (body_at program f))
+body_is_sound : (program : Program) (f : ℕ) → IsRunnable program → (own : IsUserFunc program f) → IsRunnableBody program own.func.critical (codes_of (body_at program f))
 body_is_sound program f h own =
-    let sound : IsSoundFunc program own.func = all_get (IsSoundFunc program) program.funcs f own.func h.funcs own.declared in
+    let sound : IsRunnableFunc program own.func = all_get (IsRunnableFunc program) program.funcs f own.func h.funcs own.declared in
     let body : body_at program f ≡ sound.statements = ap body_of own.declared ∙ of own.func.body sound.statements sound.body in
-    subst (λ (ss : List Stmt). IsSoundBody program own.func.critical (codes_of ss)) (sym body) sound.steps
+    subst (λ (ss : List Stmt). IsRunnableBody program own.func.critical (codes_of ss)) (sym body) sound.steps
   where
     of : (b : Option (List Stmt)) (ss : List Stmt) → b ≡ Some ss → unwrap_or b [] ≡ ss
     of b ss e = ap (λ (x : Option (List Stmt)). unwrap_or x []) e
 
-pub step_is_sound : (program : Program) (p : Position) (s : Stmt) → IsSound program → IsUserFunc program p.func → IsAt program p s → IsSoundStep program false (code_of s)
+pub step_is_sound : (program : Program) (p : Position) (s : Stmt) → IsRunnable program → IsUserFunc program p.func → IsAt program p s → IsRunnableStep program false (code_of s)
 step_is_sound program p s h own at =
-    let Sound : Stmt → Type 0 = λ x. IsSoundStep program own.func.critical (code_of x) in
+    let Sound : Stmt → Type 0 = λ x. IsRunnableStep program own.func.critical (code_of x) in
     let found : Sound (get_or (body_at program p.func) p.next s) = sound_at program own.func.critical (body_at program p.func) p.next s (body_is_sound program p.func h own) at.inside in
-    subst (λ (critical : Bool). IsSoundStep program critical (code_of s)) own.user (subst Sound (sym at.item) found)
+    subst (λ (critical : Bool). IsRunnableStep program critical (code_of s)) own.user (subst Sound (sym at.item) found)

@@ -7,12 +7,12 @@ use Rattle.mdr_core.specs.declared.kind.Kind.{Kind}
 use Rattle.mdr_model.specs.declared.wire.Wire.{Wire}
 use Rattle.mdr_model.specs.declared.memory.Cell.{Cell}
 use Rattle.mdr_model.specs.Memory.{Memory}
-use Rattle.mdr_model.specs.Sound.{IsSoundExpr}
+use Rattle.mdr_model.specs.Runnable.{IsRunnableExpr}
 use Rattle.mdr_copy.specs.Evaluated.{evaluated}
 
 -- an argument has a kind
 abbrev pub IsSoundArgument : Program → Term → Type 0
-IsSoundArgument program e = (kind : Kind) × IsSoundExpr program e kind
+IsSoundArgument program e = (kind : Kind) × IsRunnableExpr program e kind
 
 -- values in front of others
 abbrev pub behind : List Wire → Result (List Wire) StopKind → Result (List Wire) StopKind

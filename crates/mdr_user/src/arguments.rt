@@ -6,7 +6,7 @@ ghost use Rattle.mdr_core.specs.declared.code.Expr.{Expr as AnyExpr};
 ghost use Rattle.mdr_core.specs.Folds.{term_of};
 ghost use Rattle.mdr_model.specs.Holds.{IsSoundMemory};
 ghost use Rattle.mdr_model.specs.Sets.{is_in};
-ghost use Rattle.mdr_model.specs.Sound.{IsSound};
+ghost use Rattle.mdr_model.specs.Runnable.{IsRunnable};
 ghost use Rattle.mdr_user.specs.Arguments.{IsSoundArgument, evaluated_all};
 
 use mdr_copy::evaluated;
@@ -22,7 +22,7 @@ pub(crate) fn evaluated_all(
     memory: &[MemoryBlock],
     args: &[Expr],
 ) -> Result<Result<Items<Wire>, StopKind>, OutOfMemory>
-    requires program { IsSound program.now }
+    requires program { IsRunnable program.now }
     requires memory { IsSoundMemory program.now memory.now }
     requires arguments { AllByRecursion (λ (e : AnyExpr). IsSoundArgument program.now (term_of e)) args.now }
     ensures { IfOk result (λ values. values ≡ evaluated_all (is_in view.now) program.now memory.now (map term_of args.now)) }

@@ -6,7 +6,7 @@ ghost use Rattle.mdr_model.specs.Sets.{is_in};
 ghost use Rattle.mdr_model.specs.Walk.{walk};
 ghost use Rattle.mdr_model.specs.User.{is_empty, replied_to, deliver};
 ghost use Rattle.mdr_model.specs.Holds.{IsSoundMemory};
-ghost use Rattle.mdr_model.specs.Sound.{IsSound};
+ghost use Rattle.mdr_model.specs.Runnable.{IsRunnable};
 ghost use Rattle.mdr_user.specs.declared.state.Work.TheVariants.{Nothing, AwaitsBack, AwaitsAnswer};
 ghost use Rattle.mdr_user.specs.States.{rest_at, user_of, delivered, IsSoundPosition, IsSoundState};
 
@@ -35,7 +35,7 @@ fn run(
     view: Items<Cell>,
     copy: Items<MemoryBlock>,
 ) -> Result<(Message, State), OutOfMemory>
-    requires program { IsSound program.now }
+    requires program { IsRunnable program.now }
     requires copy { IsSoundMemory program.now copy }
     requires position { IsSoundPosition program.now here }
     ensures reply { IfOk result (λ d. (n : ℕ) → replied_to view rest copy (walk (is_in view) rest (rest_at program.now n here) copy) ≡ delivered program.now n d) }
@@ -61,7 +61,7 @@ fn call(
     view: Items<SetRun>,
     runs: Items<Run>,
 ) -> Result<(Message, State), OutOfMemory>
-    requires program { IsSound program.now }
+    requires program { IsRunnable program.now }
     requires copy { IsSoundMemory program.now agreed }
     ensures reply { IfOk result (λ d. (n : ℕ) → deliver program.now (suc n) (user_of program.now n (record { agreed = agreed; work = Nothing })) (Ok (Call func depth rest args deaths news view runs)) ≡ delivered program.now n d) }
     ensures sound { IfOk result (λ d. IsSoundState program.now d.1) }
@@ -108,7 +108,7 @@ fn back(
     view: Items<SetRun>,
     runs: Items<Run>,
 ) -> Result<(Message, State), OutOfMemory>
-    requires program { IsSound program.now }
+    requires program { IsRunnable program.now }
     requires copy { IsSoundMemory program.now agreed }
     requires position { IsSoundPosition program.now next }
     ensures reply { IfOk result (λ d. (n : ℕ) → deliver program.now (suc n) (user_of program.now n (record { agreed = agreed; work = AwaitsBack func seen next })) (Ok (Back rest value deaths news view runs)) ≡ delivered program.now n d) }
@@ -170,7 +170,7 @@ fn answer(
     deaths: Items<u64>,
     news: Items<New>,
 ) -> Result<(Message, State), OutOfMemory>
-    requires program { IsSound program.now }
+    requires program { IsRunnable program.now }
     requires copy { IsSoundMemory program.now agreed }
     requires position { IsSoundPosition program.now next }
     ensures reply { IfOk result (λ d. (n : ℕ) → deliver program.now (suc n) (user_of program.now n (record { agreed = agreed; work = AwaitsAnswer asked seen left next })) (Ok (Answer results deaths news)) ≡ delivered program.now n d) }
@@ -217,7 +217,7 @@ fn on_call(
     view: Items<SetRun>,
     runs: Items<Run>,
 ) -> Result<(Message, State), OutOfMemory>
-    requires program { IsSound program.now }
+    requires program { IsRunnable program.now }
     requires state { IsSoundState program.now state }
     ensures reply { IfOk result (λ d. (n : ℕ) → deliver program.now (suc n) (user_of program.now n state) (Ok (Call func depth rest args deaths news view runs)) ≡ delivered program.now n d) }
     ensures sound { IfOk result (λ d. IsSoundState program.now d.1) }
@@ -252,7 +252,7 @@ fn on_back(
     view: Items<SetRun>,
     runs: Items<Run>,
 ) -> Result<(Message, State), OutOfMemory>
-    requires program { IsSound program.now }
+    requires program { IsRunnable program.now }
     requires state { IsSoundState program.now state }
     ensures reply { IfOk result (λ d. (n : ℕ) → deliver program.now (suc n) (user_of program.now n state) (Ok (Back rest value deaths news view runs)) ≡ delivered program.now n d) }
     ensures sound { IfOk result (λ d. IsSoundState program.now d.1) }
@@ -288,7 +288,7 @@ fn on_answer(
     deaths: Items<u64>,
     news: Items<New>,
 ) -> Result<(Message, State), OutOfMemory>
-    requires program { IsSound program.now }
+    requires program { IsRunnable program.now }
     requires state { IsSoundState program.now state }
     ensures reply { IfOk result (λ d. (n : ℕ) → deliver program.now (suc n) (user_of program.now n state) (Ok (Answer results deaths news)) ≡ delivered program.now n d) }
     ensures sound { IfOk result (λ d. IsSoundState program.now d.1) }
@@ -324,7 +324,7 @@ pub(crate) fn deliver(
     state: State,
     message: Message,
 ) -> Result<(Message, State), OutOfMemory>
-    requires program { IsSound program.now }
+    requires program { IsRunnable program.now }
     requires state { IsSoundState program.now state }
     ensures reply { IfOk result (λ d. (n : ℕ) → deliver program.now (suc n) (user_of program.now n state) (Ok message) ≡ delivered program.now n d) }
     ensures sound { IfOk result (λ d. IsSoundState program.now d.1) }

@@ -4,7 +4,7 @@ ghost use Rattle.std.specs.Prelude.{◌≡◌, ℕ, [], false, Some, IfOk, OnErr
 ghost use Rattle.mdr_model.specs.declared.message.Message.TheVariants.{Refuse};
 ghost use Rattle.mdr_model.specs.Text.{text};
 ghost use Rattle.mdr_model.specs.Bytes.{user_reply_to_bytes};
-ghost use Rattle.mdr_model.specs.Sound.{IsSound};
+ghost use Rattle.mdr_model.specs.Runnable.{IsRunnable};
 ghost use Rattle.mdr_user.specs.Honest.{sents, Honest};
 ghost use Rattle.mdr_user.specs.Halves.{new_half, after_reply, lost, ReplyAlike, Loads};
 
@@ -55,7 +55,7 @@ fn exchange(alloc: Global, sent: &[u8], reply: &[u8]) -> Result<Exchange, OutOfM
 
 impl UserHalf {
     fn begin(alloc: Global, program: Program) -> Result<UserHalf, OutOfMemory>
-        requires { IsSound program }
+        requires { IsRunnable program }
         ensures { IfOk result (λ h. h ≡ new_half program) }
     {
         let agreed = first_memory(alloc, &program)?;

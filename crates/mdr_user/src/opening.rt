@@ -7,7 +7,7 @@ ghost use Rattle.mdr_model.specs.Meaning.{func_at, is_user};
 ghost use Rattle.mdr_model.specs.Kernel.{result_type};
 ghost use Rattle.mdr_model.specs.Copies.{without, with_news};
 ghost use Rattle.mdr_model.specs.User.{still_live, runs_fit};
-ghost use Rattle.mdr_model.specs.Sound.{IsSound};
+ghost use Rattle.mdr_model.specs.Runnable.{IsRunnable};
 ghost use Rattle.mdr_model.specs.Holds.{IsSoundMemory};
 ghost use Rattle.mdr_user.specs.Openings.{renewed, shown, opened_by, may_call};
 

@@ -4,7 +4,7 @@ ghost use Rattle.std.specs.Prelude.{◌≡◌, ℕ, suc, IfOk};
 ghost use Rattle.mdr_model.specs.Text.{text};
 ghost use Rattle.mdr_model.specs.Reading.{reading_of};
 ghost use Rattle.mdr_model.specs.User.{deliver};
-ghost use Rattle.mdr_model.specs.Sound.{IsSound};
+ghost use Rattle.mdr_model.specs.Runnable.{IsRunnable};
 ghost use Rattle.mdr_user.specs.States.{user_of, delivered, IsSoundState};
 ghost use Rattle.mdr_user.specs.Halves.{IsSpelled};
 ghost use Rattle.mdr_user.specs.Options.{read_as};
@@ -38,7 +38,7 @@ fn delivered(
     state: State,
     bytes: &[u8],
 ) -> Result<(Message, State), OutOfMemory>
-    requires program { IsSound program.now }
+    requires program { IsRunnable program.now }
     requires state { IsSoundState program.now state }
     ensures reply { IfOk result (λ d. (n : ℕ) → deliver program.now (suc n) (user_of program.now n state) (reading_of bytes.now) ≡ delivered program.now n d) }
     ensures sound { IfOk result (λ d. IsSoundState program.now d.1) }
@@ -70,7 +70,7 @@ pub(crate) fn spelled(
     state: State,
     bytes: &[u8],
 ) -> Result<(Vec<u8>, State), OutOfMemory>
-    requires program { IsSound program.now }
+    requires program { IsRunnable program.now }
     requires state { IsSoundState program.now state }
     ensures reply { IfOk result (λ r. (n : ℕ) → IsSpelled program.now n (deliver program.now (suc n) (user_of program.now n state) (reading_of bytes.now)) r.0.items r.1) }
     ensures sound { IfOk result (λ r. IsSoundState program.now r.1) }

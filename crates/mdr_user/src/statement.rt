@@ -12,7 +12,7 @@ ghost use Rattle.mdr_model.specs.Walk.{walk};
 ghost use Rattle.mdr_model.specs.Meaning.{Here, Enters, call, statement, values, keeps};
 ghost use Rattle.mdr_model.specs.Holds.{IsSoundMemory};
 ghost use Rattle.mdr_model.specs.Sets.{is_in};
-ghost use Rattle.mdr_model.specs.Sound.{IsSound, IsSoundCall, IsSoundStep};
+ghost use Rattle.mdr_model.specs.Runnable.{IsRunnable, IsRunnableCall, IsRunnableStep};
 ghost use Rattle.mdr_user.specs.Statements.{Cells, IsAcross, after_statement};
 
 use crate::arguments::evaluated_all;
@@ -39,9 +39,9 @@ fn assign(
     e: &Expr,
     memory: &mut [MemoryBlock],
 ) -> Did
-    requires program { IsSound program.now }
+    requires program { IsRunnable program.now }
     requires memory { IsSoundMemory program.now memory.old }
-    requires statement { (number : ℕ) → IsSoundStep program.now false (Assign number (lvalue_of place.now) (term_of e.now)) }
+    requires statement { (number : ℕ) → IsRunnableStep program.now false (Assign number (lvalue_of place.now) (term_of e.now)) }
     ensures walk { (left : ℕ) (low : Enters) (here : Here) (at : Place) (number : ℕ) (next : Tree) → walk (is_in view.now) left (statement program.now User low here at (Assign number (lvalue_of place.now) (term_of e.now)) next) memory.old ≡ after_statement (is_in view.now) here at result left next memory.new }
     ensures memory { IsSoundMemory program.now memory.new }
     ensures births { births memory.new ≡ births memory.old }
@@ -85,9 +85,9 @@ fn call(
     depth: u32,
     at: At,
 ) -> Result<Did, OutOfMemory>
-    requires program { IsSound program.now }
+    requires program { IsRunnable program.now }
     requires memory { IsSoundMemory program.now memory.now }
-    requires statement { IsSoundCall program.now false (called_of form.now.callee) (map term_of form.now.args) }
+    requires statement { IsRunnableCall program.now false (called_of form.now.callee) (map term_of form.now.args) }
     ensures { IfOk result (λ did. (left : ℕ) (low : Enters) (here : Here) (next : Tree) → here.depth ≡ depth → walk (is_in view.now) left (values program.now at (map term_of form.now.args) (λ vs. call program.now User low here at (called_of form.now.callee) vs (λ v. next))) memory.now ≡ after_statement (is_in view.now) here at did left next memory.now) }
 {
     match evaluated_all(alloc, view, program, memory, form.args.as_slice())? {
@@ -106,9 +106,9 @@ pub(crate) fn statement(
     depth: u32,
     at: At,
 ) -> Result<Did, OutOfMemory>
-    requires program { IsSound program.now }
+    requires program { IsRunnable program.now }
     requires memory { IsSoundMemory program.now memory.old }
-    requires statement { IsSoundStep program.now false (code_of stmt.now) }
+    requires statement { IsRunnableStep program.now false (code_of stmt.now) }
     ensures walk { IfOk result (λ did. (left : ℕ) (low : Enters) (here : Here) (next : Tree) → here.depth ≡ depth → walk (is_in view.now) left (statement program.now User low here at (code_of stmt.now) next) memory.old ≡ after_statement (is_in view.now) here at did left next memory.new) }
     ensures memory { IfOk result (λ did. IsSoundMemory program.now memory.new) }
     ensures births { IfOk result (λ did. births memory.new ≡ births memory.old) }

@@ -6,7 +6,7 @@ ghost use Rattle.mdr_model.specs.Memory.{Memory, births};
 ghost use Rattle.mdr_model.specs.Walk.{walk, walked};
 ghost use Rattle.mdr_model.specs.Holds.{IsSoundMemory};
 ghost use Rattle.mdr_model.specs.Sets.{is_in};
-ghost use Rattle.mdr_model.specs.Sound.{IsSound};
+ghost use Rattle.mdr_model.specs.Runnable.{IsRunnable};
 ghost use Rattle.mdr_user.specs.States.{here_of, body_at, rest_at, IsSoundPosition};
 ghost use Rattle.mdr_user.specs.Statements.{Cells, after_statement, reached_of, told_walk, next_of, turn_left, after_turn, IsSoundEvent, IsSoundTurn};
 
@@ -72,7 +72,7 @@ fn turn(
     memory: &mut [MemoryBlock],
     left: u64,
 ) -> Result<Progress, OutOfMemory>
-    requires program { IsSound program.now }
+    requires program { IsRunnable program.now }
     requires memory { IsSoundMemory program.now memory.old }
     requires position { IsSoundPosition program.now here }
     requires body { body.now ≡ body_at program.now here.func }
@@ -109,7 +109,7 @@ pub(crate) fn walk(
     memory: &mut [MemoryBlock],
     ticks: u64,
 ) -> Result<(Event, u64), OutOfMemory>
-    requires program { IsSound program.now }
+    requires program { IsRunnable program.now }
     requires memory { IsSoundMemory program.now memory.old }
     requires position { IsSoundPosition program.now here }
     ensures walk { IfOk result (λ r. (n : ℕ) → told_walk (walk (is_in view.now) ticks (rest_at program.now n here) memory.old) ≡ walked (reached_of program.now n r.0) memory.new r.1) }

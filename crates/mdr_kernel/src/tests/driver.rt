@@ -6,7 +6,8 @@ ghost use Rattle.mdr_core.specs.declared.kind.Kind.TheVariants.{U32 as Number};
 ghost use Rattle.mdr_core.specs.declared.program.Program.{Program as AnyProgram};
 ghost use Rattle.mdr_core.specs.Folds.{term_of, code_of};
 ghost use Rattle.mdr_model.specs.Meaning.{is_kernel};
-ghost use Rattle.mdr_model.specs.Sound.{first_types, IsSoundGlobal, IsVariable, IsSoundExpr, IsSoundStep, IsSoundFunc, IsSound};
+ghost use Rattle.mdr_core.specs.Types.{first_types};
+ghost use Rattle.mdr_model.specs.Runnable.{IsRunnableGlobal, IsVariable, IsRunnableExpr, IsRunnableStep, IsRunnableFunc, IsRunnable};
 
 use mdr_core::{
     Ann, BinOp, Boxed, CallForm, Callee, Expr, Func, GlobalDef, Items, Kind, Lval, OutOfMemory,
@@ -37,7 +38,7 @@ fn types(alloc: Global) -> Result<Items<Ty>, OutOfMemory>
 fn count(alloc: Global) -> Result<GlobalDef, OutOfMemory>
     ensures ty { IfOk result (λ g. g.ty ≡ Ty.Int Kind.U32) }
     ensures one { IfOk result (λ g. g.count ≡ 1) }
-    ensures sound { IfOk result IsSoundGlobal }
+    ensures sound { IfOk result IsRunnableGlobal }
 {
     let mut init = Items::new(alloc);
     init.push(Value::Int(Kind::U32, 0))?;
@@ -53,26 +54,26 @@ fn count(alloc: Global) -> Result<GlobalDef, OutOfMemory>
 
 #[tactic(auto, unfolding(mdr_core::specs::Kinds::is_in_range))]
 fn one() -> Expr
-    ensures { (program : AnyProgram) → IsSoundExpr program (term_of result) Number }
+    ensures { (program : AnyProgram) → IsRunnableExpr program (term_of result) Number }
 {
     Expr::Lit(Value::Int(Kind::U32, 1))
 }
 
 #[tactic(auto, unfolding(mdr_core::specs::Kinds::is_in_range))]
 fn four() -> Expr
-    ensures { (program : AnyProgram) → IsSoundExpr program (term_of result) Number }
+    ensures { (program : AnyProgram) → IsRunnableExpr program (term_of result) Number }
 {
     Expr::Lit(Value::Int(Kind::U32, 4))
 }
 
 fn load() -> Expr
-    ensures { (program : AnyProgram) → IsVariable program 0 Number → IsSoundExpr program (term_of result) Number }
+    ensures { (program : AnyProgram) → IsVariable program 0 Number → IsRunnableExpr program (term_of result) Number }
 {
     Expr::Load(Lval::Global(0))
 }
 
 fn plus(alloc: Global, left: Expr, right: Expr) -> Result<Expr, OutOfMemory>
-    ensures { IfOk result (λ e. (program : AnyProgram) → IsSoundExpr program (term_of left) Number → IsSoundExpr program (term_of right) Number → IsSoundExpr program (term_of e) Number) }
+    ensures { IfOk result (λ e. (program : AnyProgram) → IsRunnableExpr program (term_of left) Number → IsRunnableExpr program (term_of right) Number → IsRunnableExpr program (term_of e) Number) }
 {
     Ok(Expr::Bin(
         BinOp::Add,
@@ -84,7 +85,7 @@ fn plus(alloc: Global, left: Expr, right: Expr) -> Result<Expr, OutOfMemory>
 
 /// count = count + 1;
 fn increment(alloc: Global) -> Result<Stmt, OutOfMemory>
-    ensures { IfOk result (λ s. (program : AnyProgram) → IsVariable program 0 Number → IsSoundStep program true (code_of s)) }
+    ensures { IfOk result (λ s. (program : AnyProgram) → IsVariable program 0 Number → IsRunnableStep program true (code_of s)) }
 {
     let sum = plus(alloc, load(), one())?;
     Ok(Stmt {
@@ -95,7 +96,7 @@ fn increment(alloc: Global) -> Result<Stmt, OutOfMemory>
 
 /// bump();
 fn call(alloc: Global, number: u32) -> Stmt
-    ensures { (program : AnyProgram) → is_kernel program 0 ≡ true → IsSoundStep program false (code_of result) }
+    ensures { (program : AnyProgram) → is_kernel program 0 ≡ true → IsRunnableStep program false (code_of result) }
 {
     Stmt {
         number,
@@ -113,7 +114,7 @@ fn call(alloc: Global, number: u32) -> Stmt
 
 /// writel(count, 4);
 fn write(alloc: Global) -> Result<Stmt, OutOfMemory>
-    ensures { IfOk result (λ s. (program : AnyProgram) → IsVariable program 0 Number → IsSoundStep program false (code_of s)) }
+    ensures { IfOk result (λ s. (program : AnyProgram) → IsVariable program 0 Number → IsRunnableStep program false (code_of s)) }
 {
     let mut args = Items::new(alloc);
     args.push(load())?;
@@ -134,7 +135,7 @@ fn write(alloc: Global) -> Result<Stmt, OutOfMemory>
 
 fn bump_func(alloc: Global) -> Result<Func, OutOfMemory>
     ensures critical { IfOk result (λ f. f.critical ≡ true) }
-    ensures sound { IfOk result (λ f. (program : AnyProgram) → IsVariable program 0 Number → IsSoundFunc program f) }
+    ensures sound { IfOk result (λ f. (program : AnyProgram) → IsVariable program 0 Number → IsRunnableFunc program f) }
 {
     let mut body = Items::new(alloc);
     body.push(increment(alloc)?)?;
@@ -150,7 +151,7 @@ fn bump_func(alloc: Global) -> Result<Func, OutOfMemory>
 }
 
 fn open_func(alloc: Global) -> Result<Func, OutOfMemory>
-    ensures { IfOk result (λ f. (program : AnyProgram) → IsVariable program 0 Number → is_kernel program 0 ≡ true → IsSoundFunc program f) }
+    ensures { IfOk result (λ f. (program : AnyProgram) → IsVariable program 0 Number → is_kernel program 0 ≡ true → IsRunnableFunc program f) }
 {
     let mut body = Items::new(alloc);
     body.push(call(alloc, 1))?;
@@ -169,7 +170,7 @@ fn open_func(alloc: Global) -> Result<Func, OutOfMemory>
 
 /// A driver whose function in the user half calls one in the kernel half twice, and writes a register between.
 pub(crate) fn bump(alloc: Global) -> Result<Program, OutOfMemory>
-    ensures { IfOk result IsSound }
+    ensures { IfOk result IsRunnable }
 {
     let mut globals = Items::new(alloc);
     globals.push(count(alloc)?)?;

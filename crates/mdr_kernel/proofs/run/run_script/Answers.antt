@@ -5,7 +5,7 @@ use Rattle.mdr_outside.specs.declared.far.Exchange.{Exchange}
 use Rattle.mdr_outside.specs.Calls.{FarCall, Sends, and_then}
 use Rattle.mdr_model.specs.declared.message.Message.{Message}
 use Rattle.mdr_model.specs.declared.outcome.End.TheVariants as ends
-use Rattle.mdr_model.specs.Sound.{IsSound}
+use Rattle.mdr_model.specs.Runnable.{IsRunnable}
 use Rattle.mdr_model.specs.Memory.{Memory}
 use Rattle.mdr_model.specs.Text.{text}
 use Rattle.mdr_model.specs.Reading.{reading_of}
@@ -27,7 +27,7 @@ use Rattle.mdr_kernel.proofs.run.run_script.Goals as goal
 length_more : (es es' : List Exchange) (e : Exchange) → es' ≡ es ++ e ∷ [] → length es' ≡ suc (length es)
 length_more es es' e added = ap length added ∙ omega (arith, length-append es (e ∷ []))
 
-module _ (program : Program) (sound : IsSound program) (script : List ℕ) (budget : ℕ) where
+module _ (program : Program) (sound : IsRunnable program) (script : List ℕ) (budget : ℕ) where
   abbrev StandsSo : List Exchange → Pending → Type 0
   StandsSo es p = Stands program budget (length script) (suc (length es)) p
 

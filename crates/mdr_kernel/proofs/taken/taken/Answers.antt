@@ -7,7 +7,7 @@ use Rattle.mdr_model.specs.declared.message.Run.{Run}
 use Rattle.mdr_model.specs.declared.message.Shape64.{Shape64}
 use Rattle.mdr_model.specs.declared.message.Message.{Message}
 use Rattle.mdr_model.specs.declared.message.Message.TheVariants as message
-use Rattle.mdr_model.specs.Sound.{IsSound}
+use Rattle.mdr_model.specs.Runnable.{IsRunnable}
 use Rattle.mdr_model.specs.Faults.{args_fault}
 use Rattle.mdr_model.specs.Kernel.{Kernel, Rest, service_params, fault_of, applied}
 use Rattle.mdr_kernel.specs.States.{kernel_of, rest_of, IsSoundWorld}
@@ -19,7 +19,7 @@ use Rattle.mdr_kernel.proofs.taken.taken.Goals as goal
 abbrev IsLegal : Program → Kernel → Rest → Message → Type 0
 IsLegal program k rest m = fault_of program k rest m ≡ None
 
-applied_world : (program : Program) (k k' : Kernel) (ticks : ℕ) (runs stored : List Run) → IsSound program → IsSoundWorld program k.world → IsFit program k ticks runs → stored ≡ runs → k' ≡ applied ticks stored k → IsSoundWorld program k'.world
+applied_world : (program : Program) (k k' : Kernel) (ticks : ℕ) (runs stored : List Run) → IsRunnable program → IsSoundWorld program k.world → IsFit program k ticks runs → stored ≡ runs → k' ≡ applied ticks stored k → IsSoundWorld program k'.world
 applied_world program k k' ticks runs stored sound s fit same is =
     subst (λ (x : Kernel). IsSoundWorld program x.world) (sym is)
     (applied_is_sound program k ticks stored sound s (subst (λ (rs : List Run). IsFit program k ticks rs) (sym same) fit))

@@ -8,22 +8,23 @@ use Rattle.mdr_core.specs.declared.program.Program.{Program}
 use Rattle.mdr_core.specs.declared.program.GlobalDef.{GlobalDef}
 use Rattle.mdr_core.specs.declared.program.Func.{Func}
 use Rattle.mdr_model.specs.Meaning.{critical_of, is_kernel}
-use Rattle.mdr_model.specs.Sound.{first_types, IsSoundGlobal, IsVariable, IsSoundFunc, IsSound}
+use Rattle.mdr_core.specs.Types.{first_types}
+use Rattle.mdr_model.specs.Runnable.{IsRunnableGlobal, IsVariable, IsRunnableFunc, IsRunnable}
 use Rattle.mdr_kernel.proofs.tests.driver.bump.Goals as goal
 
 first_is_kernel : (program : Program) (f o : Func) → program.funcs ≡ f ∷ o ∷ [] → f.critical ≡ true → is_kernel program 0 ≡ true
 unfolding is_kernel
 first_is_kernel program f o e critical = ap (λ (fs : List Func). critical_of (slice_get fs 0)) e ∙ critical
 
-bump_is_sound : (program : Program) (g : GlobalDef) (f o : Func) → program.types ≡ first_types → program.structs ≡ [] → program.globals ≡ g ∷ [] → program.funcs ≡ f ∷ o ∷ [] → g.ty ≡ ty.Int U32 → g.count ≡ 1 → IsSoundGlobal g
-    → f.critical ≡ true → ((p : Program) → IsVariable p 0 U32 → IsSoundFunc p f) → ((p : Program) → IsVariable p 0 U32 → is_kernel p 0 ≡ true → IsSoundFunc p o) → IsSound program
+bump_is_sound : (program : Program) (g : GlobalDef) (f o : Func) → program.types ≡ first_types → program.structs ≡ [] → program.globals ≡ g ∷ [] → program.funcs ≡ f ∷ o ∷ [] → g.ty ≡ ty.Int U32 → g.count ≡ 1 → IsRunnableGlobal g
+    → f.critical ≡ true → ((p : Program) → IsVariable p 0 U32 → IsRunnableFunc p f) → ((p : Program) → IsVariable p 0 U32 → is_kernel p 0 ≡ true → IsRunnableFunc p o) → IsRunnable program
 bump_is_sound program g f o types structs globals funcs kind one sound critical first second =
     let variable : IsVariable program 0 U32 = record { global = g; declared = ap (λ (gs : List GlobalDef). slice_get gs 0) globals; kind = kind; one = one } in
     record {
       types = types;
       structs = structs;
-      globals = subst (AllByRecursion IsSoundGlobal) (sym globals) (sound, tt);
-      funcs = subst (AllByRecursion (IsSoundFunc program)) (sym funcs) (first program variable, (second program variable (first_is_kernel program f o funcs critical), tt));
+      globals = subst (AllByRecursion IsRunnableGlobal) (sym globals) (sound, tt);
+      funcs = subst (AllByRecursion (IsRunnableFunc program)) (sym funcs) (first program variable, (second program variable (first_is_kernel program f o funcs critical), tt));
     }
 
 pub returns : goal.returns

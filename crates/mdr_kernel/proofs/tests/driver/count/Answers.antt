@@ -8,10 +8,10 @@ use Rattle.mdr_core.specs.declared.value.Value.{Value}
 use Rattle.mdr_core.specs.declared.value.Value.TheVariants as value
 use Rattle.mdr_core.specs.Kinds.{is_in_range}
 use Rattle.mdr_model.specs.Values.{fits_type, wire_of}
-use Rattle.mdr_model.specs.Sound.{IsSoundGlobal}
+use Rattle.mdr_model.specs.Runnable.{IsRunnableGlobal}
 use Rattle.mdr_kernel.proofs.tests.driver.count.Goals as goal
 
-count_is_sound : (name : List ℕ) (init : List Value) → init ≡ value.Int U32 (pos 0) ∷ [] → IsSoundGlobal (record { name = name; ty = ty.Int U32; count = 1; array = false; ann = Single; init = init })
+count_is_sound : (name : List ℕ) (init : List Value) → init ≡ value.Int U32 (pos 0) ∷ [] → IsRunnableGlobal (record { name = name; ty = ty.Int U32; count = 1; array = false; ann = Single; init = init })
 unfolding is_in_range
 count_is_sound name init e = record {
   cell = tt;
