@@ -1,9 +1,15 @@
 -- What was done is what is printed, and what is meant.
-use Rattle.std.proofs.Common.{◌≡◌, ℕ, ◌⊎◌, inl, inr, List, [], Option, Some, refl, sym, ap, ◌∙◌, subst}
+use Rattle.std.proofs.Common.{◌≡◌, ℕ, ◌⊎◌, inl, inr, List, [], ◌++◌, map, length, take, Option, Some, refl, sym, ap, ◌∙◌, subst}
 use Rattle.mdr_core.specs.declared.program.Program.{Program}
 use Rattle.mdr_model.specs.declared.outcome.End.TheVariants as ends
 use Rattle.mdr_model.specs.Runnable.{IsBound}
-use Rattle.mdr_outside.specs.Calls.{ShelfCall, Read, FarCall, and_then}
+use Rattle.std.proofs.lemmas.List.{append-nil}
+use Rattle.mdr_model.specs.Text.{text}
+use Rattle.mdr_kernel.specs.Runs.{sent_of, run_over}
+use Rattle.mdr_kernel.specs.HalfState.{HalfState}
+use Rattle.mdr_kernel.specs.Calls.{sends, IsPart, IsStopped}
+use Rattle.mdr_kernel.proofs.Stops.{part_taken}
+use Rattle.mdr_outside.specs.Calls.{ShelfCall, Read, FarCall, Loads, and_then}
 use Rattle.mdr_outside.specs.Shelf.{ReadsFrom}
 use Rattle.mdr_outside.specs.Far.{loaded_with}
 use Rattle.mdr_outside.specs.declared.shelf.ReadAnswer.{ReadAnswer}
@@ -15,8 +21,8 @@ use Rattle.mdr_user.specs.Honest.{IsHonest}
 use Rattle.mdr_top.specs.declared.status.Status.{Status}
 use Rattle.mdr_top.specs.declared.status.Status.TheVariants as status
 use Rattle.mdr_top.specs.Words.{command_of}
-use Rattle.mdr_top.specs.Answers.{Files, longest_source, longest_script, status_of, nothing_ran, Unread, HasProgram, HasScript, Ran, Called, Scripted, Compiled, Sourced, Answered, Prints}
-use Rattle.mdr_top.specs.Done.{IsRead, IsUnread, UnreadBy, Done, DonePart, Does}
+use Rattle.mdr_top.specs.Answers.{Files, longest_source, longest_script, default_ticks, status_of, nothing_ran, Unread, HasProgram, HasScript, Ran, Called, Scripted, Compiled, Sourced, Answered, Prints}
+use Rattle.mdr_top.specs.Done.{IsRead, IsUnread, UnreadBy, SentPart, LoadedOnce, LoadedPart, Done, DonePart, Does}
 use Rattle.mdr_top.specs.Headline.{meant, IsMeaning, IsAccepted, MeansBy, Means}
 use Rattle.mdr_top.proofs.Headline.{honest_load, began_means, nothing_end, IsEarly, source_early, own_never}
 
@@ -113,3 +119,29 @@ module _ (words : List (List ℕ)) (files : Files) (shelf shelf' : List ShelfCal
           meaning = m.meaning;
         };
       }
+
+-- ---- what the far side gets
+
+module _ (program : Program) (calls : List ℕ) (old new : List FarCall) (es : List Exchange) where
+  pub sent_none : new ≡ old → SentPart program calls old new es
+  sent_none same = record { sent = []; sends = same ∙ sym (append-nil old); part = record { count = 0; part = refl } }
+
+  pub sent_stopped : (h : HalfState) (p : Program) → p ≡ program → IsStopped p calls default_ticks old new es h → SentPart program calls old new es
+  sent_stopped h p same s = record { sent = s.sent; sends = s.called; part = subst (λ (q : Program). IsPart q calls default_ticks es s.sent) same s.part }
+
+  pub sent_whole : sent_of es ≡ map text (run_over program calls default_ticks es).sent → new ≡ old ++ sends (sent_of es) → SentPart program calls old new es
+  sent_whole sent called =
+      let all : List (List ℕ) = map text (run_over program calls default_ticks es).sent in
+      record { sent = sent_of es; sends = called; part = record { count = length all; part = sent ∙ part_taken all [] ∙ ap (take (length all)) (append-nil all) } }
+
+  -- and before that it was loaded
+  pub loaded_part : (source : List ℕ) (before : List FarCall) → old ≡ and_then before (Loads source []) → SentPart program calls old new es → LoadedPart program source calls before new es
+  loaded_part source before loaded s = record { sent = s.sent; loads = s.sends ∙ ap (λ (xs : List FarCall). xs ++ sends s.sent) loaded; part = s.part }
+
+pub loaded_once : (source : List ℕ) (before old new : List FarCall) (es : List Exchange) → old ≡ and_then before (Loads source []) → new ≡ old ++ sends (sent_of es) → LoadedOnce source before new (sent_of es)
+loaded_once source before old new es loaded called = called ∙ ap (λ (xs : List FarCall). xs ++ sends (sent_of es)) loaded
+
+-- it was loaded, and got no message
+pub loaded_alone : (source : List ℕ) (before new : List FarCall) (es : List Exchange) → new ≡ and_then before (Loads source []) → es ≡ [] → LoadedOnce source before new (sent_of es)
+loaded_alone source before new es loaded none =
+    loaded ∙ sym (append-nil (and_then before (Loads source []))) ∙ ap (λ (xs : List Exchange). and_then before (Loads source []) ++ sends (sent_of xs)) (sym none)
