@@ -46,7 +46,7 @@ module _ (program : Program) (first : IsSoundProgram program) where
   codes_are critical [] h = tt
   codes_are critical (s ∷ ss) h = (code_is critical (code_of s) h.0, codes_are critical ss h.1)
 
-  func_is : (f : Func) → IsRunnableFunc program.globals program.funcs f → IsBuiltFunc program f
+  func_is : (f : Func) → IsSoundFunc program.globals program.funcs f → IsBuiltFunc program f
   func_is f h = record {
     params = ap (λ (x : Func). x.params) h.whole;
     locals = ap (λ (x : Func). x.locals) h.whole;
@@ -56,7 +56,7 @@ module _ (program : Program) (first : IsSoundProgram program) where
     steps = subst (λ (b : Bool). IsBuiltBody program b (codes_of h.statements)) (ap (λ (x : Func). x.critical) (sym h.whole)) (codes_are h.is_critical h.statements h.sound);
   }
 
-  funcs_are : (fs : List Func) → AllByRecursion (IsRunnableFunc program.globals program.funcs) fs → AllByRecursion (IsBuiltFunc program) fs
+  funcs_are : (fs : List Func) → AllByRecursion (IsSoundFunc program.globals program.funcs) fs → AllByRecursion (IsBuiltFunc program) fs
   funcs_are [] h = tt
   funcs_are (f ∷ fs) h = (func_is f h.0, funcs_are fs h.1)
 
@@ -74,7 +74,7 @@ program_is_built program h = record {
   funcs = funcs_are program h program.funcs h.funcs;
 }
 
-pub program_is_sound : (program : Program) → IsSoundProgram program → IsRunnable program
+pub program_is_sound : (program : Program) → IsSoundProgram program → IsSound program
 program_is_sound program h = sound_program program h
 
 pub program_runs : (program : Program) → IsSoundProgram program → IsRunnable program

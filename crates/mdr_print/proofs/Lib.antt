@@ -1,0 +1,3 @@
+pub mod Folds
+pub mod Reading
+pub mod Steps

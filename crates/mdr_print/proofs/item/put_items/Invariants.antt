@@ -1,0 +1,7 @@
+use Rattle.std.proofs.Common.{◌≡◌, ◌++◌, drop, map, List}
+use Rattle.mdr_print.specs.Marks.{Mark, spell, row}
+use Rattle.mdr_print.specs.Items.{item_lines}
+use Rattle.mdr_print.proofs.item.put_items.Given as goal
+
+abbrev pub invariant-loop-item : goal.invariant-loop-item
+invariant-loop-item l = (rest : List Mark) → l.out.items ++ spell (row (map item_lines (drop l.item-index l.items)) rest) ≡ l.initial.out.items ++ spell (row (map item_lines l.items) rest)

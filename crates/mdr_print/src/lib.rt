@@ -1,0 +1,17 @@
+//! The text of a tree.
+#![tactic(auto)]
+
+mod declaration;
+mod form;
+mod initialiser;
+mod item;
+mod laws;
+mod put;
+mod statement;
+mod types;
+
+pub use item::print;
+pub use laws::printed_tokens_are_read;
+
+#[cfg(test)]
+mod tests;
