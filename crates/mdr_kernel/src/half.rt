@@ -80,7 +80,7 @@ impl<'a> KernelHalf<'a> {
     /// A half that had no run. The memory has the globals.
     #[tactic(auto, using(mdr_model::proofs::BuiltLaws::runnable))]
     pub fn new(alloc: Global, program: &'a Program) -> Result<KernelHalf<'a>, OutOfMemory>
-        requires sound { IsRunnable program.now }
+        requires sound { IsSound program.now }
         requires built { IsBuilt program.now }
         ensures { IfOk result (λ h. h ≡ record { program = program.now; is_fresh = true; memory = first_memory program.now; messages = 0 }) }
     {

@@ -87,7 +87,7 @@ get_below [] i x e = absurd (Prim.cc)
 get_below (y ∷ xs) zero x e = omega arith
 get_below (y ∷ xs) (suc i) x e = let rest : suc i ≤ length xs = get_below xs i x e in omega (arith, rest)
 
-runnable_global : (program : Program) (g : ℕ) (def : GlobalDef) → IsBuiltCell def.ty → IsRunnableGlobal program g def → IsRunnableGlobal def
+runnable_global : (program : Program) (g : ℕ) (def : GlobalDef) → IsBuiltCell def.ty → IsSoundGlobal program g def → IsRunnableGlobal def
 runnable_global program g def b sound =
     let one : HasOneCell program def.ty = one_cell program def.ty b in
     let laid : all_cells program def.ty def.count ≡ repeated def.count (one.leaf ∷ []) = ap (λ (cs : List Leaf). repeated def.count cs) one.alone in
@@ -109,7 +109,7 @@ runnable_global program g def b sound =
 int_of : (k l : Kind) → int k ≡ int l → k ≡ l
 int_of k l e = Prim.cc
 
-module _ (program : Program) (sound : IsRunnable program) (built : IsBuilt program) where
+module _ (program : Program) (sound : IsSound program) (built : IsBuilt program) where
   -- a global that has a type without brackets
   variable : (g : ℕ) (t : Ty) (k : Kind) → t ≡ int k → IsGlobal program g (One t) → IsVariable program g k
   variable g t k e h = of h.def.array refl h.is

@@ -51,4 +51,4 @@ pub record IsOneMemory (program : Program) (script : List ℕ) (budget : ℕ) : 
 
 -- the law for every sound program that is built, every script of its functions and every budget
 abbrev pub SplitIsOneMemory : Type 0
-SplitIsOneMemory = (program : Program) (script : List ℕ) (budget : ℕ) → IsRunnable program → IsBuilt program → IsBound program script → IsOneMemory program script budget
+SplitIsOneMemory = (program : Program) (script : List ℕ) (budget : ℕ) → IsSound program → IsBuilt program → IsBound program script → IsOneMemory program script budget

@@ -58,5 +58,5 @@ pub record IsOneMemoryOverBytes (program : Program) (script : List ℕ) (budget 
 -- the law for every sound program that is built, whose numbers are small and whose visible cells are few, every script of its functions and every budget
 abbrev pub BytesAreOneMemory : Type 0
 BytesAreOneMemory =
-    (program : Program) (script : List ℕ) (budget : ℕ) → IsRunnable program → IsBuilt program → IsBound program script → HasSmallNumbers program budget → HasFewCells program
+    (program : Program) (script : List ℕ) (budget : ℕ) → IsSound program → IsBuilt program → IsBound program script → HasSmallNumbers program budget → HasFewCells program
     → IsOneMemoryOverBytes program script budget

@@ -81,7 +81,7 @@ is_meant program calls budget es o end k sent over is w =
       messages = omega (arith, w.messages, exchanged, messages, begun, ticks);
     }
 
-pub run_is_meaning : (program : Program) (calls : List ℕ) (budget : ℕ) (es : List Exchange) (o : Outcome) → IsRunnable program → IsBuilt program → HasSmallNumbers program budget → HasFewCells program → IsBound program calls → Honest program [] es → IsRun program calls budget es o → IsFarFault o.end ⊎ IsMeant program calls budget es o
+pub run_is_meaning : (program : Program) (calls : List ℕ) (budget : ℕ) (es : List Exchange) (o : Outcome) → IsSound program → IsBuilt program → HasSmallNumbers program budget → HasFewCells program → IsBound program calls → Honest program [] es → IsRun program calls budget es o → IsFarFault o.end ⊎ IsMeant program calls budget es o
 run_is_meaning program calls budget es o sound built small few bound honest ran = of (run_over program calls budget es).pending refl
   where
     law : IsOneMemoryOverBytes program calls budget

@@ -57,7 +57,7 @@ pub record HasProgram (bytes : List ℕ) (program : Program) : Type 0 where
   pub tokens : List Token
   pub read : tokens_of bytes ≡ Ok tokens
   pub declared : program_of (whats tokens) ≡ Some program
-  pub sound : IsRunnable program
+  pub sound : IsSound program
   pub built : IsBuilt program
 
 -- a script and the functions that it calls, which the program has

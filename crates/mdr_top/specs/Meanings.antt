@@ -23,6 +23,6 @@ pub record IsMeant (program : Program) (calls : List ℕ) (budget : ℕ) (es : L
 abbrev pub RunIsMeaning : Type 0
 RunIsMeaning =
     (program : Program) (calls : List ℕ) (budget : ℕ) (es : List Exchange) (o : Outcome)
-    → IsRunnable program → IsBuilt program → HasSmallNumbers program budget → HasFewCells program → IsBound program calls
+    → IsSound program → IsBuilt program → HasSmallNumbers program budget → HasFewCells program → IsBound program calls
     → Honest program [] es → IsRun program calls budget es o
     → IsFarFault o.end ⊎ IsMeant program calls budget es o

@@ -62,7 +62,7 @@ fn began<F: Far>(
     calls: &[u32],
     far: &mut F,
 ) -> Result<Due, OutOfMemory>
-    requires sound { IsRunnable program.now }
+    requires sound { IsSound program.now }
     requires built { IsBuilt program.now }
     requires loaded { IsLoaded (F.loaded far.old) }
     requires fresh { F.exchanges far.old ≡ [] }
@@ -86,7 +86,7 @@ pub(crate) fn ran<F: Far>(
     calls: &[u32],
     far: &mut F,
 ) -> Result<Due, OutOfMemory>
-    requires sound { IsRunnable program.now }
+    requires sound { IsSound program.now }
     requires built { IsBuilt program.now }
     requires calls { IsBound program.now calls.now }
     ensures ran { IfOk result (λ due. Ran program.now source.now calls.now (F.loaded far.new) (F.exchanges far.new) due.status due.text.items) }

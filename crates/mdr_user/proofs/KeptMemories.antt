@@ -1,5 +1,5 @@
 -- What stores and told changes keep of memories.
-use Rattle.std.proofs.Common.{◌≡◌, ◌==◌, ℕ, zero, suc, ◌<◌, Bool, true, false, List, [], ◌∷◌, length, map, slice_set, Option, Some, Ok, sym, ap, ◌∙◌, subst, length-set, arith}
+use Rattle.std.proofs.Common.{◌≡◌, ◌==◌, ℕ, zero, suc, ◌<◌, Bool, true, false, List, [], ◌∷◌, length, map, slice_get, slice_set, Option, Some, Ok, sym, ap, ◌∙◌, subst, length-set, arith}
 use Rattle.std.specs.Prelude.{unwrap_or}
 use Rattle.std.specs.List.{AllByRecursion}
 use Rattle.std.proofs.lemmas.Bool.{cond-true, cond-false, cond_both}
@@ -7,12 +7,13 @@ use Rattle.mdr_core.specs.declared.program.Program.{Program}
 use Rattle.mdr_core.specs.Code.{Term, Lvalue, Code}
 use Rattle.mdr_model.specs.declared.wire.Wire.{Wire}
 use Rattle.mdr_model.specs.declared.wire.Wire.TheVariants as wire
+use Rattle.mdr_model.specs.declared.wire.WireView.{WireView}
 use Rattle.mdr_model.specs.declared.message.New.{New}
 use Rattle.mdr_model.specs.Values.{fits}
 use Rattle.mdr_model.specs.declared.memory.Cell.{Cell}
-use Rattle.mdr_model.specs.Memory.{Memory, births, born_at, cell_at, put, reached, stored}
+use Rattle.mdr_model.specs.Memory.{Memory, births, born_at, cell_at, put, cell_of, normal, reached, stored}
 use Rattle.mdr_model.specs.Copies.{held, put_all, put_runs, changed_cells, changes}
-use Rattle.mdr_model.specs.Meaning.{pointer_to}
+use Rattle.mdr_model.specs.Meaning.{type_of_global, pointer_to}
 use Rattle.mdr_model.specs.Holds.{IsFilled, IsSoundMemory}
 use Rattle.mdr_model.specs.Runnable.{IsRunnable, IsRunnableStep}
 use Rattle.mdr_copy.specs.Evaluated.{evaluated}
@@ -25,7 +26,9 @@ use Rattle.mdr_model.proofs.CopyLaws.{with_value, put_runs-changes, births-store
 -- a store keeps which blocks there are
 pub stored_births : (allowed : Cell → Bool) (program : Program) (m m' : Memory) (place : Lvalue) (v : Wire) → stored allowed m (pointer_to program place) v ≡ Ok m' → births m' ≡ births m
 unfolding pointer_to stored reached
-stored_births allowed program m m' (Lvalue.Global g) v e = ap (λ (x : Memory). births x) (sym (stored_is allowed m m' _ v e)) ∙ births-put m _ _
+stored_births allowed program m m' (Lvalue.Global g) v e =
+    let p : WireView = record { serial = g; first = 0; ty = type_of_global (slice_get program.globals g); count = 1; index = 0 } in
+    ap (λ (x : Memory). births x) (sym (stored_is allowed m m' p v e)) ∙ births-put m (cell_of p) (normal m v)
 stored_births allowed program m m' _ v e = absurd (Prim.cc)
 
 all_set_inside : {X : Type 0} (P : X → Type 0) (xs : List X) (i : ℕ) (x : X) → AllByRecursion P xs → (i < length xs → P x) → AllByRecursion P (slice_set xs i x)

@@ -28,3 +28,6 @@ returns-in-Err-stored-clause-walk c = λ left low here at number next.
 pub returns-in-Err-clause-walk : goal.returns-in-Err-clause-walk
 returns-in-Err-clause-walk c = λ left low here at number next.
     assign_stops (is_in c.args.view.now) left c.args.program.now low here at number (lvalue_of c.args.place.now) (term_of c.args.e.now) next c.args.memory.now c.in-Err.kind (sym c.in-Err.ensures)
+
+pub evaluated-requires-clause-expression : goal.evaluated-requires-clause-expression
+evaluated-requires-clause-expression c = let s = c.requires.statement 0 in (s.0, s.2)

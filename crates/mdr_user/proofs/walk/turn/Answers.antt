@@ -1,4 +1,4 @@
-use Rattle.std.proofs.Common.{refl, ◌∙◌}
+use Rattle.std.proofs.Common.{refl, ◌∙◌, ◌-◌}
 use Rattle.mdr_core.specs.declared.plan.Half.TheVariants as half
 use Rattle.mdr_model.specs.Meaning.{function}
 use Rattle.mdr_model.specs.Sets.{is_in}
@@ -9,8 +9,8 @@ use Rattle.mdr_user.proofs.walk.turn.Goals as goal
 
 pub returns-then-left-eq0-clause-walk : goal.returns-then-left-eq0-clause-walk
 returns-then-left-eq0-clause-walk c = λ n.
-    tick_wanting c.args.program.now n c.args.here c.index-body-here.result (is_in c.args.view.now) c.args.left c.args.memory.now
-    (is_at c.args.program.now c.args.here c.args.body.now c.index-body-here.result c.requires.body c.requires.inside c.index-body-here.is) c.if-left-eq0.true
+    rw c.number_of.ensures (tick_wanting c.args.program.now n c.args.here c.index-body-here.result (is_in c.args.view.now) c.args.left c.args.memory.now
+    (is_at c.args.program.now c.args.here c.args.body.now c.index-body-here.result c.requires.body c.requires.inside c.index-body-here.is) c.if-left-eq0.true)
 
 pub statement-requires-clause-statement : goal.statement-requires-clause-statement
 statement-requires-clause-statement c =
@@ -21,5 +21,5 @@ pub returns-clause-walk : goal.returns-clause-walk
 returns-clause-walk c = λ n.
     tick_used c.args.program.now n c.args.here c.index-body-here.result (is_in c.args.view.now) c.args.left c.args.memory.now _
     (is_at c.args.program.now c.args.here c.args.body.now c.index-body-here.result c.requires.body c.requires.inside c.index-body-here.is) c.if-left-eq0.false
-    (c.in_ok-did.ensures.walk _ (function c.args.program.now half.User n) (here_of c.args.here) (rest_at c.args.program.now n (next_of c.args.here)) refl)
-    ∙ c.turn_of.ensures.turn c.args.program.now n (is_in c.args.view.now) c.statement.new.memory
+    (rw c.number_of.ensures at (c.in_ok-did.ensures.walk (c.args.left - 1) (function c.args.program.now half.User n) (here_of c.args.here) (rest_at c.args.program.now n (next_of c.args.here)) refl))
+    ∙ (rw c.number_of.ensures at (c.turn_of.ensures.turn c.args.program.now n (is_in c.args.view.now) c.statement.new.memory))
