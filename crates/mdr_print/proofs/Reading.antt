@@ -7,9 +7,10 @@ use Rattle.mdr_syntax.specs.declared.token.Token.{Token}
 use Rattle.mdr_syntax.specs.declared.piece.Piece.{Piece}
 use Rattle.mdr_syntax.specs.Places.{place_after, first_place}
 use Rattle.mdr_syntax.specs.Gives.{◌>>=◌}
+use Rattle.mdr_syntax.specs.Bytes.{is_space}
 use Rattle.mdr_syntax.specs.Pieces.{piece_at}
 use Rattle.mdr_syntax.specs.Tokens.{is_fresh_after, tokens_of_piece, end_at, tokens_from, tokens_of}
-use Rattle.mdr_print.specs.Marks.{Mark, Is, Gap, spell, token_text}
+use Rattle.mdr_print.specs.Marks.{Mark, Is, Blank, Tab, Newline, spell, token_text}
 use Rattle.mdr_print.specs.Spelled.{IsFront, AreApart, GivesLexemes, lexemes}
 
 -- what is read behind a piece
@@ -58,20 +59,31 @@ one_piece most is_fresh place bytes what rest all f g =
     let left : drop (1 + f.more) (bytes ++ rest) ≡ rest = ap (λ (n : ℕ). drop n (bytes ++ rest)) f.whole ∙ front_dropped bytes rest in
     rw (step most is_fresh place (bytes ++ rest) some, f.front is_fresh place, taken, left) (add_piece place what _ all g)
 
+-- a byte between tokens
+space_piece : (b : ℕ) (rest : List ℕ) → is_space b ≡ true → (is_fresh : Bool) (place : Place) → piece_at is_fresh place (b ∷ rest) ≡ Ok (record { what = None; more = 0 })
+unfolding piece_at
+space_piece b rest is is_fresh place = rw is refl
+
+space_front : (b : ℕ) (rest : List ℕ) → is_space b ≡ true → IsFront (b ∷ []) None rest
+space_front b rest is = record { more = 0; front = space_piece b rest is; whole = refl }
+
+-- a piece, where what stands behind it is read
+with_front : (bytes : List ℕ) (what : Option Lexeme) (marks : List Mark) → IsFront bytes what (spell marks)
+    → ((most : ℕ) (is_fresh : Bool) (place : Place) → length (spell marks) ≤ most → GivesLexemes (tokens_from most is_fresh place (spell marks)) (lexemes marks))
+    → (most : ℕ) (is_fresh : Bool) (place : Place) → length (bytes ++ spell marks) ≤ most → GivesLexemes (tokens_from most is_fresh place (bytes ++ spell marks)) (also what (lexemes marks))
+with_front bytes what marks f reads most is_fresh place le =
+    let whole = length-append bytes (spell marks) in
+    let m = positive most (length (bytes ++ spell marks)) (omega (arith, f.whole, whole)) le in
+    rw m.1 (one_piece m.0 is_fresh place bytes what (spell marks) (lexemes marks) f
+    (reads m.0 (is_fresh_after is_fresh what bytes) (place_after place bytes) (omega (arith, f.whole, whole, m.1, le))))
+
 pub reads_marks : (marks : List Mark) → AreApart marks → (most : ℕ) (is_fresh : Bool) (place : Place) → length (spell marks) ≤ most → GivesLexemes (tokens_from most is_fresh place (spell marks)) (lexemes marks)
 unfolding spell
 reads_marks [] a most is_fresh place le = record { tokens = end_at place; is_read = none_left most is_fresh place; are = refl }
-reads_marks (Is token ∷ marks) a most is_fresh place le =
-    let text = token_text token in
-    let whole = length-append text (spell marks) in
-    let m = positive most (length (text ++ spell marks)) (omega (arith, a.0.whole, whole)) le in
-    rw m.1 (one_piece m.0 is_fresh place text (Some token) (spell marks) (lexemes marks) a.0
-    (reads_marks marks a.1 m.0 (is_fresh_after is_fresh (Some token) text) (place_after place text) (omega (arith, a.0.whole, whole, m.1, le))))
-reads_marks (Gap bytes ∷ marks) a most is_fresh place le =
-    let whole = length-append bytes (spell marks) in
-    let m = positive most (length (bytes ++ spell marks)) (omega (arith, a.0.whole, whole)) le in
-    rw m.1 (one_piece m.0 is_fresh place bytes None (spell marks) (lexemes marks) a.0
-    (reads_marks marks a.1 m.0 (is_fresh_after is_fresh None bytes) (place_after place bytes) (omega (arith, a.0.whole, whole, m.1, le))))
+reads_marks (Is token ∷ marks) a most is_fresh place le = with_front (token_text token) (Some token) marks a.0 (reads_marks marks a.1) most is_fresh place le
+reads_marks (Blank ∷ marks) a most is_fresh place le = with_front (32 ∷ []) None marks (space_front 32 (spell marks) refl) (reads_marks marks a) most is_fresh place le
+reads_marks (Tab ∷ marks) a most is_fresh place le = with_front (9 ∷ []) None marks (space_front 9 (spell marks) refl) (reads_marks marks a) most is_fresh place le
+reads_marks (Newline ∷ marks) a most is_fresh place le = with_front (10 ∷ []) None marks (space_front 10 (spell marks) refl) (reads_marks marks a) most is_fresh place le
 
 pub reads_tree : (marks : List Mark) → AreApart marks → GivesLexemes (tokens_of (spell marks)) (lexemes marks)
 unfolding tokens_of

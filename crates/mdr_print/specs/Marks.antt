@@ -1,4 +1,4 @@
--- What a printed text is put together from: tokens (C99 6.4), and the blanks and ends of lines between them.
+-- What a printed text is put together from: tokens (C99 6.4), and the blanks, tabs and ends of lines between them.
 use Rattle.std.specs.Prelude.{◌≡◌, ℕ, zero, suc, Bool, true, false, ◌==◌, if◌then◌else◌, List, [], ◌∷◌, ◌++◌, codes, decimal}
 use Rattle.mdr_core.specs.declared.kind.Kind.{Kind}
 use Rattle.mdr_core.specs.declared.kind.Kind.TheVariants.{U8, U16, U32, U64, S8, S16, S32, S64}
@@ -7,7 +7,9 @@ use Rattle.mdr_syntax.specs.declared.token.Lexeme.TheVariants.{Word, Number, Tex
 
 pub data Mark : Type 0 where
   Is : Lexeme → Mark
-  Gap : List ℕ → Mark
+  Blank : Mark
+  Tab : Mark
+  Newline : Mark
 
 -- ---- the text of a token
 
@@ -56,7 +58,9 @@ token_text End = []
 unfoldable pub spell : List Mark → List ℕ
 spell [] = []
 spell (Is token ∷ marks) = token_text token ++ spell marks
-spell (Gap bytes ∷ marks) = bytes ++ spell marks
+spell (Blank ∷ marks) = 32 ∷ spell marks
+spell (Tab ∷ marks) = 9 ∷ spell marks
+spell (Newline ∷ marks) = 10 ∷ spell marks
 
 -- ---- marks in front of marks
 
@@ -89,19 +93,19 @@ abbrev pub defined : List ℕ → (is_negative : Bool) → ℕ → Kind → Mark
 defined name is_negative n kind rest = Is (Define name is_negative n kind) ∷ rest
 
 abbrev pub blank : Marks
-blank rest = Gap (codes " ") ∷ rest
+blank rest = Blank ∷ rest
 
 abbrev pub blank_unless : Bool → Marks
 blank_unless true rest = rest
 blank_unless false rest = blank rest
 
 abbrev pub newline : Marks
-newline rest = Gap (10 ∷ []) ∷ rest
+newline rest = Newline ∷ rest
 
 -- one tab per block
 abbrev pub tabs : ℕ → Marks
 tabs zero rest = rest
-tabs (suc depth) rest = Gap (9 ∷ []) ∷ tabs depth rest
+tabs (suc depth) rest = Tab ∷ tabs depth rest
 
 -- ---- what stands between them
 
