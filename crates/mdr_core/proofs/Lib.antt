@@ -5,3 +5,4 @@ pub mod Operators
 pub mod Ranges
 pub mod Residues
 pub mod Viewed
+pub mod WorkedProofs
