@@ -6,3 +6,4 @@ pub mod Ranges
 pub mod Residues
 pub mod Viewed
 pub mod WorkedProofs
+pub mod WorkedSound

@@ -1,5 +1,5 @@
 -- A network driver's types worked out: what the definitions of layout and views compute to on them.
-use Rattle.std.specs.Prelude.{◌≡◌, ℕ, true, false, List, [], ◌∷◌, ◌++◌, length, map, Some, None, codes, pos}
+use Rattle.std.specs.Prelude.{◌≡◌, ℕ, Bool, true, false, List, [], ◌∷◌, ◌++◌, length, map, Some, None, codes, pos}
 use Rattle.mdr_core.specs.declared.kind.Kind.TheVariants.{U8, U32, S32}
 use Rattle.mdr_core.specs.declared.types.Ty.{Ty}
 use Rattle.mdr_core.specs.declared.types.Ty.TheVariants as ty
@@ -14,6 +14,7 @@ use Rattle.mdr_core.specs.declared.plan.Key.TheVariants as key
 use Rattle.mdr_core.specs.declared.program.Program.{Program}
 use Rattle.mdr_core.specs.declared.program.StructDef.{StructDef}
 use Rattle.mdr_core.specs.declared.program.Field.{Field}
+use Rattle.mdr_core.specs.declared.program.GlobalDef.{GlobalDef}
 use Rattle.mdr_core.specs.Layout.{struct_cells, key_at, zero_at}
 use Rattle.mdr_core.specs.Types.{first_types}
 use Rattle.mdr_core.specs.Views.{IsViewOf}
@@ -88,6 +89,12 @@ card_zeros =
     ∷ value.Null
     ∷ []
 
+abbrev pub ops_zeros : List Value
+ops_zeros = no_number ∷ value.Null ∷ no_number ∷ value.Null ∷ no_number ∷ value.Null ∷ []
+
+abbrev pub global : List ℕ → Ty → ℕ → Bool → List Value → GlobalDef
+global name type count array init = record { name = name; ty = type; count = count; array = array; ann = Single; init = init }
+
 -- the type of each number from 9 on: the structs, then pointers in the order of their texts, fn(s32;u32) and struct buf *
 abbrev pub driver_types : List Ty
 driver_types = ty.Struct 0 ∷ ty.Struct 1 ∷ ty.Struct 2 ∷ ty.Struct 3 ∷ run_pointer ∷ buf_pointer ∷ []
@@ -98,16 +105,9 @@ driver = record {
   types = first_types ++ driver_types;
   structs = buf ∷ stats ∷ card ∷ op ∷ [];
   globals =
-      record { name = codes "card"; ty = ty.Struct 2; count = 1; array = false; ann = Single; init = card_zeros }
-      ∷ record {
-        name = codes "ops";
-        ty = ty.Struct 3;
-        count = 3;
-        array = true;
-        ann = Single;
-        init = no_number ∷ value.Null ∷ no_number ∷ value.Null ∷ no_number ∷ value.Null ∷ [];
-      }
-      ∷ record { name = codes "mode"; ty = u32; count = 1; array = false; ann = Single; init = no_number ∷ [] }
+      global (codes "card") (ty.Struct 2) 1 false card_zeros
+      ∷ global (codes "ops") (ty.Struct 3) 3 true ops_zeros
+      ∷ global (codes "mode") u32 1 false (no_number ∷ [])
       ∷ [];
   funcs = [];
 }

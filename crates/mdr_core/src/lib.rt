@@ -42,6 +42,6 @@ pub use undefined::Undefined;
 pub use value::{Block, LockState, Value, View};
 pub use view::view_ok;
 pub use worked::{
-    a_pointer_names_a_part, cells_have_keys, cells_have_zeros, other_views_are_none,
-    structs_have_cells,
+    a_network_driver_is_sound, a_pointer_names_a_part, cells_have_keys, cells_have_zeros,
+    other_views_are_none, structs_have_cells,
 };

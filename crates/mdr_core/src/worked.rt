@@ -1,6 +1,12 @@
-// A network driver's types, each law one that computing shows.
+// A network driver's types, worked out: what the definitions of layout, views and soundness say of them.
 
-ghost use Rattle.mdr_core.specs.Worked.{StructsHaveCells, CellsHaveKeys, CellsHaveZeros, BlocksHaveViews, OthersAreNone};
+ghost use Rattle.mdr_core.specs.Sound.{IsSound};
+ghost use Rattle.mdr_core.specs.Worked.{driver, StructsHaveCells, CellsHaveKeys, CellsHaveZeros, BlocksHaveViews, OthersAreNone};
+
+/// The program is sound, as `view_ok` wants of one.
+pub fn a_network_driver_is_sound()
+    ensures { IsSound driver }
+{}
 
 /// How many cells each struct of a network driver has.
 pub fn structs_have_cells()
