@@ -5,3 +5,5 @@ pub mod Operators
 pub mod Ranges
 pub mod Residues
 pub mod Viewed
+pub mod WorkedProofs
+pub mod WorkedSound

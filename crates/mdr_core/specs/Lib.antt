@@ -14,3 +14,4 @@ pub mod TypeText
 pub mod Types
 pub mod Typing
 pub mod Views
+pub mod Worked

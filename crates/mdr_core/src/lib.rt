@@ -21,6 +21,7 @@ mod types;
 mod undefined;
 mod value;
 mod view;
+mod worked;
 
 pub use boxed::Boxed;
 pub use code::{BinOp, CallForm, Callee, Expr, Lval, RelOp, Step, Stmt};
@@ -40,3 +41,7 @@ pub use types::{Ann, LenOf, Shape, Ty};
 pub use undefined::Undefined;
 pub use value::{Block, LockState, Value, View};
 pub use view::view_ok;
+pub use worked::{
+    a_network_driver_is_sound, a_pointer_names_a_part, cells_have_keys, cells_have_zeros,
+    other_views_are_none, structs_have_cells,
+};
