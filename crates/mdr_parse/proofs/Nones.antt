@@ -1,0 +1,30 @@
+-- Tokens that begin nothing.
+use Rattle.std.proofs.Common.{◌≡◌, refl, ℕ, false, true}
+use Rattle.mdr_syntax.specs.declared.token.Token.{Token}
+use Rattle.mdr_parse.specs.Sorts.{Sort, is}
+use Rattle.mdr_parse.specs.Forms.Part.{size}
+use Rattle.mdr_parse.specs.Forms.Nonterminal.{option, stars}
+use Rattle.mdr_parse.specs.Grammar.{rule}
+use Rattle.mdr_parse.specs.Declarations.{constant_rule, annotation_rule}
+use Rattle.mdr_parse.proofs.Hungry.{opens}
+
+pub no_constant : (s : Sort) (t : Token) → (s ≡ Sort.Minus → ⊥) → (s ≡ Sort.Number → ⊥) → (s ≡ Sort.Name → ⊥) → opens (constant_rule s t) ≡ false
+no_constant Sort.Minus t a b c = absurd (a refl)
+no_constant Sort.Number t a b c = absurd (b refl)
+no_constant Sort.Name t a b c = absurd (c refl)
+no_constant _ t a b c = refl
+
+pub no_annotation : (d : ℕ) (s : Sort) (t : Token) → (s ≡ Sort.Array → ⊥) → (s ≡ Sort.Sentinel → ⊥) → (s ≡ Sort.NullTerm → ⊥) → (s ≡ Sort.Opaque → ⊥) → opens (annotation_rule d s t) ≡ false
+no_annotation d Sort.Array t a b c e = absurd (a refl)
+no_annotation d Sort.Sentinel t a b c e = absurd (b refl)
+no_annotation d Sort.NullTerm t a b c e = absurd (c refl)
+no_annotation d Sort.Opaque t a b c e = absurd (e refl)
+no_annotation d _ t a b c e = refl
+
+pub no_size : (s : Sort) (t : Token) → is Sort.OpenBracket s ≡ false → opens (rule (option true size) s t) ≡ false
+no_size Sort.OpenBracket t e = let q : true ≡ false = e in absurd (Prim.cc)
+no_size _ t e = refl
+
+pub no_stars : (k : ℕ) (s : Sort) (t : Token) → is Sort.Star s ≡ false → opens (rule (stars k) s t) ≡ false
+no_stars k Sort.Star t e = let q : true ≡ false = e in absurd (Prim.cc)
+no_stars k _ t e = refl

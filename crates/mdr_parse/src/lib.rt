@@ -1,0 +1,14 @@
+//! The grammar of sources, and the tree of a source's tokens.
+#![tactic(auto)]
+
+mod constants;
+mod error;
+mod forms;
+mod laws;
+mod look;
+mod parts;
+mod sort;
+mod types;
+
+pub use error::ParseError;
+pub use laws::{reading_is_exact, sources_have_one_tree};

@@ -1,0 +1,27 @@
+// What is read besides the tree itself.
+
+use mdr_core::Place;
+use mdr_syntax::{Base, Form, Node};
+
+/// A statement, and whether no `else` behind it could belong to it.
+#[derive(Debug, Drop)]
+pub struct Ended {
+    pub node: Node,
+    pub closed: bool,
+}
+
+/// A base type, and the place of its first token.
+#[derive(Debug, Drop)]
+pub struct Specifier {
+    pub base: Base,
+    pub place: Place,
+}
+
+/// An operand; whether it is a call, or a form with `++` or `--`, which may be a statement; and how many levels
+/// are below its own.
+#[derive(Debug, Drop)]
+pub struct Part {
+    pub form: Form,
+    pub alone: bool,
+    pub height: u32,
+}
