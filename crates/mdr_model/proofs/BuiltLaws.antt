@@ -99,9 +99,9 @@ runnable_global program g def b sound =
       limited = subst (λ (n : ℕ). n ≤ 65536) count sound.small;
       first = size;
       fit = all_from (λ (v : Value). fits_type def.ty (wire_of v) ≡ true) def.init (λ i v e.
-      let inside : suc i ≤ def.count = subst (λ (n : ℕ). suc i ≤ n) size (get_below def.init i v e) in
-      let there : slice_get (all_cells program def.ty def.count) i ≡ Some one.leaf = ap (λ (cs : List Leaf). slice_get cs i) laid ∙ each_leaf one.leaf def.count i inside in
-      first_fits program g def.ty v b (subst (λ (t : Ty). IsFirstValue program g t v) one.typed (sound.first i one.leaf v there e)));
+          let inside : suc i ≤ def.count = subst (λ (n : ℕ). suc i ≤ n) size (get_below def.init i v e) in
+          let there : slice_get (all_cells program def.ty def.count) i ≡ Some one.leaf = ap (λ (cs : List Leaf). slice_get cs i) laid ∙ each_leaf one.leaf def.count i inside in
+          first_fits program g def.ty v b (subst (λ (t : Ty). IsFirstValue program g t v) one.typed (sound.first i one.leaf v there e)));
     }
 
 -- ---- expressions

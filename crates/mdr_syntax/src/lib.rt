@@ -33,9 +33,10 @@ pub use script_error::ScriptError;
 pub use source_error::SourceError;
 pub use token::{Lexeme, Token};
 pub use tree::{
-    AnnText, Base, Clause, Const, Decl, Elem, Enumerator, FieldName, Form, FormWhat, Head, Init, Item,
-    ItemWhat, Label, Node, NodeWhat, Tree,
+    AnnText, Base, Clause, Const, Decl, Elem, Enumerator, FieldName, Form, FormWhat, Head, Init,
+    Item, ItemWhat, Label, Node, NodeWhat, Tree,
 };
+pub use words::is_reserved;
 
 #[cfg(test)]
 mod tests;

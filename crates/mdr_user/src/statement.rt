@@ -18,7 +18,9 @@ ghost use Rattle.mdr_user.specs.Statements.{Cells, IsAcross, after_statement};
 use crate::arguments::evaluated_all;
 use crate::state::Asked;
 use mdr_copy::{evaluated, stored};
-use mdr_core::{At, CallForm, Callee, Expr, Items, Lval, OutOfMemory, Program, Step, Stmt, StopKind};
+use mdr_core::{
+    At, CallForm, Callee, Expr, Items, Lval, OutOfMemory, Program, Step, Stmt, StopKind,
+};
 use mdr_model::{Cell, MemoryBlock, Wire};
 use std::alloc::Global;
 
