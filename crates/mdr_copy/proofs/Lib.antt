@@ -9,4 +9,5 @@ pub mod Rising
 pub mod Arguments
 pub mod EvaluatedLaws
 pub mod SoundMemories
+pub mod Inserted
 pub mod CodeForms

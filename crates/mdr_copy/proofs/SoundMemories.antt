@@ -1,6 +1,6 @@
 -- Memories stay sound: the first one, after a store, and after each part of a message that fits.
-use Rattle.std.proofs.Common.{◌≡◌, ℕ, zero, suc, ◌+◌, ◌<◌, Bool, true, false, cond, not, List, [], ◌∷◌, ◌++◌, map, length, Option, Some, None, Ok, refl, sym, ap, ◌∙◌, subst, eq-eqb, lt-ltb, slice_get, replicate, arith}
-use Rattle.std.specs.Prelude.{◌==◌, nat_lt, is_none}
+use Rattle.std.proofs.Common.{◌≡◌, ◌≢◌, ne_eqb, ℕ, zero, suc, ◌+◌, ◌<◌, Bool, true, false, cond, not, List, [], ◌∷◌, map, length, Option, Some, None, Ok, refl, sym, ap, ◌∙◌, subst, eq-eqb, lt-ltb, slice_get, replicate, arith}
+use Rattle.std.specs.Prelude.{◌==◌, nat_lt, nat_le, is_none}
 use Rattle.std.specs.List.{AllByRecursion, list_all}
 use Rattle.std.proofs.lemmas.Bool.{cond-true, cond-false, cond_both}
 use Rattle.std.proofs.lemmas.List.{length-replicate}
@@ -24,7 +24,7 @@ use Rattle.mdr_model.specs.declared.memory.Cell.{Cell}
 use Rattle.mdr_model.specs.declared.memory.MemoryBlock.{MemoryBlock}
 use Rattle.mdr_model.specs.Memory.{Memory, births, born_at, is_live, put, cell_of, zero_block, swept, swept_block, killed, global_block, global_blocks, first_memory, stored}
 use Rattle.mdr_model.specs.Sets.{is_in, follows_maybe}
-use Rattle.mdr_model.specs.Copies.{CellValue, numbered, put_all, put_runs, without, with_news}
+use Rattle.mdr_model.specs.Copies.{CellValue, numbered, put_all, put_runs, without, inserted, with_news}
 use Rattle.mdr_model.specs.Faults.{or_else, first_fault, unless, is_known, is_view, fits_block, fits_cell, set_run_of, run_fault, runs_fault}
 use Rattle.mdr_model.specs.Meaning.{type_of_global, pointer_to}
 use Rattle.mdr_core.specs.Types.{first_types}
@@ -35,7 +35,8 @@ use Rattle.mdr_model.proofs.Tests.{and_left, and_right, not_both, is_same_number
 use Rattle.mdr_model.proofs.MemoryLaws.{born_at-births, births-put}
 use Rattle.mdr_model.proofs.ValueLaws.{typed_is_normal}
 use Rattle.mdr_model.proofs.CopyLaws.{births-put_all}
-use Rattle.mdr_model.proofs.HoldsLaws.{all_get, filled_put, stored_is}
+use Rattle.mdr_model.proofs.HoldsLaws.{all_get, filled_put, stored_is, born_is_live}
+use Rattle.mdr_model.proofs.LifeLaws.{born_at-inserted}
 use Rattle.mdr_model.proofs.FirstMemory.{first_holds}
 use Rattle.mdr_copy.proofs.Stores.{put_runs_cons, put_runs_none}
 use Rattle.mdr_copy.proofs.EvaluatedLaws.{fits_kind}
@@ -225,9 +226,14 @@ all_replicated : {X : Type 0} (P : X → Type 0) (n : ℕ) (x : X) → P x → A
 all_replicated P zero x h = tt
 all_replicated P (suc n) x h = (h, all_replicated P n x h)
 
-all_with : {X : Type 0} (P : X → Type 0) (xs : List X) (x : X) → AllByRecursion P xs → P x → AllByRecursion P (xs ++ x ∷ [])
-all_with P [] x h p = (p, tt)
-all_with P (y ∷ ys) x h p = (h.0, all_with P ys x h.1 p)
+all_inserted : (P : MemoryBlock → Type 0) (m : Memory) (b : MemoryBlock) → AllByRecursion P m → P b → AllByRecursion P (inserted b m)
+unfolding inserted
+all_inserted P [] b h p = (p, tt)
+all_inserted P (x ∷ m) b h p = of (nat_le b.born.serial x.born.serial) (all_inserted P m b h.1 p)
+  where
+    of : (t : Bool) → AllByRecursion P (inserted b m) → AllByRecursion P (cond t (b ∷ x ∷ m) (x ∷ inserted b m))
+    of true later = (p, (h.0, h.1))
+    of false later = (h.0, later)
 
 -- each type that cells have takes its zero
 abbrev IsZeroed : Ty → Type 0
@@ -248,39 +254,37 @@ zero_fits program n sound has =
     of None e there = absurd (Prim.cc)
     of (Some t) e there = all_get IsZeroed first_types n t first_zeroed e
 
--- a new block stands behind all others
-born_at-with : (m : Memory) (b : MemoryBlock) (serial : ℕ) (born : New) → born_at m serial ≡ Some born → born_at (m ++ b ∷ []) serial ≡ Some born
-unfolding born_at
-born_at-with [] b serial born e = absurd (Prim.cc)
-born_at-with (x ∷ m) b serial born e = of (x.born.serial == serial) e (born_at-with m b serial born)
-  where
-    of : (t : Bool) → cond t (Some x.born) (born_at m serial) ≡ Some born → (born_at m serial ≡ Some born → born_at (m ++ b ∷ []) serial ≡ Some born)
-        → cond t (Some x.born) (born_at (m ++ b ∷ []) serial) ≡ Some born
-    of true h later = h
-    of false h later = later h
-
 zero_filled : (program : Program) (n : New) → IsRunnable program → has_type program n.ty ≡ true → IsFilled program (zero_block program n)
 zero_filled program n sound has = record {
   size = length-replicate n.count (zero_maybe (type_at program n.ty));
   fit = all_replicated (λ (v : Wire). fits program n.ty v ≡ true) n.count (zero_maybe (type_at program n.ty)) (zero_fits program n.ty sound has);
 }
 
-new_is_sound : (program : Program) (n : New) (m : Memory) → IsRunnable program → has_type program n.ty ≡ true → IsSoundMemory program m → IsSoundMemory program (m ++ zero_block program n ∷ [])
-new_is_sound program n m sound has h = record {
-  globals = λ number g e. born_at-with m (zero_block program n) number (global_block number g).born (h.globals number g e);
-  filled = all_with (IsFilled program) m (zero_block program n) h.filled (zero_filled program n sound has);
+-- the block isn't one of the globals
+new_is_sound : (program : Program) (n : New) (m : Memory) → IsRunnable program → has_type program n.ty ≡ true → ((number : ℕ) (g : GlobalDef) → slice_get program.globals number ≡ Some g → n.serial ≢ number) → IsSoundMemory program m
+    → IsSoundMemory program (inserted (zero_block program n) m)
+new_is_sound program n m sound has other h = record {
+  globals = λ number g e. born_at-inserted (zero_block program n) m number ∙ cond-false _ _ _ (ne_eqb n.serial number (other number g e)) ∙ h.globals number g e;
+  filled = all_inserted (IsFilled program) m (zero_block program n) h.filled (zero_filled program n sound has);
 }
 
--- where each new block has a type
-news_keep : (program : Program) (copy : Memory) (news : List New) (m : Memory) → IsRunnable program → list_all (may_come program copy) news ≡ true → IsSoundMemory program m → IsSoundMemory program (with_news program news m)
+-- where each new block has a type, and the copy hasn't it
+news_keep : (program : Program) (copy : Memory) (news : List New) (m : Memory) → IsRunnable program → list_all (may_come program copy) news ≡ true → IsSoundMemory program copy → IsSoundMemory program m → IsSoundMemory program (with_news program news m)
 unfolding with_news
-news_keep program copy [] m sound all h = h
-news_keep program copy (n ∷ news) m sound all h =
+news_keep program copy [] m sound all first h = h
+news_keep program copy (n ∷ news) m sound all first h =
     let here : may_come program copy n ≡ true = and_left (may_come program copy n) (list_all (may_come program copy) news) all in
-    news_keep program copy news (m ++ zero_block program n ∷ []) sound (and_right (may_come program copy n) (list_all (may_come program copy) news) all)
-    (new_is_sound program n m sound (and_right (not (is_live copy n.serial)) (has_type program n.ty) (and_left _ _ (and_left _ _ here))) h)
+    let new : not (is_live copy n.serial) ≡ true = and_left (not (is_live copy n.serial)) (has_type program n.ty) (and_left _ _ (and_left _ _ here)) in
+    new_is_sound program n (with_news program news m) sound (and_right (not (is_live copy n.serial)) (has_type program n.ty) (and_left _ _ (and_left _ _ here)))
+    (λ number g e same. unlike number g e same new)
+    (news_keep program copy news m sound (and_right (may_come program copy n) (list_all (may_come program copy) news) all) first h)
+  where
+    unlike : (number : ℕ) (g : GlobalDef) → slice_get program.globals number ≡ Some g → n.serial ≡ number → not (is_live copy n.serial) ≡ true → ⊥
+    unlike number g e same new =
+        let live : is_live copy n.serial ≡ true = born_is_live copy n.serial (global_block number g).born (ap (born_at copy) same ∙ first.globals number g e) in
+        not_both new (ap not live)
 
 -- new blocks that fit keep the memory sound
 pub news_are_sound : (program : Program) (news : List New) (m : Memory) → IsRunnable program → IsSoundMemory program m → news_fit program m news ≡ true → IsSoundMemory program (with_news program news m)
 news_are_sound program news m sound h e =
-    news_keep program m news m sound (and_right (rise_after None (map (λ (n : New). n.serial) news)) (list_all (may_come program m) news) e) h
+    news_keep program m news m sound (and_right (rise_after None (map (λ (n : New). n.serial) news)) (list_all (may_come program m) news) e) h h

@@ -3,3 +3,4 @@ pub mod Tellings
 pub mod Serials
 pub mod Arguments
 pub mod Evaluated
+pub mod InPlaces

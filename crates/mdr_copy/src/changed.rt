@@ -2,7 +2,7 @@
 
 ghost use Rattle.std.specs.Prelude.{◌≡◌, map, IfOk};
 ghost use Rattle.mdr_model.specs.Sets.{cells_of_run};
-ghost use Rattle.mdr_model.specs.Copies.{held, run_from, changed_cells, changes};
+ghost use Rattle.mdr_model.specs.Copies.{held, run_from, changed_cells, changed_values, changes};
 
 use crate::runs::runs_of_cells;
 use crate::sets::put_run;
@@ -43,6 +43,20 @@ fn all_held(
         values.push(held(memory, *cell))?;
     }
     Ok(Items::from_vec(values))
+}
+
+/// The values of the cells that changed.
+#[tactic(auto, unfolding(mdr_model::specs::Copies::changed_values))]
+pub(crate) fn changed_values(
+    alloc: Global,
+    cells: &[Cell],
+    agreed: &[MemoryBlock],
+    now: &[MemoryBlock],
+) -> Result<Items<Wire>, OutOfMemory>
+    ensures { IfOk result (λ values. values ≡ changed_values cells.now agreed.now now.now) }
+{
+    let changed = changed_cells(alloc, cells, agreed, now)?;
+    all_held(alloc, now, changed.as_slice())
 }
 
 /// What the cells of a run hold. A run that goes over the last index that a cell can have fails.

@@ -29,7 +29,7 @@ pub use runs::runs_of_cells;
 pub use sets::{cells_of_runs, is_in, is_keyed, visible};
 pub use statement::number_of;
 pub use store::{born_at, cell_at, held, is_live, put, put_runs};
-pub use told::{Telling, agreed_after, tells, tells_no_cells};
+pub use told::{Telling, agreed_after, tells};
 pub use values::{fits, fits_result, is_same, wire_of};
 
 #[cfg(test)]

@@ -3,7 +3,8 @@
 ghost use Rattle.std.specs.Prelude.{◌≡◌, [], ◌∷◌, ◌++◌, map, replicate, OnOk, IfOk};
 ghost use Rattle.mdr_model.specs.Values.{names_block, zero_of_type, zero_maybe, type_at};
 ghost use Rattle.mdr_model.specs.Memory.{swept, swept_block, killed, zero_block};
-ghost use Rattle.mdr_model.specs.Copies.{without, with_news};
+ghost use Rattle.mdr_copy.specs.InPlaces.{place_for};
+ghost use Rattle.mdr_model.specs.Copies.{inserted, without, with_news};
 
 use crate::store::put_runs;
 use mdr_core::{Items, LockState, OutOfMemory, Program, Ty};
@@ -121,7 +122,36 @@ fn zero_block(alloc: Global, program: &Program, new: New) -> Result<MemoryBlock,
     })
 }
 
-#[tactic(auto, unfolding(mdr_model::specs::Copies::with_news))]
+/// How many blocks stand before the place of a serial.
+fn place_for(copy: &[MemoryBlock], serial: u64) -> usize
+    ensures { result ≡ place_for copy.now serial }
+{
+    copy.iter().take_while(|b| b.born.serial < serial).count()
+}
+
+/// Puts a block into its place: the serials of a copy rise.
+#[tactic(auto, using(crate::proofs::Inserted::in_its_place, crate::proofs::Inserted::place_inside))]
+fn insert(copy: &mut Vec<MemoryBlock>, block: MemoryBlock) -> Result<(), OutOfMemory>
+    ensures { OnOk result (copy.new.items ≡ inserted block copy.old.items) }
+{
+    let place = place_for(copy.as_slice(), block.born.serial);
+    copy.insert(place, block)?;
+    Ok(())
+}
+
+fn put_new(
+    alloc: Global,
+    program: &Program,
+    new: New,
+    copy: &mut Vec<MemoryBlock>,
+) -> Result<(), OutOfMemory>
+    ensures { OnOk result (copy.new.items ≡ inserted (zero_block program.now new) copy.old.items) }
+{
+    let block = zero_block(alloc, program, new)?;
+    insert(copy, block)
+}
+
+/// Puts the new blocks into their places, the last first.
 pub(crate) fn put_news(
     alloc: Global,
     program: &Program,
@@ -130,8 +160,10 @@ pub(crate) fn put_news(
 ) -> Result<(), OutOfMemory>
     ensures { OnOk result (copy.new.items ≡ with_news program.now news.now copy.old.items) }
 {
-    for new in news {
-        copy.push(zero_block(alloc, program, *new)?)?;
+    let mut i = news.len();
+    while i > 0 {
+        i -= 1;
+        put_new(alloc, program, news[i], copy)?;
     }
     Ok(())
 }

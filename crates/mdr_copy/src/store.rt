@@ -11,7 +11,7 @@ use mdr_model::{Cell, MemoryBlock, New, Run, Wire};
 pub fn is_live(memory: &[MemoryBlock], serial: u64) -> bool
     ensures { result ≡ is_live memory.now serial }
 {
-    memory.iter().any(|b| b.born.serial == serial)
+    born_at(memory, serial).is_some()
 }
 
 /// Where the block with a serial stands.

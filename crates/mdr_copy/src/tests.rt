@@ -2,7 +2,7 @@
 
 use crate::{
     Telling, agreed_after, args_fault, cells_of_runs, changes, deaths_fit, first_memory, held,
-    news_fit, normals, put, runs_fault, runs_of_cells, tells, tells_no_cells, view_fits, visible,
+    news_fit, normals, put, runs_fault, runs_of_cells, tells, view_fits, visible,
 };
 use mdr_core::{Ann, GlobalDef, Items, Kind, LockState, Program, RefuseKind, Ty, Value};
 use mdr_model::{BirthKind, Cell, MemoryBlock, New, Run, SetRun, Wire, WireView};
@@ -144,9 +144,15 @@ fn only_what_changed_is_told(rt: HostRuntime) -> Result<(), Fail> {
         assert_eq!(rt; told.first, 1);
         assert_eq!(rt; told.values.as_slice(), [u32_of(7)].as_slice());
     }
-    let (telling, left) = tells(alloc, cells.as_slice(), &[], agreed, now.as_slice())?;
+    let (telling, after) = tells(
+        alloc,
+        &program,
+        cells.as_slice(),
+        &[],
+        agreed,
+        now.as_slice(),
+    )?;
     assert!(rt; telling.deaths.is_empty() && telling.news.is_empty());
-    let after = agreed_after(alloc, &program, &telling, left)?;
     assert_eq!(rt; held(after.as_slice(), cell(1)), u32_of(7));
     Ok(())
 }
@@ -197,7 +203,7 @@ fn a_block_is_told_of_once_and_dies_once(rt: HostRuntime) -> Result<(), Fail> {
     assert!(rt; !deaths_fit(&program, copy.as_slice(), &[2, 2]));
     assert!(rt; !deaths_fit(&program, copy.as_slice(), &[0]));
     let memory = first_memory(alloc, &program)?;
-    let (telling, left) = tells(alloc, &[], &[], copy, memory.as_slice())?;
+    let (telling, left) = tells(alloc, &program, &[], &[], copy, memory.as_slice())?;
     assert_eq!(rt; telling.deaths.as_slice(), [2].as_slice());
     assert_eq!(rt; left.len(), 2);
     Ok(())
@@ -214,7 +220,9 @@ fn pointer_to(serial: u64) -> Wire {
 }
 
 #[test]
-fn only_live_blocks_that_are_named_are_told_of(rt: HostRuntime) -> Result<(), Fail> {
+fn blocks_are_told_of_when_they_are_named_and_die_by_their_serials(
+    rt: HostRuntime,
+) -> Result<(), Fail> {
     let alloc = rt.alloc();
     let program = program(alloc)?;
     let births = Telling {
@@ -226,10 +234,16 @@ fn only_live_blocks_that_are_named_are_told_of(rt: HostRuntime) -> Result<(), Fa
     let memory = agreed_after(alloc, &program, &births, first_memory(alloc, &program)?)?;
     let values = normals(alloc, memory.as_slice(), &[pointer_to(7), pointer_to(3)])?;
     assert_eq!(rt; values.as_slice(), [Wire::Dead, pointer_to(3)].as_slice());
-    let (telling, left) = tells_no_cells(alloc, values.as_slice(), copy, memory.as_slice())?;
-    assert_eq!(rt; telling.news.as_slice(), [born(3, 0, 2)].as_slice());
-    assert!(rt; telling.deaths.is_empty() && telling.runs.is_empty());
-    assert_eq!(rt; left.len(), 2);
+    let now = memory.as_slice();
+    let (first, copy) = tells(alloc, &program, &[], values.as_slice(), copy, now)?;
+    assert_eq!(rt; first.news.as_slice(), [born(3, 0, 2)].as_slice());
+    assert!(rt; first.deaths.is_empty() && first.runs.is_empty());
+    let (second, copy) = tells(alloc, &program, &[], &[pointer_to(2)], copy, now)?;
+    assert_eq!(rt; second.news.as_slice(), [born(2, 0, 2)].as_slice());
+    let ended = first_memory(alloc, &program)?;
+    let (last, copy) = tells(alloc, &program, &[], &[], copy, ended.as_slice())?;
+    assert_eq!(rt; last.deaths.as_slice(), [2, 3].as_slice());
+    assert_eq!(rt; copy.len(), 2);
     Ok(())
 }
 

@@ -3,9 +3,9 @@
 ghost use Rattle.std.specs.Prelude.{◌≡◌, ◌++◌, ◌&&◌, not, OnOk, IfOk};
 ghost use Rattle.mdr_copy.specs.Tellings.{told};
 ghost use Rattle.mdr_model.specs.Memory.{is_live};
-ghost use Rattle.mdr_model.specs.Copies.{is_named, died, news_of, values_in, without, with_news, agreed_after, told_with, tells, tells_no_cells};
+ghost use Rattle.mdr_model.specs.Copies.{is_named, died, news_of, changed_values, without, with_news, agreed_after, tells};
 
-use crate::changed::changes;
+use crate::changed::{changed_values, changes};
 use crate::lives::{names_block, put_news, without};
 use crate::store::{is_live, put_runs};
 use mdr_core::{Items, OutOfMemory, Program};
@@ -28,9 +28,8 @@ fn renewed(
 ) -> Result<Vec<MemoryBlock>, OutOfMemory>
     ensures { IfOk result (λ m. m.items ≡ with_news program.now telling.now.news (without telling.now.deaths copy.items)) }
 {
-    let mut left = without(alloc, telling.deaths.as_slice(), copy)?;
-    put_news(alloc, program, telling.news.as_slice(), &mut left)?;
-    Ok(left)
+    let left = without(alloc, telling.deaths.as_slice(), copy)?;
+    with_news(alloc, program, telling.news.as_slice(), left)
 }
 
 /// The copy after a message. It fails only where the memory for it is missing.
@@ -106,105 +105,69 @@ fn put_values(out: &mut Vec<Wire>, values: &[Wire]) -> Result<(), OutOfMemory>
     Ok(())
 }
 
-#[tactic(auto, unfolding(mdr_model::specs::Copies::values_in))]
-fn put_values_in(out: &mut Vec<Wire>, runs: &[Run]) -> Result<(), OutOfMemory>
-    ensures { OnOk result (out.new.items ≡ out.old.items ++ values_in runs.now) }
-{
-    for run in runs {
-        put_values(out, run.values.as_slice())?;
-    }
-    Ok(())
-}
-
-/// The values of a message: those that it passes, and those of its runs.
-fn all_values(alloc: Global, values: &[Wire], runs: &[Run]) -> Result<Vec<Wire>, OutOfMemory>
-    ensures { IfOk result (λ all. all.items ≡ values.now ++ values_in runs.now) }
+/// The values of a message: those that it passes, and those of the visible cells that changed.
+fn all_values(
+    alloc: Global,
+    view: &[Cell],
+    values: &[Wire],
+    left: &[MemoryBlock],
+    memory: &[MemoryBlock],
+) -> Result<Vec<Wire>, OutOfMemory>
+    ensures { IfOk result (λ all. all.items ≡ values.now ++ changed_values view.now left.now memory.now) }
 {
     let mut all = Vec::new(alloc);
     put_values(&mut all, values)?;
-    put_values_in(&mut all, runs)?;
+    let changed = changed_values(alloc, view, left, memory)?;
+    put_values(&mut all, changed.as_slice())?;
     Ok(all)
 }
 
-fn news_in(
+/// The blocks that a message tells for the first time, where the copy is rid of those that died.
+fn told_news(
     alloc: Global,
+    view: &[Cell],
+    values: &[Wire],
     left: &[MemoryBlock],
     memory: &[MemoryBlock],
-    values: &[Wire],
-    runs: &[Run],
 ) -> Result<Items<New>, OutOfMemory>
-    ensures { IfOk result (λ n. n ≡ news_of left.now (values.now ++ values_in runs.now) memory.now) }
+    ensures { IfOk result (λ n. n ≡ news_of left.now (values.now ++ changed_values view.now left.now memory.now) memory.now) }
 {
-    let all = all_values(alloc, values, runs)?;
+    let all = all_values(alloc, view, values, left, memory)?;
     news_of(alloc, left, all.as_slice(), memory)
 }
 
-/// What a message tells besides the deaths, where the copy is rid of them.
-fn with_deaths(
+fn with_news(
     alloc: Global,
-    left: &[MemoryBlock],
-    memory: &[MemoryBlock],
-    deaths: Items<u64>,
-    values: &[Wire],
-    runs: Items<Run>,
-) -> Result<Telling, OutOfMemory>
-    ensures { IfOk result (λ t. told t ≡ told_with left.now memory.now deaths values.now runs) }
+    program: &Program,
+    news: &[New],
+    left: Vec<MemoryBlock>,
+) -> Result<Vec<MemoryBlock>, OutOfMemory>
+    ensures { IfOk result (λ m. m.items ≡ with_news program.now news.now left.items) }
 {
-    let news = news_in(alloc, left, memory, values, runs.as_slice())?;
-    Ok(Telling { deaths, news, runs })
+    let mut begun = left;
+    put_news(alloc, program, news, &mut begun)?;
+    Ok(begun)
 }
 
-fn rid_of(
-    alloc: Global,
-    deaths: &[u64],
-    copy: Items<MemoryBlock>,
-) -> Result<Items<MemoryBlock>, OutOfMemory>
-    ensures { IfOk result (λ left. left ≡ without deaths.now copy) }
-{
-    let left = without(alloc, deaths, copy.into_vec())?;
-    Ok(Items::from_vec(left))
-}
-
-/// What a message with these values tells, and the copy without the blocks that died, where the copy is agreed
-/// and the memory is now. It fails only where the memory for it is missing.
-#[tactic(auto, unfolding(mdr_model::specs::Copies::tells))]
+/// What a message with these values tells, and the agreed copy after it, where the copy is agreed and the memory
+/// is now. It fails only where the memory for them is missing.
+#[tactic(auto, unfolding(mdr_model::specs::Copies::tells, mdr_model::specs::Copies::told_news, mdr_model::specs::Copies::begun_copy, mdr_model::specs::Copies::left_of, mdr_model::specs::Copies::agreed_after))]
 pub fn tells(
     alloc: Global,
+    program: &Program,
     view: &[Cell],
     values: &[Wire],
     copy: Items<MemoryBlock>,
     memory: &[MemoryBlock],
 ) -> Result<(Telling, Items<MemoryBlock>), OutOfMemory>
-    ensures what { IfOk result (λ t. told t.0 ≡ tells view.now values.now copy memory.now) }
-    ensures left { IfOk result (λ t. t.1 ≡ without (died copy memory.now) copy) }
+    ensures what { IfOk result (λ t. told t.0 ≡ tells program.now view.now values.now copy memory.now) }
+    ensures agreed { IfOk result (λ t. t.1 ≡ agreed_after program.now (tells program.now view.now values.now copy memory.now) copy) }
 {
     let deaths = died(alloc, copy.as_slice(), memory)?;
-    let left = rid_of(alloc, deaths.as_slice(), copy)?;
-    let runs = changes(alloc, view, left.as_slice(), memory)?;
-    let telling = with_deaths(alloc, left.as_slice(), memory, deaths, values, runs)?;
-    Ok((telling, left))
-}
-
-/// The same of a message that names no cells.
-#[tactic(auto, unfolding(mdr_model::specs::Copies::tells_no_cells))]
-pub fn tells_no_cells(
-    alloc: Global,
-    values: &[Wire],
-    copy: Items<MemoryBlock>,
-    memory: &[MemoryBlock],
-) -> Result<(Telling, Items<MemoryBlock>), OutOfMemory>
-    ensures what { IfOk result (λ t. told t.0 ≡ tells_no_cells values.now copy memory.now) }
-    ensures left { IfOk result (λ t. t.1 ≡ without (died copy memory.now) copy) }
-{
-    let deaths = died(alloc, copy.as_slice(), memory)?;
-    let left = rid_of(alloc, deaths.as_slice(), copy)?;
-    let telling = with_deaths(
-        alloc,
-        left.as_slice(),
-        memory,
-        deaths,
-        values,
-        Items::new(alloc),
-    )?;
-    Ok((telling, left))
+    let left = without(alloc, deaths.as_slice(), copy.into_vec())?;
+    let news = told_news(alloc, view, values, left.as_slice(), memory)?;
+    let mut agreed = with_news(alloc, program, news.as_slice(), left)?;
+    let runs = changes(alloc, view, agreed.as_slice(), memory)?;
+    put_runs(&mut agreed, runs.as_slice());
+    Ok((Telling { deaths, news, runs }, Items::from_vec(agreed)))
 }

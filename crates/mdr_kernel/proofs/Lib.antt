@@ -1,4 +1,3 @@
-pub mod Deaths
 pub mod Worlds
 pub mod Applied
 pub mod Standing

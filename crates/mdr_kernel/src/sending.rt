@@ -1,51 +1,16 @@
 // The messages that the kernel half sends.
 
 ghost use Rattle.std.specs.Prelude.{◌≡◌, [], ℕ, List, drop, IfOk};
-ghost use Rattle.mdr_copy.specs.Tellings.{told};
 ghost use Rattle.mdr_model.specs.Sets.{visible};
-ghost use Rattle.mdr_model.specs.Copies.{tells, tells_no_cells, agreed_after};
 ghost use Rattle.mdr_model.specs.Kernel.{calls, comes_back, answers};
 ghost use Rattle.mdr_kernel.specs.States.{world_of, kernel_of, pending_of, rest_of};
 
 use crate::events::one_more;
 use crate::state::{Kernel, Open, Pending, World};
-use mdr_copy::{Telling, agreed_after, runs_of_cells, tells, tells_no_cells, visible};
+use mdr_copy::{runs_of_cells, tells, visible};
 use mdr_core::{Items, OutOfMemory, Program};
-use mdr_model::{Cell, MemoryBlock, Message, Wire};
+use mdr_model::{Message, Wire};
 use std::alloc::Global;
-
-/// What a message tells, and the agreed copy after it.
-fn told_cells(
-    alloc: Global,
-    program: &Program,
-    view: &[Cell],
-    values: &[Wire],
-    copy: Items<MemoryBlock>,
-    memory: &[MemoryBlock],
-) -> Result<(Telling, Items<MemoryBlock>), OutOfMemory>
-    ensures what { IfOk result (λ t. told t.0 ≡ tells view.now values.now copy memory.now) }
-    ensures agreed { IfOk result (λ t. t.1 ≡ agreed_after program.now (tells view.now values.now copy memory.now) copy) }
-{
-    let (telling, left) = tells(alloc, view, values, copy, memory)?;
-    let agreed = agreed_after(alloc, program, &telling, left)?;
-    Ok((telling, agreed))
-}
-
-/// The same of a message that names no cells.
-fn told_lives(
-    alloc: Global,
-    program: &Program,
-    values: &[Wire],
-    copy: Items<MemoryBlock>,
-    memory: &[MemoryBlock],
-) -> Result<(Telling, Items<MemoryBlock>), OutOfMemory>
-    ensures what { IfOk result (λ t. told t.0 ≡ tells_no_cells values.now copy memory.now) }
-    ensures agreed { IfOk result (λ t. t.1 ≡ agreed_after program.now (tells_no_cells values.now copy memory.now) copy) }
-{
-    let (telling, left) = tells_no_cells(alloc, values, copy, memory)?;
-    let agreed = agreed_after(alloc, program, &telling, left)?;
-    Ok((telling, agreed))
-}
 
 /// The visible set is taken anew.
 fn renewed(alloc: Global, program: &Program, world: World) -> Result<World, OutOfMemory>
@@ -75,7 +40,7 @@ pub(crate) fn calls(
     let world = renewed(alloc, program, kernel.world)?;
     let view = world.view.as_slice();
     let memory = world.memory.as_slice();
-    let (telling, agreed) = told_cells(alloc, program, view, &[], kernel.agreed, memory)?;
+    let (telling, agreed) = tells(alloc, program, view, &[], kernel.agreed, memory)?;
     let message = Message::Call {
         func: upcall.func,
         depth: 0,
@@ -109,7 +74,7 @@ pub(crate) fn comes_back(
     let world = renewed(alloc, program, kernel.world)?;
     let view = world.view.as_slice();
     let memory = world.memory.as_slice();
-    let (telling, agreed) = told_cells(alloc, program, view, &[value], kernel.agreed, memory)?;
+    let (telling, agreed) = tells(alloc, program, view, &[value], kernel.agreed, memory)?;
     let message = Message::Back {
         rest: world.rest,
         result: value,
@@ -142,7 +107,8 @@ pub(crate) fn answers(
         agreed,
         exchanges,
     } = kernel;
-    let (telling, agreed) = told_lives(alloc, program, &[], agreed, world.memory.as_slice())?;
+    let memory = world.memory.as_slice();
+    let (telling, agreed) = tells(alloc, program, &[], &[], agreed, memory)?;
     let message = Message::Answer {
         results: Items::new(alloc),
         deaths: telling.deaths,

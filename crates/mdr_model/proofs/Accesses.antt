@@ -1,38 +1,43 @@
 -- Accesses of user code are the same on both sides, and keep the relation.
 use Rattle.std.proofs.Common.{◌≡◌, ℕ, suc, Bool, true, false, List, Option, Some, None, Result, Ok, Err, refl, sym, ◌∙◌, ap, subst, arith}
-use Rattle.std.specs.Prelude.{nat_lt}
+use Rattle.std.specs.Prelude.{is_some, nat_lt}
 use Rattle.mdr_core.specs.declared.stop.StopKind.{StopKind}
 use Rattle.mdr_core.specs.declared.stop.StopKind.TheVariants as stop
 use Rattle.mdr_core.specs.declared.program.Program.{Program}
 use Rattle.mdr_model.specs.declared.wire.Wire.{Wire}
 use Rattle.mdr_model.specs.declared.wire.Wire.TheVariants as wire
+use Rattle.mdr_model.specs.declared.wire.WireView.{WireView}
 use Rattle.mdr_model.specs.declared.message.New.{New}
-use Rattle.mdr_model.specs.Memory.{Memory, Cell, births, is_live, cell_at, put, cell_of, normal, normal_if, reached, reached_by, loaded, loaded_from, loaded_cell, loaded_value, stored, stored_into}
-use Rattle.mdr_model.specs.Sets.{is_same_cell, is_in, visible_of, visible}
+use Rattle.mdr_model.specs.Values.{fits}
+use Rattle.mdr_model.specs.Memory.{Memory, Cell, births, born_at, is_live, cell_at, put, cell_of, normal, reached, reached_by, loaded, loaded_from, loaded_cell, loaded_value, stored, stored_into}
+use Rattle.mdr_model.specs.Sets.{is_in, visible_of, visible}
 use Rattle.mdr_model.specs.World.{World}
 use Rattle.mdr_model.specs.Kernel.{Kernel, user_stop}
-use Rattle.mdr_model.proofs.Fair.{Knowledge, IsKnownPointer, IsValueAt, IsUserStop}
-use Rattle.mdr_model.proofs.Relations.{Holds, Rel}
-use Rattle.mdr_model.proofs.Tests.{not_both}
-use Rattle.mdr_model.proofs.MemoryLaws.{is_live-births, births-put, replaced, cell_at-put_same, cell_at-put_other}
-use Rattle.mdr_model.proofs.CopyLaws.{same_cell}
-use Rattle.mdr_model.proofs.HoldsLaws.{loaded_fits, stored_holds}
+use Rattle.mdr_model.specs.Agreement.{IsKnown}
+use Rattle.mdr_model.proofs.Fair.{Knowledge, IsKnownView, IsKnownPointer, IsValueAt, IsUserStop}
+use Rattle.mdr_model.proofs.Relations.{Holds, serials_of, Rel}
+use Rattle.mdr_model.proofs.MemoryLaws.{is_live-births, born_at-births, births-put}
+use Rattle.mdr_model.proofs.ValueLaws.{fitting_is_normal}
+use Rattle.mdr_model.proofs.HoldsLaws.{cell_fits, holds_put, view_within, loaded_is}
+use Rattle.mdr_model.proofs.AgreedReplies.{alike, put_keeps, get as in_view}
+use Rattle.mdr_model.proofs.KnownLaws.{view_known, fitting_known}
 
--- the globals' blocks on both sides
-same_births : {program : Program} {K : Knowledge} {k : Kernel} {w : World} {um : Memory} → Rel program K k w um → births um ≡ births w.memory
-same_births r = r.user ∙ sym r.holds.born
+-- a known pointer's block is live on both sides, or on neither
+same_live : {program : Program} {K : Knowledge} {k : Kernel} {w : World} {um : Memory} (p : WireView) → Rel program K k w um → IsKnownView K p → is_live um p.serial ≡ is_live w.memory p.serial
+unfolding is_live
+same_live {K = K} p r known = ap (λ (o : Option New). is_some o) (alike p.serial r.memories (view_known K p known))
 
 -- an access reaches the same on both sides
-same_reach : {program : Program} {K : Knowledge} {k : Kernel} {w : World} {um : Memory} (p : Wire) → Rel program K k w um → reached (is_in w.view) um p ≡ reached (is_in w.view) w.memory p
+same_reach : {program : Program} {K : Knowledge} {k : Kernel} {w : World} {um : Memory} (p : Wire) → Rel program K k w um → IsKnownPointer K p → reached (is_in w.view) um p ≡ reached (is_in w.view) w.memory p
 unfolding reached
-same_reach {w = w} {um = um} (wire.Ptr p) r =
-    ap (λ (b : Bool). reached_by b (nat_lt p.index p.count) (is_in w.view (cell_of p)) (cell_of p)) (is_live-births um w.memory p.serial (same_births r))
-same_reach (wire.Int kind n) r = refl
-same_reach wire.Null r = refl
-same_reach wire.Dead r = refl
-same_reach (wire.Fn f) r = refl
-same_reach (wire.Lock s) r = refl
-same_reach wire.NoValue r = refl
+same_reach {w = w} {um = um} (wire.Ptr p) r known =
+    ap (λ (b : Bool). reached_by b (nat_lt p.index p.count) (is_in w.view (cell_of p)) (cell_of p)) (same_live p r known)
+same_reach (wire.Int kind n) r known = refl
+same_reach wire.Null r known = refl
+same_reach wire.Dead r known = refl
+same_reach (wire.Fn f) r known = refl
+same_reach (wire.Lock s) r known = refl
+same_reach wire.NoValue r known = refl
 
 -- what is reached may be touched
 reached_allowed : (allowed : Cell → Bool) (m : Memory) (p : Wire) (c : Cell) → reached allowed m p ≡ Ok c → allowed c ≡ true
@@ -50,6 +55,17 @@ reached_allowed allowed m wire.Dead c e = absurd (Prim.cc)
 reached_allowed allowed m (wire.Fn f) c e = absurd (Prim.cc)
 reached_allowed allowed m (wire.Lock s) c e = absurd (Prim.cc)
 reached_allowed allowed m wire.NoValue c e = absurd (Prim.cc)
+
+-- and is the pointer's cell
+reached_is : (allowed : Cell → Bool) (m : Memory) (p : WireView) (c : Cell) → reached allowed m (wire.Ptr p) ≡ Ok c → cell_of p ≡ c
+unfolding reached
+reached_is allowed m p c e = of (is_live m p.serial) (nat_lt p.index p.count) (allowed (cell_of p)) e
+  where
+    of : (a b t : Bool) → reached_by a b t (cell_of p) ≡ Ok c → cell_of p ≡ c
+    of false b t h = absurd (Prim.cc)
+    of true false t h = absurd (Prim.cc)
+    of true true false h = absurd (Prim.cc)
+    of true true true h = Prim.cc
 
 -- the stops of an access are user code's own
 null_stop : IsUserStop stop.Null
@@ -92,11 +108,9 @@ reach_stop allowed m wire.NoValue kind e = stop_is _ _ null_stop e
 -- a tick of user code
 pub ticks : {program : Program} {K : Knowledge} {k : Kernel} {w : World} {um : Memory} (q : ℕ) → Rel program K k w um → w.rest ≡ suc q → Rel program K k (record w { rest = q; ticks = suc w.ticks }) um
 ticks q r e = record {
-  known = r.known;
-  copied = r.copied;
-  sized = r.sized;
-  user = r.user;
-  kept = r.kept;
+  next = r.next;
+  memories = r.memories;
+  knows = r.knows;
   holds = r.holds;
   view = r.view;
   same_view = r.same_view;
@@ -104,25 +118,47 @@ ticks q r e = record {
   same_calls = r.same_calls;
   clock = omega (arith, r.clock);
   later = omega (arith, r.later);
-  inside = r.inside;
-  told = r.told;
-  outside_user = r.outside_user;
-  outside_whole = r.outside_whole;
 }
 
 -- a load gives the same on both sides
 pub get : {program : Program} {K : Knowledge} {k : Kernel} {w : World} {um : Memory} (p : Wire) → Rel program K k w um → IsKnownPointer K p → loaded (is_in w.view) um p ≡ loaded (is_in w.view) w.memory p
 unfolding loaded
 get {w = w} {um = um} p r known =
-    ap (λ (x : Result Cell StopKind). loaded_from um x) (same_reach p r) ∙ of (reached (is_in w.view) w.memory p) refl
+    ap (λ (x : Result Cell StopKind). loaded_from um x) (same_reach p r known) ∙ of (reached (is_in w.view) w.memory p) refl
   where
     of : (x : Result Cell StopKind) → reached (is_in w.view) w.memory p ≡ x → loaded_from um x ≡ loaded_from w.memory x
     of (Err kind) e = refl
-    of (Ok c) e = ap loaded_cell (r.inside c (reached_allowed (is_in w.view) w.memory p c e))
+    of (Ok c) e = ap loaded_cell (in_view c r.memories (reached_allowed (is_in w.view) w.memory p c e))
+
+-- where a known pointer reaches a cell, its block is as it was born
+reached_born : {program : Program} {K : Knowledge} {k : Kernel} {w : World} {um : Memory} (p : WireView) (c : Cell) → Rel program K k w um → (known : IsKnownView K p) → reached (is_in w.view) w.memory (wire.Ptr p) ≡ Ok c → born_at w.memory p.serial ≡ Some known.block
+unfolding reached
+reached_born {w = w} p c r known e = of (is_live w.memory p.serial) refl e
+  where
+    of : (a : Bool) → is_live w.memory p.serial ≡ a → reached_by a (nat_lt p.index p.count) (is_in w.view (cell_of p)) (cell_of p) ≡ Ok c → born_at w.memory p.serial ≡ Some known.block
+    of false a h = absurd (Prim.cc)
+    of true a h = ap (born_at w.memory) (sym known.serial) ∙ r.knows.as_born known.block known.among (ap (is_live w.memory) known.serial ∙ a)
+
+loaded_reached : (allowed : Cell → Bool) (m : Memory) (p v : Wire) → loaded allowed m p ≡ Ok v → (c : Cell) × (reached allowed m p ≡ Ok c)
+unfolding loaded
+loaded_reached allowed m p v e = of (reached allowed m p) refl e
+  where
+    of : (x : Result Cell StopKind) → reached allowed m p ≡ x → loaded_from m x ≡ Ok v → (c : Cell) × (reached allowed m p ≡ Ok c)
+    of (Err kind) q h = absurd (Prim.cc)
+    of (Ok c) q h = (c, q)
 
 -- and it is a value of the pointer's type
 pub gets : {program : Program} {K : Knowledge} {k : Kernel} {w : World} {um : Memory} (p v : Wire) → Rel program K k w um → IsKnownPointer K p → loaded (is_in w.view) w.memory p ≡ Ok v → IsValueAt program p v
-gets {program} {w = w} p v r known e = loaded_fits program (is_in w.view) w.memory p v r.holds (subst (λ (K' : Knowledge). IsKnownPointer K' p) r.known known) e
+gets {program} {w = w} (wire.Ptr p) v r known e =
+    let there = loaded_reached (is_in w.view) w.memory (wire.Ptr p) v e in
+    subst (λ (n : ℕ). fits program n v ≡ true) (sym (view_within known.block p known.view).type_is)
+    (cell_fits program w.memory (cell_of p) v known.block r.holds (loaded_is (is_in w.view) w.memory p v e) (reached_born p there.0 r known there.1))
+gets (wire.Int kind n) v r known e = elim known [ ]
+gets wire.Null v r known e = elim known [ ]
+gets wire.Dead v r known e = elim known [ ]
+gets (wire.Fn f) v r known e = elim known [ ]
+gets (wire.Lock s) v r known e = elim known [ ]
+gets wire.NoValue v r known e = elim known [ ]
 
 -- a stop of a load is user code's own
 pub load_stop : (allowed : Cell → Bool) (m : Memory) (p : Wire) (kind : StopKind) → loaded allowed m p ≡ Err kind → IsUserStop kind
@@ -146,52 +182,49 @@ load_stop allowed m p kind e = of (reached allowed m p) refl e
     of (Err k) q h = let same : k ≡ kind = Prim.cc in subst (λ (x : StopKind). IsUserStop x) same (reach_stop allowed m p k q)
     of (Ok c) q h = held_stop (cell_at m c) h
 
--- values are read as they are now on both sides alike
-pub normals : {program : Program} {K : Knowledge} {k : Kernel} {w : World} {um : Memory} (v : Wire) → Rel program K k w um → normal um v ≡ normal w.memory v
-unfolding normal
-normals {w = w} {um = um} (wire.Ptr p) r = ap (λ (b : Bool). normal_if b p) (is_live-births um w.memory p.serial (same_births r))
-normals (wire.Int kind n) r = refl
-normals wire.Null r = refl
-normals wire.Dead r = refl
-normals (wire.Fn f) r = refl
-normals (wire.Lock s) r = refl
-normals wire.NoValue r = refl
+-- a value that fits its type is known
+fitting_at : (program : Program) (K : Knowledge) (p v : Wire) → IsValueAt program p v → IsKnown (serials_of K) v
+fitting_at program K (wire.Ptr p) v fit = fitting_known program K p.ty v fit
+fitting_at program K (wire.Int kind n) v fit = elim fit [ ]
+fitting_at program K wire.Null v fit = elim fit [ ]
+fitting_at program K wire.Dead v fit = elim fit [ ]
+fitting_at program K (wire.Fn f) v fit = elim fit [ ]
+fitting_at program K (wire.Lock s) v fit = elim fit [ ]
+fitting_at program K wire.NoValue v fit = elim fit [ ]
 
--- a store of one value into one visible cell on both sides keeps the relation
-stores_in : {program : Program} {K : Knowledge} {k : Kernel} {w : World} {um : Memory} (c : Cell) (v : Wire) → Rel program K k w um → is_in w.view c ≡ true → Holds program (put w.memory c v)
-    → Rel program K k (record w { memory = put w.memory c v }) (put um c v)
+-- a store of one known value into one visible cell on both sides keeps the relation
+stores_in : {program : Program} {K : Knowledge} {k : Kernel} {w : World} {um : Memory} (c : Cell) (v : Wire) → Rel program K k w um → is_in w.view c ≡ true → IsKnown (serials_of K) v → Holds program (put w.memory c (normal w.memory v))
+    → Rel program K k (record w { memory = put w.memory c (normal w.memory v) }) (put um c (normal um v))
 unfolding visible
-stores_in {program} {w = w} {um = um} c v r seen holds = record {
-  known = r.known;
-  copied = r.copied;
-  sized = r.sized;
-  user = births-put um c v ∙ r.user;
-  kept = r.kept;
-  holds = holds;
-  view = r.view ∙ ap (λ (bs : List New). visible_of program bs) (sym (births-put w.memory c v));
-  same_view = r.same_view;
-  same_events = r.same_events;
-  same_calls = r.same_calls;
-  clock = r.clock;
-  later = r.later;
-  inside = λ d inside. at d inside (is_same_cell c d) refl;
-  told = r.told;
-  outside_user = λ d outside. cell_at-put_other um c d v (apart d outside) ∙ r.outside_user d outside;
-  outside_whole = λ d outside. cell_at-put_other w.memory c d v (apart d outside) ∙ r.outside_whole d outside;
-}
-  where
-    at : (d : Cell) → is_in w.view d ≡ true → (t : Bool) → is_same_cell c d ≡ t → cell_at (put um c v) d ≡ cell_at (put w.memory c v) d
-    at d inside true t =
-        subst (λ (x : Cell). cell_at (put um c v) x ≡ cell_at (put w.memory c v) x) (same_cell c d t)
-        (cell_at-put_same um c v ∙ ap (λ (o : Option Wire). replaced o v) (r.inside c seen) ∙ sym (cell_at-put_same w.memory c v))
-    at d inside false t = cell_at-put_other um c d v t ∙ r.inside d inside ∙ sym (cell_at-put_other w.memory c d v t)
+stores_in {program} {w = w} {um = um} c v r seen known holds =
+    let same : births (put w.memory c (normal w.memory v)) ≡ births w.memory = births-put w.memory c (normal w.memory v) in
+    record {
+      next = r.next;
+      memories = put_keeps c v r.memories seen known;
+      knows = record { globals = r.knows.globals; as_born = λ b h live. born_at-births _ w.memory b.serial same ∙ r.knows.as_born b h (sym (is_live-births _ w.memory b.serial same) ∙ live) };
+      holds = holds;
+      view = r.view ∙ ap (λ (bs : List New). visible_of program bs) (sym same);
+      same_view = r.same_view;
+      same_events = r.same_events;
+      same_calls = r.same_calls;
+      clock = r.clock;
+      later = r.later;
+    }
 
-    apart : (d : Cell) → is_in w.view d ≡ false → is_same_cell c d ≡ false
-    apart d outside = differ_by (is_same_cell c d) refl
-      where
-        differ_by : (t : Bool) → is_same_cell c d ≡ t → is_same_cell c d ≡ false
-        differ_by true t = absurd (not_both (subst (λ (x : Cell). is_in w.view x ≡ true) (same_cell c d t) seen) outside)
-        differ_by false t = t
+-- a store through a known pointer keeps the memory
+stored_keeps : {program : Program} {K : Knowledge} {k : Kernel} {w : World} {um : Memory} (p v : Wire) (c : Cell) → Rel program K k w um → IsKnownPointer K p → IsValueAt program p v → reached (is_in w.view) w.memory p ≡ Ok c
+    → Holds program (put w.memory c (normal w.memory v))
+stored_keeps {program} {w = w} (wire.Ptr p) v c r known fit e =
+    subst (λ (x : Wire). Holds program (put w.memory c x)) (sym (fitting_is_normal program p.ty w.memory v fit))
+    (holds_put program w.memory c v known.block r.holds
+    (ap (λ (d : Cell). born_at w.memory d.serial) (sym (reached_is (is_in w.view) w.memory p c e)) ∙ reached_born p c r known e)
+    (subst (λ (n : ℕ). fits program n v ≡ true) (view_within known.block p known.view).type_is fit))
+stored_keeps (wire.Int kind n) v c r known fit e = elim known [ ]
+stored_keeps wire.Null v c r known fit e = elim known [ ]
+stored_keeps wire.Dead v c r known fit e = elim known [ ]
+stored_keeps (wire.Fn f) v c r known fit e = elim known [ ]
+stored_keeps (wire.Lock s) v c r known fit e = elim known [ ]
+stored_keeps wire.NoValue v c r known fit e = elim known [ ]
 
 -- a store stops on both sides alike, or keeps the relation
 pub data Stores (program : Program) (K : Knowledge) (k : Kernel) (w : World) (um : Memory) (p v : Wire) : Type 0 where
@@ -206,9 +239,7 @@ store {program} {K} {k} {w} {um} p v r known fits = of (reached (is_in w.view) w
     into m x e = ap (λ (y : Result Cell StopKind). stored_into m v y) e
 
     of : (x : Result Cell StopKind) → reached (is_in w.view) w.memory p ≡ x → Stores program K k w um p v
-    of (Err kind) e = stops kind (into um _ (same_reach p r ∙ e)) (into w.memory _ e) (reach_stop (is_in w.view) w.memory p kind e)
+    of (Err kind) e = stops kind (into um _ (same_reach p r known ∙ e)) (into w.memory _ e) (reach_stop (is_in w.view) w.memory p kind e)
     of (Ok c) e =
-        goes (put um c (normal um v)) (put w.memory c (normal w.memory v)) (into um _ (same_reach p r ∙ e)) (into w.memory _ e)
-        (subst (λ (u : Wire). Rel program K k (record w { memory = put w.memory c (normal w.memory v) }) (put um c u)) (sym (normals v r))
-        (stores_in c (normal w.memory v) r (reached_allowed (is_in w.view) w.memory p c e)
-        (stored_holds program (is_in w.view) w.memory (put w.memory c (normal w.memory v)) p v r.holds (subst (λ (K' : Knowledge). IsKnownPointer K' p) r.known known) fits (into w.memory _ e))))
+        goes (put um c (normal um v)) (put w.memory c (normal w.memory v)) (into um _ (same_reach p r known ∙ e)) (into w.memory _ e)
+        (stores_in c v r (reached_allowed (is_in w.view) w.memory p c e) (fitting_at program K p v fits) (stored_keeps p v c r known fits e))

@@ -1,5 +1,5 @@
 -- The split run of a script comes to the end of the whole run.
-use Rattle.std.proofs.Common.{◌≡◌, ℕ, suc, ◌+◌, ◌*◌, ◌≤◌, Bool, true, false, List, [], ◌∷◌, Option, Some, None, Ok, refl, sym, ap, subst, arith}
+use Rattle.std.proofs.Common.{◌≡◌, ℕ, suc, ◌+◌, ◌*◌, ◌≤◌, Bool, true, false, List, [], ◌∷◌, ◌++◌, Option, Some, None, Ok, refl, sym, ap, subst, arith}
 use Rattle.std.specs.Prelude.{slice_get, map}
 use Rattle.std.proofs.lemmas.Bool.{lt-ltb}
 use Rattle.mdr_core.specs.declared.plan.Half.TheVariants as half
@@ -21,11 +21,12 @@ use Rattle.mdr_model.specs.Faults.{params_of, args_fault}
 use Rattle.mdr_model.specs.User.{deliver, opened, call_fits}
 use Rattle.mdr_model.specs.Runnable.{IsRunnableFunc, IsRunnable, IsBound}
 use Rattle.mdr_model.proofs.Tests.{and_both}
-use Rattle.mdr_model.proofs.Fair.{Knowledge, IsAmong, IsResultOf, Fair}
+use Rattle.mdr_model.proofs.Fair.{Knowledge, IsResultOf, Fair}
 use Rattle.mdr_model.proofs.Relations.{Agree}
 use Rattle.mdr_model.proofs.KernelWork.{Later, Leaves, ended, stopped, kernel_leaves}
 use Rattle.mdr_model.proofs.FairTrees.{fair_user, same_started}
 use Rattle.mdr_model.proofs.HoldsLaws.{all_get}
+use Rattle.mdr_model.proofs.KnownLaws.{onward}
 use Rattle.mdr_model.proofs.Messages
 use Rattle.mdr_model.proofs.Serves.{Finishes, one_more, is_over, idle_user, GoesOn, Serves, serves, reply_of}
 
@@ -52,13 +53,13 @@ module _ (program : Program) (sound : IsRunnable program) (fuel : ℕ) where
 
   goes_on : (f : ℕ) (fs : List ℕ) → FinishesAll fs → GoesOn program (suc fuel) (Noted f fs)
   unfolding returned
-  goes_on f fs later = record { by = λ K k v a bound. later K (record k { world = returned v k.world }) (Messages.onward a a.holds) bound }
+  goes_on f fs later = record { by = λ K k v a bound. later K (record k { world = returned v k.world }) (onward a a.holds) bound }
 
   kernel_command : (fs : List ℕ) → FinishesAll fs → (K : Knowledge) (k : Kernel) (w : World) → Agree program K k.agreed w → 2 * k.exchanges ≤ 4 * w.ticks + 6 * w.calls → (f : ℕ) (ran : Ran Wire) → Leaves (Later program w) (IsResultOf program f) ran
       → Finishes program (suc fuel) (then_split ran k (λ k'. split_commands program fs k')) (idle_user k.agreed) (and_then ran (λ w'. commands program fs w'))
   unfolding returned
   kernel_command fs later K k w a bound f _ (ended v w' l ok) =
-      later K (record k { world = returned v w' }) (Messages.onward a l.holds) (omega (arith, l.later, l.calls))
+      later K (record k { world = returned v w' }) (onward a l.holds) (omega (arith, l.later, l.calls))
   kernel_command fs later K k w a bound f _ (stopped kind at w' l) =
       is_over (ends.Stop kind at) (record k { world = w' }) (idle_user k.agreed) (omega (arith, l.later, l.calls))
 
@@ -68,12 +69,12 @@ module _ (program : Program) (sound : IsRunnable program) (fuel : ℕ) where
   user_command f fs later K k w a bound user =
       let e : ℕ = suc k.exchanges in
       let w' : World = renewed program w in
-      let told : Told = Messages.telling [] k.agreed w' in
-      let m : Messages.Messaged program K k.agreed w' e told = Messages.message_is [] w e a in
+      let told : Told = Messages.telling program [] k.agreed w' in
+      let m : Messages.Messaged program K k.agreed w' e told = Messages.message_is [] w e sound a in
       let tree : Tree = started program half.User (suc fuel) f [] 0 in
       let same : started program half.User (suc w.rest) f [] 0 ≡ tree = same_started program sound half.User w.rest fuel f [] 0 user in
-      let fair : Fair program half.User f K 2 tree = fair_user program sound fuel f K 2 user (λ b h. subst (λ (K' : Knowledge). IsAmong b K') (sym a.known) h) in
-      let served : Serves program (suc fuel) (Noted f fs) K 2 tree = serves program sound (suc fuel) (Noted f fs) (goes_on f fs later) tree 2 K fair in
+      let fair : Fair program half.User f (K ++ told.news) 2 tree = fair_user program sound fuel f (K ++ told.news) 2 user m.rel.knows.globals in
+      let served : Serves program (suc fuel) (Noted f fs) (K ++ told.news) 2 tree = serves program sound (suc fuel) (Noted f fs) (goes_on f fs later) tree 2 (K ++ told.news) fair in
       subst (λ (t : Tree). Finishes program (suc fuel) (calls program f [] w k fs) (idle_user k.agreed) (and_then (in_user program t w') (λ x. commands program fs x))) (sym same)
       (one_more _ (Messages.waiting program told k.agreed w' e) (Noted f fs) (idle_user k.agreed) (reply_of (Messages.waiting program told k.agreed w' e) w' (agreed_after program told k.agreed) w'.rest tree) _
       (deliver_call (suc fuel) f e k.agreed w' told user sound m)
@@ -90,5 +91,5 @@ module _ (program : Program) (sound : IsRunnable program) (fuel : ℕ) where
       of : (t : Bool) → is_kernel program f ≡ t → FinishesAll fs
           → Finishes program (suc fuel) (command_by (is_kernel program f) program f fs w k (λ k'. split_commands program fs k')) (idle_user k.agreed)
           (and_then (called_by (is_kernel program f) program f w) (λ w'. commands program fs w'))
-      of true t later = rw t (kernel_command fs later K k w (Messages.onward a a.holds) (omega (arith, bound)) f _ (kernel_leaves f [] 0 w sound t a.holds))
-      of false t later = rw t (user_command f fs later K k w (Messages.onward a a.holds) (omega (arith, bound)) (and_both _ _ (lt-ltb _ _ named.0) (rw t refl)))
+      of true t later = rw t (kernel_command fs later K k w (onward a a.holds) (omega (arith, bound)) f _ (kernel_leaves f [] 0 w sound t a.holds))
+      of false t later = rw t (user_command f fs later K k w (onward a a.holds) (omega (arith, bound)) (and_both _ _ (lt-ltb _ _ named.0) (rw t refl)))

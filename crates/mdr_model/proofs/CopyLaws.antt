@@ -1,37 +1,20 @@
 -- Laws of copies: what memory holds after runs of changes were stored in it.
 use Rattle.std.proofs.Common.{◌≡◌, ℕ, zero, suc, Bool, true, false, cond, not, ◌&&◌, ◌||◌, List, [], ◌∷◌, ◌++◌, map, Option, Some, None, refl, sym, ◌∙◌, ap, subst}
-use Rattle.std.specs.Prelude.{◌==◌, is_some, unwrap_or}
+use Rattle.std.specs.Prelude.{is_some, unwrap_or}
 use Rattle.mdr_model.specs.declared.wire.Wire.{Wire}
 use Rattle.mdr_model.specs.declared.wire.Wire.TheVariants as wire
 use Rattle.mdr_model.specs.declared.message.Run.{Run}
 use Rattle.mdr_model.specs.declared.message.SetRun.{SetRun}
 use Rattle.mdr_model.specs.Values.{is_same}
-use Rattle.mdr_model.specs.Memory.{Memory, Cell, births, cell_at, put}
+use Rattle.mdr_model.specs.Memory.{Memory, Cell, births, born_at, cell_at, put}
 use Rattle.mdr_model.specs.Sets.{is_same_cell, is_in, cells_from, cells_of_run, cells_of_runs, runs_of_cells}
 use Rattle.mdr_model.specs.Copies.{CellValue, numbered, values_of_runs, put_all, put_runs, held, run_from, has_changed, changed_cells, changes}
-use Rattle.mdr_model.proofs.Tests.{same_number, is_same_number, not_both, and_both, and_left, and_right}
-use Rattle.mdr_model.proofs.MemoryLaws.{births-put, replaced, cell_at-put_same, cell_at-put_other}
+use Rattle.mdr_model.specs.Agreement.{SerialsRise}
+use Rattle.mdr_model.proofs.Tests.{not_both, and_both}
+pub use Rattle.mdr_model.proofs.MemoryLaws.{same_cell, itself, other_way}
+use Rattle.mdr_model.proofs.MemoryLaws.{born_at-births, births-put, rises-births, replaced, cell_at-put_same, cell_at-put_other}
 use Rattle.mdr_model.proofs.SetLaws.{cells_of_runs-runs}
 use Rattle.mdr_model.proofs.ValueLaws.{same_value}
-
--- ---- cells
-
-pub same_cell : (c d : Cell) → is_same_cell c d ≡ true → c ≡ d
-same_cell c d e =
-    let serial : c.serial ≡ d.serial = is_same_number _ _ (and_left _ _ e) in
-    let index : c.index ≡ d.index = is_same_number _ _ (and_right (c.serial == d.serial) _ e) in
-    λ i. record { serial = serial i; index = index i }
-
-pub itself : (c : Cell) → is_same_cell c c ≡ true
-itself c = and_both _ _ (same_number c.serial) (same_number c.index)
-
--- the two ways round
-pub other_way : (c d : Cell) → is_same_cell c d ≡ false → is_same_cell d c ≡ false
-other_way c d e = of (is_same_cell d c) refl
-  where
-    of : (t : Bool) → is_same_cell d c ≡ t → is_same_cell d c ≡ false
-    of true t = absurd (not_both (subst (λ (x : Cell). is_same_cell x d ≡ true) (same_cell d c t) (itself d)) e)
-    of false t = t
 
 -- ---- the values that runs name
 
@@ -183,3 +166,19 @@ stores_outside view agreed now m c outside =
 
 pub births-stores : (view : List Cell) (agreed now m : Memory) → births (put_runs (changes view agreed now) m) ≡ births m
 births-stores view agreed now m = ap (λ (m' : Memory). births m') (put_runs-changes view agreed now m) ∙ births-put_all _ m
+
+-- both in one equation: the cells of the set become those that are now, where they were there; others stay
+pub cell_at-changes : (view : List Cell) (agreed now m : Memory) (c : Cell)
+    → (is_in view c ≡ true → is_some (cell_at m c) ≡ is_some (cell_at now c)) → (is_in view c ≡ true → cell_at m c ≡ cell_at agreed c)
+    → cell_at (put_runs (changes view agreed now) m) c ≡ cond (is_in view c) (cell_at now c) (cell_at m c)
+cell_at-changes view agreed now m c there same = of (is_in view c) refl
+  where
+    of : (t : Bool) → is_in view c ≡ t → cell_at (put_runs (changes view agreed now) m) c ≡ cond t (cell_at now c) (cell_at m c)
+    of true t = stores_inside view agreed now m c t (same t) (there t)
+    of false t = stores_outside view agreed now m c t
+
+pub born_at-put_runs : (runs : List Run) (m : Memory) (serial : ℕ) → born_at (put_runs runs m) serial ≡ born_at m serial
+born_at-put_runs runs m serial = born_at-births (put_runs runs m) m serial (births-put_runs runs m)
+
+pub rises-put_runs : (runs : List Run) (m : Memory) → SerialsRise m → SerialsRise (put_runs runs m)
+rises-put_runs runs m r = rises-births m (put_runs runs m) (sym (births-put_runs runs m)) r

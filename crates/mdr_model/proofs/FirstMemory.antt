@@ -16,7 +16,7 @@ use Rattle.mdr_model.specs.Runnable.{IsRunnableGlobal, IsRunnable}
 use Rattle.mdr_model.proofs.FairTrees.{kind_type}
 use Rattle.mdr_model.proofs.Relations.{IsFilled, Holds}
 
-type_named : (t : Ty) → IsBuiltCell t → slice_get first_types (type_number t) ≡ Some t
+pub type_named : (t : Ty) → IsBuiltCell t → slice_get first_types (type_number t) ≡ Some t
 type_named (ty.Int k) cell = kind_type k
 type_named ty.Lock cell = refl
 type_named _ cell = elim cell [ ]

@@ -1,5 +1,5 @@
 -- Laws of memories: births, cells, values that fit, and what loads and stores leave.
-use Rattle.std.proofs.Common.{◌≡◌, ℕ, zero, suc, ◌≤◌, ◌<◌, inl, inr, Bool, true, false, cond, ◌||◌, ◌&&◌, List, [], ◌∷◌, length, ◌==◌, nat_lt, nat_le, slice_get, slice_set, Option, Some, None, Result, Ok, Err, refl, sym, ap, ◌∙◌, subst, length-set, eqb-true, eq-eqb, ne_eqb, leb-true, arith}
+use Rattle.std.proofs.Common.{◌≡◌, ℕ, zero, suc, ◌≤◌, ◌<◌, inl, inr, Bool, true, false, cond, ◌&&◌, List, [], ◌∷◌, length, ◌==◌, nat_lt, nat_le, is_some, slice_get, slice_set, Option, Some, None, Result, Ok, Err, refl, sym, ap, ◌∙◌, subst, length-set, eqb-true, eq-eqb, ne_eqb, leb-true, arith}
 use Rattle.std.specs.List.{AllByRecursion}
 use Rattle.std.proofs.lemmas.Bool.{cond-true, cond-false, cond_both}
 use Rattle.mdr_core.specs.declared.stop.StopKind.{StopKind}
@@ -41,22 +41,16 @@ get_inside (x ∷ xs) (suc i) h = get_inside xs i (omega arith)
 -- ---- births
 
 pub born_is_live : (m : Memory) (serial : ℕ) (b : New) → born_at m serial ≡ Some b → is_live m serial ≡ true
-unfolding born_at is_live
-born_is_live [] serial b e = absurd (Prim.cc)
-born_is_live (x ∷ m) serial b e = of (x.born.serial == serial) e (born_is_live m serial b)
-  where
-    of : (t : Bool) → cond t (Some x.born) (born_at m serial) ≡ Some b → (born_at m serial ≡ Some b → is_live m serial ≡ true) → (t || is_live m serial) ≡ true
-    of true e later = refl
-    of false e later = later e
+unfolding is_live
+born_is_live m serial b e = ap (λ (o : Option New). is_some o) e
 
 pub live_is_born : (m : Memory) (serial : ℕ) → is_live m serial ≡ true → IsThere (born_at m serial)
-unfolding born_at is_live
-live_is_born [] serial e = absurd (Prim.cc)
-live_is_born (x ∷ m) serial e = of (x.born.serial == serial) e (live_is_born m serial)
+unfolding is_live
+live_is_born m serial e = of (born_at m serial) e
   where
-    of : (t : Bool) → (t || is_live m serial) ≡ true → (is_live m serial ≡ true → IsThere (born_at m serial)) → IsThere (cond t (Some x.born) (born_at m serial))
-    of true e later = record { item = x.born; found_is = refl }
-    of false e later = later e
+    of : (o : Option New) → is_some o ≡ true → IsThere o
+    of None h = absurd (Prim.cc)
+    of (Some b) h = record { item = b; found_is = refl }
 
 pub born_serial : (m : Memory) (serial : ℕ) (b : New) → born_at m serial ≡ Some b → b.serial ≡ serial
 unfolding born_at

@@ -23,7 +23,7 @@ use Rattle.mdr_model.specs.Runnable.{IsRunnable, IsBound}
 use Rattle.mdr_model.specs.Law.{read, IsHonest, IsOwn, IsOneMemory}
 use Rattle.mdr_model.proofs.Tests.{and_left}
 use Rattle.mdr_model.proofs.Relations.{globals_of, Holds, Agree}
-use Rattle.mdr_model.proofs.VisibleLaws.{sized_of}
+use Rattle.mdr_model.proofs.KnownLaws.{first_agreed}
 use Rattle.mdr_model.proofs.FairTrees.{same_started}
 use Rattle.mdr_model.proofs.FuelLaws.{user_after-append}
 use Rattle.mdr_model.proofs.FirstMemory.{first_holds}
@@ -171,7 +171,7 @@ unfolding split_run watched first_kernel first_world first_user user_after
 split_is_one_memory program script budget sound named =
     let k0 : Kernel = first_kernel program budget in
     let holds : Holds program (first_memory program) = first_holds program sound in
-    let agree : Agree program (globals_of program) k0.agreed k0.world = record { known = refl; copied = refl; sized = sized_of program (first_memory program) holds.filled; holds = holds } in
+    let agree : Agree program (globals_of program) k0.agreed k0.world = first_agreed program k0.world refl holds in
     let p : Pending = split_commands program script k0 in
     let f : Finishes program 1 p (idle_user (first_memory program)) (watched program script budget) = finishes program sound 0 script named (globals_of program) k0 agree (omega arith) in
     record {

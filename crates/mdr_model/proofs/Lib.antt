@@ -3,6 +3,11 @@ pub mod MemoryLaws
 pub mod SetLaws
 pub mod ValueLaws
 pub mod CopyLaws
+pub mod LifeLaws
+pub mod AgreedMessages
+pub mod AgreedReplies
+pub mod AgreedAnswers
+pub mod KernelSteps
 pub mod Fair
 pub mod Relations
 pub mod HoldsLaws
@@ -17,6 +22,8 @@ pub mod VisibleLaws
 pub mod RunLaws
 pub mod ViewLaws
 pub mod ShowLaws
+pub mod KnownLaws
+pub mod LifeTests
 pub mod AnyAnswers
 pub mod Contained
 pub mod Unchanged
@@ -29,3 +36,4 @@ pub mod Commands
 pub mod LawProof
 pub mod WorkedCode
 pub mod WorkedProofs
+pub mod WorkedCopyProofs

@@ -1,7 +1,6 @@
 -- An honest reply is legal, and storing it gives the whole run's state.
 use Rattle.std.proofs.Common.{◌≡◌, ℕ, suc, ◌+◌, ◌-◌, ◌*◌, ◌≤◌, Bool, true, false, cond, List, [], ◌∷◌, map, Option, Some, None, refl, sym, ◌∙◌, ap, subst, arith}
-use Rattle.std.specs.Prelude.{is_some, is_none, nat_le, nat_lt, ◌==◌}
-use Rattle.std.specs.List.{AllByRecursion}
+use Rattle.std.specs.Prelude.{is_none, nat_le, nat_lt, ◌==◌}
 use Rattle.mdr_core.specs.declared.stop.StopKind.{StopKind}
 use Rattle.mdr_core.specs.declared.place.At.{At}
 use Rattle.mdr_core.specs.declared.plan.Half.TheVariants as half
@@ -10,27 +9,24 @@ use Rattle.std.proofs.lemmas.Bool.{eq-eqb, lt-ltb, le-leb}
 use Rattle.mdr_core.specs.declared.types.Ty.{Ty}
 use Rattle.mdr_core.specs.declared.refusal.RefuseKind.TheVariants as refusal
 use Rattle.mdr_model.specs.declared.wire.Wire.{Wire}
-use Rattle.mdr_model.specs.declared.message.New.{New}
 use Rattle.mdr_model.specs.declared.message.Run.{Run}
 use Rattle.mdr_model.specs.declared.message.Message.TheVariants as message
 use Rattle.mdr_model.specs.Values.{fits_type, fits_result}
-use Rattle.mdr_model.specs.Memory.{Memory, Cell, births, cell_at, normal}
-use Rattle.mdr_model.specs.Sets.{is_in}
+use Rattle.mdr_model.specs.Memory.{Memory, Cell, normal}
 use Rattle.mdr_model.specs.Tree.{Asked}
 use Rattle.mdr_model.specs.World.{World}
 use Rattle.mdr_model.specs.Meaning.{func_at}
 use Rattle.mdr_model.specs.Faults.{fault, params_of, args_fault, runs_fault}
 use Rattle.mdr_model.specs.Copies.{changes, put_runs}
 use Rattle.mdr_model.specs.Kernel.{Kernel, Rest, fault_of, upcall_of, applied, stop_number, user_stop, is_awaited, is_ask_place, service_params, result_type, reply_runs_fault}
+use Rattle.mdr_model.specs.Agreement.{IsAgreed}
 use Rattle.mdr_model.proofs.ValueLaws.{typed_is_normal, result_is_normal}
 use Rattle.mdr_model.proofs.Fair.{Knowledge, IsPlace, IsUserStop, IsAskable, IsDowncall, IsResultOf}
-use Rattle.mdr_model.proofs.Relations.{globals_of, IsSized, Agree, Rel}
+use Rattle.mdr_model.proofs.Relations.{serials_of, Agree, Rel}
 use Rattle.mdr_model.proofs.Tests.{other_number}
-use Rattle.mdr_model.proofs.MemoryLaws.{RisesFrom, same_memory}
-use Rattle.mdr_model.proofs.CopyLaws.{put_runs-changes, stores_inside, stores_outside, births-stores}
-use Rattle.mdr_model.proofs.VisibleLaws.{sized_of, sized_put_all}
+use Rattle.mdr_model.proofs.AgreedReplies.{reply_whole, reply_user, replied, get}
 use Rattle.mdr_model.proofs.RunLaws.{changes_fit}
-use Rattle.mdr_model.proofs.ViewLaws.{globals_rise, view_rises, same_there, tellable}
+use Rattle.mdr_model.proofs.ViewLaws.{view_rises, tellable}
 
 -- the ticks that a reply tells
 abbrev pub used : Kernel → World → ℕ
@@ -44,27 +40,13 @@ told_runs k w um = changes w.view k.agreed um
 abbrev pub resumed : Kernel → World → Memory → Kernel
 resumed k w um = record { world = w; agreed = put_runs (told_runs k w um) k.agreed; exchanges = k.exchanges }
 
--- the memory after it is the whole run's
-memory_of : {program : Program} {K : Knowledge} {k : Kernel} {w : World} {um : Memory} → Rel program K k w um → put_runs (told_runs k w um) k.world.memory ≡ w.memory
-memory_of {program} {k = k} {w = w} {um = um} r =
-    let blocks : births (put_runs (told_runs k w um) k.world.memory) ≡ globals_of program = births-stores w.view k.agreed um k.world.memory ∙ r.kept.born in
-    same_memory 0 _ w.memory (blocks ∙ sym r.holds.born) (subst (λ (bs : List New). RisesFrom 0 bs) (sym blocks) (globals_rise program)) (λ c. at c (is_in w.view c) refl)
-  where
-    at : (c : Cell) (t : Bool) → is_in w.view c ≡ t → cell_at (put_runs (told_runs k w um) k.world.memory) c ≡ cell_at w.memory c
-    at c true t =
-        stores_inside w.view k.agreed um k.world.memory c t (r.told c t)
-        (same_there program k.world.memory w.memory c r.kept.born r.holds.born (sized_of program k.world.memory r.kept.filled) (sized_of program w.memory r.holds.filled)
-        ∙ ap (λ (o : Option Wire). is_some o) (sym (r.inside c t)))
-        ∙ r.inside c t
-    at c false t = stores_outside w.view k.agreed um k.world.memory c t ∙ sym (r.outside_whole c t)
-
 -- storing it gives the whole run's state
 pub stores_reply : {program : Program} {K : Knowledge} {k : Kernel} {w : World} {um : Memory} → Rel program K k w um → applied (used k w) (told_runs k w um) k ≡ resumed k w um
 unfolding applied
 stores_reply {program} {k = k} {w = w} {um = um} r =
     let ticks_are : k.world.ticks + (k.world.rest - w.rest) ≡ w.ticks = omega (arith, r.clock, r.later) in
     let rest_is : k.world.rest - (k.world.rest - w.rest) ≡ w.rest = omega (arith, r.clock, r.later) in
-    let memory_is : put_runs (told_runs k w um) k.world.memory ≡ w.memory = memory_of r in
+    let memory_is : put_runs (told_runs k w um) k.world.memory ≡ w.memory = reply_whole r.memories in
     λ i. record {
       world = record { memory = memory_is i; view = r.same_view i; ticks = ticks_are i; rest = rest_is i; events = r.same_events i; calls = r.same_calls i };
       agreed = put_runs (told_runs k w um) k.agreed;
@@ -73,10 +55,10 @@ stores_reply {program} {k = k} {w = w} {um = um} r =
 
 -- and both sides agree then
 pub agrees : {program : Program} {K : Knowledge} {k : Kernel} {w : World} {um : Memory} → Rel program K k w um → Agree program K (put_runs (told_runs k w um) k.agreed) w
-agrees {program} {k = k} {w = w} {um = um} r = record {
-  known = r.known;
-  copied = births-stores w.view k.agreed um k.agreed ∙ r.copied;
-  sized = subst (λ (m : Memory). AllByRecursion IsSized m) (sym (put_runs-changes w.view k.agreed um k.agreed)) (sized_put_all _ k.agreed r.sized);
+agrees {program} {K} {k} {w} {um} r = record {
+  next = r.next;
+  memories = subst (λ (copy : Memory). IsAgreed (serials_of K) r.next copy w.memory) (sym (reply_user r.memories)) (replied r.memories);
+  knows = r.knows;
   holds = r.holds;
 }
 
@@ -89,13 +71,13 @@ runs_legal : {program : Program} {K : Knowledge} {k : Kernel} {w : World} {um : 
 runs_legal {program} {k = k} {w = w} {um = um} r =
     ap (λ (view : List Cell). runs_fault program view k.agreed k.world.memory None 0 (told_runs k w um)) r.same_view
     ∙ changes_fit program w.view k.agreed k.world.memory k.agreed um (view_rises program w.memory w.view r.view r.holds.born)
-    (λ c inside. tellable program w.memory k.world.memory um w.view c r.view r.holds r.kept.born inside (r.inside c inside))
+    (λ c inside. tellable program w.memory k.world.memory um w.view c r.view r.holds (sym (r.memories.whole_born c.serial)) inside (get c r.memories inside))
 
 -- and its ticks are there
 ticks_legal : {program : Program} {K : Knowledge} {k : Kernel} {w : World} {um : Memory} → Rel program K k w um → nat_le (used k w) k.world.rest ≡ true
 ticks_legal r = le-leb _ _ (omega (arith, r.clock, r.later))
 
-args_normal : (m : Memory) (i : ℕ) (ts : List Ty) (vs : List Wire) → args_fault i ts vs ≡ None → map (normal m) vs ≡ vs
+pub args_normal : (m : Memory) (i : ℕ) (ts : List Ty) (vs : List Wire) → args_fault i ts vs ≡ None → map (normal m) vs ≡ vs
 unfolding args_fault
 args_normal m i [] [] e = refl
 args_normal m i [] (v ∷ vs) e = absurd (Prim.cc)

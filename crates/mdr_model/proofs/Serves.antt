@@ -1,5 +1,5 @@
 -- The central induction, over the tree that the user half still has to do.
-use Rattle.std.proofs.Common.{◌≡◌, ℕ, zero, suc, ◌+◌, ◌-◌, ◌*◌, ◌≤◌, Bool, true, List, [], ◌∷◌, map, filter, Option, Some, None, Result, Ok, Err, refl, sym, ◌∙◌, ap, subst, arith}
+use Rattle.std.proofs.Common.{◌≡◌, ℕ, zero, suc, ◌+◌, ◌-◌, ◌*◌, ◌≤◌, Bool, true, List, [], ◌∷◌, ◌++◌, map, filter, Option, Some, None, Result, Ok, Err, refl, sym, ◌∙◌, ap, subst, arith}
 use Rattle.mdr_core.specs.declared.stop.StopKind.{StopKind}
 use Rattle.mdr_core.specs.declared.stop.StopKind.TheVariants as stop
 use Rattle.mdr_core.specs.declared.place.At.{At}
@@ -18,12 +18,16 @@ use Rattle.mdr_model.specs.Tree.{Asked, Tree}
 use Rattle.mdr_model.specs.Walk.{Walked, walk, on_load, on_store}
 use Rattle.mdr_model.specs.World.{World, Ran, Ended, Stopped, after, counted, when_loaded, when_stored, served, as_now, kernel_call}
 use Rattle.mdr_model.specs.Watched.{renewed, in_user, Finish, finish, and_then, commands}
-use Rattle.mdr_model.specs.Copies.{Told, tells_no_cells, agreed_after, put_runs}
-use Rattle.mdr_model.specs.Kernel.{Kernel, Rest, Noted, Pending, Over, Waits, fault_of, upcall_of, applied, stop_number, user_stop, next, judged, taken, continued, downcalled, serviced, comes_back, answers}
+use Rattle.mdr_model.specs.Copies.{Told, tells, agreed_after, put_runs}
+use Rattle.mdr_model.specs.Kernel.{Kernel, Rest, Noted, Pending, Over, Waits, fault_of, upcall_of, applied, stop_number, user_stop, next, judged, taken, continued, downcalled, serviced, comes_back, answers, service_params}
+use Rattle.mdr_core.specs.declared.types.Ty.{Ty}
+use Rattle.mdr_model.specs.Faults.{args_fault}
 use Rattle.mdr_model.specs.User.{User, Nothing, AwaitsBack, AwaitsAnswer, Runs, Delivered, deliver, opened, replied, replied_to, back_fits, answer_fits, when_fits, still_live, told as user_told, done as user_done}
 use Rattle.mdr_model.specs.Runnable.{IsRunnable}
 use Rattle.mdr_model.proofs.Fair.{Knowledge, Grows, Fair, IsKnownPointer, IsValueAt, IsPlace, IsUserStop, IsAskable, IsDowncall, IsResultOf, IsServed}
 use Rattle.mdr_model.proofs.Relations.{Agree, Rel}
+use Rattle.mdr_model.proofs.ValueLaws.{result_is_normal}
+use Rattle.mdr_model.proofs.KnownLaws.{grows_by, onward}
 use Rattle.mdr_model.proofs.Accesses
 use Rattle.mdr_model.proofs.Replies
 use Rattle.mdr_model.proofs.Messages
@@ -105,7 +109,7 @@ next_return : {program : Program} {K : Knowledge} {k : Kernel} {w : World} {um :
     → next program (Ok (message.Return (Replies.used k w) (normal um v) (Replies.told_runs k w um))) k rest ≡ continued program (normal w.memory v) (Replies.resumed k w um) rest
 unfolding taken
 next_return {program} {k = k} {w = w} {um = um} rest v r fits =
-    ap (λ (x : Wire). next program (Ok (message.Return (Replies.used k w) x (Replies.told_runs k w um))) k rest) (Accesses.normals v r)
+    ap (λ (x : Wire). next program (Ok (message.Return (Replies.used k w) x (Replies.told_runs k w um))) k rest) (result_is_normal _ um v fits.fits ∙ sym (result_is_normal _ w.memory v fits.fits))
     ∙ next_taken program k rest _ (Replies.legal_return rest v r fits)
     ∙ ap (λ (k' : Kernel). continued program (normal w.memory v) k' rest) (Replies.stores_reply r)
 
@@ -124,17 +128,16 @@ next_ticks {program} {k = k} {w = w} {um = um} rest at r place none =
     next_taken program k rest _ (Replies.legal_ticks rest at r place none)
     ∙ ap (λ (k' : Kernel). Over (ends.Stop stop.Ticks (Some at)) k') (Replies.stores_reply r)
 
-normals_of : {program : Program} {K : Knowledge} {k : Kernel} {w : World} {um : Memory} (vs : List Wire) → Rel program K k w um → map (normal um) vs ≡ map (normal w.memory) vs
-normals_of [] r = refl
-normals_of {w = w} {um = um} (v ∷ vs) r =
-    ap (λ (x : Wire). x ∷ map (normal um) vs) (Accesses.normals v r) ∙ ap (λ (xs : List Wire). normal w.memory v ∷ xs) (normals_of vs r)
+-- arguments that fit are sent alike
+same_args : (um m : Memory) (ts : List Ty) (vs : List Wire) → args_fault 0 ts vs ≡ None → map (normal um) vs ≡ map (normal m) vs
+same_args um m ts vs e = Replies.args_normal um 0 ts vs e ∙ sym (Replies.args_normal m 0 ts vs e)
 
 next_ask : {program : Program} {K : Knowledge} {k : Kernel} {w : World} {um : Memory} (rest : Rest) (asked : Asked) (credit : ℕ) → Rel program K k w um → IsPlace program half.User asked.at → IsAskable program asked → Replies.IsWithin k w (suc credit)
     → next program (Ok (message.Ask (Replies.used k w) asked.at asked.service (map (normal um) asked.args) asked.shapes asked.bytes (Replies.told_runs k w um))) k rest
     ≡ serviced program (served (as_now w.memory asked) w) (Replies.resumed k w um) rest
 unfolding taken
 next_ask {program} {k = k} {w = w} {um = um} rest asked credit r place askable within =
-    ap (λ (xs : List Wire). next program (Ok (message.Ask (Replies.used k w) asked.at asked.service xs asked.shapes asked.bytes (Replies.told_runs k w um))) k rest) (normals_of asked.args r)
+    ap (λ (xs : List Wire). next program (Ok (message.Ask (Replies.used k w) asked.at asked.service xs asked.shapes asked.bytes (Replies.told_runs k w um))) k rest) (same_args um w.memory service_params asked.args askable.args)
     ∙ next_taken program k rest _ (Replies.legal_ask rest asked credit r place askable within)
     ∙ ap (λ (k' : Kernel). serviced program (served (as_now w.memory asked) k'.world) k' rest) (Replies.stores_reply r)
 
@@ -143,7 +146,7 @@ next_down : {program : Program} {K : Knowledge} {k : Kernel} {w : World} {um : M
     ≡ downcalled program (kernel_call program func (map (normal w.memory) args) depth w) (Replies.resumed k w um) rest
 unfolding taken
 next_down {program} {k = k} {w = w} {um = um} rest at func args depth credit r place down within =
-    ap (λ (xs : List Wire). next program (Ok (message.Down (Replies.used k w) at depth func xs (Replies.told_runs k w um))) k rest) (normals_of args r)
+    ap (λ (xs : List Wire). next program (Ok (message.Down (Replies.used k w) at depth func xs (Replies.told_runs k w um))) k rest) (same_args um w.memory _ args down.fitting)
     ∙ next_taken program k rest _ (Replies.legal_down rest at func args depth credit r place down within)
     ∙ ap (λ (k' : Kernel). downcalled program (kernel_call program func (map (normal w.memory) args) depth k'.world) k' rest) (Replies.stores_reply r)
 
@@ -293,12 +296,12 @@ module _ (program : Program) (sound : IsRunnable program) (fuel : ℕ) (rest : R
       let copy : Memory = put_runs (Replies.told_runs k w um) k.agreed in
       let e : ℕ = suc k.exchanges in
       let w'' : World = renewed program w' in
-      let told : Told = Messages.telling (v ∷ []) copy w'' in
-      let m : Messages.Messaged program K copy w'' e told = Messages.message_is (v ∷ []) w' e (Messages.onward (Replies.agrees r) l.holds) in
+      let told : Told = Messages.telling program (v ∷ []) copy w'' in
+      let m : Messages.Messaged program K copy w'' e told = Messages.message_is (v ∷ []) w' e sound (onward (Replies.agrees r) l.holds) in
       one_more _ (Messages.waiting program told copy w'' e) rest (record { agreed = copy; work = AwaitsBack func w.view next' })
       (reply_of (Messages.waiting program told copy w'' e) w'' (agreed_after program told copy) w''.rest (next' v)) _
       (deliver_back fuel func e copy w'' v w.view next' told given m)
-      ((later K (record { stays = λ b h. h }) v given).by (Messages.waiting program told copy w'' e) w'' (agreed_after program told copy) w''.rest refl m.rel
+      ((later (K ++ told.news) (grows_by K told.news) v given).by (Messages.waiting program told copy w'' e) w'' (agreed_after program told copy) w''.rest refl m.rel
       (record { bound = omega (arith, within.bound, l.later, l.calls) }))
   crossed {K} credit func next' k w um r within later _ (KernelWork.stopped kind at w' l) = question_stops _ (suc credit) kind at w' r within l
 
@@ -326,12 +329,12 @@ module _ (program : Program) (sound : IsRunnable program) (fuel : ℕ) (rest : R
   asked_for {K} credit asked next' k w um r within later _ (KernelWork.ended vs w' l given) =
       let copy : Memory = put_runs (Replies.told_runs k w um) k.agreed in
       let e : ℕ = suc k.exchanges in
-      let told : Told = tells_no_cells vs copy w'.memory in
-      let m : Messages.Answered program K copy w' e told = Messages.answer_is vs e r l in
+      let told : Told = tells program [] vs copy w'.memory in
+      let m : Messages.Answered program K copy w' e told = Messages.answer_is vs e sound r l in
       one_more _ (Messages.waiting program told copy w' e) rest (record { agreed = copy; work = AwaitsAnswer asked w.view w.rest next' })
       (reply_of (Messages.waiting program told copy w' e) w' (agreed_after program told copy) w'.rest (next' vs)) _
       (deliver_answer fuel e copy w' w.rest w.view vs asked next' told given l.rest l.goes_on.view m)
-      ((later K (record { stays = λ b h. h }) vs given).by (Messages.waiting program told copy w' e) w' (agreed_after program told copy) w'.rest refl m.rel
+      ((later (K ++ told.news) (grows_by K told.news) vs given).by (Messages.waiting program told copy w' e) w' (agreed_after program told copy) w'.rest refl m.rel
       (record { bound = omega (arith, within.bound, l.goes_on.later, l.goes_on.calls) }))
   asked_for {K} credit asked next' k w um r within later _ (KernelWork.stopped kind at w' l) = question_stops _ (suc credit) kind at w' r within l.goes_on
 

@@ -6,13 +6,12 @@ use Rattle.std.proofs.lemmas.Bool.{lt-ltb, le-leb}
 use Rattle.mdr_core.specs.declared.program.Program.{Program}
 use Rattle.mdr_model.specs.declared.message.New.{New}
 use Rattle.mdr_model.specs.declared.message.SetRun.{SetRun}
-use Rattle.mdr_model.specs.Memory.{Memory, Cell, births, born_at, first_memory}
+use Rattle.mdr_model.specs.Memory.{Memory, Cell, births, born_at}
 use Rattle.mdr_model.specs.Sets.{cells_from, joined, runs_of_cells, is_keyed, visible_of, visible}
 use Rattle.mdr_model.specs.User.{may_show}
 use Rattle.mdr_model.proofs.Tests.{same_number, other_number}
-use Rattle.mdr_model.proofs.MemoryLaws.{RisesFrom, born_at-births}
+use Rattle.mdr_model.proofs.MemoryLaws.{RisesFrom}
 use Rattle.mdr_model.proofs.SetLaws.{Rises, rising_runs, BeginsAt, StartsAbove, starts_above, visible_of-rises}
-use Rattle.mdr_model.proofs.HoldsLaws.{global_found}
 use Rattle.mdr_model.proofs.ViewLaws.{globals_rise}
 use Rattle.mdr_model.proofs.Fair.{IsAmong}
 use Rattle.mdr_model.proofs.Relations.{globals_of}
@@ -73,10 +72,10 @@ each_shows program copy (b ∷ bs) found = of (is_keyed program b) refl b.count 
         let some : nat_lt 0 (suc n) ≡ true = lt-ltb _ _ (omega arith) in
         rw (here, some, enough, t) later
 
-pub view_shows : (program : Program) (copy m : Memory) (view : List Cell) → births copy ≡ globals_of program → births m ≡ globals_of program → view ≡ visible program m
+pub view_shows : (program : Program) (copy m : Memory) (view : List Cell) → ((b : New) → IsAmong b (globals_of program) → born_at copy b.serial ≡ Some b) → births m ≡ globals_of program → view ≡ visible program m
     → list_all (may_show program copy) (runs_of_cells view) ≡ true
 unfolding visible
 view_shows program copy m view copied born e =
     ap (λ (rs : List SetRun). list_all (may_show program copy) rs)
     (ap (λ (cs : List Cell). runs_of_cells cs) (e ∙ ap (λ (bs : List New). visible_of program bs) born) ∙ runs_of_visible program 0 (globals_of program) (globals_rise program))
-    ∙ each_shows program copy (globals_of program) (λ b h. born_at-births copy (first_memory program) b.serial copied ∙ global_found program b h)
+    ∙ each_shows program copy (globals_of program) copied

@@ -10,22 +10,26 @@ use Rattle.mdr_core.specs.declared.program.Program.{Program}
 use Rattle.mdr_model.specs.declared.wire.Wire.{Wire}
 use Rattle.mdr_model.specs.declared.message.New.{New}
 use Rattle.mdr_model.specs.Values.{fits}
-use Rattle.mdr_model.specs.Memory.{Memory, Cell, births, born_at, cell_at, put}
+use Rattle.mdr_model.specs.Memory.{Memory, MemoryBlock, Cell, births, born_at, cell_at, put}
 use Rattle.mdr_model.specs.Sets.{is_same_cell, is_in, cells_from, is_keyed, visible_of}
 use Rattle.mdr_model.specs.Copies.{CellValue, put_all}
 use Rattle.mdr_model.proofs.Tests.{same_number, is_same_number, other_number, not_both, and_left, and_right}
 use Rattle.mdr_model.proofs.MemoryLaws.{RisesFrom}
 use Rattle.mdr_model.proofs.HoldsLaws.{IsThere, get_inside, cell_fits}
-use Rattle.mdr_model.proofs.Relations.{IsFilled, Holds, IsSized}
+use Rattle.mdr_model.proofs.Relations.{IsFilled, Holds}
 
 -- ---- which cells are there
+
+-- a block has as many cells as it was born with
+pub record IsSized (b : MemoryBlock) : Type 0 where
+  pub size : length b.cells ≡ b.born.count
 
 -- some block of the list has the cell
 abbrev pub has_cell : List New → Cell → Bool
 has_cell [] c = false
 has_cell (b ∷ bs) c = cond (b.serial == c.serial) (nat_lt c.index b.count) (has_cell bs c)
 
-there_is : (xs : List Wire) (i : ℕ) → is_some (slice_get xs i) ≡ nat_lt i (length xs)
+pub there_is : (xs : List Wire) (i : ℕ) → is_some (slice_get xs i) ≡ nat_lt i (length xs)
 there_is xs i = of (leb_tells (suc i) (length xs))
   where
     of : ((nat_lt i (length xs) ≡ true) × (suc i ≤ length xs)) ⊎ ((nat_lt i (length xs) ≡ false) × (length xs < suc i)) → is_some (slice_get xs i) ≡ nat_lt i (length xs)
@@ -142,7 +146,7 @@ pub record IsHeld (program : Program) (m : Memory) (c : Cell) : Type 0 where
   pub born : born_at m c.serial ≡ Some block
   pub fit : fits program block.ty value ≡ true
 
-born_of_cell : (m : Memory) (c : Cell) (v : Wire) → cell_at m c ≡ Some v → IsThere (born_at m c.serial)
+pub born_of_cell : (m : Memory) (c : Cell) (v : Wire) → cell_at m c ≡ Some v → IsThere (born_at m c.serial)
 unfolding cell_at born_at
 born_of_cell [] c v e = absurd (Prim.cc)
 born_of_cell (b ∷ m) c v e = of (b.born.serial == c.serial) e (born_of_cell m c v)

@@ -1,5 +1,5 @@
 -- What messages tell of memory, and the agreed copy: the blocks that both halves know, with the values that were told last.
-use Rattle.std.specs.Prelude.{ℕ, suc, Bool, cond, not, ◌&&◌, List, [], ◌∷◌, ◌++◌, map, unwrap_or}
+use Rattle.std.specs.Prelude.{ℕ, suc, Bool, cond, not, ◌&&◌, List, [], ◌∷◌, ◌++◌, map, nat_le, unwrap_or}
 use Rattle.std.specs.List.{list_any}
 use Rattle.mdr_core.specs.declared.program.Program.{Program}
 use Rattle.mdr_model.specs.declared.wire.Wire.{Wire}
@@ -8,7 +8,7 @@ use Rattle.mdr_model.specs.declared.message.New.{New}
 use Rattle.mdr_model.specs.declared.message.Run.{Run}
 use Rattle.mdr_model.specs.declared.message.SetRun.{SetRun}
 use Rattle.mdr_model.specs.Values.{is_same, names_block}
-use Rattle.mdr_model.specs.Memory.{Memory, Cell, cell_at, is_live, put, killed, zero_block}
+use Rattle.mdr_model.specs.Memory.{Memory, MemoryBlock, Cell, cell_at, is_live, put, killed, zero_block}
 use Rattle.mdr_model.specs.Sets.{cells_of_run, runs_of_cells}
 
 -- ---- runs of values
@@ -67,10 +67,15 @@ unfoldable pub without : List ℕ → Memory → Memory
 without [] copy = copy
 without (serial ∷ serials) copy = without serials (killed serial copy)
 
+-- a block in its place: the copy's serials rise
+unfoldable pub inserted : MemoryBlock → Memory → Memory
+inserted b [] = b ∷ []
+inserted b (x ∷ m) = cond (nat_le b.born.serial x.born.serial) (b ∷ x ∷ m) (x ∷ inserted b m)
+
 -- the copy with the new blocks, which are zero
 unfoldable pub with_news : Program → List New → Memory → Memory
 with_news program [] copy = copy
-with_news program (n ∷ news) copy = with_news program news (copy ++ zero_block program n ∷ [])
+with_news program (n ∷ news) copy = inserted (zero_block program n) (with_news program news copy)
 
 -- some value names the block
 abbrev pub is_named : List Wire → ℕ → Bool
@@ -82,10 +87,6 @@ news_of copy values [] = []
 news_of copy values (b ∷ m) =
     cond (not (is_live copy b.born.serial) && is_named values b.born.serial) (b.born ∷ news_of copy values m) (news_of copy values m)
 
-unfoldable pub values_in : List Run → List Wire
-values_in [] = []
-values_in (r ∷ rs) = r.values ++ values_in rs
-
 -- ---- what a message of the kernel half tells
 
 pub record Told : Type 0 where
@@ -93,22 +94,32 @@ pub record Told : Type 0 where
   pub news : List New
   pub runs : List Run
 
+-- the copy without what died since
+unfoldable pub left_of : Memory → Memory → Memory
+left_of copy m = without (died copy m) copy
+
+-- the values of the visible cells that changed: of a block that the copy hasn't, all
+unfoldable pub changed_values : List Cell → Memory → Memory → List Wire
+changed_values view left m = map (held m) (changed_cells view left m)
+
+-- the blocks that a message with these values tells for the first time: a value of the message names them, or a visible cell that changed
+unfoldable pub told_news : List Cell → List Wire → Memory → Memory → List New
+told_news view values copy m =
+    let left : Memory = left_of copy m in
+    news_of left (values ++ changed_values view left m) m
+
+-- the copy once the deaths and the new blocks of a message are in it
+unfoldable pub begun_copy : Program → List Cell → List Wire → Memory → Memory → Memory
+begun_copy program view values copy m = with_news program (told_news view values copy m) (left_of copy m)
+
+-- what a message with these values tells where the copy is agreed and the memory is now: the blocks that died, those that are named for the first time, and the visible cells that differ then
+unfoldable pub tells : Program → List Cell → List Wire → Memory → Memory → Told
+tells program view values copy m = record {
+  deaths = died copy m;
+  news = told_news view values copy m;
+  runs = changes view (begun_copy program view values copy m) m;
+}
+
 -- the copy after a message: deaths first, then the new blocks, then the runs
 unfoldable pub agreed_after : Program → Told → Memory → Memory
 agreed_after program told copy = put_runs told.runs (with_news program told.news (without told.deaths copy))
-
-abbrev pub told_with : Memory → Memory → List ℕ → List Wire → List Run → Told
-told_with copy m deaths values runs = record { deaths = deaths; news = news_of copy (values ++ values_in runs) m; runs = runs }
-
--- what a message with these values tells where the copy is agreed and the memory is now: the blocks that died, those that are named for the first time, and the visible cells that changed
-unfoldable pub tells : List Cell → List Wire → Memory → Memory → Told
-tells view values copy m =
-    let deaths : List ℕ = died copy m in
-    let left : Memory = without deaths copy in
-    told_with left m deaths values (changes view left m)
-
--- the same of a message that names no cells
-unfoldable pub tells_no_cells : List Wire → Memory → Memory → Told
-tells_no_cells values copy m =
-    let deaths : List ℕ = died copy m in
-    told_with (without deaths copy) m deaths values []

@@ -27,7 +27,7 @@ use Rattle.mdr_model.specs.Tree.{Asked}
 use Rattle.mdr_model.specs.Meaning.{func_at, body_of, is_kernel, is_user}
 use Rattle.mdr_model.specs.World.{World, Ran, Ended, Stopped, is_writel, served, kernel_call}
 use Rattle.mdr_model.specs.Watched.{renewed, begun, returned, first_world}
-use Rattle.mdr_model.specs.Copies.{Told, tells, tells_no_cells, agreed_after, put_runs}
+use Rattle.mdr_model.specs.Copies.{Told, tells, agreed_after, put_runs}
 use Rattle.mdr_model.specs.Faults.{fault, unless, first_fault, params_of, args_fault, runs_fault}
 
 -- ---- states
@@ -218,20 +218,20 @@ sent program w told k = record { world = w; agreed = agreed_after program told k
 unfoldable pub calls : Program → ℕ → List Wire → World → Kernel → List ℕ → Pending
 calls program f args w k script =
     let w' : World = renewed program w in
-    let told : Told = tells w'.view args k.agreed w'.memory in
+    let told : Told = tells program w'.view args k.agreed w'.memory in
     Waits (message.Call f 0 w'.rest args told.deaths told.news (runs_of_cells w'.view) told.runs) (sent program w' told k) (Noted f script)
 
 -- a downcall came back: the visible set is taken anew, and the result is told
 unfoldable pub comes_back : Program → Wire → World → Kernel → Rest → Pending
 comes_back program v w k rest =
     let w' : World = renewed program w in
-    let told : Told = tells w'.view (values_of_result v) k.agreed w'.memory in
+    let told : Told = tells program w'.view (values_of_result v) k.agreed w'.memory in
     Waits (message.Back w'.rest v told.deaths told.news (runs_of_cells w'.view) told.runs) (sent program w' told k) rest
 
--- a service was done, and its results are told
+-- a service was done, and its results are told, and no cells
 unfoldable pub answers : Program → List Wire → World → Kernel → Rest → Pending
 answers program results w k rest =
-    let told : Told = tells_no_cells results k.agreed w.memory in
+    let told : Told = tells program [] results k.agreed w.memory in
     Waits (message.Answer results told.deaths told.news) (sent program w told k) rest
 
 -- ---- the run

@@ -14,6 +14,7 @@ pub mod Text
 pub mod Reading
 pub mod Kernel
 pub mod User
+pub mod Agreement
 pub mod Outcome
 pub mod Report
 pub mod Built
@@ -24,3 +25,4 @@ pub mod Bytes
 pub mod Legal
 pub mod Refusals
 pub mod Worked
+pub mod WorkedCopies

@@ -1,6 +1,5 @@
 -- A memory is the list of its live blocks (C99 6.2.4): what was born and has not died.
-use Rattle.std.specs.Prelude.{ℕ, suc, ◌+◌, Bool, true, false, cond, List, [], ◌∷◌, map, Option, Some, None, Result, Ok, Err, ◌==◌, nat_lt, slice_get, slice_set, replicate}
-use Rattle.std.specs.List.{list_any}
+use Rattle.std.specs.Prelude.{ℕ, suc, ◌+◌, Bool, true, false, cond, List, [], ◌∷◌, map, Option, Some, None, Result, Ok, Err, ◌==◌, nat_lt, is_some, slice_get, slice_set, replicate}
 use Rattle.mdr_core.specs.declared.stop.StopKind.{StopKind}
 use Rattle.mdr_core.specs.declared.stop.StopKind.TheVariants as stop
 use Rattle.mdr_core.specs.declared.program.Program.{Program}
@@ -29,7 +28,7 @@ born_at [] serial = None
 born_at (b ∷ m) serial = cond (b.born.serial == serial) (Some b.born) (born_at m serial)
 
 unfoldable pub is_live : Memory → ℕ → Bool
-is_live m serial = list_any (λ b. b.born.serial == serial) m
+is_live m serial = is_some (born_at m serial)
 
 -- what a cell holds, where its block is live and has it
 unfoldable pub cell_at : Memory → Cell → Option Wire

@@ -1,6 +1,7 @@
 // Laws, each as a function that does nothing.
 
 ghost use Rattle.mdr_model.specs.Alike.{FuelIsNoMatter};
+ghost use Rattle.mdr_model.specs.Agreement.{StepsMayFollow, MessagesAgree, RepliesAgree, AnswersAgree};
 ghost use Rattle.mdr_model.specs.Law.{SplitIsOneMemory};
 ghost use Rattle.mdr_model.specs.Legal.{RefusedChangesNothing, LegalIsContained, MessagesAreFew};
 ghost use Rattle.mdr_model.specs.Refusals.{RefusedLeavesUser, RefusedAreLeftOut};
@@ -14,6 +15,27 @@ pub fn fuel_is_no_matter()
 /// functions and every budget of ticks.
 pub fn split_is_one_memory()
     ensures { SplitIsOneMemory }
+{}
+
+/// Stores, births and deaths leave memories that may follow.
+pub fn steps_may_follow()
+    ensures { StepsMayFollow }
+{}
+
+/// Whatever the kernel half does in between, blocks born and dead among it, the user half accepts what a message tells
+/// of them, and both halves have then the visible cells as they are.
+pub fn messages_agree()
+    ensures { MessagesAgree }
+{}
+
+/// Storing what a reply tells gives the whole run's memory, and the agreed copy is then the user half's memory.
+pub fn replies_agree()
+    ensures { RepliesAgree }
+{}
+
+/// An answer to a service tells no cells; both halves have the visible ones as they are all the same.
+pub fn answers_agree()
+    ensures { AnswersAgree }
 {}
 
 /// A run that waits ends refused exactly where the next answer isn't legal, and then its whole state is the one in

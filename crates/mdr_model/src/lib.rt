@@ -7,10 +7,12 @@ mod message;
 mod outcome;
 mod wire;
 mod worked;
+mod worked_copies;
 
 pub use laws::{
     a_legal_reply_is_contained, a_refused_message_changes_nothing, a_refused_reply_changes_nothing,
-    fuel_is_no_matter, messages_are_few, refused_messages_can_be_left_out, split_is_one_memory,
+    answers_agree, fuel_is_no_matter, messages_agree, messages_are_few,
+    refused_messages_can_be_left_out, replies_agree, split_is_one_memory, steps_may_follow,
 };
 pub use memory::{Cell, MemoryBlock};
 pub use message::{BirthKind, Fault, Message, New, Run, SetRun, Shape64};
@@ -20,4 +22,8 @@ pub use worked::{
     a_budget_stops_the_run, add_one_prints_its_report, an_empty_script_ends_at_once,
     bump_messages_are_spelled, bump_prints_its_report, bump_sends_eight_messages,
     reset_prints_its_report, reset_tells_each_change,
+};
+pub use worked_copies::{
+    a_cycle_and_its_deaths_are_told, deaths_rise_in_whatever_order_blocks_were_told,
+    zeros_of_a_new_block_are_not_told,
 };

@@ -21,7 +21,7 @@ use Rattle.mdr_model.specs.Tree.{Asked, Tree}
 use Rattle.mdr_model.specs.Meaning.{func_at, is_kernel}
 use Rattle.mdr_model.specs.World.{World, Ran, Ended, Stopped, after, counted, when_loaded, when_stored, written, written_if, is_writel, served, as_now, in_kernel, kernel_call}
 use Rattle.mdr_model.specs.Watched.{renewed, begun, returned}
-use Rattle.mdr_model.specs.Copies.{Told, without, with_news, tells, tells_no_cells, agreed_after, changes}
+use Rattle.mdr_model.specs.Copies.{Told, without, with_news, tells, agreed_after, changes}
 use Rattle.mdr_model.specs.Kernel.{Kernel, Noted, Pending, Over, Waits, sent, calls, comes_back, answers, values_of_result, then_split, command_by, split_commands, downcalled, serviced, result_type}
 use Rattle.mdr_model.specs.Runnable.{IsRunnableFunc, IsRunnable, IsBound}
 use Rattle.mdr_model.proofs.Tests.{not_both}
@@ -178,8 +178,8 @@ module _ (program : Program) (sound : IsRunnable program) (budget : ℕ) (small 
   calls_fine : (f : ℕ) (k : Kernel) (w : World) (script : List ℕ) → f < length program.funcs → IsBound program script → IsFine program budget k.agreed w → IsFinePending program budget (calls program f [] w k script)
   unfolding calls renewed
   calls_fine f k w script there named fine =
-      let told : tells (visible program w.memory) [] k.agreed w.memory ≡ only_runs (changes (visible program w.memory) k.agreed w.memory) =
-      tells_changes (visible program w.memory) [] k.agreed w.memory (fine.copied ∙ sym fine.holds.born) in
+      let told : tells program (visible program w.memory) [] k.agreed w.memory ≡ only_runs (changes (visible program w.memory) k.agreed w.memory) =
+      tells_changes program (visible program w.memory) [] k.agreed w.memory (fine.copied ∙ sym fine.holds.born) in
       let runs : List Run = changes (cells_shown program) k.agreed w.memory in
       let now : CallWaits f k w script (cells_shown program) (only_runs runs) = record {
         fine = record { holds = fine.holds; copied = births-agreed program runs k.agreed ∙ fine.copied; rest = fine.rest };
@@ -206,8 +206,8 @@ module _ (program : Program) (sound : IsRunnable program) (budget : ℕ) (small 
   back_fine : (v : Wire) (k : Kernel) (w : World) (f : ℕ) (script : List ℕ) → IsValue v → IsBound program script → IsFine program budget k.agreed w → IsFinePending program budget (comes_back program v w k (Noted f script))
   unfolding comes_back renewed
   back_fine v k w f script value named fine =
-      let told : tells (visible program w.memory) (values_of_result v) k.agreed w.memory ≡ only_runs (changes (visible program w.memory) k.agreed w.memory) =
-      tells_changes (visible program w.memory) (values_of_result v) k.agreed w.memory (fine.copied ∙ sym fine.holds.born) in
+      let told : tells program (visible program w.memory) (values_of_result v) k.agreed w.memory ≡ only_runs (changes (visible program w.memory) k.agreed w.memory) =
+      tells_changes program (visible program w.memory) (values_of_result v) k.agreed w.memory (fine.copied ∙ sym fine.holds.born) in
       let runs : List Run = changes (cells_shown program) k.agreed w.memory in
       let now : BackWaits v k w script (cells_shown program) (only_runs runs) = record {
         fine = record { holds = fine.holds; copied = births-agreed program runs k.agreed ∙ fine.copied; rest = fine.rest };
@@ -224,7 +224,7 @@ module _ (program : Program) (sound : IsRunnable program) (budget : ℕ) (small 
   answer_fine : (k : Kernel) (w : World) (f : ℕ) (script : List ℕ) → w.view ≡ cells_shown program → IsBound program script → IsFine program budget k.agreed w → IsFinePending program budget (answers program [] w k (Noted f script))
   unfolding answers
   answer_fine k w f script view named fine =
-      let told : tells_no_cells [] k.agreed w.memory ≡ only_runs [] = tells_nothing [] k.agreed w.memory (fine.copied ∙ sym fine.holds.born) in
+      let told : tells program [] [] k.agreed w.memory ≡ only_runs [] = tells_nothing program [] k.agreed w.memory (fine.copied ∙ sym fine.holds.born) in
       let now : AnswerWaits k w script (only_runs []) = record {
         fine = record { holds = fine.holds; copied = births-agreed program [] k.agreed ∙ fine.copied; rest = fine.rest };
         view = view;

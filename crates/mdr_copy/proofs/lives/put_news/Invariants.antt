@@ -1,6 +1,9 @@
-use Rattle.std.proofs.Common.{◌≡◌, drop}
+use Rattle.std.proofs.Common.{◌≡◌, ◌≤◌, length, drop}
 use Rattle.mdr_model.specs.Copies.{with_news}
 use Rattle.mdr_copy.proofs.lives.put_news.Given as goal
 
-abbrev pub invariant-loop-new : goal.invariant-loop-new
-invariant-loop-new l = with_news l.program (drop l.new-index l.news) l.copy.items ≡ with_news l.program l.news l.initial.copy.items
+abbrev pub invariant-loop-i : goal.invariant-loop-i
+invariant-loop-i l = (l.i ≤ length l.news) × (l.copy.items ≡ with_news l.program (drop l.i l.news) l.initial.copy.items)
+
+abbrev pub decreases-loop-i : goal.decreases-loop-i
+decreases-loop-i l = l.i
