@@ -26,6 +26,18 @@ fn u32_of(number: i128) -> Wire {
     Wire::Int(Kind::U32, number)
 }
 
+/// The kinds in their order.
+const KINDS: [Kind; 8] = [
+    Kind::U8,
+    Kind::U16,
+    Kind::U32,
+    Kind::U64,
+    Kind::S8,
+    Kind::S16,
+    Kind::S32,
+    Kind::S64,
+];
+
 /// Three numbers, and a lock.
 fn program(alloc: Global) -> Result<Program, Fail> {
     let numbers = [
@@ -33,25 +45,18 @@ fn program(alloc: Global) -> Result<Program, Fail> {
         Value::Int(Kind::U32, 2),
         Value::Int(Kind::U32, 3),
     ];
-    let types = vec![in alloc;
-        Ty::Int(Kind::U8),
-        Ty::Int(Kind::U16),
-        Ty::Int(Kind::U32),
-        Ty::Int(Kind::U64),
-        Ty::Int(Kind::S8),
-        Ty::Int(Kind::S16),
-        Ty::Int(Kind::S32),
-        Ty::Int(Kind::S64),
-        Ty::Lock,
-    ]?;
-    let globals = vec![in alloc;
-        global(alloc, Ty::Int(Kind::U32), 3, &numbers)?,
-        global(alloc, Ty::Lock, 1, &[Value::Lock(LockState::Free)])?,
-    ]?;
+    let mut types = Items::new(alloc);
+    for kind in KINDS {
+        types.push(Ty::Int(kind))?;
+    }
+    types.push(Ty::Lock)?;
+    let mut globals = Items::new(alloc);
+    globals.push(global(alloc, Ty::Int(Kind::U32), 3, &numbers)?)?;
+    globals.push(global(alloc, Ty::Lock, 1, &[Value::Lock(LockState::Free)])?)?;
     Ok(Program {
-        types: Items::from_vec(types),
+        types,
         structs: Items::new(alloc),
-        globals: Items::from_vec(globals),
+        globals,
         funcs: Items::new(alloc),
     })
 }

@@ -17,6 +17,3 @@ mod work;
 
 pub use half::KernelHalf;
 pub use outcome::nothing_ran;
-
-#[cfg(test)]
-mod tests;

@@ -26,6 +26,14 @@ fn function(alloc: Global, name: &str) -> Result<Func, Fail> {
     })
 }
 
+fn funcs(alloc: Global) -> Result<Items<Func>, Fail> {
+    let mut funcs = Items::new(alloc);
+    for name in ["bump", "open"] {
+        funcs.push(function(alloc, name)?)?;
+    }
+    Ok(funcs)
+}
+
 fn global(alloc: Global, name: &str) -> Result<GlobalDef, Fail> {
     Ok(GlobalDef {
         name: name_of(alloc, name)?,
@@ -38,12 +46,17 @@ fn global(alloc: Global, name: &str) -> Result<GlobalDef, Fail> {
 }
 
 fn program(alloc: Global) -> Result<Program, Fail> {
-    let types = vec![in alloc; Ty::Int(Kind::U32), Ty::Int(Kind::S8), Ty::Lock]?;
+    let mut types = Items::new(alloc);
+    types.push(Ty::Int(Kind::U32))?;
+    types.push(Ty::Int(Kind::S8))?;
+    types.push(Ty::Lock)?;
+    let mut globals = Items::new(alloc);
+    globals.push(global(alloc, "count")?)?;
     Ok(Program {
-        types: Items::from_vec(types),
+        types,
         structs: Items::new(alloc),
-        globals: Items::from_vec(vec![in alloc; global(alloc, "count")?]?),
-        funcs: Items::from_vec(vec![in alloc; function(alloc, "bump")?, function(alloc, "open")?]?),
+        globals,
+        funcs: funcs(alloc)?,
     })
 }
 

@@ -9,22 +9,22 @@ use std::process::Abort;
 use std::test::Fail;
 
 /// In the driver's run the user half first calls a function of the kernel half.
-const FIRST: &[u32] = &[3, 0, 1, 1, 1, 1, 0, 0, 0];
+pub(crate) const FIRST: &[u32] = &[3, 0, 1, 1, 1, 1, 0, 0, 0];
 
 /// Then it asks for a register to be written.
-const SECOND: &[u32] = &[5, 0, 1, 1, 2, 5, 2, 2, 1, 2, 4, 0, 0, 0];
+pub(crate) const SECOND: &[u32] = &[5, 0, 1, 1, 2, 5, 2, 2, 1, 2, 4, 0, 0, 0];
 
 /// It calls again.
-const THIRD: &[u32] = &[3, 0, 1, 1, 3, 1, 0, 0, 0];
+pub(crate) const THIRD: &[u32] = &[3, 0, 1, 1, 3, 1, 0, 0, 0];
 
 /// And it returns.
-const FOURTH: &[u32] = &[2, 0, 0, 12, 0];
+pub(crate) const FOURTH: &[u32] = &[2, 0, 0, 12, 0];
 
 /// The second reply with no tick spent.
 const NO_TICK: &[u32] = &[5, 0, 0, 1, 2, 5, 2, 2, 1, 2, 4, 0, 0, 0];
 
 /// The first with 5 for the global.
-const FIVE: &[u32] = &[3, 0, 1, 1, 1, 1, 0, 0, 1, 0, 0, 0, 1, 2, 5];
+pub(crate) const FIVE: &[u32] = &[3, 0, 1, 1, 1, 1, 0, 0, 1, 0, 0, 0, 1, 2, 5];
 
 /// The last lines where nothing was applied.
 const UNCHANGED: &str = "ticks 0\nlive 1\nobj 1 u32 x1: 0\n";
@@ -149,6 +149,15 @@ fn expect_refused<R: Abort + AllocGlobal>(rt: &R, reply: Vec<u8>, cause: &str) -
     expect(rt, LoadAnswer::Ok, replies, Status::Marshal, text.as_str())
 }
 
+/// These replies as answers.
+pub(crate) fn answers_of(alloc: Global, replies: &[&[u32]]) -> Result<Vec<DeliverAnswer>, Fail> {
+    let mut answers = Vec::new(alloc);
+    for reply in replies {
+        answers.push(DeliverAnswer::Ok(Items::from_vec(bytes_of(alloc, reply)?)))?;
+    }
+    Ok(answers)
+}
+
 #[test]
 fn a_refused_reply_is_reported_and_nothing_of_it_is_applied(rt: HostRuntime) -> Result<(), Fail> {
     for (reply, cause) in REFUSED {
@@ -170,11 +179,7 @@ fn a_reply_with_a_byte_less_or_more_is_refused(rt: HostRuntime) -> Result<(), Fa
 #[test]
 fn a_run_ends_where_the_replies_end_or_are_too_many(rt: HostRuntime) -> Result<(), Fail> {
     for (replies, status, text) in ENDS {
-        let alloc = rt.alloc();
-        let mut answers = Vec::new(alloc);
-        for reply in replies {
-            answers.push(DeliverAnswer::Ok(Items::from_vec(bytes_of(alloc, reply)?)))?;
-        }
+        let answers = answers_of(rt.alloc(), replies)?;
         expect(&rt, LoadAnswer::Ok, answers, status, text)?;
     }
     Ok(())
