@@ -31,6 +31,3 @@ pub use statement::number_of;
 pub use store::{born_at, cell_at, held, is_live, put, put_runs};
 pub use told::{Telling, agreed_after, tells};
 pub use values::{fits, fits_result, is_same, wire_of};
-
-#[cfg(test)]
-mod tests;

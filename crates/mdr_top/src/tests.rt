@@ -3,7 +3,6 @@
 mod answers;
 mod drivers;
 mod files;
-mod halves;
 mod output;
 
 use crate::{Status, run};
