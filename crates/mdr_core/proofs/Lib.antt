@@ -1,3 +1,4 @@
+pub mod Coded
 pub mod Conversions
 pub mod Laid
 pub mod Lying

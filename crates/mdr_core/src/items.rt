@@ -1,6 +1,6 @@
 // A list, and a name.
 
-ghost use Rattle.std.specs.Prelude.{◌≡◌, ◌↔◌, [], ◌∷◌, ◌++◌, length, slice_set, IsTrue, OnOk, OnErr};
+ghost use Rattle.std.specs.Prelude.{◌≡◌, ◌↔◌, [], ◌∷◌, ◌++◌, length, slice_set, IsTrue, IfOk, OnOk, OnErr};
 
 use std::alloc::{AllocError, Global};
 use std::marker::Model;
@@ -41,6 +41,15 @@ impl<T> Items<T> {
         ensures { result ≡ items.items }
     {
         Items { items }
+    }
+
+    /// A list of these items, with room of its own.
+    pub fn from_slice(alloc: Global, items: &[T]) -> Result<Self, AllocError>
+    where
+        T: Copy,
+        ensures { IfOk result (λ list. list ≡ items.now) }
+    {
+        Ok(Items::from_vec(Vec::from_slice(alloc, items)?))
     }
 
     /// Gives the vector back. It takes no memory.
