@@ -10,4 +10,3 @@ pub mod Arguments
 pub mod EvaluatedLaws
 pub mod SoundMemories
 pub mod Inserted
-pub mod CodeForms

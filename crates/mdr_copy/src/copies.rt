@@ -11,7 +11,7 @@ fn copied_block(alloc: Global, block: &MemoryBlock) -> Result<MemoryBlock, OutOf
 {
     Ok(MemoryBlock {
         born: block.born,
-        cells: Items::from_vec(Vec::from_slice(alloc, block.cells.as_slice())?),
+        cells: Items::from_slice(alloc, block.cells.as_slice())?,
     })
 }
 

@@ -98,8 +98,8 @@ index_is p e = ap lvalue_of (sym (rolls-Index p e)) ∙ fold-roll-Lval Term Lval
 abbrev pub numbered : Step → ℕ → Code
 numbered = fold-Step (ℕ → Code) Code step_layer stmt_layer
 
-pub statement_is : (s : Stmt) (st : Step) → s.step ≡ st → code_of s ≡ numbered st s.number
-statement_is s st is = fold_out-Stmt (ℕ → Code) Code step_layer stmt_layer s ∙ ap (λ (x : Step). numbered x s.number) is
+pub code_is : (s : Stmt) (st : Step) → s.step ≡ st → code_of s ≡ numbered st s.number
+code_is s st is = fold_out-Stmt (ℕ → Code) Code step_layer stmt_layer s ∙ ap (λ (x : Step). numbered x s.number) is
 
 pub declare_is : (n : ℕ) (i : ℕ) → numbered (step.Declare i) n ≡ Code.Declare n i
 declare_is n i =

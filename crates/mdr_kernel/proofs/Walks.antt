@@ -7,7 +7,7 @@ use Rattle.mdr_core.specs.declared.code.Step.TheVariants as step
 use Rattle.mdr_core.specs.Code.{Code, Codes}
 use Rattle.mdr_core.specs.Folds.{code_list, before, code_of, codes_of}
 use Rattle.mdr_model.specs.Kernel.{calls_func, any_calls, has_number, any_has_number}
-use Rattle.mdr_copy.proofs.CodeForms.{for_code}
+use Rattle.mdr_core.proofs.Coded.{code_is, for_is}
 
 or_false : (b : Bool) → (b || false) ≡ b
 or_false true = refl
@@ -33,7 +33,7 @@ calls_before f (d ∷ ds) c = ap (λ (b : Bool). calls_func f d || b) (calls_bef
 
 for_calls : (f : ℕ) (s : Stmt) (init : List Stmt) (test : Option Expr) (next body : List Stmt) → s.step ≡ step.For init test next body
     → calls_func f (code_of s) ≡ (any_calls f (codes_of init) || (any_calls f (codes_of next) || any_calls f (codes_of body)))
-for_calls f s init test next body is = ap (calls_func f) (for_code s init test next body is) ∙ calls_before f (map code_of init) _
+for_calls f s init test next body is = ap (calls_func f) (code_is s _ is ∙ for_is s.number init test next body) ∙ calls_before f (map code_of init) _
 
 module _ (f : ℕ) (s : Stmt) (init : List Stmt) (test : Option Expr) (next body : List Stmt) (is : s.step ≡ step.For init test next body) where
   pub for_calls_first : any_calls f (codes_of init) ≡ true → true ≡ calls_func f (code_of s)
@@ -53,7 +53,7 @@ number_before n (d ∷ ds) c = ap (λ (b : Bool). has_number n d || b) (number_b
 
 for_number : (n : ℕ) (s : Stmt) (init : List Stmt) (test : Option Expr) (next body : List Stmt) → s.step ≡ step.For init test next body
     → has_number n (code_of s) ≡ (any_has_number n (codes_of init) || (s.number == n || (any_has_number n (codes_of next) || any_has_number n (codes_of body))))
-for_number n s init test next body is = ap (has_number n) (for_code s init test next body is) ∙ number_before n (map code_of init) _
+for_number n s init test next body is = ap (has_number n) (code_is s _ is ∙ for_is s.number init test next body) ∙ number_before n (map code_of init) _
     ∙ ap (λ (b : Bool). any_has_number n (codes_of init) || b) (sym (or_group (s.number == n) (any_has_number n (codes_of next)) (any_has_number n (codes_of body))))
 
 module _ (n : ℕ) (s : Stmt) (init : List Stmt) (test : Option Expr) (next body : List Stmt) (is : s.step ≡ step.For init test next body) where

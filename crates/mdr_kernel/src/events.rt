@@ -12,17 +12,11 @@ use mdr_core::{Block, Items, Name, OutOfMemory, Program, Value, View};
 use mdr_model::{Happened, Wire, WireView};
 use std::alloc::Global;
 
-fn copied(alloc: Global, bytes: &[u8]) -> Result<Name, OutOfMemory>
-    ensures { IfOk result (λ copy. copy ≡ bytes.now) }
-{
-    Ok(Items::from_vec(Vec::from_slice(alloc, bytes)?))
-}
-
 fn name_of(alloc: Global, program: &Program, func: u32) -> Result<Name, OutOfMemory>
     ensures { IfOk result (λ name. name ≡ name_of (func_at program.now func)) }
 {
     match func_at(program, func) {
-        Some(own) => copied(alloc, own.name.as_slice()),
+        Some(own) => Ok(Items::from_slice(alloc, own.name.as_slice())?),
         None => Ok(Items::new(alloc)),
     }
 }

@@ -2,17 +2,14 @@
 
 ghost use Rattle.std.specs.Prelude.{◌≡◌, ℕ, List, IfOk};
 ghost use Rattle.mdr_model.specs.Runnable.{IsRunnable};
-ghost use Rattle.mdr_model.specs.Reading.{reading_of};
-ghost use Rattle.mdr_model.specs.Faults.{fault};
 ghost use Rattle.mdr_model.specs.Kernel.{refused, next};
 ghost use Rattle.mdr_kernel.specs.States.{world_of, kernel_of, pending_of, rest_of, IsSoundWorld};
 
 use crate::legal::fault_of;
 use crate::state::{Kernel, Open, Pending};
 use crate::taken::taken;
-use mdr_core::{OutOfMemory, Program, RefuseKind};
+use mdr_core::{OutOfMemory, Program};
 use mdr_model::{End, Fault, Message};
-use mdr_msg::{MsgError, decode};
 use std::alloc::Global;
 
 fn refused(fault: Fault, kernel: Kernel) -> Pending
@@ -42,26 +39,5 @@ pub(crate) fn next(
             None => taken(alloc, program, script, kernel, upcall, reply),
         },
         Err(fault) => Ok(refused(fault, kernel)),
-    }
-}
-
-fn misread(kind: RefuseKind, number: u64) -> Result<Message, Fault>
-    ensures { result ≡ Err (fault kind number) }
-{
-    Err(Fault { kind, number })
-}
-
-/// What bytes are as a message: the message, or why they are none.
-pub(crate) fn reading_of(alloc: Global, bytes: &[u8]) -> Result<Result<Message, Fault>, OutOfMemory>
-    ensures { IfOk result (λ r. r ≡ reading_of bytes.now) }
-{
-    match decode(alloc, bytes) {
-        Ok(message) => Ok(Ok(message)),
-        Err(MsgError::Short(at)) => Ok(misread(RefuseKind::Short, at)),
-        Err(MsgError::Range(at)) => Ok(misread(RefuseKind::Range, at)),
-        Err(MsgError::Padding(at)) => Ok(misread(RefuseKind::Padding, at)),
-        Err(MsgError::Kind(at)) => Ok(misread(RefuseKind::Kind, at)),
-        Err(MsgError::Trailing(at)) => Ok(misread(RefuseKind::Trailing, at)),
-        Err(MsgError::OutOfMemory) => Err(OutOfMemory),
     }
 }

@@ -12,13 +12,13 @@ ghost use Rattle.mdr_kernel.specs.States.{world_of, kernel_of, rest_of, IsSoundW
 ghost use Rattle.mdr_kernel.specs.Runs.{sent_of, answers_of, Turned, IsUnanswered, HasEnded, IsFarFault};
 ghost use Rattle.mdr_kernel.specs.Calls.{sends, had, Broke, IsPlace, IsStopped};
 
-use crate::next::{next, reading_of};
+use crate::next::next;
 use crate::script::split_commands;
 use crate::state::{Kernel, Open, Pending};
 use mdr_copy::copied;
 use mdr_core::{OutOfMemory, Program};
 use mdr_model::{End, MemoryBlock, Message};
-use mdr_msg::{can_encode, encode};
+use mdr_msg::{reading_of, spelled};
 use mdr_outside::{DeliverAnswer, Far};
 use std::alloc::Global;
 
@@ -27,17 +27,6 @@ use std::alloc::Global;
 pub(crate) enum Turn {
     Next(Pending),
     Unanswered(Kernel),
-}
-
-/// The bytes of a message. That it has no spelling is want of memory.
-fn spelled(alloc: Global, message: Message) -> Result<Vec<u8>, OutOfMemory>
-    ensures { IfOk result (λ bytes. bytes.items ≡ text message) }
-{
-    if can_encode(&message) {
-        encode(alloc, &message)
-    } else {
-        Err(OutOfMemory)
-    }
 }
 
 /// Sends a message, and takes the answer.
@@ -62,7 +51,7 @@ fn exchanged<F: Far>(
     ensures failed { IfOk result (λ t. IsUnanswered t → Rose (F.faults far.old) (F.faults far.new)) }
     ensures faults_later { F.faults far.old ≤ F.faults far.new }
 {
-    let bytes = spelled(alloc, message)?;
+    let bytes = spelled(alloc, &message)?;
     let both = messages.checked_add(2).ok_or(OutOfMemory)?;
     *messages += 1;
     match far.deliver(alloc, bytes.as_slice()) {

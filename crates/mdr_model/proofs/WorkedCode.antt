@@ -2,30 +2,22 @@
 use Rattle.std.proofs.Common.{◌≡◌, ℕ, zero, suc, true, false, ◌||◌, List, [], ◌∷◌, None, refl, sym, ap, ◌∙◌}
 use mathlib.Core.Path.{fun_ext}
 use Rattle.std.specs.Prelude.{pos}
-use Rattle.mdr_core.specs.declared.kind.Kind.{Kind}
 use Rattle.mdr_core.specs.declared.kind.Kind.TheVariants.{U32}
-use Rattle.mdr_core.specs.declared.value.Value.{Value}
 use Rattle.mdr_core.specs.declared.value.Value.TheVariants as values
 use Rattle.mdr_core.specs.declared.plan.Half.{Half}
 use Rattle.mdr_core.specs.declared.program.Program.{Program}
-use Rattle.mdr_core.specs.declared.code.BinOp.{BinOp}
 use Rattle.mdr_core.specs.declared.code.BinOp.TheVariants.{Add}
 use Rattle.mdr_core.specs.declared.code.Lval.{Lval}
-use Rattle.mdr_core.specs.declared.code.Lval.TheVariants.{Global, rolls-Global}
+use Rattle.mdr_core.specs.declared.code.Lval.TheVariants.{Global}
 use Rattle.mdr_core.specs.declared.code.Expr.{Expr}
-use Rattle.mdr_core.specs.declared.code.Expr.TheOpen.{Expr-F, Lval-F}
-use Rattle.mdr_core.specs.declared.code.Expr.TheFolds.{fold-roll-Expr, fold-roll-Lval}
 use Rattle.mdr_core.specs.declared.code.Expr.TheVariants as expr
-use Rattle.mdr_core.specs.declared.code.Expr.TheVariants.{rolls-Lit, rolls-Load, rolls-Bin}
 use Rattle.mdr_core.specs.declared.code.CallForm.{CallForm}
 use Rattle.mdr_core.specs.declared.code.Callee.TheVariants.{Service}
-use Rattle.mdr_core.specs.declared.code.Step.{Step}
-use Rattle.mdr_core.specs.declared.code.Step.TheOpen.{Step-F}
-use Rattle.mdr_core.specs.declared.code.Step.TheFolds.{fold-Step, fold-roll-Step, fold_out-Stmt}
 use Rattle.mdr_core.specs.declared.code.Step.TheVariants as step
-use Rattle.mdr_core.specs.declared.code.Step.TheVariants.{rolls-Assign, rolls-Call}
 use Rattle.mdr_core.specs.Code.{Term, Lvalue, Called, Goal, Code, Codes}
-use Rattle.mdr_core.specs.Folds.{term_layer, lvalue_layer, term_of, lvalue_of, call_of, step_layer, stmt_layer, code_of, codes_of}
+use Rattle.mdr_core.specs.Folds.{term_of, lvalue_of, call_of, code_of, codes_of}
+use Rattle.mdr_core.proofs.Coded as coded
+use Rattle.mdr_core.proofs.Coded.{code_is, lit_is, global_is, load_is, bin_is}
 use Rattle.mdr_model.specs.declared.wire.Wire.{Wire}
 use Rattle.mdr_model.specs.declared.wire.Wire.TheVariants as wire
 use Rattle.mdr_model.specs.Tree.{Tree}
@@ -35,32 +27,11 @@ use Rattle.mdr_model.specs.Worked.{number, increment, call_of as call_named, set
 
 -- ---- forms
 
-lit_is : (v : Value) → term_of (expr.Lit v) ≡ Term.Lit v
-lit_is v = ap term_of (sym (rolls-Lit v)) ∙ fold-roll-Expr Term Lvalue term_layer lvalue_layer (Expr-F.Lit v)
-
-global_is : (g : ℕ) → lvalue_of (Global g) ≡ Lvalue.Global g
-global_is g = ap lvalue_of (sym (rolls-Global g)) ∙ fold-roll-Lval Term Lvalue term_layer lvalue_layer (Lval-F.Global g)
-
-load_is : (p : Lval) → term_of (expr.Load p) ≡ Term.Load (lvalue_of p)
-load_is p = ap term_of (sym (rolls-Load p)) ∙ fold-roll-Expr Term Lvalue term_layer lvalue_layer (Expr-F.Load p)
-
-bin_is : (op : BinOp) (k : Kind) (a b : Expr) → term_of (expr.Bin op k a b) ≡ Term.Bin op k (term_of a) (term_of b)
-bin_is op k a b = ap term_of (sym (rolls-Bin op k a b)) ∙ fold-roll-Expr Term Lvalue term_layer lvalue_layer (Expr-F.Bin op k a b)
-
-step_is : (n : ℕ) (s : Step) → code_of (record { number = n; step = s }) ≡ fold-Step (ℕ → Code) Code step_layer stmt_layer s n
-step_is n s = fold_out-Stmt (ℕ → Code) Code step_layer stmt_layer (record { number = n; step = s })
-
 assign_is : (n : ℕ) (p : Lval) (e : Expr) → code_of (record { number = n; step = step.Assign p e }) ≡ Code.Assign n (lvalue_of p) (term_of e)
-assign_is n p e =
-    step_is n (step.Assign p e)
-    ∙ ap (λ (s : Step). fold-Step (ℕ → Code) Code step_layer stmt_layer s n) (sym (rolls-Assign p e))
-    ∙ ap (λ (f : ℕ → Code). f n) (fold-roll-Step (ℕ → Code) Code step_layer stmt_layer (Step-F.Assign p e))
+assign_is n p e = code_is _ (step.Assign p e) refl ∙ coded.assign_is n p e
 
 calling_is : (n : ℕ) (form : CallForm) → code_of (record { number = n; step = step.Call None form }) ≡ Code.Call n Goal.Nowhere (call_of form)
-calling_is n form =
-    step_is n (step.Call None form)
-    ∙ ap (λ (s : Step). fold-Step (ℕ → Code) Code step_layer stmt_layer s n) (sym (rolls-Call None form))
-    ∙ ap (λ (f : ℕ → Code). f n) (fold-roll-Step (ℕ → Code) Code step_layer stmt_layer (Step-F.Call None form))
+calling_is n form = code_is _ (step.Call None form) refl ∙ coded.call_is n None form
 
 -- ---- statements
 

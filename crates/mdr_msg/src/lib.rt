@@ -9,6 +9,7 @@ mod laws;
 mod lists;
 mod parts;
 mod reading;
+mod spelling;
 mod values;
 mod writing;
 
@@ -19,6 +20,7 @@ pub use laws::{
 };
 pub use mdr_model::{BirthKind, Message, New, Run, SetRun, Shape64, Wire, WireView};
 pub use reading::decode;
+pub use spelling::{reading_of, spelled};
 pub use writing::encode;
 
 #[cfg(test)]

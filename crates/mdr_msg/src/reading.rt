@@ -20,7 +20,7 @@ fn get_bytes(alloc: Global, bytes: &[u8], c: &mut Cursor) -> Result<Items<u8>, M
     ensures { Gives bytes.now c.old.at c.new.at result opaque_at }
 {
     match mdr_xdr::get_opaque(bytes, c) {
-        Ok(opaque) => Ok(Items::from_vec(Vec::from_slice(alloc, opaque)?)),
+        Ok(opaque) => Ok(Items::from_slice(alloc, opaque)?),
         Err(e) => Err(MsgError::from(e)),
     }
 }

@@ -3,7 +3,6 @@
 #![tactic(auto)]
 
 mod calls;
-mod copied;
 mod counts;
 mod far;
 mod far_calls;

@@ -5,7 +5,6 @@ ghost use Rattle.mdr_outside.specs.Far.{LoadsAs, loaded_with};
 ghost use Rattle.mdr_outside.specs.LyingFar.{new_far, reply_at, added, after_load, Gives};
 ghost use Rattle.mdr_outside.specs.Calls.{Loads, Sends, and_then};
 
-use crate::copied::copied;
 use crate::far::{DeliverAnswer, Exchange, Far, LoadAnswer, Loaded};
 use crate::far_calls::FarCalls;
 use mdr_core::Items;
@@ -56,7 +55,7 @@ impl LyingFar {
         ensures { IfOk result (λ reply. reply ≡ reply_at self.now.replies self.now.given) }
     {
         match self.replies.as_slice().get(self.given) {
-            Some(DeliverAnswer::Ok(reply)) => Ok(DeliverAnswer::Ok(copied(
+            Some(DeliverAnswer::Ok(reply)) => Ok(DeliverAnswer::Ok(Items::from_slice(
                 alloc,
                 reply.as_slice(),
             )?)),
@@ -77,11 +76,11 @@ fn keep(
     ensures err { OnErr result (exchanges.new ≡ exchanges.old) }
 {
     let got = match answer {
-        DeliverAnswer::Ok(reply) => Some(copied(alloc, reply.as_slice())?),
+        DeliverAnswer::Ok(reply) => Some(Items::from_slice(alloc, reply.as_slice())?),
         DeliverAnswer::Failed => None,
         DeliverAnswer::OutOfMemory => return Ok(()),
     };
-    let sent = copied(alloc, sent)?;
+    let sent = Items::from_slice(alloc, sent)?;
     exchanges.push(Exchange { sent, got })
 }
 
@@ -95,8 +94,8 @@ fn load_of(
     ensures { IfOk result (λ load. load ≡ loaded_with user.now plan.now answer) }
 {
     Ok(Loaded {
-        user: copied(alloc, user)?,
-        plan: copied(alloc, plan)?,
+        user: Items::from_slice(alloc, user)?,
+        plan: Items::from_slice(alloc, plan)?,
         answer,
     })
 }

@@ -8,9 +8,9 @@ ghost use Rattle.mdr_outside.specs.Shelf.{WritesTo, Puts};
 ghost use Rattle.mdr_outside.specs.MapShelf.{named, key_of, are_distinct, file_in, new_shelf, read_answer, write_answer, count_read, count_write, after_read, after_write, NoCountFell};
 
 use crate::calls::Calls;
-use crate::copied::copied;
 use crate::shelf::{ReadAnswer, Shelf, WriteAnswer};
 use crate::shelf_calls::ShelfCalls;
+use mdr_core::Items;
 use std::alloc::{AllocError, Global};
 use std::marker::Model;
 
@@ -85,7 +85,7 @@ impl MapShelf {
         if bytes.len() as u64 > limit {
             return ReadAnswer::TooLarge;
         }
-        match copied(alloc, bytes) {
+        match Items::from_slice(alloc, bytes) {
             Ok(copy) => ReadAnswer::Ok(copy),
             Err(_) => ReadAnswer::OutOfMemory,
         }

@@ -5,9 +5,6 @@ ghost use Rattle.std.specs.List.{prefix_len};
 ghost use Rattle.mdr_syntax.specs.Pieces.{skip_blanks};
 ghost use Rattle.mdr_syntax.specs.Bytes.{is_blank, is_space, is_letter, is_name_byte, is_number_byte, is_plain, in_line};
 
-use mdr_core::{Items, Name};
-use std::alloc::{AllocError, Global};
-
 /// Blank or tab: what separates words on a line.
 pub fn is_blank(b: u8) -> bool
     ensures { result ≡ is_blank b }
@@ -88,11 +85,4 @@ pub fn line_len(bytes: &[u8]) -> usize
     ensures within { result ≤ length bytes.now }
 {
     bytes.iter().take_while(|b| **b != b'\n').count()
-}
-
-/// A list of these bytes.
-pub fn copied(alloc: Global, bytes: &[u8]) -> Result<Name, AllocError>
-    ensures { IfOk result (λ name. name ≡ bytes.now) }
-{
-    Ok(Items::from_vec(Vec::from_slice(alloc, bytes)?))
 }

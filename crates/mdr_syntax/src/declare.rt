@@ -8,7 +8,6 @@ ghost use Rattle.mdr_core.specs.Types.{first_types};
 ghost use Rattle.mdr_syntax.specs.Forms.{global_def, empty_program};
 ghost use Rattle.mdr_syntax.specs.Sources.{is_declared, func_of, declare, declare_all, program_of};
 
-use crate::bytes::copied;
 use crate::grammar::items;
 use crate::item::{Item, Line};
 use crate::resolve::body;
@@ -61,7 +60,7 @@ fn global_def(alloc: Global, name: &[u8]) -> Result<GlobalDef, AllocError>
     let mut init = Items::new(alloc);
     init.push(Value::Int(Kind::U32, 0))?;
     Ok(GlobalDef {
-        name: copied(alloc, name)?,
+        name: Items::from_slice(alloc, name)?,
         ty: Ty::Int(Kind::U32),
         count: 1,
         array: false,
@@ -88,7 +87,7 @@ fn func_def(
         lines,
     )?;
     Ok(Func {
-        name: copied(alloc, name)?,
+        name: Items::from_slice(alloc, name)?,
         params: Items::new(alloc),
         result: Ty::Void,
         ann: Ann::Single,

@@ -6,12 +6,12 @@ ghost use Rattle.std.specs.Option.{option_map};
 ghost use Rattle.mdr_syntax.specs.Gives.{Gives};
 ghost use Rattle.mdr_syntax.specs.Pieces.{skip_blanks, begins_letter, begins_digit, sign_at, define_head, define_piece, directive_piece};
 
-use crate::bytes::{copied, is_letter, line_len, name_len, skip_blanks};
+use crate::bytes::{is_letter, line_len, name_len, skip_blanks};
 use crate::error::LexError;
 use crate::piece::{Piece, number_at};
 use crate::token::Lexeme;
 use crate::words::is_reserved;
-use mdr_core::Place;
+use mdr_core::{Items, Place};
 use std::alloc::Global;
 
 fn begins_letter(bytes: &[u8]) -> bool
@@ -77,7 +77,7 @@ fn define_piece(alloc: Global, place: Place, len: usize, bytes: &[u8]) -> Result
         column: place.column + at as u32,
     };
     let (value, kind, more) = number_at(number_place, number)?;
-    let name = copied(alloc, name)?;
+    let name = Items::from_slice(alloc, name)?;
     Ok(Piece::token(Lexeme::Define(name, is_negative, value, kind), at + more))
 }
 

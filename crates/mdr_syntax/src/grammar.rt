@@ -5,7 +5,6 @@ ghost use Rattle.std.specs.Option.{option_map};
 ghost use Rattle.mdr_syntax.specs.Reading.{Reads, whats};
 ghost use Rattle.mdr_syntax.specs.Grammar.{punct_at, keyword_at, name_at, number_at, term_at, plus_term_at, terms_at, sum_at, write_at, call_at, assign_or_call_at, line_at, lines_at, global_at, func_at, item_at, end_at, items_at};
 
-use crate::bytes::copied;
 use crate::item::{Item, Line, Sum, Term};
 use crate::source_error::SourceError;
 use crate::token::{Lexeme, Token};
@@ -62,7 +61,7 @@ fn name(alloc: Global, tokens: &[Token]) -> Result<(Name, &[Token]), SourceError
             },
             rest @ ..,
         ] if !is_reserved(word.as_slice()) => {
-            let name = copied(alloc, word.as_slice())?;
+            let name = Items::from_slice(alloc, word.as_slice())?;
             Ok((name, rest))
         }
         _ => Err(SourceError::Unbuilt),

@@ -4,7 +4,7 @@ ghost use Rattle.std.specs.Prelude.{◌≡◌, ◌+◌, ◌<◌, ◌^◌, length
 ghost use Rattle.mdr_syntax.specs.Gives.{Gives};
 ghost use Rattle.mdr_syntax.specs.Pieces.{gap_of, token_of, word_at, number_at, number_piece, character_piece, text_piece, punctuation_piece, piece_at};
 
-use crate::bytes::{copied, is_letter, is_space, name_len, number_len};
+use crate::bytes::{is_letter, is_space, name_len, number_len};
 use crate::comment::slash_piece;
 use crate::directive::directive_piece;
 use crate::error::LexError;
@@ -12,7 +12,7 @@ use crate::number::number_of;
 use crate::quoted::{character, text};
 use crate::token::Lexeme;
 use crate::words::punctuation_len;
-use mdr_core::{Kind, Place};
+use mdr_core::{Items, Kind, Place};
 use std::alloc::Global;
 
 /// A token, or what separates tokens, and how many bytes it has behind its first.
@@ -48,7 +48,7 @@ fn word(alloc: Global, bytes: &[u8]) -> Result<Piece, LexError>
     ensures within { IfOk result (λ p. p.more < length bytes.now) }
 {
     let more = name_len(&bytes[1..]);
-    let name = copied(alloc, &bytes[..1 + more])?;
+    let name = Items::from_slice(alloc, &bytes[..1 + more])?;
     Ok(Piece::token(Lexeme::Word(name), more))
 }
 
@@ -107,7 +107,7 @@ pub fn punctuation_piece(alloc: Global, place: Place, bytes: &[u8]) -> Result<Pi
     if len == 0 {
         return Err(LexError::BadByte(place));
     }
-    let name = copied(alloc, &bytes[..len])?;
+    let name = Items::from_slice(alloc, &bytes[..len])?;
     Ok(Piece::token(Lexeme::Punct(name), len - 1))
 }
 

@@ -20,7 +20,6 @@ use Rattle.mdr_user.specs.declared.state.Work.TheVariants.{Nothing}
 use Rattle.mdr_user.specs.States.{user_of, IsSoundState}
 use Rattle.mdr_user.specs.Honest.{sents, Honest}
 use Rattle.mdr_user.specs.Halves.{Follows, IsSpelled}
-use Rattle.mdr_user.specs.Options.{read_as}
 use Rattle.mdr_user.proofs.Deliveries.{refusal}
 
 sents_more : (es : List Exchange) (e : Exchange) → sents (es ++ e ∷ []) ≡ sents es ++ e.sent ∷ []
@@ -85,10 +84,10 @@ begins_honest program es none = subst (Honest program []) (sym none) tt
 
 -- ---- bytes that are no message
 
-pub no_message : (program : Program) (n : ℕ) (s : State) (r : Reading) → read_as r ≡ None → deliver program (suc n) (user_of program n s) r ≡ refusal program n 1 s
+pub no_message : (program : Program) (n : ℕ) (s : State) (r : Reading) (f : Fault) → r ≡ Err f → deliver program (suc n) (user_of program n s) r ≡ refusal program n 1 s
 unfolding deliver
-no_message program n s (Ok m) e = absurd (Prim.cc)
-no_message program n s (Err f) e = refl
+no_message program n s (Ok m) f e = absurd (Prim.cc)
+no_message program n s (Err g) f e = refl
 
 -- ---- what holds of a half that isn't lost
 

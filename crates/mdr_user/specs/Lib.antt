@@ -6,6 +6,5 @@ pub mod Openings
 pub mod Honest
 pub mod Halves
 pub mod HalfView
-pub mod Options
 pub mod Fars
 pub mod FarView

@@ -10,7 +10,7 @@ ghost use Rattle.mdr_user.specs.Halves.{new_half, after_reply, lost, ReplyAlike,
 
 use crate::load_error::LoadError;
 use crate::source::source;
-use crate::spelled::spelled;
+use crate::bytes::reply_to;
 use crate::state::{State, Work};
 use mdr_copy::first_memory;
 use mdr_core::{Items, OutOfMemory, Program};
@@ -48,8 +48,8 @@ fn exchange(alloc: Global, sent: &[u8], reply: &[u8]) -> Result<Exchange, OutOfM
     ensures { IfOk result (λ e. e ≡ record { sent = sent.now; got = Some reply.now }) }
 {
     Ok(Exchange {
-        sent: Items::from_vec(Vec::from_slice(alloc, sent)?),
-        got: Some(Items::from_vec(Vec::from_slice(alloc, reply)?)),
+        sent: Items::from_slice(alloc, sent)?,
+        got: Some(Items::from_slice(alloc, reply)?),
     })
 }
 
@@ -89,7 +89,7 @@ impl UserHalf {
         let Some(state) = self.state.take() else {
             return Err(OutOfMemory);
         };
-        let (reply, after) = spelled(alloc, &self.program, state, bytes)?;
+        let (reply, after) = reply_to(alloc, &self.program, state, bytes)?;
         let exchanged = exchange(alloc, bytes, reply.as_slice())?;
         self.exchanges.push(exchanged)?;
         self.state = Some(after);

@@ -9,7 +9,7 @@ mod local_far;
 mod opening;
 mod reply;
 mod source;
-mod spelled;
+mod bytes;
 mod state;
 mod statement;
 mod walk;

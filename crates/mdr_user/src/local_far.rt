@@ -63,8 +63,8 @@ fn load_of(
     ensures { IfOk result (λ load. load ≡ loaded_with user.now plan.now answer) }
 {
     Ok(Loaded {
-        user: Items::from_vec(Vec::from_slice(alloc, user)?),
-        plan: Items::from_vec(Vec::from_slice(alloc, plan)?),
+        user: Items::from_slice(alloc, user)?,
+        plan: Items::from_slice(alloc, plan)?,
         answer,
     })
 }

@@ -1,8 +1,8 @@
 // The far side that gives the answers that it was told to give.
 
-use crate::copied::copied;
 use crate::far::{DeliverAnswer, Exchange, Far, LoadAnswer};
 use crate::lying_far::LyingFar;
+use mdr_core::Items;
 use std::alloc::Global;
 use std::process::Abort;
 use std::test::Fail;
@@ -49,8 +49,8 @@ fn send_three<F: Far>(
 fn fails_at_the_third_of_two_replies(rt: HostRuntime) -> Result<(), Fail> {
     let alloc = rt.alloc();
     let mut replies = Vec::new(alloc);
-    replies.push(DeliverAnswer::Ok(copied(alloc, b"one")?))?;
-    replies.push(DeliverAnswer::Ok(copied(alloc, b"")?))?;
+    replies.push(DeliverAnswer::Ok(Items::from_slice(alloc, b"one")?))?;
+    replies.push(DeliverAnswer::Ok(Items::from_slice(alloc, b"")?))?;
     let mut far = LyingFar::new(alloc, LoadAnswer::Ok, replies);
     let (first, second, third) = send_three(&mut far, alloc, &rt);
     assert!(rt; is_reply(&first, b"one"));
@@ -69,7 +69,7 @@ fn keeps_no_exchange_where_memory_is_wanting(rt: HostRuntime) -> Result<(), Fail
     let mut replies = Vec::new(alloc);
     replies.push(DeliverAnswer::Failed)?;
     replies.push(DeliverAnswer::OutOfMemory)?;
-    replies.push(DeliverAnswer::Ok(copied(alloc, b"three")?))?;
+    replies.push(DeliverAnswer::Ok(Items::from_slice(alloc, b"three")?))?;
     let mut far = LyingFar::new(alloc, LoadAnswer::Ok, replies);
     let (first, second, third) = send_three(&mut far, alloc, &rt);
     assert!(rt; matches!(first, DeliverAnswer::Failed));
