@@ -5,6 +5,7 @@ ghost use Rattle.mdr_model.specs.Text.{text};
 ghost use Rattle.mdr_model.specs.Reading.{reading_of};
 ghost use Rattle.mdr_model.specs.User.{deliver};
 ghost use Rattle.mdr_model.specs.Runnable.{IsRunnable};
+ghost use Rattle.mdr_msg.specs.WellFormed.{IsMessage};
 ghost use Rattle.mdr_user.specs.States.{user_of, delivered, IsSoundState};
 ghost use Rattle.mdr_user.specs.Halves.{IsSpelled};
 ghost use Rattle.mdr_user.specs.Options.{read_as};
@@ -54,7 +55,8 @@ fn delivered(
 
 /// A reply that can't be written is want of memory.
 fn written(alloc: Global, reply: &Message) -> Result<Vec<u8>, OutOfMemory>
-    ensures { IfOk result (λ bytes. bytes.items ≡ text reply.now) }
+    ensures written { IfOk result (λ bytes. bytes.items ≡ text reply.now) }
+    ensures fits { IfOk result (λ _. IsMessage reply.now) }
 {
     if !can_encode(reply) {
         return Err(OutOfMemory);
