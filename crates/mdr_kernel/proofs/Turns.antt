@@ -12,6 +12,8 @@ use Rattle.mdr_model.specs.Bytes.{readings, split_run_over_bytes}
 use Rattle.mdr_model.specs.Watched.{finish}
 use Rattle.mdr_model.specs.Kernel.{Kernel, Rest, Pending, Over, Waits, SplitRun, next, split_commands, first_kernel, run_from_pending, split_run}
 use Rattle.mdr_model.specs.Legal.{kernel_in}
+use Rattle.mdr_msg.specs.WellFormed.{IsMessage}
+use Rattle.mdr_msg.specs.OverBytes.{HaveSpellings}
 use Rattle.mdr_kernel.specs.Runs.{sent_of, then_answers, answers_of, run_over, finish_of, HasEnded}
 
 -- ---- lists of exchanges
@@ -45,6 +47,10 @@ texts_more : (ms : List Message) (m : Message) → map text (ms ++ m ∷ []) ≡
 texts_more [] m = refl
 texts_more (x ∷ ms) m = ap (λ (xs : List (List ℕ)). text x ∷ xs) (texts_more ms m)
 
+spelled_more : (ms : List Message) (m : Message) → HaveSpellings ms → IsMessage m → HaveSpellings (ms ++ m ∷ [])
+spelled_more [] m all one = (one, tt)
+spelled_more (x ∷ ms) m all one = (all.0, spelled_more ms m all.1 one)
+
 append_none : {A : Type 0} (xs : List A) → xs ++ [] ≡ xs
 append_none [] = refl
 append_none (x ∷ xs) = ap (λ ys. x ∷ ys) (append_none xs)
@@ -59,22 +65,24 @@ after_messages ms r = record { sent = ms ++ r.sent; pending = r.pending }
 pub record SoFar (program : Program) (first now : Pending) (es : List Exchange) : Type 0 where
   pub messages : List Message
   pub sent : sent_of es ≡ map text messages
+  pub spelled : HaveSpellings messages
   pub all : AllAnswered es
   pub runs : (more : List (List ℕ)) → run_from_pending program (readings (answers_of es ++ more)) first ≡ after_messages messages (run_from_pending program (readings more) now)
 
 pub begins_so : (program : Program) (first : Pending) (es : List Exchange) → es ≡ [] → SoFar program first first es
-begins_so program first es none = subst (SoFar program first first) (sym none) (record { messages = []; sent = refl; all = tt; runs = λ more. refl })
+begins_so program first es none = subst (SoFar program first first) (sym none) (record { messages = []; sent = refl; spelled = tt; all = tt; runs = λ more. refl })
 
 sends_more : (es : List Exchange) (ms : List Message) (m : Message) (got : Option (List ℕ)) → sent_of es ≡ map text ms → sent_of (es ++ exchange (text m) got ∷ []) ≡ map text (ms ++ m ∷ [])
 sends_more es ms m got e = sent_more es (exchange (text m) got) ∙ ap (λ (xs : List (List ℕ)). xs ++ text m ∷ []) e ∙ sym (texts_more ms m)
 
 -- one answer more
 pub goes_so : (program : Program) (first : Pending) (m : Message) (k : Kernel) (rest : Rest) (es es' : List Exchange) (bytes : List ℕ) (p : Pending) → SoFar program first (Waits m k rest) es
-    → es' ≡ es ++ exchange (text m) (Some bytes) ∷ [] → p ≡ next program (reading_of bytes) k rest → SoFar program first p es'
+    → IsMessage m → es' ≡ es ++ exchange (text m) (Some bytes) ∷ [] → p ≡ next program (reading_of bytes) k rest → SoFar program first p es'
 unfolding run_from_pending
-goes_so program first m k rest es es' bytes p so added leads = record {
+goes_so program first m k rest es es' bytes p so one added leads = record {
   messages = so.messages ++ m ∷ [];
   sent = ap sent_of added ∙ sends_more es so.messages m (Some bytes) so.sent;
+  spelled = spelled_more so.messages m so.spelled one;
   all = subst AllAnswered (sym added) (all_answered es (exchange (text m) (Some bytes)) so.all (bytes, refl));
   runs = λ more.
       let answers_are : answers_of es' ++ more ≡ answers_of es ++ bytes ∷ more =
@@ -96,10 +104,11 @@ unfolding split_run_over_bytes split_run
 run_is program script budget es = refl
 
 -- a run that is known to have sent these messages and to stand there
-ended_in : (program : Program) (script : List ℕ) (budget : ℕ) (es : List Exchange) (ms : List Message) (p : Pending) (end : End) (k : Kernel) → sent_of es ≡ map text ms
+ended_in : (program : Program) (script : List ℕ) (budget : ℕ) (es : List Exchange) (ms : List Message) (p : Pending) (end : End) (k : Kernel) → sent_of es ≡ map text ms → HaveSpellings ms
     → run_over program script budget es ≡ record { sent = ms; pending = p } → finish_of p ≡ finish end k.world → kernel_in p ≡ k → HasEnded program script budget es end k
-ended_in program script budget es ms p end k sent is ended kernel = record {
+ended_in program script budget es ms p end k sent spelled is ended kernel = record {
   messages = sent ∙ ap (λ (r : SplitRun). map text r.sent) (sym is);
+  spelled = subst (λ (r : SplitRun). HaveSpellings r.sent) (sym is) spelled;
   ended = ap (λ (r : SplitRun). finish_of r.pending) is ∙ ended;
   kernel = ap (λ (r : SplitRun). kernel_in r.pending) is ∙ kernel;
 }
@@ -113,15 +122,15 @@ over_so program script budget es end k so =
     ∙ ap (λ (xs : List (List ℕ)). run_from_pending program (readings xs) (first_of program script budget)) (sym (append_none (answers_of es)))
     ∙ so.runs []
     ∙ ap (λ (ms : List Message). record { sent = ms; pending = Over end k }) (append_none so.messages) in
-    ended_in program script budget es so.messages (Over end k) end k so.sent is refl refl
+    ended_in program script budget es so.messages (Over end k) end k so.sent so.spelled is refl refl
 
 -- the last message had no answer
 pub fails_so : (program : Program) (script : List ℕ) (budget : ℕ) (es es' : List Exchange) (m : Message) (k k' : Kernel) (rest : Rest) → SoFar program (first_of program script budget) (Waits m k rest) es
-    → es' ≡ es ++ exchange (text m) None ∷ [] → k' ≡ k → HasEnded program script budget es' (ends.FarFault k'.exchanges) k'
+    → IsMessage m → es' ≡ es ++ exchange (text m) None ∷ [] → k' ≡ k → HasEnded program script budget es' (ends.FarFault k'.exchanges) k'
 unfolding run_from_pending
-fails_so program script budget es es' m k k' rest so added same =
+fails_so program script budget es es' m k k' rest so one added same =
     let answers_are : answers_of es' ≡ answers_of es ++ [] = ap answers_of added ∙ answers_more es (exchange (text m) None) so.all in
     let is : run_over program script budget es' ≡ record { sent = so.messages ++ m ∷ []; pending = Waits m k rest } =
     run_is program script budget es' ∙ ap (λ (xs : List (List ℕ)). run_from_pending program (readings xs) (first_of program script budget)) answers_are ∙ so.runs [] in
-    ended_in program script budget es' (so.messages ++ m ∷ []) (Waits m k rest) (ends.FarFault k'.exchanges) k' (ap sent_of added ∙ sends_more es so.messages m None so.sent) is
+    ended_in program script budget es' (so.messages ++ m ∷ []) (Waits m k rest) (ends.FarFault k'.exchanges) k' (ap sent_of added ∙ sends_more es so.messages m None so.sent) (spelled_more so.messages m so.spelled one) is
     (ap (λ (x : Kernel). finish (ends.FarFault x.exchanges) x.world) (sym same)) (sym same)

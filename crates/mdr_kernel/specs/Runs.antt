@@ -14,6 +14,7 @@ use Rattle.mdr_model.specs.Kernel.{Kernel, Rest, Pending, Over, Waits, SplitRun,
 use Rattle.mdr_model.specs.Bytes.{split_run_over_bytes}
 use Rattle.mdr_model.specs.Legal.{kernel_in}
 use Rattle.mdr_model.specs.Outcome.{outcome_of}
+use Rattle.mdr_msg.specs.OverBytes.{HaveSpellings}
 use Rattle.mdr_kernel.specs.declared.run.Turn.{Turn}
 use Rattle.mdr_kernel.specs.declared.run.Turn.TheVariants as turn
 use Rattle.mdr_kernel.specs.States.{kernel_of, pending_of}
@@ -44,9 +45,10 @@ abbrev pub finish_of : Pending → Finish
 finish_of (Over end k) = finish end k.world
 finish_of (Waits m k rest) = finish (ends.FarFault k.exchanges) k.world
 
--- the messages are sent byte for byte, and the outcome is the run's
+-- the messages are sent byte for byte, each has a spelling, and the outcome is the run's
 pub record IsRun (program : Program) (script : List ℕ) (budget : ℕ) (es : List Exchange) (o : Outcome) : Type 0 where
   pub messages : sent_of es ≡ map text (run_over program script budget es).sent
+  pub spelled : HaveSpellings (run_over program script budget es).sent
   pub outcome : o ≡ outcome_of (finish_of (run_over program script budget es).pending)
 
 abbrev pub IsFarFault : End → Type 0
@@ -58,6 +60,7 @@ IsFarFault (ends.FarFault exchange) = Unit {0}
 -- the same before the outcome is made
 pub record HasEnded (program : Program) (script : List ℕ) (budget : ℕ) (es : List Exchange) (end : End) (k : Kernel) : Type 0 where
   pub messages : sent_of es ≡ map text (run_over program script budget es).sent
+  pub spelled : HaveSpellings (run_over program script budget es).sent
   pub ended : finish_of (run_over program script budget es).pending ≡ finish end k.world
   pub kernel : kernel_in (run_over program script budget es).pending ≡ k
 

@@ -8,6 +8,7 @@ ghost use Rattle.mdr_model.specs.Memory.{first_memory};
 ghost use Rattle.mdr_model.specs.Runnable.{IsRunnable};
 ghost use Rattle.mdr_model.specs.Text.{text};
 ghost use Rattle.mdr_model.specs.Kernel.{first_kernel};
+ghost use Rattle.mdr_msg.specs.WellFormed.{IsMessage};
 ghost use Rattle.mdr_kernel.specs.States.{world_of, kernel_of, rest_of, IsSoundWorld};
 ghost use Rattle.mdr_kernel.specs.Runs.{sent_of, answers_of, Turned, IsUnanswered, HasEnded, IsFarFault};
 ghost use Rattle.mdr_kernel.specs.Calls.{sends, had, Broke, IsPlace, IsStopped};
@@ -44,6 +45,7 @@ fn exchanged<F: Far>(
     requires world { IsSoundWorld program.now (world_of kernel.world) }
     requires loaded { IsLoaded (F.loaded far.old) }
     ensures turned { IfOk result (Turned program.now script.now message (kernel_of kernel) (rest_of script.now upcall) (F.exchanges far.old) (F.exchanges far.new)) }
+    ensures spelled { IfOk result (λ _. IsMessage message) }
     ensures called { IfOk result (λ _. F.calls far.new ≡ and_then (F.calls far.old) (Sends (text message))) }
     ensures counted { IfOk result (λ t. messages.new ≡ messages.old + had t) }
     ensures broke { OnErr result (Broke message (F.calls far.old) (F.calls far.new) (F.exchanges far.old) (F.exchanges far.new) messages.old messages.new) }

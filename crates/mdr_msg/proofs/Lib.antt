@@ -3,9 +3,4 @@ pub mod Loop
 pub mod Fields
 pub mod Messages
 pub mod Lifted
-pub mod Cells
-pub mod Rows
-pub mod Counts
-pub mod Sending
-pub mod Spelled
 pub mod Prefixes

@@ -25,10 +25,13 @@ pub fn get_integer(kind: Kind, bytes: &[u8], c: &mut Cursor) -> Result<i128, Msg
 
 impl Item for u32 {
     ghost use Rattle.mdr_model.specs.Xdr.{four};
+    ghost use Rattle.mdr_msg.specs.WellFormed.{IsFour};
 
     ghost text = { four };
 
     ghost can_be_put = { λ _. Unit {0} };
+
+    ghost has_spelling = { IsFour };
 
     ghost reader = { four_at };
 
@@ -47,10 +50,13 @@ impl Item for u32 {
 
 impl Item for u64 {
     ghost use Rattle.mdr_model.specs.Xdr.{eight};
+    ghost use Rattle.mdr_msg.specs.WellFormed.{IsEight};
 
     ghost text = { eight };
 
     ghost can_be_put = { λ _. Unit {0} };
+
+    ghost has_spelling = { IsEight };
 
     ghost reader = { eight_at };
 

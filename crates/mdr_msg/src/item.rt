@@ -15,13 +15,16 @@ pub trait Item: Drop {
     ghost text: { Self → List ℕ };
     /// What has to hold of it so that it has one.
     ghost can_be_put: { Self → Type 0 };
+    /// Whether it is what its spelling reads as: each number fits its bytes.
+    ghost has_spelling: { Self → Type 0 };
     /// What is read where bytes begin with it.
     ghost reader: { Input → Read Self };
 
     /// Writes its spelling at the end.
     fn put(&self, out: &mut Vec<u8>) -> Result<(), OutOfMemory>
         requires { can_be_put self.now }
-        ensures { OnOk result (out.new.items ≡ out.old.items ++ text self.now) };
+        ensures written { OnOk result (out.new.items ≡ out.old.items ++ text self.now) }
+        ensures spelled { OnOk result (has_spelling self.now) };
 
     /// Reads one.
     fn get(alloc: Global, bytes: &[u8], c: &mut Cursor) -> Result<Self, MsgError>

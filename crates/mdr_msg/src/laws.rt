@@ -18,8 +18,7 @@ pub fn no_spelling_begins_another()
 {}
 
 /// A split run over bytes, with an honest far side, is the one-memory meaning: for every sound program, every script
-/// of its functions and every budget of ticks, where numbers fit the code's types and user code may touch fewer than
-/// 2^31 cells.
+/// of its functions and every budget of ticks, as long as each message and each answer has a spelling.
 pub fn bytes_are_one_memory()
     ensures { BytesAreOneMemory }
 {}

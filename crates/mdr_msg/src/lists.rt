@@ -14,7 +14,8 @@ use std::alloc::Global;
 /// Writes items one after the other.
 fn put_items<T: Item>(items: &[T], out: &mut Vec<u8>) -> Result<(), OutOfMemory>
     requires { AllByRecursion T.can_be_put items.now }
-    ensures { OnOk result (out.new.items ≡ out.old.items ++ flat_map T.text items.now) }
+    ensures written { OnOk result (out.new.items ≡ out.old.items ++ flat_map T.text items.now) }
+    ensures spelled { OnOk result (AllByRecursion T.has_spelling items.now) }
 {
     for item in items {
         item.put(out)?;
@@ -42,10 +43,13 @@ fn get_items<T: Item>(
 impl<T: Item> Item for Items<T> {
     ghost use Rattle.mdr_model.specs.Xdr.{listed, list_at};
     ghost use Rattle.mdr_msg.specs.Encoding.{CanPutList};
+    ghost use Rattle.mdr_msg.specs.WellFormed.{IsListOf};
 
     ghost text = { listed T.text };
 
     ghost can_be_put = { CanPutList T.can_be_put };
+
+    ghost has_spelling = { IsListOf T.has_spelling };
 
     ghost reader = { list_at T.reader };
 

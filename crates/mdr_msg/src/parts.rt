@@ -15,10 +15,13 @@ use std::alloc::Global;
 impl Item for At {
     ghost use Rattle.mdr_model.specs.Text.{at_text};
     ghost use Rattle.mdr_model.specs.Reading.{place_at};
+    ghost use Rattle.mdr_msg.specs.WellFormed.{IsPlace};
 
     ghost text = { at_text };
 
     ghost can_be_put = { λ _. Unit {0} };
+
+    ghost has_spelling = { IsPlace };
 
     ghost reader = { place_at };
 
@@ -67,6 +70,8 @@ impl Item for BirthKind {
 
     ghost can_be_put = { λ _. Unit {0} };
 
+    ghost has_spelling = { λ _. Unit {0} };
+
     ghost reader = { birth_at };
 
     fn put(&self, out: &mut Vec<u8>) -> Result<(), OutOfMemory> {
@@ -87,10 +92,13 @@ impl Item for BirthKind {
 impl Item for New {
     ghost use Rattle.mdr_model.specs.Text.{new_text};
     ghost use Rattle.mdr_model.specs.Reading.{new_at};
+    ghost use Rattle.mdr_msg.specs.WellFormed.{IsNew};
 
     ghost text = { new_text };
 
     ghost can_be_put = { λ _. Unit {0} };
+
+    ghost has_spelling = { IsNew };
 
     ghost reader = { new_at };
 
@@ -120,10 +128,13 @@ impl Item for New {
 impl Item for SetRun {
     ghost use Rattle.mdr_model.specs.Text.{set_run_text};
     ghost use Rattle.mdr_model.specs.Reading.{set_run_at};
+    ghost use Rattle.mdr_msg.specs.WellFormed.{IsSetRun};
 
     ghost text = { set_run_text };
 
     ghost can_be_put = { λ _. Unit {0} };
+
+    ghost has_spelling = { IsSetRun };
 
     ghost reader = { set_run_at };
 
@@ -146,10 +157,13 @@ impl Item for SetRun {
 impl Item for Shape64 {
     ghost use Rattle.mdr_model.specs.Text.{shape_text};
     ghost use Rattle.mdr_model.specs.Reading.{shape_at};
+    ghost use Rattle.mdr_msg.specs.WellFormed.{IsShape};
 
     ghost text = { shape_text };
 
     ghost can_be_put = { λ _. Unit {0} };
+
+    ghost has_spelling = { IsShape };
 
     ghost reader = { shape_at };
 
@@ -171,10 +185,13 @@ impl Item for Run {
     ghost use Rattle.mdr_model.specs.Text.{run_text};
     ghost use Rattle.mdr_model.specs.Reading.{run_at};
     ghost use Rattle.mdr_msg.specs.Encoding.{CanPutRun};
+    ghost use Rattle.mdr_msg.specs.WellFormed.{IsRun};
 
     ghost text = { run_text };
 
     ghost can_be_put = { CanPutRun };
+
+    ghost has_spelling = { IsRun };
 
     ghost reader = { run_at };
 

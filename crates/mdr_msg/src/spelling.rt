@@ -4,6 +4,7 @@ ghost use Rattle.std.specs.Prelude.{◌≡◌, IfOk, Err};
 ghost use Rattle.mdr_model.specs.Text.{text};
 ghost use Rattle.mdr_model.specs.Reading.{reading_of};
 ghost use Rattle.mdr_model.specs.Faults.{fault};
+ghost use Rattle.mdr_msg.specs.WellFormed.{IsMessage};
 
 use crate::encodable::can_encode;
 use crate::error::MsgError;
@@ -37,7 +38,8 @@ pub fn reading_of(alloc: Global, bytes: &[u8]) -> Result<Result<Message, Fault>,
 /// The bytes of a message. One that can't be encoded (a list of 2^31 items or more, a number past its kind's range,
 /// a lock) is want of memory.
 pub fn spelled(alloc: Global, message: &Message) -> Result<Vec<u8>, OutOfMemory>
-    ensures { IfOk result (λ bytes. bytes.items ≡ text message.now) }
+    ensures written { IfOk result (λ bytes. bytes.items ≡ text message.now) }
+    ensures spelled { IfOk result (λ _. IsMessage message.now) }
 {
     if can_encode(message) {
         encode(alloc, message)

@@ -15,10 +15,13 @@ use std::alloc::Global;
 impl Item for WireView {
     ghost use Rattle.mdr_model.specs.Text.{view_text};
     ghost use Rattle.mdr_model.specs.Reading.{view_at};
+    ghost use Rattle.mdr_msg.specs.WellFormed.{IsView};
 
     ghost text = { view_text };
 
     ghost can_be_put = { λ _. Unit {0} };
+
+    ghost has_spelling = { IsView };
 
     ghost reader = { view_at };
 
@@ -92,10 +95,13 @@ impl Item for Wire {
     ghost use Rattle.mdr_model.specs.Text.{value_text};
     ghost use Rattle.mdr_model.specs.Reading.{value_at};
     ghost use Rattle.mdr_msg.specs.Encoding.{CanPutValue};
+    ghost use Rattle.mdr_msg.specs.WellFormed.{IsValue};
 
     ghost text = { value_text };
 
     ghost can_be_put = { CanPutValue };
+
+    ghost has_spelling = { IsValue };
 
     ghost reader = { value_at };
 

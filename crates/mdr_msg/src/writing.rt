@@ -5,6 +5,7 @@ ghost use Rattle.mdr_model.specs.Xdr.{four, opaque};
 ghost use Rattle.mdr_model.specs.Text.{text, values_text, shapes_text, serials_text, news_text, set_text, runs_text};
 ghost use Rattle.mdr_model.specs.declared.message.Message.TheVariants.{Call, Return, Down, Back, Ask, Answer, Stop, Refuse};
 ghost use Rattle.mdr_msg.specs.Encoding.{CanEncode, CanPutRuns, CanPutValues, IsShort};
+ghost use Rattle.mdr_msg.specs.WellFormed.{IsFour, IsEight, IsListOf, IsOpaque, IsValue, IsNew, IsSetRun, IsRun, IsShape, IsMessage};
 
 use crate::item::Item;
 use mdr_core::{At, Items, OutOfMemory};
@@ -23,7 +24,8 @@ fn put_memory(
     requires news { IsShort news.now }
     requires view { IsShort view.now }
     requires runs { CanPutRuns runs.now }
-    ensures { OnOk result (out.new.items ≡ out.old.items ++ (serials_text deaths.now ++ (news_text news.now ++ (set_text view.now ++ runs_text runs.now)))) }
+    ensures spelled { OnOk result (IsListOf IsEight deaths.now × IsListOf IsNew news.now × IsListOf IsSetRun view.now × IsListOf IsRun runs.now) }
+    ensures written { OnOk result (out.new.items ≡ out.old.items ++ (serials_text deaths.now ++ (news_text news.now ++ (set_text view.now ++ runs_text runs.now)))) }
 {
     deaths.put(out)?;
     news.put(out)?;
@@ -44,7 +46,8 @@ fn put_call(
     out: &mut Vec<u8>,
 ) -> Result<(), OutOfMemory>
     requires { CanEncode (Call func depth rest args.now deaths.now news.now view.now runs.now) }
-    ensures { OnOk result (out.new.items ≡ out.old.items ++ text (Call func depth rest args.now deaths.now news.now view.now runs.now)) }
+    ensures written { OnOk result (out.new.items ≡ out.old.items ++ text (Call func depth rest args.now deaths.now news.now view.now runs.now)) }
+    ensures spelled { OnOk result (IsMessage (Call func depth rest args.now deaths.now news.now view.now runs.now)) }
 {
     1u32.put(out)?;
     func.put(out)?;
@@ -62,7 +65,8 @@ fn put_return(
     out: &mut Vec<u8>,
 ) -> Result<(), OutOfMemory>
     requires { CanEncode (Return ticks value runs.now) }
-    ensures { OnOk result (out.new.items ≡ out.old.items ++ text (Return ticks value runs.now)) }
+    ensures written { OnOk result (out.new.items ≡ out.old.items ++ text (Return ticks value runs.now)) }
+    ensures spelled { OnOk result (IsMessage (Return ticks value runs.now)) }
 {
     2u32.put(out)?;
     ticks.put(out)?;
@@ -80,7 +84,8 @@ fn put_called(
 ) -> Result<(), OutOfMemory>
     requires args { CanPutValues args.now }
     requires runs { CanPutRuns runs.now }
-    ensures { OnOk result (out.new.items ≡ out.old.items ++ (four depth ++ (four func ++ (values_text args.now ++ runs_text runs.now)))) }
+    ensures spelled { OnOk result (IsFour depth × IsFour func × IsListOf IsValue args.now × IsListOf IsRun runs.now) }
+    ensures written { OnOk result (out.new.items ≡ out.old.items ++ (four depth ++ (four func ++ (values_text args.now ++ runs_text runs.now)))) }
 {
     depth.put(out)?;
     func.put(out)?;
@@ -99,7 +104,8 @@ fn put_down(
     out: &mut Vec<u8>,
 ) -> Result<(), OutOfMemory>
     requires { CanEncode (Down ticks at depth func args.now runs.now) }
-    ensures { OnOk result (out.new.items ≡ out.old.items ++ text (Down ticks at depth func args.now runs.now)) }
+    ensures written { OnOk result (out.new.items ≡ out.old.items ++ text (Down ticks at depth func args.now runs.now)) }
+    ensures spelled { OnOk result (IsMessage (Down ticks at depth func args.now runs.now)) }
 {
     3u32.put(out)?;
     ticks.put(out)?;
@@ -118,7 +124,8 @@ fn put_back(
     out: &mut Vec<u8>,
 ) -> Result<(), OutOfMemory>
     requires { CanEncode (Back rest value deaths.now news.now view.now runs.now) }
-    ensures { OnOk result (out.new.items ≡ out.old.items ++ text (Back rest value deaths.now news.now view.now runs.now)) }
+    ensures written { OnOk result (out.new.items ≡ out.old.items ++ text (Back rest value deaths.now news.now view.now runs.now)) }
+    ensures spelled { OnOk result (IsMessage (Back rest value deaths.now news.now view.now runs.now)) }
 {
     4u32.put(out)?;
     rest.put(out)?;
@@ -138,7 +145,8 @@ fn put_asked(
     requires shapes { IsShort shapes.now }
     requires bytes { IsShort bytes.now }
     requires runs { CanPutRuns runs.now }
-    ensures { OnOk result (out.new.items ≡ out.old.items ++ (values_text args.now ++ (shapes_text shapes.now ++ (opaque bytes.now ++ runs_text runs.now)))) }
+    ensures spelled { OnOk result (IsListOf IsValue args.now × IsListOf IsShape shapes.now × IsOpaque bytes.now × IsListOf IsRun runs.now) }
+    ensures written { OnOk result (out.new.items ≡ out.old.items ++ (values_text args.now ++ (shapes_text shapes.now ++ (opaque bytes.now ++ runs_text runs.now)))) }
 {
     args.put(out)?;
     shapes.put(out)?;
@@ -158,7 +166,8 @@ fn put_ask(
     out: &mut Vec<u8>,
 ) -> Result<(), OutOfMemory>
     requires { CanEncode (Ask ticks at service args.now shapes.now bytes.now runs.now) }
-    ensures { OnOk result (out.new.items ≡ out.old.items ++ text (Ask ticks at service args.now shapes.now bytes.now runs.now)) }
+    ensures written { OnOk result (out.new.items ≡ out.old.items ++ text (Ask ticks at service args.now shapes.now bytes.now runs.now)) }
+    ensures spelled { OnOk result (IsMessage (Ask ticks at service args.now shapes.now bytes.now runs.now)) }
 {
     5u32.put(out)?;
     ticks.put(out)?;
@@ -175,7 +184,8 @@ fn put_answer(
     out: &mut Vec<u8>,
 ) -> Result<(), OutOfMemory>
     requires { CanEncode (Answer results.now deaths.now news.now) }
-    ensures { OnOk result (out.new.items ≡ out.old.items ++ text (Answer results.now deaths.now news.now)) }
+    ensures written { OnOk result (out.new.items ≡ out.old.items ++ text (Answer results.now deaths.now news.now)) }
+    ensures spelled { OnOk result (IsMessage (Answer results.now deaths.now news.now)) }
 {
     6u32.put(out)?;
     results.put(out)?;
@@ -192,7 +202,8 @@ fn put_stop(
     out: &mut Vec<u8>,
 ) -> Result<(), OutOfMemory>
     requires { CanEncode (Stop ticks stop at runs.now) }
-    ensures { OnOk result (out.new.items ≡ out.old.items ++ text (Stop ticks stop at runs.now)) }
+    ensures written { OnOk result (out.new.items ≡ out.old.items ++ text (Stop ticks stop at runs.now)) }
+    ensures spelled { OnOk result (IsMessage (Stop ticks stop at runs.now)) }
 {
     7u32.put(out)?;
     ticks.put(out)?;
@@ -203,7 +214,8 @@ fn put_stop(
 
 #[tactic(auto, unfolding(mdr_model::specs::Text::text))]
 fn put_refuse(reason: u32, out: &mut Vec<u8>) -> Result<(), OutOfMemory>
-    ensures { OnOk result (out.new.items ≡ out.old.items ++ text (Refuse reason)) }
+    ensures written { OnOk result (out.new.items ≡ out.old.items ++ text (Refuse reason)) }
+    ensures spelled { OnOk result (IsMessage (Refuse reason)) }
 {
     8u32.put(out)?;
     reason.put(out)
@@ -211,7 +223,8 @@ fn put_refuse(reason: u32, out: &mut Vec<u8>) -> Result<(), OutOfMemory>
 
 fn put_message(m: &Message, out: &mut Vec<u8>) -> Result<(), OutOfMemory>
     requires { CanEncode m.now }
-    ensures { OnOk result (out.new.items ≡ out.old.items ++ text m.now) }
+    ensures written { OnOk result (out.new.items ≡ out.old.items ++ text m.now) }
+    ensures spelled { OnOk result (IsMessage m.now) }
 {
     match m {
         Message::Call {
@@ -273,7 +286,9 @@ fn put_message(m: &Message, out: &mut Vec<u8>) -> Result<(), OutOfMemory>
 pub fn encode(alloc: Global, m: &Message) -> Result<Vec<u8>, OutOfMemory>
     // Each list has fewer than 2^31 items, each integer is in its kind's range, and no value is a lock.
     requires { CanEncode m.now }
-    ensures { IfOk result (λ bytes. bytes.items ≡ text m.now) }
+    ensures written { IfOk result (λ bytes. bytes.items ≡ text m.now) }
+    // What was written reads as the message.
+    ensures spelled { IfOk result (λ _. IsMessage m.now) }
 {
     let mut out = Vec::new(alloc);
     put_message(m, &mut out)?;

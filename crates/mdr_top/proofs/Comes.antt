@@ -45,7 +45,7 @@ end_is f = refl
 due_to_far : (program : Program) (calls : List ℕ) (es : List Exchange) (o : Outcome) → IsRun program calls default_ticks es o → IsDueToFar program calls es o.end
 due_to_far program calls es o run =
     let p : Pending = (run_over program calls default_ticks es).pending in
-    let ended : HasEnded program calls default_ticks es (finish_of p).end (kernel_in p) = record { messages = run.messages; ended = finish_is p; kernel = refl } in
+    let ended : HasEnded program calls default_ticks es (finish_of p).end (kernel_in p) = record { messages = run.messages; spelled = run.spelled; ended = finish_is p; kernel = refl } in
     subst (IsDueToFar program calls es) (sym (ap (λ (x : Outcome). x.end) run.outcome ∙ end_is (finish_of p)))
     (as_before program calls default_ticks es (finish_of p).end (kernel_in p) ended)
 

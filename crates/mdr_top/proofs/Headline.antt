@@ -53,7 +53,7 @@ nothing_end program end = refl
 pub began_means : (program : Program) (source calls : List ℕ) (es : List Exchange) (s : Status) (text : List ℕ) → HasProgram source program → IsBound program calls → IsServed program es
     → Began program calls es s text → (s ≡ status.FarFault) ⊎ IsMeaning program calls es s text
 began_means program source calls es s text h bound served b =
-    of (run_is_meaning program calls default_ticks es b.outcome h.sound h.built b.small b.few bound served b.run_is)
+    of (run_is_meaning program calls default_ticks es b.outcome h.sound h.built bound served b.run_is)
   where
     of : IsFarFault b.outcome.end ⊎ IsMeant program calls default_ticks es b.outcome → (s ≡ status.FarFault) ⊎ IsMeaning program calls es s text
     of (inl f) = inl (b.reported.status_is ∙ fails b.outcome.end f)

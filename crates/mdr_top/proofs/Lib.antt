@@ -7,5 +7,4 @@ pub mod Complete
 pub mod Comes
 pub mod Exact
 pub mod Pieces
-pub mod SmallNumbers
 pub mod DoneLaws

@@ -13,10 +13,9 @@ use Rattle.mdr_model.specs.Runnable.{IsBound}
 use Rattle.mdr_model.proofs.BuiltLaws.{runnable}
 use Rattle.mdr_model.specs.Watched.{Finish, finish, watched}
 use Rattle.mdr_model.specs.Kernel.{Kernel, Pending, Over, Waits}
-use Rattle.mdr_model.specs.Bytes.{user_reply_to_bytes}
 use Rattle.mdr_model.specs.Outcome.{outcome_of}
 use Rattle.mdr_model.specs.Law.{IsOwn, IsWatched}
-use Rattle.mdr_msg.specs.OverBytes.{IsHonestOverBytes, HasSmallNumbers, HasFewCells, IsOneMemoryOverBytes}
+use Rattle.mdr_msg.specs.OverBytes.{IsHonestReply, IsHonestOverBytes, IsOneMemoryOverBytes}
 use Rattle.mdr_msg.proofs.Lifted.{bytes_are_one_memory}
 use Rattle.mdr_model.specs.Legal.{kernel_in}
 use Rattle.mdr_kernel.specs.Runs.{sent_of, then_answers, answers_of, run_over, finish_of, IsRun, IsFarFault}
@@ -31,7 +30,7 @@ honest_answers : (program : Program) (before : List (List ℕ)) (es : List Excha
 honest_answers program before [] h = tt
 honest_answers program before (e ∷ es) h = of e.got h.0 (honest_answers program (before ++ e.sent ∷ []) es h.1)
   where
-    of : (got : Option (List ℕ)) → IfSome got (λ reply. reply ≡ user_reply_to_bytes program before e.sent) → IsHonestOverBytes program (before ++ e.sent ∷ []) (sent_of es) (answers_of es)
+    of : (got : Option (List ℕ)) → IfSome got (λ reply. IsHonestReply program before e.sent reply) → IsHonestOverBytes program (before ++ e.sent ∷ []) (sent_of es) (answers_of es)
         → IsHonestOverBytes program before (e.sent ∷ sent_of es) (then_answers got (answers_of es))
     of None h later = tt
     of (Some reply) h later = (h, later)
@@ -81,11 +80,11 @@ is_meant program calls budget es o end k sent over is w =
       messages = omega (arith, w.messages, exchanged, messages, begun, ticks);
     }
 
-pub run_is_meaning : (program : Program) (calls : List ℕ) (budget : ℕ) (es : List Exchange) (o : Outcome) → IsSound program → IsBuilt program → HasSmallNumbers program budget → HasFewCells program → IsBound program calls → Honest program [] es → IsRun program calls budget es o → IsFarFault o.end ⊎ IsMeant program calls budget es o
-run_is_meaning program calls budget es o sound built small few bound honest ran = of (run_over program calls budget es).pending refl
+pub run_is_meaning : (program : Program) (calls : List ℕ) (budget : ℕ) (es : List Exchange) (o : Outcome) → IsSound program → IsBuilt program → IsBound program calls → Honest program [] es → IsRun program calls budget es o → IsFarFault o.end ⊎ IsMeant program calls budget es o
+run_is_meaning program calls budget es o sound built bound honest ran = of (run_over program calls budget es).pending refl
   where
     law : IsOneMemoryOverBytes program calls budget
-    law = bytes_are_one_memory program calls budget (runnable program sound built) bound small few
+    law = bytes_are_one_memory program calls budget (runnable program sound built) bound
 
     fair : IsHonestOverBytes program [] (map text (run_over program calls budget es).sent) (answers_of es)
     fair = subst (λ (sent : List (List ℕ)). IsHonestOverBytes program [] sent (answers_of es)) ran.messages (honest_answers program [] es honest)
@@ -94,5 +93,5 @@ run_is_meaning program calls budget es o sound built small few bound honest ran 
     ends_so p e = ran.outcome ∙ ap (λ (x : Pending). outcome_of (finish_of x)) e
 
     of : (p : Pending) → (run_over program calls budget es).pending ≡ p → IsFarFault o.end ⊎ IsMeant program calls budget es o
-    of (Over end k) e = inr (is_meant program calls budget es o end k ran.messages e (ends_so (Over end k) e) (law.same (answers_of es) end k fair e))
+    of (Over end k) e = inr (is_meant program calls budget es o end k ran.messages e (ends_so (Over end k) e) (law.same (answers_of es) end k ran.spelled (record { honest = fair; over = e })))
     of (Waits m k rest) e = inl (subst (λ (x : Outcome). IsFarFault x.end) (sym (ends_so (Waits m k rest) e)) (fails (finish_of (Waits m k rest)) tt))

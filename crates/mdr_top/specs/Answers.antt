@@ -24,7 +24,6 @@ use Rattle.mdr_outside.specs.declared.far.Loaded.{Loaded}
 use Rattle.mdr_outside.specs.declared.far.Exchange.{Exchange}
 use Rattle.mdr_outside.specs.Far.{loaded_with}
 use Rattle.mdr_kernel.specs.Runs.{IsRun}
-use Rattle.mdr_msg.specs.OverBytes.{HasSmallNumbers, HasFewCells}
 use Rattle.mdr_top.specs.declared.status.Status.{Status}
 use Rattle.mdr_top.specs.declared.status.Status.TheVariants as status
 use Rattle.mdr_top.specs.Lines.{usage_line, source_line, begin, fault_line, script_line, file_line}
@@ -93,10 +92,8 @@ pub record Reported (program : Program) (o : Outcome) (s : Status) (text : List 
   pub status_is : s ≡ status_of o.end
   pub text_is : text ≡ report program o
 
--- the report of a run over what the far side answered. A program whose numbers don't fit the code's types, or with 2^31 visible cells, wants memory before it runs
+-- the report of a run over what the far side answered
 pub record Began (program : Program) (calls : List ℕ) (es : List Exchange) (s : Status) (text : List ℕ) : Type 0 where
-  pub small : HasSmallNumbers program default_ticks
-  pub few : HasFewCells program
   pub outcome : Outcome
   pub run_is : IsRun program calls default_ticks es outcome
   pub reported : Reported program outcome s text

@@ -1,6 +1,5 @@
 pub mod Statuses
 pub mod Words
-pub mod Sizes
 pub mod Lines
 pub mod Answers
 pub mod Done

@@ -8,7 +8,6 @@ use Rattle.mdr_model.specs.Runnable.{IsBound}
 use Rattle.mdr_model.specs.Watched.{watched}
 use Rattle.mdr_model.specs.Outcome.{outcome_of}
 use Rattle.mdr_model.specs.Law.{IsOwn}
-use Rattle.mdr_msg.specs.OverBytes.{HasSmallNumbers, HasFewCells}
 use Rattle.mdr_outside.specs.declared.far.Exchange.{Exchange}
 use Rattle.mdr_kernel.specs.Runs.{IsRun, IsFarFault}
 use Rattle.mdr_user.specs.Honest.{Honest}
@@ -23,6 +22,6 @@ pub record IsMeant (program : Program) (calls : List ℕ) (budget : ℕ) (es : L
 abbrev pub RunIsMeaning : Type 0
 RunIsMeaning =
     (program : Program) (calls : List ℕ) (budget : ℕ) (es : List Exchange) (o : Outcome)
-    → IsSound program → IsBuilt program → HasSmallNumbers program budget → HasFewCells program → IsBound program calls
+    → IsSound program → IsBuilt program → IsBound program calls
     → Honest program [] es → IsRun program calls budget es o
     → IsFarFault o.end ⊎ IsMeant program calls budget es o

@@ -9,7 +9,6 @@ mod lines;
 mod program;
 mod put;
 mod script;
-mod sizes;
 mod split;
 mod status;
 mod top;

@@ -14,7 +14,6 @@ ghost use Rattle.mdr_top.specs.Answers.{Ran, Reported, Began, nothing_ran, statu
 ghost use Rattle.mdr_top.specs.Done.{LoadedOnce, LoadedPart, SentPart};
 
 use crate::due::Due;
-use crate::sizes::sizes_fit;
 use crate::status::Status;
 use mdr_core::{OutOfMemory, Program, RefuseKind};
 use mdr_kernel::{KernelHalf, nothing_ran};
@@ -72,7 +71,6 @@ fn began<F: Far>(
     ensures loaded { IfOk result (λ _. F.loaded far.new ≡ F.loaded far.old) }
     ensures failed { IfOk result (λ due. due.status ≡ status.FarFault → Rose (F.faults far.old) (F.faults far.new)) }
 {
-    sizes_fit(alloc, program)?;
     let mut half = KernelHalf::new(alloc, program)?;
     let outcome = half.run(alloc, calls, TICKS, far)?;
     reported(alloc, program, &outcome)

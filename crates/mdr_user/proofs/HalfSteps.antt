@@ -18,6 +18,8 @@ use Rattle.mdr_outside.specs.Far.{exchange}
 use Rattle.mdr_user.specs.declared.state.State.{State}
 use Rattle.mdr_user.specs.declared.state.Work.TheVariants.{Nothing}
 use Rattle.mdr_user.specs.States.{user_of, IsSoundState}
+use Rattle.mdr_msg.specs.WellFormed.{IsMessage}
+use Rattle.mdr_msg.specs.OverBytes.{IsHonestReply}
 use Rattle.mdr_user.specs.Honest.{sents, Honest}
 use Rattle.mdr_user.specs.Halves.{Follows, IsSpelled}
 use Rattle.mdr_user.proofs.Deliveries.{refusal}
@@ -36,6 +38,16 @@ reply_is program before s next bytes reply f r =
     let n : ℕ = allowance (readings before ++ reading_of bytes ∷ []) in
     (r n).bytes ∙ ap (λ (u : User). text (deliver program (suc n) u (reading_of bytes)).reply) (sym (f.after n))
 
+-- it has a spelling, too
+pub honest_reply : (program : Program) (before : List (List ℕ)) (s next : State) (bytes reply : List ℕ) → Follows program before s → Replies program s bytes reply next → IsHonestReply program before bytes reply
+unfolding user_reply
+honest_reply program before s next bytes reply f r =
+    let n : ℕ = allowance (readings before ++ reading_of bytes ∷ []) in
+    record {
+      spelled = subst (λ (u : User). IsMessage (deliver program (suc n) u (reading_of bytes)).reply) (sym (f.after n)) (r n).fits;
+      bytes = reply_is program before s next bytes reply f r;
+    }
+
 pub follows_next : (program : Program) (es : List Exchange) (e : Exchange) (s next : State) (bytes reply : List ℕ) → e.sent ≡ bytes → Follows program (sents es) s → Replies program s bytes reply next → Follows program (sents (es ++ e ∷ [])) next
 unfolding user_after
 follows_next program es e s next bytes reply same f r = record {
@@ -47,16 +59,16 @@ follows_next program es e s next bytes reply same f r = record {
       ∙ (r n).user;
 }
 
-honest_after : (program : Program) (before : List (List ℕ)) (es : List Exchange) (e : Exchange) (reply : List ℕ) → e.got ≡ Some reply → reply ≡ user_reply_to_bytes program (before ++ sents es) e.sent → Honest program before es
+honest_after : (program : Program) (before : List (List ℕ)) (es : List Exchange) (e : Exchange) (reply : List ℕ) → e.got ≡ Some reply → IsHonestReply program (before ++ sents es) e.sent reply → Honest program before es
     → Honest program before (es ++ e ∷ [])
 honest_after program before [] e reply got is h =
-    (subst (λ (g : Option (List ℕ)). IfSome g (λ (r : List ℕ). r ≡ user_reply_to_bytes program before e.sent)) (sym got) (is ∙ ap (λ (b : List (List ℕ)). user_reply_to_bytes program b e.sent) (append-nil before)), tt)
+    (subst (λ (g : Option (List ℕ)). IfSome g (λ (r : List ℕ). IsHonestReply program before e.sent r)) (sym got) (subst (λ (b : List (List ℕ)). IsHonestReply program b e.sent reply) (append-nil before) is), tt)
 honest_after program before (x ∷ es) e reply got is h =
-    (h.0, honest_after program (before ++ x.sent ∷ []) es e reply got (is ∙ ap (λ (b : List (List ℕ)). user_reply_to_bytes program b e.sent) (sym (append_assoc before (x.sent ∷ []) (sents es)))) h.1)
+    (h.0, honest_after program (before ++ x.sent ∷ []) es e reply got (subst (λ (b : List (List ℕ)). IsHonestReply program b e.sent reply) (sym (append_assoc before (x.sent ∷ []) (sents es))) is) h.1)
 
 pub honest_more : (program : Program) (es : List Exchange) (e : Exchange) (s next : State) (bytes reply : List ℕ) → e ≡ exchange bytes (Some reply) → Follows program (sents es) s → Replies program s bytes reply next → Honest program [] es → Honest program [] (es ++ e ∷ [])
 honest_more program es e s next bytes reply is f r h =
-    honest_after program [] es e reply (ap (λ (x : Exchange). x.got) is) (reply_is program (sents es) s next bytes reply f r ∙ ap (user_reply_to_bytes program (sents es)) (sym (ap (λ (x : Exchange). x.sent) is))) h
+    honest_after program [] es e reply (ap (λ (x : Exchange). x.got) is) (subst (λ (sent : List ℕ). IsHonestReply program (sents es) sent reply) (sym (ap (λ (x : Exchange). x.sent) is)) (honest_reply program (sents es) s next bytes reply f r)) h
 
 -- a refused message changes no later reply
 pub replies_on : (program : Program) (es es' : List Exchange) (e : Exchange) (bytes reply : List ℕ) (reason : ℕ) → e.sent ≡ bytes → es' ≡ es ++ e ∷ [] → reply ≡ user_reply_to_bytes program (sents es) bytes → reply ≡ text (Refuse reason)

@@ -4,6 +4,7 @@ use Rattle.mdr_core.specs.declared.program.Program.{Program}
 use Rattle.mdr_model.specs.Text.{text}
 use Rattle.mdr_model.specs.Bytes.{readings, user_reply_to_bytes}
 use Rattle.mdr_model.specs.User.{Delivered, user_after, first_user}
+use Rattle.mdr_msg.specs.WellFormed.{IsMessage}
 use Rattle.mdr_outside.specs.Far.{exchange}
 use Rattle.mdr_outside.specs.declared.far.Exchange.{Exchange}
 use Rattle.mdr_user.specs.declared.state.State.{State}
@@ -62,7 +63,8 @@ ReadsAs read (Err loads.OutOfMemory) = Unit {0}
 pub record Follows (program : Program) (before : List (List ℕ)) (s : State) : Type 0 where
   pub after : (n : ℕ) → user_after program (suc n) (first_user program) (readings before) ≡ user_of program n s
 
--- a reply as bytes, and the state after it
+-- a reply that has a spelling, as bytes, and the state after it
 pub record IsSpelled (program : Program) (n : ℕ) (d : Delivered) (reply : List ℕ) (s : State) : Type 0 where
+  pub fits : IsMessage d.reply
   pub bytes : reply ≡ text d.reply
   pub user : d.user ≡ user_of program n s

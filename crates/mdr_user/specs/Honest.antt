@@ -1,7 +1,7 @@
 -- A far side that answers as the user half.
 use Rattle.std.specs.Prelude.{◌≡◌, ℕ, List, [], ◌∷◌, ◌++◌, map, Option, Some, None, IfSome, Result, Ok, Err}
 use Rattle.mdr_core.specs.declared.program.Program.{Program}
-use Rattle.mdr_model.specs.Bytes.{user_reply_to_bytes}
+use Rattle.mdr_msg.specs.OverBytes.{IsHonestReply}
 use Rattle.mdr_outside.specs.declared.far.LoadAnswer.{LoadAnswer}
 use Rattle.mdr_outside.specs.declared.far.LoadAnswer.TheVariants as loads
 use Rattle.mdr_outside.specs.declared.far.Loaded.{Loaded}
@@ -27,10 +27,10 @@ program_of_text bytes = program_of_tokens (tokens_of bytes)
 abbrev pub sents : List Exchange → List (List ℕ)
 sents es = map (λ (e : Exchange). e.sent) es
 
--- each reply that was got is the user half's reply to the messages so far
+-- each reply that was got is the user half's reply to the messages so far, and has a spelling
 abbrev pub Honest : Program → (before : List (List ℕ)) → List Exchange → Type 0
 Honest program before [] = Unit {0}
-Honest program before (e ∷ es) = IfSome e.got (λ reply. reply ≡ user_reply_to_bytes program before e.sent) × Honest program (before ++ e.sent ∷ []) es
+Honest program before (e ∷ es) = IfSome e.got (λ reply. IsHonestReply program before e.sent reply) × Honest program (before ++ e.sent ∷ []) es
 
 -- ---- a far side
 

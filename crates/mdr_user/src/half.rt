@@ -3,8 +3,8 @@
 ghost use Rattle.std.specs.Prelude.{◌≡◌, ℕ, [], false, Some, IfOk, OnErr};
 ghost use Rattle.mdr_model.specs.declared.message.Message.TheVariants.{Refuse};
 ghost use Rattle.mdr_model.specs.Text.{text};
-ghost use Rattle.mdr_model.specs.Bytes.{user_reply_to_bytes};
 ghost use Rattle.mdr_model.specs.Runnable.{IsRunnable};
+ghost use Rattle.mdr_msg.specs.OverBytes.{IsHonestReply};
 ghost use Rattle.mdr_user.specs.Honest.{sents, Honest};
 ghost use Rattle.mdr_user.specs.Halves.{new_half, after_reply, lost, ReplyAlike, Loads};
 
@@ -80,7 +80,7 @@ impl UserHalf {
     /// The reply to a message. A message that is refused leaves the half as it was: it replies from then on as if
     /// the message hadn't come.
     pub fn deliver(&mut self, alloc: Global, bytes: &[u8]) -> Result<Vec<u8>, OutOfMemory>
-        ensures reply { IfOk result (λ reply. reply.items ≡ user_reply_to_bytes self.old.program (sents self.old.exchanges) bytes.now) }
+        ensures reply { IfOk result (λ reply. IsHonestReply self.old.program (sents self.old.exchanges) bytes.now reply.items) }
         ensures kept { IfOk result (λ reply. self.new ≡ after_reply self.old bytes.now reply.items) }
         ensures refused { IfOk result (λ reply. (reason : ℕ) → reply.items ≡ text (Refuse reason) → ReplyAlike self.new self.old) }
         ensures err { OnErr result (self.new ≡ lost self.old) }

@@ -17,6 +17,7 @@ use Rattle.mdr_kernel.specs.declared.state.Pending.TheVariants as pending
 use Rattle.mdr_kernel.specs.declared.run.Turn.{Turn}
 use Rattle.mdr_kernel.specs.declared.run.Turn.TheVariants as turn
 use Rattle.mdr_kernel.specs.States.{kernel_of, rest_of, pending_of, IsSoundWorld}
+use Rattle.mdr_msg.specs.WellFormed.{IsMessage}
 use Rattle.mdr_kernel.specs.Runs.{sent_of, answers_of, Turned, HasEnded}
 use Rattle.mdr_kernel.specs.Calls.{sends, had, IsPlace}
 use Rattle.mdr_kernel.proofs.Standing.{Stands, left_before, first_stands, commands_stand, next_stands, turn_smaller}
@@ -50,11 +51,11 @@ module _ (program : Program) (sound : IsRunnable program) (script : List ℕ) (b
       (subst (λ (n : ℕ). Stands program budget (length script) (suc n) (next program (reading_of one.0) (kernel_of k) (rest_of script upcall))) (sym count) later)
 
   runs_after : (es es' : List Exchange) (now p : CodePending) (m : Message) (k : CodeKernel) (upcall : Open) (t : Turn) → now ≡ pending.Waits m k upcall → t ≡ turn.Next p → TurnedSo m k upcall es es' t
-      → RunsSo es (pending_of script now) → RunsSo es' (pending_of script p)
-  runs_after es es' now p m k upcall t is goes turned so =
+      → IsMessage m → RunsSo es (pending_of script now) → RunsSo es' (pending_of script p)
+  runs_after es es' now p m k upcall t is goes turned fits so =
       let one : TurnedSo m k upcall es es' (turn.Next p) = subst (TurnedSo m k upcall es es') goes turned in
       let here : RunsSo es (pending_of script (pending.Waits m k upcall)) = subst (λ (x : CodePending). RunsSo es (pending_of script x)) is so in
-      goes_so program (first_of program script budget) m (kernel_of k) (rest_of script upcall) es es' one.0 (pending_of script p) here one.1 one.2
+      goes_so program (first_of program script budget) m (kernel_of k) (rest_of script upcall) es es' one.0 (pending_of script p) here fits one.1 one.2
 
   smaller_after : (es es' : List Exchange) (now p : CodePending) (m : Message) (k : CodeKernel) (upcall : Open) (t : Turn) → now ≡ pending.Waits m k upcall → t ≡ turn.Next p → TurnedSo m k upcall es es' t
       → StandsSo es (pending_of script now) → left_before (4 * budget + 6 * length script) p < left_before (4 * budget + 6 * length script) now
@@ -68,11 +69,11 @@ module _ (program : Program) (sound : IsRunnable program) (script : List ℕ) (b
       (turn_smaller program script budget (suc (length es)) m k upcall p here later)
 
   unanswered : (es es' : List Exchange) (now : CodePending) (m : Message) (k k' : CodeKernel) (upcall : Open) (t : Turn) → now ≡ pending.Waits m k upcall → t ≡ turn.Unanswered k' → TurnedSo m k upcall es es' t
-      → RunsSo es (pending_of script now) → HasEnded program script budget es' (ends.FarFault k'.exchanges) (kernel_of k')
-  unanswered es es' now m k k' upcall t is goes turned so =
+      → IsMessage m → RunsSo es (pending_of script now) → HasEnded program script budget es' (ends.FarFault k'.exchanges) (kernel_of k')
+  unanswered es es' now m k k' upcall t is goes turned fits so =
       let one : TurnedSo m k upcall es es' (turn.Unanswered k') = subst (TurnedSo m k upcall es es') goes turned in
       let here : RunsSo es (pending_of script (pending.Waits m k upcall)) = subst (λ (x : CodePending). RunsSo es (pending_of script x)) is so in
-      fails_so program script budget es es' m (kernel_of k) (kernel_of k') (rest_of script upcall) here one.0 one.1
+      fails_so program script budget es es' m (kernel_of k) (kernel_of k') (rest_of script upcall) here fits one.0 one.1
 
   first_so : (first : CodeKernel) (now : CodePending) (es : List Exchange) → kernel_of first ≡ first_kernel program budget → budget < 2 ^ 64 → es ≡ []
       → pending_of script now ≡ split_commands program script (kernel_of first) → StandsSo es (pending_of script now) × RunsSo es (pending_of script now)
@@ -130,7 +131,7 @@ returns-in-Over-clause-ended g c =
 pub returns-in-Unanswered-clause-ended : goal.returns-in-Unanswered-clause-ended
 returns-in-Unanswered-clause-ended g c =
     unanswered c.args.program.now c.requires.program c.args.script.now c.args.ticks (g.F.Far.exchanges c.turns.far) (g.F.Far.exchanges c.exchanged.new.far) c.turns.pending c.in-Waits.message c.in-Waits.kernel c.in-Unanswered.kernel
-    c.in-Waits.upcall c.in_ok-later-in-Waits.field-0 c.in-Waits.is c.in-Unanswered.is c.in_ok-later-in-Waits.ensures.turned c.turns.invariant.so_far
+    c.in-Waits.upcall c.in_ok-later-in-Waits.field-0 c.in-Waits.is c.in-Unanswered.is c.in_ok-later-in-Waits.ensures.turned c.in_ok-later-in-Waits.ensures.spelled c.turns.invariant.so_far
 
 pub turns-smaller : goal.turns-smaller
 turns-smaller g c =
@@ -142,7 +143,7 @@ turns-preserved g c = record {
   stands = stands_after c.args.program.now c.requires.program c.args.script.now c.args.ticks (g.F.Far.exchanges c.turns.far) (g.F.Far.exchanges c.exchanged.new.far) c.turns.pending c.in-Next.later c.in-Waits.message c.in-Waits.kernel
       c.in-Waits.upcall c.in_ok-later-in-Waits.field-0 c.in-Waits.is c.in-Next.is c.in_ok-later-in-Waits.ensures.turned c.turns.invariant.stands;
   so_far = runs_after c.args.program.now c.requires.program c.args.script.now c.args.ticks (g.F.Far.exchanges c.turns.far) (g.F.Far.exchanges c.exchanged.new.far) c.turns.pending c.in-Next.later c.in-Waits.message c.in-Waits.kernel
-      c.in-Waits.upcall c.in_ok-later-in-Waits.field-0 c.in-Waits.is c.in-Next.is c.in_ok-later-in-Waits.ensures.turned c.turns.invariant.so_far;
+      c.in-Waits.upcall c.in_ok-later-in-Waits.field-0 c.in-Waits.is c.in-Next.is c.in_ok-later-in-Waits.ensures.turned c.in_ok-later-in-Waits.ensures.spelled c.turns.invariant.so_far;
   called = called_after c.args.program.now c.requires.program c.args.script.now c.args.ticks (g.F.Far.calls c.args.far.now) (g.F.Far.calls c.turns.far) (g.F.Far.calls c.exchanged.new.far) (g.F.Far.exchanges c.turns.far) (g.F.Far.exchanges c.exchanged.new.far) c.in-Waits.message c.in-Waits.kernel
       c.in-Waits.upcall c.in_ok-later-in-Waits.field-0 c.in_ok-later-in-Waits.ensures.turned c.turns.invariant.called c.in_ok-later-in-Waits.ensures.called;
   counted = counted_after c.args.program.now c.requires.program c.args.script.now c.args.ticks (g.F.Far.exchanges c.turns.far) (g.F.Far.exchanges c.exchanged.new.far) c.turns.pending c.in-Waits.message c.in-Waits.kernel

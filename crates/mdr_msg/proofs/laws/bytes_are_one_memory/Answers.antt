@@ -3,4 +3,4 @@ use Rattle.mdr_msg.proofs.Lifted.{bytes_are_one_memory}
 use Rattle.mdr_msg.proofs.laws.bytes_are_one_memory.Goals as goal
 
 pub returns : goal.returns
-returns c = λ program script budget sound built bound small few. bytes_are_one_memory program script budget (runnable program sound built) bound small few
+returns c = λ program script budget sound built bound. bytes_are_one_memory program script budget (runnable program sound built) bound
