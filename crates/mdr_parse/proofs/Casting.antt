@@ -1,7 +1,6 @@
 -- What stands behind a `(`, and arguments that are types.
-use Rattle.std.proofs.Common.{◌≡◌, refl, sym, ap, ◌∙◌, ℕ, ◌+◌, Bool, true, false, ◌&&◌, List, [], ◌∷◌, length, Ok, Err}
+use Rattle.std.proofs.Common.{◌≡◌, refl, sym, ap, ◌∙◌, ℕ, ◌+◌, Bool, true, false, List, [], ◌∷◌, length, Err}
 use Rattle.mdr_core.specs.declared.place.Place.{Place}
-use Rattle.mdr_core.specs.declared.kind.Kind.{Kind}
 use Rattle.mdr_syntax.specs.declared.token.Token.{Token}
 use Rattle.mdr_syntax.specs.declared.tree.Form.{Form}
 use Rattle.mdr_syntax.specs.declared.tree.FormWhat
@@ -12,8 +11,8 @@ use Rattle.mdr_parse.specs.Forms.Nonterminal.{part, opened, stars}
 use Rattle.mdr_parse.specs.Forms.Right.{gives}
 use Rattle.mdr_parse.specs.Forms.Rule.{never, given}
 use Rattle.mdr_parse.specs.Grammar.{rule}
-use Rattle.mdr_parse.specs.Expressions.{is_level_free, form_at, only_part, base_rule, cast_rule, opened_rule, expression_rule, type_argument, argument_rule, in_parentheses}
-use Rattle.mdr_parse.specs.Front.{Read, and_read, begun_at, first as first_read, front}
+use Rattle.mdr_parse.specs.Expressions.{is_level_free, form_at, only_part, base_rule, expression_rule, type_argument, argument_rule, in_parentheses}
+use Rattle.mdr_parse.specs.Front.{and_read, begun_at, first as first_read, front}
 use Rattle.mdr_parse.specs.Tails.{begins, behind_parenthesis, grouped, cast, if_free, cast_or_group, type_form}
 use Rattle.mdr_parse.proofs.Fronts.{first_of, first_none}
 use Rattle.mdr_parse.proofs.Arms.{read_again}

@@ -1,15 +1,15 @@
 -- Postfix operators.
-use Rattle.std.proofs.Common.{◌≡◌, refl, sym, ap, ◌∙◌, ℕ, ◌+◌, suc, Bool, true, false, ◌&&◌, List, [], ◌∷◌, Option, Some, None, Ok}
+use Rattle.std.proofs.Common.{◌≡◌, refl, sym, ap, ◌∙◌, ℕ, ◌+◌, suc, Bool, true, false, ◌&&◌, List, [], ◌∷◌, Some, None, Ok}
 use Rattle.mdr_core.specs.declared.place.Place.{Place}
 use Rattle.mdr_syntax.specs.declared.token.Token.{Token}
 use Rattle.mdr_syntax.specs.declared.tree.Form.{Form}
 use Rattle.mdr_parse.specs.declared.tails.Tail.{Tail}
 use Rattle.mdr_parse.specs.declared.tails.Tail.TheVariants as tail
 use Rattle.mdr_parse.specs.Sorts.{Sort, sort_of}
-use Rattle.mdr_parse.specs.Forms.{Operand, Right, ◌>>=◌, form, Rule}
+use Rattle.mdr_parse.specs.Forms.{Operand, Right, ◌>>=◌, form}
 use Rattle.mdr_parse.specs.Forms.Nonterminal.{postfix}
-use Rattle.mdr_parse.specs.Forms.Rule.{never, given}
-use Rattle.mdr_parse.specs.Expressions.{height, is_level_free, may_open, postfix_rule}
+use Rattle.mdr_parse.specs.Forms.Rule.{given}
+use Rattle.mdr_parse.specs.Expressions.{height, is_level_free, postfix_rule}
 use Rattle.mdr_parse.specs.Front.{Read, and_read, begun_at, first as first_read, front}
 use Rattle.mdr_parse.specs.Tails.{tail_at, tail_fits, longer}
 use Rattle.mdr_parse.proofs.Fronts.{first_of, first_none}

@@ -5,8 +5,7 @@ use Rattle.mdr_syntax.specs.declared.tree.Form.{Form}
 use Rattle.mdr_parse.specs.Sorts.{Sort, sort_of}
 use Rattle.mdr_parse.specs.Forms.{Right, ◌>>=◌, form}
 use Rattle.mdr_parse.specs.Forms.Nonterminal.{operators}
-use Rattle.mdr_parse.specs.Forms.Right.{gives, then}
-use Rattle.mdr_parse.specs.Forms.Rule.{never, given}
+use Rattle.mdr_parse.specs.Forms.Rule.{given}
 use Rattle.mdr_parse.specs.Expressions.{may_sink, precedence_of, operators_from, of_precedence, tighter, binary}
 use Rattle.mdr_parse.specs.Front.{Read, and_read, begun_at, first, front}
 use Rattle.mdr_parse.proofs.Fronts.{first_of, first_none}
@@ -66,7 +65,7 @@ outside halves above most l d f {ts = ts} {rest = rest} {t = t} {s = s} q at e h
 
 own : (halves : Bool) (k low l d : ℕ) (f : Form) (t : Token) (ts : List Token) → precedence_of (sort_of halves t.what) ≡ low + k → low + k < 12 → may_sink l f ≡ true → front halves (operators_from (suc k) low l d f) (t ∷ ts) ≡ and_read (front halves (tighter (low + k) (l + 1) d) ts) (λ g rest. front halves (operators_from (suc k) low l d (binary f t g)) rest)
 own halves k low l d f t ts e small free =
-  ap (λ o. and_read o after) (first_of halves (operators (low + k) l d f) t ts ∙ by_test (nat_eq (precedence_of (sort_of halves t.what)) (low + k) && nat_lt (low + k) 12) (and_true _ _ (same _ _ e) (below _ _ small)) ∙ bind halves (tighter (low + k) (l + 1) d) (λ g. form (operators (low + k) l d (binary f t g))) ts) ∙ and_and (front halves (tighter (low + k) (l + 1) d) ts) (λ g rest. front halves (form (operators (low + k) l d (binary f t g))) rest) after ∙ and_same (front halves (tighter (low + k) (l + 1) d) ts) _ _ (λ g rest. ap (λ o. and_read o after) (read_again (first halves (operators (low + k) l d (binary f t g)) rest)))
+    ap (λ o. and_read o after) (first_of halves (operators (low + k) l d f) t ts ∙ by_test (nat_eq (precedence_of (sort_of halves t.what)) (low + k) && nat_lt (low + k) 12) (and_true _ _ (same _ _ e) (below _ _ small)) ∙ bind halves (tighter (low + k) (l + 1) d) (λ g. form (operators (low + k) l d (binary f t g))) ts) ∙ and_and (front halves (tighter (low + k) (l + 1) d) ts) (λ g rest. front halves (form (operators (low + k) l d (binary f t g))) rest) after ∙ and_same (front halves (tighter (low + k) (l + 1) d) ts) _ _ (λ g rest. ap (λ o. and_read o after) (read_again (first halves (operators (low + k) l d (binary f t g)) rest)))
   where
     after : Form → List Token → Read Form
     after g rest = front halves (operators_from k low l d g) rest
@@ -87,7 +86,7 @@ core (suc extra) (suc m) halves k low l d f t ts e p small free = ap (λ o. and_
 -- an operator of these precedences
 pub operated : (halves : Bool) (above most l d : ℕ) (f : Form) (ts rest : List Token) (t : Token) (q : ℕ) → ts ≡ t ∷ rest → q ≡ precedence_of (sort_of halves t.what) → above < q → q ≤ most → most ≤ 11 → may_sink l f ≡ true → front halves (operators_from (most - above) (suc above) l d f) ts ≡ and_read (front halves (tighter q (l + 1) d) rest) (λ g after. front halves (operators_from (q - above) (suc above) l d (binary f t g)) after)
 operated halves above most l d f ts rest t q e p low few small free =
-  let k : ℕ = q - suc above in
-  let is : suc above + k ≡ q = omega (arith, low) in
-  let more : suc k ≡ q - above = omega (arith, low) in
-  ap (λ us. front halves (operators_from (most - above) (suc above) l d f) us) e ∙ core (most - q) (most - above) halves k (suc above) l d f t rest (omega (arith, low, few)) (sym p ∙ sym is) (omega (arith, is, few, small)) free ∙ ap (λ x. and_read (front halves (tighter x (l + 1) d) rest) (λ g after. front halves (operators_from (suc k) (suc above) l d (binary f t g)) after)) is ∙ ap (λ x. and_read (front halves (tighter q (l + 1) d) rest) (λ g after. front halves (operators_from x (suc above) l d (binary f t g)) after)) more
+    let k : ℕ = q - suc above in
+    let is : suc above + k ≡ q = omega (arith, low) in
+    let more : suc k ≡ q - above = omega (arith, low) in
+    ap (λ us. front halves (operators_from (most - above) (suc above) l d f) us) e ∙ core (most - q) (most - above) halves k (suc above) l d f t rest (omega (arith, low, few)) (sym p ∙ sym is) (omega (arith, is, few, small)) free ∙ ap (λ x. and_read (front halves (tighter x (l + 1) d) rest) (λ g after. front halves (operators_from (suc k) (suc above) l d (binary f t g)) after)) is ∙ ap (λ x. and_read (front halves (tighter q (l + 1) d) rest) (λ g after. front halves (operators_from x (suc above) l d (binary f t g)) after)) more

@@ -1,17 +1,14 @@
 -- Reading one part, and then what follows it.
-use Rattle.std.proofs.Common.{◌≡◌, refl, sym, subst, ap, ◌∙◌, ℕ, Bool, true, false, ◌&&◌, List, [], ◌∷◌, length, Option, Some, None, Result, Ok, Err}
+use Rattle.std.proofs.Common.{◌≡◌, refl, sym, ap, ◌∙◌, Bool, true, false, List, [], ◌∷◌, Ok, Err}
 use Rattle.mdr_syntax.specs.declared.token.Token.{Token}
-use Rattle.mdr_parse.specs.declared.error.Failure.{Failure}
-use Rattle.mdr_parse.specs.Sorts.{Sort, is, sort_of}
+use Rattle.mdr_parse.specs.Sorts.{Sort, sort_of}
 use Rattle.mdr_parse.specs.Forms.{Nonterminal, Value, Right, ◌>>=◌, Rule, Empty, and_then}
 use Rattle.mdr_parse.specs.Forms.Right.{gives, takes, then}
 use Rattle.mdr_parse.specs.Forms.Rule.{never, given}
-use Rattle.mdr_parse.specs.Forms.Empty.{cannot, may}
+use Rattle.mdr_parse.specs.Forms.Empty.{cannot}
 use Rattle.mdr_parse.specs.Grammar.{rule, empty}
-use Rattle.mdr_parse.specs.Front.{Read, and_read, found, word_at, nothing_at, begun_at, first, front}
-use Rattle.mdr_parse.specs.Gives.{Gives}
+use Rattle.mdr_parse.specs.Front.{Read, and_read, word_at, nothing_at, begun_at, first, front}
 use Rattle.mdr_parse.proofs.Fronts.{first_of, first_none}
-use Rattle.mdr_parse.proofs.Hungry.{opens}
 
 pub and_and : {A B C : Type 0} (o : Read A) (f : A → List Token → Read B) (g : B → List Token → Read C) → and_read (and_read o f) g ≡ and_read o (λ v rest. and_read (f v rest) g)
 and_and (Ok x) f g = refl
@@ -43,4 +40,4 @@ through halves n m k (t ∷ ts) e e' h = first_of halves n t ts ∙ ap (λ o. be
 -- the same at one first token, whose rule it is there
 pub through_at : (halves : Bool) (n m : Nonterminal) (k : Value m → Right (Value n)) {ts rest : List Token} {t : Token} {s : Sort} → (ts ≡ t ∷ rest) × (s ≡ sort_of halves t.what) → empty n ≡ cannot → empty m ≡ cannot → rule n s t ≡ and_then (rule m s t) k → first halves n ts ≡ and_read (first halves m ts) (λ x rest. front halves (k x) rest)
 through_at halves n m k {ts = ts} {rest = rest} {t = t} {s = s} at e e' h =
-  ap (λ us. first halves n us) at.0 ∙ first_of halves n t rest ∙ ap (λ o. begun_at o (λ r. front halves r rest) (nothing_at (empty n) (t ∷ rest))) (ap (λ x. rule n x t) (sym at.1) ∙ h ∙ ap (λ x. and_then (rule m x t) k) at.1) ∙ begun_then halves (rule m (sort_of halves t.what) t) k rest _ _ (nothing_then halves (empty n) (empty m) k (t ∷ rest) e e') ∙ ap (λ o. and_read o (λ x rest. front halves (k x) rest)) (sym (first_of halves m t rest)) ∙ ap (λ us. and_read (first halves m us) (λ x rest. front halves (k x) rest)) (sym at.0)
+    ap (λ us. first halves n us) at.0 ∙ first_of halves n t rest ∙ ap (λ o. begun_at o (λ r. front halves r rest) (nothing_at (empty n) (t ∷ rest))) (ap (λ x. rule n x t) (sym at.1) ∙ h ∙ ap (λ x. and_then (rule m x t) k) at.1) ∙ begun_then halves (rule m (sort_of halves t.what) t) k rest _ _ (nothing_then halves (empty n) (empty m) k (t ∷ rest) e e') ∙ ap (λ o. and_read o (λ x rest. front halves (k x) rest)) (sym (first_of halves m t rest)) ∙ ap (λ us. and_read (first halves m us) (λ x rest. front halves (k x) rest)) (sym at.0)

@@ -1,5 +1,5 @@
 -- Texts behind `KERN_` words.
-use Rattle.std.proofs.Common.{◌≡◌, refl, sym, ap, ◌∙◌, ℕ, Bool, true, false, List, [], ◌∷◌, length, Option, Some, None, Result, Ok, Err}
+use Rattle.std.proofs.Common.{◌≡◌, refl, sym, ap, ◌∙◌, ℕ, Bool, true, false, List, [], ◌∷◌, length, Some, Ok, Err}
 use Rattle.mdr_core.specs.declared.kind.Kind.{Kind}
 use Rattle.mdr_core.specs.declared.kind.Kind.TheVariants.{U8, U16, U32, U64, S8, S16, S32, S64}
 use Rattle.mdr_syntax.specs.declared.token.Token.{Token}
@@ -15,7 +15,7 @@ use Rattle.mdr_parse.specs.Tails.{last_text, text_or_none, text_or_kept}
 use Rattle.mdr_parse.proofs.Hungry.{opens}
 use Rattle.mdr_parse.proofs.Cuts.{word_is}
 use Rattle.mdr_parse.proofs.Fronts.{first_of, first_none}
-use Rattle.mdr_parse.proofs.Arms.{goes, refused, none, at_end, past, not_word, read_again}
+use Rattle.mdr_parse.proofs.Arms.{goes, refused, none, past, not_word, read_again}
 use Rattle.mdr_parse.proofs.Through.{and_and}
 
 -- a further `KERN_` word

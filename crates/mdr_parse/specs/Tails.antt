@@ -1,13 +1,13 @@
 -- What stands behind the first tokens of expressions.
-use Rattle.std.specs.Prelude.{ℕ, suc, ◌+◌, ◌-◌, ◌<◌, ◌≤◌, ◌≡◌, Bool, true, false, not, ◌&&◌, List, [], ◌∷◌, length, map, Option, Some, None, Result, Ok, Err}
+use Rattle.std.specs.Prelude.{ℕ, suc, ◌+◌, ◌-◌, ◌<◌, ◌≤◌, ◌≡◌, Bool, true, false, not, List, [], ◌∷◌, ◌++◌, length, map, Option, Some, None, Result, Ok, Err}
 use Rattle.mdr_core.specs.declared.place.Place.{Place}
 use Rattle.mdr_syntax.specs.declared.token.Token.{Token}
 use Rattle.mdr_syntax.specs.declared.tree.Form.{Form}
 use Rattle.mdr_syntax.specs.declared.tree.FormWhat
 use Rattle.mdr_parse.specs.Sorts.{Sort, sort_of, is_level}
-use Rattle.mdr_parse.specs.Forms.{Operand, Specifier, Right, ◌>>=◌, take, form, one, Rule}
+use Rattle.mdr_parse.specs.Forms.{Operand, Right, ◌>>=◌, take, form, one, Rule}
 use Rattle.mdr_parse.specs.Forms.Part.{expression, operand, argument, base}
-use Rattle.mdr_parse.specs.Forms.Nonterminal.{commas, postfix, opened, arguments, stars, text_after}
+use Rattle.mdr_parse.specs.Forms.Nonterminal.{part, commas, postfix, opened, arguments, stars, text_after}
 use Rattle.mdr_parse.specs.Forms.Separated.{arguments_at}
 use Rattle.mdr_parse.specs.Forms.Right.{gives}
 use Rattle.mdr_parse.specs.Forms.Rule.{never, given}
@@ -23,6 +23,15 @@ use Rattle.mdr_parse.specs.declared.tails.Tail.TheVariants as tail
 abbrev pub begins : {A : Type 0} → Rule A → Bool
 begins never = false
 begins (given allowed r) = true
+
+-- the operators that stand before an operand, but for `++` and `--`
+abbrev pub is_before : Sort → Bool
+is_before Sort.Minus = true
+is_before Sort.Plus = true
+is_before Sort.And = true
+is_before Sort.Star = true
+is_before Sort.Not = true
+is_before _ = false
 
 -- behind an operator that stands before its operand
 abbrev pub operator_behind : (is_step : Bool) (l d : ℕ) → Token → Right Operand
@@ -45,12 +54,10 @@ listed_arguments l d = do
   close ← take Sort.Close
   gives args
 
--- what is left of arguments behind one
-abbrev pub more_arguments : (l d : ℕ) → List Form → Right (List Form)
-more_arguments l d so_far = do
-  args ← form (commas (arguments_at l d) so_far)
-  close ← take Sort.Close
-  gives args
+-- a further argument behind a comma, or none
+abbrev pub Further : {X : Type 0} → (halves : Bool) → (X → List Token) → Option X → List Token → Type 0
+Further halves rest (Some x) ts = (l d : ℕ) (so_far : List Form) → first_read halves (commas (arguments_at l d) so_far) ts ≡ and_read (first_read halves (part (argument l d)) (rest x)) (λ f after. first_read halves (commas (arguments_at l d) (so_far ++ (f ∷ []))) after)
+Further halves rest None ts = (l d : ℕ) (so_far : List Form) → first_read halves (commas (arguments_at l d) so_far) ts ≡ Ok (so_far, ts)
 
 -- what is left of a text and the `KERN_` words before it
 abbrev pub last_text : Right Form

@@ -2,7 +2,8 @@
 
 ghost use Rattle.std.specs.Prelude.{◌≡◌, ◌<◌, ◌≤◌, ◌+◌, length, suc, IfOk};
 ghost use Rattle.mdr_parse.specs.Forms.Part.{argument as an_argument};
-ghost use Rattle.mdr_parse.specs.Forms.Nonterminal.{part};
+ghost use Rattle.mdr_parse.specs.Forms.Nonterminal.{part, commas};
+ghost use Rattle.mdr_parse.specs.Forms.Separated.{arguments_at};
 ghost use Rattle.mdr_parse.specs.Front.{first as first_read, front};
 ghost use Rattle.mdr_parse.specs.Sorts.{is_level};
 ghost use Rattle.mdr_parse.specs.Expressions.{text_of as text_in, word_argument};
@@ -10,13 +11,13 @@ ghost use Rattle.mdr_parse.specs.Tails.{called, closed_arguments as closed, list
 ghost use Rattle.mdr_parse.specs.Gives.{Gives, operand_of, IsMeasured};
 
 use crate::error::Failure;
-use crate::forms::{call_part, name_part, no_arguments, text_part, with_argument};
+use crate::forms::{call_part, name_part, no_arguments, one_argument, text_part, with_argument};
 use crate::look::{Reader, past, split, take};
 use crate::operators::{choice, expression, operators};
 use crate::parts::{Arguments, Part};
 use crate::postfix::postfix;
 use crate::sort::Sort;
-use crate::tails::begins_type;
+use crate::tails::{begins_type, past_comma};
 use crate::words::{dropped, type_argument};
 use mdr_core::Place;
 use mdr_syntax::Token;
@@ -76,15 +77,41 @@ fn listed_arguments(
     ensures shorter { IfOk result (λ x. length x.1.now ≤ length tokens.now) }
     ensures measured { IfOk result (λ x. AreMeasured x.0 level) }
 {
-    let (first, after) = argument(reader, tokens, level, depth)?;
-    let mut so_far = with_argument(no_arguments(reader), first)?;
-    let mut rest = after;
-    while let Some((_, behind)) = past(reader.halves, Sort::Comma, rest) {
+    let (first, rest) = argument(reader, tokens, level, depth)?;
+    let (arguments, rest) = more_arguments(
+        reader,
+        rest,
+        one_argument(reader, first)?,
+        level,
+        depth,
+    )?;
+    let (_, rest) = take(reader.halves, Sort::Close, rest)?;
+    Ok((arguments, rest))
+}
+
+/// Arguments so far, and the further ones behind them, each behind a comma.
+#[cycle(expression)]
+fn more_arguments(
+    reader: Reader,
+    tokens: &[Token],
+    arguments: Arguments,
+    level: u32,
+    depth: u32,
+) -> Result<(Arguments, &[Token]), Failure>
+    requires low { level ≤ 256 }
+    requires inside { depth ≤ 512 }
+    requires measured { AreMeasured arguments level }
+    ensures reads { Gives (λ x. x.0.forms) (λ x. x.1.now) result (first_read reader.halves (commas (arguments_at level depth) arguments.forms) tokens.now) }
+    ensures shorter { IfOk result (λ x. length x.1.now ≤ length tokens.now) }
+    ensures measured { IfOk result (λ x. AreMeasured x.0 level) }
+{
+    let mut so_far = arguments;
+    let mut rest = tokens;
+    while let Some(behind) = past_comma(reader.halves, rest) {
         let (next, after) = argument(reader, behind, level, depth)?;
         so_far = with_argument(so_far, next)?;
         rest = after;
     }
-    let (_, rest) = take(reader.halves, Sort::Close, rest)?;
     Ok((so_far, rest))
 }
 

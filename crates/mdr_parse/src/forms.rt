@@ -286,6 +286,16 @@ pub fn with_argument(arguments: Arguments, part: Part) -> Result<Arguments, Fail
     Ok(Arguments { forms, highest })
 }
 
+/// One argument.
+pub fn one_argument(reader: Reader, part: Part) -> Result<Arguments, Failure>
+    requires low { part.height ≤ 256 }
+    ensures value { IfOk result (λ a. a.forms ≡ part.form ∷ []) }
+    ensures measured { part.height ≡ height part.form → IfOk result (λ a. (a.highest ≡ highest (map height a.forms)) × (a.highest ≡ suc part.height)) }
+    ensures memory { IfErr result (λ e. e ≡ Memory) }
+{
+    with_argument(no_arguments(reader), part)
+}
+
 /// A call of a form with arguments.
 #[tactic(auto, unfolding(crate::specs::Expressions::height))]
 pub fn call_part(

@@ -16,7 +16,7 @@ use crate::operators::expression;
 use crate::parts::Part;
 use crate::postfix::postfix;
 use crate::sort::Sort;
-use crate::tails::{begins_cast, is_call_free};
+use crate::tails::{begins_cast, is_call_free, is_prefix};
 use crate::types::base;
 use mdr_core::Place;
 use mdr_syntax::Token;
@@ -40,7 +40,14 @@ pub fn operand(
         return Err(Failure::Fault(tokens.len()));
     };
     match sort {
-        Sort::Name => postfix(reader, rest, token.place, name_part(reader, token)?, level, depth),
+        Sort::Name => postfix(
+            reader,
+            rest,
+            token.place,
+            name_part(reader, token)?,
+            level,
+            depth,
+        ),
         Sort::Number => postfix(reader, rest, token.place, number_part(token), level, depth),
         Sort::Null => postfix(reader, rest, token.place, null_part(token), level, depth),
         Sort::Service => {
@@ -57,13 +64,6 @@ pub fn operand(
                 Err(Failure::Fault(tokens.len()))
             }
         }
-        Sort::Minus | Sort::Plus | Sort::And | Sort::Star | Sort::Not => {
-            if is_level_free(level + 1) {
-                operator_behind(reader, token, rest, false, level, depth)
-            } else {
-                Err(Failure::Fault(tokens.len()))
-            }
-        }
         Sort::Step => {
             if is_level_free(level + 1) {
                 operator_behind(reader, token, rest, true, level, depth)
@@ -71,7 +71,17 @@ pub fn operand(
                 Err(Failure::Fault(tokens.len()))
             }
         }
-        _ => Err(Failure::Fault(tokens.len())),
+        _ => {
+            if is_prefix(sort) {
+                if is_level_free(level + 1) {
+                    operator_behind(reader, token, rest, false, level, depth)
+                } else {
+                    Err(Failure::Fault(tokens.len()))
+                }
+            } else {
+                Err(Failure::Fault(tokens.len()))
+            }
+        }
     }
 }
 
@@ -160,7 +170,18 @@ fn grouped(
 {
     let (x, rest) = expression(reader, tokens, level, depth + 1)?;
     let (_, rest) = take(reader.halves, Sort::Close, rest)?;
-    postfix(reader, rest, first, Part { form: x.form, alone: false, height: x.height }, level, depth)
+    postfix(
+        reader,
+        rest,
+        first,
+        Part {
+            form: x.form,
+            alone: false,
+            height: x.height,
+        },
+        level,
+        depth,
+    )
 }
 
 /// A type, the `)` behind it and the operand that is cast.

@@ -77,13 +77,14 @@ pub fn operators(
     let mut most = 11;
     let mut rest = tokens;
     while let Some((precedence, token, behind)) = next_operator(reader.halves, rest, above, most) {
-        if !may_sink(level, so_far.height) {
+        if may_sink(level, so_far.height) {
+            let (right, after) = tighter(reader, behind, precedence, level + 1, depth)?;
+            so_far = binary_part(reader, token, so_far, right)?;
+            most = precedence;
+            rest = after;
+        } else {
             return Ok((so_far, rest));
         }
-        let (right, after) = tighter(reader, behind, precedence, level + 1, depth)?;
-        so_far = binary_part(reader, token, so_far, right)?;
-        most = precedence;
-        rest = after;
     }
     Ok((so_far, rest))
 }

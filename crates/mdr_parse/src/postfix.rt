@@ -36,7 +36,13 @@ pub fn postfix(
 {
     let mut so_far = part;
     let mut rest = tokens;
-    while let Some((tail, token, behind)) = next_tail(reader.halves, rest, level, depth, so_far.height) {
+    while let Some((tail, token, behind)) = next_tail(
+        reader.halves,
+        rest,
+        level,
+        depth,
+        so_far.height,
+    ) {
         let (made, after) = longer(reader, token, behind, first, so_far, tail, level, depth)?;
         so_far = made;
         rest = after;

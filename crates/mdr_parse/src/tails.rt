@@ -6,9 +6,9 @@ ghost use Rattle.mdr_core.specs.declared.place.Place.{Place as place};
 ghost use Rattle.mdr_parse.specs.Front.{front};
 ghost use Rattle.mdr_parse.specs.Sorts.{is_level as is_a_level};
 ghost use Rattle.mdr_parse.specs.Expressions.{is_level_free as is_free, may_open as may_be_open, precedence_of as precedence_in, base_rule};
-ghost use Rattle.mdr_parse.specs.Tails.{begins, behind_parenthesis, cast_or_group, tail_at, tail_fits, Tailed, Operated};
+ghost use Rattle.mdr_parse.specs.Tails.{begins, behind_parenthesis, cast_or_group, is_before, tail_at, tail_fits, Tailed, Operated, Further};
 
-use crate::look::{is_level_free, may_open, split};
+use crate::look::{is_level_free, may_open, past, split};
 use crate::sort::Sort;
 use mdr_syntax::Token;
 
@@ -163,6 +163,16 @@ pub fn begins_type(sort: Sort) -> bool
     }
 }
 
+/// Whether an operator may stand before its operand, but for `++` and `--`.
+pub fn is_prefix(sort: Sort) -> bool
+    ensures { result ≡ is_before sort }
+{
+    match sort {
+        Sort::Minus | Sort::Plus | Sort::And | Sort::Star | Sort::Not => true,
+        _ => false,
+    }
+}
+
 /// Whether a cast begins behind a `(`, where casts may stand.
 pub fn begins_cast(halves: bool, casts: bool, tokens: &[Token]) -> bool
     ensures { (l d : ℕ) (first : place) → front halves (behind_parenthesis casts l d first) tokens.now ≡ cast_or_group result halves l d first tokens.now }
@@ -170,6 +180,17 @@ pub fn begins_cast(halves: bool, casts: bool, tokens: &[Token]) -> bool
     match split(halves, tokens) {
         Some((sort, _, _)) => casts && begins_type(sort),
         None => false,
+    }
+}
+
+/// What stands behind the comma before a further argument.
+pub fn past_comma(halves: bool, tokens: &[Token]) -> Option<&[Token]>
+    ensures found { Further halves (λ x. x.now) result tokens.now }
+    ensures shorter { IfSome result (λ x. length x.now < length tokens.now) }
+{
+    match past(halves, Sort::Comma, tokens) {
+        Some((_, rest)) => Some(rest),
+        None => None,
     }
 }
 

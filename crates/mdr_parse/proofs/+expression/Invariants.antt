@@ -1,11 +1,11 @@
 -- The measures of expressions, and the invariants of their loops.
-use Rattle.std.proofs.Common.{◌≡◌, ◌≤◌, ◌+◌, ◌*◌, ◌-◌, suc, length, map}
+use Rattle.std.proofs.Common.{◌≡◌, ◌≤◌, ◌+◌, ◌*◌, ◌-◌, suc, length}
 use Rattle.mdr_parse.specs.Forms.Nonterminal.{postfix, commas}
 use Rattle.mdr_parse.specs.Forms.Separated.{arguments_at}
-use Rattle.mdr_parse.specs.Expressions.{operators_from, height, highest}
+use Rattle.mdr_parse.specs.Expressions.{operators_from}
 use Rattle.mdr_parse.specs.Front.{first, front}
 use Rattle.mdr_parse.specs.Gives.{IsMeasured}
-use Rattle.mdr_parse.specs.Tails.{AreMeasured, more_arguments}
+use Rattle.mdr_parse.specs.Tails.{AreMeasured}
 use Rattle.mdr_parse.proofs.+expression.Given as goal
 
 abbrev pub decreases-operands::operand : goal.decreases-operands::operand
@@ -65,15 +65,18 @@ decreases-arguments::argument l = 8 * length l.tokens.now + 3
 abbrev pub decreases-arguments::word : goal.decreases-arguments::word
 decreases-arguments::word l = 8 * length l.tokens.now + 1
 
-abbrev pub invariant-arguments::listed_arguments-loop-behind : goal.invariant-arguments::listed_arguments-loop-behind
-invariant-arguments::listed_arguments-loop-behind l = record {
-  read : front l.reader.halves (more_arguments l.level l.depth l.so_far.forms) l.rest ≡ front l.reader.halves (more_arguments l.level l.depth l.initial.so_far.forms) l.initial.rest;
+abbrev pub decreases-arguments::more_arguments : goal.decreases-arguments::more_arguments
+decreases-arguments::more_arguments l = 8 * length l.tokens.now
+
+abbrev pub invariant-arguments::more_arguments-loop-behind : goal.invariant-arguments::more_arguments-loop-behind
+invariant-arguments::more_arguments-loop-behind l = record {
+  read : first l.reader.halves (commas (arguments_at l.level l.depth) l.so_far.forms) l.rest ≡ first l.fn.reader.halves (commas (arguments_at l.fn.level l.fn.depth) l.fn.arguments.forms) l.fn.tokens;
   measured : AreMeasured l.so_far l.level;
-  shorter : length l.rest ≤ length l.initial.rest;
+  shorter : length l.rest ≤ length l.fn.tokens;
 }
 
-abbrev pub decreases-arguments::listed_arguments-loop-behind : goal.decreases-arguments::listed_arguments-loop-behind
-decreases-arguments::listed_arguments-loop-behind l = length l.rest
+abbrev pub decreases-arguments::more_arguments-loop-behind : goal.decreases-arguments::more_arguments-loop-behind
+decreases-arguments::more_arguments-loop-behind l = length l.rest
 
 abbrev pub invariant-operators::operators-loop-precedence : goal.invariant-operators::operators-loop-precedence
 invariant-operators::operators-loop-precedence l = record {

@@ -1,4 +1,4 @@
-use Rattle.std.proofs.Common.{sym, ap, ◌∙◌}
+use Rattle.std.proofs.Common.{ap, ◌∙◌}
 use Rattle.mdr_parse.specs.Front.{front}
 use Rattle.mdr_parse.specs.Tails.{behind_parenthesis}
 use Rattle.mdr_parse.proofs.Casting.{opens_with, opens_nothing}

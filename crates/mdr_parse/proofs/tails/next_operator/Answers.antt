@@ -1,4 +1,4 @@
-use Rattle.std.proofs.Common.{◌-◌, ◌∙◌, ◌<◌, ◌≤◌, ◌⊎◌, inl, inr, ℕ, arith}
+use Rattle.std.proofs.Common.{◌-◌, ◌<◌, ◌≤◌, ◌⊎◌, inl, inr, ℕ, arith}
 use Rattle.mdr_parse.proofs.Operating.{ended, outside}
 use Rattle.mdr_parse.proofs.tails.next_operator.Goals as goal
 
