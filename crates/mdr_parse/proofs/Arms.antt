@@ -39,7 +39,7 @@ at_end halves n e = ap (λ us. first halves n us) e ∙ first_none halves n ∙ 
 pub past : (halves : Bool) (n : Nonterminal) (s : Sort) (ts : List Token) {rest : List Token} {t : Token} {b : Bool} {r : Right (Value n)} → word_at halves s ts ≡ Ok (t, rest) → b ≡ true → rule n s t ≡ given b r → first halves n ts ≡ front halves r rest
 past halves n s ts {rest = rest} {t = t} e q h = let w = word_is halves s ts rest t e in goes halves n s (w.0, refl) (is_same s (sort_of halves t.what) w.1) q h
 
-not_word : (halves : Bool) (s : Sort) (t : Token) (ts : List Token) → word_at halves s (t ∷ ts) ≡ Err (length (t ∷ ts)) → is s (sort_of halves t.what) ≡ false
+pub not_word : (halves : Bool) (s : Sort) (t : Token) (ts : List Token) → word_at halves s (t ∷ ts) ≡ Err (length (t ∷ ts)) → is s (sort_of halves t.what) ≡ false
 unfolding word_at
 not_word halves s t ts e = by_test (is s (sort_of halves t.what)) e
   where

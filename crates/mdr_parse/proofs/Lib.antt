@@ -17,5 +17,11 @@ mod Fronts
 mod Admitting
 mod Numbered
 mod Arms
+mod Through
+mod Operating
+mod Extending
+mod Wording
+mod Casting
+mod Expressing
 mod Nones
 mod Loops
