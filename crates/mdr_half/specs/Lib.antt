@@ -1,0 +1,3 @@
+pub mod Plans
+pub mod Halves
+pub mod Joins

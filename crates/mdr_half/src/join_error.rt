@@ -1,0 +1,34 @@
+// Why two trees aren't the halves of one.
+
+ghost use Rattle.std.specs.Prelude.{◌≡◌};
+ghost use Rattle.mdr_half.specs.declared.join_error.JoinError.TheVariants.{OutOfMemory};
+
+use std::alloc::{AllocError, AllocFailed};
+use thiserror::Error;
+
+/// Why two trees aren't the halves of one.
+#[derive(Clone, Copy, Debug, PartialEq, Eq, Error)]
+pub enum JoinError {
+    /// The line of the first item of the user half's tree that doesn't fit, or of its last where only the kernel
+    /// half's goes on.
+    #[error("the halves differ")]
+    Differ(u32),
+    #[error("out of memory")]
+    OutOfMemory,
+}
+
+impl From<AllocError> for JoinError {
+    ghost from_gives = { λ _ e. e ≡ OutOfMemory };
+
+    fn from(_e: AllocError) -> JoinError {
+        JoinError::OutOfMemory
+    }
+}
+
+impl<T: Drop> From<AllocFailed<T>> for JoinError {
+    ghost from_gives = { λ _ e. e ≡ OutOfMemory };
+
+    fn from(_e: AllocFailed<T>) -> JoinError {
+        JoinError::OutOfMemory
+    }
+}

@@ -1,0 +1,36 @@
+// What a text is put together from.
+
+ghost use Rattle.std.specs.Prelude.{◌≡◌, ◌++◌, OnOk, codes, decimal};
+ghost use Rattle.mdr_half.specs.Plans.{newline};
+
+use std::alloc::{AllocError, Global};
+
+/// Bytes as they are.
+pub fn put_bytes(out: &mut Vec<u8>, bytes: &[u8]) -> Result<(), AllocError>
+    ensures { OnOk result (out.new.items ≡ out.old.items ++ bytes.now) }
+{
+    out.extend_from_slice(bytes)
+}
+
+/// A word as it is.
+pub fn put_word(out: &mut Vec<u8>, word: &str) -> Result<(), AllocError>
+    ensures { OnOk result (out.new.items ≡ out.old.items ++ word.now) }
+{
+    put_bytes(out, word.as_bytes())
+}
+
+/// A number in decimal digits.
+pub fn put_number(alloc: Global, out: &mut Vec<u8>, n: u64) -> Result<(), AllocError>
+    ensures { OnOk result (out.new.items ≡ out.old.items ++ decimal n) }
+{
+    let digits = n.to_string(alloc)?;
+    put_word(out, digits.as_str())
+}
+
+/// The end of a line.
+pub fn put_newline(out: &mut Vec<u8>) -> Result<(), AllocError>
+    ensures { OnOk result (out.new.items ≡ out.old.items ++ newline) }
+{
+    out.push(b'\n')?;
+    Ok(())
+}
