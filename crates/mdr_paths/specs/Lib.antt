@@ -1,0 +1,4 @@
+pub mod Laws
+pub mod Marking
+pub mod Numbers
+pub mod Paths
