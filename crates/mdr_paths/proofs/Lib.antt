@@ -3,3 +3,4 @@ pub mod NodeLists
 pub mod PathLaws
 pub mod ReachLaws
 pub mod Tables
+pub mod Told

@@ -1,6 +1,6 @@
 -- Laws of marks and a worklist.
-use Rattle.std.proofs.Common.{◌≡◌, ℕ, zero, suc, ◌+◌, ◌<◌, ◌≤◌, Bool, true, false, cond, not, ◌&&◌, ◌||◌, ◌⊎◌, inl, inr, List, [], ◌∷◌, ◌++◌, length, get_or, set, map, replicate, refl, sym, ◌∙◌, ap, subst, arith, eqb, nat_lt, length-append, length-set, get_or-set_same, get_or-set_other}
-use Rattle.std.specs.List.{range_with_len}
+use Rattle.std.proofs.Common.{◌≡◌, ℕ, zero, suc, ◌+◌, ◌-◌, ◌<◌, ◌≤◌, Bool, true, false, cond, not, ◌&&◌, ◌||◌, ◌⊎◌, inl, inr, List, [], ◌∷◌, ◌++◌, length, get_or, set, map, replicate, refl, sym, ◌∙◌, ap, subst, append_assoc, arith, eqb, nat_lt, length-append, length-set, get_or-set_same, get_or-set_other}
+use Rattle.std.specs.List.{range_with_len, filter}
 use Rattle.std.proofs.lemmas.Bool.{both_ways, and_parts, or_cases, or_left, or_right, eqb-true, eq-eqb}
 use Rattle.std.proofs.lemmas.Bool.Decides.{nat_tests}
 use Rattle.std.proofs.lemmas.List.{length-map}
@@ -8,7 +8,7 @@ use Rattle.std.proofs.Math.ListN.{length-replicate}
 use Rattle.std.proofs.lemmas.List.Sums.{sum_by-set}
 use Rattle.mdr_paths.specs.Paths.{is_in, counted, leads, Path, Rises}
 use Rattle.mdr_paths.specs.Numbers.{numbers, graph, marked, marks_of, AreReached}
-use Rattle.mdr_paths.specs.Marking.{is_new, marks_after, entered, unmarked_count, IsWork}
+use Rattle.mdr_paths.specs.Marking.{is_new, marks_after, entered, unmarked_count, IsWork, AreMarks}
 use Rattle.mdr_paths.proofs.NodeLists.{none_in, is_in-filter, is_in-head, is_in-tail, is_in-cases, in_both, rises-filter}
 use Rattle.mdr_paths.proofs.ReachLaws.{path_set_is, path_marked, work_ends}
 
@@ -30,18 +30,18 @@ from_range a (suc n) c low high = of (eqb c a) refl (from_range (a + 1) n c)
     of true e later = subst (λ x. is_in numbers (x ∷ range_with_len (a + 1) n) c ≡ true) (eqb-true c a e) (is_in-head numbers c (range_with_len (a + 1) n))
     of false e later = is_in-tail numbers a (range_with_len (a + 1) n) c (later (grind (arith, eq-eqb c a)) (omega arith))
 
-range_rises : (a n : ℕ) → Rises numbers (range_with_len a n)
+pub range_rises : (a n : ℕ) → Rises numbers (range_with_len a n)
 range_rises a zero = tt
 range_rises a (suc n) = (λ d h. let p = in_range (a + 1) n d h in omega (arith, p.0), range_rises (a + 1) n)
 
 -- ---- marks
 
-marked_inside : (marks : List Bool) (c : ℕ) → marked marks c ≡ true → c < length marks
+pub marked_inside : (marks : List Bool) (c : ℕ) → marked marks c ≡ true → c < length marks
 marked_inside [] c h = absurd (both_ways _ refl h)
 marked_inside (m ∷ marks) zero h = omega arith
 marked_inside (m ∷ marks) (suc c) h = omega (arith, marked_inside marks c h)
 
-in_marks : (marks : List Bool) (c : ℕ) → is_in numbers (marks_of marks) c ≡ marked marks c
+pub in_marks : (marks : List Bool) (c : ℕ) → is_in numbers (marks_of marks) c ≡ marked marks c
 unfolding marks_of
 in_marks marks c = is_in-filter numbers (marked marks) (range_with_len 0 (length marks)) c ∙ of (marked marks c) refl
   where
@@ -145,7 +145,7 @@ graph_rises : (edges : List (List ℕ)) → Rises numbers (graph edges).all
 unfolding graph
 graph_rises edges = range_rises 0 (length edges)
 
-marks_rise : (marks : List Bool) → Rises numbers (marks_of marks)
+pub marks_rise : (marks : List Bool) → Rises numbers (marks_of marks)
 unfolding marks_of
 marks_rise marks = rises-filter numbers (marked marks) (range_with_len 0 (length marks)) (range_rises 0 (length marks))
 
@@ -227,12 +227,12 @@ work_first edges roots marks size none = record {
         of (inl k) = absurd (both_ways _ (none c) k)
         of (inr k) = k
 
-none_marked : (n c : ℕ) → marked (replicate n false) c ≡ false
+pub none_marked : (n c : ℕ) → marked (replicate n false) c ≡ false
 none_marked zero c = refl
 none_marked (suc n) zero = refl
 none_marked (suc n) (suc c) = none_marked n c
 
-at_map : {A : Type 0} (f : A → List ℕ) (xs : List A) (i : ℕ) (v : A) → i < length xs → v ≡ get_or xs i v → get_or (map f xs) i [] ≡ f v
+pub at_map : {A : Type 0} (f : A → List ℕ) (xs : List A) (i : ℕ) (v : A) → i < length xs → v ≡ get_or xs i v → get_or (map f xs) i [] ≡ f v
 at_map f [] i v h e = absurd (omega arith)
 at_map f (x ∷ xs) zero v h e = ap f (sym e)
 at_map f (x ∷ xs) (suc i) v h e = at_map f xs i v (omega arith) e
@@ -273,3 +273,45 @@ work_done edges roots marks [] was none =
       paths = λ c. (λ h. set.sound c (in_marks marks c ∙ h), λ path. sym (in_marks marks c) ∙ path_marked (graph edges) roots (marks_of marks) set c path);
       nodes = path_set_is (graph edges) roots (marks_of marks) (graph_rises edges) (marks_rise marks) set;
     }
+
+pub marks_are : (n : ℕ) (nodes : List ℕ) (marks now : List Bool) → marks ≡ replicate n false → now ≡ marks_after marks nodes → AreMarks n nodes now
+marks_are n nodes marks now none is =
+    let size : length marks ≡ n = ap length none ∙ length-replicate n false in
+    let later : length now ≡ n = ap length is ∙ after_length nodes marks ∙ size in
+    record {
+      size = later;
+      each = λ c. (λ h. (new c (sym (ap (λ m. marked m c) is) ∙ h), omega (arith, marked_inside now c h, later)), λ h. ap (λ m. marked m c) is ∙ after_all nodes marks c h.0 (omega (arith, size, h.1)));
+    }
+  where
+    new : (c : ℕ) → marked (marks_after marks nodes) c ≡ true → is_in numbers nodes c ≡ true
+    new c h = of (or_cases _ _ (sym (after_marked nodes marks c) ∙ h))
+      where
+        of : (marked marks c ≡ true) ⊎ (is_in numbers (entered marks nodes) c ≡ true) → is_in numbers nodes c ≡ true
+        of (inl k) = absurd (both_ways _ (ap (λ m. marked m c) none ∙ none_marked n c) k)
+        of (inr k) = entered_from nodes marks c k
+
+-- the marked nodes from i on, of which i is one or not
+left_by : (marks : List Bool) (i : ℕ) (t : Bool) → i < length marks → marked marks i ≡ t
+    → filter (marked marks) (range_with_len i (length marks - i)) ≡ cond t (i ∷ []) [] ++ filter (marked marks) (range_with_len (i + 1) (length marks - (i + 1)))
+left_by marks i t inside e =
+    let n : length marks - i ≡ suc (length marks - (i + 1)) = omega arith in
+    ap (λ n. filter (marked marks) (range_with_len i n)) n ∙ of t e
+  where
+    of : (t : Bool) → marked marks i ≡ t → filter (marked marks) (range_with_len i (suc (length marks - (i + 1)))) ≡ cond t (i ∷ []) [] ++ filter (marked marks) (range_with_len (i + 1) (length marks - (i + 1)))
+    of true e = rw e refl
+    of false e = rw e refl
+
+pub push_left : (marks : List Bool) (i : ℕ) (nodes now all : List ℕ) → i < length marks → marked marks i ≡ true → now ≡ nodes ++ i ∷ []
+    → nodes ++ filter (marked marks) (range_with_len i (length marks - i)) ≡ all → now ++ filter (marked marks) (range_with_len (i + 1) (length marks - (i + 1))) ≡ all
+push_left marks i nodes now all inside e is h =
+    ap (λ xs. xs ++ filter (marked marks) (range_with_len (i + 1) (length marks - (i + 1)))) is
+    ∙ append_assoc nodes (i ∷ []) (filter (marked marks) (range_with_len (i + 1) (length marks - (i + 1))))
+    ∙ ap (λ xs. nodes ++ xs) (sym (left_by marks i true inside e))
+    ∙ h
+
+pub skip_left : (marks : List Bool) (i : ℕ) (nodes now all : List ℕ) → i < length marks → marked marks i ≡ false → now ≡ nodes
+    → nodes ++ filter (marked marks) (range_with_len i (length marks - i)) ≡ all → now ++ filter (marked marks) (range_with_len (i + 1) (length marks - (i + 1))) ≡ all
+skip_left marks i nodes now all inside e is h =
+    ap (λ xs. xs ++ filter (marked marks) (range_with_len (i + 1) (length marks - (i + 1)))) is
+    ∙ ap (λ xs. nodes ++ xs) (sym (left_by marks i false inside e))
+    ∙ h

@@ -1,7 +1,7 @@
 -- Entering nodes into marks and a worklist.
-use Rattle.std.specs.Prelude.{◌≡◌, ℕ, Bool, true, cond, not, ◌&&◌, nat_lt, List, [], ◌∷◌, ◌++◌, length, set}
+use Rattle.std.specs.Prelude.{◌≡◌, ◌↔◌, ◌⊎◌, ℕ, ◌<◌, Bool, true, cond, not, ◌&&◌, nat_lt, List, [], ◌∷◌, ◌++◌, length, set}
 use Rattle.std.specs.List.{sum_by}
-use Rattle.mdr_paths.specs.Paths.{is_in, IsPartial}
+use Rattle.mdr_paths.specs.Paths.{is_in, IsPartial, Rises}
 use Rattle.mdr_paths.specs.Numbers.{numbers, graph, marked, marks_of}
 
 -- a node that isn't marked yet
@@ -27,3 +27,28 @@ pub record IsWork (edges : List (List ℕ)) (roots : List ℕ) (marks : List Boo
   pub size : length marks ≡ length edges
   pub partial : IsPartial (graph edges) roots (marks_of marks) todo
   pub inside : (d : ℕ) → is_in numbers todo d ≡ true → marked marks d ≡ true
+
+-- the marks, of so many nodes, are those of the listed ones
+pub record AreMarks (count : ℕ) (nodes : List ℕ) (marks : List Bool) : Type 0 where
+  pub size : length marks ≡ count
+  pub each : (c : ℕ) → (marked marks c ≡ true) ↔ ((is_in numbers nodes c ≡ true) × (c < count))
+
+-- the marks, of so many nodes, are those of the nodes of which P holds
+pub record Tells (count : ℕ) (P : ℕ → Type 0) (marks : List Bool) : Type 0 where
+  pub size : length marks ≡ count
+  pub each : (c : ℕ) → (marked marks c ≡ true) ↔ (P c × (c < count))
+
+-- the same of the nodes below i alone
+pub record TellsBelow (count i : ℕ) (P : ℕ → Type 0) (marks : List Bool) : Type 0 where
+  pub size : length marks ≡ count
+  pub each : (c : ℕ) → (marked marks c ≡ true) ↔ (P c × (c < i))
+
+-- the nodes, of so many, of which P holds, rising
+pub record AreNodes (count : ℕ) (P : ℕ → Type 0) (nodes : List ℕ) : Type 0 where
+  pub rises : Rises numbers nodes
+  pub exact : (c : ℕ) → (is_in numbers nodes c ≡ true) ↔ (P c × (c < count))
+
+-- the listed nodes are marked beside those that were
+pub record Adds (marks : List Bool) (nodes : List ℕ) (now : List Bool) : Type 0 where
+  pub size : length now ≡ length marks
+  pub each : (c : ℕ) → (marked now c ≡ true) ↔ ((marked marks c ≡ true) ⊎ ((is_in numbers nodes c ≡ true) × (c < length marks)))

@@ -7,4 +7,4 @@ mod tests;
 mod worklist;
 
 pub use laws::paths_have_laws;
-pub use worklist::reached;
+pub use worklist::{mark_all, marked_nodes, marks_of, reached};
