@@ -25,7 +25,7 @@ for_code s init test next body is =
     ∙ ap (λ (x : Step). does x s.number) (sym (rolls-For init test next body))
     ∙ ap (λ (f : ℕ → Code). f s.number) (fold-roll-Step (ℕ → Code) Code step_layer stmt_layer (Step-F.For init test next body))
 
-append_nil : {A : Type 0} (xs : List A) → xs ++ [] ≡ xs
+pub append_nil : {A : Type 0} (xs : List A) → xs ++ [] ≡ xs
 append_nil [] = refl
 append_nil (x ∷ xs) = ap (λ ys. x ∷ ys) (append_nil xs)
 

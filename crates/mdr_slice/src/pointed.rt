@@ -12,7 +12,7 @@ ghost use Rattle.mdr_slice.specs.Pointed.{slot_type, target_of, member_type, nam
 use mdr_core::{Expr, Func, Lval, Param, Program, Ty, Value, same_type};
 
 /// The type of a parameter or local, by its slot.
-fn slot_type(own: &Func, slot: u32) -> Option<&Ty>
+pub fn slot_type(own: &Func, slot: u32) -> Option<&Ty>
     ensures { option_copied result ≡ option_map slot_type (slice_get (slots_of own.now) slot) }
 {
     let params = own.params.as_slice();
