@@ -1,0 +1,3 @@
+pub mod FieldBodies
+pub mod FormBodies
+pub mod KeyLaws

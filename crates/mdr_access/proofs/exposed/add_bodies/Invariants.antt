@@ -1,0 +1,8 @@
+use Rattle.std.proofs.Common.{◌≡◌, ◌++◌, map, drop}
+use Rattle.mdr_core.specs.Folds.{term_of, codes_of}
+use Rattle.mdr_core.specs.Typing.{slots_of}
+use Rattle.mdr_access.specs.Exposed.{funcs_fields}
+use Rattle.mdr_access.proofs.exposed.add_bodies.Given as goal
+
+abbrev pub invariant-loop-func : goal.invariant-loop-func
+invariant-loop-func l = l.out.items ++ funcs_fields l.program (drop l.func-index l.funcs) ≡ l.fn.out.items ++ funcs_fields l.program (l.funcs)

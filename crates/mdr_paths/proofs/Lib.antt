@@ -1,0 +1,6 @@
+pub mod MarkLaws
+pub mod NodeLists
+pub mod PathLaws
+pub mod ReachLaws
+pub mod Tables
+pub mod Told

@@ -1,0 +1,5 @@
+pub mod Chains
+pub mod Laws
+pub mod Marking
+pub mod Numbers
+pub mod Paths

@@ -1,0 +1,10 @@
+//! Paths in a graph, whatever its nodes are: which nodes have one, and how they are found.
+#![tactic(auto)]
+
+mod laws;
+#[cfg(test)]
+mod tests;
+mod worklist;
+
+pub use laws::paths_have_laws;
+pub use worklist::{mark_all, marked_nodes, marks_of, reached};

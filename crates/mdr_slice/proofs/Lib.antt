@@ -1,0 +1,4 @@
+pub mod Bodies
+pub mod GraphLaws
+pub mod HalvesLaws
+pub mod LawProofs

@@ -1,0 +1,6 @@
+pub mod Calls
+pub mod Graph
+pub mod Halves
+pub mod Laws
+pub mod Marks
+pub mod Pointed

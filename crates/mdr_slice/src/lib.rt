@@ -1,0 +1,18 @@
+//! Which function may call which, and which half of a driver each belongs to.
+#![tactic(auto)]
+
+mod calls;
+mod graph;
+mod halves;
+mod handlers;
+mod laws;
+mod names;
+mod pointed;
+mod roots;
+
+pub use calls::calls_of;
+pub use graph::call_graph;
+pub use halves::{Halves, slice};
+pub use laws::{kernel_half_is_least, roots_are_functions};
+pub use pointed::{named_type, pointed_type, slot_type};
+pub use roots::roots_of;
