@@ -3,6 +3,9 @@ use Rattle.std.proofs.Common.{◌≡◌, ℕ, zero, suc, ◌+◌, Bool, true, fa
 use Rattle.mdr_core.specs.declared.stop.StopKind.{StopKind}
 use Rattle.mdr_core.specs.declared.place.At.{At}
 use Rattle.mdr_core.specs.declared.program.Program.{Program}
+use Rattle.mdr_core.specs.declared.value.Value.{Value}
+use Rattle.mdr_model.specs.declared.command.Command.{Command}
+use Rattle.mdr_model.specs.declared.command.Command.TheVariants as command
 use Rattle.mdr_model.specs.declared.wire.Wire.{Wire}
 use Rattle.mdr_model.specs.declared.message.Run.{Run}
 use Rattle.mdr_model.specs.declared.message.Fault.{Fault}
@@ -10,14 +13,14 @@ use Rattle.mdr_model.specs.declared.message.Message.{Message}
 use Rattle.mdr_model.specs.declared.message.Message.TheVariants as message
 use Rattle.mdr_model.specs.declared.outcome.Happened.{Happened}
 use Rattle.mdr_model.specs.declared.outcome.Happened.TheVariants as happened
-use Rattle.mdr_model.specs.Values.{natural}
+use Rattle.mdr_model.specs.Values.{wire_of, natural}
 use Rattle.mdr_model.specs.Memory.{Memory, normal, loaded, stored, everywhere}
 use Rattle.mdr_model.specs.Sets.{is_in}
 use Rattle.mdr_model.specs.Tree.{Asked, Tree}
 use Rattle.mdr_model.specs.Meaning.{func_at, is_kernel}
 use Rattle.mdr_model.specs.World.{World, Ran, Ended, Stopped, after, counted, when_loaded, when_stored, noted, written, written_if, is_writel, served, as_now, in_kernel, kernel_call}
-use Rattle.mdr_model.specs.Watched.{Finish, renewed, in_user, upcall, name_of, begun, returned, and_then, called_by, commands, first_world, watched}
-use Rattle.mdr_model.specs.Kernel.{Kernel, Rest, Noted, Pending, Over, Waits, Reading, SplitRun, calls, comes_back, answers, then_split, command_by, split_commands, applied, downcalled, serviced, fault_of, taken, judged, next, first_kernel, run_from_pending, split_run}
+use Rattle.mdr_model.specs.Watched.{Finish, renewed, in_user, upcall, name_of, begun, returned, noting, Beginning, Did, Opens, called_by, begin, in_place, and_then, commands, first_world, watched}
+use Rattle.mdr_model.specs.Kernel.{Kernel, Rest, Noted, Pending, Over, Waits, Reading, SplitRun, calls, comes_back, answers, then_split, split_by, split_commands, applied, downcalled, serviced, fault_of, taken, judged, next, first_kernel, run_from_pending, split_run}
 use Rattle.mdr_model.specs.Bytes.{readings, split_run_over_bytes}
 use Rattle.mdr_model.specs.Legal.{kernel_in}
 use Rattle.mdr_kernel.proofs.Worlds.{Ends}
@@ -44,10 +47,10 @@ pub record IsTold (w : World) : Type 0 where
 noted_told : (e : Happened) (w : World) → one_if_call e ≡ 0 → IsTold w → IsTold (noted e w)
 noted_told e w none s = record { told = omega (arith, calls_in-append w.events e, none, s.told) }
 
-begun_told : (program : Program) (f : ℕ) (w : World) → IsTold w → IsTold (begun program f w)
+begun_told : (program : Program) (f : ℕ) (args : List Value) (w : World) → IsTold w → IsTold (begun program f args w)
 unfolding begun
-begun_told program f w s =
-    let event : Happened = happened.Call (name_of (func_at program f)) [] in
+begun_told program f args w s =
+    let event : Happened = happened.Call (name_of (func_at program f)) args in
     let one : calls_in (w.events ++ event ∷ []) ≡ 1 + calls_in w.events = calls_in-append w.events event in
     record { told = omega (arith, one, s.told) }
 
@@ -131,23 +134,43 @@ module _ (program : Program) where
 
   -- ---- on one memory
 
-  called_told : (b : Bool) (f : ℕ) → Tells (called_by b program f)
+  noting_told : (ran : Ran Wire) → Ends IsTold ran → Ends IsTold (noting ran)
+  noting_told (Ended v w) s = returned_told v w s
+  noting_told (Stopped kind at w) s = s
+
+  upcall_told : (f : ℕ) (args : List Wire) → Tells (upcall program f args)
   unfolding upcall
-  called_told true f w s = kernel_told program f [] 0 w s
-  called_told false f w s = in_user_told _ (renewed program w) (renewed_told program w s)
+  upcall_told f args w s = in_user_told _ (renewed program w) (renewed_told program w s)
+
+  -- what a command comes to, done or to be done
+  abbrev Begins : Beginning → Type 0
+  Begins (Did ran) = Ends IsTold ran
+  Begins (Opens f args w) = IsTold w
+
+  called_told : (b : Bool) (f : ℕ) (args : List Wire) (w : World) → IsTold w → Begins (called_by b program f args w)
+  called_told true f args w s = noting_told (kernel_call program f args 0 w) (kernel_told program f args 0 w s)
+  called_told false f args w s = s
+
+  begin_told : (c : Command) (w : World) → IsTold w → Begins (begin program c w)
+  unfolding begin
+  begin_told (command.Call f args) w s = called_told (is_kernel program f) f (map wire_of args) (begun program f args w) (begun_told program f args w s)
+  begin_told _ w s = s
+
+  in_place_told : (b : Beginning) → Begins b → Ends IsTold (in_place program b)
+  in_place_told (Did ran) s = s
+  in_place_told (Opens f args w) s = noting_told (upcall program f args w) (upcall_told f args w s)
 
   then_told : (ran : Ran Wire) (go : World → Finish) → Ends IsTold ran → ((w : World) → IsTold w → IsTold (go w).world) → IsTold (and_then ran go).world
-  then_told (Ended v w) go s goes = goes (returned v w) (returned_told v w s)
+  then_told (Ended v w) go s goes = goes w s
   then_told (Stopped kind at w) go s goes = s
 
-  commands_told : (script : List ℕ) (w : World) → IsTold w → IsTold (commands program script w).world
+  commands_told : (script : List Command) (w : World) → IsTold w → IsTold (commands program script w).world
   unfolding commands
   commands_told [] w s = s
-  commands_told (f ∷ fs) w s =
-      then_told (called_by (is_kernel program f) program f (begun program f w)) (λ w'. commands program fs w')
-      (called_told (is_kernel program f) f (begun program f w) (begun_told program f w s)) (λ w' s'. commands_told fs w' s')
+  commands_told (c ∷ cs) w s =
+      then_told (in_place program (begin program c w)) (λ w'. commands program cs w') (in_place_told (begin program c w) (begin_told c w s)) (λ w' s'. commands_told cs w' s')
 
-  pub watched_told : (script : List ℕ) (budget : ℕ) → IsTold (watched program script budget).world
+  pub watched_told : (script : List Command) (budget : ℕ) → IsTold (watched program script budget).world
   unfolding watched first_world
   watched_told script budget = commands_told script (first_world program budget) (record { told = refl })
 
@@ -161,80 +184,80 @@ module _ (program : Program) where
   -- a run that waits has sent one more
   abbrev Counts : ℕ → Pending → Type 0
   Counts sent (Over end k) = IsCounted sent k
-  Counts sent (Waits m k rest) = IsCounted (suc sent) k
+  Counts sent (Waits m k rest cs) = IsCounted (suc sent) k
 
   in_world : (sent : ℕ) (k : Kernel) (w : World) → IsCounted sent k → IsTold w → IsCounted sent (record k { world = w })
   in_world sent k w s t = record { world = t; count = s.count }
 
-  calls_count : (f sent : ℕ) (fs : List ℕ) (k : Kernel) (w : World) → IsCounted sent k → IsTold w → Counts sent (calls program f [] w k fs)
+  calls_count : (f : ℕ) (args : List Wire) (sent : ℕ) (cs : List Command) (k : Kernel) (w : World) → IsCounted sent k → IsTold w → Counts sent (calls program f args w k cs)
   unfolding calls
-  calls_count f sent fs k w s t = record { world = renewed_told program w t; count = ap suc s.count }
+  calls_count f args sent cs k w s t = record { world = renewed_told program w t; count = ap suc s.count }
 
-  back_count : (v : Wire) (sent : ℕ) (k : Kernel) (w : World) (rest : Rest) → IsCounted sent k → IsTold w → Counts sent (comes_back program v w k rest)
+  back_count : (v : Wire) (sent : ℕ) (k : Kernel) (w : World) (rest : Rest) (cs : List Command) → IsCounted sent k → IsTold w → Counts sent (comes_back program v w k rest cs)
   unfolding comes_back
-  back_count v sent k w rest s t = record { world = renewed_told program w t; count = ap suc s.count }
+  back_count v sent k w rest cs s t = record { world = renewed_told program w t; count = ap suc s.count }
 
-  answer_count : (results : List Wire) (sent : ℕ) (k : Kernel) (w : World) (rest : Rest) → IsCounted sent k → IsTold w → Counts sent (answers program results w k rest)
+  answer_count : (results : List Wire) (sent : ℕ) (k : Kernel) (w : World) (rest : Rest) (cs : List Command) → IsCounted sent k → IsTold w → Counts sent (answers program results w k rest cs)
   unfolding answers
-  answer_count results sent k w rest s t = record { world = t; count = ap suc s.count }
+  answer_count results sent k w rest cs s t = record { world = t; count = ap suc s.count }
 
-  abbrev CountAll : List ℕ → Type 0
-  CountAll fs = (sent : ℕ) (k : Kernel) → IsCounted sent k → Counts sent (split_commands program fs k)
+  abbrev CountAll : List Command → Type 0
+  CountAll script = (sent : ℕ) (k : Kernel) → IsCounted sent k → Counts sent (split_commands program script k)
 
-  own_count : (fs : List ℕ) → CountAll fs → (sent : ℕ) (k : Kernel) (ran : Ran Wire) → IsCounted sent k → Ends IsTold ran → Counts sent (then_split ran k (λ k'. split_commands program fs k'))
-  own_count fs later sent k (Ended v w) s t = later sent (record k { world = returned v w }) (in_world sent k (returned v w) s (returned_told v w t))
-  own_count fs later sent k (Stopped kind at w) s t = in_world sent k w s t
+  done_count : (cs : List Command) → CountAll cs → (sent : ℕ) (k : Kernel) (ran : Ran Wire) → IsCounted sent k → Ends IsTold ran → Counts sent (then_split ran k (λ k'. split_commands program cs k'))
+  done_count cs later sent k (Ended v w) s t = later sent (record k { world = w }) (in_world sent k w s t)
+  done_count cs later sent k (Stopped kind at w) s t = in_world sent k w s t
 
-  command_count : (b : Bool) (f : ℕ) (fs : List ℕ) → CountAll fs → (sent : ℕ) (k : Kernel) (w : World) → IsCounted sent k → IsTold w → Counts sent (command_by b program f fs w k (λ k'. split_commands program fs k'))
-  command_count true f fs later sent k w s t = own_count fs later sent k (kernel_call program f [] 0 w) s (kernel_told program f [] 0 w t)
-  command_count false f fs later sent k w s t = calls_count f sent fs k w s t
+  begun_count : (b : Beginning) (cs : List Command) → CountAll cs → (sent : ℕ) (k : Kernel) → IsCounted sent k → Begins b → Counts sent (split_by b program cs k (λ k'. split_commands program cs k'))
+  begun_count (Did ran) cs later sent k s t = done_count cs later sent k ran s t
+  begun_count (Opens f args w) cs later sent k s t = calls_count f args sent cs k w s t
 
-  commands_count : (fs : List ℕ) → CountAll fs
+  commands_count : (script : List Command) → CountAll script
   unfolding split_commands
   commands_count [] sent k s = s
-  commands_count (f ∷ fs) sent k s = command_count (is_kernel program f) f fs (commands_count fs) sent k (begun program f k.world) s (begun_told program f k.world s.world)
+  commands_count (c ∷ cs) sent k s = begun_count (begin program c k.world) cs (commands_count cs) sent k s (begin_told c k.world s.world)
 
   applied_count : (sent ticks : ℕ) (runs : List Run) (k : Kernel) → IsCounted sent k → IsCounted sent (applied ticks runs k)
   unfolding applied
   applied_count sent ticks runs k s = record { world = record { told = s.world.told }; count = s.count }
 
-  down_count : (sent : ℕ) (k : Kernel) (rest : Rest) (ran : Ran Wire) → IsCounted sent k → Ends IsTold ran → Counts sent (downcalled program ran k rest)
-  down_count sent k rest (Ended v w) s t = back_count v sent k w rest s t
-  down_count sent k rest (Stopped kind at w) s t = in_world sent k w s t
+  down_count : (sent : ℕ) (k : Kernel) (rest : Rest) (cs : List Command) (ran : Ran Wire) → IsCounted sent k → Ends IsTold ran → Counts sent (downcalled program ran k rest cs)
+  down_count sent k rest cs (Ended v w) s t = back_count v sent k w rest cs s t
+  down_count sent k rest cs (Stopped kind at w) s t = in_world sent k w s t
 
-  service_count : (sent : ℕ) (k : Kernel) (rest : Rest) (ran : Ran (List Wire)) → IsCounted sent k → Ends IsTold ran → Counts sent (serviced program ran k rest)
-  service_count sent k rest (Ended results w) s t = answer_count results sent k w rest s t
-  service_count sent k rest (Stopped kind at w) s t = in_world sent k w s t
+  service_count : (sent : ℕ) (k : Kernel) (rest : Rest) (cs : List Command) (ran : Ran (List Wire)) → IsCounted sent k → Ends IsTold ran → Counts sent (serviced program ran k rest cs)
+  service_count sent k rest cs (Ended results w) s t = answer_count results sent k w rest cs s t
+  service_count sent k rest cs (Stopped kind at w) s t = in_world sent k w s t
 
-  taken_count : (reply : Message) (sent : ℕ) (k : Kernel) (rest : Rest) → IsCounted sent k → Counts sent (taken program reply k rest)
+  taken_count : (reply : Message) (sent : ℕ) (k : Kernel) (rest : Rest) (cs : List Command) → IsCounted sent k → Counts sent (taken program reply k rest cs)
   unfolding taken
-  taken_count (message.Return ticks v runs) sent k (Noted f fs) s =
+  taken_count (message.Return ticks v runs) sent k (Noted f) cs s =
       let k' : Kernel = applied ticks runs k in
       let s' : IsCounted sent k' = applied_count sent ticks runs k s in
-      commands_count fs sent (record k' { world = returned v k'.world }) (in_world sent k' (returned v k'.world) s' (returned_told v k'.world s'.world))
-  taken_count (message.Down ticks at depth func args runs) sent k rest s =
+      commands_count cs sent (record k' { world = returned v k'.world }) (in_world sent k' (returned v k'.world) s' (returned_told v k'.world s'.world))
+  taken_count (message.Down ticks at depth func args runs) sent k rest cs s =
       let k' : Kernel = applied ticks runs k in
       let s' : IsCounted sent k' = applied_count sent ticks runs k s in
-      down_count sent k' rest (kernel_call program func args depth k'.world) s' (kernel_told program func args depth k'.world s'.world)
-  taken_count (message.Ask ticks at service args shapes bytes runs) sent k rest s =
+      down_count sent k' rest cs (kernel_call program func args depth k'.world) s' (kernel_told program func args depth k'.world s'.world)
+  taken_count (message.Ask ticks at service args shapes bytes runs) sent k rest cs s =
       let k' : Kernel = applied ticks runs k in
       let s' : IsCounted sent k' = applied_count sent ticks runs k s in
       let asked : Asked = record { service = service; at = at; args = args; shapes = shapes; bytes = bytes } in
-      service_count sent k' rest (served asked k'.world) s' (served_told asked k'.world s'.world)
-  taken_count (message.Stop ticks number at runs) sent k rest s = applied_count sent ticks runs k s
-  taken_count (message.Call func depth left args deaths news view runs) sent k rest s = s
-  taken_count (message.Back left result deaths news view runs) sent k rest s = s
-  taken_count (message.Answer results deaths news) sent k rest s = s
-  taken_count (message.Refuse reason) sent k rest s = s
+      service_count sent k' rest cs (served asked k'.world) s' (served_told asked k'.world s'.world)
+  taken_count (message.Stop ticks number at runs) sent k rest cs s = applied_count sent ticks runs k s
+  taken_count (message.Call func depth left args deaths news view runs) sent k rest cs s = s
+  taken_count (message.Back left result deaths news view runs) sent k rest cs s = s
+  taken_count (message.Answer results deaths news) sent k rest cs s = s
+  taken_count (message.Refuse reason) sent k rest cs s = s
 
-  judged_count : (o : Option Fault) (reply : Message) (sent : ℕ) (k : Kernel) (rest : Rest) → IsCounted sent k → Counts sent (judged program o reply k rest)
-  judged_count None reply sent k rest s = taken_count reply sent k rest s
-  judged_count (Some f) reply sent k rest s = s
+  judged_count : (o : Option Fault) (reply : Message) (sent : ℕ) (k : Kernel) (rest : Rest) (cs : List Command) → IsCounted sent k → Counts sent (judged program o reply k rest cs)
+  judged_count None reply sent k rest cs s = taken_count reply sent k rest cs s
+  judged_count (Some f) reply sent k rest cs s = s
 
-  next_count : (a : Reading) (sent : ℕ) (k : Kernel) (rest : Rest) → IsCounted sent k → Counts sent (next program a k rest)
+  next_count : (a : Reading) (sent : ℕ) (k : Kernel) (rest : Rest) (cs : List Command) → IsCounted sent k → Counts sent (next program a k rest cs)
   unfolding next
-  next_count (Err f) sent k rest s = s
-  next_count (Ok reply) sent k rest s = judged_count (fault_of program k rest reply) reply sent k rest s
+  next_count (Err f) sent k rest cs s = s
+  next_count (Ok reply) sent k rest cs s = judged_count (fault_of program k rest reply) reply sent k rest cs s
 
   -- a run's end: so many messages were sent before it began, and more since then
   pub record IsTotal (sent : ℕ) (r : SplitRun) : Type 0 where
@@ -244,12 +267,12 @@ module _ (program : Program) where
   run_count : (heard : List Reading) (sent : ℕ) (p : Pending) → Counts sent p → IsTotal sent (run_from_pending program heard p)
   unfolding run_from_pending
   run_count heard sent (Over end k) s = record { world = s.world; count = omega (arith, s.count) }
-  run_count [] sent (Waits m k rest) s = record { world = s.world; count = omega (arith, s.count) }
-  run_count (a ∷ heard) sent (Waits m k rest) s =
-      let later : IsTotal (suc sent) (run_from_pending program heard (next program a k rest)) = run_count heard (suc sent) (next program a k rest) (next_count a (suc sent) k rest s) in
+  run_count [] sent (Waits m k rest cs) s = record { world = s.world; count = omega (arith, s.count) }
+  run_count (a ∷ heard) sent (Waits m k rest cs) s =
+      let later : IsTotal (suc sent) (run_from_pending program heard (next program a k rest cs)) = run_count heard (suc sent) (next program a k rest cs) (next_count a (suc sent) k rest cs s) in
       record { world = later.world; count = omega (arith, later.count) }
 
-  pub total_of : (script : List ℕ) (budget : ℕ) (bytes : List (List ℕ)) → IsTotal 0 (split_run_over_bytes program script budget bytes)
+  pub total_of : (script : List Command) (budget : ℕ) (bytes : List (List ℕ)) → IsTotal 0 (split_run_over_bytes program script budget bytes)
   unfolding split_run_over_bytes split_run first_kernel first_world
   total_of script budget bytes =
       run_count (readings bytes) 0 (split_commands program script (first_kernel program budget)) (commands_count script 0 (first_kernel program budget) (record { world = record { told = refl }; count = refl }))

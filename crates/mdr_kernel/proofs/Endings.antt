@@ -4,6 +4,7 @@ use Rattle.mdr_core.specs.declared.refusal.RefuseKind.{RefuseKind}
 use Rattle.mdr_core.specs.declared.program.Program.{Program}
 use Rattle.mdr_outside.specs.declared.far.Exchange.{Exchange}
 use Rattle.mdr_model.specs.declared.message.Fault.{Fault}
+use Rattle.mdr_model.specs.declared.command.Command.{Command}
 use Rattle.mdr_model.specs.declared.message.Message.{Message}
 use Rattle.mdr_model.specs.declared.outcome.End.{End}
 use Rattle.mdr_model.specs.declared.outcome.End.TheVariants as ends
@@ -32,8 +33,9 @@ record RefusedLast (program : Program) (p : Pending) (answers : List (List ℕ))
   message : Message
   kernel : Kernel
   rest : Rest
-  waits : (run_from_pending program (readings before) p).pending ≡ Waits message kernel rest
-  leads : next program (reading_of last) kernel rest ≡ Over (ends.Refused exchange cause number) k
+  left : List Command
+  waits : (run_from_pending program (readings before) p).pending ≡ Waits message kernel rest left
+  leads : next program (reading_of last) kernel rest left ≡ Over (ends.Refused exchange cause number) k
 
 module _ (program : Program) where
   no_refusal : (end : End) (k k' : Kernel) (exchange : ℕ) (cause : RefuseKind) (number : ℕ) → IsOwn end → Over end k ≡ Over (ends.Refused exchange cause number) k' → ⊥
@@ -44,16 +46,16 @@ module _ (program : Program) where
       → (run_from_pending program (readings answers) p).pending ≡ Over (ends.Refused exchange cause number) k → RefusedLast program p answers exchange cause number k
   unfolding run_from_pending
   refused_last [] (Over end k') exchange cause number k own few e = absurd (no_refusal end k' k exchange cause number own e)
-  refused_last [] (Waits m k' rest) exchange cause number k own few e = absurd (Prim.cc)
+  refused_last [] (Waits m k' rest cs) exchange cause number k own few e = absurd (Prim.cc)
   refused_last (a ∷ answers) (Over end k') exchange cause number k own few e = absurd (no_refusal end k' k exchange cause number own e)
-  refused_last (a ∷ answers) (Waits m k' rest) exchange cause number k own few e =
-      of (next program (reading_of a) k' rest) refl (λ own' few' e'. refused_last answers (next program (reading_of a) k' rest) exchange cause number k own' few' e')
+  refused_last (a ∷ answers) (Waits m k' rest cs) exchange cause number k own few e =
+      of (next program (reading_of a) k' rest cs) refl (λ own' few' e'. refused_last answers (next program (reading_of a) k' rest cs) exchange cause number k own' few' e')
     where
       q : Pending
-      q = next program (reading_of a) k' rest
+      q = next program (reading_of a) k' rest cs
 
       -- the answer ended the run, so no other came
-      ended : (end : End) (l : Kernel) → q ≡ Over end l → RefusedLast program (Waits m k' rest) (a ∷ answers) exchange cause number k
+      ended : (end : End) (l : Kernel) → q ≡ Over end l → RefusedLast program (Waits m k' rest cs) (a ∷ answers) exchange cause number k
       ended end l is =
           let sent : (run_from_pending program (readings answers) q).sent ≡ (run_from_pending program (readings answers) (Over end l)).sent = ap (λ (x : Pending). (run_from_pending program (readings answers) x).sent) is in
           let over : Over end l ≡ Over (ends.Refused exchange cause number) k = sym (ap (λ (x : Pending). (run_from_pending program (readings answers) x).pending) is) ∙ e in
@@ -65,6 +67,7 @@ module _ (program : Program) where
             message = m;
             kernel = k';
             rest = rest;
+            left = cs;
             waits = refl;
             leads = is ∙ over;
           }
@@ -76,7 +79,7 @@ module _ (program : Program) where
           nothing [] h = refl
           nothing (x ∷ xs) h = absurd (omega (arith, h))
 
-      later : RefusedLast program q answers exchange cause number k → RefusedLast program (Waits m k' rest) (a ∷ answers) exchange cause number k
+      later : RefusedLast program q answers exchange cause number k → RefusedLast program (Waits m k' rest cs) (a ∷ answers) exchange cause number k
       later r = record {
         before = a ∷ r.before;
         last = r.last;
@@ -84,42 +87,43 @@ module _ (program : Program) where
         message = r.message;
         kernel = r.kernel;
         rest = r.rest;
+        left = r.left;
         waits = r.waits;
         leads = r.leads;
       }
 
       of : (x : Pending) → q ≡ x
           → (EndsItself q → length answers ≤ length (run_from_pending program (readings answers) q).sent → (run_from_pending program (readings answers) q).pending ≡ Over (ends.Refused exchange cause number) k → RefusedLast program q answers exchange cause number k)
-          → RefusedLast program (Waits m k' rest) (a ∷ answers) exchange cause number k
+          → RefusedLast program (Waits m k' rest cs) (a ∷ answers) exchange cause number k
       of (Over end l) is go = ended end l is
-      of (Waits m' l rest') is go = later (go (subst EndsItself (sym is) tt) (omega (arith, few)) e)
+      of (Waits m' l rest' cs') is go = later (go (subst EndsItself (sym is) tt) (omega (arith, few)) e)
 
 -- ---- a run ends by itself or refused
 
 abbrev EndsKnown : Pending → Type 0
 EndsKnown (Over end k) = IsOwnEnd end
-EndsKnown (Waits m k rest) = Unit {0}
+EndsKnown (Waits m k rest cs) = Unit {0}
 
 itself_known : (p : Pending) → EndsItself p → EndsKnown p
 itself_known (Over ends.Ok k) own = tt
 itself_known (Over (ends.Stop kind at) k) own = tt
 itself_known (Over (ends.Refused exchange cause number) k) own = tt
 itself_known (Over (ends.FarFault exchange) k) own = own
-itself_known (Waits m k rest) own = tt
+itself_known (Waits m k rest cs) own = tt
 
-next_known : (program : Program) (a : Reading) (k : Kernel) (rest : Rest) → EndsKnown (next program a k rest)
-next_known program a k rest = of (answer_fault program k rest a) refl
+next_known : (program : Program) (a : Reading) (k : Kernel) (rest : Rest) (cs : List Command) → EndsKnown (next program a k rest cs)
+next_known program a k rest cs = of (answer_fault program k rest a) refl
   where
-    of : (o : Option Fault) → answer_fault program k rest a ≡ o → EndsKnown (next program a k rest)
-    of None e = itself_known _ (next_ends program a k rest e)
-    of (Some f) e = subst EndsKnown (sym (next_refuses program a k rest f e)) tt
+    of : (o : Option Fault) → answer_fault program k rest a ≡ o → EndsKnown (next program a k rest cs)
+    of None e = itself_known _ (next_ends program a k rest cs e)
+    of (Some f) e = subst EndsKnown (sym (next_refuses program a k rest cs f e)) tt
 
 run_known : (program : Program) (xs : List Reading) (p : Pending) → EndsKnown p → EndsKnown (run_from_pending program xs p).pending
 unfolding run_from_pending
 run_known program [] (Over end k) known = known
-run_known program [] (Waits m k rest) known = known
+run_known program [] (Waits m k rest cs) known = known
 run_known program (a ∷ xs) (Over end k) known = known
-run_known program (a ∷ xs) (Waits m k rest) known = run_known program xs (next program a k rest) (next_known program a k rest)
+run_known program (a ∷ xs) (Waits m k rest cs) known = run_known program xs (next program a k rest cs) (next_known program a k rest cs)
 
 -- ---- exchanges
 
@@ -145,12 +149,12 @@ as_many es ms e = sym (sents es) ∙ ap length e ∙ texts ms
 
 -- ---- the state that is left
 
-module _ (program : Program) (script : List ℕ) (budget : ℕ) (es : List Exchange) where
+module _ (program : Program) (script : List Command) (budget : ℕ) (es : List Exchange) where
   -- a run that is over ended so
   over_is : (p : Pending) (end : End) (w : World) → IsOwnEnd end → finish_of p ≡ finish end w → (k : Kernel) → kernel_in p ≡ k → p ≡ Over end k
   over_is (Over end' k') end w own e k is =
       let same : end' ≡ end = ap (λ (f : Finish). f.end) e in λ i. Over (same i) (is i)
-  over_is (Waits m k' rest) end w own e k is =
+  over_is (Waits m k' rest cs) end w own e k is =
       let same : ends.FarFault k'.exchanges ≡ end = ap (λ (f : Finish). f.end) e in absurd (subst IsOwnEnd (sym same) own)
 
   over_bytes : (answers : List (List ℕ)) → split_run_over_bytes program script budget answers ≡ run_from_pending program (readings answers) (first_of program script budget)
@@ -167,7 +171,7 @@ module _ (program : Program) (script : List ℕ) (budget : ℕ) (es : List Excha
       let counted : length es ≡ length run.sent = as_many es run.sent (h.messages ∙ ap (λ (r : SplitRun). map text r.sent) same) in
       let few : length (answers_of es) ≤ length run.sent = omega (arith, few_answers es, counted) in
       let r : RefusedLast program (first_of program script budget) (answers_of es) exchange cause number k = refused_last program (answers_of es) (first_of program script budget) exchange cause number k begins few over in
-      let told = next_only program (reading_of r.last) r.kernel k r.rest exchange cause number r.leads in
+      let told = next_only program (reading_of r.last) r.kernel k r.rest r.left exchange cause number r.leads in
       record {
         before = r.before;
         last = r.last;
@@ -176,6 +180,7 @@ module _ (program : Program) (script : List ℕ) (budget : ℕ) (es : List Excha
           message = r.message;
           kernel = r.kernel;
           rest = r.rest;
+          left = r.left;
           waits = ap (λ (x : SplitRun). x.pending) (over_bytes r.before) ∙ r.waits;
           same = ap (λ (x : Kernel). x.world.memory) told.2;
         };
@@ -197,7 +202,7 @@ module _ (program : Program) (script : List ℕ) (budget : ℕ) (es : List Excha
       of (Over end k') is e same =
           let far : end ≡ ends.FarFault exchange = ap (λ (f : Finish). f.end) e in
           absurd (subst IsOwnEnd far (subst EndsKnown is known))
-      of (Waits m k' rest) is e same = record { message = m; kernel = k'; rest = rest; waits = is; same = ap (λ (x : Kernel). x.world.memory) (sym same) }
+      of (Waits m k' rest cs) is e same = record { message = m; kernel = k'; rest = rest; left = cs; waits = is; same = ap (λ (x : Kernel). x.world.memory) (sym same) }
 
   pub as_before : (end : End) (k : Kernel) → HasEnded program script budget es end k → IsAsBefore program script budget es k.world.memory end
   as_before ends.Ok k h = tt

@@ -1,6 +1,9 @@
 -- Where a run waits its state is sound, its messages are paid for by ticks and commands, and each turn sends one message more.
-use Rattle.std.proofs.Common.{◌≡◌, ℕ, suc, ◌+◌, ◌-◌, ◌*◌, ◌^◌, ◌<◌, ◌≤◌, Bool, true, false, List, [], ◌∷◌, length, Option, Some, None, Ok, Err, refl, ap, arith}
+use Rattle.std.proofs.Common.{◌≡◌, ℕ, suc, ◌+◌, ◌-◌, ◌*◌, ◌^◌, ◌<◌, ◌≤◌, Bool, true, false, List, [], ◌∷◌, map, length, Option, Some, None, Ok, Err, refl, ap, arith}
 use Rattle.mdr_core.specs.declared.program.Program.{Program}
+use Rattle.mdr_core.specs.declared.value.Value.{Value}
+use Rattle.mdr_model.specs.declared.command.Command.{Command}
+use Rattle.mdr_model.specs.declared.command.Command.TheVariants as command
 use Rattle.mdr_model.specs.declared.wire.Wire.{Wire}
 use Rattle.mdr_model.specs.declared.message.Run.{Run}
 use Rattle.mdr_model.specs.declared.message.Fault.{Fault}
@@ -12,8 +15,9 @@ use Rattle.mdr_model.specs.Runnable.{IsRunnable}
 use Rattle.mdr_model.specs.Meaning.{is_kernel}
 use Rattle.mdr_model.specs.Tree.{Asked}
 use Rattle.mdr_model.specs.World.{World, Ran, Ended, Stopped, served, kernel_call}
-use Rattle.mdr_model.specs.Watched.{renewed, begun, returned, first_world}
-use Rattle.mdr_model.specs.Kernel.{Kernel, Rest, Noted, Pending, Over, Waits, Reading, calls, comes_back, answers, then_split, command_by, split_commands, applied, downcalled, serviced, fault_of, taken, judged, next, first_kernel}
+use Rattle.mdr_model.specs.Values.{wire_of}
+use Rattle.mdr_model.specs.Watched.{renewed, begun, returned, noting, called_by, begin, first_world}
+use Rattle.mdr_model.specs.Kernel.{Kernel, Rest, Noted, Pending, Over, Waits, Reading, calls, comes_back, answers, then_split, split_by, split_commands, applied, downcalled, serviced, fault_of, taken, judged, next, first_kernel}
 use Rattle.mdr_model.proofs.FirstMemory.{first_holds}
 use Rattle.mdr_kernel.specs.declared.state.Kernel.{Kernel as CodeKernel}
 use Rattle.mdr_kernel.specs.declared.state.Open.{Open}
@@ -24,16 +28,13 @@ use Rattle.mdr_kernel.proofs.Worlds.{Ends, Gone, kernel_goes, service_goes}
 use Rattle.mdr_model.proofs.Accepted.{IsFit, IsAsked, IsDown, IsAsk, return_fits, down_fits, ask_fits}
 use Rattle.mdr_kernel.proofs.Applied.{applied_is_sound}
 
--- a state under a budget, after so many messages, where so many commands are left of n
+-- a state under a budget, after so many messages, where so many commands are left of n. Not each command is a call
 pub record Standing (program : Program) (budget n sent left : ℕ) (k : Kernel) : Type 0 where
   pub world : IsSoundWorld program k.world
   pub clock : k.world.ticks + k.world.rest ≡ budget
   pub paid : 2 * k.exchanges ≤ 4 * k.world.ticks + 6 * k.world.calls
   pub count : k.exchanges ≡ sent
-  pub commands : k.world.calls + left ≡ n
-
-abbrev pub left_in : Rest → ℕ
-left_in (Noted f fs) = length fs
+  pub commands : k.world.calls + left ≤ n
 
 -- no state of the kernel half alone is a fault of the far side
 abbrev pub IsOwnEnd : End → Type 0
@@ -45,7 +46,7 @@ IsOwnEnd (ends.FarFault exchange) = ⊥
 -- a run that waits does so in such a state
 abbrev pub Stands : Program → (budget n sent : ℕ) → Pending → Type 0
 Stands program budget n sent (Over end k) = IsOwnEnd end
-Stands program budget n sent (Waits m k rest) = Standing program budget n sent (left_in rest) k
+Stands program budget n sent (Waits m k rest cs) = Standing program budget n sent (length cs) k
 
 module _ (program : Program) (sound : IsRunnable program) (budget n : ℕ) where
   -- a world from which a message is sent: the message is paid for
@@ -54,11 +55,11 @@ module _ (program : Program) (sound : IsRunnable program) (budget n : ℕ) where
     clock : w.ticks + w.rest ≡ budget
     paid : 2 * k.exchanges + 2 ≤ 4 * w.ticks + 6 * w.calls
     count : k.exchanges ≡ sent
-    commands : w.calls + left ≡ n
+    commands : w.calls + left ≤ n
 
-  calls_stand : (f : ℕ) (fs : List ℕ) (sent : ℕ) (k : Kernel) (w : World) → Sends sent (length fs) k w → Stands program budget n (suc sent) (calls program f [] w k fs)
+  calls_stand : (f : ℕ) (args : List Wire) (cs : List Command) (sent : ℕ) (k : Kernel) (w : World) → Sends sent (length cs) k w → Stands program budget n (suc sent) (calls program f args w k cs)
   unfolding calls renewed
-  calls_stand f fs sent k w s = record {
+  calls_stand f args cs sent k w s = record {
     world = record { born = s.world.born; filled = s.world.filled; clock = s.world.clock };
     clock = s.clock;
     paid = omega (arith, s.paid);
@@ -66,9 +67,9 @@ module _ (program : Program) (sound : IsRunnable program) (budget n : ℕ) where
     commands = s.commands;
   }
 
-  back_stands : (v : Wire) (sent : ℕ) (k : Kernel) (w : World) (rest : Rest) → Sends sent (left_in rest) k w → Stands program budget n (suc sent) (comes_back program v w k rest)
+  back_stands : (v : Wire) (sent : ℕ) (k : Kernel) (w : World) (rest : Rest) (cs : List Command) → Sends sent (length cs) k w → Stands program budget n (suc sent) (comes_back program v w k rest cs)
   unfolding comes_back renewed
-  back_stands v sent k w rest s = record {
+  back_stands v sent k w rest cs s = record {
     world = record { born = s.world.born; filled = s.world.filled; clock = s.world.clock };
     clock = s.clock;
     paid = omega (arith, s.paid);
@@ -76,14 +77,14 @@ module _ (program : Program) (sound : IsRunnable program) (budget n : ℕ) where
     commands = s.commands;
   }
 
-  answer_stands : (results : List Wire) (sent : ℕ) (k : Kernel) (w : World) (rest : Rest) → Sends sent (left_in rest) k w → Stands program budget n (suc sent) (answers program results w k rest)
+  answer_stands : (results : List Wire) (sent : ℕ) (k : Kernel) (w : World) (rest : Rest) (cs : List Command) → Sends sent (length cs) k w → Stands program budget n (suc sent) (answers program results w k rest cs)
   unfolding answers
-  answer_stands results sent k w rest s = record { world = s.world; clock = s.clock; paid = omega (arith, s.paid); count = ap suc s.count; commands = s.commands }
+  answer_stands results sent k w rest cs s = record { world = s.world; clock = s.clock; paid = omega (arith, s.paid); count = ap suc s.count; commands = s.commands }
 
   -- ---- commands
 
-  abbrev StandAll : List ℕ → Type 0
-  StandAll fs = (sent : ℕ) (k : Kernel) → Standing program budget n sent (length fs) k → Stands program budget n (suc sent) (split_commands program fs k)
+  abbrev StandAll : List Command → Type 0
+  StandAll script = (sent : ℕ) (k : Kernel) → Standing program budget n sent (length script) k → Stands program budget n (suc sent) (split_commands program script k)
 
   returned_stands : (sent left : ℕ) (k : Kernel) (v : Wire) → Standing program budget n sent left k → Standing program budget n sent left (record k { world = returned v k.world })
   unfolding returned
@@ -98,14 +99,14 @@ module _ (program : Program) (sound : IsRunnable program) (budget n : ℕ) where
     commands = omega (arith, g.calls, s.commands);
   }
 
-  own_stands : (fs : List ℕ) → StandAll fs → (sent : ℕ) (k : Kernel) (w : World) (ran : Ran Wire) → Sends sent (length fs) k w → Ends (Gone program w) ran
-      → Stands program budget n (suc sent) (then_split ran k (λ k'. split_commands program fs k'))
-  own_stands fs later sent k w (Ended v w') s g = later sent (record k { world = returned v w' }) (returned_stands sent (length fs) (record k { world = w' }) v (gone_stands sent (length fs) k w w' s g))
-  own_stands fs later sent k w (Stopped kind at w') s g = tt
+  own_stands : (cs : List Command) → StandAll cs → (sent : ℕ) (k : Kernel) (w : World) (ran : Ran Wire) → Sends sent (length cs) k w → Ends (Gone program w) ran
+      → Stands program budget n (suc sent) (then_split (noting ran) k (λ k'. split_commands program cs k'))
+  own_stands cs later sent k w (Ended v w') s g = later sent (record k { world = returned v w' }) (returned_stands sent (length cs) (record k { world = w' }) v (gone_stands sent (length cs) k w w' s g))
+  own_stands cs later sent k w (Stopped kind at w') s g = tt
 
-  begins : (f : ℕ) (fs : List ℕ) (sent : ℕ) (k : Kernel) → Standing program budget n sent (suc (length fs)) k → Sends sent (length fs) k (begun program f k.world)
+  begins : (f : ℕ) (args : List Value) (left sent : ℕ) (k : Kernel) → Standing program budget n sent (suc left) k → Sends sent left k (begun program f args k.world)
   unfolding begun
-  begins f fs sent k s = record {
+  begins f args left sent k s = record {
     world = record { born = s.world.born; filled = s.world.filled; clock = s.world.clock };
     clock = s.clock;
     paid = omega (arith, s.paid);
@@ -113,17 +114,25 @@ module _ (program : Program) (sound : IsRunnable program) (budget n : ℕ) where
     commands = omega (arith, s.commands);
   }
 
-  pub commands_stand : (fs : List ℕ) → StandAll fs
+  -- a command that does nothing
+  passed_stands : (left sent : ℕ) (k : Kernel) → Standing program budget n sent (suc left) k → Standing program budget n sent left k
+  passed_stands left sent k s = record { world = s.world; clock = s.clock; paid = s.paid; count = s.count; commands = omega (arith, s.commands) }
+
+  call_stands : (b : Bool) (f : ℕ) (args : List Wire) (cs : List Command) → StandAll cs → (sent : ℕ) (k : Kernel) (w : World) → is_kernel program f ≡ b → Sends sent (length cs) k w
+      → Stands program budget n (suc sent) (split_by (called_by b program f args w) program cs k (λ k'. split_commands program cs k'))
+  call_stands true f args cs later sent k w e s = own_stands cs later sent k w (kernel_call program f args 0 w) s (kernel_goes program f args 0 w sound e s.world)
+  call_stands false f args cs later sent k w e s = calls_stand f args cs sent k w s
+
+  command_stands : (c : Command) (cs : List Command) → StandAll cs → (sent : ℕ) (k : Kernel) → Standing program budget n sent (suc (length cs)) k
+      → Stands program budget n (suc sent) (split_by (begin program c k.world) program cs k (λ k'. split_commands program cs k'))
+  unfolding begin
+  command_stands (command.Call f args) cs later sent k s = call_stands (is_kernel program f) f (map wire_of args) cs later sent k (begun program f args k.world) refl (begins f args (length cs) sent k s)
+  command_stands _ cs later sent k s = later sent _ (passed_stands (length cs) sent k s)
+
+  pub commands_stand : (script : List Command) → StandAll script
   unfolding split_commands
   commands_stand [] sent k s = tt
-  commands_stand (f ∷ fs) sent k s = of (is_kernel program f) refl (commands_stand fs)
-    where
-      w : World
-      w = begun program f k.world
-
-      of : (b : Bool) → is_kernel program f ≡ b → StandAll fs → Stands program budget n (suc sent) (command_by b program f fs w k (λ k'. split_commands program fs k'))
-      of true e later = own_stands fs later sent k w (kernel_call program f [] 0 w) (begins f fs sent k s) (kernel_goes program f [] 0 w sound e (begins f fs sent k s).world)
-      of false e later = calls_stand f fs sent k w (begins f fs sent k s)
+  commands_stand (c ∷ cs) sent k s = command_stands c cs (commands_stand cs) sent k s
 
   -- ---- replies
 
@@ -157,47 +166,47 @@ module _ (program : Program) (sound : IsRunnable program) (budget n : ℕ) where
     commands = omega (arith, g.calls, s.commands);
   }
 
-  down_stands : (sent : ℕ) (k : Kernel) (w : World) (rest : Rest) (ran : Ran Wire) → Sends sent (left_in rest) k w → Ends (Gone program w) ran → Stands program budget n (suc sent) (downcalled program ran k rest)
-  down_stands sent k w rest (Ended v w') s g = back_stands v sent k w' rest (sends_later sent (left_in rest) k w w' s g)
-  down_stands sent k w rest (Stopped kind at w') s g = tt
+  down_stands : (sent : ℕ) (k : Kernel) (w : World) (rest : Rest) (cs : List Command) (ran : Ran Wire) → Sends sent (length cs) k w → Ends (Gone program w) ran → Stands program budget n (suc sent) (downcalled program ran k rest cs)
+  down_stands sent k w rest cs (Ended v w') s g = back_stands v sent k w' rest cs (sends_later sent (length cs) k w w' s g)
+  down_stands sent k w rest cs (Stopped kind at w') s g = tt
 
-  service_stands : (sent : ℕ) (k : Kernel) (w : World) (rest : Rest) (ran : Ran (List Wire)) → Sends sent (left_in rest) k w → Ends (Gone program w) ran → Stands program budget n (suc sent) (serviced program ran k rest)
-  service_stands sent k w rest (Ended results w') s g = answer_stands results sent k w' rest (sends_later sent (left_in rest) k w w' s g)
-  service_stands sent k w rest (Stopped kind at w') s g = tt
+  service_stands : (sent : ℕ) (k : Kernel) (w : World) (rest : Rest) (cs : List Command) (ran : Ran (List Wire)) → Sends sent (length cs) k w → Ends (Gone program w) ran → Stands program budget n (suc sent) (serviced program ran k rest cs)
+  service_stands sent k w rest cs (Ended results w') s g = answer_stands results sent k w' rest cs (sends_later sent (length cs) k w w' s g)
+  service_stands sent k w rest cs (Stopped kind at w') s g = tt
 
-  taken_stands : (reply : Message) (sent : ℕ) (k : Kernel) (rest : Rest) → fault_of program k rest reply ≡ None → Standing program budget n sent (left_in rest) k → Stands program budget n (suc sent) (taken program reply k rest)
+  taken_stands : (reply : Message) (sent : ℕ) (k : Kernel) (rest : Rest) (cs : List Command) → fault_of program k rest reply ≡ None → Standing program budget n sent (length cs) k → Stands program budget n (suc sent) (taken program reply k rest cs)
   unfolding taken
-  taken_stands (message.Return ticks v runs) sent k (Noted f fs) e s =
-      commands_stand fs sent (record (applied ticks runs k) { world = returned v (applied ticks runs k).world })
-      (returned_stands sent (length fs) (applied ticks runs k) v (applied_stands sent (length fs) k ticks runs (return_fits program k (Noted f fs) ticks v runs e) s))
-  taken_stands (message.Down ticks at depth func args runs) sent k rest e s =
+  taken_stands (message.Return ticks v runs) sent k (Noted f) cs e s =
+      commands_stand cs sent (record (applied ticks runs k) { world = returned v (applied ticks runs k).world })
+      (returned_stands sent (length cs) (applied ticks runs k) v (applied_stands sent (length cs) k ticks runs (return_fits program k (Noted f) ticks v runs e) s))
+  taken_stands (message.Down ticks at depth func args runs) sent k rest cs e s =
       let d : IsDown program k ticks func runs = down_fits program k rest ticks at depth func args runs e in
       let k' : Kernel = applied ticks runs k in
-      let sends : Sends sent (left_in rest) k' k'.world = applied_sends sent (left_in rest) k ticks runs d.fit d.asked s in
-      down_stands sent k' k'.world rest (kernel_call program func args depth k'.world) sends (kernel_goes program func args depth k'.world sound d.kernel sends.world)
-  taken_stands (message.Ask ticks at service args shapes bytes runs) sent k rest e s =
+      let sends : Sends sent (length cs) k' k'.world = applied_sends sent (length cs) k ticks runs d.fit d.asked s in
+      down_stands sent k' k'.world rest cs (kernel_call program func args depth k'.world) sends (kernel_goes program func args depth k'.world sound d.kernel sends.world)
+  taken_stands (message.Ask ticks at service args shapes bytes runs) sent k rest cs e s =
       let a : IsAsk program k ticks args runs = ask_fits program k rest ticks at service args shapes bytes runs e in
       let k' : Kernel = applied ticks runs k in
-      let sends : Sends sent (left_in rest) k' k'.world = applied_sends sent (left_in rest) k ticks runs a.fit a.asked s in
+      let sends : Sends sent (length cs) k' k'.world = applied_sends sent (length cs) k ticks runs a.fit a.asked s in
       let asked : Asked = record { service = service; at = at; args = args; shapes = shapes; bytes = bytes } in
-      service_stands sent k' k'.world rest (served asked k'.world) sends (service_goes program asked k'.world sends.world)
-  taken_stands (message.Stop ticks number at runs) sent k rest e s = tt
-  taken_stands (message.Call func depth left args deaths news view runs) sent k rest e s = tt
-  taken_stands (message.Back left result deaths news view runs) sent k rest e s = tt
-  taken_stands (message.Answer results deaths news) sent k rest e s = tt
-  taken_stands (message.Refuse reason) sent k rest e s = tt
+      service_stands sent k' k'.world rest cs (served asked k'.world) sends (service_goes program asked k'.world sends.world)
+  taken_stands (message.Stop ticks number at runs) sent k rest cs e s = tt
+  taken_stands (message.Call func depth left args deaths news view runs) sent k rest cs e s = tt
+  taken_stands (message.Back left result deaths news view runs) sent k rest cs e s = tt
+  taken_stands (message.Answer results deaths news) sent k rest cs e s = tt
+  taken_stands (message.Refuse reason) sent k rest cs e s = tt
 
-  pub next_stands : (a : Reading) (sent : ℕ) (k : Kernel) (rest : Rest) → Standing program budget n sent (left_in rest) k → Stands program budget n (suc sent) (next program a k rest)
+  pub next_stands : (a : Reading) (sent : ℕ) (k : Kernel) (rest : Rest) (cs : List Command) → Standing program budget n sent (length cs) k → Stands program budget n (suc sent) (next program a k rest cs)
   unfolding next
-  next_stands (Err f) sent k rest s = tt
-  next_stands (Ok reply) sent k rest s = of (fault_of program k rest reply) refl
+  next_stands (Err f) sent k rest cs s = tt
+  next_stands (Ok reply) sent k rest cs s = of (fault_of program k rest reply) refl
     where
-      of : (o : Option Fault) → fault_of program k rest reply ≡ o → Stands program budget n (suc sent) (judged program o reply k rest)
-      of None e = taken_stands reply sent k rest e s
+      of : (o : Option Fault) → fault_of program k rest reply ≡ o → Stands program budget n (suc sent) (judged program o reply k rest cs)
+      of None e = taken_stands reply sent k rest cs e s
       of (Some f) e = tt
 
 -- the state in which a run begins
-pub first_stands : (program : Program) (script : List ℕ) (budget : ℕ) → IsRunnable program → budget < 2 ^ 64 → Standing program budget (length script) 0 (length script) (first_kernel program budget)
+pub first_stands : (program : Program) (script : List Command) (budget : ℕ) → IsRunnable program → budget < 2 ^ 64 → Standing program budget (length script) 0 (length script) (first_kernel program budget)
 unfolding first_kernel first_world
 first_stands program script budget sound fits = record {
   world = record { born = refl; filled = (first_holds program sound).filled; clock = omega (arith, fits) };
@@ -215,7 +224,7 @@ left_before bound (pending.Over end k) = 0
 left_before bound (pending.Waits m k upcall) = bound + 2 - 2 * k.exchanges
 
 -- a turn leaves fewer
-pub turn_smaller : (program : Program) (script : List ℕ) (budget sent : ℕ) (m : Message) (k : CodeKernel) (upcall : Open) (p : CodePending)
+pub turn_smaller : (program : Program) (script : List Command) (budget sent : ℕ) (m : Message) (k : CodeKernel) (upcall : Open) (p : CodePending)
     → Stands program budget (length script) sent (pending_of script (pending.Waits m k upcall)) → Stands program budget (length script) (suc sent) (pending_of script p)
     → left_before (4 * budget + 6 * length script) p < left_before (4 * budget + 6 * length script) (pending.Waits m k upcall)
 turn_smaller program script budget sent m k upcall (pending.Over end k') s t = omega (arith, s.paid, s.clock, s.commands)

@@ -6,6 +6,7 @@ use Rattle.mdr_core.specs.declared.program.Program.{Program}
 use Rattle.mdr_outside.specs.Calls.{FarCall, Sends, and_then}
 use Rattle.mdr_outside.specs.declared.far.Exchange.{Exchange}
 use Rattle.mdr_outside.specs.Far.{exchange}
+use Rattle.mdr_model.specs.declared.command.Command.{Command}
 use Rattle.mdr_model.specs.declared.message.Message.{Message}
 use Rattle.mdr_model.specs.Memory.{Memory, first_memory}
 use Rattle.mdr_model.specs.Text.{text}
@@ -69,7 +70,7 @@ counts_unanswered es es' m n n' all so more added =
     omega (arith, so, more, sents, gots)
 
 -- there are no more messages than twice the exchanges that the run counts
-pub counted_twice : (program : Program) (script : List ℕ) (budget : ℕ) (es : List Exchange) → sent_of es ≡ map text (run_over program script budget es).sent
+pub counted_twice : (program : Program) (script : List Command) (budget : ℕ) (es : List Exchange) → sent_of es ≡ map text (run_over program script budget es).sent
     → length es + length (answers_of es) ≤ 2 * (kernel_in (run_over program script budget es).pending).exchanges
 counted_twice program script budget es sent =
     let run : SplitRun = run_over program script budget es in
@@ -79,39 +80,39 @@ counted_twice program script budget es sent =
 
 -- ---- where a run stands
 
-module _ (program : Program) (script : List ℕ) (budget : ℕ) where
+module _ (program : Program) (script : List Command) (budget : ℕ) where
   abbrev first : Pending
   first = first_of program script budget
 
-  abbrev Waiting : Message → Kernel → Rest → List Exchange → Type 0
-  Waiting m k rest es = SoFar program first (Waits m k rest) es
+  abbrev Waiting : Message → Kernel → Rest → List Command → List Exchange → Type 0
+  Waiting m k rest cs es = SoFar program first (Waits m k rest cs) es
 
   over_answers : (answers : List (List ℕ)) → split_run_over_bytes program script budget answers ≡ run_from_pending program (readings answers) first
   unfolding split_run_over_bytes split_run
   over_answers answers = refl
 
   -- so many answers lead to where it waits
-  waits_there : (m : Message) (k : Kernel) (rest : Rest) (es : List Exchange) → Waiting m k rest es → (split_run_over_bytes program script budget (answers_of es)).pending ≡ Waits m k rest
+  waits_there : (m : Message) (k : Kernel) (rest : Rest) (cs : List Command) (es : List Exchange) → Waiting m k rest cs es → (split_run_over_bytes program script budget (answers_of es)).pending ≡ Waits m k rest cs
   unfolding run_from_pending
-  waits_there m k rest es so =
+  waits_there m k rest cs es so =
       ap (λ (r : SplitRun). r.pending) (over_answers (answers_of es) ∙ ap (λ (xs : List (List ℕ)). run_from_pending program (readings xs) first) (sym (append-nil (answers_of es))) ∙ so.runs [])
 
-  memory_there : (m : Message) (k : Kernel) (rest : Rest) (es : List Exchange) (memory : Memory) → Waiting m k rest es → memory ≡ k.world.memory
+  memory_there : (m : Message) (k : Kernel) (rest : Rest) (cs : List Command) (es : List Exchange) (memory : Memory) → Waiting m k rest cs es → memory ≡ k.world.memory
       → memory ≡ (kernel_in (split_run_over_bytes program script budget (answers_of es)).pending).world.memory
-  memory_there m k rest es memory so same = same ∙ sym (ap (λ (p : Pending). (kernel_in p).world.memory) (waits_there m k rest es so))
+  memory_there m k rest cs es memory so same = same ∙ sym (ap (λ (p : Pending). (kernel_in p).world.memory) (waits_there m k rest cs es so))
 
-  pub place_here : (m : Message) (k : Kernel) (rest : Rest) (es : List Exchange) (memory : Memory) → Waiting m k rest es → memory ≡ k.world.memory → IsPlace program script budget (answers_of es) memory
-  place_here m k rest es memory so same = IsPlace.stands (answers_of es) (inl refl) (memory_there m k rest es memory so same)
+  pub place_here : (m : Message) (k : Kernel) (rest : Rest) (cs : List Command) (es : List Exchange) (memory : Memory) → Waiting m k rest cs es → memory ≡ k.world.memory → IsPlace program script budget (answers_of es) memory
+  place_here m k rest cs es memory so same = IsPlace.stands (answers_of es) (inl refl) (memory_there m k rest cs es memory so same)
 
-  pub place_after : (m : Message) (k : Kernel) (rest : Rest) (es es' : List Exchange) (bytes : List ℕ) (memory : Memory) → Waiting m k rest es → memory ≡ k.world.memory → es' ≡ es ++ exchange (text m) (Some bytes) ∷ []
+  pub place_after : (m : Message) (k : Kernel) (rest : Rest) (cs : List Command) (es es' : List Exchange) (bytes : List ℕ) (memory : Memory) → Waiting m k rest cs es → memory ≡ k.world.memory → es' ≡ es ++ exchange (text m) (Some bytes) ∷ []
       → IsPlace program script budget (answers_of es') memory
-  place_after m k rest es es' bytes memory so same added =
-      IsPlace.stands (answers_of es) (inr (bytes, more_answers es es' (text m) (Some bytes) so.all added)) (memory_there m k rest es memory so same)
+  place_after m k rest cs es es' bytes memory so same added =
+      IsPlace.stands (answers_of es) (inr (bytes, more_answers es es' (text m) (Some bytes) so.all added)) (memory_there m k rest cs es memory so same)
 
-  pub place_unanswered : (m : Message) (k : Kernel) (rest : Rest) (es es' : List Exchange) (memory : Memory) → Waiting m k rest es → memory ≡ k.world.memory → es' ≡ es ++ exchange (text m) None ∷ []
+  pub place_unanswered : (m : Message) (k : Kernel) (rest : Rest) (cs : List Command) (es es' : List Exchange) (memory : Memory) → Waiting m k rest cs es → memory ≡ k.world.memory → es' ≡ es ++ exchange (text m) None ∷ []
       → IsPlace program script budget (answers_of es') memory
-  place_unanswered m k rest es es' memory so same added =
-      subst (λ (xs : List (List ℕ)). IsPlace program script budget xs memory) (sym (more_answers es es' (text m) None so.all added ∙ append-nil (answers_of es))) (place_here m k rest es memory so same)
+  place_unanswered m k rest cs es es' memory so same added =
+      subst (λ (xs : List (List ℕ)). IsPlace program script budget xs memory) (sym (more_answers es es' (text m) None so.all added ∙ append-nil (answers_of es))) (place_here m k rest cs es memory so same)
 
   -- ---- parts of what is sent
 
@@ -128,14 +129,14 @@ module _ (program : Program) (script : List ℕ) (budget : ℕ) where
       }
 
   -- a run that waits sends its message next, whatever comes then
-  sends_next : (m : Message) (k : Kernel) (rest : Rest) (more : List (List ℕ)) → (later : List Message) × ((run_from_pending program (readings more) (Waits m k rest)).sent ≡ m ∷ later)
+  sends_next : (m : Message) (k : Kernel) (rest : Rest) (cs : List Command) (more : List (List ℕ)) → (later : List Message) × ((run_from_pending program (readings more) (Waits m k rest cs)).sent ≡ m ∷ later)
   unfolding run_from_pending
-  sends_next m k rest [] = ([], refl)
-  sends_next m k rest (a ∷ more) = ((run_from_pending program (readings more) (next program (reading_of a) k rest)).sent, refl)
+  sends_next m k rest cs [] = ([], refl)
+  sends_next m k rest cs (a ∷ more) = ((run_from_pending program (readings more) (next program (reading_of a) k rest cs)).sent, refl)
 
-  part_with : (m : Message) (k : Kernel) (rest : Rest) (es es' : List Exchange) (more : List (List ℕ)) → Waiting m k rest es → answers_of es' ≡ answers_of es ++ more → IsPart program script budget es' (sent_of es ++ text m ∷ [])
-  part_with m k rest es es' more so answers =
-      let then' = sends_next m k rest more in
+  part_with : (m : Message) (k : Kernel) (rest : Rest) (cs : List Command) (es es' : List Exchange) (more : List (List ℕ)) → Waiting m k rest cs es → answers_of es' ≡ answers_of es ++ more → IsPart program script budget es' (sent_of es ++ text m ∷ [])
+  part_with m k rest cs es es' more so answers =
+      let then' = sends_next m k rest cs more in
       let all : (run_over program script budget es').sent ≡ so.messages ++ (m ∷ then'.0) =
       ap (λ (r : SplitRun). r.sent) (run_is program script budget es' ∙ ap (λ (xs : List (List ℕ)). run_from_pending program (readings xs) first) answers ∙ so.runs more)
       ∙ ap (λ (ms : List Message). so.messages ++ ms) then'.1 in
@@ -171,15 +172,15 @@ module _ (program : Program) (script : List ℕ) (budget : ℕ) where
   sent_count : (es : List Exchange) (m : List ℕ) → length (sent_of es ++ m ∷ []) ≡ length es + 1
   sent_count es m = length_more (sent_of es) m ∙ ap (λ (n : ℕ). n + 1) (sents es)
 
-  pub stops_in : (m : Message) (k : Kernel) (rest : Rest) (old calls calls' : List FarCall) (es es' : List Exchange) (memory : Memory) (n n' : ℕ) → Waiting m k rest es → calls ≡ old ++ sends (sent_of es)
+  pub stops_in : (m : Message) (k : Kernel) (rest : Rest) (cs : List Command) (old calls calls' : List FarCall) (es es' : List Exchange) (memory : Memory) (n n' : ℕ) → Waiting m k rest cs es → calls ≡ old ++ sends (sent_of es)
       → n ≡ length es + length (answers_of es) → memory ≡ k.world.memory → Broke m calls calls' es es' n n'
       → IsStopped program script budget old calls' es' (record { program = program; is_fresh = false; memory = memory; messages = n' })
-  stops_in m k rest old calls calls' es es' memory n n' so called count same (Broke.unsent c e u) =
-      let here : IsStopped program script budget old calls es (record { program = program; is_fresh = false; memory = memory; messages = n }) = stops_here (Waits m k rest) old calls es memory n so called count (place_here m k rest es memory so same) in
+  stops_in m k rest cs old calls calls' es es' memory n n' so called count same (Broke.unsent c e u) =
+      let here : IsStopped program script budget old calls es (record { program = program; is_fresh = false; memory = memory; messages = n }) = stops_here (Waits m k rest cs) old calls es memory n so called count (place_here m k rest cs es memory so same) in
       subst (λ (x : List FarCall). IsStopped program script budget old x es' (record { program = program; is_fresh = false; memory = memory; messages = n' })) (sym c)
       (subst (λ (x : List Exchange). IsStopped program script budget old calls x (record { program = program; is_fresh = false; memory = memory; messages = n' })) (sym e)
       (subst (λ (x : ℕ). IsStopped program script budget old calls es (record { program = program; is_fresh = false; memory = memory; messages = x })) (sym u) here))
-  stops_in m k rest old calls calls' es es' memory n n' so called count same (Broke.unanswered c e u) = of e
+  stops_in m k rest cs old calls calls' es es' memory n n' so called count same (Broke.unanswered c e u) = of e
     where
       with_same : answers_of es' ≡ answers_of es → IsPlace program script budget (answers_of es') memory
           → IsStopped program script budget old calls' es' (record { program = program; is_fresh = false; memory = memory; messages = n' })
@@ -187,23 +188,23 @@ module _ (program : Program) (script : List ℕ) (budget : ℕ) where
           let gots : length (answers_of es') ≡ length (answers_of es) = ap length answers in record {
             sent = sent_of es ++ text m ∷ [];
             called = called_more old calls calls' (sent_of es) (text m) called c;
-            part = part_with m k rest es es' [] so (answers ∙ sym (append-nil (answers_of es)));
+            part = part_with m k rest cs es es' [] so (answers ∙ sym (append-nil (answers_of es)));
             count = omega (arith, u, count, gots, sent_count es (text m));
             place = place;
           }
 
       of : (es' ≡ es) ⊎ (es' ≡ es ++ exchange (text m) None ∷ []) → IsStopped program script budget old calls' es' (record { program = program; is_fresh = false; memory = memory; messages = n' })
-      of (inl is) = with_same (ap answers_of is) (subst (λ (xs : List Exchange). IsPlace program script budget (answers_of xs) memory) (sym is) (place_here m k rest es memory so same))
-      of (inr is) = with_same (more_answers es es' (text m) None so.all is ∙ append-nil (answers_of es)) (place_unanswered m k rest es es' memory so same is)
-  stops_in m k rest old calls calls' es es' memory n n' so called count same (Broke.untaken bytes c e u) =
+      of (inl is) = with_same (ap answers_of is) (subst (λ (xs : List Exchange). IsPlace program script budget (answers_of xs) memory) (sym is) (place_here m k rest cs es memory so same))
+      of (inr is) = with_same (more_answers es es' (text m) None so.all is ∙ append-nil (answers_of es)) (place_unanswered m k rest cs es es' memory so same is)
+  stops_in m k rest cs old calls calls' es es' memory n n' so called count same (Broke.untaken bytes c e u) =
       let answers : answers_of es' ≡ answers_of es ++ bytes ∷ [] = more_answers es es' (text m) (Some bytes) so.all e in
       let gots : length (answers_of es') ≡ length (answers_of es) + 1 = ap length answers ∙ length_more (answers_of es) bytes in
       record {
         sent = sent_of es ++ text m ∷ [];
         called = called_more old calls calls' (sent_of es) (text m) called c;
-        part = part_with m k rest es es' (bytes ∷ []) so answers;
+        part = part_with m k rest cs es es' (bytes ∷ []) so answers;
         count = omega (arith, u, count, gots, sent_count es (text m));
-        place = place_after m k rest es es' bytes memory so same e;
+        place = place_after m k rest cs es es' bytes memory so same e;
       }
 
   -- a run that ended, of which no outcome could be made

@@ -3,6 +3,7 @@ use Rattle.std.proofs.Common.{◌≡◌, ℕ, List, [], ◌∷◌, ◌++◌, map
 use Rattle.mdr_core.specs.declared.program.Program.{Program}
 use Rattle.mdr_outside.specs.declared.far.Exchange.{Exchange}
 use Rattle.mdr_outside.specs.Far.{exchange}
+use Rattle.mdr_model.specs.declared.command.Command.{Command}
 use Rattle.mdr_model.specs.declared.message.Message.{Message}
 use Rattle.mdr_model.specs.declared.outcome.End.{End}
 use Rattle.mdr_model.specs.declared.outcome.End.TheVariants as ends
@@ -76,10 +77,10 @@ sends_more : (es : List Exchange) (ms : List Message) (m : Message) (got : Optio
 sends_more es ms m got e = sent_more es (exchange (text m) got) ∙ ap (λ (xs : List (List ℕ)). xs ++ text m ∷ []) e ∙ sym (texts_more ms m)
 
 -- one answer more
-pub goes_so : (program : Program) (first : Pending) (m : Message) (k : Kernel) (rest : Rest) (es es' : List Exchange) (bytes : List ℕ) (p : Pending) → SoFar program first (Waits m k rest) es
-    → IsMessage m → es' ≡ es ++ exchange (text m) (Some bytes) ∷ [] → p ≡ next program (reading_of bytes) k rest → SoFar program first p es'
+pub goes_so : (program : Program) (first : Pending) (m : Message) (k : Kernel) (rest : Rest) (cs : List Command) (es es' : List Exchange) (bytes : List ℕ) (p : Pending) → SoFar program first (Waits m k rest cs) es
+    → IsMessage m → es' ≡ es ++ exchange (text m) (Some bytes) ∷ [] → p ≡ next program (reading_of bytes) k rest cs → SoFar program first p es'
 unfolding run_from_pending
-goes_so program first m k rest es es' bytes p so one added leads = record {
+goes_so program first m k rest cs es es' bytes p so one added leads = record {
   messages = so.messages ++ m ∷ [];
   sent = ap sent_of added ∙ sends_more es so.messages m (Some bytes) so.sent;
   spelled = spelled_more so.messages m so.spelled one;
@@ -88,7 +89,7 @@ goes_so program first m k rest es es' bytes p so one added leads = record {
       let answers_are : answers_of es' ++ more ≡ answers_of es ++ bytes ∷ more =
       ap (λ (xs : List Exchange). answers_of xs ++ more) added ∙ ap (λ (xs : List (List ℕ)). xs ++ more) (answers_more es (exchange (text m) (Some bytes)) so.all)
       ∙ append_assoc (answers_of es) (bytes ∷ []) more in
-      let later : SplitRun = run_from_pending program (readings more) (next program (reading_of bytes) k rest) in
+      let later : SplitRun = run_from_pending program (readings more) (next program (reading_of bytes) k rest cs) in
       let here : run_from_pending program (readings (answers_of es ++ bytes ∷ more)) first ≡ record { sent = so.messages ++ m ∷ later.sent; pending = later.pending } = so.runs (bytes ∷ more) in
       ap (λ (xs : List (List ℕ)). run_from_pending program (readings xs) first) answers_are ∙ here
       ∙ ap (λ (ms : List Message). record { sent = ms; pending = later.pending }) (sym (append_assoc so.messages (m ∷ []) later.sent))
@@ -96,15 +97,15 @@ goes_so program first m k rest es es' bytes p so one added leads = record {
 }
 
 -- the first state of a run
-abbrev pub first_of : Program → List ℕ → ℕ → Pending
+abbrev pub first_of : Program → List Command → ℕ → Pending
 first_of program script budget = split_commands program script (first_kernel program budget)
 
-pub run_is : (program : Program) (script : List ℕ) (budget : ℕ) (es : List Exchange) → run_over program script budget es ≡ run_from_pending program (readings (answers_of es)) (first_of program script budget)
+pub run_is : (program : Program) (script : List Command) (budget : ℕ) (es : List Exchange) → run_over program script budget es ≡ run_from_pending program (readings (answers_of es)) (first_of program script budget)
 unfolding split_run_over_bytes split_run
 run_is program script budget es = refl
 
 -- a run that is known to have sent these messages and to stand there
-ended_in : (program : Program) (script : List ℕ) (budget : ℕ) (es : List Exchange) (ms : List Message) (p : Pending) (end : End) (k : Kernel) → sent_of es ≡ map text ms → HaveSpellings ms
+ended_in : (program : Program) (script : List Command) (budget : ℕ) (es : List Exchange) (ms : List Message) (p : Pending) (end : End) (k : Kernel) → sent_of es ≡ map text ms → HaveSpellings ms
     → run_over program script budget es ≡ record { sent = ms; pending = p } → finish_of p ≡ finish end k.world → kernel_in p ≡ k → HasEnded program script budget es end k
 ended_in program script budget es ms p end k sent spelled is ended kernel = record {
   messages = sent ∙ ap (λ (r : SplitRun). map text r.sent) (sym is);
@@ -114,7 +115,7 @@ ended_in program script budget es ms p end k sent spelled is ended kernel = reco
 }
 
 -- the run is over
-pub over_so : (program : Program) (script : List ℕ) (budget : ℕ) (es : List Exchange) (end : End) (k : Kernel) → SoFar program (first_of program script budget) (Over end k) es → HasEnded program script budget es end k
+pub over_so : (program : Program) (script : List Command) (budget : ℕ) (es : List Exchange) (end : End) (k : Kernel) → SoFar program (first_of program script budget) (Over end k) es → HasEnded program script budget es end k
 unfolding run_from_pending
 over_so program script budget es end k so =
     let is : run_over program script budget es ≡ record { sent = so.messages; pending = Over end k } =
@@ -125,12 +126,12 @@ over_so program script budget es end k so =
     ended_in program script budget es so.messages (Over end k) end k so.sent so.spelled is refl refl
 
 -- the last message had no answer
-pub fails_so : (program : Program) (script : List ℕ) (budget : ℕ) (es es' : List Exchange) (m : Message) (k k' : Kernel) (rest : Rest) → SoFar program (first_of program script budget) (Waits m k rest) es
+pub fails_so : (program : Program) (script : List Command) (budget : ℕ) (es es' : List Exchange) (m : Message) (k k' : Kernel) (rest : Rest) (cs : List Command) → SoFar program (first_of program script budget) (Waits m k rest cs) es
     → IsMessage m → es' ≡ es ++ exchange (text m) None ∷ [] → k' ≡ k → HasEnded program script budget es' (ends.FarFault k'.exchanges) k'
 unfolding run_from_pending
-fails_so program script budget es es' m k k' rest so one added same =
+fails_so program script budget es es' m k k' rest cs so one added same =
     let answers_are : answers_of es' ≡ answers_of es ++ [] = ap answers_of added ∙ answers_more es (exchange (text m) None) so.all in
-    let is : run_over program script budget es' ≡ record { sent = so.messages ++ m ∷ []; pending = Waits m k rest } =
+    let is : run_over program script budget es' ≡ record { sent = so.messages ++ m ∷ []; pending = Waits m k rest cs } =
     run_is program script budget es' ∙ ap (λ (xs : List (List ℕ)). run_from_pending program (readings xs) (first_of program script budget)) answers_are ∙ so.runs [] in
-    ended_in program script budget es' (so.messages ++ m ∷ []) (Waits m k rest) (ends.FarFault k'.exchanges) k' (ap sent_of added ∙ sends_more es so.messages m None so.sent) (spelled_more so.messages m so.spelled one) is
+    ended_in program script budget es' (so.messages ++ m ∷ []) (Waits m k rest cs) (ends.FarFault k'.exchanges) k' (ap sent_of added ∙ sends_more es so.messages m None so.sent) (spelled_more so.messages m so.spelled one) is
     (ap (λ (x : Kernel). finish (ends.FarFault x.exchanges) x.world) (sym same)) (sym same)

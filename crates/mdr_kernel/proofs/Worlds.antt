@@ -1,5 +1,6 @@
 -- What code of the kernel half leaves: the world stays sound, the ticks that are counted are gone from the rest, and no command begins.
 use Rattle.std.proofs.Common.{◌≡◌, ℕ, ◌+◌, ◌≤◌, true, List, arith}
+use Rattle.mdr_core.specs.declared.value.Value.{Value}
 use Rattle.mdr_core.specs.declared.program.Program.{Program}
 use Rattle.mdr_model.specs.declared.wire.Wire.{Wire}
 use Rattle.mdr_model.specs.Tree.{Asked}
@@ -25,9 +26,9 @@ pub record Gone (program : Program) (w w' : World) : Type 0 where
 pub holds_in : {program : Program} {w : World} → IsSoundWorld program w → Holds program w.memory
 holds_in s = record { born = s.born; filled = s.filled }
 
-pub begun_is_sound : (program : Program) (f : ℕ) (w : World) → IsSoundWorld program w → IsSoundWorld program (begun program f w)
+pub begun_is_sound : (program : Program) (f : ℕ) (args : List Value) (w : World) → IsSoundWorld program w → IsSoundWorld program (begun program f args w)
 unfolding begun
-begun_is_sound program f w s = record { born = s.born; filled = s.filled; clock = s.clock }
+begun_is_sound program f args w s = record { born = s.born; filled = s.filled; clock = s.clock }
 
 pub returned_is_sound : (program : Program) (v : Wire) (w : World) → IsSoundWorld program w → IsSoundWorld program (returned v w)
 unfolding returned

@@ -4,6 +4,7 @@ use Rattle.mdr_core.specs.declared.program.Program.{Program}
 use Rattle.mdr_outside.specs.Calls.{FarCall, Sends, and_then}
 use Rattle.mdr_outside.specs.declared.far.Exchange.{Exchange}
 use Rattle.mdr_outside.specs.Far.{exchange}
+use Rattle.mdr_model.specs.declared.command.Command.{Command}
 use Rattle.mdr_model.specs.declared.message.Message.{Message}
 use Rattle.mdr_model.specs.Memory.{Memory, first_memory}
 use Rattle.mdr_model.specs.Text.{text}
@@ -21,17 +22,17 @@ sends messages = map Sends messages
 -- ---- where a run stops
 
 -- the run didn't begin, and memory is the first one; or it stands where these answers lead it, which are all that came, or all but the last
-pub data IsPlace (program : Program) (script : List ℕ) (budget : ℕ) (answers : List (List ℕ)) (memory : Memory) : Type 0 where
+pub data IsPlace (program : Program) (script : List Command) (budget : ℕ) (answers : List (List ℕ)) (memory : Memory) : Type 0 where
   begins : memory ≡ first_memory program → answers ≡ [] → IsPlace program script budget answers memory
   stands : (taken : List (List ℕ)) → (answers ≡ taken) ⊎ ((last : List ℕ) × (answers ≡ taken ++ last ∷ [])) → memory ≡ (kernel_in (split_run_over_bytes program script budget taken).pending).world.memory → IsPlace program script budget answers memory
 
 -- messages that a run sends, from its first on
-pub record IsPart (program : Program) (script : List ℕ) (budget : ℕ) (es : List Exchange) (sent : List (List ℕ)) : Type 0 where
+pub record IsPart (program : Program) (script : List Command) (budget : ℕ) (es : List Exchange) (sent : List (List ℕ)) : Type 0 where
   pub count : ℕ
   pub part : sent ≡ take count (map text (run_over program script budget es).sent)
 
 -- memory was wanting: the messages sent are a beginning of the run's, the half counts them and the answers, and it has the memory of the place
-pub record IsStopped (program : Program) (script : List ℕ) (budget : ℕ) (old new : List FarCall) (es : List Exchange) (h : HalfState) : Type 0 where
+pub record IsStopped (program : Program) (script : List Command) (budget : ℕ) (old new : List FarCall) (es : List Exchange) (h : HalfState) : Type 0 where
   pub sent : List (List ℕ)
   pub called : new ≡ old ++ sends sent
   pub part : IsPart program script budget es sent

@@ -3,6 +3,7 @@ use Rattle.std.specs.Prelude.{◌≡◌, ℕ, ◌++◌, List, [], ◌∷◌, map
 use Rattle.mdr_core.specs.declared.program.Program.{Program}
 use Rattle.mdr_outside.specs.declared.far.Exchange.{Exchange}
 use Rattle.mdr_outside.specs.Far.{exchange}
+use Rattle.mdr_model.specs.declared.command.Command.{Command}
 use Rattle.mdr_model.specs.declared.message.Message.{Message}
 use Rattle.mdr_model.specs.declared.outcome.End.{End}
 use Rattle.mdr_model.specs.declared.outcome.End.TheVariants as ends
@@ -37,16 +38,16 @@ answers_of (e ∷ es) = then_answers e.got (answers_of es)
 -- ---- a run
 
 -- the split run over these answers
-abbrev pub run_over : Program → List ℕ → ℕ → List Exchange → SplitRun
+abbrev pub run_over : Program → List Command → ℕ → List Exchange → SplitRun
 run_over program script budget es = split_run_over_bytes program script budget (answers_of es)
 
 -- how it ended: where it waits for an answer the far side failed
 abbrev pub finish_of : Pending → Finish
 finish_of (Over end k) = finish end k.world
-finish_of (Waits m k rest) = finish (ends.FarFault k.exchanges) k.world
+finish_of (Waits m k rest left) = finish (ends.FarFault k.exchanges) k.world
 
 -- the messages are sent byte for byte, each has a spelling, and the outcome is the run's
-pub record IsRun (program : Program) (script : List ℕ) (budget : ℕ) (es : List Exchange) (o : Outcome) : Type 0 where
+pub record IsRun (program : Program) (script : List Command) (budget : ℕ) (es : List Exchange) (o : Outcome) : Type 0 where
   pub messages : sent_of es ≡ map text (run_over program script budget es).sent
   pub spelled : HaveSpellings (run_over program script budget es).sent
   pub outcome : o ≡ outcome_of (finish_of (run_over program script budget es).pending)
@@ -58,7 +59,7 @@ IsFarFault (ends.Refused exchange cause number) = ⊥
 IsFarFault (ends.FarFault exchange) = Unit {0}
 
 -- the same before the outcome is made
-pub record HasEnded (program : Program) (script : List ℕ) (budget : ℕ) (es : List Exchange) (end : End) (k : Kernel) : Type 0 where
+pub record HasEnded (program : Program) (script : List Command) (budget : ℕ) (es : List Exchange) (end : End) (k : Kernel) : Type 0 where
   pub messages : sent_of es ≡ map text (run_over program script budget es).sent
   pub spelled : HaveSpellings (run_over program script budget es).sent
   pub ended : finish_of (run_over program script budget es).pending ≡ finish end k.world
@@ -67,10 +68,10 @@ pub record HasEnded (program : Program) (script : List ℕ) (budget : ℕ) (es :
 -- ---- a turn
 
 -- one exchange more: its answer leads to the next state, or there was none
-abbrev pub Turned : Program → List ℕ → Message → Kernel → Rest → (old new : List Exchange) → Turn → Type 0
-Turned program script m k rest old new (turn.Next p) =
-    (bytes : List ℕ) × (new ≡ old ++ exchange (text m) (Some bytes) ∷ []) × (pending_of script p ≡ next program (reading_of bytes) k rest)
-Turned program script m k rest old new (turn.Unanswered k') = (new ≡ old ++ exchange (text m) None ∷ []) × (kernel_of k' ≡ k)
+abbrev pub Turned : Program → List Command → Message → Kernel → Rest → List Command → (old new : List Exchange) → Turn → Type 0
+Turned program script m k rest left old new (turn.Next p) =
+    (bytes : List ℕ) × (new ≡ old ++ exchange (text m) (Some bytes) ∷ []) × (pending_of script p ≡ next program (reading_of bytes) k rest left)
+Turned program script m k rest left old new (turn.Unanswered k') = (new ≡ old ++ exchange (text m) None ∷ []) × (kernel_of k' ≡ k)
 
 abbrev pub IsUnanswered : Turn → Type 0
 IsUnanswered (turn.Next p) = ⊥

@@ -2,6 +2,7 @@
 use Rattle.std.specs.Prelude.{◌≡◌, ℕ, ◌+◌, ◌^◌, ◌<◌, List, drop, Option, Some, None}
 use Rattle.std.specs.List.{AllByRecursion}
 use Rattle.mdr_core.specs.declared.program.Program.{Program}
+use Rattle.mdr_model.specs.declared.command.Command.{Command}
 use Rattle.mdr_model.specs.World.{World, Ran, Ended, Stopped}
 use Rattle.mdr_model.specs.Kernel.{Kernel, Rest, Noted, Pending, Over, Waits}
 use Rattle.mdr_model.specs.Memory.{births, first_memory}
@@ -28,16 +29,19 @@ abbrev pub ran_of : {A : Type 0} → A → Option CodeStop → World → Ran A
 ran_of result None w = Ended result w
 ran_of result (Some stop) w = Stopped stop.kind stop.at w
 
--- the rest of the script is what stands behind the commands that have begun
-abbrev pub rest_of : List ℕ → Open → Rest
-rest_of script open' = Noted open'.func (drop open'.done script)
+abbrev pub rest_of : Open → Rest
+rest_of open' = Noted open'.func
 
-abbrev pub pending_of : List ℕ → CodePending → Pending
+-- the commands that are still to begin stand behind those that have begun
+abbrev pub left_of : List Command → Open → List Command
+left_of script open' = drop open'.done script
+
+abbrev pub pending_of : List Command → CodePending → Pending
 pending_of script (pending.Over end k) = Over end (kernel_of k)
-pending_of script (pending.Waits m k open') = Waits m (kernel_of k) (rest_of script open')
+pending_of script (pending.Waits m k open') = Waits m (kernel_of k) (rest_of open') (left_of script open')
 
 -- what follows a command that returned
-abbrev pub then_by : List ℕ → Commanded → (Kernel → Pending) → Pending
+abbrev pub then_by : List Command → Commanded → (Kernel → Pending) → Pending
 then_by script (commanded.Returned k) go = go (kernel_of k)
 then_by script (commanded.Rests p) go = pending_of script p
 

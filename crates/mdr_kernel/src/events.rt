@@ -31,19 +31,21 @@ pub(crate) fn one_more(count: u64) -> Result<u64, OutOfMemory>
     }
 }
 
-/// A command begins.
+/// A call begins.
 #[tactic(auto, unfolding(mdr_model::specs::Watched::begun))]
 pub(crate) fn begin(
     alloc: Global,
     program: &Program,
     func: u32,
+    args: &[Value],
     world: &mut World,
 ) -> Result<(), OutOfMemory>
-    ensures { OnOk result (world_of world.new ≡ begun program.now func (world_of world.old)) }
+    ensures { OnOk result (world_of world.new ≡ begun program.now func args.now (world_of world.old)) }
 {
     let name = name_of(alloc, program, func)?;
+    let values = Items::from_vec(Vec::from_slice(alloc, args)?);
     world.calls = one_more(world.calls)?;
-    world.events.push(Happened::Call(name, Items::new(alloc)))?;
+    world.events.push(Happened::Call(name, values))?;
     Ok(())
 }
 

@@ -17,7 +17,7 @@ use crate::run::run_script;
 use crate::state::{Kernel, World};
 use mdr_copy::{copied, first_memory};
 use mdr_core::{Items, OutOfMemory, Program};
-use mdr_model::{MemoryBlock, Outcome};
+use mdr_model::{Command, MemoryBlock, Outcome};
 use mdr_outside::Far;
 use std::alloc::Global;
 use std::marker::Model;
@@ -99,7 +99,7 @@ impl<'a> KernelHalf<'a> {
     pub fn run<F: Far>(
         &mut self,
         alloc: Global,
-        script: &[u32],
+        script: &[Command],
         ticks: u64,
         far: &mut F,
     ) -> Result<Outcome, OutOfMemory>

@@ -185,7 +185,7 @@ fn return_fault(
     value: Wire,
     runs: &[Run],
 ) -> Option<Fault>
-    ensures { (script : List ℕ) → result ≡ fault_of program.now (kernel_of kernel.now) (Noted func script) (message.Return ticks value runs.now) }
+    ensures { result ≡ fault_of program.now (kernel_of kernel.now) (Noted func) (message.Return ticks value runs.now) }
 {
     if !(ticks <= kernel.world.rest) {
         fault(RefuseKind::TooManyTicks)
@@ -227,7 +227,7 @@ fn down_fault(
     args: &[Wire],
     runs: &[Run],
 ) -> Option<Fault>
-    ensures { (upcall : ℕ) (script : List ℕ) → result ≡ fault_of program.now (kernel_of kernel.now) (Noted upcall script) (message.Down ticks at depth func args.now runs.now) }
+    ensures { (upcall : ℕ) → result ≡ fault_of program.now (kernel_of kernel.now) (Noted upcall) (message.Down ticks at depth func args.now runs.now) }
 {
     if !is_awaited(kernel, ticks) {
         fault(RefuseKind::NotAwaited)
@@ -277,7 +277,7 @@ fn ask_fault(
     bytes: &[u8],
     runs: &[Run],
 ) -> Option<Fault>
-    ensures { (upcall : ℕ) (script : List ℕ) → result ≡ fault_of program.now (kernel_of kernel.now) (Noted upcall script) (message.Ask ticks at service args.now shapes.now bytes.now runs.now) }
+    ensures { (upcall : ℕ) → result ≡ fault_of program.now (kernel_of kernel.now) (Noted upcall) (message.Ask ticks at service args.now shapes.now bytes.now runs.now) }
 {
     if !is_awaited(kernel, ticks) {
         fault(RefuseKind::NotAwaited)
@@ -302,7 +302,7 @@ fn stop_fault(
     at: At,
     runs: &[Run],
 ) -> Option<Fault>
-    ensures { (upcall : ℕ) (script : List ℕ) → result ≡ fault_of program.now (kernel_of kernel.now) (Noted upcall script) (message.Stop ticks number at runs.now) }
+    ensures { (upcall : ℕ) → result ≡ fault_of program.now (kernel_of kernel.now) (Noted upcall) (message.Stop ticks number at runs.now) }
 {
     if !(ticks <= kernel.world.rest) {
         fault(RefuseKind::TooManyTicks)
@@ -324,7 +324,7 @@ pub(crate) fn fault_of(
     func: u32,
     reply: &Message,
 ) -> Option<Fault>
-    ensures { (script : List ℕ) → result ≡ fault_of program.now (kernel_of kernel.now) (Noted func script) reply.now }
+    ensures { result ≡ fault_of program.now (kernel_of kernel.now) (Noted func) reply.now }
 {
     match reply {
         Message::Return {

@@ -1,19 +1,20 @@
 // The next state of a run after an answer.
 
 ghost use Rattle.std.specs.Prelude.{◌≡◌, ℕ, List, IfOk};
+ghost use Rattle.mdr_model.specs.declared.command.Command.{Command as AnyCommand};
 ghost use Rattle.mdr_model.specs.Runnable.{IsRunnable};
 ghost use Rattle.mdr_model.specs.Kernel.{refused, next};
-ghost use Rattle.mdr_kernel.specs.States.{world_of, kernel_of, pending_of, rest_of, IsSoundWorld};
+ghost use Rattle.mdr_kernel.specs.States.{world_of, kernel_of, pending_of, rest_of, left_of, IsSoundWorld};
 
 use crate::legal::fault_of;
 use crate::state::{Kernel, Open, Pending};
 use crate::taken::taken;
 use mdr_core::{OutOfMemory, Program};
-use mdr_model::{End, Fault, Message};
+use mdr_model::{Command, End, Fault, Message};
 use std::alloc::Global;
 
 fn refused(fault: Fault, kernel: Kernel) -> Pending
-    ensures { (script : List ℕ) → pending_of script result ≡ refused fault (kernel_of kernel) }
+    ensures { (script : List AnyCommand) → pending_of script result ≡ refused fault (kernel_of kernel) }
 {
     let exchange = kernel.exchanges;
     Pending::Over(End::Refused(exchange, fault.kind, fault.number), kernel)
@@ -24,14 +25,14 @@ fn refused(fault: Fault, kernel: Kernel) -> Pending
 pub(crate) fn next(
     alloc: Global,
     program: &Program,
-    script: &[u32],
+    script: &[Command],
     kernel: Kernel,
     upcall: Open,
     reading: Result<Message, Fault>,
 ) -> Result<Pending, OutOfMemory>
     requires program { IsRunnable program.now }
     requires world { IsSoundWorld program.now (world_of kernel.world) }
-    ensures { IfOk result (λ p. pending_of script.now p ≡ next program.now reading (kernel_of kernel) (rest_of script.now upcall)) }
+    ensures { IfOk result (λ p. pending_of script.now p ≡ next program.now reading (kernel_of kernel) (rest_of upcall) (left_of script.now upcall)) }
 {
     match reading {
         Ok(reply) => match fault_of(alloc, program, &kernel, upcall.func, &reply) {

@@ -9,7 +9,7 @@ ghost use Rattle.mdr_model.specs.Runnable.{IsRunnable};
 ghost use Rattle.mdr_model.specs.Text.{text};
 ghost use Rattle.mdr_model.specs.Kernel.{first_kernel};
 ghost use Rattle.mdr_msg.specs.WellFormed.{IsMessage};
-ghost use Rattle.mdr_kernel.specs.States.{world_of, kernel_of, rest_of, IsSoundWorld};
+ghost use Rattle.mdr_kernel.specs.States.{world_of, kernel_of, rest_of, left_of, IsSoundWorld};
 ghost use Rattle.mdr_kernel.specs.Runs.{sent_of, answers_of, Turned, IsUnanswered, HasEnded, IsFarFault};
 ghost use Rattle.mdr_kernel.specs.Calls.{sends, had, Broke, IsPlace, IsStopped};
 
@@ -18,7 +18,7 @@ use crate::script::split_commands;
 use crate::state::{Kernel, Open, Pending};
 use mdr_copy::copied;
 use mdr_core::{OutOfMemory, Program};
-use mdr_model::{End, MemoryBlock, Message};
+use mdr_model::{Command, End, MemoryBlock, Message};
 use mdr_msg::{reading_of, spelled};
 use mdr_outside::{DeliverAnswer, Far};
 use std::alloc::Global;
@@ -34,7 +34,7 @@ pub(crate) enum Turn {
 fn exchanged<F: Far>(
     alloc: Global,
     program: &Program,
-    script: &[u32],
+    script: &[Command],
     message: Message,
     kernel: Kernel,
     upcall: Open,
@@ -44,7 +44,7 @@ fn exchanged<F: Far>(
     requires program { IsRunnable program.now }
     requires world { IsSoundWorld program.now (world_of kernel.world) }
     requires loaded { IsLoaded (F.loaded far.old) }
-    ensures turned { IfOk result (Turned program.now script.now message (kernel_of kernel) (rest_of script.now upcall) (F.exchanges far.old) (F.exchanges far.new)) }
+    ensures turned { IfOk result (Turned program.now script.now message (kernel_of kernel) (rest_of upcall) (left_of script.now upcall) (F.exchanges far.old) (F.exchanges far.new)) }
     ensures spelled { IfOk result (λ _. IsMessage message) }
     ensures called { IfOk result (λ _. F.calls far.new ≡ and_then (F.calls far.old) (Sends (text message))) }
     ensures counted { IfOk result (λ t. messages.new ≡ messages.old + had t) }
@@ -73,7 +73,7 @@ fn exchanged<F: Far>(
 pub(crate) fn run_script<F: Far>(
     alloc: Global,
     program: &Program,
-    script: &[u32],
+    script: &[Command],
     ticks: u64,
     first: Kernel,
     far: &mut F,

@@ -1,11 +1,14 @@
 // The commands of a script, up to the first message.
 
-ghost use Rattle.std.specs.Prelude.{◌≡◌, [], ℕ, true, List, drop, IfOk};
+ghost use Rattle.std.specs.Prelude.{◌≡◌, true, List, map, drop, IfOk};
+ghost use Rattle.mdr_model.specs.declared.command.Command.{Command as AnyCommand};
 ghost use Rattle.mdr_model.specs.Runnable.{IsRunnable};
 ghost use Rattle.mdr_model.specs.Meaning.{is_kernel};
 ghost use Rattle.mdr_model.specs.World.{kernel_call, World as AnyWorld};
-ghost use Rattle.mdr_model.specs.Watched.{begun};
-ghost use Rattle.mdr_model.specs.Kernel.{then_split, command_by, split_commands, Kernel as AnyKernel, Pending as AnyPending};
+ghost use Rattle.mdr_model.specs.declared.wire.Wire.{Wire as AnyWire};
+ghost use Rattle.mdr_model.specs.Values.{wire_of};
+ghost use Rattle.mdr_model.specs.Watched.{noting, called_by, begun, begin};
+ghost use Rattle.mdr_model.specs.Kernel.{then_split, split_by, split_commands, Kernel as AnyKernel, Pending as AnyPending};
 ghost use Rattle.mdr_kernel.specs.States.{world_of, kernel_of, pending_of, then_by, IsSoundWorld, ReturnsSound};
 
 use crate::events::{begin, end};
@@ -13,16 +16,28 @@ use crate::sending::calls;
 use crate::state::{Commanded, Kernel, Open, Pending};
 use crate::stubs::is_kernel;
 use crate::work::kernel_call;
-use mdr_core::{OutOfMemory, Program};
-use mdr_model::{End, Wire};
+use mdr_copy::wire_of;
+use mdr_core::{Items, OutOfMemory, Program, Value};
+use mdr_model::{Command, End, Wire};
 use std::alloc::Global;
 
-/// A command of the kernel half.
-fn own_command(program: &Program, func: u32, kernel: Kernel) -> Result<Commanded, OutOfMemory>
+/// The values of arguments as messages have them.
+fn wires_of(alloc: Global, values: &[Value]) -> Result<Items<Wire>, OutOfMemory>
+    ensures { IfOk result (λ args. args ≡ map wire_of values.now) }
+{
+    let mut args = Items::new(alloc);
+    for value in values {
+        args.push(wire_of(*value))?;
+    }
+    Ok(args)
+}
+
+/// A call of a function of the kernel half, which has no parameters.
+fn own_call(program: &Program, func: u32, kernel: Kernel) -> Result<Commanded, OutOfMemory>
     requires program { IsRunnable program.now }
     requires function { is_kernel program.now func ≡ true }
     requires world { IsSoundWorld program.now (world_of kernel.world) }
-    ensures by { IfOk result (λ c. (script : List ℕ) (before : AnyWorld) (go : AnyKernel → AnyPending) → then_split (kernel_call program.now func [] 0 (world_of kernel.world)) (record { world = before; agreed = kernel.agreed; exchanges = kernel.exchanges }) go ≡ then_by script c go) }
+    ensures by { IfOk result (λ c. (script : List AnyCommand) (args : List AnyWire) (before : AnyWorld) (go : AnyKernel → AnyPending) → then_split (noting (kernel_call program.now func args 0 (world_of kernel.world))) (record { world = before; agreed = kernel.agreed; exchanges = kernel.exchanges }) go ≡ then_by script c go) }
     ensures sound { IfOk result (ReturnsSound program.now) }
 {
     let mut kernel = kernel;
@@ -35,26 +50,48 @@ fn own_command(program: &Program, func: u32, kernel: Kernel) -> Result<Commanded
     }
 }
 
-/// A command, which is the one before `done` commands have begun.
-fn command(
+/// A call, which is the command before `done` commands have begun.
+fn called(
     alloc: Global,
     program: &Program,
     func: u32,
+    args: &[Value],
     kernel: Kernel,
     done: usize,
 ) -> Result<Commanded, OutOfMemory>
     requires program { IsRunnable program.now }
     requires world { IsSoundWorld program.now (world_of kernel.world) }
-    ensures by { IfOk result (λ c. (script : List ℕ) (go : AnyKernel → AnyPending) → command_by (is_kernel program.now func) program.now func (drop done script) (begun program.now func (world_of kernel.world)) (kernel_of kernel) go ≡ then_by script c go) }
+    ensures by { IfOk result (λ c. (script : List AnyCommand) (go : AnyKernel → AnyPending) → split_by (called_by (is_kernel program.now func) program.now func (map wire_of args.now) (begun program.now func args.now (world_of kernel.world))) program.now (drop done script) (kernel_of kernel) go ≡ then_by script c go) }
     ensures sound { IfOk result (ReturnsSound program.now) }
 {
     let mut kernel = kernel;
-    begin(alloc, program, func, &mut kernel.world)?;
+    begin(alloc, program, func, args, &mut kernel.world)?;
     if is_kernel(program, func) {
-        own_command(program, func, kernel)
+        own_call(program, func, kernel)
     } else {
-        let pending = calls(alloc, program, kernel, Open { func, done })?;
+        let values = wires_of(alloc, args)?;
+        let pending = calls(alloc, program, kernel, Open { func, done }, values)?;
         Ok(Commanded::Rests(pending))
+    }
+}
+
+/// A command, which is the one before `done` commands have begun. Only calls are built.
+#[tactic(auto, unfolding(mdr_model::specs::Watched::begin))]
+fn command(
+    alloc: Global,
+    program: &Program,
+    command: &Command,
+    kernel: Kernel,
+    done: usize,
+) -> Result<Commanded, OutOfMemory>
+    requires program { IsRunnable program.now }
+    requires world { IsSoundWorld program.now (world_of kernel.world) }
+    ensures by { IfOk result (λ c. (script : List AnyCommand) (go : AnyKernel → AnyPending) → split_by (begin program.now command.now (world_of kernel.world)) program.now (drop done script) (kernel_of kernel) go ≡ then_by script c go) }
+    ensures sound { IfOk result (ReturnsSound program.now) }
+{
+    match command {
+        Command::Call(func, args) => called(alloc, program, *func, args.as_slice(), kernel, done),
+        Command::Idle(_) | Command::Show(_) => Ok(Commanded::Returned(kernel)),
     }
 }
 
@@ -63,7 +100,7 @@ fn command(
 pub(crate) fn split_commands(
     alloc: Global,
     program: &Program,
-    script: &[u32],
+    script: &[Command],
     from: usize,
     kernel: Kernel,
 ) -> Result<Pending, OutOfMemory>
@@ -73,7 +110,7 @@ pub(crate) fn split_commands(
 {
     let mut kernel = kernel;
     for i in from..script.len() {
-        match command(alloc, program, script[i], kernel, i + 1)? {
+        match command(alloc, program, &script[i], kernel, i + 1)? {
             Commanded::Returned(next) => kernel = next,
             Commanded::Rests(pending) => return Ok(pending),
         }

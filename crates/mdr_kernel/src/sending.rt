@@ -1,9 +1,10 @@
 // The messages that the kernel half sends.
 
-ghost use Rattle.std.specs.Prelude.{◌≡◌, [], ℕ, List, drop, IfOk};
+ghost use Rattle.std.specs.Prelude.{◌≡◌, [], List, IfOk};
+ghost use Rattle.mdr_model.specs.declared.command.Command.{Command as AnyCommand};
 ghost use Rattle.mdr_model.specs.Sets.{visible};
 ghost use Rattle.mdr_model.specs.Kernel.{calls, comes_back, answers};
-ghost use Rattle.mdr_kernel.specs.States.{world_of, kernel_of, pending_of, rest_of};
+ghost use Rattle.mdr_kernel.specs.States.{world_of, kernel_of, pending_of, rest_of, left_of};
 
 use crate::events::one_more;
 use crate::state::{Kernel, Open, Pending, World};
@@ -27,25 +28,26 @@ fn renewed(alloc: Global, program: &Program, world: World) -> Result<World, OutO
     })
 }
 
-/// An upcall begins: the visible set is taken, and the call is told.
+/// An upcall with arguments begins: the visible set is taken, and the call is told.
 #[tactic(auto, unfolding(mdr_model::specs::Kernel::calls, mdr_model::specs::Watched::renewed))]
 pub(crate) fn calls(
     alloc: Global,
     program: &Program,
     kernel: Kernel,
     upcall: Open,
+    args: Items<Wire>,
 ) -> Result<Pending, OutOfMemory>
-    ensures { IfOk result (λ p. (script : List ℕ) → pending_of script p ≡ calls program.now upcall.func [] (world_of kernel.world) (kernel_of kernel) (drop upcall.done script)) }
+    ensures { IfOk result (λ p. (script : List AnyCommand) → pending_of script p ≡ calls program.now upcall.func args (world_of kernel.world) (kernel_of kernel) (left_of script upcall)) }
 {
     let world = renewed(alloc, program, kernel.world)?;
     let view = world.view.as_slice();
     let memory = world.memory.as_slice();
-    let (telling, agreed) = tells(alloc, program, view, &[], kernel.agreed, memory)?;
+    let (telling, agreed) = tells(alloc, program, view, args.as_slice(), kernel.agreed, memory)?;
     let message = Message::Call {
         func: upcall.func,
         depth: 0,
         rest: world.rest,
-        args: Items::new(alloc),
+        args,
         deaths: telling.deaths,
         news: telling.news,
         view: runs_of_cells(alloc, view)?,
@@ -69,7 +71,7 @@ pub(crate) fn comes_back(
     kernel: Kernel,
     upcall: Open,
 ) -> Result<Pending, OutOfMemory>
-    ensures { IfOk result (λ p. (script : List ℕ) → pending_of script p ≡ comes_back program.now value (world_of kernel.world) (kernel_of kernel) (rest_of script upcall)) }
+    ensures { IfOk result (λ p. (script : List AnyCommand) → pending_of script p ≡ comes_back program.now value (world_of kernel.world) (kernel_of kernel) (rest_of upcall) (left_of script upcall)) }
 {
     let world = renewed(alloc, program, kernel.world)?;
     let view = world.view.as_slice();
@@ -100,7 +102,7 @@ pub(crate) fn answers(
     kernel: Kernel,
     upcall: Open,
 ) -> Result<Pending, OutOfMemory>
-    ensures { IfOk result (λ p. (script : List ℕ) → pending_of script p ≡ answers program.now [] (world_of kernel.world) (kernel_of kernel) (rest_of script upcall)) }
+    ensures { IfOk result (λ p. (script : List AnyCommand) → pending_of script p ≡ answers program.now [] (world_of kernel.world) (kernel_of kernel) (rest_of upcall) (left_of script upcall)) }
 {
     let Kernel {
         world,

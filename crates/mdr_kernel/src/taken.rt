@@ -1,6 +1,7 @@
 // What a legal reply does.
 
 ghost use Rattle.std.specs.Prelude.{◌≡◌, ◌+◌, ◌^◌, ◌<◌, ◌≤◌, [], true, ℕ, List, None, unwrap_or, IfOk};
+ghost use Rattle.mdr_model.specs.declared.command.Command.{Command as AnyCommand};
 ghost use Rattle.mdr_model.specs.declared.wire.Wire.{Wire as AnyWire};
 ghost use Rattle.mdr_model.specs.declared.message.Shape64.{Shape64 as AnyShape};
 ghost use Rattle.mdr_model.specs.Runnable.{IsRunnable};
@@ -8,7 +9,7 @@ ghost use Rattle.mdr_model.specs.Meaning.{is_kernel};
 ghost use Rattle.mdr_model.specs.World.{kernel_call, served};
 ghost use Rattle.mdr_model.specs.Faults.{args_fault};
 ghost use Rattle.mdr_model.specs.Kernel.{service_params, user_stop, applied, continued, downcalled, serviced, fault_of, taken};
-ghost use Rattle.mdr_kernel.specs.States.{world_of, kernel_of, pending_of, rest_of, IsSoundWorld};
+ghost use Rattle.mdr_kernel.specs.States.{world_of, kernel_of, pending_of, rest_of, left_of, IsSoundWorld};
 
 use crate::events::end;
 use crate::legal::user_stop;
@@ -19,7 +20,7 @@ use crate::state::{Kernel, Open, Pending};
 use crate::work::kernel_call;
 use mdr_copy::put_runs;
 use mdr_core::{At, Items, OutOfMemory, Program, RefuseKind, StopKind};
-use mdr_model::{End, Message, Run, Wire};
+use mdr_model::{Command, End, Message, Run, Wire};
 use std::alloc::Global;
 
 /// The reply's ticks are spent, and its runs are stored in the memory and in the agreed copy.
@@ -51,14 +52,14 @@ fn applied(ticks: u64, runs: &[Run], kernel: Kernel) -> Kernel
 fn continued(
     alloc: Global,
     program: &Program,
-    script: &[u32],
+    script: &[Command],
     value: Wire,
     kernel: Kernel,
     upcall: Open,
 ) -> Result<Pending, OutOfMemory>
     requires program { IsRunnable program.now }
     requires world { IsSoundWorld program.now (world_of kernel.world) }
-    ensures { IfOk result (λ p. pending_of script.now p ≡ continued program.now value (kernel_of kernel) (rest_of script.now upcall)) }
+    ensures { IfOk result (λ p. pending_of script.now p ≡ continued program.now value (kernel_of kernel) (rest_of upcall) (left_of script.now upcall)) }
 {
     let mut kernel = kernel;
     end(value, &mut kernel.world)?;
@@ -76,7 +77,7 @@ fn downcalled(
     requires program { IsRunnable program.now }
     requires function { is_kernel program.now func ≡ true }
     requires world { IsSoundWorld program.now (world_of kernel.world) }
-    ensures { IfOk result (λ p. (script : List ℕ) (args : List AnyWire) (depth : ℕ) → pending_of script p ≡ downcalled program.now (kernel_call program.now func args depth (world_of kernel.world)) (kernel_of kernel) (rest_of script upcall)) }
+    ensures { IfOk result (λ p. (script : List AnyCommand) (args : List AnyWire) (depth : ℕ) → pending_of script p ≡ downcalled program.now (kernel_call program.now func args depth (world_of kernel.world)) (kernel_of kernel) (rest_of upcall) (left_of script upcall)) }
 {
     let mut kernel = kernel;
     match kernel_call(program, func, &mut kernel.world)? {
@@ -99,7 +100,7 @@ fn serviced(
     upcall: Open,
 ) -> Result<Pending, OutOfMemory>
     requires args { args_fault 0 service_params args.now ≡ None }
-    ensures { IfOk result (λ p. (script : List ℕ) (shapes : List AnyShape) (bytes : List ℕ) → pending_of script p ≡ serviced program.now (served (record { service = service; at = at; args = args.now; shapes = shapes; bytes = bytes }) (world_of kernel.world)) (kernel_of kernel) (rest_of script upcall)) }
+    ensures { IfOk result (λ p. (script : List AnyCommand) (shapes : List AnyShape) (bytes : List ℕ) → pending_of script p ≡ serviced program.now (served (record { service = service; at = at; args = args.now; shapes = shapes; bytes = bytes }) (world_of kernel.world)) (kernel_of kernel) (rest_of upcall) (left_of script upcall)) }
 {
     let mut kernel = kernel;
     match served(at, service, args, &mut kernel.world)? {
@@ -116,15 +117,15 @@ fn serviced(
 pub(crate) fn taken(
     alloc: Global,
     program: &Program,
-    script: &[u32],
+    script: &[Command],
     kernel: Kernel,
     upcall: Open,
     reply: Message,
 ) -> Result<Pending, OutOfMemory>
     requires program { IsRunnable program.now }
     requires world { IsSoundWorld program.now (world_of kernel.world) }
-    requires legal { fault_of program.now (kernel_of kernel) (rest_of script.now upcall) reply ≡ None }
-    ensures { IfOk result (λ p. pending_of script.now p ≡ taken program.now reply (kernel_of kernel) (rest_of script.now upcall)) }
+    requires legal { fault_of program.now (kernel_of kernel) (rest_of upcall) reply ≡ None }
+    ensures { IfOk result (λ p. pending_of script.now p ≡ taken program.now reply (kernel_of kernel) (rest_of upcall) (left_of script.now upcall)) }
 {
     match reply {
         Message::Return {

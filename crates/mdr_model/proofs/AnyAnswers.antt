@@ -1,22 +1,25 @@
 -- What any answers come to: wherever a run stands the blocks are the globals, and its messages are paid for by ticks and commands; where it waits, user code may touch the visible cells.
-use Rattle.std.proofs.Common.{◌≡◌, ℕ, zero, suc, ◌+◌, ◌*◌, ◌≤◌, Bool, true, false, cond, List, [], ◌∷◌, nat_lt, Option, Some, None, Result, Ok, Err, refl, sym, ◌∙◌, subst, ap, arith}
+use Rattle.std.proofs.Common.{◌≡◌, ℕ, zero, suc, ◌+◌, ◌*◌, ◌≤◌, Bool, true, false, cond, List, [], ◌∷◌, map, nat_lt, Option, Some, None, Result, Ok, Err, refl, sym, ◌∙◌, subst, ap, arith}
 use Rattle.mdr_core.specs.declared.stop.StopKind.{StopKind}
 use Rattle.mdr_core.specs.declared.place.At.{At}
 use Rattle.mdr_core.specs.declared.program.Program.{Program}
+use Rattle.mdr_core.specs.declared.value.Value.{Value}
+use Rattle.mdr_model.specs.declared.command.Command.{Command}
+use Rattle.mdr_model.specs.declared.command.Command.TheVariants as command
 use Rattle.mdr_model.specs.declared.wire.Wire.{Wire}
 use Rattle.mdr_model.specs.declared.message.New.{New}
 use Rattle.mdr_model.specs.declared.message.Run.{Run}
 use Rattle.mdr_model.specs.declared.message.Fault.{Fault}
 use Rattle.mdr_model.specs.declared.message.Message.{Message}
 use Rattle.mdr_model.specs.declared.message.Message.TheVariants as message
-use Rattle.mdr_model.specs.Values.{natural}
+use Rattle.mdr_model.specs.Values.{wire_of, natural}
 use Rattle.mdr_model.specs.Memory.{Memory, Cell, births, put, normal, loaded, stored, stored_into, reached, everywhere}
 use Rattle.mdr_model.specs.Sets.{visible_of, visible}
 use Rattle.mdr_model.specs.Tree.{Asked, Tree}
 use Rattle.mdr_model.specs.Meaning.{is_kernel}
 use Rattle.mdr_model.specs.World.{World, Ran, Ended, Stopped, after, counted, when_loaded, when_stored, written, written_if, is_writel, served, as_now, in_kernel, kernel_call}
-use Rattle.mdr_model.specs.Watched.{renewed, begun, returned, first_world}
-use Rattle.mdr_model.specs.Kernel.{Kernel, Rest, Noted, Pending, Over, Waits, Reading, calls, comes_back, answers, then_split, command_by, split_commands, applied, downcalled, serviced, fault_of, taken, judged, next, first_kernel, run_from_pending, split_run}
+use Rattle.mdr_model.specs.Watched.{renewed, begun, returned, noting, Beginning, Did, Opens, called_by, begin, first_world}
+use Rattle.mdr_model.specs.Kernel.{Kernel, Rest, Noted, Pending, Over, Waits, Reading, calls, comes_back, answers, then_split, split_by, split_commands, applied, downcalled, serviced, fault_of, taken, judged, next, first_kernel, run_from_pending, split_run}
 use Rattle.mdr_model.specs.Legal.{kernel_in}
 use Rattle.mdr_model.proofs.Relations.{globals_of}
 use Rattle.mdr_model.proofs.MemoryLaws.{births-put}
@@ -116,7 +119,7 @@ pub record IsPaid (program : Program) (k : Kernel) : Type 0 where
 -- where a run waits user code may touch the visible cells
 abbrev pub Stays : Program → Pending → Type 0
 Stays program (Over end k) = IsPaid program k
-Stays program (Waits m k rest) = IsPaid program k × (k.world.view ≡ visible program k.world.memory)
+Stays program (Waits m k rest script) = IsPaid program k × (k.world.view ≡ visible program k.world.memory)
 
 module _ (program : Program) where
   -- a world from which a message is sent: the message is paid for
@@ -130,44 +133,46 @@ module _ (program : Program) where
   paid_in : (k : Kernel) (w : World) → CanSend k w → IsPaid program (record k { world = w })
   paid_in k w s = record { born = s.born; paid = omega (arith, s.paid) }
 
-  calls_stay : (f : ℕ) (fs : List ℕ) (k : Kernel) (w : World) → CanSend k w → Stays program (calls program f [] w k fs)
+  calls_stay : (f : ℕ) (args : List Wire) (script : List Command) (k : Kernel) (w : World) → CanSend k w → Stays program (calls program f args w k script)
   unfolding calls renewed
-  calls_stay f fs k w s = (record { born = s.born; paid = omega (arith, s.paid) }, refl)
+  calls_stay f args script k w s = (record { born = s.born; paid = omega (arith, s.paid) }, refl)
 
-  back_stays : (v : Wire) (k : Kernel) (w : World) (rest : Rest) → CanSend k w → Stays program (comes_back program v w k rest)
+  back_stays : (v : Wire) (k : Kernel) (w : World) (rest : Rest) (script : List Command) → CanSend k w → Stays program (comes_back program v w k rest script)
   unfolding comes_back renewed
-  back_stays v k w rest s = (record { born = s.born; paid = omega (arith, s.paid) }, refl)
+  back_stays v k w rest script s = (record { born = s.born; paid = omega (arith, s.paid) }, refl)
 
-  answer_stays : (results : List Wire) (k : Kernel) (w : World) (rest : Rest) → CanSend k w → w.view ≡ visible program w.memory → Stays program (answers program results w k rest)
+  answer_stays : (results : List Wire) (k : Kernel) (w : World) (rest : Rest) (script : List Command) → CanSend k w → w.view ≡ visible program w.memory → Stays program (answers program results w k rest script)
   unfolding answers
-  answer_stays results k w rest s seen = (record { born = s.born; paid = omega (arith, s.paid) }, seen)
+  answer_stays results k w rest script s seen = (record { born = s.born; paid = omega (arith, s.paid) }, seen)
 
   -- ---- commands
 
-  begins : (f : ℕ) (k : Kernel) → IsPaid program k → CanSend k (begun program f k.world)
+  begins : (f : ℕ) (args : List Value) (k : Kernel) → IsPaid program k → CanSend k (begun program f args k.world)
   unfolding begun
-  begins f k s = record { born = s.born; paid = omega (arith, s.paid) }
+  begins f args k s = record { born = s.born; paid = omega (arith, s.paid) }
 
   returns_paid : (k : Kernel) (v : Wire) → IsPaid program k → IsPaid program (record k { world = returned v k.world })
   unfolding returned
   returns_paid k v s = record { born = s.born; paid = s.paid }
 
-  own_stays : (fs : List ℕ) → ((k : Kernel) → IsPaid program k → Stays program (split_commands program fs k)) → (k : Kernel) (w : World) (ran : Ran Wire) → CanSend k w → Ends (Goes w) ran
-      → Stays program (then_split ran k (λ k'. split_commands program fs k'))
-  own_stays fs later k w (Ended v w') s g = later _ (returns_paid (record k { world = w' }) v (paid_in k w' (send_later k w w' s g)))
-  own_stays fs later k w (Stopped kind at w') s g = paid_in k w' (send_later k w w' s g)
+  own_stays : (go : Kernel → Pending) → ((k : Kernel) → IsPaid program k → Stays program (go k)) → (k : Kernel) (w : World) (ran : Ran Wire) → CanSend k w → Ends (Goes w) ran → Stays program (then_split (noting ran) k go)
+  own_stays go later k w (Ended v w') s g = later _ (returns_paid (record k { world = w' }) v (paid_in k w' (send_later k w w' s g)))
+  own_stays go later k w (Stopped kind at w') s g = paid_in k w' (send_later k w w' s g)
 
-  commands_stay : (fs : List ℕ) (k : Kernel) → IsPaid program k → Stays program (split_commands program fs k)
+  call_stays : (b : Bool) (f : ℕ) (args : List Wire) (script : List Command) (go : Kernel → Pending) → ((k : Kernel) → IsPaid program k → Stays program (go k)) → (k : Kernel) (w : World) → CanSend k w
+      → Stays program (split_by (called_by b program f args w) program script k go)
+  call_stays true f args script go later k w s = own_stays go later k w (kernel_call program f args 0 w) s (kernel_goes program f args 0 w)
+  call_stays false f args script go later k w s = calls_stay f args script k w s
+
+  command_stays : (c : Command) (script : List Command) (go : Kernel → Pending) → ((k : Kernel) → IsPaid program k → Stays program (go k)) → (k : Kernel) → IsPaid program k → Stays program (split_by (begin program c k.world) program script k go)
+  unfolding begin
+  command_stays (command.Call f args) script go later k s = call_stays (is_kernel program f) f (map wire_of args) script go later k (begun program f args k.world) (begins f args k s)
+  command_stays _ script go later k s = later _ s
+
+  commands_stay : (script : List Command) (k : Kernel) → IsPaid program k → Stays program (split_commands program script k)
   unfolding split_commands
   commands_stay [] k s = s
-  commands_stay (f ∷ fs) k s = of (is_kernel program f) (commands_stay fs)
-    where
-      w : World
-      w = begun program f k.world
-
-      of : (b : Bool) → ((k : Kernel) → IsPaid program k → Stays program (split_commands program fs k)) → Stays program (command_by b program f fs w k (λ k'. split_commands program fs k'))
-      of true later = own_stays fs later k w (kernel_call program f [] 0 w) (begins f k s) (kernel_goes program f [] 0 w)
-      of false later = calls_stay f fs k w (begins f k s)
+  commands_stay (c ∷ cs) k s = command_stays c cs (λ k'. split_commands program cs k') (λ k' s'. commands_stay cs k' s') k s
 
   -- ---- replies
 
@@ -188,56 +193,56 @@ module _ (program : Program) where
   unfolding visible
   goes_seen w w' g seen = g.view ∙ seen ∙ ap (λ (bs : List New). visible_of program bs) (sym g.born)
 
-  down_stays : (k : Kernel) (rest : Rest) (ran : Ran Wire) → CanSend k k.world → Ends (Goes k.world) ran → Stays program (downcalled program ran k rest)
-  down_stays k rest (Ended v w') s g = back_stays v k w' rest (send_later k k.world w' s g)
-  down_stays k rest (Stopped kind at w') s g = paid_in k w' (send_later k k.world w' s g)
+  down_stays : (k : Kernel) (rest : Rest) (script : List Command) (ran : Ran Wire) → CanSend k k.world → Ends (Goes k.world) ran → Stays program (downcalled program ran k rest script)
+  down_stays k rest script (Ended v w') s g = back_stays v k w' rest script (send_later k k.world w' s g)
+  down_stays k rest script (Stopped kind at w') s g = paid_in k w' (send_later k k.world w' s g)
 
-  service_stays : (k : Kernel) (rest : Rest) (ran : Ran (List Wire)) → CanSend k k.world → k.world.view ≡ visible program k.world.memory → Ends (Goes k.world) ran → Stays program (serviced program ran k rest)
-  service_stays k rest (Ended results w') s seen g = answer_stays results k w' rest (send_later k k.world w' s g) (goes_seen k.world w' g seen)
-  service_stays k rest (Stopped kind at w') s seen g = paid_in k w' (send_later k k.world w' s g)
+  service_stays : (k : Kernel) (rest : Rest) (script : List Command) (ran : Ran (List Wire)) → CanSend k k.world → k.world.view ≡ visible program k.world.memory → Ends (Goes k.world) ran → Stays program (serviced program ran k rest script)
+  service_stays k rest script (Ended results w') s seen g = answer_stays results k w' rest script (send_later k k.world w' s g) (goes_seen k.world w' g seen)
+  service_stays k rest script (Stopped kind at w') s seen g = paid_in k w' (send_later k k.world w' s g)
 
-  taken_stays : (reply : Message) (k : Kernel) (rest : Rest) → fault_of program k rest reply ≡ None → IsPaid program k → k.world.view ≡ visible program k.world.memory → Stays program (taken program reply k rest)
+  taken_stays : (reply : Message) (k : Kernel) (rest : Rest) (script : List Command) → fault_of program k rest reply ≡ None → IsPaid program k → k.world.view ≡ visible program k.world.memory → Stays program (taken program reply k rest script)
   unfolding taken
-  taken_stays (message.Return ticks v runs) k (Noted f fs) e s seen = commands_stay fs _ (returns_paid (applied ticks runs k) v (applied_paid k ticks runs s))
-  taken_stays (message.Down ticks at depth func args runs) k rest e s seen =
+  taken_stays (message.Return ticks v runs) k (Noted f) script e s seen = commands_stay script _ (returns_paid (applied ticks runs k) v (applied_paid k ticks runs s))
+  taken_stays (message.Down ticks at depth func args runs) k rest script e s seen =
       let d : IsDown program k ticks func runs = down_fits program k rest ticks at depth func args runs e in
-      down_stays (applied ticks runs k) rest (kernel_call program func args depth (applied ticks runs k).world) (applied_sends k ticks runs d.asked s) (kernel_goes program func args depth (applied ticks runs k).world)
-  taken_stays (message.Ask ticks at service args shapes bytes runs) k rest e s seen =
+      down_stays (applied ticks runs k) rest script (kernel_call program func args depth (applied ticks runs k).world) (applied_sends k ticks runs d.asked s) (kernel_goes program func args depth (applied ticks runs k).world)
+  taken_stays (message.Ask ticks at service args shapes bytes runs) k rest script e s seen =
       let a : IsAsk program k ticks args runs = ask_fits program k rest ticks at service args shapes bytes runs e in
       let asked : Asked = record { service = service; at = at; args = args; shapes = shapes; bytes = bytes } in
-      service_stays (applied ticks runs k) rest (served asked (applied ticks runs k).world) (applied_sends k ticks runs a.asked s) (still_seen k ticks runs seen) (service_goes asked (applied ticks runs k).world)
-  taken_stays (message.Stop ticks number at runs) k rest e s seen = applied_paid k ticks runs s
-  taken_stays (message.Call func depth left args deaths news view runs) k rest e s seen = s
-  taken_stays (message.Back left result deaths news view runs) k rest e s seen = s
-  taken_stays (message.Answer results deaths news) k rest e s seen = s
-  taken_stays (message.Refuse reason) k rest e s seen = s
+      service_stays (applied ticks runs k) rest script (served asked (applied ticks runs k).world) (applied_sends k ticks runs a.asked s) (still_seen k ticks runs seen) (service_goes asked (applied ticks runs k).world)
+  taken_stays (message.Stop ticks number at runs) k rest script e s seen = applied_paid k ticks runs s
+  taken_stays (message.Call func depth left args deaths news view runs) k rest script e s seen = s
+  taken_stays (message.Back left result deaths news view runs) k rest script e s seen = s
+  taken_stays (message.Answer results deaths news) k rest script e s seen = s
+  taken_stays (message.Refuse reason) k rest script e s seen = s
 
-  next_stays : (a : Reading) (m : Message) (k : Kernel) (rest : Rest) → Stays program (Waits m k rest) → Stays program (next program a k rest)
+  next_stays : (a : Reading) (m : Message) (k : Kernel) (rest : Rest) (script : List Command) → Stays program (Waits m k rest script) → Stays program (next program a k rest script)
   unfolding next
-  next_stays (Err f) m k rest s = s.0
-  next_stays (Ok reply) m k rest s = of (fault_of program k rest reply) refl
+  next_stays (Err f) m k rest script s = s.0
+  next_stays (Ok reply) m k rest script s = of (fault_of program k rest reply) refl
     where
-      of : (o : Option Fault) → fault_of program k rest reply ≡ o → Stays program (judged program o reply k rest)
-      of None e = taken_stays reply k rest e s.0 s.1
+      of : (o : Option Fault) → fault_of program k rest reply ≡ o → Stays program (judged program o reply k rest script)
+      of None e = taken_stays reply k rest script e s.0 s.1
       of (Some f) e = s.0
 
   from_pending : (readings : List Reading) (p : Pending) → Stays program p → Stays program (run_from_pending program readings p).pending
   unfolding run_from_pending
   from_pending [] (Over end k) s = s
-  from_pending [] (Waits m k rest) s = s
+  from_pending [] (Waits m k rest script) s = s
   from_pending (a ∷ readings) (Over end k) s = s
-  from_pending (a ∷ readings) (Waits m k rest) s = from_pending readings (next program a k rest) (next_stays a m k rest s)
+  from_pending (a ∷ readings) (Waits m k rest script) s = from_pending readings (next program a k rest script) (next_stays a m k rest script s)
 
 -- wherever a run comes to
-pub run_stays : (program : Program) (script : List ℕ) (budget : ℕ) (answers : List Reading) → Stays program (split_run program script budget answers).pending
+pub run_stays : (program : Program) (script : List Command) (budget : ℕ) (answers : List Reading) → Stays program (split_run program script budget answers).pending
 unfolding split_run first_kernel first_world
 run_stays program script budget answers =
     from_pending program answers (split_commands program script (first_kernel program budget)) (commands_stay program script (first_kernel program budget) (record { born = refl; paid = omega arith }))
 
-pub paid_everywhere : (program : Program) (script : List ℕ) (budget : ℕ) (answers : List Reading) → let k : Kernel = kernel_in (split_run program script budget answers).pending in
+pub paid_everywhere : (program : Program) (script : List Command) (budget : ℕ) (answers : List Reading) → let k : Kernel = kernel_in (split_run program script budget answers).pending in
     2 * k.exchanges ≤ 4 * k.world.ticks + 6 * k.world.calls
 paid_everywhere program script budget answers = of (split_run program script budget answers).pending (run_stays program script budget answers)
   where
     of : (p : Pending) → Stays program p → 2 * (kernel_in p).exchanges ≤ 4 * (kernel_in p).world.ticks + 6 * (kernel_in p).world.calls
     of (Over end k) s = s.paid
-    of (Waits m k rest) s = s.0.paid
+    of (Waits m k rest script) s = s.0.paid

@@ -2,6 +2,7 @@
 use Rattle.std.proofs.Common.{◌≡◌, ℕ, zero, suc, ◌+◌, ◌*◌, ◌≤◌, Bool, true, false, List, [], ◌∷◌, ◌++◌, length, Ok, Err, refl, sym, ◌∙◌, ap, subst, arith}
 use Rattle.mdr_core.specs.declared.plan.Half.TheVariants as half
 use Rattle.mdr_core.specs.declared.program.Program.{Program}
+use Rattle.mdr_model.specs.declared.command.Command.{Command}
 use Rattle.mdr_model.specs.declared.wire.Wire.{Wire}
 use Rattle.mdr_model.specs.declared.message.New.{New}
 use Rattle.mdr_model.specs.declared.message.Run.{Run}
@@ -14,7 +15,7 @@ use Rattle.mdr_model.specs.Sets.{cells_of_runs}
 use Rattle.mdr_model.specs.Tree.{Tree}
 use Rattle.mdr_model.specs.Meaning.{is_kernel, is_user, started}
 use Rattle.mdr_model.specs.World.{World, Ran, Ended, Stopped}
-use Rattle.mdr_model.specs.Watched.{Finish, and_then, called_by, begun, returned, commands, watched, first_world}
+use Rattle.mdr_model.specs.Watched.{Finish, and_then, begin, in_place, commands, watched, first_world}
 use Rattle.mdr_model.specs.Copies.{agreed_after}
 use Rattle.mdr_model.specs.Kernel.{Kernel, Pending, Over, Waits, Reading, next, split_commands, first_kernel, run_from_pending, split_run}
 use Rattle.mdr_model.specs.User.{User, Work, Nothing, AwaitsBack, AwaitsAnswer, Runs, Delivered, Opened, deliver, opened, done, when_fits, call_fits, told, first_user, user_after, user_reply, allowance}
@@ -108,7 +109,7 @@ module _ (program : Program) (sound : IsRunnable program) where
   answers_of : ℕ → Pending → User → List Message
   answers_of zero p u = []
   answers_of (suc n) (Over end k) u = []
-  answers_of (suc n) (Waits m k rest) u = let d : Delivered = deliver program 1 u (Ok m) in d.reply ∷ answers_of n (next program (Ok d.reply) k rest) d.user
+  answers_of (suc n) (Waits m k rest script) u = let d : Delivered = deliver program 1 u (Ok m) in d.reply ∷ answers_of n (next program (Ok d.reply) k rest script) d.user
 
   -- what is reached with them, and that they are honest
   record Reaches (before : List Message) (p : Pending) (answers : List Message) (end : End) (k : Kernel) : Type 0 where
@@ -118,13 +119,13 @@ module _ (program : Program) (sound : IsRunnable program) where
   reaches : (n : ℕ) (before : List Message) (p : Pending) (u : User) (end : End) (k : Kernel) → told_user before ≡ u → meet program 1 n p u ≡ Over end k → Reaches before p (answers_of n p u) end k
   unfolding answers_of run_from_pending
   reaches zero before (Over end' k') u end k e h = record { honest = tt; reached = h }
-  reaches zero before (Waits m k' rest) u end k e h = absurd (Prim.cc)
+  reaches zero before (Waits m k' rest script) u end k e h = absurd (Prim.cc)
   reaches (suc n) before (Over end' k') u end k e h = record { honest = tt; reached = h }
-  reaches (suc n) before (Waits m k' rest) u end k e h =
+  reaches (suc n) before (Waits m k' rest script) u end k e h =
       let d : Delivered = deliver program 1 u (Ok m) in
       let same : reply_to before m ≡ d = ap (λ (v : User). deliver program 1 v (Ok m)) e in
-      let later : Reaches (before ++ m ∷ []) (next program (Ok d.reply) k' rest) (answers_of n (next program (Ok d.reply) k' rest) d.user) end k =
-      reaches n (before ++ m ∷ []) (next program (Ok d.reply) k' rest) d.user end k (told_more before m ∙ ap (λ (x : Delivered). x.user) same) h in
+      let later : Reaches (before ++ m ∷ []) (next program (Ok d.reply) k' rest script) (answers_of n (next program (Ok d.reply) k' rest script) d.user) end k =
+      reaches n (before ++ m ∷ []) (next program (Ok d.reply) k' rest script) d.user end k (told_more before m ∙ ap (λ (x : Delivered). x.user) same) h in
       record { honest = (sym (honest_is before m ∙ ap (λ (x : Delivered). x.reply) same), later.honest); reached = later.reached }
 
   -- honest answers that lead to an end are exchanges that lead there
@@ -132,41 +133,41 @@ module _ (program : Program) (sound : IsRunnable program) where
       → (run_from_pending program (read answers) p).pending ≡ Over end k → meet program 1 (length answers) p u ≡ Over end k
   unfolding run_from_pending
   meets [] before (Over end' k') u end k e honest h = h
-  meets [] before (Waits m k' rest) u end k e honest h = absurd (Prim.cc)
+  meets [] before (Waits m k' rest script) u end k e honest h = absurd (Prim.cc)
   meets (a ∷ answers) before (Over end' k') u end k e honest h = h
-  meets (a ∷ answers) before (Waits m k' rest) u end k e honest h =
+  meets (a ∷ answers) before (Waits m k' rest script) u end k e honest h =
       let d : Delivered = deliver program 1 u (Ok m) in
       let same : reply_to before m ≡ d = ap (λ (v : User). deliver program 1 v (Ok m)) e in
       let reply : a ≡ d.reply = honest.0 ∙ honest_is before m ∙ ap (λ (x : Delivered). x.reply) same in
-      meets answers (before ++ m ∷ []) (next program (Ok d.reply) k' rest) d.user end k (told_more before m ∙ ap (λ (x : Delivered). x.user) same)
-      (subst (λ (r : Message). IsHonest program (before ++ m ∷ []) (run_from_pending program (read answers) (next program (Ok r) k' rest)).sent answers) reply honest.1)
-      (subst (λ (r : Message). (run_from_pending program (read answers) (next program (Ok r) k' rest)).pending ≡ Over end k) reply h)
+      meets answers (before ++ m ∷ []) (next program (Ok d.reply) k' rest script) d.user end k (told_more before m ∙ ap (λ (x : Delivered). x.user) same)
+      (subst (λ (r : Message). IsHonest program (before ++ m ∷ []) (run_from_pending program (read answers) (next program (Ok r) k' rest script)).sent answers) reply honest.1)
+      (subst (λ (r : Message). (run_from_pending program (read answers) (next program (Ok r) k' rest script)).pending ≡ Over end k) reply h)
 
   -- two ends are one
   one_end : (n m : ℕ) (p : Pending) (u : User) (end end' : End) (k k' : Kernel) → meet program 1 n p u ≡ Over end k → meet program 1 m p u ≡ Over end' k' → Over end k ≡ Over end' k'
   one_end zero zero p u end end' k k' e f = sym e ∙ f
   one_end zero (suc m) (Over x y) u end end' k k' e f = sym e ∙ f
-  one_end zero (suc m) (Waits a b c) u end end' k k' e f = absurd (Prim.cc)
+  one_end zero (suc m) (Waits a b c script) u end end' k k' e f = absurd (Prim.cc)
   one_end (suc n) zero (Over x y) u end end' k k' e f = sym e ∙ f
-  one_end (suc n) zero (Waits a b c) u end end' k k' e f = absurd (Prim.cc)
+  one_end (suc n) zero (Waits a b c script) u end end' k k' e f = absurd (Prim.cc)
   one_end (suc n) (suc m) (Over x y) u end end' k k' e f = sym e ∙ f
-  one_end (suc n) (suc m) (Waits a b c) u end end' k k' e f =
-      let d : Delivered = deliver program 1 u (Ok a) in one_end n m (next program (Ok d.reply) b c) d.user end end' k k' e f
+  one_end (suc n) (suc m) (Waits a b c script) u end end' k k' e f =
+      let d : Delivered = deliver program 1 u (Ok a) in one_end n m (next program (Ok d.reply) b c script) d.user end end' k k' e f
 
 -- ---- the whole run's end is its own
 
 after_own : (ran : Ran Wire) (go : World → Finish) → ((w : World) → IsOwn (go w).end) → IsOwn (and_then ran go).end
-after_own (Ended v w) go own = own (returned v w)
+after_own (Ended v w) go own = own w
 after_own (Stopped kind at w) go own = tt
 
-own_end : (program : Program) (script : List ℕ) (w : World) → IsOwn (commands program script w).end
+own_end : (program : Program) (script : List Command) (w : World) → IsOwn (commands program script w).end
 unfolding commands
 own_end program [] w = tt
-own_end program (f ∷ fs) w = after_own (called_by (is_kernel program f) program f (begun program f w)) (λ w'. commands program fs w') (λ w'. own_end program fs w')
+own_end program (c ∷ cs) w = after_own (in_place program (begin program c w)) (λ w'. commands program cs w') (λ w'. own_end program cs w')
 
 -- ---- the law
 
-pub split_is_one_memory : (program : Program) (script : List ℕ) (budget : ℕ) → IsRunnable program → IsBound program script → IsOneMemory program script budget
+pub split_is_one_memory : (program : Program) (script : List Command) (budget : ℕ) → IsRunnable program → IsBound program script → IsOneMemory program script budget
 unfolding split_run watched first_kernel first_world first_user user_after
 split_is_one_memory program script budget sound named =
     let k0 : Kernel = first_kernel program budget in

@@ -5,6 +5,7 @@ use Rattle.mdr_core.specs.declared.stop.StopKind.TheVariants as stop
 use Rattle.mdr_core.specs.declared.place.At.{At}
 use Rattle.mdr_core.specs.declared.plan.Half.TheVariants as half
 use Rattle.mdr_core.specs.declared.program.Program.{Program}
+use Rattle.mdr_model.specs.declared.command.Command.{Command}
 use Rattle.mdr_model.specs.declared.wire.Wire.{Wire}
 use Rattle.mdr_model.specs.declared.message.Run.{Run}
 use Rattle.mdr_model.specs.declared.message.Fault.{Fault}
@@ -17,7 +18,7 @@ use Rattle.mdr_model.specs.Sets.{is_in, runs_of_cells}
 use Rattle.mdr_model.specs.Tree.{Asked, Tree}
 use Rattle.mdr_model.specs.Walk.{Walked, walk, on_load, on_store}
 use Rattle.mdr_model.specs.World.{World, Ran, Ended, Stopped, after, counted, when_loaded, when_stored, served, as_now, kernel_call}
-use Rattle.mdr_model.specs.Watched.{renewed, in_user, Finish, finish, and_then, commands}
+use Rattle.mdr_model.specs.Watched.{renewed, in_user, Finish, finish, noting, and_then, commands}
 use Rattle.mdr_model.specs.Copies.{Told, tells, agreed_after, put_runs}
 use Rattle.mdr_model.specs.Kernel.{Kernel, Rest, Noted, Pending, Over, Waits, fault_of, upcall_of, applied, stop_number, user_stop, next, judged, taken, continued, downcalled, serviced, comes_back, answers, service_params}
 use Rattle.mdr_core.specs.declared.types.Ty.{Ty}
@@ -39,8 +40,8 @@ use Rattle.mdr_model.proofs.KernelWork
 abbrev pub meet : Program → ℕ → ℕ → Pending → User → Pending
 meet program fuel zero p u = p
 meet program fuel (suc n) (Over end k) u = Over end k
-meet program fuel (suc n) (Waits m k rest) u =
-    let d : Delivered = deliver program fuel u (Ok m) in meet program fuel n (next program (Ok d.reply) k rest) d.user
+meet program fuel (suc n) (Waits m k rest script) u =
+    let d : Delivered = deliver program fuel u (Ok m) in meet program fuel n (next program (Ok d.reply) k rest script) d.user
 
 -- the exchanges come to the end that the whole run has, within the bound
 pub record Finishes (program : Program) (fuel : ℕ) (p : Pending) (u : User) (f : Finish) : Type 0 where
@@ -51,12 +52,12 @@ pub record Finishes (program : Program) (fuel : ℕ) (p : Pending) (u : User) (f
   pub bound : 2 * kernel.exchanges ≤ 4 * kernel.world.ticks + 6 * kernel.world.calls
 
 -- a message more
-pub one_more : {program : Program} {fuel : ℕ} (m : Message) (k : Kernel) (rest : Rest) (u : User) (d : Delivered) (f : Finish) → deliver program fuel u (Ok m) ≡ d
-    → Finishes program fuel (next program (Ok d.reply) k rest) d.user f → Finishes program fuel (Waits m k rest) u f
-one_more {program} {fuel} m k rest u d f e h = record {
+pub one_more : {program : Program} {fuel : ℕ} (m : Message) (k : Kernel) (rest : Rest) (script : List Command) (u : User) (d : Delivered) (f : Finish) → deliver program fuel u (Ok m) ≡ d
+    → Finishes program fuel (next program (Ok d.reply) k rest script) d.user f → Finishes program fuel (Waits m k rest script) u f
+one_more {program} {fuel} m k rest script u d f e h = record {
   turns = suc h.turns;
   kernel = h.kernel;
-  meets = ap (λ (d' : Delivered). meet program fuel h.turns (next program (Ok d'.reply) k rest) d'.user) e ∙ h.meets;
+  meets = ap (λ (d' : Delivered). meet program fuel h.turns (next program (Ok d'.reply) k rest script) d'.user) e ∙ h.meets;
   world = h.world;
   bound = h.bound;
 }
@@ -67,88 +68,88 @@ pub is_over : {program : Program} {fuel : ℕ} (end : End) (k : Kernel) (u : Use
 is_over end k u bound = record { turns = 0; kernel = k; meets = refl; world = refl; bound = bound }
 
 -- what the whole run does after an upcall that was open
-abbrev pub ended_at : Program → Rest → Ran Wire → Finish
-ended_at program (Noted f script) ran = and_then ran (λ w. commands program script w)
+abbrev pub ended_at : Program → Rest → List Command → Ran Wire → Finish
+ended_at program (Noted f) script ran = and_then (noting ran) (λ w. commands program script w)
 
 abbrev pub idle_user : Memory → User
 idle_user copy = record { agreed = copy; work = Nothing }
 
 -- what follows the upcall comes to the whole run's end
-pub record GoesOn (program : Program) (fuel : ℕ) (rest : Rest) : Type 0 where
+pub record GoesOn (program : Program) (fuel : ℕ) (rest : Rest) (script : List Command) : Type 0 where
   pub by : (K : Knowledge) (k : Kernel) (v : Wire) → Agree program K k.agreed k.world → 2 * k.exchanges ≤ 4 * k.world.ticks + 6 * k.world.calls
-      → Finishes program fuel (continued program v k rest) (idle_user k.agreed) (ended_at program rest (Ended v k.world))
+      → Finishes program fuel (continued program v k rest script) (idle_user k.agreed) (ended_at program rest script (Ended v k.world))
 
 -- the user half's reply when it has walked n ticks of a tree
 abbrev pub reply_of : Kernel → World → Memory → ℕ → Tree → Delivered
 reply_of k w um n t = replied_to w.view k.world.rest k.agreed (walk (is_in w.view) n t um)
 
-abbrev pub ServesAt : Program → ℕ → Rest → Tree → Kernel → World → Memory → ℕ → Type 0
-ServesAt program fuel rest t k w um n =
-    Finishes program fuel (next program (Ok (reply_of k w um n t).reply) k rest) (reply_of k w um n t).user (ended_at program rest (in_user program t w))
+abbrev pub ServesAt : Program → ℕ → Rest → List Command → Tree → Kernel → World → Memory → ℕ → Type 0
+ServesAt program fuel rest script t k w um n =
+    Finishes program fuel (next program (Ok (reply_of k w um n t).reply) k rest script) (reply_of k w um n t).user (ended_at program rest script (in_user program t w))
 
 -- the same of what the walk and the whole run come to
-abbrev pub ServesBy : Program → ℕ → Rest → Kernel → World → Walked → Ran Wire → Type 0
-ServesBy program fuel rest k w walked ran =
-    Finishes program fuel (next program (Ok (replied_to w.view k.world.rest k.agreed walked).reply) k rest) (replied_to w.view k.world.rest k.agreed walked).user (ended_at program rest ran)
+abbrev pub ServesBy : Program → ℕ → Rest → List Command → Kernel → World → Walked → Ran Wire → Type 0
+ServesBy program fuel rest script k w walked ran =
+    Finishes program fuel (next program (Ok (replied_to w.view k.world.rest k.agreed walked).reply) k rest script) (replied_to w.view k.world.rest k.agreed walked).user (ended_at program rest script ran)
 
-moved : {program : Program} {fuel : ℕ} (rest : Rest) (k : Kernel) (w : World) (x x' : Walked) (y y' : Ran Wire) → x' ≡ x → y' ≡ y → ServesBy program fuel rest k w x y → ServesBy program fuel rest k w x' y'
-moved {program} {fuel} rest k w x x' y y' e f h =
-    subst (λ (z : Walked). ServesBy program fuel rest k w z y') (sym e) (subst (λ (z : Ran Wire). ServesBy program fuel rest k w x z) (sym f) h)
+moved : {program : Program} {fuel : ℕ} (rest : Rest) (script : List Command) (k : Kernel) (w : World) (x x' : Walked) (y y' : Ran Wire) → x' ≡ x → y' ≡ y → ServesBy program fuel rest script k w x y → ServesBy program fuel rest script k w x' y'
+moved {program} {fuel} rest script k w x x' y y' e f h =
+    subst (λ (z : Walked). ServesBy program fuel rest script k w z y') (sym e) (subst (λ (z : Ran Wire). ServesBy program fuel rest script k w x z) (sym f) h)
 
 -- from each pair of states in relation, the tree is served
-pub record Serves (program : Program) (fuel : ℕ) (rest : Rest) (K : Knowledge) (credit : ℕ) (t : Tree) : Type 0 where
-  pub by : (k : Kernel) (w : World) (um : Memory) (n : ℕ) → w.rest ≡ n → Rel program K k w um → Replies.IsWithin k w credit → ServesAt program fuel rest t k w um n
+pub record Serves (program : Program) (fuel : ℕ) (rest : Rest) (script : List Command) (K : Knowledge) (credit : ℕ) (t : Tree) : Type 0 where
+  pub by : (k : Kernel) (w : World) (um : Memory) (n : ℕ) → w.rest ≡ n → Rel program K k w um → Replies.IsWithin k w credit → ServesAt program fuel rest script t k w um n
 
 -- ---- an honest reply leads on
 
-next_taken : (program : Program) (k : Kernel) (rest : Rest) (reply : Message) → fault_of program k rest reply ≡ None → next program (Ok reply) k rest ≡ taken program reply k rest
+next_taken : (program : Program) (k : Kernel) (rest : Rest) (script : List Command) (reply : Message) → fault_of program k rest reply ≡ None → next program (Ok reply) k rest script ≡ taken program reply k rest script
 unfolding next
-next_taken program k rest reply e = ap (λ (f : Option Fault). judged program f reply k rest) e
+next_taken program k rest script reply e = ap (λ (f : Option Fault). judged program f reply k rest script) e
 
-next_return : {program : Program} {K : Knowledge} {k : Kernel} {w : World} {um : Memory} (rest : Rest) (v : Wire) → Rel program K k w um → IsResultOf program (upcall_of rest) v
-    → next program (Ok (message.Return (Replies.used k w) (normal um v) (Replies.told_runs k w um))) k rest ≡ continued program (normal w.memory v) (Replies.resumed k w um) rest
+next_return : {program : Program} {K : Knowledge} {k : Kernel} {w : World} {um : Memory} (rest : Rest) (script : List Command) (v : Wire) → Rel program K k w um → IsResultOf program (upcall_of rest) v
+    → next program (Ok (message.Return (Replies.used k w) (normal um v) (Replies.told_runs k w um))) k rest script ≡ continued program (normal w.memory v) (Replies.resumed k w um) rest script
 unfolding taken
-next_return {program} {k = k} {w = w} {um = um} rest v r fits =
-    ap (λ (x : Wire). next program (Ok (message.Return (Replies.used k w) x (Replies.told_runs k w um))) k rest) (result_is_normal _ um v fits.fits ∙ sym (result_is_normal _ w.memory v fits.fits))
-    ∙ next_taken program k rest _ (Replies.legal_return rest v r fits)
-    ∙ ap (λ (k' : Kernel). continued program (normal w.memory v) k' rest) (Replies.stores_reply r)
+next_return {program} {k = k} {w = w} {um = um} rest script v r fits =
+    ap (λ (x : Wire). next program (Ok (message.Return (Replies.used k w) x (Replies.told_runs k w um))) k rest script) (result_is_normal _ um v fits.fits ∙ sym (result_is_normal _ w.memory v fits.fits))
+    ∙ next_taken program k rest script _ (Replies.legal_return rest v r fits)
+    ∙ ap (λ (k' : Kernel). continued program (normal w.memory v) k' rest script) (Replies.stores_reply r)
 
-next_stop : {program : Program} {K : Knowledge} {k : Kernel} {w : World} {um : Memory} (rest : Rest) (kind : StopKind) (at : At) → Rel program K k w um → IsPlace program half.User at → IsUserStop kind
-    → next program (Ok (message.Stop (Replies.used k w) (stop_number kind) at (Replies.told_runs k w um))) k rest ≡ Over (ends.Stop kind (Some at)) (Replies.resumed k w um)
+next_stop : {program : Program} {K : Knowledge} {k : Kernel} {w : World} {um : Memory} (rest : Rest) (script : List Command) (kind : StopKind) (at : At) → Rel program K k w um → IsPlace program half.User at → IsUserStop kind
+    → next program (Ok (message.Stop (Replies.used k w) (stop_number kind) at (Replies.told_runs k w um))) k rest script ≡ Over (ends.Stop kind (Some at)) (Replies.resumed k w um)
 unfolding taken
-next_stop {program} {k = k} {w = w} {um = um} rest kind at r place own =
-    next_taken program k rest _ (Replies.legal_stop rest kind at r place own)
+next_stop {program} {k = k} {w = w} {um = um} rest script kind at r place own =
+    next_taken program k rest script _ (Replies.legal_stop rest kind at r place own)
     ∙ ap (λ (o : Option StopKind). Over (ends.Stop (Rattle.std.specs.Prelude.unwrap_or o stop.Bug) (Some at)) (applied (Replies.used k w) (Replies.told_runs k w um) k)) own.told
     ∙ ap (λ (k' : Kernel). Over (ends.Stop kind (Some at)) k') (Replies.stores_reply r)
 
-next_ticks : {program : Program} {K : Knowledge} {k : Kernel} {w : World} {um : Memory} (rest : Rest) (at : At) → Rel program K k w um → IsPlace program half.User at → w.rest ≡ 0
-    → next program (Ok (message.Stop (Replies.used k w) 16 at (Replies.told_runs k w um))) k rest ≡ Over (ends.Stop stop.Ticks (Some at)) (Replies.resumed k w um)
+next_ticks : {program : Program} {K : Knowledge} {k : Kernel} {w : World} {um : Memory} (rest : Rest) (script : List Command) (at : At) → Rel program K k w um → IsPlace program half.User at → w.rest ≡ 0
+    → next program (Ok (message.Stop (Replies.used k w) 16 at (Replies.told_runs k w um))) k rest script ≡ Over (ends.Stop stop.Ticks (Some at)) (Replies.resumed k w um)
 unfolding taken user_stop
-next_ticks {program} {k = k} {w = w} {um = um} rest at r place none =
-    next_taken program k rest _ (Replies.legal_ticks rest at r place none)
+next_ticks {program} {k = k} {w = w} {um = um} rest script at r place none =
+    next_taken program k rest script _ (Replies.legal_ticks rest at r place none)
     ∙ ap (λ (k' : Kernel). Over (ends.Stop stop.Ticks (Some at)) k') (Replies.stores_reply r)
 
 -- arguments that fit are sent alike
 same_args : (um m : Memory) (ts : List Ty) (vs : List Wire) → args_fault 0 ts vs ≡ None → map (normal um) vs ≡ map (normal m) vs
 same_args um m ts vs e = Replies.args_normal um 0 ts vs e ∙ sym (Replies.args_normal m 0 ts vs e)
 
-next_ask : {program : Program} {K : Knowledge} {k : Kernel} {w : World} {um : Memory} (rest : Rest) (asked : Asked) (credit : ℕ) → Rel program K k w um → IsPlace program half.User asked.at → IsAskable program asked → Replies.IsWithin k w (suc credit)
-    → next program (Ok (message.Ask (Replies.used k w) asked.at asked.service (map (normal um) asked.args) asked.shapes asked.bytes (Replies.told_runs k w um))) k rest
-    ≡ serviced program (served (as_now w.memory asked) w) (Replies.resumed k w um) rest
+next_ask : {program : Program} {K : Knowledge} {k : Kernel} {w : World} {um : Memory} (rest : Rest) (script : List Command) (asked : Asked) (credit : ℕ) → Rel program K k w um → IsPlace program half.User asked.at → IsAskable program asked → Replies.IsWithin k w (suc credit)
+    → next program (Ok (message.Ask (Replies.used k w) asked.at asked.service (map (normal um) asked.args) asked.shapes asked.bytes (Replies.told_runs k w um))) k rest script
+    ≡ serviced program (served (as_now w.memory asked) w) (Replies.resumed k w um) rest script
 unfolding taken
-next_ask {program} {k = k} {w = w} {um = um} rest asked credit r place askable within =
-    ap (λ (xs : List Wire). next program (Ok (message.Ask (Replies.used k w) asked.at asked.service xs asked.shapes asked.bytes (Replies.told_runs k w um))) k rest) (same_args um w.memory service_params asked.args askable.args)
-    ∙ next_taken program k rest _ (Replies.legal_ask rest asked credit r place askable within)
-    ∙ ap (λ (k' : Kernel). serviced program (served (as_now w.memory asked) k'.world) k' rest) (Replies.stores_reply r)
+next_ask {program} {k = k} {w = w} {um = um} rest script asked credit r place askable within =
+    ap (λ (xs : List Wire). next program (Ok (message.Ask (Replies.used k w) asked.at asked.service xs asked.shapes asked.bytes (Replies.told_runs k w um))) k rest script) (same_args um w.memory service_params asked.args askable.args)
+    ∙ next_taken program k rest script _ (Replies.legal_ask rest asked credit r place askable within)
+    ∙ ap (λ (k' : Kernel). serviced program (served (as_now w.memory asked) k'.world) k' rest script) (Replies.stores_reply r)
 
-next_down : {program : Program} {K : Knowledge} {k : Kernel} {w : World} {um : Memory} (rest : Rest) (at : At) (func : ℕ) (args : List Wire) (depth credit : ℕ) → Rel program K k w um → IsPlace program half.User at → IsDowncall program func args depth → Replies.IsWithin k w (suc credit)
-    → next program (Ok (message.Down (Replies.used k w) at depth func (map (normal um) args) (Replies.told_runs k w um))) k rest
-    ≡ downcalled program (kernel_call program func (map (normal w.memory) args) depth w) (Replies.resumed k w um) rest
+next_down : {program : Program} {K : Knowledge} {k : Kernel} {w : World} {um : Memory} (rest : Rest) (script : List Command) (at : At) (func : ℕ) (args : List Wire) (depth credit : ℕ) → Rel program K k w um → IsPlace program half.User at → IsDowncall program func args depth → Replies.IsWithin k w (suc credit)
+    → next program (Ok (message.Down (Replies.used k w) at depth func (map (normal um) args) (Replies.told_runs k w um))) k rest script
+    ≡ downcalled program (kernel_call program func (map (normal w.memory) args) depth w) (Replies.resumed k w um) rest script
 unfolding taken
-next_down {program} {k = k} {w = w} {um = um} rest at func args depth credit r place down within =
-    ap (λ (xs : List Wire). next program (Ok (message.Down (Replies.used k w) at depth func xs (Replies.told_runs k w um))) k rest) (same_args um w.memory _ args down.fitting)
-    ∙ next_taken program k rest _ (Replies.legal_down rest at func args depth credit r place down within)
-    ∙ ap (λ (k' : Kernel). downcalled program (kernel_call program func (map (normal w.memory) args) depth k'.world) k' rest) (Replies.stores_reply r)
+next_down {program} {k = k} {w = w} {um = um} rest script at func args depth credit r place down within =
+    ap (λ (xs : List Wire). next program (Ok (message.Down (Replies.used k w) at depth func xs (Replies.told_runs k w um))) k rest script) (same_args um w.memory _ args down.fitting)
+    ∙ next_taken program k rest script _ (Replies.legal_down rest at func args depth credit r place down within)
+    ∙ ap (λ (k' : Kernel). downcalled program (kernel_call program func (map (normal w.memory) args) depth k'.world) k' rest script) (Replies.stores_reply r)
 
 -- ---- the user half accepts an honest message
 
@@ -175,67 +176,67 @@ deliver_answer {program} fuel e copy w left view results asked goes told none sa
 
 -- ---- the induction
 
-module _ (program : Program) (sound : IsRunnable program) (fuel : ℕ) (rest : Rest) (goes_on : GoesOn program fuel rest) where
+module _ (program : Program) (sound : IsRunnable program) (fuel : ℕ) (rest : Rest) (script : List Command) (goes_on : GoesOn program fuel rest script) where
   -- a reply after which the run is over
   stops_at : {K : Knowledge} {k : Kernel} {w : World} {um : Memory} (credit : ℕ) (kind : StopKind) (at : At) → Rel program K k w um → IsPlace program half.User at → IsUserStop kind → Replies.IsWithin k w credit
-      → Finishes program fuel (next program (Ok (message.Stop (Replies.used k w) (stop_number kind) at (Replies.told_runs k w um))) k rest)
+      → Finishes program fuel (next program (Ok (message.Stop (Replies.used k w) (stop_number kind) at (Replies.told_runs k w um))) k rest script)
       (idle_user (put_runs (Replies.told_runs k w um) k.agreed)) (finish (ends.Stop kind (Some at)) w)
   stops_at {k = k} {w = w} {um = um} credit kind at r place own within =
       subst (λ (p : Pending). Finishes program fuel p (idle_user (put_runs (Replies.told_runs k w um) k.agreed)) (finish (ends.Stop kind (Some at)) w))
-      (sym (next_stop rest kind at r place own))
+      (sym (next_stop rest script kind at r place own))
       (is_over _ (Replies.resumed k w um) _ (omega (arith, within.bound)))
 
   -- the whole run stops where the user half does
-  stopped_ends : (kind : StopKind) (at : At) (w : World) → ended_at program rest (Stopped kind (Some at) w) ≡ finish (ends.Stop kind (Some at)) w
+  stopped_ends : (kind : StopKind) (at : At) (w : World) → ended_at program rest script (Stopped kind (Some at) w) ≡ finish (ends.Stop kind (Some at)) w
   stopped_ends kind at w = of rest
     where
-      of : (r : Rest) → ended_at program r (Stopped kind (Some at) w) ≡ finish (ends.Stop kind (Some at)) w
-      of (Noted f script) = refl
+      of : (r : Rest) → ended_at program r script (Stopped kind (Some at) w) ≡ finish (ends.Stop kind (Some at)) w
+      of (Noted f) = refl
 
-  done_serves : {K : Knowledge} (credit : ℕ) (v : Wire) (t : Tree) → IsResultOf program (upcall_of rest) v → Serves program fuel rest K credit (Tree.Done v t)
+  done_serves : {K : Knowledge} (credit : ℕ) (v : Wire) (t : Tree) → IsResultOf program (upcall_of rest) v → Serves program fuel rest script K credit (Tree.Done v t)
   unfolding walk replied in_user
   done_serves {K} credit v t fits = record {
     by = λ k w um n e r within.
-        subst (λ (q : ℕ). ServesAt program fuel rest (Tree.Done v t) k w um q) e
-        (subst (λ (p : Pending). Finishes program fuel p (idle_user (put_runs (Replies.told_runs k w um) k.agreed)) (ended_at program rest (Ended (normal w.memory v) w)))
-        (sym (next_return rest v r fits))
+        subst (λ (q : ℕ). ServesAt program fuel rest script (Tree.Done v t) k w um q) e
+        (subst (λ (p : Pending). Finishes program fuel p (idle_user (put_runs (Replies.told_runs k w um) k.agreed)) (ended_at program rest script (Ended (normal w.memory v) w)))
+        (sym (next_return rest script v r fits))
         (goes_on.by K (Replies.resumed k w um) (normal w.memory v) (Replies.agrees r) (omega (arith, within.bound))));
   }
 
-  stop_serves : {K : Knowledge} (credit : ℕ) (kind : StopKind) (at : At) → IsPlace program half.User at → IsUserStop kind → Serves program fuel rest K credit (Tree.Stop kind at)
+  stop_serves : {K : Knowledge} (credit : ℕ) (kind : StopKind) (at : At) → IsPlace program half.User at → IsUserStop kind → Serves program fuel rest script K credit (Tree.Stop kind at)
   unfolding walk replied in_user
   stop_serves credit kind at place own = record {
     by = λ k w um n e r within.
-        subst (λ (q : ℕ). ServesAt program fuel rest (Tree.Stop kind at) k w um q) e
-        (subst (λ (f : Finish). Finishes program fuel (next program (Ok (message.Stop (Replies.used k w) (stop_number kind) at (Replies.told_runs k w um))) k rest) (idle_user (put_runs (Replies.told_runs k w um) k.agreed)) f)
+        subst (λ (q : ℕ). ServesAt program fuel rest script (Tree.Stop kind at) k w um q) e
+        (subst (λ (f : Finish). Finishes program fuel (next program (Ok (message.Stop (Replies.used k w) (stop_number kind) at (Replies.told_runs k w um))) k rest script) (idle_user (put_runs (Replies.told_runs k w um) k.agreed)) f)
         (sym (stopped_ends kind at w)) (stops_at credit kind at r place own within));
   }
 
-  tick_serves : {K : Knowledge} (credit : ℕ) (at : At) (t : Tree) → IsPlace program half.User at → Serves program fuel rest K (suc (suc credit)) t → Serves program fuel rest K credit (Tree.Tick at t)
+  tick_serves : {K : Knowledge} (credit : ℕ) (at : At) (t : Tree) → IsPlace program half.User at → Serves program fuel rest script K (suc (suc credit)) t → Serves program fuel rest script K credit (Tree.Tick at t)
   unfolding walk replied in_user
   tick_serves {K} credit at t place later = record { by = λ k w um n e r within. of n k w um e r within }
     where
-      of : (n : ℕ) (k : Kernel) (w : World) (um : Memory) → w.rest ≡ n → Rel program K k w um → Replies.IsWithin k w credit → ServesAt program fuel rest (Tree.Tick at t) k w um n
+      of : (n : ℕ) (k : Kernel) (w : World) (um : Memory) → w.rest ≡ n → Rel program K k w um → Replies.IsWithin k w credit → ServesAt program fuel rest script (Tree.Tick at t) k w um n
       of zero k w um e r within =
           let go : World → Ran Wire = λ (w' : World). in_user program t w' in
-          let whole : ended_at program rest (counted w.rest at w go) ≡ finish (ends.Stop stop.Ticks (Some at)) w =
-          ap (λ (q : ℕ). ended_at program rest (counted q at w go)) e ∙ stopped_ends stop.Ticks at w in
-          subst (λ (q : ℕ). Finishes program fuel (next program (Ok (message.Stop (k.world.rest - q) 16 at (Replies.told_runs k w um))) k rest)
-          (idle_user (put_runs (Replies.told_runs k w um) k.agreed)) (ended_at program rest (counted w.rest at w go))) e
-          (subst (λ (f : Finish). Finishes program fuel (next program (Ok (message.Stop (Replies.used k w) 16 at (Replies.told_runs k w um))) k rest)
+          let whole : ended_at program rest script (counted w.rest at w go) ≡ finish (ends.Stop stop.Ticks (Some at)) w =
+          ap (λ (q : ℕ). ended_at program rest script (counted q at w go)) e ∙ stopped_ends stop.Ticks at w in
+          subst (λ (q : ℕ). Finishes program fuel (next program (Ok (message.Stop (k.world.rest - q) 16 at (Replies.told_runs k w um))) k rest script)
+          (idle_user (put_runs (Replies.told_runs k w um) k.agreed)) (ended_at program rest script (counted w.rest at w go))) e
+          (subst (λ (f : Finish). Finishes program fuel (next program (Ok (message.Stop (Replies.used k w) 16 at (Replies.told_runs k w um))) k rest script)
           (idle_user (put_runs (Replies.told_runs k w um) k.agreed)) f) (sym whole)
           (subst (λ (p : Pending). Finishes program fuel p (idle_user (put_runs (Replies.told_runs k w um) k.agreed)) (finish (ends.Stop stop.Ticks (Some at)) w))
-          (sym (next_ticks rest at r place e))
+          (sym (next_ticks rest script at r place e))
           (is_over _ (Replies.resumed k w um) _ (omega (arith, within.bound)))))
       of (suc q) k w um e r within =
           let go : World → Ran Wire = λ (w' : World). in_user program t w' in
           let w' : World = record w { rest = q; ticks = suc w.ticks } in
-          subst (λ (f : Finish). Finishes program fuel (next program (Ok (reply_of k w' um q t).reply) k rest) (reply_of k w' um q t).user f)
-          (sym (ap (λ (n : ℕ). ended_at program rest (counted n at w go)) e))
+          subst (λ (f : Finish). Finishes program fuel (next program (Ok (reply_of k w' um q t).reply) k rest script) (reply_of k w' um q t).user f)
+          (sym (ap (λ (n : ℕ). ended_at program rest script (counted n at w go)) e))
           (later.by k w' um q refl (Accesses.ticks q r e) (record { bound = omega (arith, within.bound) }))
 
   load_serves : {K : Knowledge} (credit : ℕ) (at : At) (p : Wire) (next' : Wire → Tree) → IsPlace program half.User at → IsKnownPointer K p
-      → ((v : Wire) → IsValueAt program p v → Serves program fuel rest K credit (next' v)) → Serves program fuel rest K credit (Tree.Load at p next')
+      → ((v : Wire) → IsValueAt program p v → Serves program fuel rest script K credit (next' v)) → Serves program fuel rest script K credit (Tree.Load at p next')
   unfolding walk replied in_user
   load_serves {K} credit at p next' place known later = record {
     by = λ k w um n e r within.
@@ -244,53 +245,53 @@ module _ (program : Program) (sound : IsRunnable program) (fuel : ℕ) (rest : R
     where
       of : (k : Kernel) (w : World) (um : Memory) (n : ℕ) → w.rest ≡ n → Rel program K k w um → Replies.IsWithin k w credit
           → (x : Result Wire StopKind) → loaded (is_in w.view) um p ≡ loaded (is_in w.view) w.memory p → loaded (is_in w.view) w.memory p ≡ x
-          → ServesAt program fuel rest (Tree.Load at p next') k w um n
+          → ServesAt program fuel rest script (Tree.Load at p next') k w um n
       of k w um n e r within (Ok v) same is =
-          moved rest k w _ _ _ _
+          moved rest script k w _ _ _ _
           (ap (λ (x : Result Wire StopKind). on_load x at um n (λ v'. walk (is_in w.view) n (next' v') um)) (same ∙ is))
           (ap (λ (x : Result Wire StopKind). when_loaded x at w (λ v'. in_user program (next' v') w)) is)
           ((later v (Accesses.gets p v r known is)).by k w um n e r within)
       of k w um n e r within (Err kind) same is =
-          moved rest k w _ _ _ _
+          moved rest script k w _ _ _ _
           (ap (λ (x : Result Wire StopKind). on_load x at um n (λ v'. walk (is_in w.view) n (next' v') um)) (same ∙ is))
           (ap (λ (x : Result Wire StopKind). when_loaded x at w (λ v'. in_user program (next' v') w)) is)
           ((stop_serves credit kind at place (Accesses.load_stop _ _ p kind is)).by k w um n e r within)
 
   store_serves : {K : Knowledge} (credit : ℕ) (at : At) (p v : Wire) (t : Tree) → IsPlace program half.User at → IsKnownPointer K p → IsValueAt program p v
-      → Serves program fuel rest K credit t → Serves program fuel rest K credit (Tree.Store at p v t)
+      → Serves program fuel rest script K credit t → Serves program fuel rest script K credit (Tree.Store at p v t)
   unfolding walk replied in_user
   store_serves {K} credit at p v t place known fits later = record { by = λ k w um n e r within. of k w um n e r within (Accesses.store p v r known fits) }
     where
       of : (k : Kernel) (w : World) (um : Memory) (n : ℕ) → w.rest ≡ n → Rel program K k w um → Replies.IsWithin k w credit
-          → Accesses.Stores program K k w um p v → ServesAt program fuel rest (Tree.Store at p v t) k w um n
+          → Accesses.Stores program K k w um p v → ServesAt program fuel rest script (Tree.Store at p v t) k w um n
       of k w um n e r within (Accesses.goes m m' e1 e2 r') =
-          moved rest k w _ _ _ _
+          moved rest script k w _ _ _ _
           (ap (λ (x : Result Memory StopKind). on_store x at um n (λ m''. walk (is_in w.view) n t m'')) e1)
           (ap (λ (x : Result Memory StopKind). when_stored x at w (λ w'. in_user program t w')) e2)
           (later.by k (record w { memory = m' }) m n e r' (record { bound = within.bound }))
       of k w um n e r within (Accesses.stops kind e1 e2 own) =
-          moved rest k w _ _ _ _
+          moved rest script k w _ _ _ _
           (ap (λ (x : Result Memory StopKind). on_store x at um n (λ m''. walk (is_in w.view) n t m'')) e1)
           (ap (λ (x : Result Memory StopKind). when_stored x at w (λ w'. in_user program t w')) e2)
           ((stop_serves credit kind at place own).by k w um n e r within)
 
   -- a question whose work stops the run
   question_stops : {K : Knowledge} {k : Kernel} {w : World} {um : Memory} (u : User) (credit : ℕ) (kind : StopKind) (at : Option At) (w' : World) → Rel program K k w um → Replies.IsWithin k w credit → KernelWork.Later program w w'
-      → Finishes program fuel (Over (ends.Stop kind at) (record (Replies.resumed k w um) { world = w' })) u (ended_at program rest (Stopped kind at w'))
+      → Finishes program fuel (Over (ends.Stop kind at) (record (Replies.resumed k w um) { world = w' })) u (ended_at program rest script (Stopped kind at w'))
   question_stops {k = k} {w = w} {um = um} u credit kind at w' r within later = of rest
     where
       bound : 2 * k.exchanges ≤ 4 * w'.ticks + 6 * w'.calls
       bound = omega (arith, within.bound, later.later, later.calls)
 
-      of : (r : Rest) → Finishes program fuel (Over (ends.Stop kind at) (record (Replies.resumed k w um) { world = w' })) u (ended_at program r (Stopped kind at w'))
-      of (Noted f script) = is_over _ _ u bound
+      of : (r : Rest) → Finishes program fuel (Over (ends.Stop kind at) (record (Replies.resumed k w um) { world = w' })) u (ended_at program r script (Stopped kind at w'))
+      of (Noted f) = is_over _ _ u bound
 
   crossed : {K : Knowledge} (credit func : ℕ) (next' : Wire → Tree) (k : Kernel) (w : World) (um : Memory) → Rel program K k w um → Replies.IsWithin k w (suc credit)
-      → ((K' : Knowledge) → Grows K K' → (v : Wire) → IsResultOf program func v → Serves program fuel rest K' credit (next' v))
+      → ((K' : Knowledge) → Grows K K' → (v : Wire) → IsResultOf program func v → Serves program fuel rest script K' credit (next' v))
       → (ran : Ran Wire) → KernelWork.Leaves (KernelWork.Later program w) (IsResultOf program func) ran
-      → Finishes program fuel (downcalled program ran (Replies.resumed k w um) rest)
+      → Finishes program fuel (downcalled program ran (Replies.resumed k w um) rest script)
       (record { agreed = put_runs (Replies.told_runs k w um) k.agreed; work = AwaitsBack func w.view next' })
-      (ended_at program rest (after ran (λ v w'. in_user program (next' v) (renewed program w'))))
+      (ended_at program rest script (after ran (λ v w'. in_user program (next' v) (renewed program w'))))
   unfolding comes_back renewed
   crossed {K} credit func next' k w um r within later _ (KernelWork.ended v w' l given) =
       let copy : Memory = put_runs (Replies.told_runs k w um) k.agreed in
@@ -298,7 +299,7 @@ module _ (program : Program) (sound : IsRunnable program) (fuel : ℕ) (rest : R
       let w'' : World = renewed program w' in
       let told : Told = Messages.telling program (v ∷ []) copy w'' in
       let m : Messages.Messaged program K copy w'' e told = Messages.message_is (v ∷ []) w' e sound (onward (Replies.agrees r) l.holds) in
-      one_more _ (Messages.waiting program told copy w'' e) rest (record { agreed = copy; work = AwaitsBack func w.view next' })
+      one_more _ (Messages.waiting program told copy w'' e) rest script (record { agreed = copy; work = AwaitsBack func w.view next' })
       (reply_of (Messages.waiting program told copy w'' e) w'' (agreed_after program told copy) w''.rest (next' v)) _
       (deliver_back fuel func e copy w'' v w.view next' told given m)
       ((later (K ++ told.news) (grows_by K told.news) v given).by (Messages.waiting program told copy w'' e) w'' (agreed_after program told copy) w''.rest refl m.rel
@@ -306,32 +307,32 @@ module _ (program : Program) (sound : IsRunnable program) (fuel : ℕ) (rest : R
   crossed {K} credit func next' k w um r within later _ (KernelWork.stopped kind at w' l) = question_stops _ (suc credit) kind at w' r within l
 
   cross_serves : {K : Knowledge} (credit : ℕ) (at : At) (func : ℕ) (args : List Wire) (depth : ℕ) (next' : Wire → Tree) → IsPlace program half.User at → IsDowncall program func args depth
-      → ((K' : Knowledge) → Grows K K' → (v : Wire) → IsResultOf program func v → Serves program fuel rest K' credit (next' v))
-      → Serves program fuel rest K (suc credit) (Tree.Cross at func args depth next')
+      → ((K' : Knowledge) → Grows K K' → (v : Wire) → IsResultOf program func v → Serves program fuel rest script K' credit (next' v))
+      → Serves program fuel rest script K (suc credit) (Tree.Cross at func args depth next')
   unfolding walk replied in_user
   cross_serves {K} credit at func args depth next' place down later = record {
     by = λ k w um n e r within.
         let u : User = record { agreed = put_runs (Replies.told_runs k w um) k.agreed; work = AwaitsBack func w.view next' } in
-        let f : Finish = ended_at program rest (in_user program (Tree.Cross at func args depth next') w) in
-        subst (λ (q : ℕ). ServesAt program fuel rest (Tree.Cross at func args depth next') k w um q) e
-        (subst (λ (p : Pending). Finishes program fuel p u f) (sym (next_down rest at func args depth credit r place down within))
+        let f : Finish = ended_at program rest script (in_user program (Tree.Cross at func args depth next') w) in
+        subst (λ (q : ℕ). ServesAt program fuel rest script (Tree.Cross at func args depth next') k w um q) e
+        (subst (λ (p : Pending). Finishes program fuel p u f) (sym (next_down rest script at func args depth credit r place down within))
         (crossed credit func next' k w um r within later _
         (KernelWork.kernel_leaves func (map (normal w.memory) args) depth w sound (KernelWork.stub_is_kernel program func down.stub) (Messages.holds_of (Replies.agrees r)))));
   }
 
   asked_for : {K : Knowledge} (credit : ℕ) (asked : Asked) (next' : List Wire → Tree) (k : Kernel) (w : World) (um : Memory) → Rel program K k w um → Replies.IsWithin k w (suc credit)
-      → ((K' : Knowledge) → Grows K K' → (vs : List Wire) → IsServed vs → Serves program fuel rest K' credit (next' vs))
+      → ((K' : Knowledge) → Grows K K' → (vs : List Wire) → IsServed vs → Serves program fuel rest script K' credit (next' vs))
       → (ran : Ran (List Wire)) → KernelWork.Leaves (KernelWork.Serviced program w) IsServed ran
-      → Finishes program fuel (serviced program ran (Replies.resumed k w um) rest)
+      → Finishes program fuel (serviced program ran (Replies.resumed k w um) rest script)
       (record { agreed = put_runs (Replies.told_runs k w um) k.agreed; work = AwaitsAnswer asked w.view w.rest next' })
-      (ended_at program rest (after ran (λ vs w'. in_user program (next' vs) w')))
+      (ended_at program rest script (after ran (λ vs w'. in_user program (next' vs) w')))
   unfolding answers
   asked_for {K} credit asked next' k w um r within later _ (KernelWork.ended vs w' l given) =
       let copy : Memory = put_runs (Replies.told_runs k w um) k.agreed in
       let e : ℕ = suc k.exchanges in
       let told : Told = tells program [] vs copy w'.memory in
       let m : Messages.Answered program K copy w' e told = Messages.answer_is vs e sound r l in
-      one_more _ (Messages.waiting program told copy w' e) rest (record { agreed = copy; work = AwaitsAnswer asked w.view w.rest next' })
+      one_more _ (Messages.waiting program told copy w' e) rest script (record { agreed = copy; work = AwaitsAnswer asked w.view w.rest next' })
       (reply_of (Messages.waiting program told copy w' e) w' (agreed_after program told copy) w'.rest (next' vs)) _
       (deliver_answer fuel e copy w' w.rest w.view vs asked next' told given l.rest l.goes_on.view m)
       ((later (K ++ told.news) (grows_by K told.news) vs given).by (Messages.waiting program told copy w' e) w' (agreed_after program told copy) w'.rest refl m.rel
@@ -339,21 +340,21 @@ module _ (program : Program) (sound : IsRunnable program) (fuel : ℕ) (rest : R
   asked_for {K} credit asked next' k w um r within later _ (KernelWork.stopped kind at w' l) = question_stops _ (suc credit) kind at w' r within l.goes_on
 
   ask_serves : {K : Knowledge} (credit : ℕ) (asked : Asked) (next' : List Wire → Tree) → IsPlace program half.User asked.at → IsAskable program asked
-      → ((K' : Knowledge) → Grows K K' → (vs : List Wire) → IsServed vs → Serves program fuel rest K' credit (next' vs))
-      → Serves program fuel rest K (suc credit) (Tree.Ask asked next')
+      → ((K' : Knowledge) → Grows K K' → (vs : List Wire) → IsServed vs → Serves program fuel rest script K' credit (next' vs))
+      → Serves program fuel rest script K (suc credit) (Tree.Ask asked next')
   unfolding walk replied in_user
   ask_serves {K} credit asked next' place askable later = record {
     by = λ k w um n e r within.
-        let f : Finish = ended_at program rest (in_user program (Tree.Ask asked next') w) in
-        subst (λ (q : ℕ). ServesAt program fuel rest (Tree.Ask asked next') k w um q) e
+        let f : Finish = ended_at program rest script (in_user program (Tree.Ask asked next') w) in
+        subst (λ (q : ℕ). ServesAt program fuel rest script (Tree.Ask asked next') k w um q) e
         (subst (λ (p : Pending). Finishes program fuel p (record { agreed = put_runs (Replies.told_runs k w um) k.agreed; work = AwaitsAnswer asked w.view w.rest next' }) f)
-        (sym (next_ask rest asked credit r place askable within))
+        (sym (next_ask rest script asked credit r place askable within))
         (asked_for credit asked next' k w um r within later _
         (KernelWork.service_leaves (as_now w.memory asked) w (Messages.holds_of (Replies.agrees r)))));
   }
 
   -- every fair tree is served
-  pub serves : (t : Tree) (credit : ℕ) (K : Knowledge) → Fair program half.User (upcall_of rest) K credit t → Serves program fuel rest K credit t
+  pub serves : (t : Tree) (credit : ℕ) (K : Knowledge) → Fair program half.User (upcall_of rest) K credit t → Serves program fuel rest script K credit t
   serves Tree.Idle credit K fair = elim fair [ ]
   serves (Tree.Done v t) credit K fair = done_serves credit v t fair
   serves (Tree.Stop kind at) credit K fair = stop_serves credit kind at fair.0 fair.1

@@ -12,6 +12,7 @@ use Rattle.mdr_core.specs.declared.program.Program.{Program}
 use Rattle.mdr_core.specs.declared.program.Func.{Func}
 use Rattle.mdr_core.specs.Code.{Called, Code, Codes}
 use Rattle.mdr_core.specs.Folds.{codes_of}
+use Rattle.mdr_model.specs.declared.command.Command.{Command}
 use Rattle.mdr_model.specs.declared.wire.Wire.{Wire}
 use Rattle.mdr_model.specs.declared.message.Shape64.{Shape64}
 use Rattle.mdr_model.specs.declared.message.Run.{Run}
@@ -26,7 +27,7 @@ use Rattle.mdr_model.specs.Sets.{runs_of_cells}
 use Rattle.mdr_model.specs.Tree.{Asked}
 use Rattle.mdr_model.specs.Meaning.{func_at, body_of, is_kernel, is_user}
 use Rattle.mdr_model.specs.World.{World, Ran, Ended, Stopped, is_writel, served, kernel_call}
-use Rattle.mdr_model.specs.Watched.{renewed, begun, returned, first_world}
+use Rattle.mdr_model.specs.Watched.{renewed, returned, Beginning, Did, Opens, begin, first_world}
 use Rattle.mdr_model.specs.Copies.{Told, tells, agreed_after, put_runs}
 use Rattle.mdr_model.specs.Faults.{fault, unless, first_fault, params_of, args_fault, runs_fault}
 
@@ -38,14 +39,14 @@ pub record Kernel : Type 0 where
   pub agreed : Memory
   pub exchanges : ℕ
 
--- what follows the return of the open upcall: it was a command's call of a function; the result is noted, and the script goes on
+-- what follows the return of the open upcall: it was a command's call of a function, and the result is noted
 pub data Rest : Type 0 where
-  Noted : (func : ℕ) (script : List ℕ) → Rest
+  Noted : (func : ℕ) → Rest
 
--- the run is over, or it waits for the answer to a message
+-- the run is over, or it waits for the answer to a message, with the commands that are still to begin
 pub data Pending : Type 0 where
   Over : (end : End) (kernel : Kernel) → Pending
-  Waits : (message : Message) (kernel : Kernel) (rest : Rest) → Pending
+  Waits : (message : Message) (kernel : Kernel) (rest : Rest) (script : List Command) → Pending
 
 -- an answer as it was read: the message that its bytes are, or why they are none
 abbrev pub Reading : Type 0
@@ -153,7 +154,7 @@ result_type None = ty.Void
 result_type (Some f) = f.result
 
 abbrev pub upcall_of : Rest → ℕ
-upcall_of (Noted f script) = f
+upcall_of (Noted f) = f
 
 abbrev pub ticks_fault : Kernel → ℕ → Option Fault
 ticks_fault k ticks = unless (nat_le ticks k.world.rest) refusal.TooManyTicks 0
@@ -215,24 +216,24 @@ abbrev pub sent : Program → World → Told → Kernel → Kernel
 sent program w told k = record { world = w; agreed = agreed_after program told k.agreed; exchanges = suc k.exchanges }
 
 -- an upcall begins: the visible set is taken, and the call is told
-unfoldable pub calls : Program → ℕ → List Wire → World → Kernel → List ℕ → Pending
+unfoldable pub calls : Program → ℕ → List Wire → World → Kernel → List Command → Pending
 calls program f args w k script =
     let w' : World = renewed program w in
     let told : Told = tells program w'.view args k.agreed w'.memory in
-    Waits (message.Call f 0 w'.rest args told.deaths told.news (runs_of_cells w'.view) told.runs) (sent program w' told k) (Noted f script)
+    Waits (message.Call f 0 w'.rest args told.deaths told.news (runs_of_cells w'.view) told.runs) (sent program w' told k) (Noted f) script
 
 -- a downcall came back: the visible set is taken anew, and the result is told
-unfoldable pub comes_back : Program → Wire → World → Kernel → Rest → Pending
-comes_back program v w k rest =
+unfoldable pub comes_back : Program → Wire → World → Kernel → Rest → List Command → Pending
+comes_back program v w k rest script =
     let w' : World = renewed program w in
     let told : Told = tells program w'.view (values_of_result v) k.agreed w'.memory in
-    Waits (message.Back w'.rest v told.deaths told.news (runs_of_cells w'.view) told.runs) (sent program w' told k) rest
+    Waits (message.Back w'.rest v told.deaths told.news (runs_of_cells w'.view) told.runs) (sent program w' told k) rest script
 
 -- a service was done, and its results are told, and no cells
-unfoldable pub answers : Program → List Wire → World → Kernel → Rest → Pending
-answers program results w k rest =
+unfoldable pub answers : Program → List Wire → World → Kernel → Rest → List Command → Pending
+answers program results w k rest script =
     let told : Told = tells program [] results k.agreed w.memory in
-    Waits (message.Answer results told.deaths told.news) (sent program w told k) rest
+    Waits (message.Answer results told.deaths told.news) (sent program w told k) rest script
 
 -- ---- the run
 
@@ -241,18 +242,17 @@ over end w k = Over end (record k { world = w })
 
 -- what follows a command that the kernel half does
 abbrev pub then_split : Ran Wire → Kernel → (Kernel → Pending) → Pending
-then_split (Ended v w) k go = go (record k { world = returned v w })
+then_split (Ended v w) k go = go (record k { world = w })
 then_split (Stopped kind at w) k go = over (ends.Stop kind at) w k
 
-abbrev pub command_by : Bool → Program → ℕ → List ℕ → World → Kernel → (Kernel → Pending) → Pending
-command_by true program f fs w k go = then_split (kernel_call program f [] 0 w) k go
-command_by false program f fs w k go = calls program f [] w k fs
+abbrev pub split_by : Beginning → Program → List Command → Kernel → (Kernel → Pending) → Pending
+split_by (Did ran) program script k go = then_split ran k go
+split_by (Opens f args w) program script k go = calls program f args w k script
 
 -- the commands of a script up to the first message
-unfoldable pub split_commands : Program → List ℕ → Kernel → Pending
+unfoldable pub split_commands : Program → List Command → Kernel → Pending
 split_commands program [] k = Over ends.Ok k
-split_commands program (f ∷ fs) k =
-    command_by (is_kernel program f) program f fs (begun program f k.world) k (λ k'. split_commands program fs k')
+split_commands program (c ∷ cs) k = split_by (begin program c k.world) program cs k (λ k'. split_commands program cs k')
 
 -- a legal reply is applied: its ticks are spent, and its runs are stored in the memory and in the agreed copy
 abbrev pub spent : ℕ → List Run → World → World
@@ -261,45 +261,45 @@ spent ticks runs w = record w { memory = put_runs runs w.memory; ticks = w.ticks
 unfoldable pub applied : ℕ → List Run → Kernel → Kernel
 applied ticks runs k = record k { world = spent ticks runs k.world; agreed = put_runs runs k.agreed }
 
-abbrev pub continued : Program → Wire → Kernel → Rest → Pending
-continued program v k (Noted f script) = split_commands program script (record k { world = returned v k.world })
+abbrev pub continued : Program → Wire → Kernel → Rest → List Command → Pending
+continued program v k (Noted f) script = split_commands program script (record k { world = returned v k.world })
 
-abbrev pub downcalled : Program → Ran Wire → Kernel → Rest → Pending
-downcalled program (Ended v w) k rest = comes_back program v w k rest
-downcalled program (Stopped kind at w) k rest = over (ends.Stop kind at) w k
+abbrev pub downcalled : Program → Ran Wire → Kernel → Rest → List Command → Pending
+downcalled program (Ended v w) k rest script = comes_back program v w k rest script
+downcalled program (Stopped kind at w) k rest script = over (ends.Stop kind at) w k
 
-abbrev pub serviced : Program → Ran (List Wire) → Kernel → Rest → Pending
-serviced program (Ended results w) k rest = answers program results w k rest
-serviced program (Stopped kind at w) k rest = over (ends.Stop kind at) w k
+abbrev pub serviced : Program → Ran (List Wire) → Kernel → Rest → List Command → Pending
+serviced program (Ended results w) k rest script = answers program results w k rest script
+serviced program (Stopped kind at w) k rest script = over (ends.Stop kind at) w k
 
 -- a reply with a fault ends the run, and nothing of it is applied
 abbrev pub refused : Fault → Kernel → Pending
 refused f k = Over (ends.Refused k.exchanges f.kind f.number) k
 
 -- what a legal reply does; no other message is one
-unfoldable pub taken : Program → Message → Kernel → Rest → Pending
-taken program (message.Return ticks result runs) k rest = continued program result (applied ticks runs k) rest
-taken program (message.Down ticks at depth func args runs) k rest =
-    let k' : Kernel = applied ticks runs k in downcalled program (kernel_call program func args depth k'.world) k' rest
-taken program (message.Ask ticks at service args shapes bytes runs) k rest =
+unfoldable pub taken : Program → Message → Kernel → Rest → List Command → Pending
+taken program (message.Return ticks result runs) k rest script = continued program result (applied ticks runs k) rest script
+taken program (message.Down ticks at depth func args runs) k rest script =
+    let k' : Kernel = applied ticks runs k in downcalled program (kernel_call program func args depth k'.world) k' rest script
+taken program (message.Ask ticks at service args shapes bytes runs) k rest script =
     let k' : Kernel = applied ticks runs k in
     let asked : Asked = record { service = service; at = at; args = args; shapes = shapes; bytes = bytes } in
-    serviced program (served asked k'.world) k' rest
-taken program (message.Stop ticks number at runs) k rest =
+    serviced program (served asked k'.world) k' rest script
+taken program (message.Stop ticks number at runs) k rest script =
     Over (ends.Stop (unwrap_or (user_stop number) stop.Bug) (Some at)) (applied ticks runs k)
-taken program (message.Call func depth left args deaths news view runs) k rest = refused (fault refusal.NotAwaited 0) k
-taken program (message.Back left result deaths news view runs) k rest = refused (fault refusal.NotAwaited 0) k
-taken program (message.Answer results deaths news) k rest = refused (fault refusal.NotAwaited 0) k
-taken program (message.Refuse reason) k rest = refused (fault refusal.NotAwaited 0) k
+taken program (message.Call func depth left args deaths news view runs) k rest script = refused (fault refusal.NotAwaited 0) k
+taken program (message.Back left result deaths news view runs) k rest script = refused (fault refusal.NotAwaited 0) k
+taken program (message.Answer results deaths news) k rest script = refused (fault refusal.NotAwaited 0) k
+taken program (message.Refuse reason) k rest script = refused (fault refusal.NotAwaited 0) k
 
-abbrev pub judged : Program → Option Fault → Message → Kernel → Rest → Pending
-judged program (Some f) reply k rest = refused f k
-judged program None reply k rest = taken program reply k rest
+abbrev pub judged : Program → Option Fault → Message → Kernel → Rest → List Command → Pending
+judged program (Some f) reply k rest script = refused f k
+judged program None reply k rest script = taken program reply k rest script
 
 -- the next state after an answer
-unfoldable pub next : Program → Reading → Kernel → Rest → Pending
-next program (Err f) k rest = refused f k
-next program (Ok reply) k rest = judged program (fault_of program k rest reply) reply k rest
+unfoldable pub next : Program → Reading → Kernel → Rest → List Command → Pending
+next program (Err f) k rest script = refused f k
+next program (Ok reply) k rest script = judged program (fault_of program k rest reply) reply k rest script
 
 unfoldable pub first_kernel : Program → ℕ → Kernel
 first_kernel program budget = record { world = first_world program budget; agreed = first_memory program; exchanges = 0 }
@@ -311,11 +311,11 @@ pub record SplitRun : Type 0 where
 
 unfoldable pub run_from_pending : Program → List Reading → Pending → SplitRun
 run_from_pending program readings (Over end k) = record { sent = []; pending = Over end k }
-run_from_pending program [] (Waits m k rest) = record { sent = m ∷ []; pending = Waits m k rest }
-run_from_pending program (a ∷ readings) (Waits m k rest) =
-    let later : SplitRun = run_from_pending program readings (next program a k rest) in
+run_from_pending program [] (Waits m k rest script) = record { sent = m ∷ []; pending = Waits m k rest script }
+run_from_pending program (a ∷ readings) (Waits m k rest script) =
+    let later : SplitRun = run_from_pending program readings (next program a k rest script) in
     record { sent = m ∷ later.sent; pending = later.pending }
 
 -- the split run of a script under a budget of ticks, over the answers in turn
-unfoldable pub split_run : Program → List ℕ → ℕ → List Reading → SplitRun
+unfoldable pub split_run : Program → List Command → ℕ → List Reading → SplitRun
 split_run program script budget readings = run_from_pending program readings (split_commands program script (first_kernel program budget))

@@ -1,6 +1,7 @@
 -- The law: a split run with an honest far side is the one-memory meaning.
 use Rattle.std.specs.Prelude.{◌≡◌, ℕ, ◌+◌, ◌*◌, ◌≤◌, List, [], ◌∷◌, ◌++◌, Ok}
 use Rattle.mdr_core.specs.declared.program.Program.{Program}
+use Rattle.mdr_model.specs.declared.command.Command.{Command}
 use Rattle.mdr_model.specs.declared.message.Message.{Message}
 use Rattle.mdr_model.specs.declared.outcome.End.{End}
 use Rattle.mdr_model.specs.declared.outcome.End.TheVariants as ends
@@ -32,13 +33,13 @@ IsOwn (ends.Refused exchange cause number) = ⊥
 IsOwn (ends.FarFault exchange) = ⊥
 
 -- a run that is over has the outcome of the one-memory meaning, refuses nothing, and has at most 4 messages for each tick and 6 for each command begun: each message sent was answered
-pub record IsWatched (program : Program) (script : List ℕ) (budget : ℕ) (end : End) (k : Kernel) : Type 0 where
+pub record IsWatched (program : Program) (script : List Command) (budget : ℕ) (end : End) (k : Kernel) : Type 0 where
   pub outcome : outcome_of (finish end k.world) ≡ outcome_of (watched program script budget)
   pub own : IsOwn end
   pub messages : 2 * k.exchanges ≤ 4 * k.world.ticks + 6 * k.world.calls
 
 -- whatever honest answers come, and there are some with which the run is over
-pub record IsOneMemory (program : Program) (script : List ℕ) (budget : ℕ) : Type 0 where
+pub record IsOneMemory (program : Program) (script : List Command) (budget : ℕ) : Type 0 where
   pub same :
       (answers : List Message) (end : End) (k : Kernel)
       → IsHonest program [] (split_run program script budget (read answers)).sent answers
@@ -51,4 +52,4 @@ pub record IsOneMemory (program : Program) (script : List ℕ) (budget : ℕ) : 
 
 -- the law for every sound program that is built, every script of its functions and every budget
 abbrev pub SplitIsOneMemory : Type 0
-SplitIsOneMemory = (program : Program) (script : List ℕ) (budget : ℕ) → IsSound program → IsBuilt program → IsBound program script → IsOneMemory program script budget
+SplitIsOneMemory = (program : Program) (script : List Command) (budget : ℕ) → IsSound program → IsBuilt program → IsBound program script → IsOneMemory program script budget

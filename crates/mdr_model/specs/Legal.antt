@@ -2,6 +2,7 @@
 use Rattle.std.specs.Prelude.{◌≡◌, ℕ, ◌+◌, ◌*◌, ◌≤◌, Bool, true, false, List, [], ◌∷◌, ◌++◌, Option, Some, None, Ok, Err, ◌==◌}
 use Rattle.mdr_core.specs.declared.refusal.RefuseKind.{RefuseKind}
 use Rattle.mdr_core.specs.declared.program.Program.{Program}
+use Rattle.mdr_model.specs.declared.command.Command.{Command}
 use Rattle.mdr_model.specs.declared.message.New.{New}
 use Rattle.mdr_model.specs.declared.message.Run.{Run}
 use Rattle.mdr_model.specs.declared.message.Fault.{Fault}
@@ -26,7 +27,7 @@ IsLegal program k rest a = answer_fault program k rest a ≡ None
 -- ---- an answer that isn't legal
 
 -- a run that waits in state k gets one answer more. With a fault in the answer the run ends there: no message more is sent, and the whole state is still k, with its ticks, memory, visible cells, agreed copy and events. No other answer ends it so
-pub record EndsUnchanged (program : Program) (script : List ℕ) (budget : ℕ) (answers : List Reading) (a : Reading) (k : Kernel) (rest : Rest) : Type 0 where
+pub record EndsUnchanged (program : Program) (script : List Command) (budget : ℕ) (answers : List Reading) (a : Reading) (k : Kernel) (rest : Rest) : Type 0 where
   pub refuses :
       (f : Fault) → answer_fault program k rest a ≡ Some f
       → split_run program script budget (answers ++ a ∷ []) ≡ record { sent = (split_run program script budget answers).sent; pending = refused f k }
@@ -37,8 +38,8 @@ pub record EndsUnchanged (program : Program) (script : List ℕ) (budget : ℕ) 
 
 abbrev pub RefusedChangesNothing : Type 0
 RefusedChangesNothing =
-    (program : Program) (script : List ℕ) (budget : ℕ) (answers : List Reading) (a : Reading) (m : Message) (k : Kernel) (rest : Rest)
-    → (split_run program script budget answers).pending ≡ Waits m k rest → EndsUnchanged program script budget answers a k rest
+    (program : Program) (script : List Command) (budget : ℕ) (answers : List Reading) (a : Reading) (m : Message) (k : Kernel) (rest : Rest) (left : List Command)
+    → (split_run program script budget answers).pending ≡ Waits m k rest left → EndsUnchanged program script budget answers a k rest
 
 -- ---- a legal answer
 
@@ -70,18 +71,18 @@ runs_told (message.Refuse reason) = []
 -- wherever a run waits, the storing of a legal reply changes cells that user code may touch, and nothing else
 abbrev pub LegalIsContained : Type 0
 LegalIsContained =
-    (program : Program) (script : List ℕ) (budget : ℕ) (answers : List Reading) (a m : Message) (k : Kernel) (rest : Rest)
-    → (split_run program script budget answers).pending ≡ Waits m k rest → fault_of program k rest a ≡ None
+    (program : Program) (script : List Command) (budget : ℕ) (answers : List Reading) (a m : Message) (k : Kernel) (rest : Rest) (left : List Command)
+    → (split_run program script budget answers).pending ≡ Waits m k rest left → fault_of program k rest a ≡ None
     → IsContained k.world.memory (put_runs (runs_told a) k.world.memory) k.world.view
 
 -- ---- any answers
 
 abbrev pub kernel_in : Pending → Kernel
 kernel_in (Over end k) = k
-kernel_in (Waits m k rest) = k
+kernel_in (Waits m k rest script) = k
 
 -- whatever the answers are, the messages sent and answered are at most 4 for each tick and 6 for each command begun
 abbrev pub MessagesAreFew : Type 0
 MessagesAreFew =
-    (program : Program) (script : List ℕ) (budget : ℕ) (answers : List Reading) → let k : Kernel = kernel_in (split_run program script budget answers).pending in
+    (program : Program) (script : List Command) (budget : ℕ) (answers : List Reading) → let k : Kernel = kernel_in (split_run program script budget answers).pending in
     2 * k.exchanges ≤ 4 * k.world.ticks + 6 * k.world.calls

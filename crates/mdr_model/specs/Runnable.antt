@@ -1,5 +1,5 @@
 -- What running code asks of a program: what a sound program has where only built forms stand in it. Later forms of C add their rules here.
-use Rattle.std.specs.Prelude.{◌≡◌, ℕ, ◌<◌, ◌≤◌, Bool, true, false, List, [], ◌∷◌, length, Some, slice_get}
+use Rattle.std.specs.Prelude.{◌≡◌, ℕ, ◌<◌, ◌≤◌, Bool, true, false, List, [], ◌∷◌, map, length, Some, None, slice_get}
 use Rattle.std.specs.List.{AllByRecursion}
 use Rattle.mdr_core.specs.declared.kind.Kind.{Kind}
 use Rattle.mdr_core.specs.declared.kind.Kind.TheVariants.{U32}
@@ -12,8 +12,11 @@ use Rattle.mdr_core.specs.declared.code.Stmt.{Stmt}
 use Rattle.mdr_core.specs.Code.{Term, Lvalue, Called, Goal, Code, Codes}
 use Rattle.mdr_core.specs.Folds.{codes_of}
 use Rattle.mdr_core.specs.Types.{first_types}
+use Rattle.mdr_model.specs.declared.command.Command.{Command}
+use Rattle.mdr_model.specs.declared.command.Command.TheVariants as command
 use Rattle.mdr_model.specs.Values.{fits_type, wire_of}
-use Rattle.mdr_model.specs.Meaning.{is_kernel}
+use Rattle.mdr_model.specs.Faults.{params_of, args_fault}
+use Rattle.mdr_model.specs.Meaning.{func_at, is_kernel}
 use Rattle.mdr_model.specs.Built.{IsBuiltCell}
 
 -- a global has 1 to 65,536 cells and a first value for each, which fits
@@ -82,6 +85,12 @@ pub record IsRunnable (program : Program) : Type 0 where
   pub globals : AllByRecursion IsRunnableGlobal program.globals
   pub funcs : AllByRecursion (IsRunnableFunc program) program.funcs
 
--- each command of a script names a function
-abbrev pub IsBound : Program → List ℕ → Type 0
-IsBound program script = AllByRecursion (λ f. f < length program.funcs) script
+-- a call is of a function that there is, and the arguments fit its parameters
+abbrev pub IsBoundCommand : Program → Command → Type 0
+IsBoundCommand program (command.Call f args) = (f < length program.funcs) × (args_fault 0 (params_of (func_at program f)) (map wire_of args) ≡ None)
+-- other commands aren't built
+IsBoundCommand program _ = ⊥
+
+-- so is each command of a script
+abbrev pub IsBound : Program → List Command → Type 0
+IsBound program script = AllByRecursion (IsBoundCommand program) script

@@ -3,12 +3,15 @@ use Rattle.std.specs.Prelude.{ℕ, suc, Bool, true, false, List, [], ◌∷◌, 
 use Rattle.mdr_core.specs.declared.plan.Half.TheVariants as half
 use Rattle.mdr_core.specs.declared.program.Program.{Program}
 use Rattle.mdr_core.specs.declared.program.Func.{Func}
+use Rattle.mdr_core.specs.declared.value.Value.{Value}
+use Rattle.mdr_model.specs.declared.command.Command.{Command}
+use Rattle.mdr_model.specs.declared.command.Command.TheVariants as command
 use Rattle.mdr_model.specs.declared.wire.Wire.{Wire}
 use Rattle.mdr_model.specs.declared.wire.Wire.TheVariants as wire
 use Rattle.mdr_model.specs.declared.outcome.End.{End}
 use Rattle.mdr_model.specs.declared.outcome.End.TheVariants as ends
 use Rattle.mdr_model.specs.declared.outcome.Happened.TheVariants as happened
-use Rattle.mdr_model.specs.Values.{value_of}
+use Rattle.mdr_model.specs.Values.{wire_of, value_of}
 use Rattle.mdr_model.specs.Memory.{first_memory, normal, loaded, stored}
 use Rattle.mdr_model.specs.Sets.{is_in, visible}
 use Rattle.mdr_model.specs.Tree.{Tree}
@@ -50,34 +53,55 @@ name_of None = []
 name_of (Some f) = f.name
 
 -- a `call` command begins
-unfoldable pub begun : Program → ℕ → World → World
-begun program f w = noted (happened.Call (name_of (func_at program f)) []) (record w { calls = suc w.calls })
+unfoldable pub begun : Program → (func : ℕ) (args : List Value) → World → World
+begun program f args w = noted (happened.Call (name_of (func_at program f)) args) (record w { calls = suc w.calls })
 
 -- its result is noted
 unfoldable pub returned : Wire → World → World
 returned v w = noted (happened.Ret (value_of v)) w
+
+-- where the call ended
+abbrev pub noting : Ran Wire → Ran Wire
+noting (Ended v w) = Ended v (returned v w)
+noting (Stopped kind at w) = Stopped kind at w
+
+-- how a command begins: the kernel half did all of it at once, or an upcall of a function with these arguments opens
+pub data Beginning : Type 0 where
+  Did : (ran : Ran Wire) → Beginning
+  Opens : (func : ℕ) (args : List Wire) (world : World) → Beginning
+
+abbrev pub called_by : Bool → Program → (func : ℕ) (args : List Wire) → World → Beginning
+called_by true program f args w = Did (noting (kernel_call program f args 0 w))
+called_by false program f args w = Opens f args w
+
+-- the one driver of scripts, for every kind of run: what a command does, or which upcall it opens
+unfoldable pub begin : Program → Command → World → Beginning
+begin program (command.Call f args) w = called_by (is_kernel program f) program f (map wire_of args) (begun program f args w)
+-- other commands aren't built
+begin program _ w = Did (Ended wire.NoValue w)
+
+-- on one memory the upcall is done in place
+abbrev pub in_place : Program → Beginning → Ran Wire
+in_place program (Did ran) = ran
+in_place program (Opens f args w) = noting (upcall program f args w)
 
 abbrev pub finish : End → World → Finish
 finish end w = record { end = end; world = w }
 
 -- what follows a command: the run goes on, or it stopped
 abbrev pub and_then : Ran Wire → (World → Finish) → Finish
-and_then (Ended v w) go = go (returned v w)
+and_then (Ended v w) go = go w
 and_then (Stopped kind at w) go = finish (ends.Stop kind at) w
 
-abbrev pub called_by : Bool → Program → ℕ → World → Ran Wire
-called_by true program f w = kernel_call program f [] 0 w
-called_by false program f w = upcall program f [] w
-
--- the commands of a script: each calls the function with this number
-unfoldable pub commands : Program → List ℕ → World → Finish
+-- the commands of a script in turn
+unfoldable pub commands : Program → List Command → World → Finish
 commands program [] w = finish ends.Ok w
-commands program (f ∷ fs) w = and_then (called_by (is_kernel program f) program f (begun program f w)) (λ w'. commands program fs w')
+commands program (c ∷ cs) w = and_then (in_place program (begin program c w)) (λ w'. commands program cs w')
 
 -- the state in which a run begins
 unfoldable pub first_world : Program → ℕ → World
 first_world program budget = record { memory = first_memory program; view = []; ticks = 0; rest = budget; events = []; calls = 0 }
 
 -- the one-memory meaning of a script under a budget of ticks
-unfoldable pub watched : Program → List ℕ → ℕ → Finish
+unfoldable pub watched : Program → List Command → ℕ → Finish
 watched program script budget = commands program script (first_world program budget)

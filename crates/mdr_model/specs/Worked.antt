@@ -14,6 +14,8 @@ use Rattle.mdr_core.specs.declared.code.Expr.TheVariants as expr
 use Rattle.mdr_core.specs.declared.code.Callee.TheVariants.{Direct, Service}
 use Rattle.mdr_core.specs.declared.code.Step.TheVariants as step
 use Rattle.mdr_core.specs.declared.code.Stmt.{Stmt}
+use Rattle.mdr_model.specs.declared.command.Command.{Command}
+use Rattle.mdr_model.specs.declared.command.Command.TheVariants as command
 use Rattle.mdr_model.specs.declared.wire.Wire.{Wire}
 use Rattle.mdr_model.specs.declared.wire.Wire.TheVariants as wire
 use Rattle.mdr_model.specs.declared.message.SetRun.{SetRun}
@@ -93,11 +95,15 @@ reset = record {
 
 -- ---- reports
 
-abbrev pub printed : Program → List ℕ → List ℕ
+-- a script that calls one function
+abbrev pub calling : ℕ → List Command
+calling f = command.Call f [] ∷ []
+
+abbrev pub printed : Program → List Command → List ℕ
 printed program script = report program (outcome_of (watched program script 1000000))
 
 abbrev pub BumpPrints : Type 0
-BumpPrints = printed bump (1 ∷ []) ≡ codes "call open\nW 4 1\nret none\nend ok\nticks 5\nlive 1\nobj 1 u32 x1: 2\n"
+BumpPrints = printed bump (calling 1) ≡ codes "call open\nW 4 1\nret none\nend ok\nticks 5\nlive 1\nobj 1 u32 x1: 2\n"
 
 -- the empty script
 abbrev pub BumpIdles : Type 0
@@ -106,15 +112,15 @@ BumpIdles = printed bump [] ≡ codes "end ok\nticks 0\nlive 1\nobj 1 u32 x1: 0\
 -- four ticks are one too few
 abbrev pub BumpStops : Type 0
 BumpStops =
-    report bump (outcome_of (watched bump (1 ∷ []) 4))
+    report bump (outcome_of (watched bump (calling 1) 4))
     ≡ codes "call open\nW 4 1\nstop Ticks at bump 1\nticks 4\nlive 1\nobj 1 u32 x1: 1\n"
 
 abbrev pub AddOnePrints : Type 0
-AddOnePrints = printed add_one (0 ∷ []) ≡ codes "call f\nret none\nend ok\nticks 1\nlive 1\nobj 1 u32 x1: 1\n"
+AddOnePrints = printed add_one (calling 0) ≡ codes "call f\nret none\nend ok\nticks 1\nlive 1\nobj 1 u32 x1: 1\n"
 
 -- what the user half set and the kernel half set back
 abbrev pub ResetPrints : Type 0
-ResetPrints = printed reset (1 ∷ []) ≡ codes "call f\nW 0 0\nret none\nend ok\nticks 4\nlive 1\nobj 1 u32 x1: 0\n"
+ResetPrints = printed reset (calling 1) ≡ codes "call f\nW 0 0\nret none\nend ok\nticks 4\nlive 1\nobj 1 u32 x1: 0\n"
 
 -- ---- messages
 
@@ -147,11 +153,11 @@ bump_answers =
 
 -- the eight messages: these are sent over these answers, these answers are honest, and the run is over with the report's outcome
 pub record BumpSends : Type 0 where
-  pub sent : (split_run bump (1 ∷ []) 1000000 (read bump_answers)).sent ≡ bump_sent
+  pub sent : (split_run bump (calling 1) 1000000 (read bump_answers)).sent ≡ bump_sent
   pub honest : IsHonest bump [] bump_sent bump_answers
   pub kernel : Kernel
-  pub over : (split_run bump (1 ∷ []) 1000000 (read bump_answers)).pending ≡ Over ends.Ok kernel
-  pub outcome : outcome_of (finish ends.Ok kernel.world) ≡ outcome_of (watched bump (1 ∷ []) 1000000)
+  pub over : (split_run bump (calling 1) 1000000 (read bump_answers)).pending ≡ Over ends.Ok kernel
+  pub outcome : outcome_of (finish ends.Ok kernel.world) ≡ outcome_of (watched bump (calling 1) 1000000)
   pub exchanges : kernel.exchanges ≡ 4
 
 -- the messages of the driver that sets back: each change is compared with what was told last by either half
@@ -170,11 +176,11 @@ reset_answers =
     ∷ []
 
 pub record ResetSends : Type 0 where
-  pub sent : (split_run reset (1 ∷ []) 1000000 (read reset_answers)).sent ≡ reset_sent
+  pub sent : (split_run reset (calling 1) 1000000 (read reset_answers)).sent ≡ reset_sent
   pub honest : IsHonest reset [] reset_sent reset_answers
   pub kernel : Kernel
-  pub over : (split_run reset (1 ∷ []) 1000000 (read reset_answers)).pending ≡ Over ends.Ok kernel
-  pub outcome : outcome_of (finish ends.Ok kernel.world) ≡ outcome_of (watched reset (1 ∷ []) 1000000)
+  pub over : (split_run reset (calling 1) 1000000 (read reset_answers)).pending ≡ Over ends.Ok kernel
+  pub outcome : outcome_of (finish ends.Ok kernel.world) ≡ outcome_of (watched reset (calling 1) 1000000)
 
 -- a number in four bytes
 abbrev pub word : ℕ → List ℕ

@@ -1,6 +1,7 @@
 //! What a split run means: the definitions that several crates cite, and the law over them.
 #![tactic(auto)]
 
+mod command;
 mod laws;
 mod memory;
 mod message;
@@ -9,6 +10,7 @@ mod wire;
 mod worked;
 mod worked_copies;
 
+pub use command::Command;
 pub use laws::{
     a_legal_reply_is_contained, a_refused_message_changes_nothing, a_refused_reply_changes_nothing,
     answers_agree, fuel_is_no_matter, messages_agree, messages_are_few,

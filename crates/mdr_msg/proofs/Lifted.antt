@@ -1,6 +1,7 @@
 -- The law over messages, lifted to their bytes.
 use Rattle.std.proofs.Common.{◌≡◌, ℕ, List, [], ◌∷◌, ◌++◌, Ok, map, refl, sym, ap, subst, ◌∙◌}
 use Rattle.mdr_core.specs.declared.program.Program.{Program}
+use Rattle.mdr_model.specs.declared.command.Command.{Command}
 use Rattle.mdr_model.specs.declared.message.Message.{Message}
 use Rattle.mdr_model.specs.Text.{text}
 use Rattle.mdr_model.specs.Reading.{reading_of}
@@ -70,17 +71,17 @@ answers_are : (program : Program) (answers : List (List ℕ)) (before : List Mes
 unfolding run_from_pending
 answers_are program [] before p h spellings honest = record { told = []; are = refl; honest = tt }
 answers_are program (a ∷ answers) before (Over end k) h spellings honest = absurd honest
-answers_are program (a ∷ answers) before (Waits m k rest) h spellings honest =
+answers_are program (a ∷ answers) before (Waits m k rest script) h spellings honest =
     let reply : Message = user_reply program (read before) (Ok m) in
     let reply_has : IsMessage reply = subst IsMessage (same_reply program before m h spellings.0) honest.0.spelled in
     let bytes : a ≡ text reply = honest.0.bytes ∙ reply_is program before m h spellings.0 in
     let reads : reading_of a ≡ Ok reply = ap reading_of bytes ∙ reading_again reply reply_has in
-    let after : Pending = next program (Ok reply) k rest in
+    let after : Pending = next program (Ok reply) k rest script in
     let sent : HaveSpellings (run_from_pending program (readings answers) after).sent =
-    subst (λ (r : Reading). HaveSpellings (run_from_pending program (readings answers) (next program r k rest)).sent) reads spellings.1 in
+    subst (λ (r : Reading). HaveSpellings (run_from_pending program (readings answers) (next program r k rest script)).sent) reads spellings.1 in
     let left : IsHonestOverBytes program (map text (before ++ m ∷ [])) (map text (run_from_pending program (readings answers) after).sent) answers =
     subst (λ (bs : List (List ℕ)). IsHonestOverBytes program bs (map text (run_from_pending program (readings answers) after).sent) answers) (sym (one_more before m))
-    (subst (λ (r : Reading). IsHonestOverBytes program (map text before ++ text m ∷ []) (map text (run_from_pending program (readings answers) (next program r k rest)).sent) answers) reads honest.1) in
+    (subst (λ (r : Reading). IsHonestOverBytes program (map text before ++ text m ∷ []) (map text (run_from_pending program (readings answers) (next program r k rest script)).sent) answers) reads honest.1) in
     let others = answers_are program answers (before ++ m ∷ []) after (all_and before m h spellings.0) sent left in
     record {
       told = reply ∷ others.told;
@@ -90,12 +91,12 @@ answers_are program (a ∷ answers) before (Waits m k rest) h spellings honest =
 
 -- ---- the law
 
-same_run : (program : Program) (script : List ℕ) (budget : ℕ) (answers : List (List ℕ)) (told : List Message) → readings answers ≡ read told
+same_run : (program : Program) (script : List Command) (budget : ℕ) (answers : List (List ℕ)) (told : List Message) → readings answers ≡ read told
     → split_run_over_bytes program script budget answers ≡ split_run program script budget (read told)
 unfolding split_run_over_bytes
 same_run program script budget answers told are = ap (split_run program script budget) are
 
-pub bytes_are_one_memory : (program : Program) (script : List ℕ) (budget : ℕ) → IsRunnable program → IsBound program script → IsOneMemoryOverBytes program script budget
+pub bytes_are_one_memory : (program : Program) (script : List Command) (budget : ℕ) → IsRunnable program → IsBound program script → IsOneMemoryOverBytes program script budget
 unfolding split_run_over_bytes split_run
 bytes_are_one_memory program script budget sound bound =
     let law : IsOneMemory program script budget = split_is_one_memory program script budget sound bound in

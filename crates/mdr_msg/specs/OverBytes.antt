@@ -2,6 +2,7 @@
 use Rattle.std.specs.Prelude.{◌≡◌, ℕ, List, [], ◌∷◌, ◌++◌, map}
 use Rattle.std.specs.List.{AllByRecursion}
 use Rattle.mdr_core.specs.declared.program.Program.{Program}
+use Rattle.mdr_model.specs.declared.command.Command.{Command}
 use Rattle.mdr_model.specs.declared.message.Message.{Message}
 use Rattle.mdr_model.specs.declared.outcome.End.{End}
 use Rattle.mdr_model.specs.Text.{text}
@@ -30,16 +31,16 @@ IsHonestOverBytes program before sent [] = Unit {0}
 IsHonestOverBytes program before [] (a ∷ answers) = ⊥
 IsHonestOverBytes program before (m ∷ sent) (a ∷ answers) = IsHonestReply program before m a × IsHonestOverBytes program (before ++ m ∷ []) sent answers
 
-abbrev pub sent_bytes : Program → List ℕ → ℕ → List (List ℕ) → List (List ℕ)
+abbrev pub sent_bytes : Program → List Command → ℕ → List (List ℕ) → List (List ℕ)
 sent_bytes program script budget answers = map text (split_run_over_bytes program script budget answers).sent
 
 -- a run over bytes with an honest far side, which is over
-pub record IsHonestRun (program : Program) (script : List ℕ) (budget : ℕ) (answers : List (List ℕ)) (end : End) (k : Kernel) : Type 0 where
+pub record IsHonestRun (program : Program) (script : List Command) (budget : ℕ) (answers : List (List ℕ)) (end : End) (k : Kernel) : Type 0 where
   pub honest : IsHonestOverBytes program [] (sent_bytes program script budget answers) answers
   pub over : (split_run_over_bytes program script budget answers).pending ≡ Over end k
 
 -- the run with an honest far side over messages; and over their bytes, where each message that is sent and each answer has a spelling
-pub record HasHonestRun (program : Program) (script : List ℕ) (budget : ℕ) : Type 0 where
+pub record HasHonestRun (program : Program) (script : List Command) (budget : ℕ) : Type 0 where
   pub answers : List Message
   pub end : End
   pub kernel : Kernel
@@ -51,7 +52,7 @@ pub record HasHonestRun (program : Program) (script : List ℕ) (budget : ℕ) :
       → IsHonestRun program script budget (map text answers) end kernel
 
 -- whatever honest answers come, where each message that was sent has a spelling; and there are some with which the run is over
-pub record IsOneMemoryOverBytes (program : Program) (script : List ℕ) (budget : ℕ) : Type 0 where
+pub record IsOneMemoryOverBytes (program : Program) (script : List Command) (budget : ℕ) : Type 0 where
   pub same :
       (answers : List (List ℕ)) (end : End) (k : Kernel)
       → HaveSpellings (split_run_over_bytes program script budget answers).sent
@@ -61,4 +62,4 @@ pub record IsOneMemoryOverBytes (program : Program) (script : List ℕ) (budget 
 
 -- the law for every sound program that is built, every script of its functions and every budget
 abbrev pub BytesAreOneMemory : Type 0
-BytesAreOneMemory = (program : Program) (script : List ℕ) (budget : ℕ) → IsSound program → IsBuilt program → IsBound program script → IsOneMemoryOverBytes program script budget
+BytesAreOneMemory = (program : Program) (script : List Command) (budget : ℕ) → IsSound program → IsBuilt program → IsBound program script → IsOneMemoryOverBytes program script budget

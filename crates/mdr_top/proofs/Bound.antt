@@ -1,12 +1,21 @@
 -- What a script calls is there.
-use Rattle.std.proofs.Common.{◌≡◌, ℕ, ◌+◌, ◌<◌, Bool, true, false, cond, ◌||◌, List, [], ◌∷◌, length, Option, Some, None, Result, Ok, Err, refl, subst}
+use Rattle.std.proofs.Common.{◌≡◌, ℕ, ◌+◌, ◌<◌, Bool, true, false, cond, ◌||◌, List, [], ◌∷◌, map, length, Option, Some, None, Result, Ok, Err, refl, sym, ap, ◌∙◌, subst}
 use Rattle.std.specs.Prelude.{nat_lt, if◌then◌else◌}
 use Rattle.std.specs.List.{AllByRecursion, position, position_or_len}
 use Rattle.std.specs.Str.{bytes_eq}
 use Rattle.std.proofs.lemmas.Bool.{ltb-true}
 use Rattle.mdr_core.specs.declared.program.Program.{Program}
 use Rattle.mdr_core.specs.declared.program.Func.{Func}
-use Rattle.mdr_model.specs.Runnable.{IsBound}
+use Rattle.mdr_core.specs.Sound.{IsSound}
+use Rattle.mdr_model.specs.Built.{IsBuilt}
+use Rattle.mdr_model.specs.declared.command.Command.{Command as AnyCommand}
+use Rattle.mdr_model.specs.Meaning.{func_at}
+use Rattle.mdr_model.specs.Faults.{params_of, args_fault}
+use Rattle.mdr_model.specs.Runnable.{IsRunnable, IsBoundCommand, IsBound}
+use Rattle.mdr_model.proofs.BuiltLaws.{runnable}
+use Rattle.mdr_model.proofs.Commands.{no_params}
+use Rattle.mdr_top.specs.Commands.{call_of, each_called}
+use Rattle.mdr_top.specs.Answers.{HasScript}
 use Rattle.mdr_syntax.specs.declared.script.Command.{Command}
 use Rattle.mdr_syntax.specs.declared.script.Command.TheVariants.{Nothing, Call, Other}
 use Rattle.mdr_syntax.specs.Scripts.{command_of, func_number, call_or_other, with_command, calls_from, calls_of, lines_of, word_at, begins_hash, is_empty, is_call}
@@ -50,6 +59,21 @@ calls_bound funcs n (l ∷ ls) calls e = of (command_of funcs l) (command_names 
     of Other named later h g = absurd (Prim.cc)
 
 -- each call of a script is of a function of the program
-pub script_is_bound : (program : Program) (bytes calls : List ℕ) → calls_of program.funcs bytes ≡ Ok calls → IsBound program calls
+calls_there : (program : Program) (bytes calls : List ℕ) → calls_of program.funcs bytes ≡ Ok calls → AllByRecursion (λ f. f < length program.funcs) calls
 unfolding calls_of
-script_is_bound program bytes calls e = calls_bound program.funcs 1 (lines_of bytes) calls e
+calls_there program bytes calls e = calls_bound program.funcs 1 (lines_of bytes) calls e
+
+-- a function that runs has no parameters, so a call needs no arguments
+call_is_bound : (program : Program) → IsRunnable program → (f : ℕ) → f < length program.funcs → IsBoundCommand program (call_of f)
+unfolding args_fault
+call_is_bound program sound f there = (there, rw (no_params program sound f) refl)
+
+calls_are_bound : (program : Program) → IsRunnable program → (calls : List ℕ) → AllByRecursion (λ f. f < length program.funcs) calls → IsBound program (map call_of calls)
+calls_are_bound program sound [] h = tt
+calls_are_bound program sound (f ∷ calls) h = (call_is_bound program sound f h.0, calls_are_bound program sound calls h.1)
+
+pub has_script : (program : Program) → IsSound program → IsBuilt program → (bytes calls : List ℕ) (commands : List AnyCommand) → calls_of program.funcs bytes ≡ Ok calls → commands ≡ map call_of calls → HasScript program bytes commands
+has_script program sound built bytes calls commands e is = record {
+  read = ap each_called e ∙ ap (λ (cs : List AnyCommand). Ok cs) (sym is);
+  bound = subst (IsBound program) (sym is) (calls_are_bound program (runnable program sound built) calls (calls_there program bytes calls e));
+}

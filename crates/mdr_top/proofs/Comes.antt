@@ -2,6 +2,7 @@
 use Rattle.std.proofs.Common.{◌≡◌, ℕ, List, Option, Some, None, refl, sym, ap, ◌∙◌, subst}
 use Rattle.mdr_core.specs.declared.program.Program.{Program}
 use Rattle.mdr_core.specs.declared.refusal.RefuseKind.TheVariants as refusal
+use Rattle.mdr_model.specs.declared.command.Command.{Command}
 use Rattle.mdr_model.specs.declared.outcome.End.{End}
 use Rattle.mdr_model.specs.declared.outcome.End.TheVariants as ends
 use Rattle.mdr_model.specs.declared.outcome.Outcome.{Outcome}
@@ -35,14 +36,14 @@ failed_reads (Some f) name limit = tt
 
 finish_is : (p : Pending) → finish_of p ≡ finish (finish_of p).end (kernel_in p).world
 finish_is (Over end k) = refl
-finish_is (Waits m k rest) = refl
+finish_is (Waits m k rest left) = refl
 
 end_is : (f : Finish) → (outcome_of f).end ≡ f.end
 unfolding outcome_of
 end_is f = refl
 
 -- a run's outcome shows what the far side has to do with its end
-due_to_far : (program : Program) (calls : List ℕ) (es : List Exchange) (o : Outcome) → IsRun program calls default_ticks es o → IsDueToFar program calls es o.end
+due_to_far : (program : Program) (calls : List Command) (es : List Exchange) (o : Outcome) → IsRun program calls default_ticks es o → IsDueToFar program calls es o.end
 due_to_far program calls es o run =
     let p : Pending = (run_over program calls default_ticks es).pending in
     let ended : HasEnded program calls default_ticks es (finish_of p).end (kernel_in p) = record { messages = run.messages; spelled = run.spelled; ended = finish_is p; kernel = refl } in
@@ -64,7 +65,7 @@ module _ (words : List (List ℕ)) (files : Files) (loaded : Option Loaded) (es 
   end_comes (ends.FarFault exchange) h = h
 
   -- the end of a run, and its status
-  pub end_of : (program : Program) (source calls : List ℕ) (s : Status) (text : List ℕ) → Ran program source calls loaded es s text → (end : End) × Ends program source calls loaded es end × (s ≡ status_of end)
+  pub end_of : (program : Program) (source : List ℕ) (calls : List Command) (s : Status) (text : List ℕ) → Ran program source calls loaded es s text → (end : End) × Ends program source calls loaded es end × (s ≡ status_of end)
   end_of program source calls s text (Ran.began is b) = (b.outcome.end, Ends.began b.outcome is b.run_is refl (due_to_far program calls es b.outcome b.run_is), b.reported.status_is)
   end_of program source calls s text (Ran.refused cause is r) = (ends.Refused 0 refusal.Load 0, Ends.refused cause is refl, r.status_is ∙ ap status_of (nothing_end program (ends.Refused 0 refusal.Load 0)))
   end_of program source calls s text (Ran.failed is r) = (ends.FarFault 0, Ends.failed is refl, r.status_is ∙ ap status_of (nothing_end program (ends.FarFault 0)))

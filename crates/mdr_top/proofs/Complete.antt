@@ -12,7 +12,8 @@ use Rattle.mdr_syntax.specs.declared.token.Token.{Token}
 use Rattle.mdr_syntax.specs.Reading.{whats}
 use Rattle.mdr_syntax.specs.Tokens.{tokens_of}
 use Rattle.mdr_syntax.specs.Sources.{program_of}
-use Rattle.mdr_syntax.specs.Scripts.{calls_of}
+use Rattle.mdr_model.specs.declared.command.Command.{Command}
+use Rattle.mdr_top.specs.Commands.{commands_of}
 use Rattle.mdr_user.specs.Honest.{IsHonest}
 use Rattle.mdr_top.specs.declared.status.Status.{Status}
 use Rattle.mdr_top.specs.declared.status.Status.TheVariants as status
@@ -53,21 +54,21 @@ not_refused source program s text h (NoProgram.unbuilt ts r none is t) =
 -- ---- what is accepted runs
 
 -- a run of the program
-pub record RanOn (source : List ℕ) (program : Program) (calls : List ℕ) (loaded : Option Loaded) (es : List Exchange) (s : Status) (text : List ℕ) : Type 0 where
+pub record RanOn (source : List ℕ) (program : Program) (calls : List Command) (loaded : Option Loaded) (es : List Exchange) (s : Status) (text : List ℕ) : Type 0 where
   pub bound : IsBound program calls
   pub ran : Ran program source calls loaded es s text
 
-module _ (words : List (List ℕ)) (files : Files) (loaded : Option Loaded) (es : List Exchange) (s : Status) (text : List ℕ) (source : List ℕ) (program : Program) (calls : List ℕ) where
-  called_runs : (script : List ℕ) → calls_of program.funcs script ≡ Ok calls → Called program source script loaded es s text → RanOn source program calls loaded es s text
-  called_runs script c (Called.refused n) = absurd (not_ok (calls_of program.funcs script) calls n.line c n.refused)
+module _ (words : List (List ℕ)) (files : Files) (loaded : Option Loaded) (es : List Exchange) (s : Status) (text : List ℕ) (source : List ℕ) (program : Program) (calls : List Command) where
+  called_runs : (script : List ℕ) → commands_of program.funcs script ≡ Ok calls → Called program source script loaded es s text → RanOn source program calls loaded es s text
+  called_runs script c (Called.refused n) = absurd (not_ok (commands_of program.funcs script) calls n.line c n.refused)
   called_runs script c (Called.accepted others b r) =
-      let same : others ≡ calls = ok_same (calls_of program.funcs script) others calls b.read c in
+      let same : others ≡ calls = ok_same (commands_of program.funcs script) others calls b.read c in
       record {
         bound = subst (IsBound program) same b.bound;
-        ran = subst (λ (cs : List ℕ). Ran program source cs loaded es s text) same r;
+        ran = subst (λ (cs : List Command). Ran program source cs loaded es s text) same r;
       }
 
-  scripted_runs : (name script : List ℕ) → AreTold files → ReadsFrom files name longest_script (reads.Ok script) → calls_of program.funcs script ≡ Ok calls
+  scripted_runs : (name script : List ℕ) → AreTold files → ReadsFrom files name longest_script (reads.Ok script) → commands_of program.funcs script ≡ Ok calls
       → Scripted files name program source loaded es s text → (s ≡ status.ReadFault) ⊎ RanOn source program calls loaded es s text
   scripted_runs name script told r c (Scripted.unread (Unread.missing r' e t)) = absurd (not_missing files name longest_script script told r r')
   scripted_runs name script told r c (Scripted.unread (Unread.long r' e t)) = absurd (not_long files name longest_script script told r r')
@@ -76,13 +77,13 @@ module _ (words : List (List ℕ)) (files : Files) (loaded : Option Loaded) (es 
       let same : other ≡ script = same_file files name longest_script other script told r' r in
       inr (called_runs script c (subst (λ (b : List ℕ). Called program source b loaded es s text) same d))
 
-  compiled_runs : (name script : List ℕ) → AreTold files → HasProgram source program → ReadsFrom files name longest_script (reads.Ok script) → calls_of program.funcs script ≡ Ok calls
+  compiled_runs : (name script : List ℕ) → AreTold files → HasProgram source program → ReadsFrom files name longest_script (reads.Ok script) → commands_of program.funcs script ≡ Ok calls
       → Compiled files source name loaded es s text → (s ≡ status.ReadFault) ⊎ RanOn source program calls loaded es s text
   compiled_runs name script told h r c (Compiled.refused n) = absurd (not_refused source program s text h n)
   compiled_runs name script told h r c (Compiled.accepted q k d) =
       scripted_runs name script told r c (subst (λ (p : Program). Scripted files name p source loaded es s text) (same_program source q program k h) d)
 
-  sourced_runs : (name script_name script : List ℕ) → AreTold files → ReadsFrom files name longest_source (reads.Ok source) → HasProgram source program → ReadsFrom files script_name longest_script (reads.Ok script) → calls_of program.funcs script ≡ Ok calls
+  sourced_runs : (name script_name script : List ℕ) → AreTold files → ReadsFrom files name longest_source (reads.Ok source) → HasProgram source program → ReadsFrom files script_name longest_script (reads.Ok script) → commands_of program.funcs script ≡ Ok calls
       → Sourced files name script_name loaded es s text → (s ≡ status.ReadFault) ⊎ RanOn source program calls loaded es s text
   sourced_runs name script_name script told r h r' c (Sourced.unread (Unread.missing m e t)) = absurd (not_missing files name longest_source source told r m)
   sourced_runs name script_name script told r h r' c (Sourced.unread (Unread.long m e t)) = absurd (not_long files name longest_source source told r m)

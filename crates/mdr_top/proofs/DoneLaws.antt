@@ -1,6 +1,7 @@
 -- What was done is what is printed, and what is meant.
 use Rattle.std.proofs.Common.{◌≡◌, ℕ, ◌⊎◌, inl, inr, List, [], ◌++◌, map, length, take, Option, Some, refl, sym, ap, ◌∙◌, subst}
 use Rattle.mdr_core.specs.declared.program.Program.{Program}
+use Rattle.mdr_model.specs.declared.command.Command.{Command}
 use Rattle.mdr_model.specs.declared.outcome.End.TheVariants as ends
 use Rattle.mdr_model.specs.Runnable.{IsBound}
 use Rattle.std.proofs.lemmas.List.{append-nil}
@@ -56,11 +57,11 @@ module _ (words : List (List ℕ)) (files : Files) (shelf shelf' : List ShelfCal
 -- ---- what is meant
 
 -- the far side was loaded with the source, and the run is what it means
-record MeansSo (program : Program) (source calls : List ℕ) (loaded : Option Loaded) (es : List Exchange) (s : Status) (text : List ℕ) : Type 0 where
+record MeansSo (program : Program) (source : List ℕ) (calls : List Command) (loaded : Option Loaded) (es : List Exchange) (s : Status) (text : List ℕ) : Type 0 where
   held : loaded ≡ Some (loaded_with source [] loads.Ok)
   meaning : IsMeaning program calls es s text
 
-means_so : (program : Program) (source calls : List ℕ) (loaded : Option Loaded) (es : List Exchange) (s : Status) (text : List ℕ) → HasProgram source program → IsBound program calls → IsHonest loaded es
+means_so : (program : Program) (source : List ℕ) (calls : List Command) (loaded : Option Loaded) (es : List Exchange) (s : Status) (text : List ℕ) → HasProgram source program → IsBound program calls → IsHonest loaded es
     → Ran program source calls loaded es s text → (s ≡ status.FarFault) ⊎ MeansSo program source calls loaded es s text
 means_so program source calls loaded es s text h bound honest (Ran.began is b) = of (began_means program source calls es s text h bound (honest_load source program loaded loads.Ok es h is honest).1 b)
   where
@@ -122,7 +123,7 @@ module _ (words : List (List ℕ)) (files : Files) (shelf shelf' : List ShelfCal
 
 -- ---- what the far side gets
 
-module _ (program : Program) (calls : List ℕ) (old new : List FarCall) (es : List Exchange) where
+module _ (program : Program) (calls : List Command) (old new : List FarCall) (es : List Exchange) where
   pub sent_none : new ≡ old → SentPart program calls old new es
   sent_none same = record { sent = []; sends = same ∙ sym (append-nil old); part = record { count = 0; part = refl } }
 

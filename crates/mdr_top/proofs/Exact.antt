@@ -7,7 +7,8 @@ use Rattle.mdr_model.specs.declared.outcome.End.{End}
 use Rattle.mdr_model.specs.declared.outcome.End.TheVariants as ends
 use Rattle.mdr_outside.specs.declared.far.Loaded.{Loaded}
 use Rattle.mdr_outside.specs.declared.far.Exchange.{Exchange}
-use Rattle.mdr_syntax.specs.Scripts.{calls_of}
+use Rattle.mdr_model.specs.declared.command.Command.{Command}
+use Rattle.mdr_top.specs.Commands.{commands_of}
 use Rattle.mdr_user.specs.Honest.{program_of_text}
 use Rattle.mdr_top.specs.declared.status.Status.{Status}
 use Rattle.mdr_top.specs.declared.status.Status.TheVariants as status
@@ -47,18 +48,18 @@ unread_due f name limit given due s text none some (Unread.long r e t) = inr (of
 unread_due f name limit given due s text none some (Unread.failed e t) = inl e
 
 module _ (words : List (List ℕ)) (f : List ℕ → Option (List ℕ)) (loaded : Option Loaded) (es : List Exchange) (s : Status) (text : List ℕ) where
-  called_due : (program : Program) (source script : List ℕ) → Called program source script loaded es s text → IsDueTo (calls_due (calls_of program.funcs script)) s
-  called_due program source script (Called.refused n) = subst (λ (r : Result (List ℕ) ℕ). IsDueTo (calls_due r) s) (sym n.refused) n.status_is
+  called_due : (program : Program) (source script : List ℕ) → Called program source script loaded es s text → IsDueTo (calls_due (commands_of program.funcs script)) s
+  called_due program source script (Called.refused n) = subst (λ (r : Result (List Command) ℕ). IsDueTo (calls_due r) s) (sym n.refused) n.status_is
   called_due program source script (Called.accepted calls h ran) =
       let end = end_of words (Some f) loaded es program source calls s text ran in
-      subst (λ (r : Result (List ℕ) ℕ). IsDueTo (calls_due r) s) (sym h.read) (subst IsOfRun (sym end.2) (end_is end.0))
+      subst (λ (r : Result (List Command) ℕ). IsDueTo (calls_due r) s) (sym h.read) (subst IsOfRun (sym end.2) (end_is end.0))
 
   scripted_due : (name source : List ℕ) (program : Program) → Scripted (Some f) name program source loaded es s text → Dues (script_due program.funcs (f name)) s
   scripted_due name source program (Scripted.unread u) =
-      unread_due f name longest_script (λ bytes. calls_due (calls_of program.funcs bytes)) (script_due program.funcs) s text refl (λ bytes. refl) u
+      unread_due f name longest_script (λ bytes. calls_due (commands_of program.funcs bytes)) (script_due program.funcs) s text refl (λ bytes. refl) u
   scripted_due name source program (Scripted.read script r c) =
       subst (λ (o : Option (List ℕ)). Dues (script_due program.funcs o) s) (sym r.0)
-      (fits script longest_script (calls_due (calls_of program.funcs script)) s r.1 (inr (called_due program source script c)))
+      (fits script longest_script (calls_due (commands_of program.funcs script)) s r.1 (inr (called_due program source script c)))
 
   compiled_due : (name source : List ℕ) → Compiled (Some f) source name loaded es s text → Dues (program_due (program_of_text source) (f name)) s
   compiled_due name source (Compiled.refused n) = subst (λ (v : Option Program). Dues (program_due v (f name)) s) (sym (no_program source s text n)) (inr (source_is source s text n))

@@ -2,6 +2,7 @@
 use Rattle.std.proofs.Common.{◌≡◌, ℕ, ◌+◌, ◌*◌, ◌≤◌, ◌⊎◌, inl, inr, List, [], length, Option, Some, refl, sym, ap, ◌∙◌, subst}
 use Rattle.std.specs.Prelude.{IfSome}
 use Rattle.mdr_core.specs.declared.program.Program.{Program}
+use Rattle.mdr_model.specs.declared.command.Command.{Command}
 use Rattle.mdr_model.specs.declared.outcome.End.{End}
 use Rattle.mdr_model.specs.declared.outcome.End.TheVariants as ends
 use Rattle.mdr_model.specs.declared.outcome.Outcome.{Outcome}
@@ -50,7 +51,7 @@ pub nothing_end : (program : Program) (end : End) → (nothing_ran program end).
 unfolding outcome_of
 nothing_end program end = refl
 
-pub began_means : (program : Program) (source calls : List ℕ) (es : List Exchange) (s : Status) (text : List ℕ) → HasProgram source program → IsBound program calls → IsServed program es
+pub began_means : (program : Program) (source : List ℕ) (calls : List Command) (es : List Exchange) (s : Status) (text : List ℕ) → HasProgram source program → IsBound program calls → IsServed program es
     → Began program calls es s text → (s ≡ status.FarFault) ⊎ IsMeaning program calls es s text
 began_means program source calls es s text h bound served b =
     of (run_is_meaning program calls default_ticks es b.outcome h.sound h.built bound served b.run_is)
@@ -63,7 +64,7 @@ began_means program source calls es s text h bound served b =
       messages = subst (λ (o : Outcome). 2 * length es ≤ 4 * o.ticks + 6 * (watched program calls default_ticks).world.calls) m.outcome m.messages;
     })
 
-pub ran_means : (program : Program) (source calls : List ℕ) (loaded : Option Loaded) (es : List Exchange) (s : Status) (text : List ℕ) → HasProgram source program → IsBound program calls → IsHonest loaded es
+pub ran_means : (program : Program) (source : List ℕ) (calls : List Command) (loaded : Option Loaded) (es : List Exchange) (s : Status) (text : List ℕ) → HasProgram source program → IsBound program calls → IsHonest loaded es
     → Ran program source calls loaded es s text → (s ≡ status.FarFault) ⊎ IsMeaning program calls es s text
 ran_means program source calls loaded es s text h bound honest (Ran.began is b) = began_means program source calls es s text h bound (honest_load source program loaded loads.Ok es h is honest).1 b
 ran_means program source calls loaded es s text h bound honest (Ran.refused cause is r) = elim (honest_load source program loaded (loads.Refused cause) es h is honest).0 [ ]

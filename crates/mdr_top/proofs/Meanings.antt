@@ -3,6 +3,7 @@ use Rattle.std.proofs.Common.{◌≡◌, ℕ, suc, ◌+◌, ◌⊎◌, inl, inr,
 use Rattle.std.specs.Prelude.{IfSome}
 use Rattle.mdr_core.specs.declared.program.Program.{Program}
 use Rattle.mdr_outside.specs.declared.far.Exchange.{Exchange}
+use Rattle.mdr_model.specs.declared.command.Command.{Command}
 use Rattle.mdr_model.specs.declared.message.Message.{Message}
 use Rattle.mdr_model.specs.declared.outcome.End.{End}
 use Rattle.mdr_model.specs.declared.outcome.Outcome.{Outcome}
@@ -64,7 +65,7 @@ owns f h = h
 
 -- ---- the run
 
-is_meant : (program : Program) (calls : List ℕ) (budget : ℕ) (es : List Exchange) (o : Outcome) (end : End) (k : Kernel) → sent_of es ≡ map text (run_over program calls budget es).sent
+is_meant : (program : Program) (calls : List Command) (budget : ℕ) (es : List Exchange) (o : Outcome) (end : End) (k : Kernel) → sent_of es ≡ map text (run_over program calls budget es).sent
     → (run_over program calls budget es).pending ≡ Over end k → o ≡ outcome_of (finish end k.world) → IsWatched program calls budget end k → IsMeant program calls budget es o
 is_meant program calls budget es o end k sent over is w =
     let total : IsTotal program 0 (run_over program calls budget es) = total_of program calls budget (answers_of es) in
@@ -80,7 +81,7 @@ is_meant program calls budget es o end k sent over is w =
       messages = omega (arith, w.messages, exchanged, messages, begun, ticks);
     }
 
-pub run_is_meaning : (program : Program) (calls : List ℕ) (budget : ℕ) (es : List Exchange) (o : Outcome) → IsSound program → IsBuilt program → IsBound program calls → Honest program [] es → IsRun program calls budget es o → IsFarFault o.end ⊎ IsMeant program calls budget es o
+pub run_is_meaning : (program : Program) (calls : List Command) (budget : ℕ) (es : List Exchange) (o : Outcome) → IsSound program → IsBuilt program → IsBound program calls → Honest program [] es → IsRun program calls budget es o → IsFarFault o.end ⊎ IsMeant program calls budget es o
 run_is_meaning program calls budget es o sound built bound honest ran = of (run_over program calls budget es).pending refl
   where
     law : IsOneMemoryOverBytes program calls budget
@@ -94,4 +95,4 @@ run_is_meaning program calls budget es o sound built bound honest ran = of (run_
 
     of : (p : Pending) → (run_over program calls budget es).pending ≡ p → IsFarFault o.end ⊎ IsMeant program calls budget es o
     of (Over end k) e = inr (is_meant program calls budget es o end k ran.messages e (ends_so (Over end k) e) (law.same (answers_of es) end k ran.spelled (record { honest = fair; over = e })))
-    of (Waits m k rest) e = inl (subst (λ (x : Outcome). IsFarFault x.end) (sym (ends_so (Waits m k rest) e)) (fails (finish_of (Waits m k rest)) tt))
+    of (Waits m k rest left) e = inl (subst (λ (x : Outcome). IsFarFault x.end) (sym (ends_so (Waits m k rest left) e)) (fails (finish_of (Waits m k rest left)) tt))

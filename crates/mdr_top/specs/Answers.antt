@@ -16,7 +16,8 @@ use Rattle.mdr_syntax.specs.declared.error.LexError.{LexError}
 use Rattle.mdr_syntax.specs.Reading.{whats}
 use Rattle.mdr_syntax.specs.Tokens.{tokens_of}
 use Rattle.mdr_syntax.specs.Sources.{program_of}
-use Rattle.mdr_syntax.specs.Scripts.{calls_of}
+use Rattle.mdr_model.specs.declared.command.Command.{Command}
+use Rattle.mdr_top.specs.Commands.{commands_of}
 use Rattle.mdr_outside.specs.declared.shelf.ReadAnswer.TheVariants as reads
 use Rattle.mdr_outside.specs.Shelf.{ReadsFrom}
 use Rattle.mdr_outside.specs.declared.far.LoadAnswer.TheVariants as loads
@@ -59,15 +60,15 @@ pub record HasProgram (bytes : List ℕ) (program : Program) : Type 0 where
   pub sound : IsSound program
   pub built : IsBuilt program
 
--- a script and the functions that it calls, which the program has
-pub record HasScript (program : Program) (bytes calls : List ℕ) : Type 0 where
-  pub read : calls_of program.funcs bytes ≡ Ok calls
+-- a script and its commands, which are bound: they call functions that the program has
+pub record HasScript (program : Program) (bytes : List ℕ) (calls : List Command) : Type 0 where
+  pub read : commands_of program.funcs bytes ≡ Ok calls
   pub bound : IsBound program calls
 
 -- a script that is refused
 pub record NoScript (program : Program) (bytes : List ℕ) (s : Status) (text : List ℕ) : Type 0 where
   pub line : ℕ
-  pub refused : calls_of program.funcs bytes ≡ Err line
+  pub refused : commands_of program.funcs bytes ≡ Err line
   pub status_is : s ≡ status.ScriptRefused
   pub text_is : text ≡ script_line line (codes "Unbuilt")
 
@@ -93,13 +94,13 @@ pub record Reported (program : Program) (o : Outcome) (s : Status) (text : List 
   pub text_is : text ≡ report program o
 
 -- the report of a run over what the far side answered
-pub record Began (program : Program) (calls : List ℕ) (es : List Exchange) (s : Status) (text : List ℕ) : Type 0 where
+pub record Began (program : Program) (calls : List Command) (es : List Exchange) (s : Status) (text : List ℕ) : Type 0 where
   pub outcome : Outcome
   pub run_is : IsRun program calls default_ticks es outcome
   pub reported : Reported program outcome s text
 
 -- the far side holds the source with its answer to it, and what is printed is the report
-pub data Ran (program : Program) (source calls : List ℕ) (loaded : Option Loaded) (es : List Exchange) (s : Status) (text : List ℕ) : Type 0 where
+pub data Ran (program : Program) (source : List ℕ) (calls : List Command) (loaded : Option Loaded) (es : List Exchange) (s : Status) (text : List ℕ) : Type 0 where
   began : loaded ≡ Some (loaded_with source [] loads.Ok) → Began program calls es s text → Ran program source calls loaded es s text
   refused : (cause : ℕ) → loaded ≡ Some (loaded_with source [] (loads.Refused cause)) → Reported program (nothing_ran program (ends.Refused 0 refusal.Load 0)) s text → Ran program source calls loaded es s text
   failed : loaded ≡ Some (loaded_with source [] loads.Failed) → Reported program (nothing_ran program (ends.FarFault 0)) s text → Ran program source calls loaded es s text
@@ -109,7 +110,7 @@ pub data Ran (program : Program) (source calls : List ℕ) (loaded : Option Load
 -- a script that was read
 pub data Called (program : Program) (source script : List ℕ) (loaded : Option Loaded) (es : List Exchange) (s : Status) (text : List ℕ) : Type 0 where
   refused : NoScript program script s text → Called program source script loaded es s text
-  accepted : (calls : List ℕ) → HasScript program script calls → Ran program source calls loaded es s text → Called program source script loaded es s text
+  accepted : (calls : List Command) → HasScript program script calls → Ran program source calls loaded es s text → Called program source script loaded es s text
 
 -- the script's file
 pub data Scripted (files : Files) (name : List ℕ) (program : Program) (source : List ℕ) (loaded : Option Loaded) (es : List Exchange) (s : Status) (text : List ℕ) : Type 0 where

@@ -13,7 +13,8 @@ use Rattle.mdr_outside.specs.declared.far.Loaded.{Loaded}
 use Rattle.mdr_outside.specs.declared.far.Exchange.{Exchange}
 use Rattle.mdr_outside.specs.Shelf.{ReadsFrom}
 use Rattle.mdr_outside.specs.Far.{loaded_with}
-use Rattle.mdr_syntax.specs.Scripts.{calls_of}
+use Rattle.mdr_model.specs.declared.command.Command.{Command}
+use Rattle.mdr_top.specs.Commands.{commands_of}
 use Rattle.mdr_model.specs.Legal.{kernel_in}
 use Rattle.mdr_kernel.specs.Runs.{run_over, IsRun}
 use Rattle.mdr_kernel.specs.HalfState.{IsAsBefore}
@@ -61,14 +62,14 @@ pub record IsNoScript (words : List (List ℕ)) (files : Files) : Type 0 where
   pub script : List ℕ
   pub script_read : ReadsFrom files script_name longest_script (reads.Ok script)
   pub line : ℕ
-  pub refused : calls_of program.funcs script ≡ Err line
+  pub refused : commands_of program.funcs script ≡ Err line
 
 -- where the far side ended a run that began: the last answer isn't legal where the run waited for it, and this is its exchange and its first fault; or the run waits for an answer that didn't come
-abbrev pub IsDueToFar : Program → List ℕ → List Exchange → End → Type 0
+abbrev pub IsDueToFar : Program → List Command → List Exchange → End → Type 0
 IsDueToFar program calls es end = IsAsBefore program calls default_ticks es (kernel_in (run_over program calls default_ticks es).pending).world.memory end
 
 -- how a run ends: by what the far side answered to the load, and then to the messages
-pub data Ends (program : Program) (source calls : List ℕ) (loaded : Option Loaded) (es : List Exchange) (end : End) : Type 0 where
+pub data Ends (program : Program) (source : List ℕ) (calls : List Command) (loaded : Option Loaded) (es : List Exchange) (end : End) : Type 0 where
   began : (o : Outcome) → loaded ≡ Some (loaded_with source [] loads.Ok) → IsRun program calls default_ticks es o → end ≡ o.end → IsDueToFar program calls es end → Ends program source calls loaded es end
   refused : (cause : ℕ) → loaded ≡ Some (loaded_with source [] (loads.Refused cause)) → end ≡ ends.Refused 0 refusal.Load 0 → Ends program source calls loaded es end
   failed : loaded ≡ Some (loaded_with source [] loads.Failed) → end ≡ ends.FarFault 0 → Ends program source calls loaded es end
@@ -77,7 +78,7 @@ pub data Ends (program : Program) (source calls : List ℕ) (loaded : Option Loa
 pub record IsEnd (words : List (List ℕ)) (files : Files) (loaded : Option Loaded) (es : List Exchange) (s : Status) : Type 0 where
   pub source : List ℕ
   pub program : Program
-  pub calls : List ℕ
+  pub calls : List Command
   pub accepted : IsAccepted words files source program calls
   pub end : End
   pub ends : Ends program source calls loaded es end
@@ -105,13 +106,13 @@ abbrev pub sized : Bool → Option Status → Option Status
 sized true given = Some status.TooLarge
 sized false given = given
 
-abbrev pub calls_due : Result (List ℕ) ℕ → Option Status
+abbrev pub calls_due : Result (List Command) ℕ → Option Status
 calls_due (Ok calls) = None
 calls_due (Err line) = Some status.ScriptRefused
 
 abbrev pub script_due : List Func → Option (List ℕ) → Option Status
 script_due funcs None = Some status.Missing
-script_due funcs (Some script) = sized (nat_lt longest_script (length script)) (calls_due (calls_of funcs script))
+script_due funcs (Some script) = sized (nat_lt longest_script (length script)) (calls_due (commands_of funcs script))
 
 abbrev pub program_due : Option Program → Option (List ℕ) → Option Status
 program_due None script = Some status.SourceRefused

@@ -1,6 +1,7 @@
 -- What a run does to the shelf and to the far side, and what is due for it: one constructor for each way that it goes.
 use Rattle.std.specs.Prelude.{◌≡◌, ◌≤◌, ℕ, List, [], ◌∷◌, ◌++◌, length, take, codes, Option, Some, None}
 use Rattle.mdr_core.specs.declared.program.Program.{Program}
+use Rattle.mdr_model.specs.declared.command.Command.{Command}
 use Rattle.mdr_outside.specs.Calls.{ShelfCall, Read, FarCall, Loads, and_then}
 use Rattle.mdr_outside.specs.Shelf.{ReadsFrom}
 use Rattle.mdr_outside.specs.declared.shelf.ReadAnswer.{ReadAnswer}
@@ -46,13 +47,13 @@ abbrev pub LoadedOnce : (source : List ℕ) → (old new : List FarCall) → (se
 LoadedOnce source old new sent = new ≡ and_then old (Loads source []) ++ sends sent
 
 -- messages were sent that are a beginning of the run's
-pub record SentPart (program : Program) (calls : List ℕ) (old new : List FarCall) (es : List Exchange) : Type 0 where
+pub record SentPart (program : Program) (calls : List Command) (old new : List FarCall) (es : List Exchange) : Type 0 where
   pub sent : List (List ℕ)
   pub sends : new ≡ old ++ sends sent
   pub part : IsPart program calls default_ticks es sent
 
 -- it was loaded with the source once, and then got a beginning of the run's messages
-pub record LoadedPart (program : Program) (source calls : List ℕ) (old new : List FarCall) (es : List Exchange) : Type 0 where
+pub record LoadedPart (program : Program) (source : List ℕ) (calls : List Command) (old new : List FarCall) (es : List Exchange) : Type 0 where
   pub sent : List (List ℕ)
   pub loads : LoadedOnce source old new sent
   pub part : IsPart program calls default_ticks es sent
@@ -69,7 +70,7 @@ module _ (words : List (List ℕ)) (files : Files) (shelf shelf' : List ShelfCal
         → UnreadBy files script_name longest_script between shelf' s text → far' ≡ far → Done s text
     script_refused : (source_name script_name source script : List ℕ) (program : Program) (between : List ShelfCall) → command_of words ≡ Some (source_name, script_name) → IsRead files source_name longest_source shelf between (reads.Ok source) → HasProgram source program
         → IsRead files script_name longest_script between shelf' (reads.Ok script) → NoScript program script s text → far' ≡ far → Done s text
-    ran : (source_name script_name source script calls : List ℕ) (program : Program) (between : List ShelfCall) → command_of words ≡ Some (source_name, script_name) → IsRead files source_name longest_source shelf between (reads.Ok source) → HasProgram source program
+    ran : (source_name script_name source script : List ℕ) (calls : List Command) (program : Program) (between : List ShelfCall) → command_of words ≡ Some (source_name, script_name) → IsRead files source_name longest_source shelf between (reads.Ok source) → HasProgram source program
         → IsRead files script_name longest_script between shelf' (reads.Ok script) → HasScript program script calls → LoadedOnce source far far' (sent_of es) → Ran program source calls loaded es s text → Done s text
 
   -- as much of it was done as memory was there for
@@ -78,7 +79,7 @@ module _ (words : List (List ℕ)) (files : Files) (shelf shelf' : List ShelfCal
     source_read : (source_name script_name : List ℕ) → command_of words ≡ Some (source_name, script_name) → WasRead files source_name longest_source shelf shelf' → far' ≡ far → DonePart
     script_read : (source_name script_name source : List ℕ) (program : Program) (between : List ShelfCall) → command_of words ≡ Some (source_name, script_name) → IsRead files source_name longest_source shelf between (reads.Ok source) → HasProgram source program
         → WasRead files script_name longest_script between shelf' → far' ≡ far → DonePart
-    ran_part : (source_name script_name source script calls : List ℕ) (program : Program) (between : List ShelfCall) → command_of words ≡ Some (source_name, script_name) → IsRead files source_name longest_source shelf between (reads.Ok source) → HasProgram source program
+    ran_part : (source_name script_name source script : List ℕ) (calls : List Command) (program : Program) (between : List ShelfCall) → command_of words ≡ Some (source_name, script_name) → IsRead files source_name longest_source shelf between (reads.Ok source) → HasProgram source program
         → IsRead files script_name longest_script between shelf' (reads.Ok script) → HasScript program script calls → LoadedPart program source calls far far' es → DonePart
 
   -- all of it was done and the whole text printed; or a part of the text, where the output failed; or memory was wanting, and nothing was printed

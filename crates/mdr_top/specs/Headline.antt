@@ -1,6 +1,7 @@
 -- What is printed over an honest far side, and where it is.
 use Rattle.std.specs.Prelude.{◌≡◌, ◌≢◌, ℕ, ◌+◌, ◌*◌, ◌≤◌, ◌⊎◌, List, [], length, Option, Some, IsSomeAnd}
 use Rattle.mdr_core.specs.declared.program.Program.{Program}
+use Rattle.mdr_model.specs.declared.command.Command.{Command}
 use Rattle.mdr_model.specs.declared.outcome.Outcome.{Outcome}
 use Rattle.mdr_model.specs.Watched.{watched}
 use Rattle.mdr_model.specs.Outcome.{outcome_of}
@@ -19,17 +20,17 @@ use Rattle.mdr_top.specs.Words.{command_of}
 use Rattle.mdr_top.specs.Answers.{Files, longest_source, longest_script, default_ticks, status_of, HasProgram, HasScript, Reported, Adds}
 
 -- the outcome of the one-memory meaning
-abbrev pub meant : Program → List ℕ → Outcome
+abbrev pub meant : Program → List Command → Outcome
 meant program calls = outcome_of (watched program calls default_ticks)
 
 -- the status and the text of the one-memory meaning, within 4 messages for each tick and 6 for each command begun
-pub record IsMeaning (program : Program) (calls : List ℕ) (es : List Exchange) (s : Status) (text : List ℕ) : Type 0 where
+pub record IsMeaning (program : Program) (calls : List Command) (es : List Exchange) (s : Status) (text : List ℕ) : Type 0 where
   pub reported : Reported program (meant program calls) s text
   pub own : IsOwn (meant program calls).end
   pub messages : 2 * length es ≤ 4 * (meant program calls).ticks + 6 * (watched program calls default_ticks).world.calls
 
 -- the words name a source and a script, which are read, and are a program and calls of its functions
-pub record IsAccepted (words : List (List ℕ)) (files : Files) (source : List ℕ) (program : Program) (calls : List ℕ) : Type 0 where
+pub record IsAccepted (words : List (List ℕ)) (files : Files) (source : List ℕ) (program : Program) (calls : List Command) : Type 0 where
   pub source_name : List ℕ
   pub script_name : List ℕ
   pub command : command_of words ≡ Some (source_name, script_name)
@@ -43,7 +44,7 @@ pub record IsAccepted (words : List (List ℕ)) (files : Files) (source : List �
 pub record MeansBy (words : List (List ℕ)) (files : Files) (shelf shelf' : List ShelfCall) (loaded : Option Loaded) (es : List Exchange) (old new : Option (List ℕ)) (s : Status) : Type 0 where
   pub source : List ℕ
   pub program : Program
-  pub calls : List ℕ
+  pub calls : List Command
   pub accepted : IsAccepted words files source program calls
   pub read : shelf' ≡ and_then (and_then shelf (Read accepted.source_name longest_source (reads.Ok source))) (Read accepted.script_name longest_script (reads.Ok accepted.script))
   pub held : loaded ≡ Some (loaded_with source [] loads.Ok)
@@ -66,12 +67,12 @@ abbrev pub AreTold : Files → Type 0
 AreTold files = IsSomeAnd files (λ f. Unit {0})
 
 -- the status is that of the one-memory meaning
-pub record EndsAsMeant (program : Program) (calls : List ℕ) (s : Status) : Type 0 where
+pub record EndsAsMeant (program : Program) (calls : List Command) (s : Status) : Type 0 where
   pub status_is : s ≡ status_of (meant program calls).end
   pub own : IsOwn (meant program calls).end
 
 -- where the words are accepted over files that are told the run ends as is meant, or memory was wanting
 abbrev pub Completes : List (List ℕ) → Files → Status → Type 0
 Completes words files s =
-    (source : List ℕ) (program : Program) (calls : List ℕ) → AreTold files → IsAccepted words files source program calls
+    (source : List ℕ) (program : Program) (calls : List Command) → AreTold files → IsAccepted words files source program calls
     → (s ≡ status.OutOfMemory) ⊎ EndsAsMeant program calls s

@@ -17,7 +17,7 @@ use crate::due::Due;
 use crate::status::Status;
 use mdr_core::{OutOfMemory, Program, RefuseKind};
 use mdr_kernel::{KernelHalf, nothing_ran};
-use mdr_model::{End, Outcome};
+use mdr_model::{Command, End, Outcome};
 use mdr_outside::{Far, LoadAnswer};
 use mdr_report::report;
 use std::alloc::Global;
@@ -58,7 +58,7 @@ fn unstarted(alloc: Global, program: &Program, end: End) -> Result<Due, OutOfMem
 fn began<F: Far>(
     alloc: Global,
     program: &Program,
-    calls: &[u32],
+    calls: &[Command],
     far: &mut F,
 ) -> Result<Due, OutOfMemory>
     requires sound { IsSound program.now }
@@ -81,7 +81,7 @@ pub(crate) fn ran<F: Far>(
     alloc: Global,
     program: &Program,
     source: &[u8],
-    calls: &[u32],
+    calls: &[Command],
     far: &mut F,
 ) -> Result<Due, OutOfMemory>
     requires sound { IsSound program.now }

@@ -2,13 +2,13 @@
 use Rattle.mdr_kernel.proofs.legal.fault_of.Goals as goal
 
 pub returns-in-Return : goal.returns-in-Return
-returns-in-Return c = λ script. cc (c.return_fault.ensures script)
+returns-in-Return c = cc c.return_fault.ensures
 
 pub returns-in-Down : goal.returns-in-Down
-returns-in-Down c = λ script. cc (c.down_fault.ensures c.args.func script)
+returns-in-Down c = cc (c.down_fault.ensures c.args.func)
 
 pub returns-in-Ask : goal.returns-in-Ask
-returns-in-Ask c = λ script. cc (c.ask_fault.ensures c.args.func script)
+returns-in-Ask c = cc (c.ask_fault.ensures c.args.func)
 
 pub returns-in-Stop : goal.returns-in-Stop
-returns-in-Stop c = λ script. cc (c.stop_fault.ensures c.args.func script)
+returns-in-Stop c = cc (c.stop_fault.ensures c.args.func)

@@ -3,6 +3,7 @@ use Rattle.std.proofs.Common.{◌≡◌, refl, ℕ, suc, ◌+◌, ◌*◌, ◌^�
 use Rattle.mdr_core.specs.declared.program.Program.{Program}
 use Rattle.mdr_outside.specs.declared.far.Exchange.{Exchange}
 use Rattle.mdr_outside.specs.Calls.{FarCall, Sends, and_then}
+use Rattle.mdr_model.specs.declared.command.Command.{Command}
 use Rattle.mdr_model.specs.declared.message.Message.{Message}
 use Rattle.mdr_model.specs.declared.outcome.End.TheVariants as ends
 use Rattle.mdr_model.specs.Runnable.{IsRunnable}
@@ -16,7 +17,7 @@ use Rattle.mdr_kernel.specs.declared.state.Pending.{Pending as CodePending}
 use Rattle.mdr_kernel.specs.declared.state.Pending.TheVariants as pending
 use Rattle.mdr_kernel.specs.declared.run.Turn.{Turn}
 use Rattle.mdr_kernel.specs.declared.run.Turn.TheVariants as turn
-use Rattle.mdr_kernel.specs.States.{kernel_of, rest_of, pending_of, IsSoundWorld}
+use Rattle.mdr_kernel.specs.States.{kernel_of, rest_of, left_of, pending_of, IsSoundWorld}
 use Rattle.mdr_msg.specs.WellFormed.{IsMessage}
 use Rattle.mdr_kernel.specs.Runs.{sent_of, answers_of, Turned, HasEnded}
 use Rattle.mdr_kernel.specs.Calls.{sends, had, IsPlace}
@@ -28,7 +29,7 @@ use Rattle.mdr_kernel.proofs.run.run_script.Goals as goal
 length_more : (es es' : List Exchange) (e : Exchange) → es' ≡ es ++ e ∷ [] → length es' ≡ suc (length es)
 length_more es es' e added = ap length added ∙ omega (arith, length-append es (e ∷ []))
 
-module _ (program : Program) (sound : IsRunnable program) (script : List ℕ) (budget : ℕ) where
+module _ (program : Program) (sound : IsRunnable program) (script : List Command) (budget : ℕ) where
   abbrev StandsSo : List Exchange → Pending → Type 0
   StandsSo es p = Stands program budget (length script) (suc (length es)) p
 
@@ -36,7 +37,7 @@ module _ (program : Program) (sound : IsRunnable program) (script : List ℕ) (b
   RunsSo es p = SoFar program (first_of program script budget) p es
 
   abbrev TurnedSo : Message → CodeKernel → Open → (old new : List Exchange) → Turn → Type 0
-  TurnedSo m k upcall es es' t = Turned program script m (kernel_of k) (rest_of script upcall) es es' t
+  TurnedSo m k upcall es es' t = Turned program script m (kernel_of k) (rest_of upcall) (left_of script upcall) es es' t
 
   stands_after : (es es' : List Exchange) (now p : CodePending) (m : Message) (k : CodeKernel) (upcall : Open) (t : Turn) → now ≡ pending.Waits m k upcall → t ≡ turn.Next p → TurnedSo m k upcall es es' t
       → StandsSo es (pending_of script now) → StandsSo es' (pending_of script p)
@@ -44,18 +45,18 @@ module _ (program : Program) (sound : IsRunnable program) (script : List ℕ) (b
       let one : TurnedSo m k upcall es es' (turn.Next p) = subst (TurnedSo m k upcall es es') goes turned in
       let here : StandsSo es (pending_of script (pending.Waits m k upcall)) = subst (λ (x : CodePending). StandsSo es (pending_of script x)) is s in
       let count : length es' ≡ suc (length es) = length_more es es' _ one.1 in
-      let leads : pending_of script p ≡ next program (reading_of one.0) (kernel_of k) (rest_of script upcall) = one.2 in
-      let later : Stands program budget (length script) (suc (suc (length es))) (next program (reading_of one.0) (kernel_of k) (rest_of script upcall)) =
-      next_stands program sound budget (length script) (reading_of one.0) (suc (length es)) (kernel_of k) (rest_of script upcall) here in
+      let leads : pending_of script p ≡ next program (reading_of one.0) (kernel_of k) (rest_of upcall) (left_of script upcall) = one.2 in
+      let later : Stands program budget (length script) (suc (suc (length es))) (next program (reading_of one.0) (kernel_of k) (rest_of upcall) (left_of script upcall)) =
+      next_stands program sound budget (length script) (reading_of one.0) (suc (length es)) (kernel_of k) (rest_of upcall) (left_of script upcall) here in
       subst (λ (x : Pending). StandsSo es' x) (sym leads)
-      (subst (λ (n : ℕ). Stands program budget (length script) (suc n) (next program (reading_of one.0) (kernel_of k) (rest_of script upcall))) (sym count) later)
+      (subst (λ (n : ℕ). Stands program budget (length script) (suc n) (next program (reading_of one.0) (kernel_of k) (rest_of upcall) (left_of script upcall))) (sym count) later)
 
   runs_after : (es es' : List Exchange) (now p : CodePending) (m : Message) (k : CodeKernel) (upcall : Open) (t : Turn) → now ≡ pending.Waits m k upcall → t ≡ turn.Next p → TurnedSo m k upcall es es' t
       → IsMessage m → RunsSo es (pending_of script now) → RunsSo es' (pending_of script p)
   runs_after es es' now p m k upcall t is goes turned fits so =
       let one : TurnedSo m k upcall es es' (turn.Next p) = subst (TurnedSo m k upcall es es') goes turned in
       let here : RunsSo es (pending_of script (pending.Waits m k upcall)) = subst (λ (x : CodePending). RunsSo es (pending_of script x)) is so in
-      goes_so program (first_of program script budget) m (kernel_of k) (rest_of script upcall) es es' one.0 (pending_of script p) here fits one.1 one.2
+      goes_so program (first_of program script budget) m (kernel_of k) (rest_of upcall) (left_of script upcall) es es' one.0 (pending_of script p) here fits one.1 one.2
 
   smaller_after : (es es' : List Exchange) (now p : CodePending) (m : Message) (k : CodeKernel) (upcall : Open) (t : Turn) → now ≡ pending.Waits m k upcall → t ≡ turn.Next p → TurnedSo m k upcall es es' t
       → StandsSo es (pending_of script now) → left_before (4 * budget + 6 * length script) p < left_before (4 * budget + 6 * length script) now
@@ -73,7 +74,7 @@ module _ (program : Program) (sound : IsRunnable program) (script : List ℕ) (b
   unanswered es es' now m k k' upcall t is goes turned fits so =
       let one : TurnedSo m k upcall es es' (turn.Unanswered k') = subst (TurnedSo m k upcall es es') goes turned in
       let here : RunsSo es (pending_of script (pending.Waits m k upcall)) = subst (λ (x : CodePending). RunsSo es (pending_of script x)) is so in
-      fails_so program script budget es es' m (kernel_of k) (kernel_of k') (rest_of script upcall) here fits one.0 one.1
+      fails_so program script budget es es' m (kernel_of k) (kernel_of k') (rest_of upcall) (left_of script upcall) here fits one.0 one.1
 
   first_so : (first : CodeKernel) (now : CodePending) (es : List Exchange) → kernel_of first ≡ first_kernel program budget → budget < 2 ^ 64 → es ≡ []
       → pending_of script now ≡ split_commands program script (kernel_of first) → StandsSo es (pending_of script now) × RunsSo es (pending_of script now)
@@ -100,9 +101,9 @@ module _ (program : Program) (sound : IsRunnable program) (script : List ℕ) (b
   placed_after : (es es' : List Exchange) (now : CodePending) (m : Message) (k : CodeKernel) (upcall : Open) (t : Turn) (memory : Memory) → now ≡ pending.Waits m k upcall → TurnedSo m k upcall es es' t → RunsSo es (pending_of script now) → memory ≡ k.world.memory.items
       → IsPlace program script budget (answers_of es') memory
   placed_after es es' now m k upcall (turn.Next p) memory is turned so same =
-      place_after program script budget m (kernel_of k) (rest_of script upcall) es es' turned.0 memory (waits_so es now m k upcall is so) same turned.1
+      place_after program script budget m (kernel_of k) (rest_of upcall) (left_of script upcall) es es' turned.0 memory (waits_so es now m k upcall is so) same turned.1
   placed_after es es' now m k upcall (turn.Unanswered k') memory is turned so same =
-      place_unanswered program script budget m (kernel_of k) (rest_of script upcall) es es' memory (waits_so es now m k upcall is so) same turned.0
+      place_unanswered program script budget m (kernel_of k) (rest_of upcall) (left_of script upcall) es es' memory (waits_so es now m k upcall is so) same turned.0
 
 pub split_commands-requires-clause-world : goal.split_commands-requires-clause-world
 split_commands-requires-clause-world g c =
@@ -166,7 +167,7 @@ returns-in_err-memory-in-Waits-clause-stopped g c =
 
 pub returns-in_err-later-in-Waits-clause-stopped : goal.returns-in_err-later-in-Waits-clause-stopped
 returns-in_err-later-in-Waits-clause-stopped g c =
-    on_err _ _ (stops_in c.args.program.now c.args.script.now c.args.ticks c.in-Waits.message (kernel_of c.in-Waits.kernel) (rest_of c.args.script.now c.in-Waits.upcall) (g.F.Far.calls c.args.far.now) (g.F.Far.calls c.turns.far) (g.F.Far.calls c.exchanged.new.far)
+    on_err _ _ (stops_in c.args.program.now c.args.script.now c.args.ticks c.in-Waits.message (kernel_of c.in-Waits.kernel) (rest_of c.in-Waits.upcall) (left_of c.args.script.now c.in-Waits.upcall) (g.F.Far.calls c.args.far.now) (g.F.Far.calls c.turns.far) (g.F.Far.calls c.exchanged.new.far)
     (g.F.Far.exchanges c.turns.far) (g.F.Far.exchanges c.exchanged.new.far) c.in_ok-memory-in-Waits.field-0.items c.turns.messages c.exchanged.new.messages
     (waits_so c.args.program.now c.requires.program c.args.script.now c.args.ticks (g.F.Far.exchanges c.turns.far) c.turns.pending c.in-Waits.message c.in-Waits.kernel c.in-Waits.upcall c.in-Waits.is c.turns.invariant.so_far)
     c.turns.invariant.called c.turns.invariant.counted (c.in_ok-memory-in-Waits.ensures ∙ c.as_slice.ensures.value) c.in_err-later-in-Waits.ensures.broke)

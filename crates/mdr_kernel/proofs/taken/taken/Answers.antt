@@ -27,14 +27,14 @@ applied_world program k k' ticks runs stored sound s fit same is =
 pub applied-kernel-requires-clause-ticks : goal.applied-kernel-requires-clause-ticks
 applied-kernel-requires-clause-ticks c =
     let k : Kernel = kernel_of c.args.kernel in
-    let rest : Rest = rest_of c.args.script.now c.args.upcall in
+    let rest : Rest = rest_of c.args.upcall in
     let legal : IsLegal c.args.program.now k rest (message.Return c.in-Return.ticks c.in-Return.value c.in-Return.runs) = subst (IsLegal c.args.program.now k rest) c.in-Return.is c.requires.legal in
     (return_fits c.args.program.now k rest c.in-Return.ticks c.in-Return.value c.in-Return.runs legal).ticks
 
 pub continued-requires-clause-world : goal.continued-requires-clause-world
 continued-requires-clause-world c =
     let k : Kernel = kernel_of c.args.kernel in
-    let rest : Rest = rest_of c.args.script.now c.args.upcall in
+    let rest : Rest = rest_of c.args.upcall in
     let legal : IsLegal c.args.program.now k rest (message.Return c.in-Return.ticks c.in-Return.value c.in-Return.runs) = subst (IsLegal c.args.program.now k rest) c.in-Return.is c.requires.legal in
     let fit : IsFit c.args.program.now k c.in-Return.ticks c.in-Return.runs = return_fits c.args.program.now k rest c.in-Return.ticks c.in-Return.value c.in-Return.runs legal in
     applied_world c.args.program.now k _ c.in-Return.ticks c.in-Return.runs _ c.requires.program c.requires.world fit c.as_slice.ensures c.applied-kernel.ensures
@@ -47,16 +47,16 @@ down_of program k rest reply ticks at depth func args runs is legal = down_fits 
 pub applied-kernel-requires-in-Down-clause-ticks :
     goal.applied-kernel-requires-in-Down-clause-ticks
 applied-kernel-requires-in-Down-clause-ticks c =
-    (down_of c.args.program.now (kernel_of c.args.kernel) (rest_of c.args.script.now c.args.upcall) c.args.reply c.in-Down.ticks c.in-Down.at c.in-Down.depth c.in-Down.func c.in-Down.args c.in-Down.runs c.in-Down.is c.requires.legal).fit.ticks
+    (down_of c.args.program.now (kernel_of c.args.kernel) (rest_of c.args.upcall) c.args.reply c.in-Down.ticks c.in-Down.at c.in-Down.depth c.in-Down.func c.in-Down.args c.in-Down.runs c.in-Down.is c.requires.legal).fit.ticks
 
 pub downcalled-requires-clause-function : goal.downcalled-requires-clause-function
 downcalled-requires-clause-function c =
-    (down_of c.args.program.now (kernel_of c.args.kernel) (rest_of c.args.script.now c.args.upcall) c.args.reply c.in-Down.ticks c.in-Down.at c.in-Down.depth c.in-Down.func c.in-Down.args c.in-Down.runs c.in-Down.is c.requires.legal).kernel
+    (down_of c.args.program.now (kernel_of c.args.kernel) (rest_of c.args.upcall) c.args.reply c.in-Down.ticks c.in-Down.at c.in-Down.depth c.in-Down.func c.in-Down.args c.in-Down.runs c.in-Down.is c.requires.legal).kernel
 
 pub downcalled-requires-clause-world : goal.downcalled-requires-clause-world
 downcalled-requires-clause-world c =
     let fit : IsFit c.args.program.now (kernel_of c.args.kernel) c.in-Down.ticks c.in-Down.runs =
-    (down_of c.args.program.now (kernel_of c.args.kernel) (rest_of c.args.script.now c.args.upcall) c.args.reply c.in-Down.ticks c.in-Down.at c.in-Down.depth c.in-Down.func c.in-Down.args c.in-Down.runs c.in-Down.is c.requires.legal).fit in
+    (down_of c.args.program.now (kernel_of c.args.kernel) (rest_of c.args.upcall) c.args.reply c.in-Down.ticks c.in-Down.at c.in-Down.depth c.in-Down.func c.in-Down.args c.in-Down.runs c.in-Down.is c.requires.legal).fit in
     applied_world c.args.program.now (kernel_of c.args.kernel) _ c.in-Down.ticks c.in-Down.runs _ c.requires.program c.requires.world fit c.as_slice-in-Down.ensures c.applied-kernel-in-Down.ensures
 
 -- a service that is asked for
@@ -66,18 +66,18 @@ ask_of program k rest reply ticks at service args shapes bytes runs is legal = a
 
 pub applied-kernel-requires-in-Ask-clause-ticks : goal.applied-kernel-requires-in-Ask-clause-ticks
 applied-kernel-requires-in-Ask-clause-ticks c =
-    (ask_of c.args.program.now (kernel_of c.args.kernel) (rest_of c.args.script.now c.args.upcall) c.args.reply c.in-Ask.ticks c.in-Ask.at c.in-Ask.service c.in-Ask.args c.in-Ask.shapes c.in-Ask.bytes c.in-Ask.runs c.in-Ask.is c.requires.legal).fit.ticks
+    (ask_of c.args.program.now (kernel_of c.args.kernel) (rest_of c.args.upcall) c.args.reply c.in-Ask.ticks c.in-Ask.at c.in-Ask.service c.in-Ask.args c.in-Ask.shapes c.in-Ask.bytes c.in-Ask.runs c.in-Ask.is c.requires.legal).fit.ticks
 
 pub serviced-requires : goal.serviced-requires
 serviced-requires c =
     let ask : IsAsk c.args.program.now (kernel_of c.args.kernel) c.in-Ask.ticks c.in-Ask.args c.in-Ask.runs =
-    ask_of c.args.program.now (kernel_of c.args.kernel) (rest_of c.args.script.now c.args.upcall) c.args.reply c.in-Ask.ticks c.in-Ask.at c.in-Ask.service c.in-Ask.args c.in-Ask.shapes c.in-Ask.bytes c.in-Ask.runs c.in-Ask.is c.requires.legal in
+    ask_of c.args.program.now (kernel_of c.args.kernel) (rest_of c.args.upcall) c.args.reply c.in-Ask.ticks c.in-Ask.at c.in-Ask.service c.in-Ask.args c.in-Ask.shapes c.in-Ask.bytes c.in-Ask.runs c.in-Ask.is c.requires.legal in
     record { args = subst (λ (vs : List Wire). args_fault 0 service_params vs ≡ None) (sym c.as_slice-in-Ask-2.ensures) ask.fitting }
 
 pub applied-kernel-requires-in-Stop-clause-ticks :
     goal.applied-kernel-requires-in-Stop-clause-ticks
 applied-kernel-requires-in-Stop-clause-ticks c =
     let k : Kernel = kernel_of c.args.kernel in
-    let rest : Rest = rest_of c.args.script.now c.args.upcall in
+    let rest : Rest = rest_of c.args.upcall in
     let legal : IsLegal c.args.program.now k rest (message.Stop c.in-Stop.ticks c.in-Stop.stop c.in-Stop.at c.in-Stop.runs) = subst (IsLegal c.args.program.now k rest) c.in-Stop.is c.requires.legal in
     (stop_fits c.args.program.now k rest c.in-Stop.ticks c.in-Stop.stop c.in-Stop.at c.in-Stop.runs legal).ticks

@@ -1,5 +1,6 @@
 use Rattle.std.proofs.Common.{ℕ, List, map, refl, sym, subst}
 use Rattle.std.specs.Prelude.{string_bytes}
+use Rattle.mdr_model.specs.declared.command.Command.{Command}
 use Rattle.mdr_outside.specs.declared.shelf.ReadAnswer.TheVariants as reads
 use Rattle.mdr_kernel.specs.Runs.{sent_of}
 use Rattle.mdr_kernel.proofs.Stops.{on_err}
@@ -55,7 +56,7 @@ returns-clause-done g c =
     (λ due h called. Done.ran c.in-Some.source_name.now c.in-Some.script_name.now c.in-Goes.source c.in-Goes-3.script c.in-Goes-4.calls c.in-Goes-2.program (g.S.Shelf.calls c.file.new.shelf) (sym c.in-Some.ensures) (goes_with _ _ c.file.result c.in_ok-source.field-0 c.in-Goes.source c.in_ok-source.was c.in-Goes.is c.file.ensures.read) (subst (λ (b : List ℕ). HasProgram b c.in-Goes-2.program) c.as_slice.ensures (goes_with _ _ c.program.result c.in_ok-program.field-0 c.in-Goes-2.program c.in_ok-program.was c.in-Goes-2.is c.program.ensures)) (subst (λ (f : Files). IsRead f c.in-Some.script_name.now longest_script (g.S.Shelf.calls c.file.new.shelf) (g.S.Shelf.calls c.file-2.new.shelf) (reads.Ok c.in-Goes-3.script)) c.file.ensures.kept (goes_with _ _ c.file-2.result c.in_ok-script.field-0 c.in-Goes-3.script c.in_ok-script.was c.in-Goes-3.is c.file-2.ensures.read)) (subst (λ (b : List ℕ). HasScript c.in-Goes-2.program b c.in-Goes-4.calls) c.as_slice-2.ensures (goes_with _ _ c.calls.result c.in_ok-calls.field-0 c.in-Goes-4.calls c.in_ok-calls.was c.in-Goes-4.is c.calls.ensures))
     (subst (λ (b : List ℕ). LoadedOnce b (g.F.Far.calls c.args.far.now) (g.F.Far.calls c.ran.new.far) (sent_of (g.F.Far.exchanges c.ran.new.far))) c.as_slice-3.ensures called)
     (subst (λ (b : List ℕ). Ran c.in-Goes-2.program b c.in-Goes-4.calls (g.F.Far.loaded c.ran.new.far) (g.F.Far.exchanges c.ran.new.far) due.status due.text.items) c.as_slice-3.ensures
-    (subst (λ (b : List ℕ). Ran c.in-Goes-2.program c.as_slice-3.result.now b (g.F.Far.loaded c.ran.new.far) (g.F.Far.exchanges c.ran.new.far) due.status due.text.items) c.as_slice-4.ensures h)))
+    (subst (λ (b : List Command). Ran c.in-Goes-2.program c.as_slice-3.result.now b (g.F.Far.loaded c.ran.new.far) (g.F.Far.exchanges c.ran.new.far) due.status due.text.items) c.as_slice-4.ensures h)))
     c.ran.ensures.ran c.ran.ensures.called
 
 pub returns-clause-part : goal.returns-clause-part
@@ -63,5 +64,5 @@ returns-clause-part g c =
     err_weaker c.ran.result (LoadedPart c.in-Goes-2.program c.as_slice-3.result.now c.as_slice-4.result.now (g.F.Far.calls c.args.far.now) (g.F.Far.calls c.ran.new.far) (g.F.Far.exchanges c.ran.new.far)) (DonePart (map string_bytes c.args.words.now) (g.S.Shelf.files c.args.shelf.now) (g.S.Shelf.calls c.args.shelf.now) (g.S.Shelf.calls c.file-2.new.shelf) (g.F.Far.calls c.args.far.now) (g.F.Far.calls c.ran.new.far) (g.F.Far.loaded c.ran.new.far) (g.F.Far.exchanges c.ran.new.far))
     (λ h. DonePart.ran_part c.in-Some.source_name.now c.in-Some.script_name.now c.in-Goes.source c.in-Goes-3.script c.in-Goes-4.calls c.in-Goes-2.program (g.S.Shelf.calls c.file.new.shelf) (sym c.in-Some.ensures) (goes_with _ _ c.file.result c.in_ok-source.field-0 c.in-Goes.source c.in_ok-source.was c.in-Goes.is c.file.ensures.read) (subst (λ (b : List ℕ). HasProgram b c.in-Goes-2.program) c.as_slice.ensures (goes_with _ _ c.program.result c.in_ok-program.field-0 c.in-Goes-2.program c.in_ok-program.was c.in-Goes-2.is c.program.ensures)) (subst (λ (f : Files). IsRead f c.in-Some.script_name.now longest_script (g.S.Shelf.calls c.file.new.shelf) (g.S.Shelf.calls c.file-2.new.shelf) (reads.Ok c.in-Goes-3.script)) c.file.ensures.kept (goes_with _ _ c.file-2.result c.in_ok-script.field-0 c.in-Goes-3.script c.in_ok-script.was c.in-Goes-3.is c.file-2.ensures.read)) (subst (λ (b : List ℕ). HasScript c.in-Goes-2.program b c.in-Goes-4.calls) c.as_slice-2.ensures (goes_with _ _ c.calls.result c.in_ok-calls.field-0 c.in-Goes-4.calls c.in_ok-calls.was c.in-Goes-4.is c.calls.ensures))
     (subst (λ (b : List ℕ). LoadedPart c.in-Goes-2.program b c.in-Goes-4.calls (g.F.Far.calls c.args.far.now) (g.F.Far.calls c.ran.new.far) (g.F.Far.exchanges c.ran.new.far)) c.as_slice-3.ensures
-    (subst (λ (b : List ℕ). LoadedPart c.in-Goes-2.program c.as_slice-3.result.now b (g.F.Far.calls c.args.far.now) (g.F.Far.calls c.ran.new.far) (g.F.Far.exchanges c.ran.new.far)) c.as_slice-4.ensures h)))
+    (subst (λ (b : List Command). LoadedPart c.in-Goes-2.program c.as_slice-3.result.now b (g.F.Far.calls c.args.far.now) (g.F.Far.calls c.ran.new.far) (g.F.Far.exchanges c.ran.new.far)) c.as_slice-4.ensures h)))
     c.ran.ensures.part

@@ -1,6 +1,7 @@
 -- What a run leaves is what it ended with: a fault of the far side is shown, memory is as before, and the messages are paid for.
 use Rattle.std.proofs.Common.{◌≡◌, ℕ, ◌+◌, ◌*◌, ◌≤◌, true, false, List, length, refl, sym, ap, ◌∙◌, subst, arith}
 use Rattle.mdr_core.specs.declared.program.Program.{Program}
+use Rattle.mdr_model.specs.declared.command.Command.{Command}
 use Rattle.mdr_model.specs.declared.outcome.End.{End}
 use Rattle.mdr_model.specs.declared.outcome.Outcome.{Outcome}
 use Rattle.mdr_model.specs.World.{World}
@@ -42,7 +43,7 @@ returns-clause-before g c =
     (as_before c.self.inside.program.now c.args.script.now c.args.ticks (g.F.Far.exchanges c.run_script.new.far) c.in_ok-end.end (kernel_of c.in_ok-end.kernel) c.in_ok-end.ensures.ended))
 
 -- the messages sent and got are no more than two for each exchange
-few_messages : (program : Program) (script : List ℕ) (budget : ℕ) (es : List Exchange) (end : End) (k : Kernel) (n : ℕ) → HasEnded program script budget es end k → n ≡ length es + length (answers_of es) → n ≤ 2 * k.exchanges
+few_messages : (program : Program) (script : List Command) (budget : ℕ) (es : List Exchange) (end : End) (k : Kernel) (n : ℕ) → HasEnded program script budget es end k → n ≡ length es + length (answers_of es) → n ≤ 2 * k.exchanges
 few_messages program script budget es end k n ended count =
     let twice = counted_twice program script budget es ended.messages in
     let same : (kernel_in (run_over program script budget es).pending).exchanges ≡ k.exchanges = ap (λ (x : Kernel). x.exchanges) ended.kernel in

@@ -6,7 +6,7 @@ use Rattle.mdr_model.specs.declared.wire.Wire.TheVariants as wire
 use Rattle.mdr_kernel.specs.declared.state.Stopped.{Stopped as CodeStop}
 use Rattle.mdr_kernel.specs.States.{world_of, ran_of, IsSoundWorld}
 use Rattle.mdr_kernel.proofs.Worlds.{Ends, Gone, kernel_goes, returned_is_sound}
-use Rattle.mdr_kernel.proofs.script.own_command.Goals as goal
+use Rattle.mdr_kernel.proofs.script.own_call.Goals as goal
 
 pub returns-in_ok-end-in-None-clause-sound : goal.returns-in_ok-end-in-None-clause-sound
 returns-in_ok-end-in-None-clause-sound c =
