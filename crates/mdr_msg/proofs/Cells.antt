@@ -1,5 +1,5 @@
 -- The cells that user code may touch: their numbers are small, and they hold values that have spellings.
-use Rattle.std.proofs.Common.{◌≡◌, ◌≢◌, ℕ, zero, suc, ◌+◌, ◌<◌, ◌≤◌, inl, inr, Bool, true, false, cond, not, ◌||◌, List, [], ◌∷◌, ◌++◌, length, Option, Some, None, refl, sym, ◌∙◌, ap, subst, eq-eqb, arith}
+use Rattle.std.proofs.Common.{◌≡◌, ◌≢◌, ℕ, zero, suc, ◌+◌, ◌<◌, ◌≤◌, inl, inr, Bool, true, false, cond, not, ◌||◌, List, [], ◌∷◌, ◌++◌, filter, length, Option, Some, None, refl, sym, ◌∙◌, ap, subst, eq-eqb, arith}
 use Rattle.std.specs.Prelude.{nat_lt, slice_get, unwrap_or, IsTrue}
 use Rattle.std.specs.List.{AllByRecursion}
 use Rattle.mdr_core.specs.declared.kind.Kind.{Kind}
@@ -12,10 +12,13 @@ use Rattle.mdr_core.specs.Kinds.{kind_number, is_same_kind, is_in_range}
 use Rattle.mdr_model.specs.declared.wire.Wire.{Wire}
 use Rattle.mdr_model.specs.declared.wire.Wire.TheVariants as wire
 use Rattle.mdr_model.specs.declared.message.New.{New}
-use Rattle.mdr_model.specs.Values.{type_number, fits_type, fits_maybe, fits}
+use Rattle.mdr_model.specs.Values.{type_number, type_at, fits_type, fits_maybe, fits}
 use Rattle.mdr_model.specs.declared.memory.Cell.{Cell}
-use Rattle.mdr_model.specs.Memory.{Memory, births, born_at, cell_at, first_memory, global_blocks}
-use Rattle.mdr_model.specs.Sets.{is_same_cell, is_in, cells_from, is_keyed, visible_of}
+use Rattle.mdr_core.specs.Layout.{Leaf}
+use Rattle.std.specs.Prelude.{is_some, option_map}
+use Rattle.std.proofs.lemmas.Bool.{ltb-true}
+use Rattle.mdr_model.specs.Memory.{Memory, leaves_of, size_of, leaf_at, is_lock_leaf, births, born_at, cell_at, first_memory, global_blocks}
+use Rattle.mdr_model.specs.Sets.{is_same_cell, is_in, cells_from, is_keyed, keyed_cells, visible_of}
 use Rattle.mdr_model.specs.Copies.{held}
 use Rattle.mdr_model.specs.Faults.{fits_block, fits_cell}
 use Rattle.mdr_core.specs.Types.{first_types}
@@ -26,6 +29,9 @@ use Rattle.mdr_model.proofs.Relations.{globals_of, Holds}
 use Rattle.mdr_model.proofs.MemoryLaws.{born_at-births}
 use Rattle.mdr_model.proofs.CopyLaws.{same_cell}
 use Rattle.mdr_model.proofs.ValueLaws.{same_kind}
+use Rattle.mdr_model.proofs.LifeLaws.{there}
+use Rattle.mdr_model.proofs.PlainCells.{lone, built_leaf, built_fits}
+use Rattle.mdr_model.proofs.VisibleLaws.{keyed_inside, keyed_unlocked}
 use Rattle.mdr_model.proofs.HoldsLaws.{IsThere, global_found, cell_there, cell_fits}
 use Rattle.mdr_msg.specs.WellFormed.{IsValue}
 
@@ -122,20 +128,23 @@ small_blocks program sound = blocks_from (length program.globals) 0 program.glob
 
 -- ---- the cells that are shown
 
-row_all : (P : Cell → Type 0) (serial index n : ℕ) → ((i : ℕ) → i < index + n → P (record { serial = serial; index = i })) → AllByRecursion P (cells_from serial index n)
+row_all : (program : Program) (P : Cell → Type 0) (b : New) (index n : ℕ) → ((i : ℕ) → is_keyed program b i ≡ true → P (record { serial = b.serial; index = i }))
+    → AllByRecursion P (filter (λ (c : Cell). is_keyed program b c.index) (cells_from b.serial index n))
 unfolding cells_from
-row_all P serial index zero each = tt
-row_all P serial index (suc n) each = (each index (omega arith), row_all P serial (suc index) n (λ i high. each i (omega arith)))
+row_all program P b index zero each = tt
+row_all program P b index (suc n) each = of (is_keyed program b index) refl (row_all program P b (suc index) n each)
+  where
+    of : (t : Bool) → is_keyed program b index ≡ t → AllByRecursion P (filter (λ (c : Cell). is_keyed program b c.index) (cells_from b.serial (suc index) n))
+        → AllByRecursion P (cond t (record { serial = b.serial; index = index } ∷ filter (λ (c : Cell). is_keyed program b c.index) (cells_from b.serial (suc index) n)) (filter (λ (c : Cell). is_keyed program b c.index) (cells_from b.serial (suc index) n)))
+    of true t later = (each index t, later)
+    of false t later = later
 
-visible_all : (program : Program) (P : Cell → Type 0) (bs : List New) → ((b : New) → IsAmong b bs → is_keyed program b ≡ true → (i : ℕ) → i < b.count → P (record { serial = b.serial; index = i }))
+visible_all : (program : Program) (P : Cell → Type 0) (bs : List New) → ((b : New) → IsAmong b bs → (i : ℕ) → is_keyed program b i ≡ true → P (record { serial = b.serial; index = i }))
     → AllByRecursion P (visible_of program bs)
 unfolding visible_of
 visible_all program P [] each = tt
-visible_all program P (b ∷ bs) each = of (is_keyed program b) refl (visible_all program P bs (λ x h. each x (inr h)))
-  where
-    of : (t : Bool) → is_keyed program b ≡ t → AllByRecursion P (visible_of program bs) → AllByRecursion P (cond t (cells_from b.serial 0 b.count) [] ++ visible_of program bs)
-    of true t later = all_and P (cells_from b.serial 0 b.count) (visible_of program bs) (row_all P b.serial 0 b.count (λ i high. each b (inl refl) t i (omega arith))) later
-    of false t later = later
+visible_all program P (b ∷ bs) each =
+    all_and P (keyed_cells program b) (visible_of program bs) (row_all program P b 0 (size_of program b) (λ i keyed. each b (inl refl) i keyed)) (visible_all program P bs (λ x h. each x (inr h)))
 
 pub in_all : (P : Cell → Type 0) (cs : List Cell) (c : Cell) → AllByRecursion P cs → is_in cs c ≡ true → P c
 unfolding is_in
@@ -146,16 +155,32 @@ in_all P (d ∷ cs) c all e = of (is_same_cell c d) refl e (in_all P cs c all.1)
     of true t h later = subst P (sym (same_cell c d t)) all.0
     of false t h later = later h
 
-keyed_type : (program : Program) (b : New) → is_keyed program b ≡ true → b.ty ≢ 8
-unfolding is_keyed
-keyed_type program b e = λ same. not_both (and_right (nat_lt b.serial (length program.globals)) _ e) (ap not (eq-eqb b.ty 8 same))
+-- a cell that user code may touch is one of its block, and that is no lock
+record IsPlain (program : Program) (b : New) (i : ℕ) : Type 0 where
+  inside : i < b.count
+  other : b.ty ≢ 8
+
+keyed_plain : (program : Program) (b : New) (i : ℕ) → program.types ≡ first_types → is_keyed program b i ≡ true → IsPlain program b i
+keyed_plain program b i types keyed = of (nat_lt i b.count) refl (built_leaf program b i types)
+  where
+    some : is_some (leaf_at program b i) ≡ true
+    some = there (leaves_of program b) i ∙ keyed_inside program b i keyed
+
+    of : (t : Bool) → nat_lt i b.count ≡ t → leaf_at program b i ≡ cond t (option_map lone (type_at program b.ty)) None → IsPlain program b i
+    of false t e = absurd (not_both some (ap (λ (o : Option Leaf). is_some o) e))
+    of true t e = record {
+      inside = ltb-true _ _ t;
+      other = λ same.
+      let named : type_at program b.ty ≡ Some ty.Lock = ap (λ (ts : List Ty). slice_get ts b.ty) types ∙ ap (slice_get first_types) same in
+      not_both (ap (λ (o : Option Leaf). is_lock_leaf o) (e ∙ ap (λ (o : Option Ty). option_map lone o) named)) (keyed_unlocked program b i keyed);
+    }
 
 -- a cell of a live block of a global that is no lock
 pub record IsShown (program : Program) (m : Memory) (c : Cell) : Type 0 where
   pub block : New
   pub born : born_at m c.serial ≡ Some block
   pub other : block.ty ≢ 8
-  pub inside : c.index < block.count
+  pub inside : nat_lt c.index (size_of program block) ≡ true
   pub serial : c.serial < length program.globals
   pub index : c.index < 65536
 
@@ -164,22 +189,25 @@ abbrev pub cells_shown : Program → List Cell
 cells_shown program = visible_of program (globals_of program)
 
 pub all_shown : (program : Program) (m : Memory) → IsRunnable program → births m ≡ globals_of program → AllByRecursion (IsShown program m) (cells_shown program)
-all_shown program m sound born = visible_all program (IsShown program m) (globals_of program) (λ b among keyed i inside.
+all_shown program m sound born = visible_all program (IsShown program m) (globals_of program) (λ b among i keyed.
     let small : IsSmallBlock (length program.globals) b = all_among (IsSmallBlock (length program.globals)) (globals_of program) b (small_blocks program sound) among in
+    let plain : IsPlain program b i = keyed_plain program b i sound.types keyed in
     record {
       block = b;
       born = born_at-births m (first_memory program) b.serial born ∙ global_found program b among;
-      other = keyed_type program b keyed;
-      inside = inside;
+      other = plain.other;
+      inside = keyed_inside program b i keyed;
       serial = small.serial;
-      index = omega (arith, small.count);
+      index = omega (arith, small.count, plain.inside);
     })
 
 -- a value that fits such a cell has a spelling
 pub fitting_is_value : (program : Program) (m : Memory) (c : Cell) (v : Wire) → IsRunnable program → IsShown program m c → fits_cell program m (record { cell = c; value = v }) ≡ true → IsValue v
 unfolding fits_cell
 fitting_is_value program m c v sound shown e =
-    fits_is_value program shown.block.ty v sound shown.other (ap (λ (o : Option New). fits_block program o v) (sym shown.born) ∙ e)
+    fits_is_value program shown.block.ty v sound shown.other
+    (and_right (nat_lt c.index shown.block.count) (fits program shown.block.ty v)
+    (sym (built_fits program shown.block c.index v sound.types) ∙ ap (λ (o : Option New). fits_block program o c.index v) (sym shown.born) ∙ e))
 
 -- and so has what the cell holds
 pub held_is_value : (program : Program) (m : Memory) (c : Cell) → IsRunnable program → Holds program m → IsShown program m c → IsValue (held m c)

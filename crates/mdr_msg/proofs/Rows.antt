@@ -7,9 +7,8 @@ use Rattle.mdr_model.specs.declared.wire.Wire.{Wire}
 use Rattle.mdr_model.specs.declared.message.New.{New}
 use Rattle.mdr_model.specs.declared.message.Run.{Run}
 use Rattle.mdr_model.specs.declared.message.SetRun.{SetRun}
-use Rattle.mdr_model.specs.Values.{fits}
 use Rattle.mdr_model.specs.declared.memory.Cell.{Cell}
-use Rattle.mdr_model.specs.Memory.{Memory, births, born_at, put}
+use Rattle.mdr_model.specs.Memory.{Memory, fits_at, births, born_at, put}
 use Rattle.mdr_model.specs.Sets.{is_in, cells_of_run, cells_of_runs, begins_behind, joined, runs_of_cells, rises_after}
 use Rattle.mdr_model.specs.Copies.{CellValue, numbered, values_of_runs, put_all, put_runs, held, run_from, changed_cells, changes}
 use Rattle.mdr_model.specs.Faults.{fits_block, fits_cell, set_run_of, run_fault, runs_fault}
@@ -200,14 +199,14 @@ module _ (program : Program) (view : List Cell) (m : Memory) where
   all_fit (r ∷ rs) legal =
       all_and FitsCell (numbered r.serial r.first r.values) (values_of_runs rs) (each_fits (numbered r.serial r.first r.values) legal.0.fit) (all_fit rs legal.1)
 
-  stored_fits : (n : Memory) (x : CellValue) (b : New) → births n ≡ births m → FitsCell x → born_at n x.cell.serial ≡ Some b → fits program b.ty x.value ≡ true
+  stored_fits : (n : Memory) (x : CellValue) (b : New) → births n ≡ births m → FitsCell x → born_at n x.cell.serial ≡ Some b → fits_at program b x.cell.index x.value ≡ true
   unfolding fits_cell
-  stored_fits n x b same fit born = ap (λ (o : Option New). fits_block program o x.value) (sym (sym (born_at-births n m x.cell.serial same) ∙ born)) ∙ fit
+  stored_fits n x b same fit born = ap (λ (o : Option New). fits_block program o x.cell.index x.value) (sym (sym (born_at-births n m x.cell.serial same) ∙ born)) ∙ fit
 
   put_holds : (n : Memory) (x : CellValue) → births n ≡ births m → FitsCell x → Holds program n → Holds program (put n x.cell x.value)
   put_holds n x same fit holds = record {
     born = births-put n x.cell x.value ∙ holds.born;
-    filled = filled_put program n x.cell x.value holds.filled (λ b born. stored_fits n x b same fit born);
+    filled = filled_put program n x.cell x.value holds.filled (λ b born inside. stored_fits n x b same fit born);
   }
 
   put_all_holds : (xs : List CellValue) (n : Memory) → births n ≡ births m → AllByRecursion FitsCell xs → Holds program n → Holds program (put_all xs n)
