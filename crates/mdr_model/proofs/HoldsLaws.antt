@@ -1,7 +1,6 @@
 -- Laws of memories: births, cells, values that fit, and what loads and stores leave.
-use Rattle.std.proofs.Common.{◌≡◌, ℕ, zero, suc, ◌≤◌, ◌<◌, inl, inr, Bool, true, false, cond, ◌&&◌, List, [], ◌∷◌, length, ◌==◌, nat_lt, nat_le, is_some, slice_get, slice_set, Option, Some, None, Result, Ok, Err, refl, sym, ap, ◌∙◌, subst, length-set, eqb-true, eq-eqb, ne_eqb, leb-true, arith}
-use Rattle.std.specs.List.{AllByRecursion}
-use Rattle.std.proofs.lemmas.Bool.{cond-true, cond-false, cond_both}
+use Rattle.std.proofs.Common.{◌≡◌, ℕ, zero, suc, ◌≤◌, ◌<◌, inl, inr, Bool, true, false, cond, ◌&&◌, List, [], ◌∷◌, length, ◌==◌, nat_lt, nat_le, is_some, slice_get, Option, Some, None, Result, Ok, Err, refl, sym, ap, ◌∙◌, subst, eqb-true, eq-eqb, ne_eqb, leb-true, arith}
+use Rattle.std.proofs.lemmas.Bool.{cond-true, cond-false}
 use Rattle.mdr_core.specs.declared.stop.StopKind.{StopKind}
 use Rattle.mdr_core.specs.declared.program.Program.{Program}
 use Rattle.mdr_core.specs.declared.types.Ty.{Ty}
@@ -20,22 +19,13 @@ use Rattle.mdr_model.specs.Agreement.{has_index}
 use Rattle.mdr_model.proofs.Tests.{and_right, not_both}
 use Rattle.mdr_model.proofs.MemoryLaws.{replaced, same_cell, born_at-births, births-put, cell_at-put, born_at-put}
 use Rattle.mdr_model.proofs.LifeLaws.{there}
+pub use Rattle.mdr_model.proofs.PlainCells.{all_get}
 use Rattle.mdr_model.proofs.PlainCells.{lone, built_leaf, built_fits}
 use Rattle.mdr_model.proofs.ValueLaws.{fitting_is_normal}
 use Rattle.mdr_model.proofs.Fair.{IsAmong, IsKnownView, IsKnownPointer, IsValueAt}
 use Rattle.mdr_model.proofs.Relations.{Holds, IsFilled, globals_of}
 
 -- ---- lists
-
-pub all_set : {X : Type 0} (P : X → Type 0) (xs : List X) (i : ℕ) (x : X) → AllByRecursion P xs → P x → AllByRecursion P (slice_set xs i x)
-all_set P [] i x h p = h
-all_set P (y ∷ ys) zero x h p = (p, h.1)
-all_set P (y ∷ ys) (suc i) x h p = (h.0, all_set P ys i x h.1 p)
-
-pub all_get : {X : Type 0} (P : X → Type 0) (xs : List X) (i : ℕ) (x : X) → AllByRecursion P xs → slice_get xs i ≡ Some x → P x
-all_get P [] i x h e = let no_such : None ≡ Some x = e in Prim.cc
-all_get P (y ∷ ys) zero x h e = let same : y ≡ x = Prim.cc in subst P same h.0
-all_get P (y ∷ ys) (suc i) x h e = all_get P ys i x h.1 e
 
 -- an element that is there
 pub record IsThere {X : Type 0} (found : Option X) : Type 0 where

@@ -15,7 +15,7 @@ use Rattle.mdr_model.specs.Memory.{Memory, Cell, size_of, births, born_at, is_li
 use Rattle.mdr_model.specs.Sets.{is_in, visible}
 use Rattle.mdr_model.specs.World.{World}
 use Rattle.mdr_model.specs.Faults.{is_known}
-use Rattle.mdr_model.specs.Agreement.{names_it, SerialsRise, IsFormed, MayFollow, told_at, is_told, learnt, IsShown, IsKnown, AreBlocks}
+use Rattle.mdr_model.specs.Agreement.{names_it, SerialsRise, IsFormed, MayFollow, is_told, learnt, IsShown, IsKnown, AreBlocks}
 use Rattle.mdr_model.specs.Copies.{is_named, news_of, left_of, changed_values, told_news, begun_copy}
 use Rattle.mdr_model.specs.User.{has_type, has_shape}
 use Rattle.mdr_model.specs.Runnable.{IsRunnableGlobal, IsRunnable}

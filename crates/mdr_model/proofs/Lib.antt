@@ -38,3 +38,5 @@ pub mod LawProof
 pub mod WorkedCode
 pub mod WorkedProofs
 pub mod WorkedCopyProofs
+pub mod CellKinds
+pub mod MemoryInOrder

@@ -26,7 +26,8 @@ first_cells : (program : Program) → AllByRecursion (IsOneCell program) first_t
 unfolding cells leaves form.out-Ty denote.Hole.Carrier.out
 first_cells program = (refl, (refl, (refl, (refl, (refl, (refl, (refl, (refl, (refl, tt)))))))))
 
-all_get : {X : Type 0} (P : X → Type 0) (xs : List X) (i : ℕ) (x : X) → AllByRecursion P xs → slice_get xs i ≡ Some x → P x
+-- what holds of each element
+pub all_get : {X : Type 0} (P : X → Type 0) (xs : List X) (i : ℕ) (x : X) → AllByRecursion P xs → slice_get xs i ≡ Some x → P x
 all_get P [] i x h e = let no_such : None ≡ Some x = e in Prim.cc
 all_get P (y ∷ ys) zero x h e = let same : y ≡ x = Prim.cc in subst P same h.0
 all_get P (y ∷ ys) (suc i) x h e = all_get P ys i x h.1 e

@@ -1,6 +1,5 @@
 -- How the memories of a whole run and of a split one are related: while the kernel half has control, and while the user half has. The relations of memories alone are those of every memory and set; here stand the values' types and the run's clock beside them.
 use Rattle.std.proofs.Common.{◌≡◌, ℕ, ◌+◌, ◌≤◌, true, List, Some}
-use Rattle.std.specs.List.{AllByRecursion}
 use Rattle.mdr_core.specs.declared.program.Program.{Program}
 use Rattle.mdr_model.specs.declared.message.New.{New}
 pub use Rattle.mdr_model.specs.Holds.{IsFilled}
