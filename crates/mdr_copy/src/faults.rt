@@ -88,7 +88,12 @@ fn fit_row(program: &Program, block: Option<New>, first: u32, values: &[Wire]) -
 fn fit_cells(program: &Program, memory: &[MemoryBlock], run: &Run) -> bool
     ensures { result ≡ list_all (fits_cell program.now memory.now) (numbered run.now.serial run.now.first run.now.values) }
 {
-    fit_row(program, born_at(memory, run.serial), run.first, run.values.as_slice())
+    fit_row(
+        program,
+        born_at(memory, run.serial),
+        run.first,
+        run.values.as_slice(),
+    )
 }
 
 fn fault(kind: RefuseKind, number: u64) -> Option<Fault>

@@ -171,8 +171,8 @@ keyed_plain program b i types keyed = of (nat_lt i b.count) refl (built_leaf pro
     of true t e = record {
       inside = ltb-true _ _ t;
       other = λ same.
-      let named : type_at program b.ty ≡ Some ty.Lock = ap (λ (ts : List Ty). slice_get ts b.ty) types ∙ ap (slice_get first_types) same in
-      not_both (ap (λ (o : Option Leaf). is_lock_leaf o) (e ∙ ap (λ (o : Option Ty). option_map lone o) named)) (keyed_unlocked program b i keyed);
+          let named : type_at program b.ty ≡ Some ty.Lock = ap (λ (ts : List Ty). slice_get ts b.ty) types ∙ ap (slice_get first_types) same in
+          not_both (ap (λ (o : Option Leaf). is_lock_leaf o) (e ∙ ap (λ (o : Option Ty). option_map lone o) named)) (keyed_unlocked program b i keyed);
     }
 
 -- a cell of a live block of a global that is no lock

@@ -1,7 +1,7 @@
-use Rattle.std.proofs.Common.{◌+◌, ◌-◌, List, length, slice_get, Some, sym, ◌∙◌, subst, drop, ◌≡◌, arith}
+use Rattle.std.proofs.Common.{◌+◌, List, length, slice_get, Some, sym, ◌∙◌, subst, ◌≡◌, arith}
 use Rattle.std.specs.Prelude.{MatchOption}
 use Rattle.mdr_core.specs.declared.types.Ty.{Ty}
-use Rattle.mdr_core.specs.Layout.{Alone, repeated, leaves, leaves_below, field_leaves, struct_cells, fields_of}
+use Rattle.mdr_core.specs.Layout.{repeated, leaves_below, struct_cells, fields_of}
 use Rattle.mdr_copy.specs.CellTypes.{types_of}
 use Rattle.mdr_copy.proofs.Passing.{onward, found, known_row, unknown_row, some_way, none_way, walked_field, walked_fields, walked_element, walked_elements}
 use Rattle.mdr_copy.proofs.cell_types.+past.Goals as goal

@@ -1,4 +1,4 @@
-use Rattle.std.proofs.Common.{Some, sym, ◌∙◌, ap}
+use Rattle.std.proofs.Common.{Some, ◌∙◌, ap}
 use Rattle.mdr_model.specs.Memory.{leaf_at}
 use Rattle.mdr_model.specs.Agreement.{cell_zero}
 use Rattle.mdr_copy.proofs.Passing.{zero_typed, zero_none}
