@@ -1,3 +1,4 @@
+pub mod Passing
 pub mod Places
 pub mod Rows
 pub mod Stores

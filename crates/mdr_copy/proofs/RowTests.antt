@@ -1,5 +1,5 @@
 -- Rows of values, tested one by one.
-use Rattle.std.proofs.Common.{◌≡◌, ℕ, suc, ◌+◌, ◌<◌, ◌≤◌, List, [], ◌∷◌, Bool, true, false, ◌&&◌, length, drop, refl, sym, ap, ◌∙◌, arith}
+use Rattle.std.proofs.Common.{◌≡◌, ℕ, suc, ◌+◌, ◌<◌, ◌≤◌, List, [], ◌∷◌, Bool, true, false, ◌&&◌, length, drop, get_or, Option, refl, sym, ap, ◌∙◌, arith}
 use Rattle.std.proofs.lemmas.List.{at_drop_more, at_drop_all}
 use Rattle.std.specs.List.{list_all}
 use Rattle.mdr_core.specs.declared.program.Program.{Program}
@@ -9,13 +9,36 @@ use Rattle.mdr_model.specs.declared.wire.Wire.TheVariants as wire
 use Rattle.mdr_model.specs.Memory.{Memory, born_at}
 use Rattle.mdr_model.specs.Sets.{is_in}
 use Rattle.mdr_model.specs.Copies.{CellValue, numbered}
+use Rattle.mdr_model.specs.declared.message.New.{New}
 use Rattle.mdr_model.specs.Faults.{fits_block, fits_cell}
+use Rattle.mdr_copy.specs.CellTypes.{all_fit}
 
--- the cells of one block all ask for its type
-pub cells_of_a_block : (program : Program) (m : Memory) (serial first : ℕ) (values : List Wire) → list_all (fits_cell program m) (numbered serial first values) ≡ list_all (fits_block program (born_at m serial)) values
+-- the cells of one block
+pub cells_of_a_block : (program : Program) (m : Memory) (serial first : ℕ) (values : List Wire) → list_all (fits_cell program m) (numbered serial first values) ≡ all_fit program (born_at m serial) first values
 unfolding fits_cell numbered
 cells_of_a_block program m serial first [] = refl
-cells_of_a_block program m serial first (v ∷ vs) = ap (λ (b : Bool). fits_block program (born_at m serial) v && b) (cells_of_a_block program m serial (suc first) vs)
+cells_of_a_block program m serial first (v ∷ vs) = ap (λ (b : Bool). fits_block program (born_at m serial) first v && b) (cells_of_a_block program m serial (suc first) vs)
+
+fit_and_rest : (program : Program) (block : Option New) (first i : ℕ) (values : List Wire) (v : Wire) → i < length values → v ≡ get_or values i v
+    → all_fit program block (first + i) (drop i values) ≡ (fits_block program block (first + i) v && all_fit program block (first + (i + 1)) (drop (i + 1) values))
+fit_and_rest program block first i values v inside is =
+    let after : suc (first + i) ≡ first + (i + 1) = omega arith in
+    at_drop_more (λ (vs : List Wire). all_fit program block (first + i) vs) values i v inside
+    ∙ ap (λ (w : Wire). fits_block program block (first + i) w && all_fit program block (suc (first + i)) (drop (i + 1) values)) (sym is)
+    ∙ ap (λ (k : ℕ). fits_block program block (first + i) v && all_fit program block k (drop (i + 1) values)) after
+
+pub fits_next : (program : Program) (block : Option New) (first i : ℕ) (values : List Wire) (v : Wire) (all : Bool) → i < length values → v ≡ get_or values i v → fits_block program block (first + i) v ≡ true
+    → all_fit program block (first + i) (drop i values) ≡ all → all_fit program block (first + (i + 1)) (drop (i + 1) values) ≡ all
+fits_next program block first i values v all inside is fit so_far =
+    sym (fit_and_rest program block first i values v inside is ∙ ap (λ (b : Bool). b && all_fit program block (first + (i + 1)) (drop (i + 1) values)) fit) ∙ so_far
+
+pub fits_not : (program : Program) (block : Option New) (first i : ℕ) (values : List Wire) (v : Wire) (all : Bool) → i < length values → v ≡ get_or values i v → fits_block program block (first + i) v ≡ false
+    → all_fit program block (first + i) (drop i values) ≡ all → false ≡ all
+fits_not program block first i values v all inside is fit so_far =
+    sym (fit_and_rest program block first i values v inside is ∙ ap (λ (b : Bool). b && all_fit program block (first + (i + 1)) (drop (i + 1) values)) fit) ∙ so_far
+
+pub fits_all : (program : Program) (block : Option New) (first i : ℕ) (values : List Wire) (all : Bool) → length values ≤ i → all_fit program block (first + i) (drop i values) ≡ all → true ≡ all
+fits_all program block first i values all over so_far = sym (at_drop_all (λ (vs : List Wire). all_fit program block (first + i) vs) values i over) ∙ so_far
 
 -- the cells of a row lie in a set
 abbrev pub all_in : List Cell → ℕ → ℕ → List Wire → Bool

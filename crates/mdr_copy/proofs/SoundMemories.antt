@@ -1,9 +1,8 @@
 -- Memories stay sound: the first one, after a store, and after each part of a message that fits.
-use Rattle.std.proofs.Common.{◌≡◌, ◌≢◌, ne_eqb, ℕ, zero, suc, ◌+◌, ◌<◌, Bool, true, false, cond, not, List, [], ◌∷◌, map, length, Option, Some, None, Ok, refl, sym, ap, ◌∙◌, subst, eq-eqb, lt-ltb, slice_get, replicate, arith}
-use Rattle.std.specs.Prelude.{◌==◌, nat_lt, nat_le, is_none}
+use Rattle.std.proofs.Common.{◌≡◌, ◌≢◌, ne_eqb, ℕ, zero, suc, ◌+◌, ◌<◌, Bool, true, false, cond, not, List, [], ◌∷◌, map, length, Option, Some, None, Ok, refl, sym, ap, ◌∙◌, subst, eq-eqb, lt-ltb, slice_get, arith}
+use Rattle.std.specs.Prelude.{◌==◌, nat_lt}
 use Rattle.std.specs.List.{AllByRecursion, list_all}
-use Rattle.std.proofs.lemmas.Bool.{cond-true, cond-false, cond_both}
-use Rattle.std.proofs.lemmas.List.{length-replicate}
+use Rattle.std.proofs.lemmas.Bool.{cond-true, cond-false}
 use Rattle.mdr_core.specs.declared.kind.Kind.{Kind}
 use Rattle.mdr_core.specs.declared.types.Ty.{Ty}
 use Rattle.mdr_core.specs.declared.types.Ty.TheVariants as ty
@@ -19,24 +18,29 @@ use Rattle.mdr_model.specs.declared.message.New.{New}
 use Rattle.mdr_model.specs.declared.message.Run.{Run}
 use Rattle.mdr_model.specs.declared.message.SetRun.{SetRun}
 use Rattle.mdr_model.specs.declared.message.Fault.{Fault}
-use Rattle.mdr_model.specs.Values.{type_number, type_at, fits_type, fits_maybe, fits, zero_of_type, zero_maybe}
+use Rattle.mdr_model.specs.Values.{type_number, type_at, fits_type, fits_maybe, fits}
 use Rattle.mdr_model.specs.declared.memory.Cell.{Cell}
-use Rattle.mdr_model.specs.declared.memory.MemoryBlock.{MemoryBlock}
-use Rattle.mdr_model.specs.Memory.{Memory, births, born_at, is_live, put, cell_of, zero_block, swept, swept_block, killed, global_block, global_blocks, first_memory, stored}
+use denote.Hole.Carrier.{out}
+use Rattle.mdr_core.specs.declared.types.Ty as form
+use Rattle.mdr_core.specs.Layout.{Leaf}
+use Rattle.std.specs.Prelude.{option_map}
+use Rattle.mdr_model.specs.Agreement.{cell_zero}
+use Rattle.mdr_model.specs.Memory.{Memory, size_of, leaf_at, fits_leaf, fits_at, zero_of, cell_at, births, born_at, is_live, put, cell_of, zero_block, swept, swept_block, killed, global_block, global_blocks, first_memory, stored}
 use Rattle.mdr_model.specs.Sets.{is_in, follows_maybe}
 use Rattle.mdr_model.specs.Copies.{CellValue, numbered, put_all, put_runs, without, inserted, with_news}
 use Rattle.mdr_model.specs.Faults.{or_else, first_fault, unless, is_known, is_view, fits_block, fits_cell, set_run_of, run_fault, runs_fault}
 use Rattle.mdr_model.specs.Meaning.{type_of_global, pointer_to}
 use Rattle.mdr_core.specs.Types.{first_types}
 use Rattle.mdr_model.specs.Runnable.{IsRunnablePlace, IsRunnable}
-use Rattle.mdr_model.specs.User.{rise_after, may_die, deaths_fit, has_type, may_come, news_fit}
+use Rattle.mdr_model.specs.User.{rise_after, may_die, deaths_fit, has_shape, may_come, news_fit}
 use Rattle.mdr_model.specs.Holds.{IsFilled, IsSoundMemory}
 use Rattle.mdr_model.proofs.Tests.{and_left, and_right, not_both, is_same_number, other_number}
 use Rattle.mdr_model.proofs.MemoryLaws.{born_at-births, births-put}
 use Rattle.mdr_model.proofs.ValueLaws.{typed_is_normal}
 use Rattle.mdr_model.proofs.CopyLaws.{births-put_all}
-use Rattle.mdr_model.proofs.HoldsLaws.{all_get, filled_put, stored_is, born_is_live}
-use Rattle.mdr_model.proofs.LifeLaws.{born_at-inserted}
+use Rattle.mdr_model.proofs.HoldsLaws.{all_get, filled_put, fits_there, stored_is, born_is_live}
+use Rattle.mdr_model.proofs.PlainCells.{lone, built_leaf}
+use Rattle.mdr_model.proofs.LifeLaws.{born_at-killed as born_at-left, cell_at-killed, some-swept, born_at-inserted, cell_at-inserted, zero_block-get, zero_there}
 use Rattle.mdr_model.proofs.FirstMemory.{first_holds}
 use Rattle.mdr_copy.proofs.Stores.{put_runs_cons, put_runs_none}
 use Rattle.mdr_copy.proofs.EvaluatedLaws.{fits_kind}
@@ -63,7 +67,7 @@ first_is_sound program sound = record {
 -- ---- stores
 
 -- a value that fits its block keeps the memory sound
-pub put_is_sound : (program : Program) (m : Memory) (c : Cell) (v : Wire) → IsSoundMemory program m → ((b : New) → born_at m c.serial ≡ Some b → fits program b.ty v ≡ true)
+pub put_is_sound : (program : Program) (m : Memory) (c : Cell) (v : Wire) → IsSoundMemory program m → ((b : New) → born_at m c.serial ≡ Some b → nat_lt c.index (size_of program b) ≡ true → fits_at program b c.index v ≡ true)
     → IsSoundMemory program (put m c v)
 put_is_sound program m c v h fit = record {
   globals = λ number g e. born_at-births (put m c v) m number (births-put m c v) ∙ h.globals number g e;
@@ -80,7 +84,7 @@ stored_is_sound allowed program m m' (Lvalue.Global g) kind v s fit sound memory
     subst (IsSoundMemory program) (stored_is allowed m m' p v e)
     (subst (λ (w : Wire). IsSoundMemory program (put m (cell_of p) w)) (sym (typed_is_normal (ty.Int kind) m v fit))
     (put_is_sound program m (cell_of p) v memory
-    (λ b q. let same : (global_block g s.global).born ≡ b = Prim.cc in subst (λ (n : New). fits program n.ty v ≡ true) same fits_it)))
+    (λ b q inside. let same : (global_block g s.global).born ≡ b = Prim.cc in fits_there program b (cell_of p).index v sound.types (subst (λ (n : New). fits program n.ty v ≡ true) same fits_it) inside)))
 stored_is_sound allowed program m m' _ kind v s fit sound memory e = elim s [ ]
 
 -- ---- runs of values
@@ -91,9 +95,9 @@ unfolding put_all fits_cell
 put_all_is_sound program m m' [] same all h = h
 put_all_is_sound program m m' (x ∷ xs) same all h =
     put_all_is_sound program m (put m' x.cell x.value) xs (births-put m' x.cell x.value ∙ same) (and_right (fits_cell program m x) (list_all (fits_cell program m) xs) all)
-    (put_is_sound program m' x.cell x.value h (λ b e.
+    (put_is_sound program m' x.cell x.value h (λ b e inside.
     let at : born_at m x.cell.serial ≡ Some b = sym (born_at-births m' m x.cell.serial same) ∙ e in
-    sym (ap (λ (o : Option New). fits_block program o x.value) at) ∙ and_left (fits_cell program m x) (list_all (fits_cell program m) xs) all))
+    sym (ap (λ (o : Option New). fits_block program o x.cell.index x.value) at) ∙ and_left (fits_cell program m x) (list_all (fits_cell program m) xs) all))
 
 -- where there is no fault, neither of two has one
 first_none : (f g : Option Fault) → or_else f g ≡ None → f ≡ None
@@ -156,21 +160,31 @@ unswept o serial (wire.Fn f) e = refl
 unswept o serial (wire.Lock s) e = refl
 unswept o serial wire.NoValue e = refl
 
-cells_unswept : (program : Program) (n serial : ℕ) (vs : List Wire) → AllByRecursion (λ (v : Wire). fits program n v ≡ true) vs → map (swept serial) vs ≡ vs
-unfolding fits
-cells_unswept program n serial [] h = refl
-cells_unswept program n serial (v ∷ vs) h =
-    ap (λ (w : Wire). w ∷ map (swept serial) vs) (unswept (type_at program n) serial v h.0) ∙ ap (λ (ws : List Wire). v ∷ ws) (cells_unswept program n serial vs h.1)
+cell_unswept : (program : Program) (b : New) (index serial : ℕ) (v : Wire) → fits_at program b index v ≡ true → swept serial v ≡ v
+unfolding fits_at
+cell_unswept program b index serial v e = of (leaf_at program b index) e
+  where
+    of : (o : Option Leaf) → fits_leaf o v ≡ true → swept serial v ≡ v
+    of None h = absurd (Prim.cc)
+    of (Some leaf) h = unswept (Some leaf.type) serial v h
 
-block_unswept : (program : Program) (serial : ℕ) (b : MemoryBlock) → IsFilled program b → swept_block serial b ≡ b
-block_unswept program serial b h = ap (λ (vs : List Wire). record b { cells = vs }) (cells_unswept program b.born.ty serial b.cells h.fit)
+killed_filled : (program : Program) (serial : ℕ) (m : Memory) → IsFilled program m → IsFilled program (killed serial m)
+killed_filled program serial m h = record {
+  built = h.built;
+  sized = λ c. grind (arith, h.sized c, cell_at-killed serial m c, some-swept serial (cell_at m c), born_at-left serial m c.serial);
+  fit = λ c b v e q. of c b v (serial == c.serial) (sym (born_at-left serial m c.serial) ∙ e) (sym (cell_at-killed serial m c) ∙ q);
+}
+  where
+    left_one : (c : Cell) (b : New) (v : Wire) (o : Option Wire) → cell_at m c ≡ o → born_at m c.serial ≡ Some b → option_map (swept serial) o ≡ Some v → fits_at program b c.index v ≡ true
+    left_one c b v None is e q = absurd (Prim.cc)
+    left_one c b v (Some w) is e q =
+        let fit : fits_at program b c.index w ≡ true = h.fit c b w e is in
+        let now : swept serial w ≡ v = Prim.cc in
+        subst (λ (x : Wire). fits_at program b c.index x ≡ true) (sym (cell_unswept program b c.index serial w fit) ∙ now) fit
 
-killed_filled : (program : Program) (serial : ℕ) (m : Memory) → AllByRecursion (IsFilled program) m → AllByRecursion (IsFilled program) (killed serial m)
-unfolding killed
-killed_filled program serial [] h = tt
-killed_filled program serial (b ∷ m) h =
-    cond_both (b.born.serial == serial) _ _ (AllByRecursion (IsFilled program)) (λ e. killed_filled program serial m h.1)
-    (λ e. (subst (IsFilled program) (sym (block_unswept program serial b h.0)) h.0, killed_filled program serial m h.1))
+    of : (c : Cell) (b : New) (v : Wire) (t : Bool) → cond t None (born_at m c.serial) ≡ Some b → cond t None (option_map (swept serial) (cell_at m c)) ≡ Some v → fits_at program b c.index v ≡ true
+    of c b v true e q = absurd (Prim.cc)
+    of c b v false e q = left_one c b v (cell_at m c) refl e q
 
 -- other blocks live on
 born_at-killed : (dead serial : ℕ) (m : Memory) → (dead == serial) ≡ false → born_at (killed dead m) serial ≡ born_at m serial
@@ -221,51 +235,49 @@ without_is_sound program deaths m sound h e = without_keeps program m deaths m (
 
 -- ---- births
 
--- what holds of an element holds of a row of it
-all_replicated : {X : Type 0} (P : X → Type 0) (n : ℕ) (x : X) → P x → AllByRecursion P (replicate n x)
-all_replicated P zero x h = tt
-all_replicated P (suc n) x h = (h, all_replicated P n x h)
-
-all_inserted : (P : MemoryBlock → Type 0) (m : Memory) (b : MemoryBlock) → AllByRecursion P m → P b → AllByRecursion P (inserted b m)
-unfolding inserted
-all_inserted P [] b h p = (p, tt)
-all_inserted P (x ∷ m) b h p = of (nat_le b.born.serial x.born.serial) (all_inserted P m b h.1 p)
-  where
-    of : (t : Bool) → AllByRecursion P (inserted b m) → AllByRecursion P (cond t (b ∷ x ∷ m) (x ∷ inserted b m))
-    of true later = (p, (h.0, h.1))
-    of false later = (h.0, later)
-
 -- each type that cells have takes its zero
 abbrev IsZeroed : Ty → Type 0
-IsZeroed t = fits_type t (zero_of_type t) ≡ true
+IsZeroed t = fits_type t (zero_of (lone t)) ≡ true
 
 first_zeroed : AllByRecursion IsZeroed first_types
-unfolding is_in_range
+unfolding is_in_range form.out-Ty denote.Hole.Carrier.out
 first_zeroed = (refl, (refl, (refl, (refl, (refl, (refl, (refl, (refl, (refl, tt)))))))))
 
-zero_fits : (program : Program) (n : ℕ) → IsRunnable program → has_type program n ≡ true → fits program n (zero_maybe (type_at program n)) ≡ true
-unfolding fits
-zero_fits program n sound has =
-    let typed : type_at program n ≡ slice_get first_types n = ap (λ (ts : List Ty). slice_get ts n) sound.types in
-    subst (λ (o : Option Ty). fits_maybe o (zero_maybe o) ≡ true) (sym typed)
-    (of (slice_get first_types n) refl (sym (ap (λ (o : Option Ty). not (is_none o)) typed) ∙ has))
+zero_fits : (program : Program) (n : New) (i : ℕ) (v : Wire) → program.types ≡ first_types → cell_zero program n i ≡ Some v → fits_at program n i v ≡ true
+unfolding cell_zero fits_at
+zero_fits program n i v types e = of (nat_lt i n.count) (type_at program n.ty) refl (built_leaf program n i types)
   where
-    of : (o : Option Ty) → slice_get first_types n ≡ o → not (is_none o) ≡ true → fits_maybe o (zero_maybe o) ≡ true
-    of None e there = absurd (Prim.cc)
-    of (Some t) e there = all_get IsZeroed first_types n t first_zeroed e
+    none : leaf_at program n i ≡ None → fits_leaf (leaf_at program n i) v ≡ true
+    none q = let no_such : None ≡ Some v = sym (ap (option_map zero_of) q) ∙ e in absurd (Prim.cc)
 
-zero_filled : (program : Program) (n : New) → IsRunnable program → has_type program n.ty ≡ true → IsFilled program (zero_block program n)
-zero_filled program n sound has = record {
-  size = length-replicate n.count (zero_maybe (type_at program n.ty));
-  fit = all_replicated (λ (v : Wire). fits program n.ty v ≡ true) n.count (zero_maybe (type_at program n.ty)) (zero_fits program n.ty sound has);
+    of : (t : Bool) (o : Option Ty) → type_at program n.ty ≡ o → leaf_at program n i ≡ cond t (option_map lone o) None → fits_leaf (leaf_at program n i) v ≡ true
+    of false o k q = none q
+    of true None k q = none q
+    of true (Some t) k q =
+        let here : ◌≡◌ {A = Option Wire} (Some (zero_of (lone t))) (Some v) = sym (ap (option_map zero_of) q) ∙ e in
+        let now : zero_of (lone t) ≡ v = Prim.cc in
+        ap (λ (x : Option Leaf). fits_leaf x v) q
+        ∙ subst (λ (w : Wire). fits_type t w ≡ true) now (all_get IsZeroed first_types n.ty t first_zeroed (sym (ap (λ (ts : List Ty). slice_get ts n.ty) types) ∙ k))
+
+new_filled : (program : Program) (n : New) (m : Memory) → IsFilled program m → IsFilled program (inserted (zero_block program n) m)
+new_filled program n m h = record {
+  built = h.built;
+  sized = λ c. grind (arith, h.sized c, cell_at-inserted (zero_block program n) m c, born_at-inserted (zero_block program n) m c.serial, zero_block-get program n c.index, zero_there program n c.index);
+  fit = λ c b v e q. of c b v (n.serial == c.serial) (sym (born_at-inserted (zero_block program n) m c.serial) ∙ e) (sym (cell_at-inserted (zero_block program n) m c) ∙ q);
 }
+  where
+    of : (c : Cell) (b : New) (v : Wire) (t : Bool) → cond t (Some n) (born_at m c.serial) ≡ Some b → cond t (slice_get (zero_block program n).cells c.index) (cell_at m c) ≡ Some v → fits_at program b c.index v ≡ true
+    of c b v true e q =
+        let same : n ≡ b = Prim.cc in
+        subst (λ (x : New). fits_at program x c.index v ≡ true) same (zero_fits program n c.index v h.built (sym (zero_block-get program n c.index) ∙ q))
+    of c b v false e q = h.fit c b v e q
 
 -- the block isn't one of the globals
-new_is_sound : (program : Program) (n : New) (m : Memory) → IsRunnable program → has_type program n.ty ≡ true → ((number : ℕ) (g : GlobalDef) → slice_get program.globals number ≡ Some g → n.serial ≢ number) → IsSoundMemory program m
+new_is_sound : (program : Program) (n : New) (m : Memory) → ((number : ℕ) (g : GlobalDef) → slice_get program.globals number ≡ Some g → n.serial ≢ number) → IsSoundMemory program m
     → IsSoundMemory program (inserted (zero_block program n) m)
-new_is_sound program n m sound has other h = record {
+new_is_sound program n m other h = record {
   globals = λ number g e. born_at-inserted (zero_block program n) m number ∙ cond-false _ _ _ (ne_eqb n.serial number (other number g e)) ∙ h.globals number g e;
-  filled = all_inserted (IsFilled program) m (zero_block program n) h.filled (zero_filled program n sound has);
+  filled = new_filled program n m h.filled;
 }
 
 -- where each new block has a type, and the copy hasn't it
@@ -274,8 +286,8 @@ unfolding with_news
 news_keep program copy [] m sound all first h = h
 news_keep program copy (n ∷ news) m sound all first h =
     let here : may_come program copy n ≡ true = and_left (may_come program copy n) (list_all (may_come program copy) news) all in
-    let new : not (is_live copy n.serial) ≡ true = and_left (not (is_live copy n.serial)) (has_type program n.ty) (and_left _ _ (and_left _ _ here)) in
-    new_is_sound program n (with_news program news m) sound (and_right (not (is_live copy n.serial)) (has_type program n.ty) (and_left _ _ (and_left _ _ here)))
+    let new : not (is_live copy n.serial) ≡ true = and_left (not (is_live copy n.serial)) (has_shape program n) here in
+    new_is_sound program n (with_news program news m)
     (λ number g e same. unlike number g e same new)
     (news_keep program copy news m sound (and_right (may_come program copy n) (list_all (may_come program copy) news) all) first h)
   where

@@ -4,3 +4,4 @@ pub mod Serials
 pub mod Arguments
 pub mod Evaluated
 pub mod InPlaces
+pub mod CellTypes

@@ -2,9 +2,11 @@
 
 ghost use Rattle.std.specs.Prelude.{◌≡◌, None, map};
 ghost use Rattle.std.specs.List.{list_all};
-ghost use Rattle.mdr_model.specs.User.{rise_after, may_die, deaths_fit, has_type, may_come, news_fit, lies_in, may_show, view_fits};
+ghost use Rattle.mdr_model.specs.User.{rise_after, may_die, deaths_fit, has_type, has_shape, may_come, news_fit, is_keyed_in, may_see, may_show, view_fits};
+ghost use Rattle.mdr_model.specs.Sets.{cells_of_run};
 ghost use Rattle.mdr_copy.specs.Serials.{is_after};
 
+use crate::cell_types::has_cell;
 use crate::extents::rise;
 use crate::sets::is_keyed;
 use crate::store::{born_at, is_live};
@@ -71,10 +73,17 @@ fn has_type(program: &Program, ty: u32) -> bool
     program.types.as_slice().get(ty as usize).is_some()
 }
 
+/// Whether a block has a type of the table, and 1 to 65,536 cells.
+fn has_shape(program: &Program, new: New) -> bool
+    ensures { result ≡ has_shape program.now new }
+{
+    has_type(program, new.ty) && has_cell(program, new, 0) && !has_cell(program, new, 65_536)
+}
+
 fn may_come(program: &Program, copy: &[MemoryBlock], new: New) -> bool
     ensures { result ≡ may_come program.now copy.now new }
 {
-    !is_live(copy, new.serial) && has_type(program, new.ty) && 0 < new.count && new.count <= 65_536
+    !is_live(copy, new.serial) && has_shape(program, new)
 }
 
 fn all_may_come(program: &Program, copy: &[MemoryBlock], news: &[New]) -> bool
@@ -91,21 +100,32 @@ pub fn news_fit(program: &Program, copy: &[MemoryBlock], news: &[New]) -> bool
     births_rise(news) && all_may_come(program, copy, news)
 }
 
-fn lies_in(program: &Program, block: Option<New>, run: SetRun) -> bool
-    ensures { result ≡ lies_in program.now block run }
+fn is_keyed_in(program: &Program, block: Option<New>, index: u64) -> bool
+    ensures { result ≡ is_keyed_in program.now block index }
 {
     match block {
-        Some(block) => 0 < run.len
-            && run.first as u64 + run.len as u64 <= block.count as u64
-            && is_keyed(program, block),
+        Some(block) => is_keyed(program, block, index),
         None => false,
     }
+}
+
+/// Whether user code may touch each cell of a run.
+fn all_seen(program: &Program, copy: &[MemoryBlock], run: SetRun) -> bool
+    ensures { result ≡ list_all (may_see program.now copy.now) (cells_of_run run) }
+{
+    let block = born_at(copy, run.serial);
+    for i in 0..run.len {
+        if !is_keyed_in(program, block, run.first as u64 + i as u64) {
+            return false;
+        }
+    }
+    true
 }
 
 fn may_show(program: &Program, copy: &[MemoryBlock], run: SetRun) -> bool
     ensures { result ≡ may_show program.now copy.now run }
 {
-    lies_in(program, born_at(copy, run.serial), run)
+    0 < run.len && all_seen(program, copy, run)
 }
 
 fn all_may_show(program: &Program, copy: &[MemoryBlock], view: &[SetRun]) -> bool
@@ -114,8 +134,8 @@ fn all_may_show(program: &Program, copy: &[MemoryBlock], view: &[SetRun]) -> boo
     view.iter().all(|run| may_show(program, copy, *run))
 }
 
-/// Whether the visible cells of a message fit: the runs rise without overlap, and each lies in a known block
-/// that user code may touch.
+/// Whether the visible cells of a message fit: the runs rise without overlap, and each has cells of a known
+/// block that user code may touch, and no other.
 #[tactic(auto, unfolding(mdr_model::specs::User::view_fits))]
 pub fn view_fits(program: &Program, copy: &[MemoryBlock], view: &[SetRun]) -> bool
     ensures { result ≡ view_fits program.now copy.now view.now }

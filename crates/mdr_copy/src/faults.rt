@@ -4,14 +4,16 @@ ghost use Rattle.std.specs.Prelude.{◌≡◌, Some, None, slice_get, option_map
 ghost use Rattle.std.specs.List.{list_all};
 ghost use Rattle.mdr_model.specs.Sets.{is_in};
 ghost use Rattle.mdr_copy.specs.Extents.{set_run};
+ghost use Rattle.mdr_copy.specs.CellTypes.{all_fit};
 ghost use Rattle.mdr_copy.specs.Arguments.{types_of, fits_param};
 ghost use Rattle.mdr_model.specs.Copies.{numbered};
 ghost use Rattle.mdr_model.specs.Faults.{fault, set_run_of, is_known, is_view, fits_block, fits_cell, run_fault, runs_fault, args_fault};
 
+use crate::cell_types::fits_at;
 use crate::extents::{Extent, extent_of, follows_maybe};
 use crate::sets::is_in_at;
 use crate::store::{born_at, is_live};
-use crate::values::{fits, fits_type, is_view_of};
+use crate::values::{fits_type, is_view_of};
 use mdr_core::{Param, Program, RefuseKind};
 use mdr_model::{Cell, Fault, MemoryBlock, New, Run, Wire};
 
@@ -48,11 +50,11 @@ fn is_view(memory: &[MemoryBlock], value: Wire) -> bool
     }
 }
 
-fn fits_block(program: &Program, block: Option<New>, value: Wire) -> bool
-    ensures { result ≡ fits_block program.now block value }
+fn fits_block(program: &Program, block: Option<New>, index: u64, value: Wire) -> bool
+    ensures { result ≡ fits_block program.now block index value }
 {
     match block {
-        Some(block) => fits(program, block.ty, value),
+        Some(block) => fits_at(program, block, index, value),
         None => false,
     }
 }
@@ -69,10 +71,16 @@ fn are_views(memory: &[MemoryBlock], values: &[Wire]) -> bool
     values.iter().all(|v| is_view(memory, *v))
 }
 
-fn fit_block(program: &Program, block: Option<New>, values: &[Wire]) -> bool
-    ensures { result ≡ list_all (fits_block program.now block) values.now }
+/// Whether values fit the cells of a block that follow one another.
+fn fit_row(program: &Program, block: Option<New>, first: u32, values: &[Wire]) -> bool
+    ensures { result ≡ all_fit program.now block first values.now }
 {
-    values.iter().all(|v| fits_block(program, block, *v))
+    for (i, value) in values.iter().enumerate() {
+        if !fits_block(program, block, first as u64 + i as u64, *value) {
+            return false;
+        }
+    }
+    true
 }
 
 /// Whether the values of a run fit their cells.
@@ -80,8 +88,12 @@ fn fit_block(program: &Program, block: Option<New>, values: &[Wire]) -> bool
 fn fit_cells(program: &Program, memory: &[MemoryBlock], run: &Run) -> bool
     ensures { result ≡ list_all (fits_cell program.now memory.now) (numbered run.now.serial run.now.first run.now.values) }
 {
-    let block = born_at(memory, run.serial);
-    fit_block(program, block, run.values.as_slice())
+    fit_row(
+        program,
+        born_at(memory, run.serial),
+        run.first,
+        run.values.as_slice(),
+    )
 }
 
 fn fault(kind: RefuseKind, number: u64) -> Option<Fault>

@@ -2,6 +2,7 @@
 #![tactic(auto)]
 
 mod access;
+mod cell_types;
 mod changed;
 mod checks;
 mod copies;
@@ -18,6 +19,7 @@ mod told;
 mod values;
 
 pub use access::{loaded, normal, normals, stored};
+pub use cell_types::{cell_type, fits_at};
 pub use changed::changes;
 pub use checks::{deaths_fit, news_fit, view_fits};
 pub use copies::copied;
@@ -30,4 +32,4 @@ pub use sets::{cells_of_runs, is_in, is_keyed, visible};
 pub use statement::number_of;
 pub use store::{born_at, cell_at, held, is_live, put, put_runs};
 pub use told::{Telling, agreed_after, tells};
-pub use values::{fits, fits_result, is_same, wire_of};
+pub use values::{fits_result, is_same, wire_of};

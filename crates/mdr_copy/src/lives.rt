@@ -1,13 +1,14 @@
 // Blocks that die, and blocks that are new.
 
-ghost use Rattle.std.specs.Prelude.{◌≡◌, [], ◌∷◌, ◌++◌, map, replicate, OnOk, IfOk};
-ghost use Rattle.mdr_model.specs.Values.{names_block, zero_of_type, zero_maybe, type_at};
+ghost use Rattle.std.specs.Prelude.{◌≡◌, [], ◌∷◌, ◌++◌, map, OnOk, IfOk};
+ghost use Rattle.mdr_model.specs.Values.{names_block};
 ghost use Rattle.mdr_model.specs.Memory.{swept, swept_block, killed, zero_block};
 ghost use Rattle.mdr_copy.specs.InPlaces.{place_for};
 ghost use Rattle.mdr_model.specs.Copies.{inserted, without, with_news};
 
+use crate::cell_types::cell_zero;
 use crate::store::put_runs;
-use mdr_core::{Items, LockState, OutOfMemory, Program, Ty};
+use mdr_core::{Items, OutOfMemory, Program};
 use mdr_model::{MemoryBlock, New, Run, Wire};
 use std::alloc::Global;
 
@@ -83,32 +84,13 @@ pub(crate) fn without(
     Ok(left)
 }
 
-fn zero_of_type(ty: &Ty) -> Wire
-    ensures { result ≡ zero_of_type ty.now }
-{
-    match ty {
-        Ty::Int(kind) => Wire::Int(*kind, 0),
-        Ty::Lock => Wire::Lock(LockState::Free),
-        Ty::Struct(_) | Ty::Ptr(_) | Ty::VoidPtr | Ty::Fun(_) | Ty::Void => Wire::NoValue,
-    }
-}
-
-/// What a cell of the type with a number holds before anything was stored.
-fn zero(program: &Program, ty: u32) -> Wire
-    ensures { result ≡ zero_maybe (type_at program.now ty) }
-{
-    match program.types.as_slice().get(ty as usize) {
-        Some(found) => zero_of_type(found),
-        None => Wire::NoValue,
-    }
-}
-
-fn copies(alloc: Global, count: u32, value: Wire) -> Result<Items<Wire>, OutOfMemory>
-    ensures { IfOk result (λ c. c ≡ replicate count value) }
+/// The cells of a block as it is born.
+fn zero_cells(alloc: Global, program: &Program, new: New) -> Result<Items<Wire>, OutOfMemory>
+    ensures { IfOk result (λ c. c ≡ (zero_block program.now new).cells) }
 {
     let mut out = Vec::new(alloc);
-    for _ in 0..count {
-        out.push(value)?;
+    while let Some(zero) = cell_zero(program, new, out.as_slice().len() as u64) {
+        out.push(zero)?;
     }
     Ok(Items::from_vec(out))
 }
@@ -118,7 +100,7 @@ fn zero_block(alloc: Global, program: &Program, new: New) -> Result<MemoryBlock,
 {
     Ok(MemoryBlock {
         born: new,
-        cells: copies(alloc, new.count, zero(program, new.ty))?,
+        cells: zero_cells(alloc, program, new)?,
     })
 }
 

@@ -1,8 +1,9 @@
 // Sets of cells, and the cells that an upcall may touch.
 
-ghost use Rattle.std.specs.Prelude.{◌≡◌, ◌++◌, OnOk, IfOk};
-ghost use Rattle.mdr_model.specs.Sets.{is_in, cells_of_run, cells_of_runs, keyed_cells, is_keyed, visible, visible_of};
+ghost use Rattle.std.specs.Prelude.{◌≡◌, ◌++◌, [], ◌∷◌, filter, OnOk, IfOk};
+ghost use Rattle.mdr_model.specs.Sets.{is_in, cells_from, cells_of_run, cells_of_runs, keyed_cells, is_keyed, visible, visible_of};
 
+use crate::cell_types::{is_open, size};
 use mdr_core::{Items, OutOfMemory, Program};
 use mdr_model::{Cell, MemoryBlock, New, SetRun};
 use std::alloc::Global;
@@ -24,28 +25,53 @@ pub fn is_in(cells: &[Cell], cell: Cell) -> bool
     is_in_at(cells, cell.serial, cell.index as usize)
 }
 
-/// Whether user code may touch a block's cells: it is a global, and no lock.
+/// Whether user code may touch a cell of a block: it is one of a global, and no lock.
 #[tactic(auto, unfolding(mdr_model::specs::Sets::is_keyed))]
-pub fn is_keyed(program: &Program, block: New) -> bool
-    ensures { result ≡ is_keyed program.now block }
+pub fn is_keyed(program: &Program, block: New, index: u64) -> bool
+    ensures { result ≡ is_keyed program.now block index }
 {
-    block.serial < program.globals.len() as u64 && !(block.ty == 8)
+    block.serial < program.globals.len() as u64 && is_open(program, block, index)
+}
+
+/// Adds a cell of a block where user code may touch it.
+fn put_open(
+    out: &mut Vec<Cell>,
+    program: &Program,
+    block: New,
+    index: u32,
+) -> Result<(), OutOfMemory>
+    ensures { OnOk result (out.new.items ≡ out.old.items ++ filter (λ c. is_keyed program.now block c.index) (record { serial = block.serial; index = index } ∷ [])) }
+{
+    if is_keyed(program, block, index as u64) {
+        out.push(Cell {
+            serial: block.serial,
+            index,
+        })?;
+    }
+    Ok(())
+}
+
+fn put_some(
+    out: &mut Vec<Cell>,
+    program: &Program,
+    block: New,
+    size: u32,
+) -> Result<(), OutOfMemory>
+    ensures { OnOk result (out.new.items ≡ out.old.items ++ filter (λ c. is_keyed program.now block c.index) (cells_from block.serial 0 size)) }
+{
+    for index in 0..size {
+        put_open(out, program, block, index)?;
+    }
+    Ok(())
 }
 
 fn put_keyed(out: &mut Vec<Cell>, program: &Program, block: New) -> Result<(), OutOfMemory>
     ensures { OnOk result (out.new.items ≡ out.old.items ++ keyed_cells program.now block) }
 {
-    if is_keyed(program, block) {
-        put_run(
-            out,
-            SetRun {
-                serial: block.serial,
-                first: 0,
-                len: block.count,
-            },
-        )?;
+    match size(program, block) {
+        Some(size) => put_some(out, program, block, size),
+        None => Err(OutOfMemory),
     }
-    Ok(())
 }
 
 #[tactic(auto, unfolding(mdr_model::specs::Sets::visible, mdr_model::specs::Sets::visible_of))]
@@ -62,7 +88,7 @@ fn put_visible(
     Ok(())
 }
 
-/// The cells that an upcall may touch: those of all globals that are no locks, rising.
+/// The cells that an upcall may touch: those of all globals but for locks, rising.
 pub fn visible(
     alloc: Global,
     program: &Program,

@@ -1,9 +1,9 @@
 // Values: what they are in messages, and which are the same.
 
 ghost use Rattle.std.specs.Prelude.{◌≡◌};
-ghost use Rattle.mdr_model.specs.Values.{type_number, wire_view, wire_of, lock_number, is_same_view, is_same, fits_type, fits, fits_result, is_view_of};
+ghost use Rattle.mdr_model.specs.Values.{type_number, wire_view, wire_of, lock_number, is_same_view, is_same, fits_type, fits_result, is_view_of};
 
-use mdr_core::{LockState, Program, Ty, Value, View};
+use mdr_core::{LockState, Ty, Value, View};
 use mdr_model::{New, Wire, WireView};
 
 /// The number of a type in the table. Of the others than integers and the lock none is built, and none is in it.
@@ -90,17 +90,6 @@ pub fn fits_type(ty: &Ty, value: Wire) -> bool
         (Ty::Int(kind), Wire::Int(own, n)) => kind.number() == own.number() && kind.contains(n),
         (Ty::Lock, Wire::Lock(_)) => true,
         _ => false,
-    }
-}
-
-/// Whether a value fits a cell of the type with a number of the table.
-#[tactic(auto, unfolding(mdr_model::specs::Values::fits))]
-pub fn fits(program: &Program, ty: u32, value: Wire) -> bool
-    ensures { result ≡ fits program.now ty value }
-{
-    match program.types.as_slice().get(ty as usize) {
-        Some(found) => fits_type(found, value),
-        None => false,
     }
 }
 

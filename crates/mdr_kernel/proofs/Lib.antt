@@ -1,3 +1,4 @@
+mod Commanding
 pub mod Worlds
 pub mod Applied
 pub mod Standing

@@ -50,7 +50,7 @@ then_by script (commanded.Rests p) go = pending_of script p
 -- the blocks are the globals, each is filled, and the clock can go on to the end of the budget
 pub record IsSoundWorld (program : Program) (w : World) : Type 0 where
   pub born : births w.memory ≡ births (first_memory program)
-  pub filled : AllByRecursion (IsFilled program) w.memory
+  pub filled : IsFilled program w.memory
   pub clock : w.ticks + w.rest < 2 ^ 64
 
 -- a command that returned leaves such a world

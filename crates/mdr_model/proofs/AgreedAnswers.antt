@@ -31,7 +31,7 @@ sweeps-normal copy m (Some (wire.Fn f)) h = sweeps_other (died copy m) (Some (wi
 sweeps-normal copy m (Some (wire.Lock l)) h = sweeps_other (died copy m) (Some (wire.Lock l)) (λ s. refl)
 sweeps-normal copy m (Some wire.NoValue) h = sweeps_other (died copy m) (Some wire.NoValue) (λ s. refl)
 
-cell_at-left : (copy m : Memory) (c : Cell) → IsFormed copy → is_live m c.serial ≡ true → cell_at (left_of copy m) c ≡ option_map (normal m) (cell_at copy c)
+cell_at-left : {program : Program} (copy m : Memory) (c : Cell) → IsFormed program copy → is_live m c.serial ≡ true → cell_at (left_of copy m) c ≡ option_map (normal m) (cell_at copy c)
 unfolding left_of
 cell_at-left copy m c f h = grind (arith, cell_at-without (died copy m) copy c, has-died copy m c.serial, sweeps-normal copy m (cell_at copy c) (f.closed c))
 
@@ -40,7 +40,7 @@ unfolding is_in
 nothing_shown values copy m = λ c h. grind arith
 
 -- the block was in the copy, so it isn't told
-cell_at-kept : {known : Serials} {next : ℕ} (program : Program) (values : List Wire) (copy m : Memory) (c : Cell) → IsAgreed known next copy m → is_live copy c.serial ≡ true → is_live m c.serial ≡ true
+cell_at-kept : {known : Serials} {next : ℕ} (program : Program) (values : List Wire) (copy m : Memory) (c : Cell) → IsAgreed program known next copy m → is_live copy c.serial ≡ true → is_live m c.serial ≡ true
     → cell_at (after program [] values copy m) c ≡ option_map (normal m) (cell_at copy c)
 unfolding begun_copy is_told is_in
 cell_at-kept program values copy m c a h k =
@@ -51,15 +51,15 @@ born-zero program None i = refl
 born-zero program (Some n) i = refl
 
 -- the block is told, with zero cells
-cell_at-fresh : {known : Serials} {next : ℕ} (program : Program) (values : List Wire) (copy m : Memory) (c : Cell) → IsAgreed known next copy m → is_live copy c.serial ≡ false → is_live m c.serial ≡ true → is_named values c.serial ≡ true
+cell_at-fresh : {known : Serials} {next : ℕ} (program : Program) (values : List Wire) (copy m : Memory) (c : Cell) → IsAgreed program known next copy m → is_live copy c.serial ≡ false → is_live m c.serial ≡ true → is_named values c.serial ≡ true
     → cell_at (after program [] values copy m) c ≡ born_cell program (born_at m c.serial) c.index
 unfolding begun_copy is_in is_live
 cell_at-fresh program values copy m c a h k named =
     grind (arith, cell_at-after program [] values copy m c a (nothing_shown values copy m), cell_at-news program (told_news [] values copy m) (left_of copy m) c, told_at-told [] values copy m c.serial, live-left copy m c.serial, born-zero program (born_at m c.serial) c.index)
 
 pub answered : {known : Serials} {next next' : ℕ} {view : List Cell} {copy m w u : Memory} (program : Program) (view' : List Cell) (results : List Wire) (w' : Memory)
-    → IsShared known next view copy m w u → MayFollow next w next' w' → KeepsShown program next view view' results w w'
-    → IsShared (learnt known (told_news [] results u w')) next' view' (after program [] results u w') w' w' (after program [] results u w')
+    → IsShared program known next view copy m w u → MayFollow program next w next' w' → KeepsShown program next view view' results w w'
+    → IsShared program (learnt known (told_news [] results u w')) next' view' (after program [] results u w') w' w' (after program [] results u w')
 unfolding is_live
 answered {known} {next} {next'} {view} {copy} {m} {w} {u} program view' results w' r f left =
     let a = follows (replied r) f in
@@ -74,7 +74,7 @@ answered {known} {next} {next'} {view} {copy} {m} {w} {u} program view' results 
     there c live (inl h) = grind (arith, live-after program [] results u w' c.serial, r.placed c h.0, r.user_born c.serial)
     there c live (inr h) = grind (arith, live-after program [] results u w' c.serial, h.1)
 
-    same : (c : Cell) → IsAgreed known next' u w' → is_live w' c.serial ≡ true
+    same : (c : Cell) → IsAgreed program known next' u w' → is_live w' c.serial ≡ true
         → ((is_in view c ≡ true) × (cell_at w' c ≡ option_map (normal w') (cell_at w c))) ⊎ ((next ≤ c.serial) × (is_named results c.serial ≡ true) × (cell_at w' c ≡ born_cell program (born_at w' c.serial) c.index))
         → cell_at (after program [] results u w') c ≡ cell_at w' c
     same c a live (inl h) = grind (arith, cell_at-kept program results u w' c a, r.placed c h.0, r.user_born c.serial, r.user_cells c, h.0, h.1)
@@ -93,7 +93,7 @@ normal_held m (Some (wire.Lock l)) h = refl
 normal_held m (Some wire.NoValue) h = refl
 
 -- a service that changes no memory
-pub left_alone : {known : Serials} {next : ℕ} {view : List Cell} {copy m w u : Memory} (program : Program) (results : List Wire) → IsShared known next view copy m w u → KeepsShown program next view view results w w
+pub left_alone : {known : Serials} {next : ℕ} {view : List Cell} {copy m w u : Memory} (program : Program) (results : List Wire) → IsShared program known next view copy m w u → KeepsShown program next view view results w w
 unfolding is_live
 left_alone {w = w} program results r = record {
   live = λ c h. grind (arith, r.placed c h, r.live c.serial, r.whole_born c.serial);

@@ -1,5 +1,5 @@
 -- M1: what holds after a message of the kernel half, whatever its code has left.
-use Rattle.std.proofs.Common.{◌≡◌, ℕ, Bool, true, false, cond, not, ◌&&◌, ◌||◌, List, [], ◌∷◌, ◌++◌, map, Option, None, refl, sym, ◌∙◌, ap, arith}
+use Rattle.std.proofs.Common.{◌≡◌, ℕ, Bool, true, false, cond, not, ◌&&◌, ◌||◌, List, [], ◌∷◌, ◌++◌, map, is_some, Option, Some, None, refl, sym, ◌∙◌, ap, arith}
 use Rattle.std.specs.List.{list_any}
 use Rattle.std.proofs.lemmas.Bool.{eq-eqb}
 use Rattle.mdr_core.specs.declared.program.Program.{Program}
@@ -9,13 +9,13 @@ use Rattle.mdr_model.specs.Values.{names_block}
 use Rattle.mdr_model.specs.Memory.{Memory, Cell, born_at, is_live, cell_at}
 use Rattle.mdr_model.specs.Sets.{is_in}
 use Rattle.mdr_model.specs.Copies.{held, has_changed, changed_cells, changes, put_runs, died, with_news, is_named, left_of, changed_values, told_news, begun_copy, tells, agreed_after}
-use Rattle.mdr_model.specs.Agreement.{names_it, is_named_in, SerialsRise, IsFormed, MayFollow, Serials, IsAgreed, IsShown, told_at, is_told, DeathsRise, NewsRise, IsAccepted, MayBeTold, learnt, IsShared}
+use Rattle.mdr_model.specs.Agreement.{has_index, names_it, is_named_in, SerialsRise, IsFormed, MayFollow, Serials, IsAgreed, IsShown, told_at, is_told, DeathsRise, NewsRise, IsAccepted, MayBeTold, learnt, IsShared}
 use Rattle.mdr_model.proofs.CopyLaws.{same_cell, is_in-changed, unchanged, cell_at-changes, born_at-put_runs, rises-put_runs}
-use Rattle.mdr_model.proofs.LifeLaws.{has-died, born_at-without, cell_at-without, names-sweeps, some-sweeps, rises-without, born_at-news, zero_names, cell_at-news, rises-news, told_at-news, news-rise, names-held, named_values}
+use Rattle.mdr_model.proofs.LifeLaws.{has-died, born_at-without, cell_at-without, names-sweeps, some-sweeps, rises-without, born_at-news, zero_names, zero_there, cell_at-news, rises-news, told_at-news, news-rise, names-held, named_values}
 
 -- ---- the kernel half works
 
-pub follows : {known : Serials} {next next' : ℕ} {copy m m' : Memory} → IsAgreed known next copy m → MayFollow next m next' m' → IsAgreed known next' copy m'
+pub follows : {program : Program} {known : Serials} {next next' : ℕ} {copy m m' : Memory} → IsAgreed program known next copy m → MayFollow program next m next' m' → IsAgreed program known next' copy m'
 unfolding is_live
 follows a f = record {
   copied = a.copied;
@@ -37,7 +37,7 @@ pub born_at-left : (copy m : Memory) (s : ℕ) → is_live m s ≡ true → born
 unfolding left_of is_live
 born_at-left copy m s h = grind (arith, born_at-without (died copy m) copy s, has-died copy m s)
 
-pub formed-left : (copy m : Memory) → IsFormed copy → IsFormed (left_of copy m)
+pub formed-left : {program : Program} (copy m : Memory) → IsFormed program copy → IsFormed program (left_of copy m)
 unfolding left_of is_live names_it
 formed-left copy m f = record {
   rises = rises-without (died copy m) copy f.rises;
@@ -77,7 +77,7 @@ unfolding is_told is_live
 is_told-told view values copy m s = grind (arith, told_at-told view values copy m s, live-left copy m s)
 
 -- the user half accepts what is told of births and deaths
-pub accepted : {known : Serials} {next : ℕ} (program : Program) (view : List Cell) (values : List Wire) (copy m : Memory) → IsAgreed known next copy m → IsAccepted known (tells program view values copy m) copy
+pub accepted : {known : Serials} {next : ℕ} (program : Program) (view : List Cell) (values : List Wire) (copy m : Memory) → IsAgreed program known next copy m → IsAccepted known (tells program view values copy m) copy
 unfolding tells
 accepted program view values copy m a = record {
   deaths_rise = deaths-rise copy m a.copied.rises;
@@ -97,17 +97,22 @@ unfolding begun_copy is_live
 born_at-begun program view values copy m s born h =
     grind (arith, born_at-news program (told_news view values copy m) (left_of copy m) s, told_at-told view values copy m s, live-left copy m s, born_at-left copy m s)
 
-pub formed-begun : {known : Serials} {next : ℕ} (program : Program) (view : List Cell) (values : List Wire) (copy m : Memory) → IsAgreed known next copy m → IsFormed (begun_copy program view values copy m)
+pub formed-begun : {known : Serials} {next : ℕ} (program : Program) (view : List Cell) (values : List Wire) (copy m : Memory) → IsAgreed program known next copy m → IsFormed program (begun_copy program view values copy m)
 unfolding begun_copy is_live names_it
 formed-begun program view values copy m a =
-    let left : IsFormed (left_of copy m) = formed-left copy m a.copied in
+    let left : IsFormed program (left_of copy m) = formed-left copy m a.copied in
     let news : List New = told_news view values copy m in
     record {
       rises = rises-news program news (left_of copy m) (told-rise view values copy m a.formed.rises) (λ s h. grind (arith, is_told-told view values copy m s, live-left copy m s)) left.rises;
-      sized = λ c. grind (arith, left.sized c, cell_at-news program news (left_of copy m) c, born_at-news program news (left_of copy m) c.serial);
+      sized = λ c. sized_at c (told_at news c.serial) refl;
       closed = λ c s h. closed_at c s (told_at news c.serial) refl h;
     }
   where
+    sized_at : (c : Cell) (o : Option New) → told_at (told_news view values copy m) c.serial ≡ o
+        → is_some (cell_at (with_news program (told_news view values copy m) (left_of copy m)) c) ≡ has_index program (born_at (with_news program (told_news view values copy m) (left_of copy m)) c.serial) c.index
+    sized_at c None e = grind (arith, (formed-left copy m a.copied).sized c, cell_at-news program (told_news view values copy m) (left_of copy m) c, born_at-news program (told_news view values copy m) (left_of copy m) c.serial)
+    sized_at c (Some n) e = grind (arith, cell_at-news program (told_news view values copy m) (left_of copy m) c, born_at-news program (told_news view values copy m) (left_of copy m) c.serial, zero_there program n c.index)
+
     closed_at : (c : Cell) (s : ℕ) (o : Option New) → told_at (told_news view values copy m) c.serial ≡ o
         → names_it s (cell_at (with_news program (told_news view values copy m) (left_of copy m)) c) ≡ true → is_live (with_news program (told_news view values copy m) (left_of copy m)) s ≡ true
     closed_at c s o e h = grind (
@@ -128,11 +133,11 @@ named_still : (left m : Memory) (c : Cell) (s : ℕ) → has_changed left m c �
 named_still left m c s e = sym (names-held left c s) ∙ ap (λ (v : Wire). names_block s v) (unchanged left m c e) ∙ names-held m c s
 
 -- what a cell of the set names is told: no block is missing
-pub view_told : {known : Serials} {next : ℕ} (program : Program) (view : List Cell) (values : List Wire) (copy m : Memory) (c : Cell) (s : ℕ) → IsAgreed known next copy m
+pub view_told : {known : Serials} {next : ℕ} (program : Program) (view : List Cell) (values : List Wire) (copy m : Memory) (c : Cell) (s : ℕ) → IsAgreed program known next copy m
     → is_in view c ≡ true → names_it s (cell_at m c) ≡ true → is_live (begun_copy program view values copy m) s ≡ true
 unfolding is_named_in
 view_told program view values copy m c s a inside named =
-    let left : IsFormed (left_of copy m) = formed-left copy m a.copied in
+    let left : IsFormed program (left_of copy m) = formed-left copy m a.copied in
     grind (
       arith,
       a.formed.closed c s named,
@@ -168,7 +173,7 @@ any_found p (x ∷ xs) e = of (p x) refl (any_found p xs)
     of false h later = let one = later (grind arith) in (one.0, grind (arith, one.1), one.2)
 
 -- each cell of the set lies in a block that both sides have
-pub placed : {known : Serials} {next : ℕ} (program : Program) (view : List Cell) (values : List Wire) (copy m : Memory) (c : Cell) → IsAgreed known next copy m → IsShown view values copy m
+pub placed : {known : Serials} {next : ℕ} (program : Program) (view : List Cell) (values : List Wire) (copy m : Memory) (c : Cell) → IsAgreed program known next copy m → IsShown view values copy m
     → is_in view c ≡ true → is_live (begun_copy program view values copy m) c.serial ≡ true
 unfolding is_named_in
 placed program view values copy m c a shown inside = of (list_any (λ d. names_it c.serial (cell_at m d)) view) refl
@@ -177,7 +182,7 @@ placed program view values copy m c a shown inside = of (list_any (λ d. names_i
     of true h = let d = any_found (λ d. names_it c.serial (cell_at m d)) view h in view_told program view values copy m d.0 c.serial a d.1 d.2
     of false h = grind (arith, shown c inside, live-begun program view values copy m c.serial)
 
-pub cell_at-after : {known : Serials} {next : ℕ} (program : Program) (view : List Cell) (values : List Wire) (copy m : Memory) (c : Cell) → IsAgreed known next copy m → IsShown view values copy m
+pub cell_at-after : {known : Serials} {next : ℕ} (program : Program) (view : List Cell) (values : List Wire) (copy m : Memory) (c : Cell) → IsAgreed program known next copy m → IsShown view values copy m
     → cell_at (after program view values copy m) c ≡ cond (is_in view c) (cell_at m c) (cell_at (begun_copy program view values copy m) c)
 cell_at-after program view values copy m c a shown =
     ap (λ (x : Memory). cell_at x c) (after-is program view values copy m)
@@ -189,21 +194,21 @@ pub live-after : (program : Program) (view : List Cell) (values : List Wire) (co
 unfolding is_live
 live-after program view values copy m s = grind (arith, born_at-after program view values copy m s, live-begun program view values copy m s)
 
-rises-after : {known : Serials} {next : ℕ} (program : Program) (view : List Cell) (values : List Wire) (copy m : Memory) → IsAgreed known next copy m → SerialsRise (after program view values copy m)
+rises-after : {known : Serials} {next : ℕ} (program : Program) (view : List Cell) (values : List Wire) (copy m : Memory) → IsAgreed program known next copy m → SerialsRise (after program view values copy m)
 unfolding agreed_after tells begun_copy left_of
 rises-after program view values copy m a = rises-put_runs (changes view (begun_copy program view values copy m) m) (begun_copy program view values copy m) (formed-begun program view values copy m a).rises
 
-pub formed-after : {known : Serials} {next : ℕ} (program : Program) (view : List Cell) (values : List Wire) (copy m : Memory) → IsAgreed known next copy m → IsShown view values copy m → IsFormed (after program view values copy m)
+pub formed-after : {known : Serials} {next : ℕ} (program : Program) (view : List Cell) (values : List Wire) (copy m : Memory) → IsAgreed program known next copy m → IsShown view values copy m → IsFormed program (after program view values copy m)
 formed-after program view values copy m a shown =
-    let start : IsFormed (begun_copy program view values copy m) = formed-begun program view values copy m a in record {
+    let start : IsFormed program (begun_copy program view values copy m) = formed-begun program view values copy m a in record {
       rises = rises-after program view values copy m a;
       sized = λ c. grind (arith, start.sized c, a.formed.sized c, cell_at-after program view values copy m c a shown, born_at-after program view values copy m c.serial, born_at-begun program view values copy m c.serial (a.born c.serial), placed program view values copy m c a shown);
       closed = λ c s h. grind (arith, start.closed c s, cell_at-after program view values copy m c a shown, live-after program view values copy m s, live-begun program view values copy m s, view_told program view values copy m c s a);
     }
 
 -- after the message both sides agree on what was told
-pub agree-after : {known : Serials} {next : ℕ} (program : Program) (view : List Cell) (values : List Wire) (copy m : Memory) → IsAgreed known next copy m → IsShown view values copy m
-    → IsAgreed (learnt known (told_news view values copy m)) next (after program view values copy m) m
+pub agree-after : {known : Serials} {next : ℕ} (program : Program) (view : List Cell) (values : List Wire) (copy m : Memory) → IsAgreed program known next copy m → IsShown view values copy m
+    → IsAgreed program (learnt known (told_news view values copy m)) next (after program view values copy m) m
 unfolding learnt
 agree-after program view values copy m a shown = record {
   copied = formed-after program view values copy m a shown;
@@ -216,8 +221,8 @@ agree-after program view values copy m a shown = record {
 }
 
 -- a copy that has what the memory has in a set is shared with it
-pub shared_of : {known : Serials} {next : ℕ} (view : List Cell) (copy m : Memory) → IsAgreed known next copy m → ((s : ℕ) → is_live copy s ≡ true → is_live m s ≡ true)
-    → ((c : Cell) → is_in view c ≡ true → is_live copy c.serial ≡ true) → ((c : Cell) → is_in view c ≡ true → cell_at copy c ≡ cell_at m c) → IsShared known next view copy m m copy
+pub shared_of : {program : Program} {known : Serials} {next : ℕ} (view : List Cell) (copy m : Memory) → IsAgreed program known next copy m → ((s : ℕ) → is_live copy s ≡ true → is_live m s ≡ true)
+    → ((c : Cell) → is_in view c ≡ true → is_live copy c.serial ≡ true) → ((c : Cell) → is_in view c ≡ true → cell_at copy c ≡ cell_at m c) → IsShared program known next view copy m m copy
 shared_of view copy m a live there same = record {
   agree = a;
   whole = a.formed;
@@ -231,8 +236,8 @@ shared_of view copy m a live there same = record {
 }
 
 -- M1: after the message the user half may go on, with the cells of the set as they are
-pub message : {known : Serials} {next : ℕ} (program : Program) (view : List Cell) (values : List Wire) (copy m : Memory) → IsAgreed known next copy m → IsShown view values copy m
-    → IsShared (learnt known (told_news view values copy m)) next view (after program view values copy m) m m (after program view values copy m)
+pub message : {known : Serials} {next : ℕ} (program : Program) (view : List Cell) (values : List Wire) (copy m : Memory) → IsAgreed program known next copy m → IsShown view values copy m
+    → IsShared program (learnt known (told_news view values copy m)) next view (after program view values copy m) m m (after program view values copy m)
 message program view values copy m a shown =
     shared_of view (after program view values copy m) m (agree-after program view values copy m a shown)
     (λ s h. grind (arith, live-after program view values copy m s))
@@ -240,7 +245,7 @@ message program view values copy m a shown =
     (λ c h. grind (arith, cell_at-after program view values copy m c a shown))
 
 -- and the user half may accept its cells
-pub tellable : {known : Serials} {next : ℕ} (program : Program) (view : List Cell) (values : List Wire) (copy m : Memory) → IsAgreed known next copy m → IsShown view values copy m
+pub tellable : {known : Serials} {next : ℕ} (program : Program) (view : List Cell) (values : List Wire) (copy m : Memory) → IsAgreed program known next copy m → IsShown view values copy m
     → MayBeTold view (begun_copy program view values copy m) (begun_copy program view values copy m) m (changed_cells view (begun_copy program view values copy m) m)
 tellable program view values copy m a shown =
     let begun : Memory = begun_copy program view values copy m in

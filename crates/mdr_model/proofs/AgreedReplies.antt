@@ -1,6 +1,7 @@
 -- M2: what a reply of the user half tells, and what holds after it.
 use Rattle.std.proofs.Common.{◌≡◌, ℕ, true, List, Some, refl, sym, ◌∙◌, arith}
 use Rattle.std.proofs.lemmas.Bool.{eq-eqb}
+use Rattle.mdr_core.specs.declared.program.Program.{Program}
 use Rattle.mdr_model.specs.declared.wire.Wire.{Wire}
 use Rattle.mdr_model.specs.declared.wire.Wire.TheVariants as wire
 use Rattle.mdr_model.specs.Memory.{Memory, Cell, born_at, is_live, cell_at, put, normal}
@@ -14,19 +15,19 @@ use Rattle.mdr_model.proofs.LifeLaws.{names-normal}
 -- ---- the reply
 
 -- storing the reply gives the whole run's memory
-pub reply_whole : {known : Serials} {next : ℕ} {view : List Cell} {copy m w u : Memory} → IsShared known next view copy m w u → put_runs (changes view copy u) m ≡ w
+pub reply_whole : {program : Program} {known : Serials} {next : ℕ} {view : List Cell} {copy m w u : Memory} → IsShared program known next view copy m w u → put_runs (changes view copy u) m ≡ w
 reply_whole {view = view} {copy} {m} {w} {u} r =
     same_memory _ w (rises-put_runs (changes view copy u) m r.agree.formed.rises) r.whole.rises (λ s. born_at-put_runs (changes view copy u) m s ∙ sym (r.whole_born s))
     (λ c. grind (arith, cell_at-changes view copy u m c (λ h. grind (arith, r.kernel_cells c, r.user.sized c, r.agree.copied.sized c, r.user_born c.serial)) (λ h. grind (arith, r.kernel_cells c)), r.user_cells c, r.kernel_cells c))
 
 -- and the user half's in the copy
-pub reply_user : {known : Serials} {next : ℕ} {view : List Cell} {copy m w u : Memory} → IsShared known next view copy m w u → put_runs (changes view copy u) copy ≡ u
+pub reply_user : {program : Program} {known : Serials} {next : ℕ} {view : List Cell} {copy m w u : Memory} → IsShared program known next view copy m w u → put_runs (changes view copy u) copy ≡ u
 reply_user {view = view} {copy} {m} {w} {u} r =
     same_memory _ u (rises-put_runs (changes view copy u) copy r.agree.copied.rises) r.user.rises (λ s. born_at-put_runs (changes view copy u) copy s ∙ sym (r.user_born s))
     (λ c. grind (arith, cell_at-changes view copy u copy c (λ h. grind (arith, r.user.sized c, r.agree.copied.sized c, r.user_born c.serial)) (λ h. refl), r.user_cells c))
 
 -- so both sides agree on it
-pub replied : {known : Serials} {next : ℕ} {view : List Cell} {copy m w u : Memory} → IsShared known next view copy m w u → IsAgreed known next u w
+pub replied : {program : Program} {known : Serials} {next : ℕ} {view : List Cell} {copy m w u : Memory} → IsShared program known next view copy m w u → IsAgreed program known next u w
 unfolding is_live
 replied r = record {
   copied = r.user;
@@ -39,7 +40,7 @@ replied r = record {
 }
 
 -- the kernel half may accept it
-pub tellable : {known : Serials} {next : ℕ} {view : List Cell} {copy m w u : Memory} → IsShared known next view copy m w u → MayBeTold view copy m u (changed_cells view copy u)
+pub tellable : {program : Program} {known : Serials} {next : ℕ} {view : List Cell} {copy m w u : Memory} → IsShared program known next view copy m w u → MayBeTold view copy m u (changed_cells view copy u)
 unfolding is_live
 tellable {view = view} {copy} {m} {w} {u} r = record {
   inside = λ c h. grind (arith, is_in-changed view copy u c);
@@ -50,19 +51,19 @@ tellable {view = view} {copy} {m} {w} {u} r = record {
 -- ---- loads and stores of user code
 
 -- a known block is the same in both memories, or in neither
-pub alike : {known : Serials} {next : ℕ} {view : List Cell} {copy m w u : Memory} (s : ℕ) → IsShared known next view copy m w u → known s ≡ true → born_at u s ≡ born_at w s
+pub alike : {program : Program} {known : Serials} {next : ℕ} {view : List Cell} {copy m w u : Memory} (s : ℕ) → IsShared program known next view copy m w u → known s ≡ true → born_at u s ≡ born_at w s
 unfolding is_live
 alike s r k = grind (arith, r.user_born s, r.whole_born s, r.agree.born s, r.agree.paired s, r.live s)
 
-pub get : {known : Serials} {next : ℕ} {view : List Cell} {copy m w u : Memory} (c : Cell) → IsShared known next view copy m w u → is_in view c ≡ true → cell_at u c ≡ cell_at w c
+pub get : {program : Program} {known : Serials} {next : ℕ} {view : List Cell} {copy m w u : Memory} (c : Cell) → IsShared program known next view copy m w u → is_in view c ≡ true → cell_at u c ≡ cell_at w c
 get c r h = grind (arith, r.user_cells c)
 
 -- what is loaded is known
-pub get_known : {known : Serials} {next : ℕ} {view : List Cell} {copy m w u : Memory} (c : Cell) (v : Wire) → IsShared known next view copy m w u → cell_at u c ≡ Some v → IsKnown known v
+pub get_known : {program : Program} {known : Serials} {next : ℕ} {view : List Cell} {copy m w u : Memory} (c : Cell) (v : Wire) → IsShared program known next view copy m w u → cell_at u c ≡ Some v → IsKnown known v
 unfolding is_live names_it
 get_known c v r e = λ s h. grind (arith, r.user.closed c s, r.user_born s, r.agree.knows s)
 
-pub formed-put : (m : Memory) (c : Cell) (v : Wire) → IsFormed m → IsFormed (put m c (normal m v))
+pub formed-put : {program : Program} (m : Memory) (c : Cell) (v : Wire) → IsFormed program m → IsFormed program (put m c (normal m v))
 unfolding is_live names_it
 formed-put m c v f = record {
   rises = rises-put m c (normal m v) f.rises;
@@ -71,7 +72,7 @@ formed-put m c v f = record {
 }
 
 -- a known value is stored and sent in the same way
-pub normal-known : {known : Serials} {next : ℕ} {view : List Cell} {copy m w u : Memory} (v : Wire) → IsShared known next view copy m w u → IsKnown known v → normal u v ≡ normal w v
+pub normal-known : {program : Program} {known : Serials} {next : ℕ} {view : List Cell} {copy m w u : Memory} (v : Wire) → IsShared program known next view copy m w u → IsKnown known v → normal u v ≡ normal w v
 unfolding normal is_live
 normal-known (wire.Ptr p) r k = grind (arith, alike p.serial r (k p.serial (eq-eqb p.serial p.serial refl)))
 normal-known (wire.Int kind n) r k = refl
@@ -81,8 +82,8 @@ normal-known (wire.Fn f) r k = refl
 normal-known (wire.Lock s) r k = refl
 normal-known wire.NoValue r k = refl
 
-pub put_keeps : {known : Serials} {next : ℕ} {view : List Cell} {copy m w u : Memory} (c : Cell) (v : Wire) → IsShared known next view copy m w u → is_in view c ≡ true → IsKnown known v
-    → IsShared known next view copy m (put w c (normal w v)) (put u c (normal u v))
+pub put_keeps : {program : Program} {known : Serials} {next : ℕ} {view : List Cell} {copy m w u : Memory} (c : Cell) (v : Wire) → IsShared program known next view copy m w u → is_in view c ≡ true → IsKnown known v
+    → IsShared program known next view copy m (put w c (normal w v)) (put u c (normal u v))
 put_keeps {view = view} {copy} {m} {w} {u} c v r h k = record {
   agree = r.agree;
   whole = formed-put w c v r.whole;

@@ -1,22 +1,21 @@
 -- The storing of a legal reply changes cells that user code may touch, and nothing else.
-use Rattle.std.proofs.Common.{◌≡◌, ℕ, suc, ◌≤◌, Bool, true, false, cond, not, ◌⊎◌, inl, inr, List, [], ◌∷◌, ◌++◌, Some, None, refl, sym, ◌∙◌, subst, arith}
-use Rattle.std.specs.Prelude.{◌==◌}
+use Rattle.std.proofs.Common.{◌≡◌, Bool, true, false, List, [], ◌∷◌, ◌++◌, Option, None, refl, sym, ◌∙◌, ap, subst}
 use Rattle.std.specs.List.{AllByRecursion, list_all}
 use Rattle.mdr_core.specs.declared.program.Program.{Program}
 use Rattle.mdr_model.specs.declared.message.New.{New}
 use Rattle.mdr_model.specs.declared.message.Run.{Run}
 use Rattle.mdr_model.specs.declared.message.Message.{Message}
 use Rattle.mdr_model.specs.declared.message.Message.TheVariants as message
-use Rattle.mdr_model.specs.Memory.{Memory, Cell, births, born_at, cell_at, put}
-use Rattle.mdr_model.specs.Sets.{is_same_cell, is_in, cells_from, is_keyed, visible_of, visible}
+use Rattle.mdr_model.specs.Memory.{Memory, Cell, births, cell_at, put}
+use Rattle.mdr_model.specs.Sets.{is_same_cell, is_in, visible_of, visible}
 use Rattle.mdr_model.specs.Copies.{CellValue, numbered, values_of_runs, put_all, put_runs}
 use Rattle.mdr_model.specs.Kernel.{Kernel, Rest, fault_of, reply_runs_fault}
-use Rattle.mdr_model.specs.Legal.{is_lock, is_lock_block, IsContained, runs_told}
-use Rattle.mdr_model.proofs.Tests.{same_number, other_number, not_both, and_both, and_left, and_right}
+use Rattle.mdr_model.specs.Legal.{is_lock_in, is_lock, IsContained, runs_told}
+use Rattle.mdr_model.proofs.Tests.{not_both, and_both, and_left, and_right}
 use Rattle.mdr_model.proofs.Relations.{globals_of}
 use Rattle.mdr_model.proofs.MemoryLaws.{RisesFrom, cell_at-put_other}
 use Rattle.mdr_model.proofs.CopyLaws.{same_cell, births-put_runs}
-use Rattle.mdr_model.proofs.VisibleLaws.{IsFrom, from_row, is_in-append, above, visible_there}
+use Rattle.mdr_model.proofs.VisibleLaws.{told-births, IsSeen, visible_seen, keyed_unlocked}
 use Rattle.mdr_model.proofs.ViewLaws.{globals_rise}
 use Rattle.mdr_model.proofs.Accepted.{IsFaultless, runs_pass, return_fits, down_fits, ask_fits, stop_fits}
 
@@ -44,39 +43,12 @@ put_all-outside view (x ∷ xs) m c all outside =
 
 -- ---- locks
 
-not_true : (b : Bool) → not b ≡ true → b ≡ false
-not_true true e = absurd (not_both e refl)
-not_true false e = refl
-
--- no visible cell is one of a lock
-visible_unlocked : (program : Program) (n : ℕ) (m : Memory) (c : Cell) → RisesFrom n (births m) → is_in (visible_of program (births m)) c ≡ true → is_lock m c ≡ false
-unfolding visible_of is_lock born_at is_in is_keyed
-visible_unlocked program n [] c rising e = refl
-visible_unlocked program n (b ∷ m) c rising e = of (is_keyed program b.born) refl e (visible_unlocked program (suc b.born.serial) m c rising.1)
-  where
-    rest : is_in (visible_of program (births m)) c ≡ true → (is_in (visible_of program (births m)) c ≡ true → is_lock m c ≡ false) → is_lock_block (cond (b.born.serial == c.serial) (Some b.born) (born_at m c.serial)) ≡ false
-    rest h later =
-        let high : suc b.born.serial ≤ c.serial = above (suc b.born.serial) (births m) c rising.1 (visible_there program (suc b.born.serial) (births m) c rising.1 h) in
-        let other : (b.born.serial == c.serial) ≡ false = other_number _ _ (λ same. absurd (clash b.born.serial c.serial high same)) in
-        rw other (later h)
-      where
-        clash : (s t : ℕ) → suc s ≤ t → s ≡ t → ⊥
-        clash s t h e = omega arith
-
-    here : is_keyed program b.born ≡ true → is_in (cells_from b.born.serial 0 b.born.count) c ≡ true → is_lock_block (cond (b.born.serial == c.serial) (Some b.born) (born_at m c.serial)) ≡ false
-    here keyed h =
-        let r : IsFrom b.born.serial 0 b.born.count c = from_row b.born.serial 0 b.born.count c h in
-        let same : (b.born.serial == c.serial) ≡ true = rw r.block (same_number _) in
-        rw same (not_true (b.born.ty == 8) (and_right _ _ keyed))
-
-    of : (t : Bool) → is_keyed program b.born ≡ t → is_in (cond t (cells_from b.born.serial 0 b.born.count) [] ++ visible_of program (births m)) c ≡ true
-        → (is_in (visible_of program (births m)) c ≡ true → is_lock m c ≡ false) → is_lock_block (cond (b.born.serial == c.serial) (Some b.born) (born_at m c.serial)) ≡ false
-    of true keyed h later = either (is_in-append (cells_from b.born.serial 0 b.born.count) (visible_of program (births m)) c h)
-      where
-        either : (is_in (cells_from b.born.serial 0 b.born.count) c ≡ true) ⊎ (is_in (visible_of program (births m)) c ≡ true) → is_lock_block (cond (b.born.serial == c.serial) (Some b.born) (born_at m c.serial)) ≡ false
-        either (inl x) = here keyed x
-        either (inr x) = rest x later
-    of false keyed h later = rest h later
+-- no visible cell is a lock
+visible_unlocked : (program : Program) (m : Memory) (c : Cell) → RisesFrom 0 (births m) → is_in (visible_of program (births m)) c ≡ true → is_lock program m c ≡ false
+unfolding is_lock
+visible_unlocked program m c rising e =
+    let seen : IsSeen program 0 (births m) c = visible_seen program 0 (births m) c rising e in
+    ap (λ (o : Option New). is_lock_in program o c.index) (sym (told-births m c.serial) ∙ seen.told) ∙ keyed_unlocked program seen.block c.index seen.keyed
 
 -- ---- a legal reply
 
@@ -95,7 +67,7 @@ told_inside program k rest (message.Answer results deaths news) e = refl
 told_inside program k rest (message.Refuse reason) e = refl
 
 pub legal_is_contained : (program : Program) (k : Kernel) (rest : Rest) (a : Message) → births k.world.memory ≡ globals_of program → k.world.view ≡ visible program k.world.memory → fault_of program k rest a ≡ None
-    → IsContained k.world.memory (put_runs (runs_told a) k.world.memory) k.world.view
+    → IsContained program k.world.memory (put_runs (runs_told a) k.world.memory) k.world.view
 unfolding put_runs visible
 legal_is_contained program k rest a born seen e = record {
   blocks = births-put_runs (runs_told a) k.world.memory;
@@ -106,7 +78,7 @@ legal_is_contained program k rest a born seen e = record {
     out : (c : Cell) → is_in k.world.view c ≡ false → cell_at (put_all (values_of_runs (runs_told a)) k.world.memory) c ≡ cell_at k.world.memory c
     out c outside = put_all-outside k.world.view (values_of_runs (runs_told a)) k.world.memory c (told_inside program k rest a e) outside
 
-    unseen : (c : Cell) → is_lock k.world.memory c ≡ true → (t : Bool) → is_in k.world.view c ≡ t → is_in k.world.view c ≡ false
+    unseen : (c : Cell) → is_lock program k.world.memory c ≡ true → (t : Bool) → is_in k.world.view c ≡ t → is_in k.world.view c ≡ false
     unseen c lock true t =
-        absurd (not_both lock (visible_unlocked program 0 k.world.memory c (subst (λ (bs : List New). RisesFrom 0 bs) (sym born) (globals_rise program)) (subst (λ (cs : List Cell). is_in cs c ≡ true) seen t)))
+        absurd (not_both lock (visible_unlocked program k.world.memory c (subst (λ (bs : List New). RisesFrom 0 bs) (sym born) (globals_rise program)) (subst (λ (cs : List Cell). is_in cs c ≡ true) seen t)))
     unseen c lock false t = t

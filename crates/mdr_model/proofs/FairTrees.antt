@@ -123,7 +123,7 @@ fits_kind program k v sound = ap (λ (t : Option Ty). fits_maybe t v) (ap (λ (t
 
 -- ---- globals
 
-among_globals : (n : ℕ) (gs : List GlobalDef) (i : ℕ) (g : GlobalDef) (serial : ℕ) → slice_get gs i ≡ Some g → serial ≡ n + i
+pub among_globals : (n : ℕ) (gs : List GlobalDef) (i : ℕ) (g : GlobalDef) (serial : ℕ) → slice_get gs i ≡ Some g → serial ≡ n + i
     → IsAmong (record { serial = serial; kind = Static; ty = type_number g.ty; count = g.count }) (births (global_blocks n gs))
 among_globals n [] i g serial e at = absurd (Prim.cc)
 among_globals n (x ∷ xs) zero g serial e at =

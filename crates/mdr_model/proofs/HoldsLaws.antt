@@ -1,32 +1,31 @@
 -- Laws of memories: births, cells, values that fit, and what loads and stores leave.
-use Rattle.std.proofs.Common.{◌≡◌, ℕ, zero, suc, ◌≤◌, ◌<◌, inl, inr, Bool, true, false, cond, ◌&&◌, List, [], ◌∷◌, length, ◌==◌, nat_lt, nat_le, is_some, slice_get, slice_set, Option, Some, None, Result, Ok, Err, refl, sym, ap, ◌∙◌, subst, length-set, eqb-true, eq-eqb, ne_eqb, leb-true, arith}
-use Rattle.std.specs.List.{AllByRecursion}
-use Rattle.std.proofs.lemmas.Bool.{cond-true, cond-false, cond_both}
+use Rattle.std.proofs.Common.{◌≡◌, ℕ, zero, suc, ◌≤◌, ◌<◌, inl, inr, Bool, true, false, cond, ◌&&◌, List, [], ◌∷◌, length, ◌==◌, nat_lt, nat_le, is_some, slice_get, Option, Some, None, Result, Ok, Err, refl, sym, ap, ◌∙◌, subst, eqb-true, eq-eqb, ne_eqb, leb-true, arith}
+use Rattle.std.proofs.lemmas.Bool.{cond-true, cond-false}
 use Rattle.mdr_core.specs.declared.stop.StopKind.{StopKind}
 use Rattle.mdr_core.specs.declared.program.Program.{Program}
+use Rattle.mdr_core.specs.declared.types.Ty.{Ty}
+use Rattle.mdr_core.specs.Layout.{Leaf}
+use Rattle.mdr_core.specs.Types.{first_types}
 use Rattle.mdr_core.specs.declared.program.GlobalDef.{GlobalDef}
 use Rattle.mdr_model.specs.declared.wire.Wire.{Wire}
 use Rattle.mdr_model.specs.declared.wire.Wire.TheVariants as wire
 use Rattle.mdr_model.specs.declared.wire.WireView.{WireView}
 use Rattle.mdr_model.specs.declared.message.New.{New}
-use Rattle.mdr_model.specs.Values.{fits, is_view_of}
-use Rattle.mdr_model.specs.Memory.{Memory, Cell, births, born_at, is_live, cell_at, put, normal, first_memory, global_blocks, cell_of, reached, reached_by, loaded, loaded_from, loaded_cell, loaded_value, stored, stored_into}
-use Rattle.mdr_model.proofs.MemoryLaws.{born_at-births, births-put}
+use Rattle.std.specs.Prelude.{option_map}
+use Rattle.mdr_model.specs.Values.{type_at, fits_maybe, fits, is_view_of}
+use Rattle.mdr_model.specs.Memory.{Memory, Cell, leaves_of, size_of, leaf_at, fits_leaf, fits_at, births, born_at, is_live, cell_at, put, normal, first_memory, global_blocks, cell_of, reached, reached_by, loaded, loaded_from, loaded_cell, loaded_value, stored, stored_into}
+use Rattle.mdr_model.specs.Sets.{is_same_cell}
+use Rattle.mdr_model.specs.Agreement.{has_index}
+use Rattle.mdr_model.proofs.Tests.{and_right, not_both}
+use Rattle.mdr_model.proofs.MemoryLaws.{replaced, same_cell, born_at-births, births-put, cell_at-put, born_at-put}
+use Rattle.mdr_model.proofs.LifeLaws.{there}
+pub use Rattle.mdr_model.proofs.PlainCells.{all_get}
+use Rattle.mdr_model.proofs.PlainCells.{lone, built_leaf, built_fits}
 use Rattle.mdr_model.proofs.ValueLaws.{fitting_is_normal}
 use Rattle.mdr_model.proofs.Fair.{IsAmong, IsKnownView, IsKnownPointer, IsValueAt}
 use Rattle.mdr_model.proofs.Relations.{Holds, IsFilled, globals_of}
 
 -- ---- lists
-
-pub all_set : {X : Type 0} (P : X → Type 0) (xs : List X) (i : ℕ) (x : X) → AllByRecursion P xs → P x → AllByRecursion P (slice_set xs i x)
-all_set P [] i x h p = h
-all_set P (y ∷ ys) zero x h p = (p, h.1)
-all_set P (y ∷ ys) (suc i) x h p = (h.0, all_set P ys i x h.1 p)
-
-pub all_get : {X : Type 0} (P : X → Type 0) (xs : List X) (i : ℕ) (x : X) → AllByRecursion P xs → slice_get xs i ≡ Some x → P x
-all_get P [] i x h e = let no_such : None ≡ Some x = e in Prim.cc
-all_get P (y ∷ ys) zero x h e = let same : y ≡ x = Prim.cc in subst P same h.0
-all_get P (y ∷ ys) (suc i) x h e = all_get P ys i x h.1 e
 
 -- an element that is there
 pub record IsThere {X : Type 0} (found : Option X) : Type 0 where
@@ -83,55 +82,67 @@ global_found program b h = (found_from 0 program.globals b h).found
 
 -- ---- cells
 
--- a cell of a live block within its size is there
-pub cell_there : (program : Program) (m : Memory) (c : Cell) (b : New) → AllByRecursion (IsFilled program) m → born_at m c.serial ≡ Some b → c.index < b.count → IsThere (cell_at m c)
-unfolding born_at cell_at
-cell_there program [] c b h e inside = absurd (Prim.cc)
-cell_there program (x ∷ m) c b h e inside = of (x.born.serial == c.serial) e (cell_there program m c b h.1)
-  where
-    of : (t : Bool) → cond t (Some x.born) (born_at m c.serial) ≡ Some b → (born_at m c.serial ≡ Some b → c.index < b.count → IsThere (cell_at m c))
-        → IsThere (cond t (slice_get x.cells c.index) (cell_at m c))
-    of true e later = let same : x.born ≡ b = Prim.cc in let counted : x.born.count ≡ b.count = ap (λ (n : New). n.count) same in
-        get_inside x.cells c.index (omega (arith, h.0.size, counted, inside))
-    of false e later = later e inside
+some_is : (o : Option Wire) → is_some o ≡ true → IsThere o
+some_is None h = absurd (Prim.cc)
+some_is (Some v) h = record { item = v; found_is = refl }
 
-pub cell_filled : (program : Program) (m : Memory) (c : Cell) (v : Wire) (b : New) → AllByRecursion (IsFilled program) m → cell_at m c ≡ Some v → born_at m c.serial ≡ Some b
+-- a cell of a live block within its size is there
+pub cell_there : (program : Program) (m : Memory) (c : Cell) (b : New) → IsFilled program m → born_at m c.serial ≡ Some b → nat_lt c.index (size_of program b) ≡ true → IsThere (cell_at m c)
+cell_there program m c b h e inside = some_is (cell_at m c) (h.sized c ∙ ap (λ (o : Option New). has_index program o c.index) e ∙ inside)
+
+-- and a cell that is there is within it
+pub cell_inside : (program : Program) (m : Memory) (c : Cell) (b : New) (v : Wire) → IsFilled program m → born_at m c.serial ≡ Some b → cell_at m c ≡ Some v → nat_lt c.index (size_of program b) ≡ true
+cell_inside program m c b v h e q = sym (h.sized c ∙ ap (λ (o : Option New). has_index program o c.index) e) ∙ ap (λ (o : Option Wire). is_some o) q
+
+-- what it holds is of the type of its block
+pub cell_filled : (program : Program) (m : Memory) (c : Cell) (v : Wire) (b : New) → IsFilled program m → cell_at m c ≡ Some v → born_at m c.serial ≡ Some b
     → fits program b.ty v ≡ true
-unfolding born_at cell_at
-cell_filled program [] c v b h e q = absurd (Prim.cc)
-cell_filled program (x ∷ m) c v b h e q = of (x.born.serial == c.serial) e q (cell_filled program m c v b h.1)
-  where
-    of : (t : Bool) → cond t (slice_get x.cells c.index) (cell_at m c) ≡ Some v → cond t (Some x.born) (born_at m c.serial) ≡ Some b
-        → (cell_at m c ≡ Some v → born_at m c.serial ≡ Some b → fits program b.ty v ≡ true) → fits program b.ty v ≡ true
-    of true e q later = let same : x.born ≡ b = Prim.cc in
-        subst (λ (n : New). fits program n.ty v ≡ true) same (all_get (λ (w : Wire). fits program x.born.ty w ≡ true) x.cells c.index v h.0.fit e)
-    of false e q later = later e q
+cell_filled program m c v b h e q = and_right (nat_lt c.index b.count) (fits program b.ty v) (sym (built_fits program b c.index v h.built) ∙ h.fit c b v q e)
 
 pub cell_fits : (program : Program) (m : Memory) (c : Cell) (v : Wire) (b : New) → Holds program m → cell_at m c ≡ Some v → born_at m c.serial ≡ Some b → fits program b.ty v ≡ true
 cell_fits program m c v b h e q = cell_filled program m c v b h.filled e q
 
+-- a value of a block's type fits each of its cells
+pub fits_there : (program : Program) (b : New) (i : ℕ) (v : Wire) → program.types ≡ first_types → fits program b.ty v ≡ true → nat_lt i (size_of program b) ≡ true → fits_at program b i v ≡ true
+unfolding fits_at fits
+fits_there program b i v types fit inside = of (nat_lt i b.count) (built_leaf program b i types) (there (leaves_of program b) i ∙ inside)
+  where
+    of : (t : Bool) → leaf_at program b i ≡ cond t (option_map lone (type_at program b.ty)) None → is_some (leaf_at program b i) ≡ true → fits_leaf (leaf_at program b i) v ≡ true
+    of true e h = ap (λ (o : Option Leaf). fits_leaf o v) e ∙ typed (type_at program b.ty) fit
+      where
+        typed : (o : Option Ty) → fits_maybe o v ≡ true → fits_leaf (option_map lone o) v ≡ true
+        typed None h = h
+        typed (Some t) h = h
+    of false e h = absurd (not_both h (ap (λ (o : Option Leaf). is_some o) e))
+
 -- ---- stores
 
-pub filled_put : (program : Program) (m : Memory) (c : Cell) (v : Wire) → AllByRecursion (IsFilled program) m
-    → ((b : New) → born_at m c.serial ≡ Some b → fits program b.ty v ≡ true) → AllByRecursion (IsFilled program) (put m c v)
-unfolding born_at put
-filled_put program [] c v h f = tt
-filled_put program (x ∷ m) c v h f =
-    cond_both (x.born.serial == c.serial) _ _ (AllByRecursion (IsFilled program))
-    (λ e. (
-      record {
-        size = length-set x.cells c.index v ∙ h.0.size;
-        fit = all_set (λ (w : Wire). fits program x.born.ty w ≡ true) x.cells c.index v h.0.fit (f x.born (cond-true _ _ _ e));
-      },
-      h.1,
-    ))
-    (λ e. (h.0, filled_put program m c v h.1 (λ b q. f b (cond-false _ _ _ e ∙ q))))
+-- a value that fits its cell, where that is there, keeps the blocks filled
+pub filled_put : (program : Program) (m : Memory) (c : Cell) (v : Wire) → IsFilled program m
+    → ((b : New) → born_at m c.serial ≡ Some b → nat_lt c.index (size_of program b) ≡ true → fits_at program b c.index v ≡ true) → IsFilled program (put m c v)
+filled_put program m c v h f = record {
+  built = h.built;
+  sized = λ d. grind (arith, h.sized d, cell_at-put m c v d, born_at-put m c v d.serial);
+  fit = λ d b w e q. of d b w (is_same_cell d c) refl (sym (born_at-put m c v d.serial) ∙ e) (sym (cell_at-put m c v d) ∙ q);
+}
+  where
+    stored_one : (d : Cell) (b : New) (w : Wire) (o : Option Wire) → cell_at m d ≡ o → d ≡ c → born_at m d.serial ≡ Some b → replaced o v ≡ Some w → fits_at program b d.index w ≡ true
+    stored_one d b w None is same e q = absurd (Prim.cc)
+    stored_one d b w (Some old) is same e q =
+        let stored : v ≡ w = Prim.cc in
+        subst (λ (x : Wire). fits_at program b d.index x ≡ true) stored
+        (subst (λ (x : Cell). fits_at program b x.index v ≡ true) (sym same)
+        (f b (ap (λ (x : Cell). born_at m x.serial) (sym same) ∙ e) (ap (λ (x : Cell). nat_lt x.index (size_of program b)) (sym same) ∙ cell_inside program m d b old h e is)))
 
--- a value that fits its block keeps the memory
+    of : (d : Cell) (b : New) (w : Wire) (t : Bool) → is_same_cell d c ≡ t → born_at m d.serial ≡ Some b → cond t (replaced (cell_at m d) v) (cell_at m d) ≡ Some w → fits_at program b d.index w ≡ true
+    of d b w true s e q = stored_one d b w (cell_at m d) refl (same_cell d c s) e q
+    of d b w false s e q = h.fit d b w e q
+
+-- a value of its block's type keeps the memory
 pub holds_put : (program : Program) (m : Memory) (c : Cell) (v : Wire) (b : New) → Holds program m → born_at m c.serial ≡ Some b → fits program b.ty v ≡ true → Holds program (put m c v)
 holds_put program m c v b h e f = record {
   born = births-put m c v ∙ h.born;
-  filled = filled_put program m c v h.filled (λ b' e'. let same : b ≡ b' = Prim.cc in subst (λ (n : New). fits program n.ty v ≡ true) same f);
+  filled = filled_put program m c v h.filled (λ b' e' inside. let same : b ≡ b' = Prim.cc in fits_there program b' c.index v h.filled.built (subst (λ (n : New). fits program n.ty v ≡ true) same f) inside);
 }
 
 -- ---- values that fit

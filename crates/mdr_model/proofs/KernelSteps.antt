@@ -8,28 +8,28 @@ use Rattle.mdr_model.specs.Memory.{Memory, Cell, is_live, cell_at, put, killed, 
 use Rattle.mdr_model.specs.Copies.{inserted}
 use Rattle.mdr_model.specs.Agreement.{names_it, IsFormed, IsBelow, MayFollow, StepsMayFollow}
 use Rattle.mdr_model.proofs.MemoryLaws.{born_at-put}
-use Rattle.mdr_model.proofs.LifeLaws.{names-swept, born_at-killed, cell_at-killed, rises-killed, some-swept, born_at-inserted, cell_at-inserted, rises-inserted, zero_names, zero_block-get}
+use Rattle.mdr_model.proofs.LifeLaws.{names-swept, born_at-killed, cell_at-killed, rises-killed, some-swept, born_at-inserted, cell_at-inserted, rises-inserted, zero_names, zero_there, zero_block-get}
 use Rattle.mdr_model.proofs.AgreedReplies.{formed-put}
 
-after_none : (next : ℕ) (m : Memory) → IsFormed m → IsBelow next m → MayFollow next m next m
-after_none next m f low = record { formed = f; later = omega arith; low = low; old = λ s h k. refl }
+after_none : (program : Program) (next : ℕ) (m : Memory) → IsFormed program m → IsBelow next m → MayFollow program next m next m
+after_none program next m f low = record { formed = f; later = omega arith; low = low; old = λ s h k. refl }
 
-after_more : {n n' n'' : ℕ} {m m' m'' : Memory} → MayFollow n m n' m' → MayFollow n' m' n'' m'' → MayFollow n m n'' m''
+after_more : {program : Program} {n n' n'' : ℕ} {m m' m'' : Memory} → MayFollow program n m n' m' → MayFollow program n' m' n'' m'' → MayFollow program n m n'' m''
 unfolding is_live
 after_more f g = record { formed = g.formed; later = omega (arith, f.later, g.later); low = g.low; old = λ s h k. grind (arith, g.old s h, f.old s, f.later) }
 
-after_store : (next : ℕ) (m : Memory) (c : Cell) (v : Wire) → IsFormed m → IsBelow next m → MayFollow next m next (put m c (normal m v))
+after_store : (program : Program) (next : ℕ) (m : Memory) (c : Cell) (v : Wire) → IsFormed program m → IsBelow next m → MayFollow program next m next (put m c (normal m v))
 unfolding is_live
-after_store next m c v f low = record {
+after_store program next m c v f low = record {
   formed = formed-put m c v f;
   later = omega arith;
   low = λ s h. grind (arith, low s, born_at-put m c (normal m v) s);
   old = λ s h k. born_at-put m c (normal m v) s;
 }
 
-after_death : (next : ℕ) (m : Memory) (d : ℕ) → IsFormed m → IsBelow next m → MayFollow next m next (killed d m)
+after_death : (program : Program) (next : ℕ) (m : Memory) (d : ℕ) → IsFormed program m → IsBelow next m → MayFollow program next m next (killed d m)
 unfolding is_live names_it
-after_death next m d f low = record {
+after_death program next m d f low = record {
   formed = record {
     rises = rises-killed d m f.rises;
     sized = λ c. grind (arith, f.sized c, cell_at-killed d m c, some-swept d (cell_at m c), born_at-killed d m c.serial);
@@ -40,13 +40,13 @@ after_death next m d f low = record {
   old = λ s h k. grind (arith, born_at-killed d m s);
 }
 
-after_birth : (program : Program) (m : Memory) (n : New) → IsFormed m → IsBelow n.serial m → MayFollow n.serial m (suc n.serial) (inserted (zero_block program n) m)
+after_birth : (program : Program) (m : Memory) (n : New) → IsFormed program m → IsBelow n.serial m → MayFollow program n.serial m (suc n.serial) (inserted (zero_block program n) m)
 unfolding is_live names_it
 after_birth program m n f low = record {
   formed = record {
     rises = rises-inserted (zero_block program n) m (new (is_live m n.serial) (low n.serial)) f.rises;
-    sized = λ c. grind (arith, f.sized c, cell_at-inserted (zero_block program n) m c, born_at-inserted (zero_block program n) m c.serial, zero_block-get program n c.index);
-    closed = λ c s h. grind (arith, f.closed c s, cell_at-inserted (zero_block program n) m c, born_at-inserted (zero_block program n) m s, zero_block-get program n c.index, zero_names program n s);
+    sized = λ c. grind (arith, f.sized c, cell_at-inserted (zero_block program n) m c, born_at-inserted (zero_block program n) m c.serial, zero_block-get program n c.index, zero_there program n c.index);
+    closed = λ c s h. grind (arith, f.closed c s, cell_at-inserted (zero_block program n) m c, born_at-inserted (zero_block program n) m s, zero_block-get program n c.index, zero_names program n c.index s);
   };
   later = omega arith;
   low = λ s h. grind (arith, low s, born_at-inserted (zero_block program n) m s, eqb-true n.serial s);

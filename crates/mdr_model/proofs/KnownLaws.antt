@@ -11,13 +11,13 @@ use Rattle.mdr_model.specs.declared.wire.Wire.TheVariants as wire
 use Rattle.mdr_model.specs.declared.wire.WireView.{WireView}
 use Rattle.mdr_model.specs.declared.message.New.{New}
 use Rattle.mdr_model.specs.Values.{names_block, fits, type_number}
-use Rattle.mdr_model.specs.Memory.{Memory, Cell, births, born_at, is_live, cell_at, global_block, global_blocks, first_memory}
+use Rattle.mdr_model.specs.Memory.{Memory, Cell, size_of, births, born_at, is_live, cell_at, global_block, global_blocks, first_memory}
 use Rattle.mdr_model.specs.Sets.{is_in, visible}
 use Rattle.mdr_model.specs.World.{World}
 use Rattle.mdr_model.specs.Faults.{is_known}
-use Rattle.mdr_model.specs.Agreement.{names_it, has_index, SerialsRise, IsFormed, MayFollow, told_at, is_told, learnt, IsShown, IsKnown, has_shape, AreBlocks}
+use Rattle.mdr_model.specs.Agreement.{names_it, SerialsRise, IsFormed, MayFollow, is_told, learnt, IsShown, IsKnown, AreBlocks}
 use Rattle.mdr_model.specs.Copies.{is_named, news_of, left_of, changed_values, told_news, begun_copy}
-use Rattle.mdr_model.specs.User.{has_type}
+use Rattle.mdr_model.specs.User.{has_type, has_shape}
 use Rattle.mdr_model.specs.Runnable.{IsRunnableGlobal, IsRunnable}
 use Rattle.mdr_model.proofs.Tests.{not_both}
 use Rattle.mdr_model.proofs.Fair.{Knowledge, IsAmong, Grows, IsKnownView}
@@ -26,8 +26,9 @@ use Rattle.mdr_model.proofs.MemoryLaws.{is_live-births, born_at-births, RisesFro
 use Rattle.mdr_model.proofs.ValueLaws.{fitting_is_known}
 use Rattle.mdr_model.proofs.HoldsLaws.{IsThere, born_is_live, born_serial, global_found, cell_filled}
 use Rattle.mdr_model.proofs.AgreedMessages.{follows, live-begun, born_at-begun}
+use Rattle.mdr_model.proofs.PlainCells.{built_size}
 use Rattle.mdr_model.proofs.FirstMemory.{type_named}
-use Rattle.mdr_model.proofs.VisibleLaws.{there_is, born_of_cell, IsHeld}
+use Rattle.mdr_model.proofs.VisibleLaws.{told-births, born_of_cell, IsHeld}
 use Rattle.mdr_model.proofs.ViewLaws.{globals_rise, shown}
 
 -- ---- what is known
@@ -65,12 +66,6 @@ told-append (x ∷ K) news s = grind (arith, told-append K news s)
 pub learnt_is : (K news : Knowledge) → learnt (serials_of K) news ≡ serials_of (K ++ news)
 unfolding learnt serials_of
 learnt_is K news = λ i s. sym (told-append K news s) i
-
--- a memory's births find its blocks
-pub told-births : (m : Memory) (s : ℕ) → told_at (births m) s ≡ born_at m s
-unfolding born_at
-told-births [] s = refl
-told-births (b ∷ m) s = grind (arith, told-births m s)
 
 pub born_among : (m : Memory) (s : ℕ) (b : New) → born_at m s ≡ Some b → IsAmong b (births m)
 unfolding born_at
@@ -128,17 +123,7 @@ pub serials_rise : (n : ℕ) (m : Memory) → RisesFrom n (births m) → Serials
 serials_rise n [] r = tt
 serials_rise n (b ∷ m) r = (λ s h. rises_from (suc b.born.serial) m r.1 s h, serials_rise (suc b.born.serial) m r.1)
 
-sized_at : (program : Program) (m : Memory) → AllByRecursion (IsFilled program) m → (c : Cell) → is_some (cell_at m c) ≡ has_index (born_at m c.serial) c.index
-unfolding cell_at born_at
-sized_at program [] filled c = refl
-sized_at program (b ∷ m) filled c = of (b.born.serial == c.serial) (sized_at program m filled.1 c)
-  where
-    of : (t : Bool) → is_some (cell_at m c) ≡ has_index (born_at m c.serial) c.index
-        → is_some (cond t (slice_get b.cells c.index) (cell_at m c)) ≡ has_index (cond t (Some b.born) (born_at m c.serial)) c.index
-    of true later = there_is b.cells c.index ∙ ap (λ (n : ℕ). nat_lt c.index n) filled.0.size
-    of false later = later
-
-closed_at : (program : Program) (m : Memory) → AllByRecursion (IsFilled program) m → (c : Cell) (s : ℕ) → names_it s (cell_at m c) ≡ true → is_live m s ≡ true
+closed_at : (program : Program) (m : Memory) → IsFilled program m → (c : Cell) (s : ℕ) → names_it s (cell_at m c) ≡ true → is_live m s ≡ true
 unfolding names_it
 closed_at program m filled c s h = of (cell_at m c) refl h
   where
@@ -148,15 +133,15 @@ closed_at program m filled c s h = of (cell_at m c) refl h
         let there : IsThere (born_at m c.serial) = born_of_cell m c v e in
         absurd (not_both q (fitting_names program there.item.ty v s (cell_filled program m c v there.item filled e there.found_is)))
 
-pub formed_of : (program : Program) (m : Memory) → Holds program m → IsFormed m
+pub formed_of : (program : Program) (m : Memory) → Holds program m → IsFormed program m
 formed_of program m holds = record {
   rises = serials_rise 0 m (subst (λ (bs : List New). RisesFrom 0 bs) (sym holds.born) (globals_rise program));
-  sized = sized_at program m holds.filled;
+  sized = holds.filled.sized;
   closed = closed_at program m holds.filled;
 }
 
 -- what code of the kernel half leaves in a memory that holds
-pub held_follows : (program : Program) (next : ℕ) (m m' : Memory) → Holds program m → Holds program m' → ((s : ℕ) → is_live m s ≡ true → s < next) → MayFollow next m next m'
+pub held_follows : (program : Program) (next : ℕ) (m m' : Memory) → Holds program m → Holds program m' → ((s : ℕ) → is_live m s ≡ true → s < next) → MayFollow program next m next m'
 held_follows program next m m' holds holds' low =
     let same : births m' ≡ births m = holds'.born ∙ sym holds.born in
     record {
@@ -192,7 +177,7 @@ numbered_below n (g ∷ gs) s h = of (n == s) refl h (numbered_below (suc n) gs 
 pub first_agreed : (program : Program) (w : World) → w.memory ≡ first_memory program → Holds program (first_memory program) → Agree program (globals_of program) (first_memory program) w
 unfolding first_memory serials_of is_told is_live
 first_agreed program w e holds =
-    let formed : IsFormed (first_memory program) = formed_of program (first_memory program) holds in
+    let formed : IsFormed program (first_memory program) = formed_of program (first_memory program) holds in
     let below : (s : ℕ) → is_live (first_memory program) s ≡ true → s < length program.globals = λ s h. let low : s < 0 + length program.globals = numbered_below 0 program.globals s h in omega arith in
     let told : (s : ℕ) → is_told (globals_of program) s ≡ is_live (first_memory program) s = λ s. ap (λ (o : Option New). is_some o) (told-births (first_memory program) s) in
     subst (λ (m : Memory). Agree program (globals_of program) (first_memory program) (record w { memory = m })) (sym e) (record {
@@ -262,9 +247,10 @@ shapes_from program n [] sound all = refl
 shapes_from program n (g ∷ gs) sound all =
     let typed : has_type program (type_number g.ty) ≡ true =
     ap (λ (ts : List Ty). not (is_none (slice_get ts (type_number g.ty)))) sound.types ∙ ap (λ (o : Option Ty). not (is_none o)) (type_named g.ty all.0.cell) in
+    let size : size_of program (global_block n g).born ≡ g.count = built_size program (global_block n g).born sound.types typed in
     let some : nat_lt 0 g.count ≡ true = lt-ltb _ _ all.0.some in
     let limited : nat_le g.count 65536 ≡ true = le-leb _ _ all.0.limited in
-    rw (typed, some, limited) (shapes_from program (suc n) gs sound all.1)
+    rw (typed, size, some, limited) (shapes_from program (suc n) gs sound all.1)
 
 numbered_live : (n : ℕ) (gs : List GlobalDef) (s : ℕ) → n ≤ s → s < n + length gs → is_live (global_blocks n gs) s ≡ true
 unfolding is_live born_at

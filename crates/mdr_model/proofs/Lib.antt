@@ -10,6 +10,7 @@ pub mod AgreedAnswers
 pub mod KernelSteps
 pub mod Fair
 pub mod Relations
+pub mod PlainCells
 pub mod HoldsLaws
 pub mod BuiltLaws
 pub mod FairTrees
@@ -37,3 +38,5 @@ pub mod LawProof
 pub mod WorkedCode
 pub mod WorkedProofs
 pub mod WorkedCopyProofs
+pub mod CellKinds
+pub mod MemoryInOrder

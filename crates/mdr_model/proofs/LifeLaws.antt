@@ -1,19 +1,19 @@
 -- Laws of births and deaths: how each block was born, and what each cell holds, when blocks die, are put in their place, and are told.
 use Rattle.std.proofs.Common.{◌≡◌, ℕ, zero, suc, Bool, true, false, cond, not, ◌&&◌, ◌||◌, List, [], ◌∷◌, ◌++◌, map, Option, Some, None, refl, ◌∙◌, ap, arith}
-use Rattle.std.specs.Prelude.{◌==◌, nat_lt, nat_le, is_some, slice_get, replicate, option_map, unwrap_or}
+use Rattle.std.specs.Prelude.{◌==◌, nat_lt, nat_le, is_some, slice_get, length, option_map, unwrap_or}
 use Rattle.std.proofs.lemmas.Bool.{eqb-true, eq-eqb}
-use Rattle.mdr_core.specs.declared.types.Ty.{Ty}
-use Rattle.mdr_core.specs.declared.types.Ty.TheVariants as ty
+use Rattle.mdr_core.specs.declared.types.Ty.{Ty, out-Ty}
+use Rattle.mdr_core.specs.declared.types.Ty.TheOpen.{Ty-F}
+use Rattle.mdr_core.specs.Layout.{Leaf, zero_by}
 use Rattle.mdr_core.specs.declared.program.Program.{Program}
 use Rattle.mdr_model.specs.declared.wire.Wire.{Wire}
 use Rattle.mdr_model.specs.declared.wire.Wire.TheVariants as wire
 use Rattle.mdr_model.specs.declared.wire.WireView.{WireView}
 use Rattle.mdr_model.specs.declared.message.New.{New}
-use Rattle.mdr_model.specs.Values.{names_block, zero_maybe, type_at}
-use Rattle.mdr_model.specs.Memory.{Memory, MemoryBlock, Cell, born_at, is_live, cell_at, swept, swept_block, killed, zero_block, normal, normal_if}
+use Rattle.mdr_model.specs.Values.{names_block, wire_of}
+use Rattle.mdr_model.specs.Memory.{Memory, MemoryBlock, Cell, leaves_of, size_of, leaf_at, born_at, is_live, cell_at, swept, swept_block, killed, zero_of, zero_block, normal, normal_if}
 use Rattle.mdr_model.specs.Copies.{held, died, without, inserted, with_news, is_named, news_of}
-pub use Rattle.mdr_model.specs.Agreement.{zero_of}
-use Rattle.mdr_model.specs.Agreement.{names_it, is_named_in, has, told_at, is_told, NewsRise, SerialsRise}
+use Rattle.mdr_model.specs.Agreement.{cell_zero, names_it, is_named_in, has, told_at, is_told, NewsRise, SerialsRise}
 
 -- ---- one block dies
 
@@ -42,7 +42,7 @@ pub some-swept : (d : ℕ) (o : Option Wire) → is_some (option_map (swept d) o
 some-swept d None = refl
 some-swept d (Some v) = refl
 
-get-map : (f : Wire → Wire) (xs : List Wire) (i : ℕ) → slice_get (map f xs) i ≡ option_map f (slice_get xs i)
+pub get-map : {A B : Type 0} (f : A → B) (xs : List A) (i : ℕ) → slice_get (map f xs) i ≡ option_map f (slice_get xs i)
 get-map f [] i = refl
 get-map f (x ∷ xs) zero = refl
 get-map f (x ∷ xs) (suc i) = get-map f xs i
@@ -164,30 +164,47 @@ unfolding with_news
 born_at-news program [] m s = refl
 born_at-news program (n ∷ news) m s = grind (arith, born_at-news program news m s, born_at-inserted (zero_block program n) (with_news program news m) s)
 
-pub get-replicate : (k : ℕ) (v : Wire) (i : ℕ) → slice_get (replicate k v) i ≡ cond (nat_lt i k) (Some v) None
-get-replicate zero v i = grind arith
-get-replicate (suc k) v zero = grind arith
-get-replicate (suc k) v (suc i) = grind (arith, get-replicate k v i)
+-- a list has the places below its length
+pub there : {A : Type 0} (xs : List A) (i : ℕ) → is_some (slice_get xs i) ≡ nat_lt i (length xs)
+there [] i = grind arith
+there (x ∷ xs) zero = grind arith
+there (x ∷ xs) (suc i) = grind (arith, there xs i)
 
-pub zero_names : (program : Program) (n : New) (s : ℕ) → names_block s (zero_of program n) ≡ false
-unfolding zero_of
-zero_names program n s = of (type_at program n.ty)
+zero_is : (t : Ty-F Ty) (s : ℕ) → names_block s (wire_of (zero_by t)) ≡ false
+zero_is (Ty-F.Int k) s = refl
+zero_is Ty-F.Lock s = refl
+zero_is (Ty-F.Struct n) s = refl
+zero_is (Ty-F.Ptr t) s = refl
+zero_is Ty-F.VoidPtr s = refl
+zero_is (Ty-F.Fun ts) s = refl
+zero_is Ty-F.Void s = refl
+
+-- a zero names no block
+pub zero_names : (program : Program) (n : New) (i s : ℕ) → names_it s (cell_zero program n i) ≡ false
+unfolding names_it cell_zero
+zero_names program n i s = of (leaf_at program n i)
   where
-    of : (t : Option Ty) → names_block s (zero_maybe t) ≡ false
+    of : (o : Option Leaf) → names_it s (option_map zero_of o) ≡ false
     of None = refl
-    of (Some (ty.Int k)) = refl
-    of (Some ty.Lock) = refl
-    of (Some ty.Void) = refl
-    of (Some _) = refl
+    of (Some leaf) = zero_is (out-Ty leaf.type) s
+
+-- each cell has one
+pub zero_there : (program : Program) (n : New) (i : ℕ) → is_some (cell_zero program n i) ≡ nat_lt i (size_of program n)
+unfolding cell_zero
+zero_there program n i = of (leaf_at program n i) ∙ there (leaves_of program n) i
+  where
+    of : (o : Option Leaf) → is_some (option_map zero_of o) ≡ is_some o
+    of None = refl
+    of (Some leaf) = refl
 
 -- what a cell of the copy holds when this block was told, if any
 abbrev pub zero_cell : Program → Option New → ℕ → Option Wire → Option Wire
 zero_cell program None i o = o
-zero_cell program (Some n) i o = cond (nat_lt i n.count) (Some (zero_of program n)) None
+zero_cell program (Some n) i o = cell_zero program n i
 
-pub zero_block-get : (program : Program) (n : New) (i : ℕ) → slice_get (zero_block program n).cells i ≡ cond (nat_lt i n.count) (Some (zero_of program n)) None
-unfolding zero_of
-zero_block-get program n i = get-replicate n.count (zero_maybe (type_at program n.ty)) i
+pub zero_block-get : (program : Program) (n : New) (i : ℕ) → slice_get (zero_block program n).cells i ≡ cell_zero program n i
+unfolding cell_zero
+zero_block-get program n i = get-map zero_of (leaves_of program n) i
 
 pub cell_at-news : (program : Program) (news : List New) (m : Memory) (c : Cell) → cell_at (with_news program news m) c ≡ zero_cell program (told_at news c.serial) c.index (cell_at m c)
 unfolding with_news

@@ -8,8 +8,8 @@ use Rattle.mdr_model.specs.declared.wire.Wire.{Wire}
 use Rattle.mdr_model.specs.declared.message.New.{New}
 use Rattle.mdr_model.specs.Memory.{Memory, Cell, births, is_live}
 use Rattle.mdr_model.specs.Copies.{died, without, is_named, news_of, left_of, changed_values, told_news, tells}
-use Rattle.mdr_model.specs.User.{rise_after, may_die, may_come, lives_fit}
-use Rattle.mdr_model.specs.Agreement.{Serials, IsAgreed, has, is_told, DeathsRise, NewsRise, IsAccepted, has_shape, AreBlocks}
+use Rattle.mdr_model.specs.User.{rise_after, may_die, has_shape, may_come, lives_fit}
+use Rattle.mdr_model.specs.Agreement.{Serials, IsAgreed, has, is_told, DeathsRise, NewsRise, IsAccepted, AreBlocks}
 use Rattle.mdr_model.proofs.LifeLaws.{has-died}
 use Rattle.mdr_model.proofs.AgreedMessages.{accepted}
 
@@ -49,7 +49,7 @@ news_come program left values (b ∷ m) h = of (not (is_live left b.born.serial)
     of true e later = grind (arith, h)
     of false e later = later
 
-pub lives_pass : {known : Serials} {next : ℕ} (program : Program) (view : List Cell) (values : List Wire) (copy m : Memory) → IsAgreed known next copy m → AreBlocks program m
+pub lives_pass : {known : Serials} {next : ℕ} (program : Program) (view : List Cell) (values : List Wire) (copy m : Memory) → IsAgreed program known next copy m → AreBlocks program m
     → lives_fit program copy (tells program view values copy m).deaths (tells program view values copy m).news ≡ true
 unfolding lives_fit tells told_news left_of
 lives_pass program view values copy m a blocks =

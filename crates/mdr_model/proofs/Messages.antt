@@ -57,13 +57,13 @@ knows_more {program} {K} {copy} {w} view values a = record {
 
 -- the relation after a message whose copy is shared
 shared_rel : {program : Program} {K : Knowledge} {copy : Memory} (values : List Wire) (view : List Cell) (w : World) (e next : ℕ) → Agree program K copy w → w.view ≡ visible program w.memory
-    → IsShared (learnt (serials_of K) (told_news view values copy w.memory)) next w.view (after program view values copy w.memory) w.memory w.memory (after program view values copy w.memory)
+    → IsShared program (learnt (serials_of K) (told_news view values copy w.memory)) next w.view (after program view values copy w.memory) w.memory w.memory (after program view values copy w.memory)
     → Rel program (K ++ told_news view values copy w.memory) (record { world = w; agreed = after program view values copy w.memory; exchanges = e }) w (after program view values copy w.memory)
 shared_rel {program} {K} {copy} values view w e next a seen shared =
     let told : List New = told_news view values copy w.memory in
     let both : Memory = after program view values copy w.memory in record {
       next = next;
-      memories = subst (λ (s : ℕ → Bool). IsShared s next w.view both w.memory w.memory both) (learnt_is K told) shared;
+      memories = subst (λ (s : ℕ → Bool). IsShared program s next w.view both w.memory w.memory both) (learnt_is K told) shared;
       knows = knows_more view values a;
       holds = a.holds;
       view = seen;
@@ -129,14 +129,14 @@ unfolding visible
 view_stays {program} {w = w} {w' = w'} r l = l.view ∙ r.view ∙ ap (λ (bs : List New). visible_of program bs) (r.holds.born ∙ sym l.holds.born)
 
 still_shared : {program : Program} {K : Knowledge} {k : Kernel} {w w' : World} {um : Memory} (results : List Wire) (r : Rel program K k w um) → Serviced program w w'
-    → IsShared (learnt (serials_of K) (told_news [] results (put_runs (told_runs k w um) k.agreed) w'.memory)) r.next w'.view
+    → IsShared program (learnt (serials_of K) (told_news [] results (put_runs (told_runs k w um) k.agreed) w'.memory)) r.next w'.view
     (after program [] results (put_runs (told_runs k w um) k.agreed) w'.memory) w'.memory w'.memory (after program [] results (put_runs (told_runs k w um) k.agreed) w'.memory)
 still_shared {program} {K} {k} {w} {w'} {um} results r l =
-    let now : IsShared (learnt (serials_of K) (told_news [] results um w.memory)) r.next w.view (after program [] results um w.memory) w.memory w.memory (after program [] results um w.memory) =
+    let now : IsShared program (learnt (serials_of K) (told_news [] results um w.memory)) r.next w.view (after program [] results um w.memory) w.memory w.memory (after program [] results um w.memory) =
     answered program w.view results w.memory r.memories (held_follows program r.next w.memory w.memory r.holds r.holds (replied r.memories).low) (left_alone program results r.memories) in
-    subst (λ (copy : Memory). IsShared (learnt (serials_of K) (told_news [] results copy w'.memory)) r.next w'.view (after program [] results copy w'.memory) w'.memory w'.memory (after program [] results copy w'.memory)) (sym (reply_user r.memories))
-    (subst (λ (m : Memory). IsShared (learnt (serials_of K) (told_news [] results um m)) r.next w'.view (after program [] results um m) m m (after program [] results um m)) (sym l.memory)
-    (subst (λ (view : List Cell). IsShared (learnt (serials_of K) (told_news [] results um w.memory)) r.next view (after program [] results um w.memory) w.memory w.memory (after program [] results um w.memory)) (sym l.goes_on.view) now))
+    subst (λ (copy : Memory). IsShared program (learnt (serials_of K) (told_news [] results copy w'.memory)) r.next w'.view (after program [] results copy w'.memory) w'.memory w'.memory (after program [] results copy w'.memory)) (sym (reply_user r.memories))
+    (subst (λ (m : Memory). IsShared program (learnt (serials_of K) (told_news [] results um m)) r.next w'.view (after program [] results um m) m m (after program [] results um m)) (sym l.memory)
+    (subst (λ (view : List Cell). IsShared program (learnt (serials_of K) (told_news [] results um w.memory)) r.next view (after program [] results um w.memory) w.memory w.memory (after program [] results um w.memory)) (sym l.goes_on.view) now))
 
 pub answer_is : {program : Program} {K : Knowledge} {k : Kernel} {w w' : World} {um : Memory} (results : List Wire) (e : ℕ) → IsRunnable program → Rel program K k w um → Serviced program w w'
     → Answered program K (put_runs (told_runs k w um) k.agreed) w' e (tells program [] results (put_runs (told_runs k w um) k.agreed) w'.memory)
@@ -144,7 +144,7 @@ unfolding tells changes changed_cells runs_of_cells
 answer_is {program} {K} {k} {w} {w'} {um} results e sound r l =
     let copy : Memory = put_runs (told_runs k w um) k.agreed in
     let a : Agree program K copy w' = onward (agrees r) l.goes_on.holds in
-    let shared : IsShared (learnt (serials_of K) (told_news [] results copy w'.memory)) r.next w'.view (after program [] results copy w'.memory) w'.memory w'.memory (after program [] results copy w'.memory) = still_shared results r l in
+    let shared : IsShared program (learnt (serials_of K) (told_news [] results copy w'.memory)) r.next w'.view (after program [] results copy w'.memory) w'.memory w'.memory (after program [] results copy w'.memory) = still_shared results r l in
     record {
       lives = lives_pass program [] results copy w'.memory a.memories (held_blocks program w'.memory sound l.goes_on.holds);
       no_runs = refl;

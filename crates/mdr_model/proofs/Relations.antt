@@ -1,6 +1,5 @@
 -- How the memories of a whole run and of a split one are related: while the kernel half has control, and while the user half has. The relations of memories alone are those of every memory and set; here stand the values' types and the run's clock beside them.
 use Rattle.std.proofs.Common.{◌≡◌, ℕ, ◌+◌, ◌≤◌, true, List, Some}
-use Rattle.std.specs.List.{AllByRecursion}
 use Rattle.mdr_core.specs.declared.program.Program.{Program}
 use Rattle.mdr_model.specs.declared.message.New.{New}
 pub use Rattle.mdr_model.specs.Holds.{IsFilled}
@@ -15,10 +14,10 @@ use Rattle.mdr_model.proofs.Fair.{Knowledge, IsAmong}
 abbrev pub globals_of : Program → List New
 globals_of program = births (first_memory program)
 
--- a memory holds: its blocks are the globals, and each is filled
+-- a memory holds: its blocks are the globals, and they are filled
 pub record Holds (program : Program) (m : Memory) : Type 0 where
   pub born : births m ≡ globals_of program
-  pub filled : AllByRecursion (IsFilled program) m
+  pub filled : IsFilled program m
 
 -- the serials of known blocks
 unfoldable pub serials_of : Knowledge → Serials
@@ -32,14 +31,14 @@ pub record Knows (program : Program) (K : Knowledge) (m : Memory) : Type 0 where
 -- the kernel half has control: both halves agree on this copy
 pub record Agree (program : Program) (K : Knowledge) (copy : Memory) (w : World) : Type 0 where
   pub next : ℕ
-  pub memories : IsAgreed (serials_of K) next copy w.memory
+  pub memories : IsAgreed program (serials_of K) next copy w.memory
   pub knows : Knows program K w.memory
   pub holds : Holds program w.memory
 
 -- the user half has control: the kernel half waits in state k, the whole run has come to w, and the user half's memory is um
 pub record Rel (program : Program) (K : Knowledge) (k : Kernel) (w : World) (um : Memory) : Type 0 where
   pub next : ℕ
-  pub memories : IsShared (serials_of K) next w.view k.agreed k.world.memory w.memory um
+  pub memories : IsShared program (serials_of K) next w.view k.agreed k.world.memory w.memory um
   pub knows : Knows program K w.memory
   pub holds : Holds program w.memory
   pub view : w.view ≡ visible program w.memory

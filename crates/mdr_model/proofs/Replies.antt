@@ -57,7 +57,7 @@ stores_reply {program} {k = k} {w = w} {um = um} r =
 pub agrees : {program : Program} {K : Knowledge} {k : Kernel} {w : World} {um : Memory} → Rel program K k w um → Agree program K (put_runs (told_runs k w um) k.agreed) w
 agrees {program} {K} {k} {w} {um} r = record {
   next = r.next;
-  memories = subst (λ (copy : Memory). IsAgreed (serials_of K) r.next copy w.memory) (sym (reply_user r.memories)) (replied r.memories);
+  memories = subst (λ (copy : Memory). IsAgreed program (serials_of K) r.next copy w.memory) (sym (reply_user r.memories)) (replied r.memories);
   knows = r.knows;
   holds = r.holds;
 }

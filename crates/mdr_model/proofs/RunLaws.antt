@@ -5,22 +5,21 @@ use Rattle.mdr_core.specs.declared.program.Program.{Program}
 use Rattle.mdr_model.specs.declared.message.New.{New}
 use Rattle.mdr_model.specs.declared.message.SetRun.{SetRun}
 use Rattle.mdr_model.specs.declared.message.Fault.{Fault}
-use Rattle.mdr_model.specs.Values.{fits}
-use Rattle.mdr_model.specs.Memory.{Memory, Cell, born_at}
+use Rattle.mdr_model.specs.Memory.{Memory, Cell, fits_at, born_at}
 use Rattle.mdr_model.specs.Sets.{is_in, cells_from, cells_of_run, cells_of_runs, runs_of_cells, follows, follows_maybe, rises_after}
 use Rattle.mdr_model.specs.Copies.{CellValue, numbered, held, run_from, has_changed, changed_cells, changes}
 use Rattle.mdr_model.specs.Faults.{or_else, run_fault, runs_fault, set_run_of, fits_cell, fits_block, is_known, is_view}
 use Rattle.mdr_model.proofs.Tests.{and_both, and_left, and_right}
 use Rattle.mdr_model.proofs.SetLaws.{IsBefore, IsBeforeAll, Rises, runs_rise, cells_of_runs-runs}
-use Rattle.mdr_model.proofs.ValueLaws.{fitting_is_known, fitting_is_view}
+use Rattle.mdr_model.proofs.ValueLaws.{cell_is_known, cell_is_view}
 use Rattle.mdr_model.proofs.CopyLaws.{with_value, numbered_run, itself}
 
--- a cell of the set, whose value fits its block
+-- a cell of the set, whose value fits it
 pub record IsTellable (program : Program) (view : List Cell) (m now : Memory) (c : Cell) : Type 0 where
   pub inside : is_in view c ≡ true
   pub block : New
   pub born : born_at m c.serial ≡ Some block
-  pub fit : fits program block.ty (held now c) ≡ true
+  pub fit : fits_at program block c.index (held now c) ≡ true
 
 all_pass : {A B : Type 0} (p : B → Bool) (f : A → B) (P : A → Type 0) (xs : List A) → ((x : A) → P x → p (f x) ≡ true) → AllByRecursion P xs → list_all p (map f xs) ≡ true
 all_pass p f P [] each all = refl
@@ -44,7 +43,7 @@ set_run-from now r = let n : length (map (held now) (cells_of_run r)) ≡ r.len 
 
 fits_the_cell : (program : Program) (view : List Cell) (m now : Memory) (c : Cell) → IsTellable program view m now c → fits_cell program m (with_value now c) ≡ true
 unfolding fits_cell
-fits_the_cell program view m now c t = ap (λ (o : Option New). fits_block program o (held now c)) t.born ∙ t.fit
+fits_the_cell program view m now c t = ap (λ (o : Option New). fits_block program o c.index (held now c)) t.born ∙ t.fit
 
 one_run : (program : Program) (view : List Cell) (paired m now : Memory) (before : Option SetRun) (i : ℕ) (r : SetRun) → follows_maybe before r ≡ true → AllByRecursion (IsTellable program view m now) (cells_of_run r)
     → run_fault program view paired m before i (run_from now r) ≡ None
@@ -56,9 +55,9 @@ one_run program view paired m now before i r follows all =
     let inside : list_all (λ (x : CellValue). is_in view x.cell) (numbered r.serial r.first (map (held now) (cells_of_run r))) ≡ true =
     ap (λ (xs : List CellValue). list_all (λ (x : CellValue). is_in view x.cell) xs) cells ∙ all_pass (λ (x : CellValue). is_in view x.cell) (with_value now) P (cells_of_run r) (λ c t. t.inside) all in
     let known : list_all (is_known paired) (map (held now) (cells_of_run r)) ≡ true =
-    all_pass (is_known paired) (held now) P (cells_of_run r) (λ c t. fitting_is_known program t.block.ty paired (held now c) t.fit) all in
+    all_pass (is_known paired) (held now) P (cells_of_run r) (λ c t. cell_is_known program t.block c.index paired (held now c) t.fit) all in
     let views : list_all (is_view m) (map (held now) (cells_of_run r)) ≡ true =
-    all_pass (is_view m) (held now) P (cells_of_run r) (λ c t. fitting_is_view program t.block.ty m (held now c) t.fit) all in
+    all_pass (is_view m) (held now) P (cells_of_run r) (λ c t. cell_is_view program t.block c.index m (held now c) t.fit) all in
     let fit : list_all (fits_cell program m) (numbered r.serial r.first (map (held now) (cells_of_run r))) ≡ true =
     ap (λ (xs : List CellValue). list_all (fits_cell program m) xs) cells ∙ all_pass (fits_cell program m) (with_value now) P (cells_of_run r) (λ c t. fits_the_cell program view m now c t) all in
     rw (order, inside, known, views, fit) refl

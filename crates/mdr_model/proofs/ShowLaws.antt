@@ -1,81 +1,75 @@
--- The visible cells as runs: each global that is no lock, whole. The user half may be shown them.
-use Rattle.std.proofs.Common.{◌≡◌, ℕ, zero, suc, ◌+◌, ◌<◌, Bool, true, false, cond, List, [], ◌∷◌, ◌++◌, Some, refl, ◌∙◌, ap, arith, inl, inr}
-use Rattle.std.specs.Prelude.{◌==◌, nat_lt, nat_le}
+-- The visible cells as runs may be shown to the user half.
+use Rattle.std.proofs.Common.{◌≡◌, ℕ, zero, suc, Bool, true, false, cond, ◌&&◌, List, [], ◌∷◌, ◌++◌, filter, Option, Some, refl, sym, ◌∙◌, ap, arith, inl, inr}
+use Rattle.std.specs.Prelude.{◌==◌, nat_lt}
 use Rattle.std.specs.List.{list_all}
-use Rattle.std.proofs.lemmas.Bool.{lt-ltb, le-leb}
+use Rattle.std.proofs.lemmas.Bool.{lt-ltb}
 use Rattle.mdr_core.specs.declared.program.Program.{Program}
 use Rattle.mdr_model.specs.declared.message.New.{New}
 use Rattle.mdr_model.specs.declared.message.SetRun.{SetRun}
-use Rattle.mdr_model.specs.Memory.{Memory, Cell, births, born_at}
-use Rattle.mdr_model.specs.Sets.{cells_from, joined, runs_of_cells, is_keyed, visible_of, visible}
-use Rattle.mdr_model.specs.User.{may_show}
-use Rattle.mdr_model.proofs.Tests.{same_number, other_number}
-use Rattle.mdr_model.proofs.MemoryLaws.{RisesFrom}
-use Rattle.mdr_model.proofs.SetLaws.{Rises, rising_runs, BeginsAt, StartsAbove, starts_above, visible_of-rises}
-use Rattle.mdr_model.proofs.ViewLaws.{globals_rise}
+use Rattle.mdr_model.specs.Memory.{Memory, Cell, size_of, births, born_at}
+use Rattle.mdr_model.specs.Sets.{cells_from, cells_of_run, begins_behind, joined, runs_of_cells, is_keyed, keyed_cells, visible_of, visible}
+use Rattle.mdr_model.specs.User.{is_keyed_in, may_see, may_show}
+use Rattle.mdr_model.proofs.Tests.{is_same_number, and_both, and_left, and_right}
 use Rattle.mdr_model.proofs.Fair.{IsAmong}
 use Rattle.mdr_model.proofs.Relations.{globals_of}
 
--- a block's cells, as one run if there are any
-abbrev whole_run : New → ℕ → List SetRun
-whole_run block zero = []
-whole_run block (suc n) = record { serial = block.serial; first = 0; len = suc n } ∷ []
+-- each cell of a list passes a test, and each of its runs, which are not empty
+abbrev passing : (Cell → Bool) → SetRun → Bool
+passing p r = nat_lt 0 r.len && list_all p (cells_of_run r)
 
-abbrev whole_runs : Program → List New → List SetRun
-whole_runs program [] = []
-whole_runs program (b ∷ bs) = cond (is_keyed program b) (whole_run b b.count) [] ++ whole_runs program bs
-
--- the first of later runs doesn't join
-alone : (c : Cell) (rs : List SetRun) (cs : List Cell) → BeginsAt rs cs → StartsAbove c.serial cs → joined c rs ≡ record { serial = c.serial; first = c.index; len = 1 } ∷ rs
-alone c [] cs begins above = refl
-alone c (r ∷ rs) [] begins above = elim begins [ ]
-alone c (r ∷ rs) (d ∷ ds) begins above =
-    let other : (r.serial == c.serial) ≡ false = other_number _ _ (λ same. absurd (clash c.serial d.serial r.serial above begins.0 same)) in
-    rw other refl
-  where
-    clash : (s t u : ℕ) → s < t → u ≡ t → u ≡ s → ⊥
-    clash s t u h e f = omega arith
-
-row_is_run : (serial index n : ℕ) (rest : List Cell) → Rises rest → StartsAbove serial rest
-    → runs_of_cells (cells_from serial index (suc n) ++ rest) ≡ record { serial = serial; first = index; len = suc n } ∷ runs_of_cells rest
+runs_pass : (p : Cell → Bool) (cs : List Cell) → list_all p cs ≡ true → list_all (passing p) (runs_of_cells cs) ≡ true
 unfolding runs_of_cells cells_from
-row_is_run serial index zero rest rising above =
-    alone (record { serial = serial; index = index }) (runs_of_cells rest) rest (rising_runs rest rising).begins above
-row_is_run serial index (suc n) rest rising above =
-    ap (λ (rs : List SetRun). joined (record { serial = serial; index = index }) rs) (row_is_run serial (suc index) n rest rising above)
-    ∙ rw (same_number serial, same_number (suc index)) refl
-
-runs_of_visible : (program : Program) (n : ℕ) (bs : List New) → RisesFrom n bs → runs_of_cells (visible_of program bs) ≡ whole_runs program bs
-unfolding visible_of runs_of_cells cells_from
-runs_of_visible program n [] rising = refl
-runs_of_visible program n (b ∷ bs) rising = of (is_keyed program b) b.count (runs_of_visible program (suc b.serial) bs rising.1)
+runs_pass p [] all = refl
+runs_pass p (c ∷ cs) all = of (runs_of_cells cs) (and_left (p c) (list_all p cs) all) (runs_pass p cs (and_right (p c) (list_all p cs) all))
   where
-    of : (t : Bool) (count : ℕ) → runs_of_cells (visible_of program bs) ≡ whole_runs program bs
-        → runs_of_cells (cond t (cells_from b.serial 0 count) [] ++ visible_of program bs) ≡ cond t (whole_run b count) [] ++ whole_runs program bs
-    of false count later = later
-    of true zero later = later
-    of true (suc count) later =
-        row_is_run b.serial 0 count (visible_of program bs) (visible_of-rises program (suc b.serial) bs rising.1) (starts_above program b.serial (suc b.serial) bs (omega arith) rising.1)
-        ∙ ap (λ (rs : List SetRun). record { serial = b.serial; first = 0; len = suc count } ∷ rs) later
+    of : (rs : List SetRun) → p c ≡ true → list_all (passing p) rs ≡ true → list_all (passing p) (joined c rs) ≡ true
+    of [] here later = rw here refl
+    of (r ∷ rs) here later = join (begins_behind c r) refl
+      where
+        first : passing p r ≡ true
+        first = and_left (passing p r) (list_all (passing p) rs) later
 
-each_shows : (program : Program) (copy : Memory) (bs : List New) → ((b : New) → IsAmong b bs → born_at copy b.serial ≡ Some b) → list_all (may_show program copy) (whole_runs program bs) ≡ true
-each_shows program copy [] found = refl
-each_shows program copy (b ∷ bs) found = of (is_keyed program b) refl b.count refl (each_shows program copy bs (λ x h. found x (inr h)))
+        inside : list_all p (cells_of_run r) ≡ true
+        inside = and_right (nat_lt 0 r.len) (list_all p (cells_of_run r)) first
+
+        rest : list_all (passing p) rs ≡ true
+        rest = and_right (passing p r) (list_all (passing p) rs) later
+
+        join : (t : Bool) → begins_behind c r ≡ t
+            → list_all (passing p) (cond t (record { serial = c.serial; first = c.index; len = suc r.len } ∷ rs) (record { serial = c.serial; first = c.index; len = 1 } ∷ r ∷ rs)) ≡ true
+        join true b =
+            let one : r.serial ≡ c.serial = is_same_number _ _ (and_left _ _ b) in
+            let two : r.first ≡ suc c.index = is_same_number _ _ (and_right (r.serial == c.serial) _ b) in
+            let row : list_all p (cells_from c.serial (suc c.index) r.len) ≡ true = ap (λ (s : ℕ). list_all p (cells_from s (suc c.index) r.len)) (sym one) ∙ ap (λ (f : ℕ). list_all p (cells_from r.serial f r.len)) (sym two) ∙ inside in
+            and_both _ _ (and_both _ _ (lt-ltb 0 (suc r.len) (omega arith)) (and_both _ _ here row)) rest
+        join false b = and_both _ _ (and_both _ _ (lt-ltb 0 1 (omega arith)) (and_both _ _ here refl)) later
+
+all_append : (p : Cell → Bool) (xs ys : List Cell) → list_all p xs ≡ true → list_all p ys ≡ true → list_all p (xs ++ ys) ≡ true
+all_append p [] ys h k = k
+all_append p (x ∷ xs) ys h k = and_both _ _ (and_left _ _ h) (all_append p xs ys (and_right (p x) (list_all p xs) h) k)
+
+-- the cells of a block that the copy has as it was born
+row_seen : (program : Program) (copy : Memory) (b : New) (index n : ℕ) → born_at copy b.serial ≡ Some b → list_all (may_see program copy) (filter (λ (c : Cell). is_keyed program b c.index) (cells_from b.serial index n)) ≡ true
+unfolding cells_from
+row_seen program copy b index zero found = refl
+row_seen program copy b index (suc n) found = of (is_keyed program b index) refl (row_seen program copy b (suc index) n found)
   where
-    of : (t : Bool) → is_keyed program b ≡ t → (count : ℕ) → b.count ≡ count → list_all (may_show program copy) (whole_runs program bs) ≡ true
-        → list_all (may_show program copy) (cond t (whole_run b count) [] ++ whole_runs program bs) ≡ true
-    of false t count c later = later
-    of true t zero c later = later
-    of true t (suc n) c later =
-        let here : born_at copy b.serial ≡ Some b = found b (inl refl) in
-        let enough : nat_le (0 + suc n) b.count ≡ true = le-leb _ _ (omega (arith, c)) in
-        let some : nat_lt 0 (suc n) ≡ true = lt-ltb _ _ (omega arith) in
-        rw (here, some, enough, t) later
+    of : (t : Bool) → is_keyed program b index ≡ t → list_all (may_see program copy) (filter (λ (c : Cell). is_keyed program b c.index) (cells_from b.serial (suc index) n)) ≡ true
+        → list_all (may_see program copy)
+        (cond t (record { serial = b.serial; index = index } ∷ filter (λ (c : Cell). is_keyed program b c.index) (cells_from b.serial (suc index) n)) (filter (λ (c : Cell). is_keyed program b c.index) (cells_from b.serial (suc index) n)))
+        ≡ true
+    of true keyed later = and_both _ _ (ap (λ (o : Option New). is_keyed_in program o index) found ∙ keyed) later
+    of false keyed later = later
+
+all_seen : (program : Program) (copy : Memory) (bs : List New) → ((b : New) → IsAmong b bs → born_at copy b.serial ≡ Some b) → list_all (may_see program copy) (visible_of program bs) ≡ true
+unfolding visible_of
+all_seen program copy [] found = refl
+all_seen program copy (b ∷ bs) found =
+    all_append (may_see program copy) (keyed_cells program b) (visible_of program bs) (row_seen program copy b 0 (size_of program b) (found b (inl refl))) (all_seen program copy bs (λ x h. found x (inr h)))
 
 pub view_shows : (program : Program) (copy m : Memory) (view : List Cell) → ((b : New) → IsAmong b (globals_of program) → born_at copy b.serial ≡ Some b) → births m ≡ globals_of program → view ≡ visible program m
     → list_all (may_show program copy) (runs_of_cells view) ≡ true
 unfolding visible
 view_shows program copy m view copied born e =
-    ap (λ (rs : List SetRun). list_all (may_show program copy) rs)
-    (ap (λ (cs : List Cell). runs_of_cells cs) (e ∙ ap (λ (bs : List New). visible_of program bs) born) ∙ runs_of_visible program 0 (globals_of program) (globals_rise program))
-    ∙ each_shows program copy (globals_of program) copied
+    runs_pass (may_see program copy) view
+    (ap (λ (cs : List Cell). list_all (may_see program copy) cs) (e ∙ ap (λ (bs : List New). visible_of program bs) born) ∙ all_seen program copy (globals_of program) copied)

@@ -13,8 +13,10 @@ use Rattle.mdr_core.specs.Kinds.{kind_number, is_same_kind}
 use Rattle.mdr_model.specs.declared.wire.Wire.{Wire}
 use Rattle.mdr_model.specs.declared.wire.Wire.TheVariants as wire
 use Rattle.mdr_model.specs.declared.wire.WireView.{WireView}
+use Rattle.mdr_core.specs.Layout.{Leaf}
+use Rattle.mdr_model.specs.declared.message.New.{New}
 use Rattle.mdr_model.specs.Values.{fits_type, fits_result, fits, fits_maybe, type_at, is_same, is_same_view, lock_number}
-use Rattle.mdr_model.specs.Memory.{Memory, normal}
+use Rattle.mdr_model.specs.Memory.{Memory, leaf_at, fits_leaf, fits_at, normal}
 use Rattle.mdr_model.specs.Faults.{is_known, is_view}
 use Rattle.mdr_model.proofs.Tests.{is_same_number, and_left, and_right}
 
@@ -152,3 +154,21 @@ fits_normal (Some t) m v e = typed_is_normal t m v e
 pub fitting_is_normal : (program : Program) (n : ℕ) (m : Memory) (v : Wire) → fits program n v ≡ true → normal m v ≡ v
 unfolding fits
 fitting_is_normal program n m v e = fits_normal (type_at program n) m v e
+
+-- ---- the same of a value that fits a cell
+
+pub cell_is_known : (program : Program) (b : New) (index : ℕ) (paired : Memory) (v : Wire) → fits_at program b index v ≡ true → is_known paired v ≡ true
+unfolding fits_at
+cell_is_known program b index paired v e = of (leaf_at program b index) e
+  where
+    of : (o : Option Leaf) → fits_leaf o v ≡ true → is_known paired v ≡ true
+    of None h = differ h
+    of (Some leaf) h = fits_known (Some leaf.type) paired v h
+
+pub cell_is_view : (program : Program) (b : New) (index : ℕ) (m : Memory) (v : Wire) → fits_at program b index v ≡ true → is_view m v ≡ true
+unfolding fits_at
+cell_is_view program b index m v e = of (leaf_at program b index) e
+  where
+    of : (o : Option Leaf) → fits_leaf o v ≡ true → is_view m v ≡ true
+    of None h = differ h
+    of (Some leaf) h = fits_view (Some leaf.type) m v h

@@ -1,18 +1,18 @@
 -- What the relation says of the visible cells.
-use Rattle.std.proofs.Common.{◌≡◌, true, List, Option, sym, ◌∙◌, ap, subst}
+use Rattle.std.proofs.Common.{◌≡◌, true, List, Option, Some, sym, ◌∙◌, ap, subst}
 use Rattle.std.specs.Prelude.{unwrap_or}
 use Rattle.mdr_core.specs.declared.program.Program.{Program}
 use Rattle.mdr_model.specs.declared.wire.Wire.{Wire}
 use Rattle.mdr_model.specs.declared.wire.Wire.TheVariants as wire
 use Rattle.mdr_model.specs.declared.message.New.{New}
-use Rattle.mdr_model.specs.Values.{fits}
-use Rattle.mdr_model.specs.Memory.{Memory, Cell, births, born_at, cell_at, first_memory}
+use Rattle.mdr_model.specs.Memory.{Memory, Cell, fits_at, births, born_at, cell_at, first_memory}
 use Rattle.mdr_model.specs.Sets.{is_in, visible_of, visible}
 use Rattle.mdr_model.specs.Copies.{held}
+use Rattle.mdr_model.specs.Agreement.{has_index}
 use Rattle.mdr_model.proofs.Relations.{globals_of, Holds}
 use Rattle.mdr_model.proofs.MemoryLaws.{RisesFrom, global_blocks-rise}
 use Rattle.mdr_model.proofs.SetLaws.{Rises, visible_of-rises}
-use Rattle.mdr_model.proofs.VisibleLaws.{there-births, sized_of, visible_there, IsHeld, held_there}
+use Rattle.mdr_model.proofs.VisibleLaws.{told-births, IsSeen, visible_seen, keyed_inside, IsHeld, held_there}
 use Rattle.mdr_model.proofs.RunLaws.{IsTellable}
 
 pub globals_rise : (program : Program) → RisesFrom 0 (globals_of program)
@@ -28,9 +28,10 @@ view_rises program m view e born =
 pub shown : (program : Program) (m : Memory) (view : List Cell) (c : Cell) → view ≡ visible program m → Holds program m → is_in view c ≡ true → IsHeld program m c
 unfolding visible
 shown program m view c e holds inside =
-    held_there program m c holds
-    (there-births m c (sized_of program m holds.filled)
-    ∙ visible_there program 0 (births m) c (subst (λ (bs : List New). RisesFrom 0 bs) (sym holds.born) (globals_rise program)) (ap (λ (cs : List Cell). is_in cs c) (sym e) ∙ inside))
+    let seen : IsSeen program 0 (births m) c =
+    visible_seen program 0 (births m) c (subst (λ (bs : List New). RisesFrom 0 bs) (sym holds.born) (globals_rise program)) (ap (λ (cs : List Cell). is_in cs c) (sym e) ∙ inside) in
+    let born : born_at m c.serial ≡ Some seen.block = sym (told-births m c.serial) ∙ seen.told in
+    held_there program m c holds (holds.filled.sized c ∙ ap (λ (o : Option New). has_index program o c.index) born ∙ keyed_inside program seen.block c.index seen.keyed)
 
 -- what a memory holds in a visible cell can be told of another that has the cell's block
 pub tellable : (program : Program) (whole m now : Memory) (view : List Cell) (c : Cell) → view ≡ visible program whole → Holds program whole → born_at m c.serial ≡ born_at whole c.serial → is_in view c ≡ true → cell_at now c ≡ cell_at whole c
@@ -42,5 +43,5 @@ tellable program whole m now view c e holds born inside same =
       inside = inside;
       block = h.block;
       born = born ∙ h.born;
-      fit = ap (λ (o : Option Wire). fits program h.block.ty (unwrap_or o wire.NoValue)) (same ∙ h.is) ∙ h.fit;
+      fit = ap (λ (o : Option Wire). fits_at program h.block c.index (unwrap_or o wire.NoValue)) (same ∙ h.is) ∙ h.fit;
     }

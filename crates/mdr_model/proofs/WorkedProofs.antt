@@ -4,6 +4,9 @@ use Rattle.std.specs.Prelude.{codes}
 use Rattle.std.specs.Fmt.{digits}
 use Rattle.mdr_core.specs.declared.program.Program.{Program}
 use Rattle.mdr_core.specs.declared.value.Value.TheVariants as value
+use denote.Hole.Carrier.{out}
+use Rattle.mdr_core.specs.declared.types.Ty as form
+use Rattle.mdr_core.specs.Layout.{repeated, cells, leaves}
 use Rattle.mdr_model.specs.declared.wire.Wire.{Wire}
 use Rattle.mdr_model.specs.declared.wire.Wire.TheVariants as wire
 use Rattle.mdr_model.specs.declared.message.BirthKind.TheVariants.{Static}
@@ -13,7 +16,7 @@ use Rattle.mdr_model.specs.declared.outcome.Happened.{Happened}
 use Rattle.mdr_model.specs.declared.outcome.Happened.TheVariants as happened
 use Rattle.mdr_model.specs.declared.outcome.End.TheVariants as ends
 use Rattle.mdr_model.specs.Kernel.{Kernel, Reading}
-use Rattle.mdr_model.specs.Memory.{Memory}
+use Rattle.mdr_model.specs.Memory.{leaves_of, fits_at, Memory}
 use Rattle.mdr_model.specs.Watched.{Finish, finish}
 use Rattle.mdr_model.specs.User.{Delivered, Runs, done, told}
 use Rattle.mdr_core.specs.declared.plan.Half.TheVariants as half
@@ -68,11 +71,11 @@ abbrev ends_run : Wire → Tree
 ends_run v = Tree.Done v Tree.Idle
 
 bump_opens : (fuel : ℕ) → opens bump (entered bump bump_bodies half.User fuel 1 [] 0 ends_run) ≡ deliver bump fuel (first_user bump) begins
-unfolding numbered values_of_runs put_all put_runs held changed_cells changes died without inserted with_news news_of left_of changed_values told_news begun_copy agreed_after tells args_fault fits_cell run_fault runs_fault is_ask_place is_awaited user_stop fault_of calls comes_back answers split_commands applied taken next first_kernel run_from_pending split_run is_kernel is_user pointer_to born_at is_live cell_at put killed normal first_memory reached loaded stored outcome_of value_shown argument_shown cell_shown arguments_shown cells_shown event_line event_lines end_line object_line object_lines report is_in cells_from cells_of_runs runs_of_cells rises_after is_keyed visible_of visible value_text new_text run_text set_run_text shape_text text view_fits runs_fit lives_fit call_fits back_fits answer_fits opened replied deliver first_user user_after allowance user_reply fits fits_result is_view_of is_same_view is_same walk renewed in_user upcall begin begun returned commands first_world watched served in_kernel kernel_call four eight item opaque listed bit_of of_bits is_in_range fitted_or fitted quotient bitwise operated negated flipped is_right_operand digits
+unfolding numbered values_of_runs put_all put_runs held changed_cells changes died without inserted with_news news_of left_of changed_values told_news begun_copy agreed_after tells args_fault fits_cell run_fault runs_fault is_ask_place is_awaited user_stop fault_of calls comes_back answers split_commands applied taken next first_kernel run_from_pending split_run is_kernel is_user pointer_to born_at is_live cell_at put killed normal first_memory reached loaded stored outcome_of value_shown argument_shown cell_shown arguments_shown cells_shown event_line event_lines end_line object_line object_lines report is_in cells_from cells_of_runs runs_of_cells rises_after is_keyed visible_of visible value_text new_text run_text set_run_text shape_text text view_fits runs_fit lives_fit call_fits back_fits answer_fits opened replied deliver first_user user_after allowance user_reply fits fits_result is_view_of is_same_view is_same walk renewed in_user upcall begin begun returned commands first_world watched served in_kernel kernel_call four eight item opaque listed bit_of of_bits is_in_range fitted_or fitted quotient bitwise operated negated flipped is_right_operand digits leaves_of fits_at repeated cells leaves form.out-Ty denote.Hole.Carrier.out
 bump_opens fuel = ap (opens bump) (λ i. sym bump_user i fuel 1 [] 0 ends_run)
 
 reset_opens : (fuel : ℕ) → opens reset (entered reset reset_bodies half.User fuel 1 [] 0 ends_run) ≡ deliver reset fuel (first_user reset) begins
-unfolding numbered values_of_runs put_all put_runs held changed_cells changes died without inserted with_news news_of left_of changed_values told_news begun_copy agreed_after tells args_fault fits_cell run_fault runs_fault is_ask_place is_awaited user_stop fault_of calls comes_back answers split_commands applied taken next first_kernel run_from_pending split_run is_kernel is_user pointer_to born_at is_live cell_at put killed normal first_memory reached loaded stored outcome_of value_shown argument_shown cell_shown arguments_shown cells_shown event_line event_lines end_line object_line object_lines report is_in cells_from cells_of_runs runs_of_cells rises_after is_keyed visible_of visible value_text new_text run_text set_run_text shape_text text view_fits runs_fit lives_fit call_fits back_fits answer_fits opened replied deliver first_user user_after allowance user_reply fits fits_result is_view_of is_same_view is_same walk renewed in_user upcall begin begun returned commands first_world watched served in_kernel kernel_call four eight item opaque listed bit_of of_bits is_in_range fitted_or fitted quotient bitwise operated negated flipped is_right_operand digits
+unfolding numbered values_of_runs put_all put_runs held changed_cells changes died without inserted with_news news_of left_of changed_values told_news begun_copy agreed_after tells args_fault fits_cell run_fault runs_fault is_ask_place is_awaited user_stop fault_of calls comes_back answers split_commands applied taken next first_kernel run_from_pending split_run is_kernel is_user pointer_to born_at is_live cell_at put killed normal first_memory reached loaded stored outcome_of value_shown argument_shown cell_shown arguments_shown cells_shown event_line event_lines end_line object_line object_lines report is_in cells_from cells_of_runs runs_of_cells rises_after is_keyed visible_of visible value_text new_text run_text set_run_text shape_text text view_fits runs_fit lives_fit call_fits back_fits answer_fits opened replied deliver first_user user_after allowance user_reply fits fits_result is_view_of is_same_view is_same walk renewed in_user upcall begin begun returned commands first_world watched served in_kernel kernel_call four eight item opaque listed bit_of of_bits is_in_range fitted_or fitted quotient bitwise operated negated flipped is_right_operand digits leaves_of fits_at repeated cells leaves form.out-Ty denote.Hole.Carrier.out
 reset_opens fuel = ap (opens reset) (λ i. sym reset_user i fuel 1 [] 0 ends_run)
 
 -- the reply to the last of these messages, which follow on that one
@@ -101,7 +104,7 @@ reset_end = ended 0 4 3 (happened.Call (codes "f") [] ∷ happened.Wrote 0 0 ∷
 -- ---- the examples
 
 bump_runs : watched bump (calling 1) 1000000 ≡ finish ends.Ok bump_end.world
-unfolding numbered values_of_runs put_all put_runs held changed_cells changes died without inserted with_news news_of left_of changed_values told_news begun_copy agreed_after tells args_fault fits_cell run_fault runs_fault is_ask_place is_awaited user_stop fault_of calls comes_back answers split_commands applied taken next first_kernel run_from_pending split_run is_kernel is_user pointer_to born_at is_live cell_at put killed normal first_memory reached loaded stored is_in cells_from cells_of_runs runs_of_cells rises_after is_keyed visible_of visible view_fits runs_fit lives_fit call_fits back_fits answer_fits opened replied deliver first_user user_after allowance user_reply fits fits_result is_view_of is_same_view is_same walk renewed in_user upcall begin begun returned commands first_world watched served in_kernel kernel_call is_in_range fitted_or fitted quotient bitwise operated negated flipped is_right_operand
+unfolding numbered values_of_runs put_all put_runs held changed_cells changes died without inserted with_news news_of left_of changed_values told_news begun_copy agreed_after tells args_fault fits_cell run_fault runs_fault is_ask_place is_awaited user_stop fault_of calls comes_back answers split_commands applied taken next first_kernel run_from_pending split_run is_kernel is_user pointer_to born_at is_live cell_at put killed normal first_memory reached loaded stored is_in cells_from cells_of_runs runs_of_cells rises_after is_keyed visible_of visible view_fits runs_fit lives_fit call_fits back_fits answer_fits opened replied deliver first_user user_after allowance user_reply fits fits_result is_view_of is_same_view is_same walk renewed in_user upcall begin begun returned commands first_world watched served in_kernel kernel_call is_in_range fitted_or fitted quotient bitwise operated negated flipped is_right_operand leaves_of fits_at repeated cells leaves form.out-Ty denote.Hole.Carrier.out
 bump_runs = rw (bump_user, bump_kernel) refl
 
 pub bump_prints : BumpPrints
@@ -109,19 +112,19 @@ unfolding outcome_of value_shown argument_shown cell_shown arguments_shown cells
 bump_prints = ap (λ (f : Finish). report bump (outcome_of f)) bump_runs
 
 pub bump_idles : BumpIdles
-unfolding numbered values_of_runs put_all put_runs held changed_cells changes died without inserted with_news news_of left_of changed_values told_news begun_copy agreed_after tells args_fault fits_cell run_fault runs_fault is_ask_place is_awaited user_stop fault_of calls comes_back answers split_commands applied taken next first_kernel run_from_pending split_run is_kernel is_user pointer_to born_at is_live cell_at put killed normal first_memory reached loaded stored outcome_of value_shown argument_shown cell_shown arguments_shown cells_shown event_line event_lines end_line object_line object_lines report is_in cells_from cells_of_runs runs_of_cells rises_after is_keyed visible_of visible value_text new_text run_text set_run_text shape_text text view_fits runs_fit lives_fit call_fits back_fits answer_fits opened replied deliver first_user user_after allowance user_reply fits fits_result is_view_of is_same_view is_same walk renewed in_user upcall begin begun returned commands first_world watched served in_kernel kernel_call four eight item opaque listed bit_of of_bits is_in_range fitted_or fitted quotient bitwise operated negated flipped is_right_operand digits
+unfolding numbered values_of_runs put_all put_runs held changed_cells changes died without inserted with_news news_of left_of changed_values told_news begun_copy agreed_after tells args_fault fits_cell run_fault runs_fault is_ask_place is_awaited user_stop fault_of calls comes_back answers split_commands applied taken next first_kernel run_from_pending split_run is_kernel is_user pointer_to born_at is_live cell_at put killed normal first_memory reached loaded stored outcome_of value_shown argument_shown cell_shown arguments_shown cells_shown event_line event_lines end_line object_line object_lines report is_in cells_from cells_of_runs runs_of_cells rises_after is_keyed visible_of visible value_text new_text run_text set_run_text shape_text text view_fits runs_fit lives_fit call_fits back_fits answer_fits opened replied deliver first_user user_after allowance user_reply fits fits_result is_view_of is_same_view is_same walk renewed in_user upcall begin begun returned commands first_world watched served in_kernel kernel_call four eight item opaque listed bit_of of_bits is_in_range fitted_or fitted quotient bitwise operated negated flipped is_right_operand digits leaves_of fits_at repeated cells leaves form.out-Ty denote.Hole.Carrier.out
 bump_idles = refl
 
 pub bump_stops : BumpStops
-unfolding numbered values_of_runs put_all put_runs held changed_cells changes died without inserted with_news news_of left_of changed_values told_news begun_copy agreed_after tells args_fault fits_cell run_fault runs_fault is_ask_place is_awaited user_stop fault_of calls comes_back answers split_commands applied taken next first_kernel run_from_pending split_run is_kernel is_user pointer_to born_at is_live cell_at put killed normal first_memory reached loaded stored outcome_of value_shown argument_shown cell_shown arguments_shown cells_shown event_line event_lines end_line object_line object_lines report is_in cells_from cells_of_runs runs_of_cells rises_after is_keyed visible_of visible value_text new_text run_text set_run_text shape_text text view_fits runs_fit lives_fit call_fits back_fits answer_fits opened replied deliver first_user user_after allowance user_reply fits fits_result is_view_of is_same_view is_same walk renewed in_user upcall begin begun returned commands first_world watched served in_kernel kernel_call four eight item opaque listed bit_of of_bits is_in_range fitted_or fitted quotient bitwise operated negated flipped is_right_operand digits
+unfolding numbered values_of_runs put_all put_runs held changed_cells changes died without inserted with_news news_of left_of changed_values told_news begun_copy agreed_after tells args_fault fits_cell run_fault runs_fault is_ask_place is_awaited user_stop fault_of calls comes_back answers split_commands applied taken next first_kernel run_from_pending split_run is_kernel is_user pointer_to born_at is_live cell_at put killed normal first_memory reached loaded stored outcome_of value_shown argument_shown cell_shown arguments_shown cells_shown event_line event_lines end_line object_line object_lines report is_in cells_from cells_of_runs runs_of_cells rises_after is_keyed visible_of visible value_text new_text run_text set_run_text shape_text text view_fits runs_fit lives_fit call_fits back_fits answer_fits opened replied deliver first_user user_after allowance user_reply fits fits_result is_view_of is_same_view is_same walk renewed in_user upcall begin begun returned commands first_world watched served in_kernel kernel_call four eight item opaque listed bit_of of_bits is_in_range fitted_or fitted quotient bitwise operated negated flipped is_right_operand digits leaves_of fits_at repeated cells leaves form.out-Ty denote.Hole.Carrier.out
 bump_stops = rw (bump_user, bump_kernel) refl
 
 pub add_one_prints : AddOnePrints
-unfolding numbered values_of_runs put_all put_runs held changed_cells changes died without inserted with_news news_of left_of changed_values told_news begun_copy agreed_after tells args_fault fits_cell run_fault runs_fault is_ask_place is_awaited user_stop fault_of calls comes_back answers split_commands applied taken next first_kernel run_from_pending split_run is_kernel is_user pointer_to born_at is_live cell_at put killed normal first_memory reached loaded stored outcome_of value_shown argument_shown cell_shown arguments_shown cells_shown event_line event_lines end_line object_line object_lines report is_in cells_from cells_of_runs runs_of_cells rises_after is_keyed visible_of visible value_text new_text run_text set_run_text shape_text text view_fits runs_fit lives_fit call_fits back_fits answer_fits opened replied deliver first_user user_after allowance user_reply fits fits_result is_view_of is_same_view is_same walk renewed in_user upcall begin begun returned commands first_world watched served in_kernel kernel_call four eight item opaque listed bit_of of_bits is_in_range fitted_or fitted quotient bitwise operated negated flipped is_right_operand digits
+unfolding numbered values_of_runs put_all put_runs held changed_cells changes died without inserted with_news news_of left_of changed_values told_news begun_copy agreed_after tells args_fault fits_cell run_fault runs_fault is_ask_place is_awaited user_stop fault_of calls comes_back answers split_commands applied taken next first_kernel run_from_pending split_run is_kernel is_user pointer_to born_at is_live cell_at put killed normal first_memory reached loaded stored outcome_of value_shown argument_shown cell_shown arguments_shown cells_shown event_line event_lines end_line object_line object_lines report is_in cells_from cells_of_runs runs_of_cells rises_after is_keyed visible_of visible value_text new_text run_text set_run_text shape_text text view_fits runs_fit lives_fit call_fits back_fits answer_fits opened replied deliver first_user user_after allowance user_reply fits fits_result is_view_of is_same_view is_same walk renewed in_user upcall begin begun returned commands first_world watched served in_kernel kernel_call four eight item opaque listed bit_of of_bits is_in_range fitted_or fitted quotient bitwise operated negated flipped is_right_operand digits leaves_of fits_at repeated cells leaves form.out-Ty denote.Hole.Carrier.out
 add_one_prints = rw (is_entered add_one add_one_bodies add_one_code half.User) refl
 
 pub bump_sends : BumpSends
-unfolding numbered values_of_runs put_all put_runs held changed_cells changes died without inserted with_news news_of left_of changed_values told_news begun_copy agreed_after tells args_fault fits_cell run_fault runs_fault is_ask_place is_awaited user_stop fault_of calls comes_back answers split_commands applied taken next first_kernel run_from_pending split_run is_kernel is_user pointer_to born_at is_live cell_at put killed normal first_memory reached loaded stored is_in cells_from cells_of_runs runs_of_cells rises_after is_keyed visible_of visible view_fits runs_fit lives_fit call_fits back_fits answer_fits opened replied deliver first_user user_after allowance user_reply fits fits_result is_view_of is_same_view is_same walk renewed in_user upcall begin begun returned commands first_world watched served in_kernel kernel_call is_in_range fitted_or fitted quotient bitwise operated negated flipped is_right_operand
+unfolding numbered values_of_runs put_all put_runs held changed_cells changes died without inserted with_news news_of left_of changed_values told_news begun_copy agreed_after tells args_fault fits_cell run_fault runs_fault is_ask_place is_awaited user_stop fault_of calls comes_back answers split_commands applied taken next first_kernel run_from_pending split_run is_kernel is_user pointer_to born_at is_live cell_at put killed normal first_memory reached loaded stored is_in cells_from cells_of_runs runs_of_cells rises_after is_keyed visible_of visible view_fits runs_fit lives_fit call_fits back_fits answer_fits opened replied deliver first_user user_after allowance user_reply fits fits_result is_view_of is_same_view is_same walk renewed in_user upcall begin begun returned commands first_world watched served in_kernel kernel_call is_in_range fitted_or fitted quotient bitwise operated negated flipped is_right_operand leaves_of fits_at repeated cells leaves form.out-Ty denote.Hole.Carrier.out
 bump_sends = record {
   sent = rw (bump_place 1, bump_stub, bump_kernel, bump_place 2, bump_place 3, bump_stub, bump_kernel) refl;
   honest = (
@@ -145,7 +148,7 @@ unfolding four eight item opaque listed value_text new_text run_text set_run_tex
 bump_spells = record { sent = refl; answers = refl }
 
 reset_runs : watched reset (calling 1) 1000000 ≡ finish ends.Ok reset_end.world
-unfolding numbered values_of_runs put_all put_runs held changed_cells changes died without inserted with_news news_of left_of changed_values told_news begun_copy agreed_after tells args_fault fits_cell run_fault runs_fault is_ask_place is_awaited user_stop fault_of calls comes_back answers split_commands applied taken next first_kernel run_from_pending split_run is_kernel is_user pointer_to born_at is_live cell_at put killed normal first_memory reached loaded stored is_in cells_from cells_of_runs runs_of_cells rises_after is_keyed visible_of visible view_fits runs_fit lives_fit call_fits back_fits answer_fits opened replied deliver first_user user_after allowance user_reply fits fits_result is_view_of is_same_view is_same walk renewed in_user upcall begin begun returned commands first_world watched served in_kernel kernel_call is_in_range fitted_or fitted quotient bitwise operated negated flipped is_right_operand
+unfolding numbered values_of_runs put_all put_runs held changed_cells changes died without inserted with_news news_of left_of changed_values told_news begun_copy agreed_after tells args_fault fits_cell run_fault runs_fault is_ask_place is_awaited user_stop fault_of calls comes_back answers split_commands applied taken next first_kernel run_from_pending split_run is_kernel is_user pointer_to born_at is_live cell_at put killed normal first_memory reached loaded stored is_in cells_from cells_of_runs runs_of_cells rises_after is_keyed visible_of visible view_fits runs_fit lives_fit call_fits back_fits answer_fits opened replied deliver first_user user_after allowance user_reply fits fits_result is_view_of is_same_view is_same walk renewed in_user upcall begin begun returned commands first_world watched served in_kernel kernel_call is_in_range fitted_or fitted quotient bitwise operated negated flipped is_right_operand leaves_of fits_at repeated cells leaves form.out-Ty denote.Hole.Carrier.out
 reset_runs = rw (reset_user, reset_kernel) refl
 
 pub reset_prints : ResetPrints
@@ -153,7 +156,7 @@ unfolding outcome_of value_shown argument_shown cell_shown arguments_shown cells
 reset_prints = ap (λ (f : Finish). report reset (outcome_of f)) reset_runs
 
 pub reset_sends : ResetSends
-unfolding numbered values_of_runs put_all put_runs held changed_cells changes died without inserted with_news news_of left_of changed_values told_news begun_copy agreed_after tells args_fault fits_cell run_fault runs_fault is_ask_place is_awaited user_stop fault_of calls comes_back answers split_commands applied taken next first_kernel run_from_pending split_run is_kernel is_user pointer_to born_at is_live cell_at put killed normal first_memory reached loaded stored is_in cells_from cells_of_runs runs_of_cells rises_after is_keyed visible_of visible view_fits runs_fit lives_fit call_fits back_fits answer_fits opened replied deliver first_user user_after allowance user_reply fits fits_result is_view_of is_same_view is_same walk renewed in_user upcall begin begun returned commands first_world watched served in_kernel kernel_call is_in_range fitted_or fitted quotient bitwise operated negated flipped is_right_operand
+unfolding numbered values_of_runs put_all put_runs held changed_cells changes died without inserted with_news news_of left_of changed_values told_news begun_copy agreed_after tells args_fault fits_cell run_fault runs_fault is_ask_place is_awaited user_stop fault_of calls comes_back answers split_commands applied taken next first_kernel run_from_pending split_run is_kernel is_user pointer_to born_at is_live cell_at put killed normal first_memory reached loaded stored is_in cells_from cells_of_runs runs_of_cells rises_after is_keyed visible_of visible view_fits runs_fit lives_fit call_fits back_fits answer_fits opened replied deliver first_user user_after allowance user_reply fits fits_result is_view_of is_same_view is_same walk renewed in_user upcall begin begun returned commands first_world watched served in_kernel kernel_call is_in_range fitted_or fitted quotient bitwise operated negated flipped is_right_operand leaves_of fits_at repeated cells leaves form.out-Ty denote.Hole.Carrier.out
 reset_sends = record {
   sent = rw (reset_place 2, reset_stub, reset_kernel, reset_place 3) refl;
   honest = (

@@ -1,14 +1,14 @@
 -- How the copy that both halves agree on goes with their memories and with the whole run's, and what messages and replies keep. It is said of every memory that code of the kernel half can leave, and of every set of visible cells.
-use Rattle.std.specs.Prelude.{◌≡◌, ℕ, suc, ◌<◌, ◌≤◌, Bool, true, false, cond, ◌&&◌, ◌||◌, List, [], ◌∷◌, Option, Some, None, length, is_some, option_map, ◌⊎◌, ◌==◌, nat_lt, nat_le}
+use Rattle.std.specs.Prelude.{◌≡◌, ℕ, suc, ◌<◌, ◌≤◌, Bool, true, false, cond, ◌&&◌, ◌||◌, List, [], ◌∷◌, Option, Some, None, length, is_some, option_map, ◌⊎◌, ◌==◌, nat_lt}
 use Rattle.std.specs.List.{list_any, list_all}
 use Rattle.mdr_core.specs.declared.program.Program.{Program}
 use Rattle.mdr_model.specs.declared.wire.Wire.{Wire}
 use Rattle.mdr_model.specs.declared.message.New.{New}
-use Rattle.mdr_model.specs.Values.{names_block, type_at, zero_maybe}
-use Rattle.mdr_model.specs.Memory.{Memory, Cell, births, born_at, is_live, cell_at, put, killed, zero_block, normal}
+use Rattle.mdr_model.specs.Values.{names_block}
+use Rattle.mdr_model.specs.Memory.{Memory, Cell, size_of, leaf_at, births, born_at, is_live, cell_at, put, killed, zero_of, zero_block, normal}
 use Rattle.mdr_model.specs.Sets.{is_in}
 use Rattle.mdr_model.specs.Copies.{Told, inserted, is_named, changed_cells, told_news, begun_copy, tells, agreed_after, changes, put_runs}
-use Rattle.mdr_model.specs.User.{has_type, lives_fit}
+use Rattle.mdr_model.specs.User.{has_shape, lives_fit}
 
 -- ---- memories
 
@@ -17,19 +17,19 @@ unfoldable pub names_it : ℕ → Option Wire → Bool
 names_it serial None = false
 names_it serial (Some v) = names_block serial v
 
-abbrev pub has_index : Option New → ℕ → Bool
-has_index None i = false
-has_index (Some block) i = nat_lt i block.count
+abbrev pub has_index : Program → Option New → ℕ → Bool
+has_index program None i = false
+has_index program (Some block) i = nat_lt i (size_of program block)
 
 -- the blocks' serials rise
 abbrev pub SerialsRise : Memory → Type 0
 SerialsRise [] = Unit {0}
 SerialsRise (b ∷ m) = ((serial : ℕ) → is_live m serial ≡ true → b.born.serial < serial) × SerialsRise m
 
--- serials rise, a block has as many cells as it was born with, and each pointer names a live block
-pub record IsFormed (m : Memory) : Type 0 where
+-- serials rise, a block has as many cells as its shape says, and each pointer names a live block
+pub record IsFormed (program : Program) (m : Memory) : Type 0 where
   pub rises : SerialsRise m
-  pub sized : (c : Cell) → is_some (cell_at m c) ≡ has_index (born_at m c.serial) c.index
+  pub sized : (c : Cell) → is_some (cell_at m c) ≡ has_index program (born_at m c.serial) c.index
   pub closed : (c : Cell) (serial : ℕ) → names_it serial (cell_at m c) ≡ true → is_live m serial ≡ true
 
 -- all serials are below this one
@@ -37,8 +37,8 @@ abbrev pub IsBelow : ℕ → Memory → Type 0
 IsBelow next m = (serial : ℕ) → is_live m serial ≡ true → serial < next
 
 -- what code of the kernel half may leave, where `next` is the serial that the next block would have: old blocks die or stay as they were born, and new ones have serials from `next` on
-pub record MayFollow (next : ℕ) (m : Memory) (next' : ℕ) (m' : Memory) : Type 0 where
-  pub formed : IsFormed m'
+pub record MayFollow (program : Program) (next : ℕ) (m : Memory) (next' : ℕ) (m' : Memory) : Type 0 where
+  pub formed : IsFormed program m'
   pub later : next ≤ next'
   pub low : IsBelow next' m'
   pub old : (serial : ℕ) → is_live m' serial ≡ true → serial < next → born_at m' serial ≡ born_at m serial
@@ -50,9 +50,9 @@ abbrev pub Serials : Type 0
 Serials = ℕ → Bool
 
 -- a block of the copy is known, and where it lives it is as it was born; a known block that lives is in the copy. It may have died since: the copy learns of that with the next message
-pub record IsAgreed (known : Serials) (next : ℕ) (copy m : Memory) : Type 0 where
-  pub copied : IsFormed copy
-  pub formed : IsFormed m
+pub record IsAgreed (program : Program) (known : Serials) (next : ℕ) (copy m : Memory) : Type 0 where
+  pub copied : IsFormed program copy
+  pub formed : IsFormed program m
   pub born : (serial : ℕ) → is_live copy serial ≡ true → is_live m serial ≡ true → born_at m serial ≡ born_at copy serial
   pub knows : (serial : ℕ) → is_live copy serial ≡ true → known serial ≡ true
   pub paired : (serial : ℕ) → known serial ≡ true → is_live m serial ≡ true → is_live copy serial ≡ true
@@ -110,10 +110,10 @@ learnt known news serial = known serial || is_told news serial
 -- ---- the user half has control
 
 -- `m` is the kernel half's memory, `w` the whole run's, `u` the user half's: of the visible cells the user half has what the whole run has, and the kernel half what was agreed; of the others the other way round
-pub record IsShared (known : Serials) (next : ℕ) (view : List Cell) (copy m w u : Memory) : Type 0 where
-  pub agree : IsAgreed known next copy m
-  pub whole : IsFormed w
-  pub user : IsFormed u
+pub record IsShared (program : Program) (known : Serials) (next : ℕ) (view : List Cell) (copy m w u : Memory) : Type 0 where
+  pub agree : IsAgreed program known next copy m
+  pub whole : IsFormed program w
+  pub user : IsFormed program u
   pub live : (serial : ℕ) → is_live copy serial ≡ true → is_live m serial ≡ true
   pub placed : (c : Cell) → is_in view c ≡ true → is_live copy c.serial ≡ true
   pub user_born : (serial : ℕ) → born_at u serial ≡ born_at copy serial
@@ -127,14 +127,14 @@ IsKnown known v = (serial : ℕ) → names_block serial v ≡ true → known ser
 
 -- ---- services
 
--- the zero of a block's type
-unfoldable pub zero_of : Program → New → Wire
-zero_of program n = zero_maybe (type_at program n.ty)
+-- the zero of a block's cell, where it has the cell
+unfoldable pub cell_zero : Program → New → ℕ → Option Wire
+cell_zero program n index = option_map zero_of (leaf_at program n index)
 
 -- what a cell of a block holds when it is born
 abbrev pub born_cell : Program → Option New → ℕ → Option Wire
 born_cell program None i = None
-born_cell program (Some n) i = cond (nat_lt i n.count) (Some (zero_of program n)) None
+born_cell program (Some n) i = cell_zero program n i
 
 -- what a service may do to the visible cells, which are those of view' after it: each is an old one, in which a pointer whose block has died is a dead one, or lies in a new block that a result names, and is as it was born
 pub record KeepsShown (program : Program) (next : ℕ) (view view' : List Cell) (results : List Wire) (w w' : Memory) : Type 0 where
@@ -145,9 +145,6 @@ pub record KeepsShown (program : Program) (next : ℕ) (view view' : List Cell) 
 
 -- ---- the laws
 
-abbrev pub has_shape : Program → New → Bool
-has_shape program n = has_type program n.ty && nat_lt 0 n.count && nat_le n.count 65536
-
 -- the globals live, and each live block has a type of the table and 1 to 65,536 cells
 pub record AreBlocks (program : Program) (m : Memory) : Type 0 where
   pub globals : (serial : ℕ) → nat_lt serial (length program.globals) ≡ true → is_live m serial ≡ true
@@ -155,37 +152,37 @@ pub record AreBlocks (program : Program) (m : Memory) : Type 0 where
 
 -- what the steps of that code leave: a store of a value as it is kept, a death, the birth of a block of zeros with the next serial; none, and one after another
 pub record StepsMayFollow : Type 0 where
-  pub none : (next : ℕ) (m : Memory) → IsFormed m → IsBelow next m → MayFollow next m next m
-  pub more : {next next' next'' : ℕ} {m m' m'' : Memory} → MayFollow next m next' m' → MayFollow next' m' next'' m'' → MayFollow next m next'' m''
-  pub store : (next : ℕ) (m : Memory) (c : Cell) (v : Wire) → IsFormed m → IsBelow next m → MayFollow next m next (put m c (normal m v))
-  pub death : (next : ℕ) (m : Memory) (serial : ℕ) → IsFormed m → IsBelow next m → MayFollow next m next (killed serial m)
+  pub none : (program : Program) (next : ℕ) (m : Memory) → IsFormed program m → IsBelow next m → MayFollow program next m next m
+  pub more : {program : Program} {next next' next'' : ℕ} {m m' m'' : Memory} → MayFollow program next m next' m' → MayFollow program next' m' next'' m'' → MayFollow program next m next'' m''
+  pub store : (program : Program) (next : ℕ) (m : Memory) (c : Cell) (v : Wire) → IsFormed program m → IsBelow next m → MayFollow program next m next (put m c (normal m v))
+  pub death : (program : Program) (next : ℕ) (m : Memory) (serial : ℕ) → IsFormed program m → IsBelow next m → MayFollow program next m next (killed serial m)
   pub birth :
-      (program : Program) (m : Memory) (n : New) → IsFormed m → IsBelow n.serial m
-      → MayFollow n.serial m (suc n.serial) (inserted (zero_block program n) m)
+      (program : Program) (m : Memory) (n : New) → IsFormed program m → IsBelow n.serial m
+      → MayFollow program n.serial m (suc n.serial) (inserted (zero_block program n) m)
 
 -- whatever code of the kernel half does in between, the user half accepts the message, and both halves have then the visible cells as they are
 abbrev pub MessagesAgree : Type 0
 MessagesAgree =
     (program : Program) (known : Serials) (next next' : ℕ) (view : List Cell) (values : List Wire) (copy m m' : Memory)
-    → IsAgreed known next copy m → MayFollow next m next' m' → IsShown view values copy m'
+    → IsAgreed program known next copy m → MayFollow program next m next' m' → IsShown view values copy m'
     → IsAccepted known (tells program view values copy m') copy
     × (AreBlocks program m' → lives_fit program copy (tells program view values copy m').deaths (tells program view values copy m').news ≡ true)
     × MayBeTold view (begun_copy program view values copy m') (begun_copy program view values copy m') m'
     (changed_cells view (begun_copy program view values copy m') m')
-    × IsShared (learnt known (told_news view values copy m')) next' view
+    × IsShared program (learnt known (told_news view values copy m')) next' view
     (agreed_after program (tells program view values copy m') copy) m' m' (agreed_after program (tells program view values copy m') copy)
 
 -- a reply's changes may be told, and storing them gives the whole run's memory in the kernel half and the user half's in the copy, and both halves agree on it
 abbrev pub RepliesAgree : Type 0
 RepliesAgree =
-    (known : Serials) (next : ℕ) (view : List Cell) (copy m w u : Memory) → IsShared known next view copy m w u
+    (program : Program) (known : Serials) (next : ℕ) (view : List Cell) (copy m w u : Memory) → IsShared program known next view copy m w u
     → MayBeTold view copy m u (changed_cells view copy u)
-    × (put_runs (changes view copy u) m ≡ w) × (put_runs (changes view copy u) copy ≡ u) × IsAgreed known next u w
+    × (put_runs (changes view copy u) m ≡ w) × (put_runs (changes view copy u) copy ≡ u) × IsAgreed program known next u w
 
 -- an answer to a service, which tells no cells: both halves have the visible ones as they are
 abbrev pub AnswersAgree : Type 0
 AnswersAgree =
     (program : Program) (known : Serials) (next next' : ℕ) (view view' : List Cell) (results : List Wire) (copy m w u w' : Memory)
-    → IsShared known next view copy m w u → MayFollow next w next' w' → KeepsShown program next view view' results w w'
-    → IsShared (learnt known (told_news [] results u w')) next' view'
+    → IsShared program known next view copy m w u → MayFollow program next w next' w' → KeepsShown program next view view' results w w'
+    → IsShared program (learnt known (told_news [] results u w')) next' view'
     (agreed_after program (tells program [] results u w') u) w' w' (agreed_after program (tells program [] results u w') u)

@@ -13,8 +13,8 @@ use Rattle.mdr_model.specs.declared.message.New.{New}
 use Rattle.mdr_model.specs.declared.message.Run.{Run}
 use Rattle.mdr_model.specs.declared.message.SetRun.{SetRun}
 use Rattle.mdr_model.specs.declared.message.Fault.{Fault}
-use Rattle.mdr_model.specs.Values.{fits, fits_type, is_view_of}
-use Rattle.mdr_model.specs.Memory.{Memory, Cell, born_at, is_live}
+use Rattle.mdr_model.specs.Values.{fits_type, is_view_of}
+use Rattle.mdr_model.specs.Memory.{Memory, Cell, born_at, is_live, fits_at}
 use Rattle.mdr_model.specs.Sets.{is_in, follows_maybe}
 use Rattle.mdr_model.specs.Copies.{CellValue, numbered}
 
@@ -65,13 +65,13 @@ abbrev pub is_view : Memory → Wire → Bool
 is_view m (wire.Ptr p) = is_view_of_maybe (born_at m p.serial) (wire.Ptr p)
 is_view m _ = true
 
-abbrev pub fits_block : Program → Option New → Wire → Bool
-fits_block program None v = false
-fits_block program (Some block) v = fits program block.ty v
+abbrev pub fits_block : Program → Option New → ℕ → Wire → Bool
+fits_block program None index v = false
+fits_block program (Some block) index v = fits_at program block index v
 
 -- a value fits its cell
 unfoldable pub fits_cell : Program → Memory → CellValue → Bool
-fits_cell program m x = fits_block program (born_at m x.cell.serial) x.value
+fits_cell program m x = fits_block program (born_at m x.cell.serial) x.cell.index x.value
 
 abbrev pub set_run_of : Run → SetRun
 set_run_of r = record { serial = r.serial; first = r.first; len = length r.values }

@@ -1,5 +1,5 @@
 -- Which answers are legal; that one which isn't changes nothing, and that one which is changes visible cells alone.
-use Rattle.std.specs.Prelude.{◌≡◌, ℕ, ◌+◌, ◌*◌, ◌≤◌, Bool, true, false, List, [], ◌∷◌, ◌++◌, Option, Some, None, Ok, Err, ◌==◌}
+use Rattle.std.specs.Prelude.{◌≡◌, ℕ, ◌+◌, ◌*◌, ◌≤◌, Bool, true, false, List, [], ◌∷◌, ◌++◌, Option, Some, None, Ok, Err}
 use Rattle.mdr_core.specs.declared.refusal.RefuseKind.{RefuseKind}
 use Rattle.mdr_core.specs.declared.program.Program.{Program}
 use Rattle.mdr_model.specs.declared.command.Command.{Command}
@@ -9,7 +9,7 @@ use Rattle.mdr_model.specs.declared.message.Fault.{Fault}
 use Rattle.mdr_model.specs.declared.message.Message.{Message}
 use Rattle.mdr_model.specs.declared.message.Message.TheVariants as message
 use Rattle.mdr_model.specs.declared.outcome.End.TheVariants as ends
-use Rattle.mdr_model.specs.Memory.{Memory, Cell, births, born_at, cell_at}
+use Rattle.mdr_model.specs.Memory.{Memory, Cell, leaf_at, is_lock_leaf, births, born_at, cell_at}
 use Rattle.mdr_model.specs.Sets.{is_in}
 use Rattle.mdr_model.specs.Faults.{fault}
 use Rattle.mdr_model.specs.Copies.{put_runs}
@@ -43,19 +43,19 @@ RefusedChangesNothing =
 
 -- ---- a legal answer
 
-abbrev pub is_lock_block : Option New → Bool
-is_lock_block None = false
-is_lock_block (Some block) = block.ty == 8
+abbrev pub is_lock_in : Program → Option New → ℕ → Bool
+is_lock_in program None index = false
+is_lock_in program (Some block) index = is_lock_leaf (leaf_at program block index)
 
--- the cell is one of a lock
-unfoldable pub is_lock : Memory → Cell → Bool
-is_lock m c = is_lock_block (born_at m c.serial)
+-- the cell is a lock
+unfoldable pub is_lock : Program → Memory → Cell → Bool
+is_lock program m c = is_lock_in program (born_at m c.serial) c.index
 
 -- no block was born and none died, none has another kind or shape; each cell outside the view holds what it held, and so does each lock
-pub record IsContained (before after : Memory) (view : List Cell) : Type 0 where
+pub record IsContained (program : Program) (before after : Memory) (view : List Cell) : Type 0 where
   pub blocks : births after ≡ births before
   pub outside : (c : Cell) → is_in view c ≡ false → cell_at after c ≡ cell_at before c
-  pub locks : (c : Cell) → is_lock before c ≡ true → cell_at after c ≡ cell_at before c
+  pub locks : (c : Cell) → is_lock program before c ≡ true → cell_at after c ≡ cell_at before c
 
 -- the runs that a reply tells
 abbrev pub runs_told : Message → List Run
@@ -73,7 +73,7 @@ abbrev pub LegalIsContained : Type 0
 LegalIsContained =
     (program : Program) (script : List Command) (budget : ℕ) (answers : List Reading) (a m : Message) (k : Kernel) (rest : Rest) (left : List Command)
     → (split_run program script budget answers).pending ≡ Waits m k rest left → fault_of program k rest a ≡ None
-    → IsContained k.world.memory (put_runs (runs_told a) k.world.memory) k.world.view
+    → IsContained program k.world.memory (put_runs (runs_told a) k.world.memory) k.world.view
 
 -- ---- any answers
 

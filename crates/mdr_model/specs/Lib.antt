@@ -26,3 +26,4 @@ pub mod Legal
 pub mod Refusals
 pub mod Worked
 pub mod WorkedCopies
+pub mod MemoryKept

@@ -1,5 +1,7 @@
 -- A memory is the list of its live blocks (C99 6.2.4): what was born and has not died.
-use Rattle.std.specs.Prelude.{ℕ, suc, ◌+◌, Bool, true, false, cond, List, [], ◌∷◌, map, Option, Some, None, Result, Ok, Err, ◌==◌, nat_lt, is_some, slice_get, slice_set, replicate}
+use Rattle.std.specs.Prelude.{ℕ, suc, ◌+◌, ◌*◌, Bool, true, false, cond, List, [], ◌∷◌, map, length, Option, Some, None, Result, Ok, Err, ◌==◌, nat_lt, is_some, slice_get, slice_set}
+use Rattle.mdr_core.specs.declared.types.Ty.{Ty}
+use Rattle.mdr_core.specs.declared.types.Ty.TheVariants as ty
 use Rattle.mdr_core.specs.declared.stop.StopKind.{StopKind}
 use Rattle.mdr_core.specs.declared.stop.StopKind.TheVariants as stop
 use Rattle.mdr_core.specs.declared.program.Program.{Program}
@@ -11,7 +13,36 @@ use Rattle.mdr_model.specs.declared.wire.Wire.TheVariants as wire
 use Rattle.mdr_model.specs.declared.wire.WireView.{WireView}
 use Rattle.mdr_model.specs.declared.message.New.{New}
 use Rattle.mdr_model.specs.declared.message.BirthKind.TheVariants.{Static}
-use Rattle.mdr_model.specs.Values.{type_number, type_at, zero_maybe, wire_of, names_block}
+use Rattle.mdr_core.specs.Layout.{Leaf, repeated, cells_at, zero_value}
+use Rattle.mdr_model.specs.Values.{type_number, fits_type, wire_of, names_block}
+
+-- ---- the cells of a block
+
+-- those of its elements, one element after another, each with its type
+unfoldable pub leaves_of : Program → New → List Leaf
+leaves_of program n = repeated n.count (cells_at program n.ty)
+
+abbrev pub size_of : Program → New → ℕ
+size_of program n = length (leaves_of program n)
+
+abbrev pub leaf_at : Program → New → ℕ → Option Leaf
+leaf_at program n index = slice_get (leaves_of program n) index
+
+abbrev pub fits_leaf : Option Leaf → Wire → Bool
+fits_leaf None v = false
+fits_leaf (Some leaf) v = fits_type leaf.type v
+
+-- a value fits a cell of a block: the cell is there, and of a type that takes the value
+unfoldable pub fits_at : Program → New → ℕ → Wire → Bool
+fits_at program n index v = fits_leaf (leaf_at program n index) v
+
+abbrev pub is_lock_type : Ty → Bool
+is_lock_type ty.Lock = true
+is_lock_type _ = false
+
+abbrev pub is_lock_leaf : Option Leaf → Bool
+is_lock_leaf None = false
+is_lock_leaf (Some leaf) = is_lock_type leaf.type
 
 -- ---- blocks and cells, which are declared in the code
 
@@ -43,9 +74,12 @@ put (b ∷ m) c v =
 
 -- ---- births and deaths
 
--- a block as it is born: zero in each cell
+-- a block as it is born: zero in each cell (C99 6.7.8, paragraph 10)
+abbrev pub zero_of : Leaf → Wire
+zero_of leaf = wire_of (zero_value leaf.type)
+
 abbrev pub zero_block : Program → New → MemoryBlock
-zero_block program n = record { born = n; cells = replicate n.count (zero_maybe (type_at program n.ty)) }
+zero_block program n = record { born = n; cells = map zero_of (leaves_of program n) }
 
 -- a pointer to the block with this serial becomes a dead one
 abbrev pub swept : ℕ → Wire → Wire
@@ -91,7 +125,11 @@ first_memory program = global_blocks 0 program.globals
 
 -- ---- accesses
 
--- the cell that a pointer names. Elements of the types that are built have one cell each
+-- where a pointer points: at the first cell of an element of its view
+unfoldable pub position_of : Program → WireView → Cell
+position_of program p = record { serial = p.serial; index = p.first + p.index * length (cells_at program p.ty) }
+
+-- the cell that is loaded or stored. Only scalars are loaded and stored, and a scalar has one cell: for those it is where the pointer points
 abbrev pub cell_of : WireView → Cell
 cell_of p = record { serial = p.serial; index = p.first + p.index }
 

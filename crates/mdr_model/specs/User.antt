@@ -12,8 +12,8 @@ use Rattle.mdr_model.specs.declared.message.Message.{Message}
 use Rattle.mdr_model.specs.declared.message.Message.TheVariants as message
 use Rattle.mdr_core.specs.declared.stop.StopKind.TheVariants as stop
 use Rattle.mdr_model.specs.Values.{type_at, fits_result}
-use Rattle.mdr_model.specs.Memory.{Memory, Cell, born_at, is_live, normal, first_memory}
-use Rattle.mdr_model.specs.Sets.{is_in, cells_of_runs, rises_after, is_keyed}
+use Rattle.mdr_model.specs.Memory.{Memory, Cell, size_of, born_at, is_live, normal, first_memory}
+use Rattle.mdr_model.specs.Sets.{is_in, cells_of_run, cells_of_runs, rises_after, is_keyed}
 use Rattle.mdr_model.specs.Tree.{Asked, Tree}
 use Rattle.mdr_model.specs.Walk.{Reached, Walked, walk}
 use Rattle.mdr_model.specs.Meaning.{func_at, is_user, started}
@@ -52,20 +52,28 @@ deaths_fit program copy deaths = rise_after None deaths && list_all (may_die pro
 abbrev pub has_type : Program → ℕ → Bool
 has_type program n = not (is_none (type_at program n))
 
--- the block is new, of a type of the table, and has 1 to 65,536 cells
+-- a type of the table, and 1 to 65,536 cells
+abbrev pub has_shape : Program → New → Bool
+has_shape program n = has_type program n.ty && nat_lt 0 (size_of program n) && nat_le (size_of program n) 65536
+
+-- the block is new, and has a shape
 abbrev pub may_come : Program → Memory → New → Bool
-may_come program copy n = not (is_live copy n.serial) && has_type program n.ty && nat_lt 0 n.count && nat_le n.count 65536
+may_come program copy n = not (is_live copy n.serial) && has_shape program n
 
 abbrev pub news_fit : Program → Memory → List New → Bool
 news_fit program copy news = rise_after None (map (λ (n : New). n.serial) news) && list_all (may_come program copy) news
 
-abbrev pub lies_in : Program → Option New → SetRun → Bool
-lies_in program None r = false
-lies_in program (Some block) r = nat_lt 0 r.len && nat_le (r.first + r.len) block.count && is_keyed program block
+abbrev pub is_keyed_in : Program → Option New → ℕ → Bool
+is_keyed_in program None index = false
+is_keyed_in program (Some block) index = is_keyed program block index
 
--- the cells are some of a known block, which user code may touch
+-- the cell is one of a known block, and user code may touch it
+abbrev pub may_see : Program → Memory → Cell → Bool
+may_see program copy c = is_keyed_in program (born_at copy c.serial) c.index
+
+-- there are cells, and each may be seen
 abbrev pub may_show : Program → Memory → SetRun → Bool
-may_show program copy r = lies_in program (born_at copy r.serial) r
+may_show program copy r = nat_lt 0 r.len && list_all (may_see program copy) (cells_of_run r)
 
 unfoldable pub view_fits : Program → Memory → List SetRun → Bool
 view_fits program copy view = rises_after None view && list_all (may_show program copy) view

@@ -58,18 +58,6 @@ fits_result t wire.Dead = fits_type t wire.Dead
 fits_result t (wire.Fn f) = fits_type t (wire.Fn f)
 fits_result t (wire.Lock s) = fits_type t (wire.Lock s)
 
--- what a cell of a type holds before anything was stored
-abbrev pub zero_of_type : Ty → Wire
-zero_of_type (ty.Int k) = wire.Int k (pos 0)
-zero_of_type ty.Lock = wire.Lock Free
-zero_of_type ty.Void = wire.NoValue
--- other types aren't built: no cell has one
-zero_of_type _ = wire.NoValue
-
-abbrev pub zero_maybe : Option Ty → Wire
-zero_maybe None = wire.NoValue
-zero_maybe (Some t) = zero_of_type t
-
 -- ---- views
 
 -- a pointer's view is one of a block as it was born. Elements of the types that are built have one cell each, so a block has one view, the whole

@@ -3,6 +3,7 @@
 ghost use Rattle.mdr_model.specs.Alike.{FuelIsNoMatter};
 ghost use Rattle.mdr_model.specs.Agreement.{StepsMayFollow, MessagesAgree, RepliesAgree, AnswersAgree};
 ghost use Rattle.mdr_model.specs.Law.{SplitIsOneMemory};
+ghost use Rattle.mdr_model.specs.MemoryKept.{StoreIsOneCell, DeathIsOneBlock, BirthIsOneBlock, PointersAreEqual, HoldsIsKept};
 ghost use Rattle.mdr_model.specs.Legal.{RefusedChangesNothing, LegalIsContained, MessagesAreFew};
 ghost use Rattle.mdr_model.specs.Refusals.{RefusedLeavesUser, RefusedAreLeftOut};
 
@@ -15,6 +16,32 @@ pub fn fuel_is_no_matter()
 /// functions and every budget of ticks.
 pub fn split_is_one_memory()
     ensures { SplitIsOneMemory }
+{}
+
+/// A store changes one cell.
+pub fn a_store_changes_one_cell()
+    ensures { StoreIsOneCell }
+{}
+
+/// A death leaves all other blocks as they are, but for pointers to the one that died.
+pub fn a_death_takes_one_block()
+    ensures { DeathIsOneBlock }
+{}
+
+/// A birth adds one block, of zeros.
+pub fn a_birth_adds_one_block()
+    ensures { BirthIsOneBlock }
+{}
+
+/// Two pointers are equal exactly where both are null, or both are in one block at one cell.
+pub fn pointers_are_equal_at_one_cell()
+    ensures { PointersAreEqual }
+{}
+
+/// The globals as they are born are a memory in order, and stores of fitting values, deaths, births and runs that have
+/// no fault keep one in order.
+pub fn memories_stay_in_order()
+    ensures { HoldsIsKept }
 {}
 
 /// Stores, births and deaths leave memories that may follow.

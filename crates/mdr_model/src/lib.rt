@@ -12,9 +12,11 @@ mod worked_copies;
 
 pub use command::Command;
 pub use laws::{
-    a_legal_reply_is_contained, a_refused_message_changes_nothing, a_refused_reply_changes_nothing,
-    answers_agree, fuel_is_no_matter, messages_agree, messages_are_few,
-    refused_messages_can_be_left_out, replies_agree, split_is_one_memory, steps_may_follow,
+    a_birth_adds_one_block, a_death_takes_one_block, a_legal_reply_is_contained,
+    a_refused_message_changes_nothing, a_refused_reply_changes_nothing, a_store_changes_one_cell,
+    answers_agree, fuel_is_no_matter, memories_stay_in_order, messages_agree, messages_are_few,
+    pointers_are_equal_at_one_cell, refused_messages_can_be_left_out, replies_agree,
+    split_is_one_memory, steps_may_follow,
 };
 pub use memory::{Cell, MemoryBlock};
 pub use message::{BirthKind, Fault, Message, New, Run, SetRun, Shape64};

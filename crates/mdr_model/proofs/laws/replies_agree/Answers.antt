@@ -2,4 +2,4 @@ use Rattle.mdr_model.proofs.AgreedReplies.{tellable, reply_whole, reply_user, re
 use Rattle.mdr_model.proofs.laws.replies_agree.Goals as goal
 
 pub returns : goal.returns
-returns c = λ known next view copy m w u r. (tellable r, reply_whole r, reply_user r, replied r)
+returns c = λ program known next view copy m w u r. (tellable r, reply_whole r, reply_user r, replied r)
