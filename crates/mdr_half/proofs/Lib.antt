@@ -1,3 +1,4 @@
 pub mod Pairing
 pub mod Parted
 pub mod Parts
+pub mod WorkedText

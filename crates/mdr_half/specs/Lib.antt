@@ -1,3 +1,4 @@
 pub mod Plans
 pub mod Halves
 pub mod Joins
+pub mod Worked
