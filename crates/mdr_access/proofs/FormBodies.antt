@@ -5,7 +5,7 @@ use Rattle.mdr_core.specs.declared.code.Expr.{Expr}
 use Rattle.mdr_core.specs.declared.code.Stmt.{Stmt}
 use Rattle.mdr_core.specs.declared.code.Step.TheVariants as step
 use Rattle.mdr_core.specs.declared.program.Program.{Program}
-use Rattle.mdr_core.specs.Code.{Code, Codes}
+use Rattle.mdr_core.specs.Code.{Code}
 use Rattle.mdr_core.specs.Folds.{term_of, code_list, test_of, before, code_of, codes_of}
 use Rattle.mdr_core.specs.Typing.{Slot}
 use Rattle.mdr_slice.proofs.Bodies.{append_nil, for_code}

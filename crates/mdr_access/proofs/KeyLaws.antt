@@ -1,20 +1,21 @@
 -- Proofs of the laws of keys.
-use Rattle.std.proofs.Common.{◌≡◌, ℕ, zero, suc, ◌<◌, Bool, true, false, List, [], ◌∷◌, length, Option, Some, None, slice_get, refl, sym, ◌∙◌, ap, subst, arith}
+use Rattle.std.proofs.Common.{◌≡◌, ℕ, zero, suc, ◌<◌, true, false, List, [], ◌∷◌, length, Option, Some, None, slice_get, refl, sym, ◌∙◌, ap, subst, arith}
 use Rattle.std.specs.Prelude.{IsTrue}
 use Rattle.std.proofs.lemmas.Bool.{both_ways}
 use Rattle.mdr_core.specs.declared.program.Program.{Program}
-use Rattle.mdr_core.specs.declared.types.Ty.{Ty, out-Ty}
 use Rattle.mdr_core.specs.declared.types.Ty.TheVariants as type
 use Rattle.mdr_core.specs.declared.types.Ty.TheVariants.{outs-Lock}
 use Rattle.mdr_core.specs.declared.plan.Key.{Key}
 use Rattle.mdr_core.specs.declared.plan.Half.{Half}
 use Rattle.mdr_core.specs.declared.plan.Half.TheVariants.{Kernel, User}
 use Rattle.mdr_core.specs.declared.plan.Plan.{Plan}
-use Rattle.mdr_core.specs.Suited.{IsSuited, is_key, is_lock_by, is_no_lock, key_type}
+use Rattle.mdr_core.specs.Suited.{IsSuited, is_key, is_no_lock, key_type}
 use Rattle.mdr_paths.specs.Chains.{Chain}
 use Rattle.mdr_slice.specs.declared.halves.Halves.{Halves}
 use Rattle.mdr_slice.proofs.GraphLaws.{some_inside}
-use Rattle.mdr_access.specs.Exposed.{IsOneOf}
+use Rattle.mdr_paths.specs.Paths.{is_in}
+use Rattle.mdr_access.specs.KeyOrder.{keys}
+use Rattle.mdr_access.proofs.OwnedLaws.{listed}
 use Rattle.mdr_access.specs.Keys.{CallsUser, LeadsTo, HasEach, IsPlan, IsTouched}
 use Rattle.mdr_access.specs.Laws.{KeysAreRight}
 
@@ -46,6 +47,10 @@ half_or : (h : Half) → (h ≡ Kernel → ⊥) → h ≡ User
 half_or Kernel differ = absurd (differ refl)
 half_or User differ = refl
 
+listed_in : (xs : List Key) (k : Key) (i : ℕ) → slice_get xs i ≡ Some k → is_in keys xs k ≡ true
+unfolding is_in
+listed_in xs k i e = listed xs k i e
+
 suits : (program : Program) (halves : Halves) (plan : Plan) → HasEach program halves → IsPlan program halves plan → IsSuited plan program
 suits program halves plan each is = record {
   types = is.types;
@@ -66,13 +71,16 @@ suits program halves plan each is = record {
     none (x ∷ xs) zero inside e = let no : Some x ≡ None = e in absurd cc
     none (x ∷ xs) (suc f) inside e = none xs f (omega arith) e
 
+    in_of : (ks : List Key) (k : Key) (i : ℕ) → slice_get ks i ≡ Some k → is_in keys ks k ≡ true
+    in_of ks k i at = listed_in ks k i at
+
     nothing : (i : ℕ) (k : Key) → slice_get [] i ≡ Some k → ⊥
     nothing i k e = let no : None ≡ Some k = e in absurd cc
 
     of : (f i : ℕ) (ks : List Key) (k : Key) → slice_get plan.keys f ≡ Some ks → slice_get ks i ≡ Some k → (h : Option Half) → slice_get halves.halves f ≡ h → IsTrue (is_key program k)
     of f i ks k e at None h = absurd (none halves.halves f (there f ks e) h)
     of f i ks k e at (Some Kernel) h = absurd (nothing i k (ap (λ xs. slice_get xs i) (sym (is.kernel f ks h e)) ∙ at))
-    of f i ks k e at (Some User) h = (((is.user f ks h e).exact k).0 (record { at = i; is = at })).kept
+    of f i ks k e at (Some User) h = (((is.user f ks h e).exact k).0 (in_of ks k i at)).kept
 
 pub keys_are_right : KeysAreRight
 keys_are_right = record { grow = grow; no_lock = no_lock; suits = suits }

@@ -1,3 +1,6 @@
+pub mod AllKeysLaws
 pub mod FieldBodies
 pub mod FormBodies
 pub mod KeyLaws
+pub mod OwnedLaws
+pub mod WalkLaws

@@ -1,5 +1,5 @@
--- The keys of a program in their order, and equality of keys as a test.
-use Rattle.std.specs.Prelude.{ℕ, ◌+◌, ◌==◌, Bool, true, false, ◌&&◌, List, [], ◌∷◌, ◌++◌}
+-- The keys of a program in their order.
+use Rattle.std.specs.Prelude.{ℕ, ◌+◌, Bool, List, [], ◌∷◌, ◌++◌}
 use Rattle.mdr_core.specs.declared.types.Ty.{Ty}
 use Rattle.mdr_core.specs.declared.program.Field.{Field}
 use Rattle.mdr_core.specs.declared.program.GlobalDef.{GlobalDef}
@@ -9,17 +9,6 @@ use Rattle.mdr_core.specs.declared.plan.Key.{Key}
 use Rattle.mdr_core.specs.declared.plan.Key.TheVariants as key
 use Rattle.mdr_core.specs.Layout.{chosen}
 use Rattle.mdr_core.specs.Suited.{is_key}
-
-abbrev pub same_key : Key → Key → Bool
-same_key (key.Global g) (key.Global h) = g == h
-same_key (key.Global g) (key.Field s f) = false
-same_key (key.Global g) (key.Elem t) = false
-same_key (key.Field s f) (key.Global g) = false
-same_key (key.Field s f) (key.Field t h) = (s == t) && (f == h)
-same_key (key.Field s f) (key.Elem t) = false
-same_key (key.Elem t) (key.Global g) = false
-same_key (key.Elem t) (key.Field s f) = false
-same_key (key.Elem t) (key.Elem u) = t == u
 
 -- a key, where it names something that is no lock
 abbrev pub kept : Program → Key → List Key
@@ -44,3 +33,9 @@ element_keys program t (ty ∷ tys) = kept program (key.Elem t) ++ element_keys 
 
 abbrev pub all_keys : Program → List Key
 all_keys program = global_keys program 0 program.globals ++ (struct_keys program 0 program.structs ++ element_keys program 0 program.types)
+
+-- those of the keys that are marked
+abbrev pub picked : List Key → List Bool → List Key
+picked [] marks = []
+picked (k ∷ ks) [] = []
+picked (k ∷ ks) (m ∷ ms) = chosen m (k ∷ []) [] ++ picked ks ms

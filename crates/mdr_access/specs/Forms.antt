@@ -1,5 +1,5 @@
 -- The access forms: which cells code reads or writes, as keys.
-use Rattle.std.specs.Prelude.{◌≡◌, ◌==◌, ℕ, Bool, true, false, List, [], ◌∷◌, ◌++◌, Option, Some, None, slice_get}
+use Rattle.std.specs.Prelude.{◌≡◌, ◌==◌, ℕ, Bool, false, List, [], ◌∷◌, ◌++◌, Option, Some, None, slice_get}
 use Rattle.std.specs.Option.{option_map}
 use Rattle.mdr_core.specs.declared.kind.Kind.TheVariants.{U8}
 use Rattle.mdr_core.specs.declared.types.Ty.{Ty}

@@ -1,14 +1,15 @@
 -- S(t): the keys of the cells that a user-half function may touch, with all that it calls in its half; and the plan that has them.
-use Rattle.std.specs.Prelude.{◌≡◌, ◌↔◌, ℕ, ◌<◌, ◌⊎◌, Bool, true, false, List, [], ◌∷◌, length, map, Some, slice_get, IsTrue}
+use Rattle.std.specs.Prelude.{◌≡◌, ◌↔◌, ℕ, true, List, [], length, map, Some, slice_get, IsTrue}
 use Rattle.mdr_core.specs.declared.program.Program.{Program}
 use Rattle.mdr_core.specs.declared.program.Func.{Func}
 use Rattle.mdr_core.specs.declared.plan.Key.{Key}
-use Rattle.mdr_core.specs.declared.plan.Key.TheVariants as key
 use Rattle.mdr_core.specs.declared.plan.Half.{Half}
 use Rattle.mdr_core.specs.declared.plan.Half.TheVariants.{Kernel, User}
 use Rattle.mdr_core.specs.declared.plan.Plan.{Plan}
 use Rattle.mdr_core.specs.Suited.{is_key}
 use Rattle.mdr_paths.specs.Chains.{Chain}
+use Rattle.mdr_paths.specs.Paths.{Rises, is_in}
+use Rattle.mdr_access.specs.KeyOrder.{keys}
 use Rattle.mdr_slice.specs.declared.halves.Halves.{Halves}
 use Rattle.mdr_slice.specs.Graph.{MayCall}
 use Rattle.mdr_access.specs.Exposed.{IsOneOf}
@@ -34,22 +35,10 @@ pub record IsTouched (program : Program) (halves : List Half) (t : ℕ) (k : Key
   pub has : FormHas program form k
   pub kept : IsTrue (is_key program k)
 
--- the order of keys: globals, fields, elements, each by their numbers
-abbrev pub IsBefore : Key → Key → Type 0
-IsBefore (key.Global g) (key.Global h) = g < h
-IsBefore (key.Global g) (key.Field s f) = Unit {0}
-IsBefore (key.Global g) (key.Elem t) = Unit {0}
-IsBefore (key.Field s f) (key.Global g) = ⊥
-IsBefore (key.Field s f) (key.Field t h) = (s < t) ⊎ ((s ≡ t) × (f < h))
-IsBefore (key.Field s f) (key.Elem t) = Unit {0}
-IsBefore (key.Elem t) (key.Global g) = ⊥
-IsBefore (key.Elem t) (key.Field s f) = ⊥
-IsBefore (key.Elem t) (key.Elem u) = t < u
-
 -- the list has the keys of S(t), each once, in their order
 pub record AreKeys (program : Program) (halves : List Half) (t : ℕ) (ks : List Key) : Type 0 where
-  pub rises : (i j : ℕ) (a b : Key) → i < j → slice_get ks i ≡ Some a → slice_get ks j ≡ Some b → IsBefore a b
-  pub exact : (k : Key) → IsOneOf ks k ↔ IsTouched program halves t k
+  pub rises : Rises keys ks
+  pub exact : (k : Key) → (is_in keys ks k ≡ true) ↔ IsTouched program halves t k
 
 -- the halves have one item for each function in each of their lists
 pub record HasEach (program : Program) (halves : Halves) : Type 0 where

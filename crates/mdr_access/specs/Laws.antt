@@ -1,15 +1,12 @@
 -- What is promised of S(t), and of the plan.
-use Rattle.std.specs.Prelude.{◌≡◌, ℕ, List, Some, slice_get, IsTrue, true}
+use Rattle.std.specs.Prelude.{◌≡◌, ℕ, List, Some}
 use Rattle.mdr_core.specs.declared.program.Program.{Program}
-use Rattle.mdr_core.specs.declared.types.Ty.{Ty}
 use Rattle.mdr_core.specs.declared.types.Ty.TheVariants as type
 use Rattle.mdr_core.specs.declared.plan.Key.{Key}
 use Rattle.mdr_core.specs.declared.plan.Half.{Half}
-use Rattle.mdr_core.specs.declared.plan.Half.TheVariants.{User}
 use Rattle.mdr_core.specs.declared.plan.Plan.{Plan}
 use Rattle.mdr_core.specs.Suited.{IsSuited, key_type}
 use Rattle.mdr_slice.specs.declared.halves.Halves.{Halves}
-use Rattle.mdr_slice.specs.Graph.{MayCall}
 use Rattle.mdr_access.specs.Keys.{CallsUser, HasEach, IsPlan, IsTouched}
 
 pub record KeysAreRight : Type 0 where

@@ -1,6 +1,9 @@
 pub mod AllKeys
 pub mod Exposed
 pub mod Forms
+pub mod KeyOrder
 pub mod Keys
 pub mod Laws
+pub mod Owned
 pub mod Told
+pub mod Walked

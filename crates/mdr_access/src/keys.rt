@@ -5,7 +5,8 @@ ghost use Rattle.std.specs.List.{list_any};
 ghost use Rattle.std.specs.Option.{option_copied};
 ghost use Rattle.mdr_core.specs.Layout.{fields_of};
 ghost use Rattle.mdr_core.specs.Suited.{is_key, is_lock, key_type};
-ghost use Rattle.mdr_access.specs.AllKeys.{same_key, kept, global_keys, field_keys, struct_keys, element_keys, all_keys};
+ghost use Rattle.mdr_access.specs.KeyOrder.{same_key};
+ghost use Rattle.mdr_access.specs.AllKeys.{kept, global_keys, field_keys, struct_keys, element_keys, all_keys};
 
 use mdr_core::{Field, Key, OutOfMemory, Program, Ty};
 use std::alloc::{AllocError, Global};

@@ -1,9 +1,14 @@
 //! Which cells each function of the user half may touch, and the plan that says so.
 #![tactic(auto)]
 
+mod copies;
 mod exposed;
 mod forms;
 mod keys;
 mod laws;
+mod owned;
+mod plan;
+mod walk;
 
 pub use laws::keys_are_right;
+pub use plan::keys_of;

@@ -20,7 +20,7 @@ use Rattle.mdr_slice.specs.Graph.{AreRoots, IsRoot, IsRow, MayCall, MayPointTo, 
 pub some_same : {A : Type 0} {a b : A} → Some a ≡ Some b → a ≡ b
 some_same e = cc
 
-nothing_there : {A : Type 0} (x : A) → None ≡ Some x → ⊥
+pub nothing_there : {A : Type 0} (x : A) → None ≡ Some x → ⊥
 nothing_there x e = cc
 
 -- ---- types

@@ -70,7 +70,7 @@ adds_skipped marks nodes false e = absurd (both_ways false refl e)
 -- ---- down stubs
 
 pub down_of : {A : Type 0} (program : Program) (g : A → List ℕ) (rows : List A) (kernel called marks : List Bool) → length kernel ≡ length program.funcs → AreCallees program true (map g rows)
-    → Tells (length rows) (CalledByUser kernel (map g rows) (length rows)) called → Tells (length kernel) (HasBoth kernel called) marks → Tells (length program.funcs) (IsDown program kernel) marks
+    → Tells (length program.funcs) (CalledByUser kernel (map g rows) (length rows)) called → Tells (length kernel) (HasBoth kernel called) marks → Tells (length program.funcs) (IsDown program kernel) marks
 down_of program g rows kernel called marks size callees told_called told = record {
   size = told.size ∙ size;
   each = λ f. (λ h. let p = (told.each f).0 h in (of f p.0, omega (arith, p.1, size)), λ h. (told.each f).1 (back f h.0 h.1, omega (arith, h.1, size)));

@@ -41,12 +41,18 @@ fn mark_unless(marks: &mut Vec<bool>, kernel: bool, nodes: &[u32])
     mark_all(marks, nodes);
 }
 
-/// Marks what functions of the user half may call.
-fn called_marks(alloc: Global, edges: &[Vec<u32>], kernel: &[bool]) -> Result<Vec<bool>, AllocError>
+/// Marks, of so many nodes, those that stand in a row without a mark. With the functions of the kernel half marked, and what
+/// each may call in its row, these are what functions of the user half may call.
+pub fn called_marks(
+    alloc: Global,
+    count: usize,
+    edges: &[Vec<u32>],
+    kernel: &[bool],
+) -> Result<Vec<bool>, AllocError>
     requires { length kernel.now ≡ length edges.now }
-    ensures { IfOk result (λ marks. Tells (length edges.now) (CalledByUser kernel.now (map vec_items edges.now) (length edges.now)) marks.items) }
+    ensures { IfOk result (λ marks. Tells count (CalledByUser kernel.now (map vec_items edges.now) (length edges.now)) marks.items) }
 {
-    let mut marks = vec![in alloc; false; edges.len()]?;
+    let mut marks = vec![in alloc; false; count]?;
     for caller in 0..edges.len() {
         mark_unless(&mut marks, kernel[caller], edges[caller].as_slice());
     }
@@ -77,7 +83,7 @@ fn down_marks(alloc: Global, program: &Program, kernel: &[bool]) -> Result<Vec<b
     ensures { IfOk result (λ marks. Tells (length program.now.funcs) (IsDown program.now kernel.now) marks.items) }
 {
     let edges = graph(alloc, program, true)?;
-    let called = called_marks(alloc, edges.as_slice(), kernel)?;
+    let called = called_marks(alloc, program.funcs.len(), edges.as_slice(), kernel)?;
     let marks = both(alloc, kernel, called.as_slice())?;
     Ok(marks)
 }

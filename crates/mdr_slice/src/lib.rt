@@ -12,7 +12,7 @@ mod roots;
 
 pub use calls::calls_of;
 pub use graph::call_graph;
-pub use halves::{Halves, slice};
+pub use halves::{Halves, called_marks, slice};
 pub use laws::{kernel_half_is_least, roots_are_functions};
 pub use pointed::{named_type, pointed_type, slot_type};
 pub use roots::roots_of;

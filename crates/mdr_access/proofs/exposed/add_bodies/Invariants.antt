@@ -1,6 +1,4 @@
-use Rattle.std.proofs.Common.{◌≡◌, ◌++◌, map, drop}
-use Rattle.mdr_core.specs.Folds.{term_of, codes_of}
-use Rattle.mdr_core.specs.Typing.{slots_of}
+use Rattle.std.proofs.Common.{◌≡◌, ◌++◌, drop}
 use Rattle.mdr_access.specs.Exposed.{funcs_fields}
 use Rattle.mdr_access.proofs.exposed.add_bodies.Given as goal
 

@@ -1,5 +1,5 @@
 use Rattle.std.proofs.Common.{◌≡◌, ◌++◌, map, drop}
-use Rattle.mdr_core.specs.Folds.{term_of, codes_of}
+use Rattle.mdr_core.specs.Folds.{term_of}
 use Rattle.mdr_core.specs.Typing.{slots_of}
 use Rattle.mdr_access.specs.Exposed.{all_term_fields}
 use Rattle.mdr_access.proofs.exposed.add_terms.Given as goal

@@ -1,5 +1,5 @@
 use Rattle.std.proofs.Common.{◌≡◌, ◌++◌, map, drop}
-use Rattle.mdr_core.specs.Folds.{term_of, codes_of}
+use Rattle.mdr_core.specs.Folds.{codes_of}
 use Rattle.mdr_core.specs.Typing.{slots_of}
 use Rattle.mdr_access.specs.Told.{form_of}
 use Rattle.mdr_access.specs.Forms.{all_code_forms}

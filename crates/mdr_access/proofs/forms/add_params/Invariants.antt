@@ -1,6 +1,4 @@
 use Rattle.std.proofs.Common.{◌≡◌, ◌++◌, map, drop}
-use Rattle.mdr_core.specs.Folds.{term_of, codes_of}
-use Rattle.mdr_core.specs.Typing.{slots_of}
 use Rattle.mdr_access.specs.Told.{form_of}
 use Rattle.mdr_access.specs.Forms.{param_forms}
 use Rattle.mdr_access.proofs.forms.add_params.Given as goal

@@ -1,6 +1,6 @@
 use Rattle.std.proofs.Common.{◌≡◌, drop}
 use Rattle.std.specs.List.{list_any}
-use Rattle.mdr_access.specs.AllKeys.{same_key}
+use Rattle.mdr_access.specs.KeyOrder.{same_key}
 use Rattle.mdr_access.proofs.keys.is_listed.Given as goal
 
 abbrev pub invariant-loop-k : goal.invariant-loop-k

@@ -1,0 +1,158 @@
+// The plan that has the keys of each function.
+
+ghost use Rattle.std.specs.Prelude.{◌≡◌, ◌≤◌, IfOk, get_or, length, map, vec_items};
+ghost use Rattle.mdr_core.specs.Sound.{IsSound};
+ghost use Rattle.mdr_core.specs.declared.program.Func.{Func as AnyFunc};
+ghost use Rattle.mdr_access.specs.AllKeys.{all_keys};
+ghost use Rattle.mdr_access.specs.Exposed.{exposed_fields};
+ghost use Rattle.mdr_access.specs.Keys.{HasEach, IsPlan};
+ghost use Rattle.mdr_access.specs.Walked.{AreFound, AreLists, AreOwned, IsFoundBy, IsFoundIf};
+
+use crate::copies::{copied_flags, copied_halves, copied_types, names_of};
+use crate::exposed::exposed_fields;
+use crate::keys::all_keys;
+use crate::owned::owned;
+use crate::walk::{is_user, led_marks, picked, turned, user_edges};
+use mdr_core::{Half, Items, Key, OutOfMemory, Plan, Program};
+use mdr_slice::{Halves, call_graph, called_marks};
+use std::alloc::{AllocError, Global};
+
+/// For each function the indices of the keys that it has access forms for.
+fn rows_of(
+    alloc: Global,
+    program: &Program,
+    exposed: &[Key],
+    keys: &[Key],
+) -> Result<Vec<Vec<u32>>, AllocError>
+    requires sound { IsSound program.now }
+    requires few { length program.now.types ≤ 4294967296 }
+    requires fields { exposed.now ≡ exposed_fields program.now }
+    requires all { length keys.now ≤ 4294967296 }
+    ensures { IfOk result (λ rows. AreOwned program.now keys.now (map vec_items rows.items)) }
+{
+    let mut rows = Vec::new(alloc);
+    for own in program.funcs.as_slice() {
+        let row = owned(alloc, program, exposed, keys, own)?;
+        rows.push(row)?;
+    }
+    Ok(rows)
+}
+
+/// The keys of all that a function leads to.
+fn found_keys(
+    alloc: Global,
+    edges: &[Vec<u32>],
+    rows: &[Vec<u32>],
+    keys: &[Key],
+    func: u32,
+) -> Result<Vec<Key>, AllocError>
+    requires { length edges.now ≡ length rows.now }
+    ensures { IfOk result (λ found. IsFoundBy (map vec_items edges.now) (map vec_items rows.now) keys.now func found.items) }
+{
+    let led = led_marks(alloc, edges, func)?;
+    let skipped = turned(alloc, led.as_slice())?;
+    let count = keys.len();
+    let marks = called_marks(alloc, count, rows, skipped.as_slice())?;
+    let found = picked(alloc, keys, marks.as_slice())?;
+    Ok(found)
+}
+
+/// The list of a function of either half.
+fn list_of(
+    alloc: Global,
+    is_user: bool,
+    edges: &[Vec<u32>],
+    rows: &[Vec<u32>],
+    keys: &[Key],
+    func: u32,
+) -> Result<Items<Key>, AllocError>
+    requires { length edges.now ≡ length rows.now }
+    ensures { IfOk result (λ ks. IsFoundIf is_user (map vec_items edges.now) (map vec_items rows.now) keys.now func ks) }
+{
+    if !is_user {
+        return Ok(Items::new(alloc));
+    }
+    let found = found_keys(alloc, edges, rows, keys, func)?;
+    Ok(Items::from_vec(found))
+}
+
+/// The lists of all functions.
+fn lists_of(
+    alloc: Global,
+    halves: &[Half],
+    edges: &[Vec<u32>],
+    rows: &[Vec<u32>],
+    keys: &[Key],
+) -> Result<Vec<Items<Key>>, AllocError>
+    requires same { length edges.now ≡ length rows.now }
+    requires few { length rows.now ≤ 4294967296 }
+    ensures { IfOk result (λ lists. AreFound halves.now (map vec_items edges.now) (map vec_items rows.now) keys.now (length rows.now) lists.items) }
+{
+    let mut lists = Vec::new(alloc);
+    for func in 0..rows.len() {
+        let list = list_of(
+            alloc,
+            is_user(halves, func as u32),
+            edges,
+            rows,
+            keys,
+            func as u32,
+        )?;
+        lists.push(list)?;
+    }
+    Ok(lists)
+}
+
+/// The keys of each function of the user half, and none of the others.
+fn plan_keys(
+    alloc: Global,
+    program: &Program,
+    halves: &[Half],
+) -> Result<Vec<Items<Key>>, OutOfMemory>
+    requires { IsSound program.now }
+    ensures { IfOk result (λ lists. AreLists program.now halves.now lists.items) }
+{
+    let most = 1 << 32;
+    if program.types.len() > most || program.funcs.len() > most {
+        return Err(OutOfMemory);
+    }
+    let exposed = exposed_fields(alloc, program)?;
+    let keys = all_keys(alloc, program)?;
+    if keys.len() > most {
+        return Err(OutOfMemory);
+    }
+    let rows = rows_of(alloc, program, exposed.as_slice(), keys.as_slice())?;
+    let graph = call_graph(alloc, program)?;
+    let edges = user_edges(alloc, halves, graph.as_slice())?;
+    let lists = lists_of(
+        alloc,
+        halves,
+        edges.as_slice(),
+        rows.as_slice(),
+        keys.as_slice(),
+    )?;
+    Ok(lists)
+}
+
+/// The plan of a program and its halves: its types, the names of its functions, the halves, and for each function of the user
+/// half the keys of the cells that it may touch, itself or by functions of its half that it may call.
+pub fn keys_of(alloc: Global, program: &Program, halves: &Halves) -> Result<Plan, OutOfMemory>
+    requires sound { IsSound program.now }
+    requires each { HasEach program.now halves.now }
+    ensures { IfOk result (λ plan. IsPlan program.now halves.now plan) }
+{
+    let lists = plan_keys(alloc, program, halves.halves.as_slice())?;
+    let types = copied_types(alloc, program.types.as_slice())?;
+    let names = names_of(alloc, program.funcs.as_slice())?;
+    let sides = copied_halves(alloc, halves.halves.as_slice())?;
+    let roots = copied_flags(alloc, halves.roots.as_slice())?;
+    let down = copied_flags(alloc, halves.down.as_slice())?;
+    Ok(Plan {
+        types: Items::from_vec(types),
+        names: Items::from_vec(names),
+        halves: Items::from_vec(sides),
+        roots: Items::from_vec(roots),
+        down: Items::from_vec(down),
+        keys: Items::from_vec(lists),
+    })
+}
