@@ -1,0 +1,9 @@
+//! The types of a source: its typed program, or the first fault in it.
+#![tactic(auto)]
+
+mod fault;
+mod joining;
+mod scope;
+
+pub use fault::{Fault, FaultKind};
+pub use scope::{Constant, Entity, Member, Named, Object, Scope, Signature, StructEntry, Tag};
