@@ -1,9 +1,11 @@
 //! The types of a source: its typed program, or the first fault in it.
 #![tactic(auto)]
 
+mod declaration;
 mod fault;
 mod joining;
 mod scope;
+mod types;
 
 pub use fault::{Fault, FaultKind};
 pub use scope::{Constant, Entity, Member, Named, Object, Scope, Signature, StructEntry, Tag};

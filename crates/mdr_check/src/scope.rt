@@ -102,5 +102,9 @@ pub fn entity_named<'a>(scope: &'a Scope, name: &[u8]) -> Option<&'a Named>
 pub fn tag_named<'a>(scope: &'a Scope, name: &[u8]) -> Option<&'a Tag>
     ensures { option_copied result ≡ tag_named scope.now name.now }
 {
-    scope.tags.as_slice().iter().find(|t| t.name.as_slice() == name)
+    scope
+        .tags
+        .as_slice()
+        .iter()
+        .find(|t| t.name.as_slice() == name)
 }

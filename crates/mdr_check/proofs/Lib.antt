@@ -1,0 +1,4 @@
+pub mod Order
+pub mod Gathered
+pub mod Least
+pub mod Stars
