@@ -1,10 +1,11 @@
 // Forms with several parts.
 
 ghost use Rattle.std.specs.Prelude.{◌≡◌, [], IfOk};
-ghost use Rattle.mdr_check.specs.Faults.{joined, extended};
+ghost use Rattle.mdr_check.specs.Faults.{Checked, told, demand, refuse, joined, extended};
+ghost use Rattle.mdr_check.specs.declared.fault.FaultKind.TheVariants.{Mismatch};
 
-use crate::fault::{Fault, lesser};
-use mdr_core::Items;
+use crate::fault::{Fault, FaultKind, lesser};
+use mdr_core::{Items, Place};
 use std::alloc::AllocError;
 
 /// Two parts: both, or the first fault of either.
@@ -37,4 +38,32 @@ pub fn extended<A: Drop>(
         }
         Err(fault) => Ok(Err(fault)),
     }
+}
+
+/// A rule of a form's own: a fault more where the test fails.
+pub fn demanded<A: Drop>(
+    place: Place,
+    kind: FaultKind,
+    holds: bool,
+    form: Result<A, Fault>,
+) -> Result<A, Fault>
+    ensures { (c : Checked A) → form ≡ told c → result ≡ told (demand place kind holds c) }
+{
+    if holds {
+        return form;
+    }
+    match form {
+        Ok(_) => Err(Fault { place, kind }),
+        Err(fault) => Err(lesser(Fault { place, kind }, fault)),
+    }
+}
+
+/// A wrong type.
+pub fn mismatch<A: Drop>(place: Place) -> Result<A, Fault>
+    ensures { result ≡ told (refuse {A = A} place Mismatch) }
+{
+    Err(Fault {
+        place,
+        kind: FaultKind::Mismatch,
+    })
 }

@@ -1,9 +1,11 @@
 //! The types of a source: its typed program, or the first fault in it.
 #![tactic(auto)]
 
-mod declaration;
+mod constant;
+mod declarator;
 mod fault;
 mod joining;
+mod object;
 mod scope;
 mod types;
 
