@@ -1,6 +1,7 @@
 //! The types of a source: its typed program, or the first fault in it.
 #![tactic(auto)]
 
+mod annotation;
 mod constant;
 mod declarator;
 mod fault;
@@ -10,4 +11,6 @@ mod scope;
 mod types;
 
 pub use fault::{Fault, FaultKind};
-pub use scope::{Constant, Entity, Member, Named, Object, Scope, Signature, StructEntry, Tag};
+pub use scope::{
+    Candidate, Constant, Entity, Member, Named, Object, Scope, Signature, StructEntry, Tag,
+};

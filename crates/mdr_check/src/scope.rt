@@ -68,6 +68,15 @@ pub struct StructEntry {
     pub cells: Result<u32, Fault>,
 }
 
+/// A field or a parameter as an annotation sees it: whether it is an integer, and whether it is a scalar. An array is
+/// neither.
+#[derive(Drop)]
+pub struct Candidate {
+    pub name: Option<Name>,
+    pub is_integer: bool,
+    pub is_scalar: bool,
+}
+
 /// What is known at a place of the file outside functions.
 #[derive(Drop)]
 pub struct Scope {
@@ -77,6 +86,8 @@ pub struct Scope {
     pub defines: Items<Named>,
     /// The ordinary names that were declared so far, in their order.
     pub names: Items<Named>,
+    /// The fields of each struct that the file defines, as annotations see them.
+    pub outlines: Items<Items<Candidate>>,
     /// The structs that are complete so far, by their numbers.
     pub structs: Items<StructEntry>,
 }
