@@ -4,7 +4,7 @@ ghost use Rattle.std.specs.Prelude.{◌≡◌, IfOk};
 ghost use Rattle.mdr_core.specs.Types.{is_scalar};
 ghost use Rattle.mdr_check.specs.Declarations.{pointer_to, starred, is_void};
 
-use mdr_core::{Boxed, Items, Name, Ty};
+use mdr_core::{Boxed, Items, Name, OutOfMemory, Ty};
 use std::alloc::{AllocError, Global};
 
 /// The same bytes once more.
@@ -83,5 +83,15 @@ pub fn is_void(ty: &Ty) -> bool
     match ty {
         Ty::Void => true,
         Ty::Int(_) | Ty::Lock | Ty::Struct(_) | Ty::Ptr(_) | Ty::VoidPtr | Ty::Fun(_) => false,
+    }
+}
+
+/// A number of 32 bits. A source with more of anything is too large to be held.
+pub fn small(n: usize) -> Result<u32, OutOfMemory>
+    ensures { IfOk result (λ m. m ≡ n) }
+{
+    match u32::try_from(n) {
+        Ok(n) => Ok(n),
+        Err(_) => Err(OutOfMemory),
     }
 }
