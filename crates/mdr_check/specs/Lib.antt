@@ -2,3 +2,4 @@ pub mod Faults
 pub mod Scopes
 pub mod Declarations
 pub mod Annotations
+pub mod Structs

@@ -95,7 +95,7 @@ fn is_same_name(a: &Option<Name>, b: &Option<Name>) -> bool
 }
 
 /// Whether one of these declares this name, too.
-fn is_declared(before: &[Decl], name: &Option<Name>) -> bool
+pub fn is_declared(before: &[Decl], name: &Option<Name>) -> bool
     ensures { result ≡ list_any (λ b. is_same_name (out-Decl b).name name.now) before.now }
 {
     before.iter().any(|b| is_same_name(&b.name, name))

@@ -8,6 +8,7 @@ mod fault;
 mod joining;
 mod object;
 mod scope;
+mod structs;
 mod types;
 
 pub use fault::{Fault, FaultKind};
