@@ -3,3 +3,4 @@ pub mod Gathered
 pub mod Least
 pub mod Stars
 pub mod Declarators
+pub mod Enumerating

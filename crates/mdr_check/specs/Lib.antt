@@ -3,3 +3,5 @@ pub mod Scopes
 pub mod Declarations
 pub mod Annotations
 pub mod Structs
+pub mod Heads
+pub mod Enums

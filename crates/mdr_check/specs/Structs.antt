@@ -1,10 +1,9 @@
 -- Structs (C99 6.7.2.1).
-use Rattle.std.specs.Prelude.{ℕ, ◌+◌, ◌*◌, ◌==◌, not, nat_lt, Bool, List, [], ◌∷◌, ◌++◌, map, length, Option, Some, None}
+use Rattle.std.specs.Prelude.{ℕ, ◌+◌, ◌*◌, ◌==◌, not, nat_lt, List, [], ◌∷◌, ◌++◌, map, length, Option, Some, None}
 use Rattle.std.specs.List.{list_any}
 use Rattle.mdr_core.specs.declared.place.Place.{Place}
 use Rattle.mdr_core.specs.declared.program.Field.{Field}
 use Rattle.mdr_core.specs.declared.types.Ann.{Ann}
-use Rattle.mdr_core.specs.declared.types.Ty.{Ty}
 use Rattle.mdr_core.specs.Layout.{chosen}
 use Rattle.mdr_syntax.specs.declared.tree.Decl.{Decl, out-Decl}
 use Rattle.mdr_check.specs.declared.fault.FaultKind.TheVariants.{Redefined, Mismatch, Limit}
@@ -13,11 +12,9 @@ use Rattle.mdr_check.specs.declared.scope.Member.{Member}
 use Rattle.mdr_check.specs.declared.scope.Object.{Object}
 use Rattle.mdr_check.specs.declared.scope.Scope.{Scope}
 use Rattle.mdr_check.specs.declared.scope.StructEntry.{StructEntry}
-use Rattle.mdr_check.specs.declared.scope.Tag.{Tag}
 use Rattle.mdr_check.specs.Annotations.{annotated, candidate}
 use Rattle.mdr_check.specs.Declarations.{cells_of, is_same_name, object_declared}
 use Rattle.mdr_check.specs.Faults.{Checked, Right, Wrong, refuse, after, demand, next, told}
-use Rattle.mdr_check.specs.Scopes.{tag_named}
 
 abbrev pub name_or_none : Option (List ℕ) → List ℕ
 name_or_none None = []

@@ -70,7 +70,7 @@ pub fn constant(scope: &Scope, place: Place, c: &Const) -> Result<Constant, Faul
     }
 }
 
-fn enumerated(place: Place, number: i128) -> Result<Constant, Fault>
+pub fn enumerated(place: Place, number: i128) -> Result<Constant, Fault>
     ensures { result ≡ told (enumerated place number) }
 {
     if Kind::S32.contains(number) {

@@ -134,7 +134,7 @@ fn checked_result(place: Place, ty: Result<Ty, Fault>) -> Result<Ty, Fault>
 }
 
 /// A parameter among those before it in its list.
-fn parameter_among(before: &[Decl], d: &Decl, ty: Result<Ty, Fault>) -> Result<Ty, Fault>
+pub fn parameter_among(before: &[Decl], d: &Decl, ty: Result<Ty, Fault>) -> Result<Ty, Fault>
     ensures { (scope : Scope) → ty ≡ told (declarator scope d.now).parameter → result ≡ told (parameter_among (map (declarator scope) before.now) (declarator scope d.now)) }
 {
     let few = demanded(d.place, FaultKind::Limit, before.len() != 8, ty);

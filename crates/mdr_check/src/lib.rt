@@ -4,7 +4,9 @@
 mod annotation;
 mod constant;
 mod declarator;
+mod enumerator;
 mod fault;
+mod head;
 mod joining;
 mod object;
 mod scope;

@@ -1,6 +1,6 @@
 // What names mean: what the rules of declarations and of bodies speak of (C99 6.2.1, 6.2.3).
 
-ghost use Rattle.std.specs.Prelude.{◌≡◌};
+ghost use Rattle.std.specs.Prelude.{◌≡◌, is_some};
 ghost use Rattle.std.specs.Option.{option_copied};
 ghost use Rattle.mdr_check.specs.Scopes.{entity_among, entity_named, tag_named};
 
@@ -118,4 +118,11 @@ pub fn tag_named<'a>(scope: &'a Scope, name: &[u8]) -> Option<&'a Tag>
         .as_slice()
         .iter()
         .find(|t| t.name.as_slice() == name)
+}
+
+/// Whether the file has declared this name already.
+pub fn is_declared_name(scope: &Scope, name: &[u8]) -> bool
+    ensures { result ≡ is_some (entity_among scope.now.names name.now) }
+{
+    among(scope.names.as_slice(), name).is_some()
 }
