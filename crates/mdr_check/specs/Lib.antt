@@ -5,3 +5,4 @@ pub mod Annotations
 pub mod Structs
 pub mod Heads
 pub mod Enums
+pub mod Source

@@ -10,6 +10,7 @@ mod head;
 mod joining;
 mod object;
 mod scope;
+mod source;
 mod structs;
 mod types;
 
