@@ -1,0 +1,6 @@
+pub mod Order
+pub mod Gathered
+pub mod Least
+pub mod Stars
+pub mod Declarators
+pub mod Enumerating
