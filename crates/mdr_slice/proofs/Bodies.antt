@@ -3,27 +3,15 @@ use Rattle.std.proofs.Common.{◌≡◌, ℕ, List, [], ◌∷◌, ◌++◌, map
 use Rattle.std.specs.Option.{option_map}
 use Rattle.mdr_core.specs.declared.code.Expr.{Expr}
 use Rattle.mdr_core.specs.declared.code.Stmt.{Stmt}
-use Rattle.mdr_core.specs.declared.code.Step.{Step}
-use Rattle.mdr_core.specs.declared.code.Step.TheOpen.{Step-F}
-use Rattle.mdr_core.specs.declared.code.Step.TheFolds.{fold-Step, fold-roll-Step, fold_out-Stmt}
 use Rattle.mdr_core.specs.declared.code.Step.TheVariants as step
-use Rattle.mdr_core.specs.declared.code.Step.TheVariants.{rolls-For}
 use Rattle.mdr_core.specs.Code.{CallOf, Code}
-use Rattle.mdr_core.specs.Folds.{term_of, code_list, test_of, before, step_layer, stmt_layer, code_of, codes_of}
+use Rattle.mdr_core.specs.Folds.{term_of, code_list, test_of, before, code_of, codes_of}
+use Rattle.mdr_core.proofs.Coded.{code_is, for_is}
 use Rattle.mdr_slice.specs.Calls.{calls, all_calls, option_names, term_names, code_names, all_code_names}
 
-abbrev does : Step → ℕ → Code
-does = fold-Step (ℕ → Code) Code step_layer stmt_layer
-
-does_so : (s : Stmt) (st : Step) → s.step ≡ st → code_of s ≡ does st s.number
-does_so s st e = fold_out-Stmt (ℕ → Code) Code step_layer stmt_layer s ∙ ap (λ (x : Step). does x s.number) e
-
 pub for_code : (s : Stmt) (init : List Stmt) (test : Option Expr) (next body : List Stmt) → s.step ≡ step.For init test next body
-    → code_of s ≡ Code.Block (before (map code_of init) (Code.Loop s.number (test_of test) (code_list (map code_of next)) (code_list (map code_of body))))
-for_code s init test next body is =
-    does_so s (step.For init test next body) is
-    ∙ ap (λ (x : Step). does x s.number) (sym (rolls-For init test next body))
-    ∙ ap (λ (f : ℕ → Code). f s.number) (fold-roll-Step (ℕ → Code) Code step_layer stmt_layer (Step-F.For init test next body))
+    → code_of s ≡ Code.Block (before (map code_of init) (Code.Loop s.number (test_of test) (codes_of next) (codes_of body)))
+for_code s init test next body is = code_is s _ is ∙ for_is s.number init test next body
 
 pub append_nil : {A : Type 0} (xs : List A) → xs ++ [] ≡ xs
 append_nil [] = refl
