@@ -1,3 +1,4 @@
 pub mod Faults
 pub mod Scopes
 pub mod Declarations
+pub mod Written
