@@ -1,26 +1,20 @@
 -- Expressions: the rule of each form, over its parts (C99 6.3, 6.5).
-use Rattle.std.specs.Prelude.{ℕ, zero, suc, ◌==◌, ◌&&◌, ◌||◌, not, nat_lt, Bool, true, false, pos, List, [], ◌∷◌, length, Option, Some, None, Result, Ok, Err, slice_get}
-use Rattle.std.specs.Option.{option_map}
-use Rattle.mdr_core.specs.declared.code.BinOp.{BinOp}
-use Rattle.mdr_core.specs.declared.code.BinOp.TheVariants.{Add, Sub, Mul, Div, Rem, Shl, Shr, BitAnd, BitOr, BitXor}
-use Rattle.mdr_core.specs.declared.code.RelOp.{RelOp}
-use Rattle.mdr_core.specs.declared.code.RelOp.TheVariants.{Eq, Ne, Lt, Le, Gt, Ge}
+use Rattle.std.specs.Prelude.{false, pos, Option, Some, None}
 use Rattle.mdr_core.specs.declared.code.Expr.{Expr}
 use Rattle.mdr_core.specs.declared.code.Expr.TheOpen.{Lval-F}
 use Rattle.mdr_core.specs.declared.code.Expr.TheVariants as expr
 use Rattle.mdr_core.specs.declared.code.Lval.{Lval, out-Lval}
 use Rattle.mdr_core.specs.declared.code.Lval.TheVariants as lval
 use Rattle.mdr_core.specs.declared.kind.Kind.{Kind}
-use Rattle.mdr_core.specs.declared.kind.Kind.TheVariants.{S32, S64}
+use Rattle.mdr_core.specs.declared.kind.Kind.TheVariants.{S32}
 use Rattle.mdr_core.specs.declared.place.Place.{Place}
 use Rattle.mdr_core.specs.declared.types.Ty.{Ty, out-Ty}
 use Rattle.mdr_core.specs.declared.types.Ty.TheOpen.{Ty-F}
-use Rattle.mdr_core.specs.declared.types.Ty.TheVariants as type
 use Rattle.mdr_core.specs.declared.value.Value.TheVariants as value
-use Rattle.mdr_core.specs.Conversions.{promoted, common_kind}
+use Rattle.mdr_core.specs.Conversions.{promoted}
 use Rattle.mdr_core.specs.Kinds.{is_same_kind}
 use Rattle.mdr_core.specs.Layout.{chosen}
-use Rattle.mdr_check.specs.declared.fault.FaultKind.TheVariants.{UnknownName, Mismatch, NotAnLvalue, Incomplete}
+use Rattle.mdr_check.specs.declared.fault.FaultKind.TheVariants.{Mismatch, NotAnLvalue}
 use Rattle.mdr_check.specs.declared.operand.Integer.{Integer}
 use Rattle.mdr_check.specs.declared.operand.Operand.{Operand}
 use Rattle.mdr_check.specs.declared.operand.Operand.TheVariants as operand
@@ -28,9 +22,7 @@ use Rattle.mdr_check.specs.declared.operand.Scalar.{Scalar}
 use Rattle.mdr_check.specs.declared.operand.Scalar.TheVariants as scalar
 use Rattle.mdr_check.specs.declared.operator.PrefixOperator.{PrefixOperator}
 use Rattle.mdr_check.specs.declared.operator.PrefixOperator.TheVariants as prefix
-use Rattle.mdr_check.specs.declared.scope.Scope.{Scope}
-use Rattle.mdr_check.specs.Faults.{Checked, Right, refuse, again, after, both}
-use Rattle.mdr_check.specs.Alike.{is_alike, are_alike}
+use Rattle.mdr_check.specs.Faults.{Checked, Right, refuse, after}
 
 -- ---- values
 
