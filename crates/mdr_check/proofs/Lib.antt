@@ -4,3 +4,4 @@ pub mod Least
 pub mod Stars
 pub mod Declarators
 pub mod Enumerating
+pub mod Likeness

@@ -6,3 +6,7 @@ pub mod Structs
 pub mod Heads
 pub mod Enums
 pub mod Source
+pub mod Written
+pub mod Signs
+pub mod Alike
+pub mod Forms

@@ -1,6 +1,7 @@
 //! The types of a source: its typed program, or the first fault in it.
 #![tactic(auto)]
 
+mod alike;
 mod annotation;
 mod constant;
 mod declarator;
@@ -9,6 +10,8 @@ mod fault;
 mod head;
 mod joining;
 mod object;
+mod operand;
+mod operator;
 mod scope;
 mod source;
 mod structs;

@@ -1,0 +1,144 @@
+-- Expressions: the rule of each form, over its parts (C99 6.3, 6.5).
+use Rattle.std.specs.Prelude.{false, pos, Option, Some, None}
+use Rattle.mdr_core.specs.declared.code.Expr.{Expr}
+use Rattle.mdr_core.specs.declared.code.Expr.TheOpen.{Lval-F}
+use Rattle.mdr_core.specs.declared.code.Expr.TheVariants as expr
+use Rattle.mdr_core.specs.declared.code.Lval.{Lval, out-Lval}
+use Rattle.mdr_core.specs.declared.code.Lval.TheVariants as lval
+use Rattle.mdr_core.specs.declared.kind.Kind.{Kind}
+use Rattle.mdr_core.specs.declared.kind.Kind.TheVariants.{S32}
+use Rattle.mdr_core.specs.declared.place.Place.{Place}
+use Rattle.mdr_core.specs.declared.types.Ty.{Ty, out-Ty}
+use Rattle.mdr_core.specs.declared.types.Ty.TheOpen.{Ty-F}
+use Rattle.mdr_core.specs.declared.value.Value.TheVariants as value
+use Rattle.mdr_core.specs.Conversions.{promoted}
+use Rattle.mdr_core.specs.Kinds.{is_same_kind}
+use Rattle.mdr_core.specs.Layout.{chosen}
+use Rattle.mdr_check.specs.declared.fault.FaultKind.TheVariants.{Mismatch, NotAnLvalue}
+use Rattle.mdr_check.specs.declared.operand.Integer.{Integer}
+use Rattle.mdr_check.specs.declared.operand.Operand.{Operand}
+use Rattle.mdr_check.specs.declared.operand.Operand.TheVariants as operand
+use Rattle.mdr_check.specs.declared.operand.Scalar.{Scalar}
+use Rattle.mdr_check.specs.declared.operand.Scalar.TheVariants as scalar
+use Rattle.mdr_check.specs.declared.operator.PrefixOperator.{PrefixOperator}
+use Rattle.mdr_check.specs.declared.operator.PrefixOperator.TheVariants as prefix
+use Rattle.mdr_check.specs.Faults.{Checked, Right, refuse, after}
+
+-- ---- values
+
+abbrev pub scalar_by : Expr → Ty-F Ty → Option Scalar
+scalar_by e (Ty-F.Int k) = Some (scalar.Number e k)
+scalar_by e Ty-F.Lock = None
+scalar_by e (Ty-F.Struct s) = None
+scalar_by e (Ty-F.Ptr t) = Some (scalar.Pointer e t)
+scalar_by e Ty-F.VoidPtr = Some (scalar.Opaque e)
+scalar_by e (Ty-F.Fun ts) = Some (scalar.Handle e ts)
+scalar_by e Ty-F.Void = None
+
+-- a value of a type: there are such of scalar types alone
+unfoldable pub scalar_of : Expr → Ty → Option Scalar
+scalar_of e t = scalar_by e (out-Ty t)
+
+abbrev pub null_pointer : Expr
+null_pointer = expr.Lit value.Null
+
+-- the value of an operand: an object is loaded, an array is a pointer to its first element, a function's name a pointer to it (6.3.2.1)
+unfoldable pub value_of : Operand → Option Scalar
+value_of (operand.Value v) = Some v
+value_of (operand.Zero k) = Some (scalar.Number (expr.Lit (value.Int k (pos 0))) k)
+value_of operand.Null = Some (scalar.Opaque null_pointer)
+value_of (operand.Object l t) = scalar_of (expr.Load l) t
+value_of (operand.Array l t n) = Some (scalar.Pointer (expr.Decay l) t)
+value_of (operand.Function f ts) = Some (scalar.Handle (expr.Lit (value.Fn f)) ts)
+
+abbrev pub expression_of : Scalar → Expr
+expression_of (scalar.Number e k) = e
+expression_of (scalar.Pointer e t) = e
+expression_of (scalar.Opaque e) = e
+expression_of (scalar.Handle e ts) = e
+
+abbrev pub needed : {A : Type 0} → Place → Option A → Checked A
+needed p None = refuse p Mismatch
+needed p (Some x) = Right x
+
+-- an operand of the form at place p has a scalar type
+unfoldable pub scalar_at : Place → Operand → Checked Scalar
+scalar_at p x = needed p (value_of x)
+
+abbrev pub integer_by : Scalar → Option Integer
+integer_by (scalar.Number e k) = Some (record { value = e; kind = k })
+integer_by (scalar.Pointer e t) = None
+integer_by (scalar.Opaque e) = None
+integer_by (scalar.Handle e ts) = None
+
+-- an operand of the form at place p has an integer type
+unfoldable pub integer_at : Place → Operand → Checked Integer
+integer_at p x = after (scalar_at p x) (λ v. needed p (integer_by v))
+
+-- ---- integers converted (6.3.1)
+
+unfoldable pub at_kind : Kind → Integer → Expr
+at_kind k n = chosen (is_same_kind k n.kind) n.value (expr.Conv k n.value)
+
+abbrev pub number : Expr → Kind → Operand
+number e k = operand.Value (scalar.Number e k)
+
+-- what a test gives is an `int` (6.5.3.3, 6.5.8, 6.5.9, 6.5.13, 6.5.14)
+abbrev pub truth : Expr → Operand
+truth e = number e S32
+
+unfoldable pub promoted_number : Integer → Operand
+promoted_number n = number (at_kind (promoted n.kind) n) (promoted n.kind)
+
+unfoldable pub negated_number : Integer → Operand
+negated_number n = number (expr.Neg (promoted n.kind) (at_kind (promoted n.kind) n)) (promoted n.kind)
+
+unfoldable pub flipped_number : Integer → Operand
+flipped_number n = number (expr.Flip (promoted n.kind) (at_kind (promoted n.kind) n)) (promoted n.kind)
+
+-- ---- addresses (6.5.3.2)
+
+-- `&*p` is p and `&a[i]` is a + i: what they name isn't evaluated (paragraph 3)
+abbrev pub address_by : Lval-F Expr Lval → Expr
+address_by (Lval-F.Slot i) = expr.Addr (lval.Slot i)
+address_by (Lval-F.Object i) = expr.Addr (lval.Object i)
+address_by (Lval-F.Global g) = expr.Addr (lval.Global g)
+address_by (Lval-F.Deref e) = e
+address_by (Lval-F.Member l f) = expr.Addr (lval.Member l f)
+address_by (Lval-F.Index l e) = expr.Move false (expr.Decay l) e
+
+unfoldable pub address_of : Lval → Expr
+address_of l = address_by (out-Lval l)
+
+-- the operand of `&` is an lvalue or a function's name (paragraph 1). There are no pointers to arrays
+unfoldable pub address : Place → Operand → Checked Operand
+address p (operand.Value v) = refuse p NotAnLvalue
+address p (operand.Zero k) = refuse p NotAnLvalue
+address p operand.Null = refuse p NotAnLvalue
+address p (operand.Object l t) = Right (operand.Value (scalar.Pointer (address_of l) t))
+address p (operand.Array l t n) = refuse p Mismatch
+address p (operand.Function f ts) = Right (operand.Value (scalar.Handle (expr.Lit (value.Fn f)) ts))
+
+-- the operand of `*` is a pointer to an object (paragraphs 2 and 4)
+unfoldable pub target : Place → Scalar → Checked Operand
+target p (scalar.Number e k) = refuse p Mismatch
+target p (scalar.Pointer e t) = Right (operand.Object (lval.Deref e) t)
+target p (scalar.Opaque e) = refuse p Mismatch
+target p (scalar.Handle e ts) = refuse p Mismatch
+
+-- ---- prefix forms (6.5.3)
+
+unfoldable pub prefix_of : Place → Operand → PrefixOperator → Checked Operand
+prefix_of p x prefix.Promote = after (integer_at p x) (λ n. Right (promoted_number n))
+prefix_of p x prefix.Negate = after (integer_at p x) (λ n. Right (negated_number n))
+prefix_of p x prefix.Flip = after (integer_at p x) (λ n. Right (flipped_number n))
+prefix_of p x prefix.Not = after (scalar_at p x) (λ v. Right (truth (expr.Not (expression_of v))))
+prefix_of p x prefix.Address = address p x
+prefix_of p x prefix.Target = after (scalar_at p x) (target p)
+
+abbrev pub prefix_by : Place → Option PrefixOperator → Operand → Checked Operand
+prefix_by p None x = refuse p Mismatch
+prefix_by p (Some op) x = prefix_of p x op
+
+unfoldable pub prefix_rule : Place → Option PrefixOperator → Checked Operand → Checked Operand
+prefix_rule p op c = after c (prefix_by p op)
