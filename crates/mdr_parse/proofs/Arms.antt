@@ -25,7 +25,7 @@ pub refused : (halves : Bool) (n : Nonterminal) (s' : Sort) {ts rest : List Toke
 refused halves n s' {ts = ts} {rest = rest} {t = t} {r = r} e g q h = ap (λ us. first halves n us) e.0 ∙ first_of halves n t rest ∙ ap (λ o. begun_at o (λ r. front halves r rest) (nothing_at (empty n) (t ∷ rest))) (ap (λ x. rule n x t) (sym e.1 ∙ g) ∙ h ∙ ap (λ c. given c r) q) ∙ ap (λ us. nothing_at (empty n) us) (sym e.0)
 
 -- it doesn't begin the nonterminal
-not_begun : {A : Type 0} (o : Rule A) (f : Right A → Read A) (other : Read A) → opens o ≡ false → begun_at o f other ≡ other
+pub not_begun : {A : Type 0} (o : Rule A) (f : Right A → Read A) (other : Read A) → opens o ≡ false → begun_at o f other ≡ other
 not_begun never f other e = refl
 not_begun (given b r) f other e = let q : true ≡ false = e in absurd (Prim.cc)
 
@@ -39,7 +39,7 @@ at_end halves n e = ap (λ us. first halves n us) e ∙ first_none halves n ∙ 
 pub past : (halves : Bool) (n : Nonterminal) (s : Sort) (ts : List Token) {rest : List Token} {t : Token} {b : Bool} {r : Right (Value n)} → word_at halves s ts ≡ Ok (t, rest) → b ≡ true → rule n s t ≡ given b r → first halves n ts ≡ front halves r rest
 past halves n s ts {rest = rest} {t = t} e q h = let w = word_is halves s ts rest t e in goes halves n s (w.0, refl) (is_same s (sort_of halves t.what) w.1) q h
 
-not_word : (halves : Bool) (s : Sort) (t : Token) (ts : List Token) → word_at halves s (t ∷ ts) ≡ Err (length (t ∷ ts)) → is s (sort_of halves t.what) ≡ false
+pub not_word : (halves : Bool) (s : Sort) (t : Token) (ts : List Token) → word_at halves s (t ∷ ts) ≡ Err (length (t ∷ ts)) → is s (sort_of halves t.what) ≡ false
 unfolding word_at
 not_word halves s t ts e = by_test (is s (sort_of halves t.what)) e
   where

@@ -19,3 +19,9 @@ mod Numbered
 mod Arms
 mod Nones
 mod Loops
+mod Going
+mod BehindStars
+mod Turns
+mod Alike
+mod Starred
+mod Voids

@@ -52,6 +52,9 @@ assignment_rule first l d f Sort.Equals t = assigned first l d f t
 assignment_rule first l d f Sort.Compound t = assigned first l d f t
 assignment_rule first l d f _ t = never
 
+abbrev pub simple_in : Place → ℕ → ℕ → Right Node
+simple_in first l d = one (Part.operand false (l + 1) d) >>= λ x. form (assignment first l d x.form x.alone)
+
 abbrev pub simple_rule : ℕ → ℕ → Sort → Token → Rule Node
 simple_rule l d s t = and_then (operand_rule false (l + 1) d s t) (λ x. form (assignment t.place l d x.form x.alone))
 
@@ -65,13 +68,23 @@ abbrev pub right_rule : ℕ → ℕ → Sort → Token → Rule Form
 right_rule l d Sort.Equals t = always (one (Part.right_side l d))
 right_rule l d _ t = never
 
+abbrev pub local_of : Place → ℕ → ℕ → Decl → Right Node
+local_of first l d x = form (option (is_level_free (l + 1)) (Part.right (l + 1) d)) >>= λ r. gives (node_at first (NodeWhat.Local x r))
+
+abbrev pub local_in : Place → Specifier → ℕ → ℕ → Right Node
+local_in first b l d = one (Part.declarator d b 0) >>= λ x. local_of first l d x
+
 abbrev pub local_rule : Place → Specifier → ℕ → ℕ → Sort → Token → Rule Node
-local_rule first b l d s t = and_then (declarator_rule d b 0 s t) (λ x. form (option (is_level_free (l + 1)) (Part.right (l + 1) d)) >>= λ r. gives (node_at first (NodeWhat.Local x r)))
+local_rule first b l d s t = and_then (declarator_rule d b 0 s t) (λ x. local_of first l d x)
+
+abbrev pub locals_of : Place → Specifier → ℕ → ℕ → Right (List Node)
+locals_of first b l d = one (Part.local first b l d) >>= λ x. form (commas (locals first b l d) (x ∷ []))
+
+abbrev pub locals_in : Place → ℕ → ℕ → Right (List Node)
+locals_in first l d = one Part.specifiers >>= λ b. locals_of first b l d
 
 abbrev pub locals_rule : ℕ → ℕ → Sort → Token → Rule (List Node)
-locals_rule l d s t = and_then (specifiers_rule s t) (λ b. do
-  x ← one (Part.local t.place b l d)
-  form (commas (locals t.place b l d) (x ∷ [])))
+locals_rule l d s t = and_then (specifiers_rule s t) (λ b. locals_of t.place b l d)
 
 -- ---- statements
 
@@ -91,6 +104,10 @@ abbrev pub other_node : Option Ended → Option Node
 other_node (Some b) = Some b.node
 other_node None = None
 
+abbrev pub opened_by : Option (List Node) → List Node
+opened_by (Some nodes) = nodes
+opened_by None = []
+
 abbrev pub loop_head : ℕ → Right (List Node × Option Form × Option Node)
 loop_head l = do
   bracket ← take Sort.Open
@@ -101,10 +118,52 @@ loop_head l = do
   n ← form (option (is_level_free ((l + 1) + 1)) (Part.simple (l + 1) 1))
   close ← take Sort.Close
   gives (opened_by i, c, n)
-  where
-    opened_by : Option (List Node) → List Node
-    opened_by (Some nodes) = nodes
-    opened_by None = []
+
+-- a statement of one word
+abbrev pub leaving_by : Place → NodeWhat → Right Ended
+leaving_by place what = take Sort.Semicolon >>= λ e. closed (node_at place what)
+
+-- statements with their parts
+abbrev pub if_at : Place → Form → Ended → Option Ended → Ended
+if_at place c a b = record { node = node_at place (NodeWhat.If c a.node (other_node b)); closed = other_closed b }
+
+abbrev pub while_at : Place → Form → Ended → Ended
+while_at place c a = record { node = node_at place (NodeWhat.While c a.node); closed = a.closed }
+
+abbrev pub do_at : Place → Ended → Form → Ended
+do_at place a c = record { node = node_at place (NodeWhat.Do a.node c); closed = true }
+
+abbrev pub for_at : Place → List Node → Option Form → Option Node → Ended → Ended
+for_at place i c n a = record { node = node_at place (NodeWhat.For i c n a.node); closed = a.closed }
+
+-- the statements whose parts are a level deeper
+abbrev pub deeper_keyword_rule : ℕ → Sort → Token → Rule Ended
+deeper_keyword_rule l Sort.If t = given (is_level_free (l + 1)) do
+  c ← condition l
+  a ← one (Part.body (l + 1))
+  b ← form (otherwise (l + 1) a.closed)
+  gives (if_at t.place c a b)
+deeper_keyword_rule l Sort.While t = given (is_level_free (l + 1)) do
+  c ← condition l
+  a ← one (Part.body (l + 1))
+  gives (while_at t.place c a)
+deeper_keyword_rule l Sort.For t = given (is_level_free (l + 1)) do
+  h ← loop_head l
+  a ← one (Part.body (l + 1))
+  gives (for_at t.place h.0 h.1 h.2 a)
+deeper_keyword_rule l Sort.Do t = given (is_level_free (l + 1)) do
+  a ← one (Part.body (l + 1))
+  word ← take Sort.While
+  c ← condition l
+  end ← take Sort.Semicolon
+  gives (do_at t.place a c)
+deeper_keyword_rule l Sort.Switch t = given (is_level_free (l + 1)) do
+  c ← condition l
+  bracket ← take Sort.OpenBrace
+  cs ← form (many true (clauses (l + 1)) [])
+  close ← take Sort.CloseBrace
+  closed (node_at t.place (NodeWhat.Switch c cs))
+deeper_keyword_rule l _ t = never
 
 abbrev pub keyword_rule : ℕ → Sort → Token → Rule Ended
 keyword_rule l Sort.Semicolon t = always (closed (node_at t.place NodeWhat.Empty))
@@ -112,41 +171,28 @@ keyword_rule l Sort.OpenBrace t = always do
   ns ← form (many (is_level_free (l + 1)) (block_items (l + 1)) [])
   close ← take Sort.CloseBrace
   closed (node_at t.place (NodeWhat.Block (joined ns)))
-keyword_rule l Sort.Break t = always (take Sort.Semicolon >>= λ e. closed (node_at t.place NodeWhat.Break))
-keyword_rule l Sort.Continue t = always (take Sort.Semicolon >>= λ e. closed (node_at t.place NodeWhat.Continue))
+keyword_rule l Sort.Break t = always (leaving_by t.place NodeWhat.Break)
+keyword_rule l Sort.Continue t = always (leaving_by t.place NodeWhat.Continue)
 keyword_rule l Sort.Return t = always do
   v ← form (option (is_level_free (l + 1)) (Part.expression (l + 1) 0))
   end ← take Sort.Semicolon
   closed (node_at t.place (NodeWhat.Return v))
-keyword_rule l Sort.If t = given (is_level_free (l + 1)) do
-  c ← condition l
-  a ← one (Part.body (l + 1))
-  b ← form (otherwise (l + 1) a.closed)
-  gives (record { node = node_at t.place (NodeWhat.If c a.node (other_node b)); closed = other_closed b })
-keyword_rule l Sort.While t = given (is_level_free (l + 1)) do
-  c ← condition l
-  a ← one (Part.body (l + 1))
-  gives (record { node = node_at t.place (NodeWhat.While c a.node); closed = a.closed })
-keyword_rule l Sort.For t = given (is_level_free (l + 1)) do
-  h ← loop_head l
-  a ← one (Part.body (l + 1))
-  gives (record { node = node_at t.place (NodeWhat.For h.0 h.1 h.2 a.node); closed = a.closed })
-keyword_rule l Sort.Do t = given (is_level_free (l + 1)) do
-  a ← one (Part.body (l + 1))
-  word ← take Sort.While
-  c ← condition l
-  end ← take Sort.Semicolon
-  closed (node_at t.place (NodeWhat.Do a.node c))
-keyword_rule l Sort.Switch t = given (is_level_free (l + 1)) do
-  c ← condition l
-  bracket ← take Sort.OpenBrace
-  cs ← form (many true (clauses (l + 1)) [])
-  close ← take Sort.CloseBrace
-  closed (node_at t.place (NodeWhat.Switch c cs))
-keyword_rule l _ t = never
+keyword_rule l s t = deeper_keyword_rule l s t
+
+abbrev pub simple_end : Node → Right Ended
+simple_end n = take Sort.Semicolon >>= λ e. closed n
+
+abbrev pub simple_statement_in : ℕ → Right Ended
+simple_statement_in l = one (Part.simple l 0) >>= λ n. simple_end n
+
+abbrev pub simple_statement_rule : ℕ → Sort → Token → Rule Ended
+simple_statement_rule l s t = where_allowed (is_level_free (l + 1)) (and_then (simple_rule l 0 s t) (λ n. simple_end n))
+
+abbrev pub deeper_rule : ℕ → Sort → Token → Rule Ended
+deeper_rule l s t = or_else (deeper_keyword_rule l s t) (simple_statement_rule l s t)
 
 abbrev pub statement_rule : ℕ → Sort → Token → Rule Ended
-statement_rule l s t = or_else (keyword_rule l s t) (where_allowed (is_level_free (l + 1)) (and_then (simple_rule l 0 s t) (λ n. take Sort.Semicolon >>= λ e. closed n)))
+statement_rule l s t = or_else (keyword_rule l s t) (simple_statement_rule l s t)
 
 -- an `else` stands behind a branch that it can't belong to
 abbrev pub other_branch : Bool → ℕ → Rule (Option Ended)
@@ -161,23 +207,44 @@ otherwise_rule l c _ t = never
 abbrev pub in_block : Place → Ended → Ended
 in_block place s = record { node = node_at place (NodeWhat.Block (s.node ∷ [])); closed = s.closed }
 
+abbrev pub single_in : Place → ℕ → Right Ended
+single_in place l = one (Part.statement (l + 1)) >>= λ s. gives (in_block place s)
+
+abbrev pub single_rule : Place → ℕ → Sort → Token → Rule Ended
+single_rule place l s t = where_allowed (is_level_free (l + 1)) (and_then (statement_rule (l + 1) s t) (λ s. gives (in_block place s)))
+
 abbrev pub single_body : ℕ → Sort → Token → Rule Ended
-single_body l s t = where_allowed (is_level_free (l + 1)) (and_then (statement_rule (l + 1) s t) (λ s. gives (in_block t.place s)))
+single_body l s t = single_rule t.place l s t
 
 abbrev pub body_rule : ℕ → Sort → Token → Rule Ended
 body_rule l Sort.OpenBrace t = statement_rule l Sort.OpenBrace t
 body_rule l s t = single_body l s t
+
+abbrev pub plain_in : ℕ → Right Node
+plain_in l = one (Part.statement l) >>= λ s. gives (s.node)
+
+abbrev pub statement_in : ℕ → Right (List Node)
+statement_in l = one (Part.statement l) >>= λ s. gives (s.node ∷ [])
+
+abbrev pub semicolon_behind : List Node → Right (List Node)
+semicolon_behind ns = take Sort.Semicolon >>= λ e. gives ns
 
 abbrev pub plain_rule : ℕ → Sort → Token → Rule Node
 plain_rule l s t = and_then (statement_rule l s t) (λ s. gives (s.node))
 
 abbrev pub block_item_rule : ℕ → Sort → Token → Rule (List Node)
 block_item_rule l s t = or_else
-    (and_then (locals_rule l 0 s t) (λ ns. take Sort.Semicolon >>= λ e. gives ns))
+    (and_then (locals_rule l 0 s t) (λ ns. semicolon_behind ns))
     (and_then (statement_rule l s t) (λ s. gives (s.node ∷ [])))
 
+abbrev pub opening_simple_in : ℕ → ℕ → Right (List Node)
+opening_simple_in l d = one (Part.simple l d) >>= λ n. gives (n ∷ [])
+
+abbrev pub opening_simple_rule : ℕ → ℕ → Sort → Token → Rule (List Node)
+opening_simple_rule l d s t = where_allowed (is_level_free (l + 1)) (and_then (simple_rule l d s t) (λ n. gives (n ∷ [])))
+
 abbrev pub opening_rule : ℕ → ℕ → Sort → Token → Rule (List Node)
-opening_rule l d s t = or_else (locals_rule l d s t) (where_allowed (is_level_free (l + 1)) (and_then (simple_rule l d s t) (λ n. gives (n ∷ []))))
+opening_rule l d s t = or_else (locals_rule l d s t) (opening_simple_rule l d s t)
 
 abbrev pub label_rule : Sort → Token → Rule Label
 label_rule Sort.Case t = always do
@@ -187,12 +254,18 @@ label_rule Sort.Case t = always do
 label_rule Sort.Default t = always (take Sort.Colon >>= λ e. gives (record { place = t.place; value = None }))
 label_rule _ t = never
 
-abbrev pub clause_rule : ℕ → Sort → Token → Rule Clause
-clause_rule l s t = and_then (label_rule s t) (λ x. do
+abbrev pub clause_of : ℕ → Label → Right Clause
+clause_of l x = do
   ls ← form (many true labels (x ∷ []))
   n ← one (Part.plain l)
   body ← form (many true (statements l) (n ∷ []))
-  gives (roll-Clause (record { labels = ls; body = body })))
+  gives (roll-Clause (record { labels = ls; body = body }))
+
+abbrev pub clause_in : ℕ → Right Clause
+clause_in l = one Part.label >>= λ x. clause_of l x
+
+abbrev pub clause_rule : ℕ → Sort → Token → Rule Clause
+clause_rule l s t = and_then (label_rule s t) (λ x. clause_of l x)
 
 -- ---- items
 

@@ -2,10 +2,14 @@
 #![tactic(auto)]
 
 mod constants;
+mod declarators;
 mod error;
+mod fields;
 mod forms;
+mod initialisers;
 mod laws;
 mod look;
+mod openings;
 mod parts;
 mod sort;
 mod types;
