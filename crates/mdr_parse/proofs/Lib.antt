@@ -25,3 +25,4 @@ mod Turns
 mod Alike
 mod Starred
 mod Voids
+mod Stated

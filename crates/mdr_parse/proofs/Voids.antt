@@ -36,7 +36,7 @@ by_annotation d place named Sort.Name t a b c e = absurd (c refl)
 by_annotation d place named Sort.Open t a b c e = absurd (e refl)
 by_annotation d place named _ t a b c e = refl
 
-allowed : {A : Type 0} (b : Bool) (r : Rule A) → b ≡ true → where_allowed b r ≡ r
+pub allowed : {A : Type 0} (b : Bool) (r : Rule A) → b ≡ true → where_allowed b r ≡ r
 allowed true never e = refl
 allowed true (given c x) e = refl
 allowed false r e = let q : false ≡ true = e in absurd (Prim.cc)

@@ -68,6 +68,9 @@ abbrev pub right_rule : ℕ → ℕ → Sort → Token → Rule Form
 right_rule l d Sort.Equals t = always (one (Part.right_side l d))
 right_rule l d _ t = never
 
+abbrev pub right_there : ℕ → ℕ → Right (Option Form)
+right_there l d = one (Part.right_side l d) >>= λ r. gives (Some r)
+
 abbrev pub local_of : Place → ℕ → ℕ → Decl → Right Node
 local_of first l d x = form (option (is_level_free (l + 1)) (Part.right (l + 1) d)) >>= λ r. gives (node_at first (NodeWhat.Local x r))
 
@@ -165,12 +168,19 @@ deeper_keyword_rule l Sort.Switch t = given (is_level_free (l + 1)) do
   closed (node_at t.place (NodeWhat.Switch c cs))
 deeper_keyword_rule l _ t = never
 
+-- what stands in a block
+abbrev pub items_in : ℕ → Right (List Node)
+items_in l = form (many true (block_items l) []) >>= λ ns. gives (joined ns)
+
+abbrev pub nested_in : ℕ → Right (List Node)
+nested_in l = form (many (is_level_free (l + 1)) (block_items (l + 1)) []) >>= λ ns. gives (joined ns)
+
+abbrev pub block_end : Place → List Node → Right Ended
+block_end place ns = take Sort.CloseBrace >>= λ e. closed (node_at place (NodeWhat.Block ns))
+
 abbrev pub keyword_rule : ℕ → Sort → Token → Rule Ended
 keyword_rule l Sort.Semicolon t = always (closed (node_at t.place NodeWhat.Empty))
-keyword_rule l Sort.OpenBrace t = always do
-  ns ← form (many (is_level_free (l + 1)) (block_items (l + 1)) [])
-  close ← take Sort.CloseBrace
-  closed (node_at t.place (NodeWhat.Block (joined ns)))
+keyword_rule l Sort.OpenBrace t = always (nested_in l >>= λ ns. block_end t.place ns)
 keyword_rule l Sort.Break t = always (leaving_by t.place NodeWhat.Break)
 keyword_rule l Sort.Continue t = always (leaving_by t.place NodeWhat.Continue)
 keyword_rule l Sort.Return t = always do
@@ -194,9 +204,12 @@ deeper_rule l s t = or_else (deeper_keyword_rule l s t) (simple_statement_rule l
 abbrev pub statement_rule : ℕ → Sort → Token → Rule Ended
 statement_rule l s t = or_else (keyword_rule l s t) (simple_statement_rule l s t)
 
+abbrev pub body_there : ℕ → Right (Option Ended)
+body_there l = one (Part.body l) >>= λ b. gives (Some b)
+
 -- an `else` stands behind a branch that it can't belong to
 abbrev pub other_branch : Bool → ℕ → Rule (Option Ended)
-other_branch true l = always (one (Part.body l) >>= λ b. gives (Some b))
+other_branch true l = always (body_there l)
 other_branch false l = never
 
 abbrev pub otherwise_rule : ℕ → Bool → Sort → Token → Rule (Option Ended)
@@ -272,17 +285,29 @@ clause_rule l s t = and_then (label_rule s t) (λ x. clause_of l x)
 abbrev pub item_at : Place → ItemWhat → List Item
 item_at place what = record { place = place; what = what } ∷ []
 
-abbrev pub global_rule : Place → Specifier → Sort → Token → Rule Item
-global_rule first b s t = and_then (declarator_rule 0 b 0 s t) (λ x. do
+abbrev pub global_with : Place → Decl → Right Item
+global_with first x = do
   a ← form (option true (Part.annotation 0))
   i ← form (option true Part.initial)
-  gives (record { place = first; what = item_is.Global (with_annotation x a) i }))
+  gives (record { place = first; what = item_is.Global (with_annotation x a) i })
+
+abbrev pub global_in : Place → Specifier → Right Item
+global_in first b = one (Part.declarator 0 b 0) >>= λ x. global_with first x
+
+abbrev pub global_rule : Place → Specifier → Sort → Token → Rule Item
+global_rule first b s t = and_then (declarator_rule 0 b 0 s t) (λ x. global_with first x)
 
 abbrev pub more_globals : Place → Specifier → Item → Right (List Item)
 more_globals first b g = do
   gs ← form (commas (globals first b) (g ∷ []))
   end ← take Sort.Semicolon
   gives gs
+
+abbrev pub globals_with : Place → Specifier → Decl → Right (List Item)
+globals_with first b x = do
+  a ← form (option true (Part.annotation 0))
+  i ← form (option true Part.initial)
+  more_globals first b (record { place = first; what = item_is.Global (with_annotation x a) i })
 
 abbrev pub head_of : Specifier → ℕ → Token → List Decl → Option AnnText → Head
 head_of b k n ps a = record { place = n.place; name = text_of n.what; base = b.base; stars = k; params = ps; ann = a }
@@ -304,17 +329,23 @@ function_body = do
 abbrev pub are_named : List Decl → Bool
 are_named ps = list_all (λ p. is_some (out-Decl p).name) ps
 
+abbrev pub function_with : Place → Head → Bool → Right (List Item)
+function_with first h is_critical = function_body >>= λ ns. gives (item_at first (item_is.Func h is_critical ns))
+
 -- a prototype's parameters may have no names
 abbrev pub function_end_rule : Place → Head → Sort → Token → Rule (List Item)
 function_end_rule first h Sort.Semicolon t = always (gives (item_at first (item_is.Proto h false)))
-function_end_rule first h Sort.OpenBrace t = given (are_named h.params) (function_body >>= λ ns. gives (item_at first (item_is.Func h false ns)))
+function_end_rule first h Sort.OpenBrace t = given (are_named h.params) (function_with first h false)
 function_end_rule first h _ t = never
 
-abbrev pub function_rule : Place → Specifier → ℕ → Token → Sort → Token → Rule (Option (List Item))
-function_rule first b k n Sort.Open t = always do
+abbrev pub function_there : Place → Specifier → ℕ → Token → Right (Option (List Item))
+function_there first b k n = do
   h ← function_head false b k n
   is ← form (function_end first h)
   gives (Some is)
+
+abbrev pub function_rule : Place → Specifier → ℕ → Token → Sort → Token → Rule (Option (List Item))
+function_rule first b k n Sort.Open t = always (function_there first b k n)
 function_rule first b k n _ t = never
 
 -- a global of the name, if no function came
@@ -330,33 +361,35 @@ named_global first b k n None = do
     global_of z a = roll-Decl (record { place = n.place; name = Some (text_of n.what); base = b.base; stars = k; size = z; fun = None; ann = a })
 
 abbrev pub other_globals : Place → Specifier → ℕ → Sort → Token → Rule (List Item)
-other_globals first b k s t = and_then (declarator_rule 0 b k s t) (λ x. do
-  a ← form (option true (Part.annotation 0))
-  i ← form (option true Part.initial)
-  more_globals first b (record { place = first; what = item_is.Global (with_annotation x a) i }))
+other_globals first b k s t = and_then (declarator_rule 0 b k s t) (λ x. globals_with first b x)
 
 abbrev pub outer_rule : Place → Specifier → ℕ → Sort → Token → Rule (List Item)
 outer_rule first b k Sort.Star t = given (nat_le (k + 1) 4294967295) (form (outer first b (k + 1)))
 outer_rule first b k Sort.Name t = always (form (function first b k t) >>= λ o. named_global first b k t o)
 outer_rule first b k s t = other_globals first b k s t
 
-abbrev pub remote_rule : Place → Specifier → ℕ → Sort → Token → Rule (List Item)
-remote_rule first b k Sort.Star t = given (nat_le (k + 1) 4294967295) (form (remote first b (k + 1)))
-remote_rule first b k Sort.Name t = always do
+abbrev pub remote_there : Place → Specifier → ℕ → Token → Right (List Item)
+remote_there first b k n = do
   bracket ← take Sort.Open
-  h ← function_head false b k t
+  h ← function_head false b k n
   end ← take Sort.Semicolon
   gives (item_at first (item_is.Proto h true))
+
+abbrev pub remote_rule : Place → Specifier → ℕ → Sort → Token → Rule (List Item)
+remote_rule first b k Sort.Star t = given (nat_le (k + 1) 4294967295) (form (remote first b (k + 1)))
+remote_rule first b k Sort.Name t = always (remote_there first b k t)
 remote_rule first b k _ t = never
+
+abbrev pub critical_there : Place → Specifier → ℕ → Token → Right (List Item)
+critical_there first b k n = do
+  bracket ← take Sort.Open
+  h ← function_head true b k n
+  brace ← take Sort.OpenBrace
+  function_with first h true
 
 abbrev pub critical_rule : Place → Specifier → ℕ → Sort → Token → Rule (List Item)
 critical_rule first b k Sort.Star t = given (nat_le (k + 1) 4294967295) (form (critical first b (k + 1)))
-critical_rule first b k Sort.Name t = always do
-  bracket ← take Sort.Open
-  h ← function_head true b k t
-  brace ← take Sort.OpenBrace
-  ns ← function_body
-  gives (item_at first (item_is.Func h true ns))
+critical_rule first b k Sort.Name t = always (critical_there first b k t)
 critical_rule first b k _ t = never
 
 abbrev pub typed_item : Place → Sort → Token → Rule (List Item)

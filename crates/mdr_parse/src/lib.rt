@@ -6,11 +6,14 @@ mod declarators;
 mod error;
 mod fields;
 mod forms;
+mod globals;
 mod initialisers;
 mod laws;
+mod locals;
 mod look;
 mod openings;
 mod parts;
+mod simple;
 mod sort;
 mod types;
 
