@@ -17,6 +17,12 @@ mod Fronts
 mod Admitting
 mod Numbered
 mod Arms
+mod Through
+mod Operating
+mod Extending
+mod Wording
+mod Casting
+mod Expressing
 mod Nones
 mod Loops
 mod Going

@@ -7,3 +7,4 @@ pub mod Grammar
 pub mod Running
 pub mod Front
 pub mod Gives
+pub mod Tails

@@ -58,11 +58,27 @@ fn right_option(
     ensures reads { Gives (λ x. x.0) (λ x. x.1.now) result (first reader.halves (option (may_stand (level + 1)) (a_right (level + 1) depth)) tokens.now) }
     ensures shorter { IfOk result (λ x. length x.1.now ≤ length tokens.now) }
 {
-    if !is_level_free(level + 1) {
-        return Ok((None, tokens));
+    if is_level_free(level + 1) {
+        right_or_none(reader, tokens, level + 1, depth)
+    } else {
+        Ok((None, tokens))
     }
+}
+
+/// A right side behind `=`, if there is one.
+fn right_or_none(
+    reader: Reader,
+    tokens: &[Token],
+    level: u32,
+    depth: u32,
+) -> Result<(Option<Form>, &[Token]), Failure>
+    requires low { level ≤ 256 }
+    requires inside { depth ≤ 512 }
+    ensures reads { Gives (λ x. x.0) (λ x. x.1.now) result (first reader.halves (option true (a_right level depth)) tokens.now) }
+    ensures shorter { IfOk result (λ x. length x.1.now ≤ length tokens.now) }
+{
     match past(reader.halves, Sort::Equals, tokens) {
-        Some((_, rest)) => some_right(reader, rest, level + 1, depth),
+        Some((_, rest)) => some_right(reader, rest, level, depth),
         None => Ok((None, tokens)),
     }
 }

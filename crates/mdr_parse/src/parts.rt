@@ -1,6 +1,6 @@
 // What is read besides the tree itself.
 
-use mdr_core::Place;
+use mdr_core::{Items, Place};
 use mdr_syntax::{Base, Form, Node};
 
 /// A statement, and whether no `else` behind it could belong to it.
@@ -24,4 +24,11 @@ pub struct Part {
     pub form: Form,
     pub alone: bool,
     pub height: u32,
+}
+
+/// Arguments, and how many levels they add to their call.
+#[derive(Debug, Drop)]
+pub struct Arguments {
+    pub forms: Items<Form>,
+    pub highest: u32,
 }
