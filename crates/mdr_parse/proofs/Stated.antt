@@ -14,7 +14,7 @@ use Rattle.mdr_parse.specs.Forms.Right.{gives}
 use Rattle.mdr_parse.specs.Forms.Rule.{never, given}
 use Rattle.mdr_parse.specs.Grammar.{rule, part_rule}
 use Rattle.mdr_parse.specs.Expressions.{is_level_free}
-use Rattle.mdr_parse.specs.Statements.{joined, items_in, nested_in, semicolon_behind, keyword_rule, statement_rule, deeper_rule, deeper_keyword_rule, simple_end, single_rule, opening_simple_rule, locals_rule}
+use Rattle.mdr_parse.specs.Statements.{joined, items_in, nested_in, semicolon_behind, keyword_rule, statement_rule, deeper_rule, deeper_keyword_rule, simple_end, simple_rule, single_rule, opening_simple_rule, locals_rule}
 use Rattle.mdr_parse.specs.Front.{Read, and_read, word_at, begun_at, first, front}
 use Rattle.mdr_parse.specs.Gives.{Gives, read_by}
 use Rattle.mdr_parse.proofs.Hungry.{opens}
@@ -70,7 +70,7 @@ refused_deeper l Sort.While t f other e = not_allowed _ _ f other e
 refused_deeper l Sort.For t f other e = not_allowed _ _ f other e
 refused_deeper l Sort.Do t f other e = not_allowed _ _ f other e
 refused_deeper l Sort.Switch t f other e = not_allowed _ _ f other e
-refused_deeper l _ t f other e = not_where _ _ f other e
+refused_deeper l s t f other e = not_where (is_level_free (l + 1)) (and_then (simple_rule l 0 s t) (λ n. simple_end n)) f other e
 
 pub deeper_refused : (halves : Bool) (l : ℕ) (ts : List Token) → is_level_free (l + 1) ≡ false → read_by halves (deeper_rule l) ts ≡ Err (length ts)
 deeper_refused halves l [] e = refl
