@@ -25,7 +25,7 @@ pub refused : (halves : Bool) (n : Nonterminal) (s' : Sort) {ts rest : List Toke
 refused halves n s' {ts = ts} {rest = rest} {t = t} {r = r} e g q h = ap (λ us. first halves n us) e.0 ∙ first_of halves n t rest ∙ ap (λ o. begun_at o (λ r. front halves r rest) (nothing_at (empty n) (t ∷ rest))) (ap (λ x. rule n x t) (sym e.1 ∙ g) ∙ h ∙ ap (λ c. given c r) q) ∙ ap (λ us. nothing_at (empty n) us) (sym e.0)
 
 -- it doesn't begin the nonterminal
-not_begun : {A : Type 0} (o : Rule A) (f : Right A → Read A) (other : Read A) → opens o ≡ false → begun_at o f other ≡ other
+pub not_begun : {A : Type 0} (o : Rule A) (f : Right A → Read A) (other : Read A) → opens o ≡ false → begun_at o f other ≡ other
 not_begun never f other e = refl
 not_begun (given b r) f other e = let q : true ≡ false = e in absurd (Prim.cc)
 

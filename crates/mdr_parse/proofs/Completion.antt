@@ -114,11 +114,11 @@ fill_enumerator halves = record { given_value = _; before = sample Sort.Name ∷
 fill_initial : (halves : Bool) → Filler halves (part initial)
 fill_initial halves = record { given_value = _; before = sample Sort.Equals ∷ sample Sort.Number ∷ []; reads = λ k ts tree x. starts Sort.Equals refl refl (starts Sort.Number refl refl (x)) }
 
-fill_initialiser : (halves : Bool) → Filler halves (part initialiser)
-fill_initialiser halves = record { given_value = _; before = sample Sort.Number ∷ []; reads = λ k ts tree x. starts Sort.Number refl refl (x) }
+fill_initialiser : (halves : Bool) (n : ℕ) → Filler halves (part (initialiser n))
+fill_initialiser halves n = record { given_value = _; before = sample Sort.Number ∷ []; reads = λ k ts tree x. starts Sort.Number refl refl (x) }
 
-fill_element : (halves : Bool) → Filler halves (part element)
-fill_element halves = record { given_value = _; before = sample Sort.Number ∷ []; reads = λ k ts tree x. starts Sort.Number refl refl (x) }
+fill_element : (halves : Bool) (n : ℕ) → Filler halves (part (element n))
+fill_element halves n = record { given_value = _; before = sample Sort.Number ∷ []; reads = λ k ts tree x. starts Sort.Number refl refl (x) }
 
 fill_global : (halves : Bool) (first : Place) (b : Specifier) → Filler halves (part (global first b))
 fill_global halves first b = record { given_value = _; before = sample Sort.Name ∷ []; reads = λ k ts tree x. starts Sort.Name refl refl (skipped refl (skipped refl (skipped refl (x)))) }
@@ -186,8 +186,8 @@ fill_part halves (field b) = fill_field halves b
 fill_part halves field_group = fill_field_group halves
 fill_part halves enumerator = fill_enumerator halves
 fill_part halves initial = fill_initial halves
-fill_part halves initialiser = fill_initialiser halves
-fill_part halves element = fill_element halves
+fill_part halves (initialiser n) = fill_initialiser halves n
+fill_part halves (element n) = fill_element halves n
 fill_part halves (global first b) = fill_global halves first b
 fill_part halves item = fill_item halves
 

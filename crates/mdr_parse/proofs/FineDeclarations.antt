@@ -77,21 +77,21 @@ pub fine_enumerator : (s : Sort) (t : Token) → FineRule (enumerator_rule s t) 
 fine_enumerator Sort.Name t = λ v. (clear (λ t'. refl), tt)
 fine_enumerator _ t = tt
 
-fine_other_initialiser : (s : Sort) (t : Token) → FineRule (other_initialiser s t) (Hungry (part initialiser))
-fine_other_initialiser Sort.And t = (refl, λ n. tt)
-fine_other_initialiser Sort.OpenBrace t = λ x. (clear (λ t'. refl), λ xs. (clear (λ t'. refl), (refl, λ c. tt)))
-fine_other_initialiser _ t = tt
+fine_other_initialiser : (n : ℕ) (s : Sort) (t : Token) → FineRule (other_initialiser n s t) (Hungry (part (initialiser n)))
+fine_other_initialiser n Sort.And t = (refl, λ x. tt)
+fine_other_initialiser n Sort.OpenBrace t = λ x. (clear (λ t'. refl), λ xs. (clear (λ t'. refl), (refl, λ c. tt)))
+fine_other_initialiser n _ t = tt
 
-pub fine_initialiser : (s : Sort) (t : Token) → FineRule (initialiser_rule s t) (Hungry (part initialiser))
-fine_initialiser s t = fine_or (other_initialiser s t) _ (Hungry (part initialiser)) (fine_other_initialiser s t) (fine_and (constant_rule s t) _ (Hungry (part constant)) (Hungry (part initialiser)) (fine_constant s t) (λ c. (clear (λ t'. refl), tt)))
+pub fine_initialiser : (n : ℕ) (s : Sort) (t : Token) → FineRule (initialiser_rule n s t) (Hungry (part (initialiser n)))
+fine_initialiser n s t = fine_or (other_initialiser n s t) _ (Hungry (part (initialiser n))) (fine_other_initialiser n s t) (fine_and (constant_rule s t) _ (Hungry (part constant)) (Hungry (part (initialiser n))) (fine_constant s t) (λ c. (clear (λ t'. refl), tt)))
 
 pub fine_initial : (s : Sort) (t : Token) → FineRule (initial_rule s t) (Hungry (part initial))
 fine_initial Sort.Equals t = λ v. (clear (λ t'. refl), tt)
 fine_initial _ t = tt
 
-fine_bare : (s : Sort) (t : Token) → FineRule (bare_element s t) (Hungry (part element))
-fine_bare s t = fine_and (initialiser_rule s t) _ (Hungry (part initialiser)) (Hungry (part element)) (fine_initialiser s t) (λ i. (clear (λ t'. refl), tt))
+fine_bare : (n : ℕ) (s : Sort) (t : Token) → FineRule (bare_element n s t) (Hungry (part (element n)))
+fine_bare n s t = fine_and (initialiser_rule n s t) _ (Hungry (part (initialiser n))) (Hungry (part (element n))) (fine_initialiser n s t) (λ i. (clear (λ t'. refl), tt))
 
-pub fine_element : (s : Sort) (t : Token) → FineRule (element_rule s t) (Hungry (part element))
-fine_element Sort.Dot t = (refl, λ n. (refl, λ e. λ i. (clear (λ t'. refl), tt)))
-fine_element s t = fine_bare s t
+pub fine_element : (n : ℕ) (s : Sort) (t : Token) → FineRule (element_rule n s t) (Hungry (part (element n)))
+fine_element n Sort.Dot t = (refl, λ x. (refl, λ e. λ i. (clear (λ t'. refl), tt)))
+fine_element n s t = fine_bare n s t

@@ -53,8 +53,8 @@ fine_part (field b) s t = fine_field b s t
 fine_part field_group s t = fine_field_group s t
 fine_part enumerator s t = fine_enumerator s t
 fine_part initial s t = fine_initial s t
-fine_part initialiser s t = fine_initialiser s t
-fine_part element s t = fine_element s t
+fine_part (initialiser n) s t = fine_initialiser n s t
+fine_part (element n) s t = fine_element n s t
 fine_part (global first b) s t = fine_global first b s t
 fine_part item s t = fine_item s t
 
@@ -93,7 +93,7 @@ fine_commas_open x so_far _ t = tt
 
 fine_after_comma : (x : Enclosed) (so_far : List (PartValue (enclosed x))) (s : Sort) (t : Token) → FineRule (rule (after_comma x so_far) s t) (Hungry (after_comma x so_far))
 fine_after_comma enumerators so_far s t = fine_and (part_rule enumerator s t) _ (Hungry (part enumerator)) (Hungry (after_comma enumerators so_far)) (fine_part enumerator s t) (λ v. (clear (λ t'. refl), λ w. (record { at = λ s t h. h }, tt)))
-fine_after_comma elements so_far s t = fine_and (part_rule element s t) _ (Hungry (part element)) (Hungry (after_comma elements so_far)) (fine_part element s t) (λ v. (clear (λ t'. refl), λ w. (record { at = λ s t h. h }, tt)))
+fine_after_comma (elements n) so_far s t = fine_and (part_rule (element n) s t) _ (Hungry (part (element n))) (Hungry (after_comma (elements n) so_far)) (fine_part (element n) s t) (λ v. (clear (λ t'. refl), λ w. (record { at = λ s t h. h }, tt)))
 
 pub fine_rule : (n : Nonterminal) (s : Sort) (t : Token) → FineRule (rule n s t) (Hungry n)
 fine_rule (part x) s t = fine_part x s t

@@ -14,36 +14,36 @@ use Rattle.mdr_parse.specs.Front.{Read, and_read, found, word_at, front_by, noth
 abbrev pub Reader : Type 0
 Reader = (n : Nonterminal) → List Token → Read (Value n)
 
--- what is left is no longer
+-- what is left, or was left at the fault, is no longer
 abbrev pub Rest : {A : Type 0} → Read A → ℕ → Type 0
 Rest (Ok x) most = length x.1 ≤ most
-Rest (Err left) most = Unit {0}
+Rest (Err left) most = left ≤ most
 
 rest_and : {A B : Type 0} (o : Read A) (f : A → List Token → Read B) (most : ℕ) → Rest o most → ((v : A) (rest : List Token) → length rest ≤ most → Rest (f v rest) most) → Rest (and_read o f) most
 rest_and (Ok x) f most h g = g x.0 x.1 h
-rest_and (Err left) f most h g = tt
+rest_and (Err left) f most h g = h
 
 rest_word : (halves : Bool) (s : Sort) (ts : List Token) (most : ℕ) → length ts ≤ most → Rest (word_at halves s ts) most
 unfolding word_at
-rest_word halves s [] most h = tt
+rest_word halves s [] most h = omega arith
 rest_word halves s (t ∷ ts) most h = by_test (is s (sort_of halves t.what))
   where
     by_test : (b : Bool) → Rest (found b t ts) most
     by_test true = omega (arith, h)
-    by_test false = tt
+    by_test false = h
 
 rest_nothing : {A : Type 0} (o : Empty A) (ts : List Token) (most : ℕ) → length ts ≤ most → Rest (nothing_at o ts) most
-rest_nothing cannot ts most h = tt
+rest_nothing cannot ts most h = h
 rest_nothing (may true v) ts most h = h
-rest_nothing (may false v) ts most h = tt
+rest_nothing (may false v) ts most h = h
 
-rest_front : {A : Type 0} (f : Reader) (halves : Bool) (r : Right A) (ts : List Token) (most : ℕ) → ((n : Nonterminal) (us : List Token) → length us ≤ most → Rest (f n us) most) → length ts ≤ most → Rest (front_by f halves r ts) most
+pub rest_front : {A : Type 0} (f : Reader) (halves : Bool) (r : Right A) (ts : List Token) (most : ℕ) → ((n : Nonterminal) (us : List Token) → length us ≤ most → Rest (f n us) most) → length ts ≤ most → Rest (front_by f halves r ts) most
 rest_front f halves (gives v) ts most g h = h
 rest_front f halves (takes s r) ts most g h = rest_and (word_at halves s ts) _ most (rest_word halves s ts most h) (λ t rest h'. rest_front f halves (r t) rest most g h')
 rest_front f halves (then n k) ts most g h = rest_and (f n ts) _ most (g n ts h) (λ v rest h'. rest_front f halves (k v) rest most g h')
 
 rest_within : (m : ℕ) (halves : Bool) (n : Nonterminal) (ts : List Token) (most : ℕ) → length ts ≤ most → Rest (first_within m halves n ts) most
-rest_within zero halves n ts most h = tt
+rest_within zero halves n ts most h = omega arith
 rest_within (suc m) halves n [] most h = rest_nothing (empty n) [] most h
 rest_within (suc m) halves n (t ∷ ts) most h = by_rule (rule n (sort_of halves t.what) t) (λ r. rest_front _ halves r ts most (λ n us h'. rest_within m halves n us most h') (omega (arith, h)))
   where

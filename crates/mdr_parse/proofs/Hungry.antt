@@ -53,8 +53,8 @@ hungry_part (field b) s = not (is Sort.Comma s || is Sort.Semicolon s)
 hungry_part field_group s = false
 hungry_part enumerator s = is Sort.Equals s
 hungry_part initial s = false
-hungry_part initialiser s = false
-hungry_part element s = false
+hungry_part (initialiser n) s = false
+hungry_part (element n) s = false
 hungry_part (global first b) s = not (is Sort.Comma s || is Sort.Semicolon s)
 hungry_part item s = false
 

@@ -25,3 +25,10 @@ mod Casting
 mod Expressing
 mod Nones
 mod Loops
+mod Going
+mod BehindStars
+mod Turns
+mod Alike
+mod Starred
+mod Voids
+mod Stated

@@ -1,9 +1,9 @@
 -- Tokens that begin nothing.
-use Rattle.std.proofs.Common.{◌≡◌, refl, ℕ, false, true}
+use Rattle.std.proofs.Common.{◌≡◌, refl, ℕ, Bool, false, true}
 use Rattle.mdr_syntax.specs.declared.token.Token.{Token}
 use Rattle.mdr_parse.specs.Sorts.{Sort, is}
-use Rattle.mdr_parse.specs.Forms.Part.{size}
-use Rattle.mdr_parse.specs.Forms.Nonterminal.{option, stars}
+use Rattle.mdr_parse.specs.Forms.Part.{size, value, initial, enumerator}
+use Rattle.mdr_parse.specs.Forms.Nonterminal.{part, option, stars, parameter_name}
 use Rattle.mdr_parse.specs.Grammar.{rule}
 use Rattle.mdr_parse.specs.Declarations.{constant_rule, annotation_rule}
 use Rattle.mdr_parse.proofs.Hungry.{opens}
@@ -28,3 +28,19 @@ no_size _ t e = refl
 pub no_stars : (k : ℕ) (s : Sort) (t : Token) → is Sort.Star s ≡ false → opens (rule (stars k) s t) ≡ false
 no_stars k Sort.Star t e = let q : true ≡ false = e in absurd (Prim.cc)
 no_stars k _ t e = refl
+
+pub no_enumerator : (s : Sort) (t : Token) → is Sort.Name s ≡ false → opens (rule (part enumerator) s t) ≡ false
+no_enumerator Sort.Name t e = let q : true ≡ false = e in absurd (Prim.cc)
+no_enumerator _ t e = refl
+
+pub no_value : (s : Sort) (t : Token) → is Sort.Equals s ≡ false → opens (rule (option true value) s t) ≡ false
+no_value Sort.Equals t e = let q : true ≡ false = e in absurd (Prim.cc)
+no_value _ t e = refl
+
+pub no_initial : (s : Sort) (t : Token) → is Sort.Equals s ≡ false → opens (rule (option true initial) s t) ≡ false
+no_initial Sort.Equals t e = let q : true ≡ false = e in absurd (Prim.cc)
+no_initial _ t e = refl
+
+pub no_name : (named : Bool) (s : Sort) (t : Token) → is Sort.Name s ≡ false → opens (rule (parameter_name named) s t) ≡ false
+no_name named Sort.Name t e = let q : true ≡ false = e in absurd (Prim.cc)
+no_name named _ t e = refl

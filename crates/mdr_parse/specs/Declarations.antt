@@ -20,7 +20,7 @@ use Rattle.mdr_parse.specs.Forms.Separated.{parameters_at, fields_of}
 use Rattle.mdr_parse.specs.Forms.Enclosed.{elements}
 use Rattle.mdr_parse.specs.Forms.Right.{gives}
 use Rattle.mdr_parse.specs.Forms.Rule.{never, given}
-use Rattle.mdr_parse.specs.Expressions.{may_open, text_of, number_in, kind_in, base_rule}
+use Rattle.mdr_parse.specs.Expressions.{may_open, may_nest, text_of, number_in, kind_in, base_rule}
 
 -- ---- constants, sizes and annotations
 
@@ -72,6 +72,9 @@ annotation_rule d Sort.Sentinel t = given (may_open (d + 1)) sentinel_behind
 annotation_rule d Sort.NullTerm t = always (gives annotated.NullTerm)
 annotation_rule d Sort.Opaque t = always (gives annotated.Opaque)
 annotation_rule d _ t = never
+
+abbrev pub constant_there : Right (Option Const)
+constant_there = one Part.constant >>= λ c. gives (Some c)
 
 abbrev pub value_rule : Sort → Token → Rule Const
 value_rule Sort.Equals t = always (one Part.constant)
@@ -136,14 +139,37 @@ parameter_declarator_rule named d b k _ t = never
 abbrev pub annotated_parameter : ℕ → Decl → Right Decl
 annotated_parameter d x = form (option true (Part.annotation d)) >>= λ a. gives (with_annotation x a)
 
+abbrev pub parameter_of : Bool → ℕ → Specifier → Right Decl
+parameter_of named d b = form (parameter_declarator named d b 0) >>= λ x. annotated_parameter d x
+
+abbrev pub parameter_in : Bool → ℕ → Right Decl
+parameter_in named d = one Part.specifiers >>= λ b. parameter_of named d b
+
 abbrev pub parameter_rule : Bool → ℕ → Sort → Token → Rule Decl
-parameter_rule named d s t = and_then (specifiers_rule s t) (λ b. form (parameter_declarator named d b 0) >>= λ x. annotated_parameter d x)
+parameter_rule named d s t = and_then (specifiers_rule s t) (λ b. parameter_of named d b)
 
 abbrev pub more_parameters : Bool → ℕ → Decl → Right (List Decl)
 more_parameters named d x = form (commas (parameters_at named d) (x ∷ []))
 
+abbrev pub parameters_in : Bool → ℕ → Right (List Decl)
+parameters_in named d = one (Part.parameter named d) >>= λ x. more_parameters named d x
+
 abbrev pub void_base : Place → Specifier
 void_base place = record { base = base_type.Void; place = place }
+
+-- a first parameter of type `void` with a declarator; with an annotation alone, if it has one
+abbrev pub declared_void : Bool → ℕ → Place → Right (List Decl)
+declared_void named d place = form (parameter_declarator named d (void_base place) 0) >>= λ x. annotated_parameter d x >>= λ y. more_parameters named d y
+
+abbrev pub void_with : Bool → ℕ → Place → AnnText → Right (List Decl)
+void_with named d place a = more_parameters named d (with_annotation (unnamed (void_base place) 0 None) (Some a))
+
+abbrev pub perhaps_void_with : Bool → ℕ → Place → Option AnnText → Right (List Decl)
+perhaps_void_with named d place (Some a) = void_with named d place a
+perhaps_void_with named d place None = gives []
+
+abbrev pub annotated_void : Bool → ℕ → Place → Right (List Decl)
+annotated_void named d place = form (option true (Part.annotation d)) >>= λ a. perhaps_void_with named d place a
 
 abbrev pub void_parameter : Bool → ℕ → Place → Sort → Token → Rule (List Decl)
 void_parameter named d place s t = or_else
@@ -166,15 +192,24 @@ parameters_rule named d s t = listed_parameters named d s t
 
 -- ---- fields
 
-abbrev pub field_rule : Specifier → Sort → Token → Rule Decl
-field_rule b s t = and_then (declarator_rule 0 b 0 s t) (λ x. form (option true (Part.annotation 0)) >>= λ a. gives (with_annotation x a))
+abbrev pub field_in : Specifier → Right Decl
+field_in b = one (Part.declarator 0 b 0) >>= λ x. annotated_parameter 0 x
 
-abbrev pub field_group_rule : Sort → Token → Rule (List Decl)
-field_group_rule s t = and_then (specifiers_rule s t) (λ b. do
+abbrev pub field_rule : Specifier → Sort → Token → Rule Decl
+field_rule b s t = and_then (declarator_rule 0 b 0 s t) (λ x. annotated_parameter 0 x)
+
+abbrev pub fields_in : Specifier → Right (List Decl)
+fields_in b = do
   x ← one (Part.field b)
   xs ← form (commas (fields_of b) (x ∷ []))
   end ← take Sort.Semicolon
-  gives xs)
+  gives xs
+
+abbrev pub group_in : Right (List Decl)
+group_in = one Part.specifiers >>= λ b. fields_in b
+
+abbrev pub field_group_rule : Sort → Token → Rule (List Decl)
+field_group_rule s t = and_then (specifiers_rule s t) (λ b. fields_in b)
 
 -- ---- enumeration constants
 
@@ -184,31 +219,40 @@ enumerator_rule _ t = never
 
 -- ---- initialisers of globals
 
-abbrev pub other_initialiser : Sort → Token → Rule Init
-other_initialiser Sort.Null t = always (gives (Init.Null t.place))
-other_initialiser Sort.And t = always (take Sort.Name >>= λ n. gives (Init.Address t.place (text_of n.what)))
-other_initialiser Sort.Text t = always (gives (Init.Text t.place (text_of t.what)))
-other_initialiser Sort.OpenBrace t = always do
-  x ← one Part.element
-  xs ← form (commas_open elements (x ∷ []))
+abbrev pub other_initialiser : ℕ → Sort → Token → Rule Init
+other_initialiser n Sort.Null t = always (gives (Init.Null t.place))
+other_initialiser n Sort.And t = always (take Sort.Name >>= λ x. gives (Init.Address t.place (text_of x.what)))
+other_initialiser n Sort.Text t = always (gives (Init.Text t.place (text_of t.what)))
+other_initialiser n Sort.OpenBrace t = given (may_nest (n + 1)) do
+  x ← one (Part.element (n + 1))
+  xs ← form (commas_open (elements (n + 1)) (x ∷ []))
   close ← take Sort.CloseBrace
   gives (Init.List t.place xs)
-other_initialiser _ t = never
+other_initialiser n _ t = never
 
-abbrev pub initialiser_rule : Sort → Token → Rule Init
-initialiser_rule s t = or_else (other_initialiser s t) (and_then (constant_rule s t) (λ c. gives (Init.Const c)))
+abbrev pub constant_in : Right Init
+constant_in = one Part.constant >>= λ c. gives (Init.Const c)
+
+abbrev pub initialiser_rule : ℕ → Sort → Token → Rule Init
+initialiser_rule n s t = or_else (other_initialiser n s t) (and_then (constant_rule s t) (λ c. gives (Init.Const c)))
+
+abbrev pub initialiser_there : Right (Option Init)
+initialiser_there = one (Part.initialiser 0) >>= λ i. gives (Some i)
 
 abbrev pub initial_rule : Sort → Token → Rule Init
-initial_rule Sort.Equals t = always (one Part.initialiser)
+initial_rule Sort.Equals t = always (one (Part.initialiser 0))
 initial_rule _ t = never
 
-abbrev pub bare_element : Sort → Token → Rule Elem
-bare_element s t = and_then (initialiser_rule s t) (λ i. gives (record { field = None; init = i }))
+abbrev pub element_in : ℕ → Right Elem
+element_in n = one (Part.initialiser n) >>= λ i. gives (record { field = None; init = i })
 
-abbrev pub element_rule : Sort → Token → Rule Elem
-element_rule Sort.Dot t = always do
-  n ← take Sort.Name
+abbrev pub bare_element : ℕ → Sort → Token → Rule Elem
+bare_element n s t = and_then (initialiser_rule n s t) (λ i. gives (record { field = None; init = i }))
+
+abbrev pub element_rule : ℕ → Sort → Token → Rule Elem
+element_rule n Sort.Dot t = always do
+  x ← take Sort.Name
   equals ← take Sort.Equals
-  i ← one Part.initialiser
-  gives (record { field = Some (record { place = n.place; name = text_of n.what }); init = i })
-element_rule s t = bare_element s t
+  i ← one (Part.initialiser n)
+  gives (record { field = Some (record { place = x.place; name = text_of x.what }); init = i })
+element_rule n s t = bare_element n s t

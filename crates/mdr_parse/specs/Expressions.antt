@@ -30,6 +30,10 @@ is_level_free l = nat_le l 256
 abbrev pub may_open : ℕ → Bool
 may_open d = nat_le d 512
 
+-- so many braces of an initialiser may be open
+abbrev pub may_nest : ℕ → Bool
+may_nest n = nat_le n 256
+
 -- how many levels a form has below its own
 abbrev pub highest : List ℕ → ℕ
 highest [] = 0

@@ -24,7 +24,7 @@ pub record Operand : Type 0 where
   pub form : Form
   pub alone : Bool
 
--- The forms that stand alone, in lists or as options. `l` is the level of a form or statement, `d` how many parentheses are open.
+-- The forms that stand alone, in lists or as options. `l` is the level of a form or statement, `d` how many parentheses are open, `braces` how many of an initialiser's.
 pub data Part : Type 0 where
   operand : (casts : Bool) (l d : ℕ) → Part
   expression : (l d : ℕ) → Part
@@ -54,8 +54,8 @@ pub data Part : Type 0 where
   field_group : Part
   enumerator : Part
   initial : Part
-  initialiser : Part
-  element : Part
+  initialiser : (braces : ℕ) → Part
+  element : (braces : ℕ) → Part
   global : (first : Place) (b : Specifier) → Part
   item : Part
 
@@ -86,8 +86,8 @@ PartValue (field b) = Decl
 PartValue field_group = List Decl
 PartValue enumerator = Enumerator
 PartValue initial = Init
-PartValue initialiser = Init
-PartValue element = Elem
+PartValue (initialiser n) = Init
+PartValue (element n) = Elem
 PartValue (global first b) = Item
 PartValue item = List Item
 
@@ -126,11 +126,11 @@ separated (globals first b) = global first b
 -- those that may have a comma behind the last one too
 pub data Enclosed : Type 0 where
   enumerators : Enclosed
-  elements : Enclosed
+  elements : (braces : ℕ) → Enclosed
 
 abbrev pub enclosed : Enclosed → Part
 enclosed enumerators = enumerator
-enclosed elements = element
+enclosed (elements n) = element n
 
 pub data Nonterminal : Type 0 where
   part : Part → Nonterminal

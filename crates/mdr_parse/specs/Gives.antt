@@ -1,14 +1,15 @@
 -- What a function returned is what is read at the front of the tokens, unless memory ran out.
-use Rattle.std.specs.Prelude.{ℕ, ◌+◌, ◌≤◌, Bool, length, ◌≡◌, List, Option, Some, None, [], ◌∷◌, Result, Ok, Err}
+use Rattle.std.specs.Prelude.{ℕ, suc, ◌+◌, ◌≤◌, Bool, false, nat_eq, true, length, ◌≡◌, List, Option, Some, None, [], ◌∷◌, Result, Ok, Err}
 use Rattle.mdr_syntax.specs.declared.token.Token.{Token}
 use Rattle.mdr_parse.specs.declared.error.Failure.{Failure}
 use Rattle.mdr_parse.specs.declared.error.Failure.TheVariants.{Memory, Fault}
 use Rattle.mdr_parse.specs.Sorts.{Sort, sort_of}
 use Rattle.mdr_parse.specs.declared.parts.Part.{Part}
-use Rattle.mdr_parse.specs.Forms.{Operand, Right, Rule}
+use Rattle.mdr_parse.specs.Forms.{Operand, Right, Rule, Empty}
+use Rattle.mdr_parse.specs.Forms.Empty.{cannot}
 use Rattle.mdr_parse.specs.Forms.Rule.{never, given}
 use Rattle.mdr_parse.specs.Expressions.{height}
-use Rattle.mdr_parse.specs.Front.{Read, word_at}
+use Rattle.mdr_parse.specs.Front.{Read, word_at, nothing_at, begun_at, front}
 
 abbrev pub Fails : {A : Type 0} → Failure → Read A → Type 0
 Fails Memory read = Unit {0}
@@ -39,3 +40,30 @@ operand_of p = record { form = p.form; alone = p.alone }
 
 abbrev pub IsMeasured : Part → (l : ℕ) → Type 0
 IsMeasured p l = (p.height ≡ height p.form) × (l + p.height ≤ 256)
+
+-- what a rule reads at the front of the tokens, or what is given where none begins
+abbrev pub read_from : {A : Type 0} → Empty A → Bool → (Sort → Token → Rule A) → List Token → Read A
+read_from o halves r [] = nothing_at o []
+read_from o halves r (t ∷ ts) = begun_at (r (sort_of halves t.what) t) (λ x. front halves x ts) (nothing_at o (t ∷ ts))
+
+abbrev pub read_by : {A : Type 0} → Bool → (Sort → Token → Rule A) → List Token → Read A
+read_by halves r ts = read_from cannot halves r ts
+
+-- a rule behind stars
+abbrev pub after_stars : {A : Type 0} → (Sort → Token → Rule A) → Sort → Token → Rule A
+after_stars r Sort.Star t = never
+after_stars r s t = r s t
+
+-- whether nothing was read of so many tokens
+abbrev pub is_at : Failure → ℕ → Bool
+is_at Memory n = false
+is_at (Fault left) n = nat_eq left n
+
+abbrev pub chosen : {A : Type 0} → Bool → A → A → A
+chosen true x y = x
+chosen false x y = y
+
+-- what was read, or nothing where the first token begins nothing
+abbrev pub perhaps : {A : Type 0} → Read A → List Token → Read (Option A)
+perhaps (Ok x) ts = Ok (Some x.0, x.1)
+perhaps (Err left) ts = chosen (nat_eq left (length ts)) (Ok (None, ts)) (Err left)

@@ -45,8 +45,8 @@ part_rule (field b) = field_rule b
 part_rule field_group = field_group_rule
 part_rule enumerator = enumerator_rule
 part_rule initial = initial_rule
-part_rule initialiser = initialiser_rule
-part_rule element = element_rule
+part_rule (initialiser n) = initialiser_rule n
+part_rule (element n) = element_rule n
 part_rule (global first b) = global_rule first b
 part_rule item = item_rule
 

@@ -52,6 +52,9 @@ assignment_rule first l d f Sort.Equals t = assigned first l d f t
 assignment_rule first l d f Sort.Compound t = assigned first l d f t
 assignment_rule first l d f _ t = never
 
+abbrev pub simple_in : Place → ℕ → ℕ → Right Node
+simple_in first l d = one (Part.operand false (l + 1) d) >>= λ x. form (assignment first l d x.form x.alone)
+
 abbrev pub simple_rule : ℕ → ℕ → Sort → Token → Rule Node
 simple_rule l d s t = and_then (operand_rule false (l + 1) d s t) (λ x. form (assignment t.place l d x.form x.alone))
 
@@ -65,13 +68,26 @@ abbrev pub right_rule : ℕ → ℕ → Sort → Token → Rule Form
 right_rule l d Sort.Equals t = always (one (Part.right_side l d))
 right_rule l d _ t = never
 
+abbrev pub right_there : ℕ → ℕ → Right (Option Form)
+right_there l d = one (Part.right_side l d) >>= λ r. gives (Some r)
+
+abbrev pub local_of : Place → ℕ → ℕ → Decl → Right Node
+local_of first l d x = form (option (is_level_free (l + 1)) (Part.right (l + 1) d)) >>= λ r. gives (node_at first (NodeWhat.Local x r))
+
+abbrev pub local_in : Place → Specifier → ℕ → ℕ → Right Node
+local_in first b l d = one (Part.declarator d b 0) >>= λ x. local_of first l d x
+
 abbrev pub local_rule : Place → Specifier → ℕ → ℕ → Sort → Token → Rule Node
-local_rule first b l d s t = and_then (declarator_rule d b 0 s t) (λ x. form (option (is_level_free (l + 1)) (Part.right (l + 1) d)) >>= λ r. gives (node_at first (NodeWhat.Local x r)))
+local_rule first b l d s t = and_then (declarator_rule d b 0 s t) (λ x. local_of first l d x)
+
+abbrev pub locals_of : Place → Specifier → ℕ → ℕ → Right (List Node)
+locals_of first b l d = one (Part.local first b l d) >>= λ x. form (commas (locals first b l d) (x ∷ []))
+
+abbrev pub locals_in : Place → ℕ → ℕ → Right (List Node)
+locals_in first l d = one Part.specifiers >>= λ b. locals_of first b l d
 
 abbrev pub locals_rule : ℕ → ℕ → Sort → Token → Rule (List Node)
-locals_rule l d s t = and_then (specifiers_rule s t) (λ b. do
-  x ← one (Part.local t.place b l d)
-  form (commas (locals t.place b l d) (x ∷ [])))
+locals_rule l d s t = and_then (specifiers_rule s t) (λ b. locals_of t.place b l d)
 
 -- ---- statements
 
@@ -91,6 +107,10 @@ abbrev pub other_node : Option Ended → Option Node
 other_node (Some b) = Some b.node
 other_node None = None
 
+abbrev pub opened_by : Option (List Node) → List Node
+opened_by (Some nodes) = nodes
+opened_by None = []
+
 abbrev pub loop_head : ℕ → Right (List Node × Option Form × Option Node)
 loop_head l = do
   bracket ← take Sort.Open
@@ -101,56 +121,95 @@ loop_head l = do
   n ← form (option (is_level_free ((l + 1) + 1)) (Part.simple (l + 1) 1))
   close ← take Sort.Close
   gives (opened_by i, c, n)
-  where
-    opened_by : Option (List Node) → List Node
-    opened_by (Some nodes) = nodes
-    opened_by None = []
 
-abbrev pub keyword_rule : ℕ → Sort → Token → Rule Ended
-keyword_rule l Sort.Semicolon t = always (closed (node_at t.place NodeWhat.Empty))
-keyword_rule l Sort.OpenBrace t = always do
-  ns ← form (many (is_level_free (l + 1)) (block_items (l + 1)) [])
-  close ← take Sort.CloseBrace
-  closed (node_at t.place (NodeWhat.Block (joined ns)))
-keyword_rule l Sort.Break t = always (take Sort.Semicolon >>= λ e. closed (node_at t.place NodeWhat.Break))
-keyword_rule l Sort.Continue t = always (take Sort.Semicolon >>= λ e. closed (node_at t.place NodeWhat.Continue))
-keyword_rule l Sort.Return t = always do
-  v ← form (option (is_level_free (l + 1)) (Part.expression (l + 1) 0))
-  end ← take Sort.Semicolon
-  closed (node_at t.place (NodeWhat.Return v))
-keyword_rule l Sort.If t = given (is_level_free (l + 1)) do
+-- a statement of one word
+abbrev pub leaving_by : Place → NodeWhat → Right Ended
+leaving_by place what = take Sort.Semicolon >>= λ e. closed (node_at place what)
+
+-- statements with their parts
+abbrev pub if_at : Place → Form → Ended → Option Ended → Ended
+if_at place c a b = record { node = node_at place (NodeWhat.If c a.node (other_node b)); closed = other_closed b }
+
+abbrev pub while_at : Place → Form → Ended → Ended
+while_at place c a = record { node = node_at place (NodeWhat.While c a.node); closed = a.closed }
+
+abbrev pub do_at : Place → Ended → Form → Ended
+do_at place a c = record { node = node_at place (NodeWhat.Do a.node c); closed = true }
+
+abbrev pub for_at : Place → List Node → Option Form → Option Node → Ended → Ended
+for_at place i c n a = record { node = node_at place (NodeWhat.For i c n a.node); closed = a.closed }
+
+-- the statements whose parts are a level deeper
+abbrev pub deeper_keyword_rule : ℕ → Sort → Token → Rule Ended
+deeper_keyword_rule l Sort.If t = given (is_level_free (l + 1)) do
   c ← condition l
   a ← one (Part.body (l + 1))
   b ← form (otherwise (l + 1) a.closed)
-  gives (record { node = node_at t.place (NodeWhat.If c a.node (other_node b)); closed = other_closed b })
-keyword_rule l Sort.While t = given (is_level_free (l + 1)) do
+  gives (if_at t.place c a b)
+deeper_keyword_rule l Sort.While t = given (is_level_free (l + 1)) do
   c ← condition l
   a ← one (Part.body (l + 1))
-  gives (record { node = node_at t.place (NodeWhat.While c a.node); closed = a.closed })
-keyword_rule l Sort.For t = given (is_level_free (l + 1)) do
+  gives (while_at t.place c a)
+deeper_keyword_rule l Sort.For t = given (is_level_free (l + 1)) do
   h ← loop_head l
   a ← one (Part.body (l + 1))
-  gives (record { node = node_at t.place (NodeWhat.For h.0 h.1 h.2 a.node); closed = a.closed })
-keyword_rule l Sort.Do t = given (is_level_free (l + 1)) do
+  gives (for_at t.place h.0 h.1 h.2 a)
+deeper_keyword_rule l Sort.Do t = given (is_level_free (l + 1)) do
   a ← one (Part.body (l + 1))
   word ← take Sort.While
   c ← condition l
   end ← take Sort.Semicolon
-  closed (node_at t.place (NodeWhat.Do a.node c))
-keyword_rule l Sort.Switch t = given (is_level_free (l + 1)) do
+  gives (do_at t.place a c)
+deeper_keyword_rule l Sort.Switch t = given (is_level_free (l + 1)) do
   c ← condition l
   bracket ← take Sort.OpenBrace
   cs ← form (many true (clauses (l + 1)) [])
   close ← take Sort.CloseBrace
   closed (node_at t.place (NodeWhat.Switch c cs))
-keyword_rule l _ t = never
+deeper_keyword_rule l _ t = never
+
+-- what stands in a block
+abbrev pub items_in : ℕ → Right (List Node)
+items_in l = form (many true (block_items l) []) >>= λ ns. gives (joined ns)
+
+abbrev pub nested_in : ℕ → Right (List Node)
+nested_in l = form (many (is_level_free (l + 1)) (block_items (l + 1)) []) >>= λ ns. gives (joined ns)
+
+abbrev pub block_end : Place → List Node → Right Ended
+block_end place ns = take Sort.CloseBrace >>= λ e. closed (node_at place (NodeWhat.Block ns))
+
+abbrev pub keyword_rule : ℕ → Sort → Token → Rule Ended
+keyword_rule l Sort.Semicolon t = always (closed (node_at t.place NodeWhat.Empty))
+keyword_rule l Sort.OpenBrace t = always (nested_in l >>= λ ns. block_end t.place ns)
+keyword_rule l Sort.Break t = always (leaving_by t.place NodeWhat.Break)
+keyword_rule l Sort.Continue t = always (leaving_by t.place NodeWhat.Continue)
+keyword_rule l Sort.Return t = always do
+  v ← form (option (is_level_free (l + 1)) (Part.expression (l + 1) 0))
+  end ← take Sort.Semicolon
+  closed (node_at t.place (NodeWhat.Return v))
+keyword_rule l s t = deeper_keyword_rule l s t
+
+abbrev pub simple_end : Node → Right Ended
+simple_end n = take Sort.Semicolon >>= λ e. closed n
+
+abbrev pub simple_statement_in : ℕ → Right Ended
+simple_statement_in l = one (Part.simple l 0) >>= λ n. simple_end n
+
+abbrev pub simple_statement_rule : ℕ → Sort → Token → Rule Ended
+simple_statement_rule l s t = where_allowed (is_level_free (l + 1)) (and_then (simple_rule l 0 s t) (λ n. simple_end n))
+
+abbrev pub deeper_rule : ℕ → Sort → Token → Rule Ended
+deeper_rule l s t = or_else (deeper_keyword_rule l s t) (simple_statement_rule l s t)
 
 abbrev pub statement_rule : ℕ → Sort → Token → Rule Ended
-statement_rule l s t = or_else (keyword_rule l s t) (where_allowed (is_level_free (l + 1)) (and_then (simple_rule l 0 s t) (λ n. take Sort.Semicolon >>= λ e. closed n)))
+statement_rule l s t = or_else (keyword_rule l s t) (simple_statement_rule l s t)
+
+abbrev pub body_there : ℕ → Right (Option Ended)
+body_there l = one (Part.body l) >>= λ b. gives (Some b)
 
 -- an `else` stands behind a branch that it can't belong to
 abbrev pub other_branch : Bool → ℕ → Rule (Option Ended)
-other_branch true l = always (one (Part.body l) >>= λ b. gives (Some b))
+other_branch true l = always (body_there l)
 other_branch false l = never
 
 abbrev pub otherwise_rule : ℕ → Bool → Sort → Token → Rule (Option Ended)
@@ -161,23 +220,44 @@ otherwise_rule l c _ t = never
 abbrev pub in_block : Place → Ended → Ended
 in_block place s = record { node = node_at place (NodeWhat.Block (s.node ∷ [])); closed = s.closed }
 
+abbrev pub single_in : Place → ℕ → Right Ended
+single_in place l = one (Part.statement (l + 1)) >>= λ s. gives (in_block place s)
+
+abbrev pub single_rule : Place → ℕ → Sort → Token → Rule Ended
+single_rule place l s t = where_allowed (is_level_free (l + 1)) (and_then (statement_rule (l + 1) s t) (λ s. gives (in_block place s)))
+
 abbrev pub single_body : ℕ → Sort → Token → Rule Ended
-single_body l s t = where_allowed (is_level_free (l + 1)) (and_then (statement_rule (l + 1) s t) (λ s. gives (in_block t.place s)))
+single_body l s t = single_rule t.place l s t
 
 abbrev pub body_rule : ℕ → Sort → Token → Rule Ended
 body_rule l Sort.OpenBrace t = statement_rule l Sort.OpenBrace t
 body_rule l s t = single_body l s t
+
+abbrev pub plain_in : ℕ → Right Node
+plain_in l = one (Part.statement l) >>= λ s. gives (s.node)
+
+abbrev pub statement_in : ℕ → Right (List Node)
+statement_in l = one (Part.statement l) >>= λ s. gives (s.node ∷ [])
+
+abbrev pub semicolon_behind : List Node → Right (List Node)
+semicolon_behind ns = take Sort.Semicolon >>= λ e. gives ns
 
 abbrev pub plain_rule : ℕ → Sort → Token → Rule Node
 plain_rule l s t = and_then (statement_rule l s t) (λ s. gives (s.node))
 
 abbrev pub block_item_rule : ℕ → Sort → Token → Rule (List Node)
 block_item_rule l s t = or_else
-    (and_then (locals_rule l 0 s t) (λ ns. take Sort.Semicolon >>= λ e. gives ns))
+    (and_then (locals_rule l 0 s t) (λ ns. semicolon_behind ns))
     (and_then (statement_rule l s t) (λ s. gives (s.node ∷ [])))
 
+abbrev pub opening_simple_in : ℕ → ℕ → Right (List Node)
+opening_simple_in l d = one (Part.simple l d) >>= λ n. gives (n ∷ [])
+
+abbrev pub opening_simple_rule : ℕ → ℕ → Sort → Token → Rule (List Node)
+opening_simple_rule l d s t = where_allowed (is_level_free (l + 1)) (and_then (simple_rule l d s t) (λ n. gives (n ∷ [])))
+
 abbrev pub opening_rule : ℕ → ℕ → Sort → Token → Rule (List Node)
-opening_rule l d s t = or_else (locals_rule l d s t) (where_allowed (is_level_free (l + 1)) (and_then (simple_rule l d s t) (λ n. gives (n ∷ []))))
+opening_rule l d s t = or_else (locals_rule l d s t) (opening_simple_rule l d s t)
 
 abbrev pub label_rule : Sort → Token → Rule Label
 label_rule Sort.Case t = always do
@@ -187,29 +267,47 @@ label_rule Sort.Case t = always do
 label_rule Sort.Default t = always (take Sort.Colon >>= λ e. gives (record { place = t.place; value = None }))
 label_rule _ t = never
 
-abbrev pub clause_rule : ℕ → Sort → Token → Rule Clause
-clause_rule l s t = and_then (label_rule s t) (λ x. do
+abbrev pub clause_of : ℕ → Label → Right Clause
+clause_of l x = do
   ls ← form (many true labels (x ∷ []))
   n ← one (Part.plain l)
   body ← form (many true (statements l) (n ∷ []))
-  gives (roll-Clause (record { labels = ls; body = body })))
+  gives (roll-Clause (record { labels = ls; body = body }))
+
+abbrev pub clause_in : ℕ → Right Clause
+clause_in l = one Part.label >>= λ x. clause_of l x
+
+abbrev pub clause_rule : ℕ → Sort → Token → Rule Clause
+clause_rule l s t = and_then (label_rule s t) (λ x. clause_of l x)
 
 -- ---- items
 
 abbrev pub item_at : Place → ItemWhat → List Item
 item_at place what = record { place = place; what = what } ∷ []
 
-abbrev pub global_rule : Place → Specifier → Sort → Token → Rule Item
-global_rule first b s t = and_then (declarator_rule 0 b 0 s t) (λ x. do
+abbrev pub global_with : Place → Decl → Right Item
+global_with first x = do
   a ← form (option true (Part.annotation 0))
   i ← form (option true Part.initial)
-  gives (record { place = first; what = item_is.Global (with_annotation x a) i }))
+  gives (record { place = first; what = item_is.Global (with_annotation x a) i })
+
+abbrev pub global_in : Place → Specifier → Right Item
+global_in first b = one (Part.declarator 0 b 0) >>= λ x. global_with first x
+
+abbrev pub global_rule : Place → Specifier → Sort → Token → Rule Item
+global_rule first b s t = and_then (declarator_rule 0 b 0 s t) (λ x. global_with first x)
 
 abbrev pub more_globals : Place → Specifier → Item → Right (List Item)
 more_globals first b g = do
   gs ← form (commas (globals first b) (g ∷ []))
   end ← take Sort.Semicolon
   gives gs
+
+abbrev pub globals_with : Place → Specifier → Decl → Right (List Item)
+globals_with first b x = do
+  a ← form (option true (Part.annotation 0))
+  i ← form (option true Part.initial)
+  more_globals first b (record { place = first; what = item_is.Global (with_annotation x a) i })
 
 abbrev pub head_of : Specifier → ℕ → Token → List Decl → Option AnnText → Head
 head_of b k n ps a = record { place = n.place; name = text_of n.what; base = b.base; stars = k; params = ps; ann = a }
@@ -231,17 +329,23 @@ function_body = do
 abbrev pub are_named : List Decl → Bool
 are_named ps = list_all (λ p. is_some (out-Decl p).name) ps
 
+abbrev pub function_with : Place → Head → Bool → Right (List Item)
+function_with first h is_critical = function_body >>= λ ns. gives (item_at first (item_is.Func h is_critical ns))
+
 -- a prototype's parameters may have no names
 abbrev pub function_end_rule : Place → Head → Sort → Token → Rule (List Item)
 function_end_rule first h Sort.Semicolon t = always (gives (item_at first (item_is.Proto h false)))
-function_end_rule first h Sort.OpenBrace t = given (are_named h.params) (function_body >>= λ ns. gives (item_at first (item_is.Func h false ns)))
+function_end_rule first h Sort.OpenBrace t = given (are_named h.params) (function_with first h false)
 function_end_rule first h _ t = never
 
-abbrev pub function_rule : Place → Specifier → ℕ → Token → Sort → Token → Rule (Option (List Item))
-function_rule first b k n Sort.Open t = always do
+abbrev pub function_there : Place → Specifier → ℕ → Token → Right (Option (List Item))
+function_there first b k n = do
   h ← function_head false b k n
   is ← form (function_end first h)
   gives (Some is)
+
+abbrev pub function_rule : Place → Specifier → ℕ → Token → Sort → Token → Rule (Option (List Item))
+function_rule first b k n Sort.Open t = always (function_there first b k n)
 function_rule first b k n _ t = never
 
 -- a global of the name, if no function came
@@ -257,33 +361,35 @@ named_global first b k n None = do
     global_of z a = roll-Decl (record { place = n.place; name = Some (text_of n.what); base = b.base; stars = k; size = z; fun = None; ann = a })
 
 abbrev pub other_globals : Place → Specifier → ℕ → Sort → Token → Rule (List Item)
-other_globals first b k s t = and_then (declarator_rule 0 b k s t) (λ x. do
-  a ← form (option true (Part.annotation 0))
-  i ← form (option true Part.initial)
-  more_globals first b (record { place = first; what = item_is.Global (with_annotation x a) i }))
+other_globals first b k s t = and_then (declarator_rule 0 b k s t) (λ x. globals_with first b x)
 
 abbrev pub outer_rule : Place → Specifier → ℕ → Sort → Token → Rule (List Item)
 outer_rule first b k Sort.Star t = given (nat_le (k + 1) 4294967295) (form (outer first b (k + 1)))
 outer_rule first b k Sort.Name t = always (form (function first b k t) >>= λ o. named_global first b k t o)
 outer_rule first b k s t = other_globals first b k s t
 
-abbrev pub remote_rule : Place → Specifier → ℕ → Sort → Token → Rule (List Item)
-remote_rule first b k Sort.Star t = given (nat_le (k + 1) 4294967295) (form (remote first b (k + 1)))
-remote_rule first b k Sort.Name t = always do
+abbrev pub remote_there : Place → Specifier → ℕ → Token → Right (List Item)
+remote_there first b k n = do
   bracket ← take Sort.Open
-  h ← function_head false b k t
+  h ← function_head false b k n
   end ← take Sort.Semicolon
   gives (item_at first (item_is.Proto h true))
+
+abbrev pub remote_rule : Place → Specifier → ℕ → Sort → Token → Rule (List Item)
+remote_rule first b k Sort.Star t = given (nat_le (k + 1) 4294967295) (form (remote first b (k + 1)))
+remote_rule first b k Sort.Name t = always (remote_there first b k t)
 remote_rule first b k _ t = never
+
+abbrev pub critical_there : Place → Specifier → ℕ → Token → Right (List Item)
+critical_there first b k n = do
+  bracket ← take Sort.Open
+  h ← function_head true b k n
+  brace ← take Sort.OpenBrace
+  function_with first h true
 
 abbrev pub critical_rule : Place → Specifier → ℕ → Sort → Token → Rule (List Item)
 critical_rule first b k Sort.Star t = given (nat_le (k + 1) 4294967295) (form (critical first b (k + 1)))
-critical_rule first b k Sort.Name t = always do
-  bracket ← take Sort.Open
-  h ← function_head true b k t
-  brace ← take Sort.OpenBrace
-  ns ← function_body
-  gives (item_at first (item_is.Func h true ns))
+critical_rule first b k Sort.Name t = always (critical_there first b k t)
 critical_rule first b k _ t = never
 
 abbrev pub typed_item : Place → Sort → Token → Rule (List Item)

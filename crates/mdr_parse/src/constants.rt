@@ -3,15 +3,16 @@
 ghost use Rattle.std.specs.Prelude.{◌≡◌, ◌<◌, ◌≤◌, length, suc, IfOk, IfErr, Ok, true, false, List};
 ghost use Rattle.mdr_syntax.specs.declared.token.Token.{Token as token};
 ghost use Rattle.mdr_parse.specs.Expressions.{may_open as may_be_open};
-ghost use Rattle.mdr_parse.specs.Forms.Part.{constant as a_constant, annotation as an_annotation, size as a_size};
+ghost use Rattle.mdr_parse.specs.Forms.Part.{constant as a_constant, annotation as an_annotation, size as a_size, value as a_value};
 ghost use Rattle.mdr_parse.specs.Forms.Nonterminal.{part, option, stars as some_stars};
 ghost use Rattle.mdr_parse.specs.Front.{first, front};
-ghost use Rattle.mdr_parse.specs.Declarations.{some_bracketed, array_behind as behind_array, sentinel_behind as behind_sentinel, negative_behind as behind_minus, number_const, name_const};
+ghost use Rattle.mdr_parse.specs.Declarations.{some_bracketed, constant_there, array_behind as behind_array, sentinel_behind as behind_sentinel, negative_behind as behind_minus, number_const, name_const};
 ghost use Rattle.mdr_parse.specs.Gives.{Gives};
 ghost use Rattle.mdr_parse.specs.declared.error.Failure.TheVariants.{Memory};
 
 use crate::error::Failure;
 use crate::look::{Reader, copied, kind_in, may_open, number_in, past, split, take, text_of};
+use crate::openings::perhaps;
 use crate::sort::Sort;
 use mdr_core::Place;
 use mdr_syntax::{AnnText, Const, Token};
@@ -47,7 +48,8 @@ fn negative_behind<'t>(
     Ok((number_constant(true, minus.place, number), rest))
 }
 
-fn constant(reader: Reader, tokens: &[Token]) -> Result<(Const, &[Token]), Failure>
+/// A constant.
+pub fn constant(reader: Reader, tokens: &[Token]) -> Result<(Const, &[Token]), Failure>
     ensures reads { Gives (λ x. x.0) (λ x. x.1.now) result (first reader.halves (part a_constant) tokens.now) }
     ensures shorter { IfOk result (λ x. length x.1.now < length tokens.now) }
 {
@@ -155,4 +157,37 @@ pub fn stars(reader: Reader, tokens: &[Token]) -> (u32, &[Token])
         }
     }
     (count, rest)
+}
+
+/// An annotation, if there is one.
+pub fn annotation_option(
+    reader: Reader,
+    tokens: &[Token],
+    depth: u32,
+) -> Result<(Option<AnnText>, &[Token]), Failure>
+    requires inside { depth ≤ 512 }
+    ensures reads { Gives (λ x. x.0) (λ x. x.1.now) result (first reader.halves (option true (an_annotation depth)) tokens.now) }
+    ensures shorter { IfOk result (λ x. length x.1.now ≤ length tokens.now) }
+{
+    perhaps(annotation(reader, tokens, depth), tokens)
+}
+
+/// The value of an enumeration constant, if it has one.
+pub fn value_option(reader: Reader, tokens: &[Token]) -> Result<(Option<Const>, &[Token]), Failure>
+    ensures reads { Gives (λ x. x.0) (λ x. x.1.now) result (first reader.halves (option true a_value) tokens.now) }
+    ensures shorter { IfOk result (λ x. length x.1.now ≤ length tokens.now) }
+{
+    match past(reader.halves, Sort::Equals, tokens) {
+        Some((_, rest)) => some_constant(reader, rest),
+        None => Ok((None, tokens)),
+    }
+}
+
+/// A constant that has to be there.
+fn some_constant(reader: Reader, tokens: &[Token]) -> Result<(Option<Const>, &[Token]), Failure>
+    ensures reads { Gives (λ x. x.0) (λ x. x.1.now) result (front reader.halves constant_there tokens.now) }
+    ensures shorter { IfOk result (λ x. length x.1.now < length tokens.now) }
+{
+    let (c, rest) = constant(reader, tokens)?;
+    Ok((Some(c), rest))
 }

@@ -1,6 +1,7 @@
 // Why tokens are no source.
 
 ghost use Rattle.std.specs.Prelude.{◌≡◌};
+ghost use Rattle.mdr_parse.specs.Gives.{is_at as is_fault_at};
 
 use mdr_core::{Name, Place};
 use std::alloc::{AllocError, AllocFailed};
@@ -24,6 +25,18 @@ pub enum ParseError {
 pub enum Failure {
     Memory,
     Fault(usize),
+}
+
+impl Failure {
+    /// Whether the first of so many tokens is refused, so that nothing was read.
+    pub fn is_at(self, left: usize) -> bool
+        ensures { result ≡ is_fault_at self left }
+    {
+        match self {
+            Failure::Memory => false,
+            Failure::Fault(at) => at == left,
+        }
+    }
 }
 
 impl From<AllocError> for Failure {

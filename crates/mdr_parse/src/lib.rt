@@ -3,14 +3,21 @@
 
 mod arguments;
 mod constants;
+mod declarators;
 mod error;
+mod fields;
 mod forms;
+mod globals;
+mod initialisers;
 mod laws;
+mod locals;
 mod look;
+mod openings;
 mod operands;
 mod operators;
 mod parts;
 mod postfix;
+mod simple;
 mod sort;
 mod tails;
 mod types;
