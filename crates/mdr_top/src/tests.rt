@@ -3,6 +3,7 @@
 mod answers;
 mod drivers;
 mod files;
+mod halves;
 mod output;
 
 use crate::{Status, run};
