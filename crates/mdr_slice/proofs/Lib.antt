@@ -2,3 +2,5 @@ pub mod Bodies
 pub mod GraphLaws
 pub mod HalvesLaws
 pub mod LawProofs
+pub mod WorkedLaws
+pub mod WorkedProofs
