@@ -267,3 +267,26 @@ pub record NetworkDriverIsCut : Type 0 where
   pub calls : (kernel_calls : Bool) → AreCallees nic kernel_calls nic_callees
   pub roots : AreRoots nic nic_roots
   pub halves : AreHalves nic nic_roots nic_halves
+
+-- ---- a cycle of calls across the halves' border
+
+-- __critical void poll(void) { kcall(hook); }
+abbrev pub poll : WrittenFunc
+poll = record { name = codes "poll"; params = []; result = ty.Void; locals = []; critical = true; lines = calling 1 (service 15 (Term.Lit (value.Fn 1) ∷ [])) ∷ [] }
+
+abbrev pub poll_again : CallOf
+poll_again = record { callee = Called.Direct 0; args = []; shape = None; format = None }
+
+-- void hook(void) { poll(); }
+abbrev pub hook : WrittenFunc
+hook = record { name = codes "hook"; params = []; result = ty.Void; locals = []; critical = false; lines = calling 1 poll_again ∷ [] }
+
+abbrev pub cycle : Program
+cycle = record { types = first_types; structs = []; globals = []; funcs = map func_of (poll ∷ hook ∷ []) }
+
+-- the kernel half calls back: that is a call of the graph, and draws nothing into the kernel half. `hook` calls down
+pub record CycleIsCut : Type 0 where
+  pub calls : AreCallees cycle true ((1 ∷ []) ∷ (0 ∷ []) ∷ [])
+  pub without : AreCallees cycle false ([] ∷ (0 ∷ []) ∷ [])
+  pub roots : AreRoots cycle (0 ∷ [])
+  pub halves : AreHalves cycle (0 ∷ []) (record { halves = Kernel ∷ User ∷ []; roots = true ∷ false ∷ []; down = true ∷ false ∷ [] })
