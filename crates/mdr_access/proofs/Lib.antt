@@ -4,3 +4,5 @@ pub mod FormBodies
 pub mod KeyLaws
 pub mod OwnedLaws
 pub mod WalkLaws
+pub mod WorkedLaws
+pub mod WorkedProofs

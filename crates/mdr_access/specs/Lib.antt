@@ -7,3 +7,4 @@ pub mod Laws
 pub mod Owned
 pub mod Told
 pub mod Walked
+pub mod Worked

@@ -9,6 +9,8 @@ mod laws;
 mod owned;
 mod plan;
 mod walk;
+mod worked;
 
 pub use laws::keys_are_right;
 pub use plan::keys_of;
+pub use worked::a_network_driver_has_keys;

@@ -25,7 +25,7 @@ nothing_there x e = cc
 
 -- ---- types
 
-fun_parts : (ts us : List Ty) → type.Fun ts ≡ type.Fun us → ts ≡ us
+pub fun_parts : (ts us : List Ty) → type.Fun ts ≡ type.Fun us → ts ≡ us
 fun_parts ts us e = let q : Ty-F.Fun ts ≡ Ty-F.Fun us = sym (outs-Fun ts) ∙ ap out-Ty e ∙ outs-Fun us in cc
 
 cons_parts : {A : Type 0} (x y : A) (xs ys : List A) → x ∷ xs ≡ y ∷ ys → (x ≡ y) × (xs ≡ ys)

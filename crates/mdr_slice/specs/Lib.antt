@@ -4,3 +4,5 @@ pub mod Halves
 pub mod Laws
 pub mod Marks
 pub mod Pointed
+pub mod Worked
+pub mod Written

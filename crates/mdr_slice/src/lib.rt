@@ -9,6 +9,7 @@ mod laws;
 mod names;
 mod pointed;
 mod roots;
+mod worked;
 
 pub use calls::calls_of;
 pub use graph::call_graph;
@@ -16,3 +17,4 @@ pub use halves::{Halves, called_marks, slice};
 pub use laws::{kernel_half_is_least, roots_are_functions};
 pub use pointed::{named_type, pointed_type, slot_type};
 pub use roots::roots_of;
+pub use worked::{a_cycle_crosses_the_border, a_network_driver_is_cut};
