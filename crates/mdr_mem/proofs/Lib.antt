@@ -1,0 +1,5 @@
+pub mod HandleLaws
+pub mod RowLaws
+pub mod SearchLaws
+pub mod SoundLaws
+pub mod OrderLaws
