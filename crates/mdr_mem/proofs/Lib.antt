@@ -3,3 +3,4 @@ pub mod RowLaws
 pub mod SearchLaws
 pub mod SoundLaws
 pub mod OrderLaws
+pub mod StandingLaws

@@ -3,8 +3,10 @@
 
 mod blocks;
 mod cells;
+mod laws;
 mod rows;
 mod search;
 
 pub use blocks::Blocks;
 pub use cells::{Cells, Life};
+pub use laws::values_stand;
