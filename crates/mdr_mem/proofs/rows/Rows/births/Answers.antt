@@ -1,0 +1,5 @@
+use Rattle.mdr_mem.proofs.OrderLaws.{in_order}
+use Rattle.mdr_mem.proofs.rows.Rows.births.Goals as goal
+
+pub returns-clause-in_order : goal.returns-clause-in_order
+returns-clause-in_order c = in_order _ _ _ _ _ c.requires

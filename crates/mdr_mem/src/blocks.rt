@@ -1,0 +1,100 @@
+// The plain memory.
+
+ghost use Rattle.std.specs.Prelude.{◌≡◌, [], None};
+
+use crate::cells::Cells;
+use crate::rows::Rows;
+use mdr_core::{Block, OutOfMemory, Shape, Value};
+use mdr_model::BirthKind;
+use std::alloc::Global;
+use std::marker::Model;
+
+/// A memory with a place of its own for each block. A load, a store and a look at a handle take constant time,
+/// `find` logarithmic time.
+#[derive(Drop)]
+pub struct Blocks {
+    rows: Rows,
+}
+
+impl Model for Blocks {
+    ghost use Rattle.mdr_mem.specs.Contents.{Contents};
+
+    ghost Value = { Contents };
+
+    ghost use Rattle.mdr_mem.specs.RowsView.{contents_of, AreSound};
+
+    ghost view = { λ s. contents_of s.rows };
+
+    ghost invariant = { λ s. AreSound s.rows };
+}
+
+impl Blocks {
+    /// The memory without blocks. It takes no memory.
+    pub fn new(alloc: Global) -> Blocks
+        ensures { result ≡ record { handles = []; memory = []; lives = [] } }
+    {
+        Blocks {
+            rows: Rows::new(alloc),
+        }
+    }
+}
+
+impl Cells for Blocks {
+    ghost contents = { λ s. s };
+
+    ghost touchable = { λ s. None };
+
+    fn birth(
+        &mut self,
+        alloc: Global,
+        kind: BirthKind,
+        shape: Shape,
+        first: &[Value],
+    ) -> Result<Block, OutOfMemory> {
+        self.rows.birth(alloc, kind, shape, first)
+    }
+
+    fn kill(&mut self, b: Block) {
+        self.rows.kill(b);
+    }
+
+    fn load(&self, b: Block, cell: u32) -> Value {
+        self.rows.load(b, cell)
+    }
+
+    fn store(&mut self, b: Block, cell: u32, v: Value) {
+        self.rows.store(b, cell, v);
+    }
+
+    fn alive(&self, b: Block) -> bool {
+        self.rows.alive(b)
+    }
+
+    fn shape(&self, b: Block) -> Shape {
+        let born = self.rows.born(b);
+        Shape {
+            ty: born.ty,
+            count: born.count,
+        }
+    }
+
+    fn kind(&self, b: Block) -> BirthKind {
+        self.rows.born(b).kind
+    }
+
+    fn find(&self, serial: u64) -> Option<Block> {
+        self.rows.find(serial)
+    }
+
+    fn births(&self) -> u64 {
+        self.rows.births()
+    }
+
+    fn live(&self) -> u64 {
+        self.rows.live()
+    }
+
+    fn allowed(&self, _b: Block, _cell: u32) -> bool {
+        true
+    }
+}
