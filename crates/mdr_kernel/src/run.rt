@@ -30,6 +30,14 @@ pub(crate) enum Turn {
     Unanswered(Kernel),
 }
 
+/// The bytes of a message. That it has no spelling is want of memory.
+fn bytes_of(alloc: Global, message: Message) -> Result<Vec<u8>, OutOfMemory>
+    ensures written { IfOk result (λ bytes. bytes.items ≡ text message) }
+    ensures spelled { IfOk result (λ _. IsMessage message) }
+{
+    spelled(alloc, &message)
+}
+
 /// Sends a message, and takes the answer.
 fn exchanged<F: Far>(
     alloc: Global,
@@ -53,7 +61,7 @@ fn exchanged<F: Far>(
     ensures failed { IfOk result (λ t. IsUnanswered t → Rose (F.faults far.old) (F.faults far.new)) }
     ensures faults_later { F.faults far.old ≤ F.faults far.new }
 {
-    let bytes = spelled(alloc, &message)?;
+    let bytes = bytes_of(alloc, message)?;
     let both = messages.checked_add(2).ok_or(OutOfMemory)?;
     *messages += 1;
     match far.deliver(alloc, bytes.as_slice()) {
