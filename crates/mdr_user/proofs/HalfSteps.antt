@@ -8,6 +8,7 @@ use Rattle.mdr_model.specs.Reading.{reading_of}
 use Rattle.mdr_model.specs.Kernel.{Reading}
 use Rattle.mdr_model.specs.User.{User, deliver, first_user, user_after, allowance, user_reply}
 use Rattle.mdr_model.specs.Bytes.{readings, user_reply_to_bytes}
+use Rattle.mdr_model.specs.declared.message.Fault.{Fault}
 use Rattle.mdr_model.specs.declared.message.Message.TheVariants.{Refuse}
 use Rattle.mdr_model.specs.Runnable.{IsRunnable}
 use Rattle.mdr_model.proofs.FuelLaws.{user_after-append}
