@@ -10,7 +10,8 @@ use Rattle.mdr_model.specs.declared.wire.Wire.{Wire}
 use Rattle.mdr_model.specs.declared.message.Run.{Run}
 use Rattle.mdr_model.specs.declared.message.Fault.{Fault}
 use Rattle.mdr_model.specs.declared.message.Message.{Message}
-use Rattle.mdr_model.specs.declared.message.Message.TheVariants as message
+use Rattle.mdr_model.specs.declared.reply.Reply.{Reply}
+use Rattle.mdr_model.specs.declared.reply.Reply.TheVariants as replies
 use Rattle.mdr_model.specs.declared.outcome.Happened.{Happened}
 use Rattle.mdr_model.specs.declared.outcome.Happened.TheVariants as happened
 use Rattle.mdr_model.specs.Values.{wire_of, natural}
@@ -20,7 +21,9 @@ use Rattle.mdr_model.specs.Tree.{Asked, Tree}
 use Rattle.mdr_model.specs.Meaning.{func_at, is_kernel}
 use Rattle.mdr_model.specs.World.{World, Ran, Ended, Stopped, after, counted, when_loaded, when_stored, noted, written, written_if, is_writel, served, as_now, in_kernel, kernel_call}
 use Rattle.mdr_model.specs.Watched.{Finish, renewed, in_user, upcall, name_of, begun, returned, noting, Beginning, Did, Opens, called_by, begin, in_place, and_then, commands, first_world, watched}
-use Rattle.mdr_model.specs.Kernel.{Kernel, Rest, Noted, Pending, Over, Waits, Reading, SplitRun, calls, comes_back, answers, then_split, split_by, split_commands, applied, downcalled, serviced, fault_of, taken, judged, next, first_kernel, run_from_pending, split_run}
+use Rattle.mdr_model.specs.KernelState.{Kernel, Rest, Noted, Pending, Over, Waits, Reading}
+use Rattle.mdr_model.specs.ReplyFaults.{reply_of, fault_of}
+use Rattle.mdr_model.specs.Kernel.{SplitRun, calls, comes_back, answers, then_split, split_by, split_commands, applied, downcalled, serviced, taken, judged, answered, next, first_kernel, run_from_pending, split_run}
 use Rattle.mdr_model.specs.Bytes.{readings, split_run_over_bytes}
 use Rattle.mdr_model.specs.Legal.{kernel_in}
 use Rattle.mdr_kernel.proofs.Worlds.{Ends}
@@ -229,35 +232,35 @@ module _ (program : Program) where
   service_count sent k rest cs (Ended results w) s t = answer_count results sent k w rest cs s t
   service_count sent k rest cs (Stopped kind at w) s t = in_world sent k w s t
 
-  taken_count : (reply : Message) (sent : ℕ) (k : Kernel) (rest : Rest) (cs : List Command) → IsCounted sent k → Counts sent (taken program reply k rest cs)
+  taken_count : (reply : Reply) (sent : ℕ) (k : Kernel) (rest : Rest) (cs : List Command) → IsCounted sent k → Counts sent (taken program reply k rest cs)
   unfolding taken
-  taken_count (message.Return ticks v runs) sent k (Noted f) cs s =
+  taken_count (replies.Return ticks v runs) sent k (Noted f) cs s =
       let k' : Kernel = applied ticks runs k in
       let s' : IsCounted sent k' = applied_count sent ticks runs k s in
       commands_count cs sent (record k' { world = returned v k'.world }) (in_world sent k' (returned v k'.world) s' (returned_told v k'.world s'.world))
-  taken_count (message.Down ticks at depth func args runs) sent k rest cs s =
+  taken_count (replies.Down ticks at depth func args runs) sent k rest cs s =
       let k' : Kernel = applied ticks runs k in
       let s' : IsCounted sent k' = applied_count sent ticks runs k s in
       down_count sent k' rest cs (kernel_call program func args depth k'.world) s' (kernel_told program func args depth k'.world s'.world)
-  taken_count (message.Ask ticks at service args shapes bytes runs) sent k rest cs s =
+  taken_count (replies.Ask ticks at service args shapes bytes runs) sent k rest cs s =
       let k' : Kernel = applied ticks runs k in
       let s' : IsCounted sent k' = applied_count sent ticks runs k s in
       let asked : Asked = record { service = service; at = at; args = args; shapes = shapes; bytes = bytes } in
       service_count sent k' rest cs (served asked k'.world) s' (served_told asked k'.world s'.world)
-  taken_count (message.Stop ticks number at runs) sent k rest cs s = applied_count sent ticks runs k s
-  taken_count (message.Call func depth left args deaths news view runs) sent k rest cs s = s
-  taken_count (message.Back left result deaths news view runs) sent k rest cs s = s
-  taken_count (message.Answer results deaths news) sent k rest cs s = s
-  taken_count (message.Refuse reason) sent k rest cs s = s
+  taken_count (replies.Stop ticks number at runs) sent k rest cs s = applied_count sent ticks runs k s
 
-  judged_count : (o : Option Fault) (reply : Message) (sent : ℕ) (k : Kernel) (rest : Rest) (cs : List Command) → IsCounted sent k → Counts sent (judged program o reply k rest cs)
+  judged_count : (o : Option Fault) (reply : Reply) (sent : ℕ) (k : Kernel) (rest : Rest) (cs : List Command) → IsCounted sent k → Counts sent (judged program o reply k rest cs)
   judged_count None reply sent k rest cs s = taken_count reply sent k rest cs s
   judged_count (Some f) reply sent k rest cs s = s
+
+  answered_count : (o : Option Reply) (sent : ℕ) (k : Kernel) (rest : Rest) (cs : List Command) → IsCounted sent k → Counts sent (answered program o k rest cs)
+  answered_count None sent k rest cs s = s
+  answered_count (Some reply) sent k rest cs s = judged_count (fault_of program k rest reply) reply sent k rest cs s
 
   next_count : (a : Reading) (sent : ℕ) (k : Kernel) (rest : Rest) (cs : List Command) → IsCounted sent k → Counts sent (next program a k rest cs)
   unfolding next
   next_count (Err f) sent k rest cs s = s
-  next_count (Ok reply) sent k rest cs s = judged_count (fault_of program k rest reply) reply sent k rest cs s
+  next_count (Ok m) sent k rest cs s = answered_count (reply_of m) sent k rest cs s
 
   -- a run's end: so many messages were sent before it began, and more since then
   pub record IsTotal (sent : ℕ) (r : SplitRun) : Type 0 where

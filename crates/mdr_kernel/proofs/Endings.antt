@@ -12,7 +12,8 @@ use Rattle.mdr_model.specs.Text.{text}
 use Rattle.mdr_model.specs.Reading.{reading_of}
 use Rattle.mdr_model.specs.World.{World}
 use Rattle.mdr_model.specs.Watched.{Finish, finish}
-use Rattle.mdr_model.specs.Kernel.{Kernel, Rest, Pending, Over, Waits, Reading, SplitRun, next, first_kernel, run_from_pending, split_run}
+use Rattle.mdr_model.specs.KernelState.{Kernel, Rest, Pending, Over, Waits, Reading}
+use Rattle.mdr_model.specs.Kernel.{SplitRun, next, first_kernel, run_from_pending, split_run}
 use Rattle.mdr_model.specs.Bytes.{readings, split_run_over_bytes}
 use Rattle.mdr_model.specs.Law.{IsOwn}
 use Rattle.mdr_model.specs.Legal.{answer_fault, kernel_in}

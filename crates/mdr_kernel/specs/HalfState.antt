@@ -10,7 +10,7 @@ use Rattle.mdr_model.specs.declared.outcome.End.TheVariants as ends
 use Rattle.mdr_model.specs.Memory.{Memory}
 use Rattle.mdr_model.specs.Faults.{fault}
 use Rattle.mdr_model.specs.Reading.{reading_of}
-use Rattle.mdr_model.specs.Kernel.{Kernel, Rest, Waits}
+use Rattle.mdr_model.specs.KernelState.{Kernel, Rest, Waits}
 use Rattle.mdr_model.specs.Bytes.{split_run_over_bytes}
 use Rattle.mdr_model.specs.Legal.{answer_fault, kernel_in}
 use Rattle.mdr_kernel.specs.Runs.{answers_of, run_over}

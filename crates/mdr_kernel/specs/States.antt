@@ -4,7 +4,7 @@ use Rattle.std.specs.List.{AllByRecursion}
 use Rattle.mdr_core.specs.declared.program.Program.{Program}
 use Rattle.mdr_model.specs.declared.command.Command.{Command}
 use Rattle.mdr_model.specs.World.{World, Ran, Ended, Stopped}
-use Rattle.mdr_model.specs.Kernel.{Kernel, Rest, Noted, Pending, Over, Waits}
+use Rattle.mdr_model.specs.KernelState.{Kernel, Rest, Noted, Pending, Over, Waits}
 use Rattle.mdr_model.specs.Memory.{births, first_memory}
 use Rattle.mdr_model.specs.Holds.{IsFilled}
 use Rattle.mdr_kernel.specs.declared.state.World.{World as CodeWorld}

@@ -12,7 +12,8 @@ use Rattle.mdr_model.specs.Values.{fits}
 use Rattle.mdr_model.specs.Memory.{Memory, Cell, births, born_at, is_live, cell_at, put, cell_of, normal, reached, reached_by, loaded, loaded_from, loaded_cell, loaded_value, stored, stored_into}
 use Rattle.mdr_model.specs.Sets.{is_in, visible_of, visible}
 use Rattle.mdr_model.specs.World.{World}
-use Rattle.mdr_model.specs.Kernel.{Kernel, user_stop}
+use Rattle.mdr_model.specs.KernelState.{Kernel}
+use Rattle.mdr_model.specs.ReplyFaults.{user_stop}
 use Rattle.mdr_model.specs.Agreement.{IsKnown}
 use Rattle.mdr_model.proofs.Fair.{Knowledge, IsKnownView, IsKnownPointer, IsValueAt, IsUserStop}
 use Rattle.mdr_model.proofs.Relations.{Holds, serials_of, Rel}

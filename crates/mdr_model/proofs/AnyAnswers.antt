@@ -11,15 +11,18 @@ use Rattle.mdr_model.specs.declared.message.New.{New}
 use Rattle.mdr_model.specs.declared.message.Run.{Run}
 use Rattle.mdr_model.specs.declared.message.Fault.{Fault}
 use Rattle.mdr_model.specs.declared.message.Message.{Message}
-use Rattle.mdr_model.specs.declared.message.Message.TheVariants as message
+use Rattle.mdr_model.specs.declared.reply.Reply.{Reply}
+use Rattle.mdr_model.specs.declared.reply.Reply.TheVariants as replies
 use Rattle.mdr_model.specs.Values.{wire_of, natural}
 use Rattle.mdr_model.specs.Memory.{Memory, Cell, births, put, normal, loaded, stored, stored_into, reached, everywhere}
 use Rattle.mdr_model.specs.Sets.{visible_of, visible}
 use Rattle.mdr_model.specs.Tree.{Asked, Tree}
 use Rattle.mdr_model.specs.Meaning.{is_kernel}
 use Rattle.mdr_model.specs.World.{World, Ran, Ended, Stopped, after, counted, when_loaded, when_stored, written, written_if, is_writel, served, as_now, in_kernel, kernel_call}
-use Rattle.mdr_model.specs.Watched.{renewed, begun, returned, noting, Beginning, Did, Opens, called_by, begin, first_world}
-use Rattle.mdr_model.specs.Kernel.{Kernel, Rest, Noted, Pending, Over, Waits, Reading, calls, comes_back, answers, then_split, split_by, split_commands, applied, downcalled, serviced, fault_of, taken, judged, next, first_kernel, run_from_pending, split_run}
+use Rattle.mdr_model.specs.Watched.{renewed, begun, returned, noting, called_by, begin, first_world}
+use Rattle.mdr_model.specs.KernelState.{Kernel, Rest, Noted, Pending, Over, Waits, Reading}
+use Rattle.mdr_model.specs.ReplyFaults.{reply_of, fault_of}
+use Rattle.mdr_model.specs.Kernel.{calls, comes_back, answers, then_split, split_by, split_commands, applied, downcalled, serviced, taken, judged, answered, next, first_kernel, run_from_pending, split_run}
 use Rattle.mdr_model.specs.Legal.{kernel_in}
 use Rattle.mdr_model.proofs.Relations.{globals_of}
 use Rattle.mdr_model.proofs.MemoryLaws.{births-put}
@@ -201,30 +204,33 @@ module _ (program : Program) where
   service_stays k rest script (Ended results w') s seen g = answer_stays results k w' rest script (send_later k k.world w' s g) (goes_seen k.world w' g seen)
   service_stays k rest script (Stopped kind at w') s seen g = paid_in k w' (send_later k k.world w' s g)
 
-  taken_stays : (reply : Message) (k : Kernel) (rest : Rest) (script : List Command) → fault_of program k rest reply ≡ None → IsPaid program k → k.world.view ≡ visible program k.world.memory → Stays program (taken program reply k rest script)
+  taken_stays : (reply : Reply) (k : Kernel) (rest : Rest) (script : List Command) → fault_of program k rest reply ≡ None → IsPaid program k → k.world.view ≡ visible program k.world.memory → Stays program (taken program reply k rest script)
   unfolding taken
-  taken_stays (message.Return ticks v runs) k (Noted f) script e s seen = commands_stay script _ (returns_paid (applied ticks runs k) v (applied_paid k ticks runs s))
-  taken_stays (message.Down ticks at depth func args runs) k rest script e s seen =
+  taken_stays (replies.Return ticks v runs) k (Noted f) script e s seen = commands_stay script _ (returns_paid (applied ticks runs k) v (applied_paid k ticks runs s))
+  taken_stays (replies.Down ticks at depth func args runs) k rest script e s seen =
       let d : IsDown program k ticks func runs = down_fits program k rest ticks at depth func args runs e in
       down_stays (applied ticks runs k) rest script (kernel_call program func args depth (applied ticks runs k).world) (applied_sends k ticks runs d.asked s) (kernel_goes program func args depth (applied ticks runs k).world)
-  taken_stays (message.Ask ticks at service args shapes bytes runs) k rest script e s seen =
+  taken_stays (replies.Ask ticks at service args shapes bytes runs) k rest script e s seen =
       let a : IsAsk program k ticks args runs = ask_fits program k rest ticks at service args shapes bytes runs e in
       let asked : Asked = record { service = service; at = at; args = args; shapes = shapes; bytes = bytes } in
       service_stays (applied ticks runs k) rest script (served asked (applied ticks runs k).world) (applied_sends k ticks runs a.asked s) (still_seen k ticks runs seen) (service_goes asked (applied ticks runs k).world)
-  taken_stays (message.Stop ticks number at runs) k rest script e s seen = applied_paid k ticks runs s
-  taken_stays (message.Call func depth left args deaths news view runs) k rest script e s seen = s
-  taken_stays (message.Back left result deaths news view runs) k rest script e s seen = s
-  taken_stays (message.Answer results deaths news) k rest script e s seen = s
-  taken_stays (message.Refuse reason) k rest script e s seen = s
+  taken_stays (replies.Stop ticks number at runs) k rest script e s seen = applied_paid k ticks runs s
+
+  judged_stays : (reply : Reply) (k : Kernel) (rest : Rest) (script : List Command) → IsPaid program k → k.world.view ≡ visible program k.world.memory → Stays program (judged program (fault_of program k rest reply) reply k rest script)
+  judged_stays reply k rest script s seen = of (fault_of program k rest reply) refl
+    where
+      of : (o : Option Fault) → fault_of program k rest reply ≡ o → Stays program (judged program o reply k rest script)
+      of None e = taken_stays reply k rest script e s seen
+      of (Some f) e = s
+
+  answered_stays : (o : Option Reply) (k : Kernel) (rest : Rest) (script : List Command) → IsPaid program k → k.world.view ≡ visible program k.world.memory → Stays program (answered program o k rest script)
+  answered_stays None k rest script s seen = s
+  answered_stays (Some reply) k rest script s seen = judged_stays reply k rest script s seen
 
   next_stays : (a : Reading) (m : Message) (k : Kernel) (rest : Rest) (script : List Command) → Stays program (Waits m k rest script) → Stays program (next program a k rest script)
   unfolding next
   next_stays (Err f) m k rest script s = s.0
-  next_stays (Ok reply) m k rest script s = of (fault_of program k rest reply) refl
-    where
-      of : (o : Option Fault) → fault_of program k rest reply ≡ o → Stays program (judged program o reply k rest script)
-      of None e = taken_stays reply k rest script e s.0 s.1
-      of (Some f) e = s.0
+  next_stays (Ok reply) m k rest script s = answered_stays (reply_of reply) k rest script s.0 s.1
 
   from_pending : (readings : List Reading) (p : Pending) → Stays program p → Stays program (run_from_pending program readings p).pending
   unfolding run_from_pending

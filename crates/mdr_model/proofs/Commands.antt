@@ -20,7 +20,8 @@ use Rattle.mdr_model.specs.Meaning.{func_at, is_kernel, is_user, started}
 use Rattle.mdr_model.specs.World.{World, Ran}
 use Rattle.mdr_model.specs.Watched.{renewed, in_user, upcall, begun, returned, noting, Beginning, called_by, begin, in_place, and_then, commands}
 use Rattle.mdr_model.specs.Copies.{Told, agreed_after}
-use Rattle.mdr_model.specs.Kernel.{Kernel, Noted, calls, then_split, split_by, split_commands}
+use Rattle.mdr_model.specs.KernelState.{Kernel, Noted}
+use Rattle.mdr_model.specs.Kernel.{calls, then_split, split_by, split_commands}
 use Rattle.mdr_model.specs.Faults.{params_of, args_fault}
 use Rattle.mdr_model.specs.User.{deliver, opened, call_fits}
 use Rattle.mdr_model.specs.Runnable.{IsRunnableFunc, IsRunnable, IsBoundCommand, IsBound}

@@ -10,7 +10,7 @@ use Rattle.mdr_model.specs.Memory.{Memory, loaded, stored, everywhere}
 use Rattle.mdr_model.specs.Tree.{Asked, Tree}
 use Rattle.mdr_model.specs.Meaning.{func_at, is_kernel}
 use Rattle.mdr_model.specs.World.{World, Ran, Ended, Stopped, after, counted, when_loaded, when_stored, written, written_if, is_writel, served, as_now, in_kernel, kernel_call}
-use Rattle.mdr_model.specs.Kernel.{has_down_stub, result_type}
+use Rattle.mdr_model.specs.ReplyFaults.{has_down_stub, result_type}
 use Rattle.mdr_model.specs.Runnable.{IsRunnable}
 use Rattle.mdr_model.proofs.Fair.{IsResultOf, IsServed, Fair}
 use Rattle.mdr_model.proofs.Relations.{Holds, globals_of}

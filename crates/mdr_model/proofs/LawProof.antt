@@ -13,11 +13,12 @@ use Rattle.mdr_model.specs.declared.outcome.End.{End}
 use Rattle.mdr_model.specs.Memory.{Memory, first_memory}
 use Rattle.mdr_model.specs.Sets.{cells_of_runs}
 use Rattle.mdr_model.specs.Tree.{Tree}
-use Rattle.mdr_model.specs.Meaning.{is_kernel, is_user, started}
+use Rattle.mdr_model.specs.Meaning.{is_user, started}
 use Rattle.mdr_model.specs.World.{World, Ran, Ended, Stopped}
 use Rattle.mdr_model.specs.Watched.{Finish, and_then, begin, in_place, commands, watched, first_world}
 use Rattle.mdr_model.specs.Copies.{agreed_after}
-use Rattle.mdr_model.specs.Kernel.{Kernel, Pending, Over, Waits, Reading, next, split_commands, first_kernel, run_from_pending, split_run}
+use Rattle.mdr_model.specs.KernelState.{Kernel, Pending, Over, Waits, Reading}
+use Rattle.mdr_model.specs.Kernel.{next, split_commands, first_kernel, run_from_pending, split_run}
 use Rattle.mdr_model.specs.User.{User, Work, Nothing, AwaitsBack, AwaitsAnswer, Runs, Delivered, Opened, deliver, opened, done, when_fits, call_fits, told, first_user, user_after, user_reply, allowance}
 use Rattle.mdr_model.specs.Outcome.{outcome_of}
 use Rattle.mdr_model.specs.Runnable.{IsRunnable, IsBound}

@@ -12,7 +12,7 @@ use Rattle.mdr_model.specs.World.{World}
 use Rattle.mdr_model.specs.Watched.{renewed}
 use Rattle.mdr_model.specs.Faults.{runs_fault}
 use Rattle.mdr_model.specs.Copies.{Told, died, news_of, without, with_news, left_of, changed_values, told_news, begun_copy, tells, agreed_after, changed_cells, changes, put_runs}
-use Rattle.mdr_model.specs.Kernel.{Kernel}
+use Rattle.mdr_model.specs.KernelState.{Kernel}
 use Rattle.mdr_model.specs.User.{lives_fit, view_fits, runs_fit, cells_fit, renewed_copy, still_live}
 use Rattle.mdr_model.specs.Runnable.{IsRunnable}
 use Rattle.mdr_model.specs.Agreement.{IsShown, learnt, IsShared}

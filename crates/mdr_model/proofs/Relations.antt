@@ -6,7 +6,7 @@ pub use Rattle.mdr_model.specs.Holds.{IsFilled}
 use Rattle.mdr_model.specs.Memory.{Memory, births, born_at, is_live, first_memory}
 use Rattle.mdr_model.specs.Sets.{visible}
 use Rattle.mdr_model.specs.World.{World}
-use Rattle.mdr_model.specs.Kernel.{Kernel}
+use Rattle.mdr_model.specs.KernelState.{Kernel}
 use Rattle.mdr_model.specs.Agreement.{is_told, Serials, IsAgreed, IsShared}
 use Rattle.mdr_model.proofs.Fair.{Knowledge, IsAmong}
 

@@ -11,6 +11,8 @@ use Rattle.mdr_model.specs.declared.message.Run.{Run}
 use Rattle.mdr_model.specs.declared.message.Fault.{Fault}
 use Rattle.mdr_model.specs.declared.message.Message.{Message}
 use Rattle.mdr_model.specs.declared.message.Message.TheVariants as message
+use Rattle.mdr_model.specs.declared.reply.Reply.{Reply}
+use Rattle.mdr_model.specs.declared.reply.Reply.TheVariants as replies
 use Rattle.mdr_model.specs.declared.outcome.End.{End}
 use Rattle.mdr_model.specs.declared.outcome.End.TheVariants as ends
 use Rattle.mdr_model.specs.Memory.{Memory, Cell, normal, loaded}
@@ -20,7 +22,9 @@ use Rattle.mdr_model.specs.Walk.{Walked, walk, on_load, on_store}
 use Rattle.mdr_model.specs.World.{World, Ran, Ended, Stopped, after, counted, when_loaded, when_stored, served, as_now, kernel_call}
 use Rattle.mdr_model.specs.Watched.{renewed, in_user, Finish, finish, noting, and_then, commands}
 use Rattle.mdr_model.specs.Copies.{Told, tells, agreed_after, put_runs}
-use Rattle.mdr_model.specs.Kernel.{Kernel, Rest, Noted, Pending, Over, Waits, fault_of, upcall_of, applied, stop_number, user_stop, next, judged, taken, continued, downcalled, serviced, comes_back, answers, service_params}
+use Rattle.mdr_model.specs.KernelState.{Kernel, Rest, Noted, Pending, Over, Waits}
+use Rattle.mdr_model.specs.ReplyFaults.{reply_of as read_as, fault_of, upcall_of, stop_number, user_stop, service_params}
+use Rattle.mdr_model.specs.Kernel.{applied, next, judged, answered, taken, continued, downcalled, serviced, comes_back, answers}
 use Rattle.mdr_core.specs.declared.types.Ty.{Ty}
 use Rattle.mdr_model.specs.Faults.{args_fault}
 use Rattle.mdr_model.specs.User.{User, Nothing, AwaitsBack, AwaitsAnswer, Runs, Delivered, deliver, opened, replied, replied_to, back_fits, answer_fits, when_fits, still_live, told as user_told, done as user_done}
@@ -102,9 +106,23 @@ pub record Serves (program : Program) (fuel : ℕ) (rest : Rest) (script : List 
 
 -- ---- an honest reply leads on
 
-next_taken : (program : Program) (k : Kernel) (rest : Rest) (script : List Command) (reply : Message) → fault_of program k rest reply ≡ None → next program (Ok reply) k rest script ≡ taken program reply k rest script
+-- a reply as a message
+abbrev pub message_of : Reply → Message
+message_of (replies.Return ticks result runs) = message.Return ticks result runs
+message_of (replies.Down ticks at depth func args runs) = message.Down ticks at depth func args runs
+message_of (replies.Ask ticks at service args shapes bytes runs) = message.Ask ticks at service args shapes bytes runs
+message_of (replies.Stop ticks number at runs) = message.Stop ticks number at runs
+
+is_reply : (reply : Reply) → read_as (message_of reply) ≡ Some reply
+is_reply (replies.Return ticks result runs) = refl
+is_reply (replies.Down ticks at depth func args runs) = refl
+is_reply (replies.Ask ticks at service args shapes bytes runs) = refl
+is_reply (replies.Stop ticks number at runs) = refl
+
+next_taken : (program : Program) (k : Kernel) (rest : Rest) (script : List Command) (reply : Reply) → fault_of program k rest reply ≡ None → next program (Ok (message_of reply)) k rest script ≡ taken program reply k rest script
 unfolding next
-next_taken program k rest script reply e = ap (λ (f : Option Fault). judged program f reply k rest script) e
+next_taken program k rest script reply e =
+    ap (λ (o : Option Reply). answered program o k rest script) (is_reply reply) ∙ ap (λ (f : Option Fault). judged program f reply k rest script) e
 
 next_return : {program : Program} {K : Knowledge} {k : Kernel} {w : World} {um : Memory} (rest : Rest) (script : List Command) (v : Wire) → Rel program K k w um → IsResultOf program (upcall_of rest) v
     → next program (Ok (message.Return (Replies.used k w) (normal um v) (Replies.told_runs k w um))) k rest script ≡ continued program (normal w.memory v) (Replies.resumed k w um) rest script

@@ -6,7 +6,8 @@ use Rattle.mdr_model.specs.declared.message.Message.{Message}
 use Rattle.mdr_model.specs.declared.outcome.End.{End}
 use Rattle.mdr_model.specs.declared.outcome.End.TheVariants as ends
 use Rattle.mdr_model.specs.Watched.{finish, watched}
-use Rattle.mdr_model.specs.Kernel.{Kernel, Over, Reading, split_run}
+use Rattle.mdr_model.specs.KernelState.{Kernel, Over, Reading}
+use Rattle.mdr_model.specs.Kernel.{split_run}
 use Rattle.mdr_model.specs.User.{user_reply}
 use Rattle.mdr_model.specs.Outcome.{outcome_of}
 use Rattle.mdr_core.specs.Sound.{IsSound}

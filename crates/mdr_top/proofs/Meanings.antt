@@ -13,7 +13,7 @@ use Rattle.mdr_model.specs.Built.{IsBuilt}
 use Rattle.mdr_model.specs.Runnable.{IsBound}
 use Rattle.mdr_model.proofs.BuiltLaws.{runnable}
 use Rattle.mdr_model.specs.Watched.{Finish, finish, watched}
-use Rattle.mdr_model.specs.Kernel.{Kernel, Pending, Over, Waits}
+use Rattle.mdr_model.specs.KernelState.{Kernel, Pending, Over, Waits}
 use Rattle.mdr_model.specs.Outcome.{outcome_of}
 use Rattle.mdr_model.specs.Law.{IsOwn, IsWatched}
 use Rattle.mdr_msg.specs.OverBytes.{IsHonestReply, IsHonestOverBytes, IsOneMemoryOverBytes}

@@ -8,9 +8,9 @@ ghost use Rattle.mdr_msg.specs.OverBytes.{IsHonestReply};
 ghost use Rattle.mdr_user.specs.Honest.{sents, Honest};
 ghost use Rattle.mdr_user.specs.Halves.{new_half, after_reply, lost, ReplyAlike, Loads};
 
+use crate::bytes::reply_to;
 use crate::load_error::LoadError;
 use crate::source::source;
-use crate::bytes::reply_to;
 use crate::state::{State, Work};
 use mdr_copy::first_memory;
 use mdr_core::{Items, OutOfMemory, Program};

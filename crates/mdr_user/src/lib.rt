@@ -2,6 +2,7 @@
 #![tactic(auto)]
 
 mod arguments;
+mod bytes;
 mod delivery;
 mod half;
 mod load_error;
@@ -9,7 +10,6 @@ mod local_far;
 mod opening;
 mod reply;
 mod source;
-mod bytes;
 mod state;
 mod statement;
 mod walk;

@@ -10,7 +10,8 @@ use Rattle.mdr_model.specs.Runnable.{IsRunnable}
 use Rattle.mdr_model.specs.Memory.{Memory}
 use Rattle.mdr_model.specs.Text.{text}
 use Rattle.mdr_model.specs.Reading.{reading_of}
-use Rattle.mdr_model.specs.Kernel.{Kernel, Pending, split_commands, next, first_kernel}
+use Rattle.mdr_model.specs.KernelState.{Kernel, Pending}
+use Rattle.mdr_model.specs.Kernel.{split_commands, next, first_kernel}
 use Rattle.mdr_kernel.specs.declared.state.Kernel.{Kernel as CodeKernel}
 use Rattle.mdr_kernel.specs.declared.state.Open.{Open}
 use Rattle.mdr_kernel.specs.declared.state.Pending.{Pending as CodePending}

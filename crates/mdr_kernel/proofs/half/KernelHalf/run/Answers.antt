@@ -5,7 +5,7 @@ use Rattle.mdr_model.specs.declared.command.Command.{Command}
 use Rattle.mdr_model.specs.declared.outcome.End.{End}
 use Rattle.mdr_model.specs.declared.outcome.Outcome.{Outcome}
 use Rattle.mdr_model.specs.World.{World}
-use Rattle.mdr_model.specs.Kernel.{Kernel}
+use Rattle.mdr_model.specs.KernelState.{Kernel}
 use Rattle.mdr_model.specs.Legal.{kernel_in}
 use Rattle.mdr_outside.specs.declared.far.Exchange.{Exchange}
 use Rattle.mdr_model.specs.Watched.{finish}
