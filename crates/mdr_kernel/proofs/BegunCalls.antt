@@ -45,16 +45,16 @@ calls_in-append (x ∷ es) e = omega (arith, calls_in-append es e)
 
 -- the calls among the events are the commands that began
 pub record IsTold (w : World) : Type 0 where
-  pub told : calls_in w.events ≡ w.calls
+  pub told : calls_in w.kept.events ≡ w.kept.calls
 
 noted_told : (e : Happened) (w : World) → one_if_call e ≡ 0 → IsTold w → IsTold (noted e w)
-noted_told e w none s = record { told = omega (arith, calls_in-append w.events e, none, s.told) }
+noted_told e w none s = record { told = omega (arith, calls_in-append w.kept.events e, none, s.told) }
 
 begun_told : (program : Program) (f : ℕ) (args : List Value) (w : World) → IsTold w → IsTold (begun program f args w)
 unfolding begun
 begun_told program f args w s =
     let event : Happened = happened.Call (name_of (func_at program f)) args in
-    let one : calls_in (w.events ++ event ∷ []) ≡ 1 + calls_in w.events = calls_in-append w.events event in
+    let one : calls_in (w.kept.events ++ event ∷ []) ≡ 1 + calls_in w.kept.events = calls_in-append w.kept.events event in
     record { told = omega (arith, one, s.told) }
 
 returned_told : (v : Wire) (w : World) → IsTold w → IsTold (returned v w)
@@ -109,7 +109,7 @@ unfolding in_kernel
 in_kernel_told Tree.Idle w s = s
 in_kernel_told (Tree.Done v t) w s = s
 in_kernel_told (Tree.Stop kind at) w s = s
-in_kernel_told (Tree.Tick at t) w s = tick_told w.rest at w (λ w'. in_kernel t w') s (λ w' s'. in_kernel_told t w' s')
+in_kernel_told (Tree.Tick at t) w s = tick_told w.clock.rest at w (λ w'. in_kernel t w') s (λ w' s'. in_kernel_told t w' s')
 in_kernel_told (Tree.Load at p k) w s = load_told (loaded everywhere w.memory p) at w (λ v. in_kernel (k v) w) s (λ v. in_kernel_told (k v) w s)
 in_kernel_told (Tree.Store at p v t) w s = store_told (stored everywhere w.memory p v) at w (λ w'. in_kernel t w') s (λ w' s'. in_kernel_told t w' s')
 in_kernel_told (Tree.Ask asked k) w s =
@@ -126,7 +126,7 @@ module _ (program : Program) where
   in_user_told Tree.Idle w s = s
   in_user_told (Tree.Done v t) w s = s
   in_user_told (Tree.Stop kind at) w s = s
-  in_user_told (Tree.Tick at t) w s = tick_told w.rest at w (λ w'. in_user program t w') s (λ w' s'. in_user_told t w' s')
+  in_user_told (Tree.Tick at t) w s = tick_told w.clock.rest at w (λ w'. in_user program t w') s (λ w' s'. in_user_told t w' s')
   in_user_told (Tree.Load at p k) w s = load_told (loaded (is_in w.view) w.memory p) at w (λ v. in_user program (k v) w) s (λ v. in_user_told (k v) w s)
   in_user_told (Tree.Store at p v t) w s = store_told (stored (is_in w.view) w.memory p v) at w (λ w'. in_user program t w') s (λ w' s'. in_user_told t w' s')
   in_user_told (Tree.Ask asked k) w s =

@@ -212,11 +212,11 @@ module _ (program : Program) (script : List Command) (budget : ℕ) (es : List E
   as_before (ends.FarFault exchange) k h = failed_so exchange k h
 
   -- the messages are paid for by ticks and commands
-  pub are_few : (end : End) (k : Kernel) (messages ticks : ℕ) → HasEnded program script budget es end k → messages ≤ 2 * k.exchanges → ticks ≡ k.world.ticks → AreFew program script budget es messages ticks
+  pub are_few : (end : End) (k : Kernel) (messages ticks : ℕ) → HasEnded program script budget es end k → messages ≤ 2 * k.exchanges → ticks ≡ k.world.clock.ticks → AreFew program script budget es messages ticks
   unfolding split_run_over_bytes
   are_few end k messages ticks h count clock =
       let l : Kernel = kernel_in (run_over program script budget es).pending in
-      let paid : 2 * l.exchanges ≤ 4 * l.world.ticks + 6 * l.world.calls = paid_everywhere program script budget (readings (answers_of es)) in
+      let paid : 2 * l.exchanges ≤ 4 * l.world.clock.ticks + 6 * l.world.kept.calls = paid_everywhere program script budget (readings (answers_of es)) in
       let sent : l.exchanges ≡ k.exchanges = ap (λ (x : Kernel). x.exchanges) h.kernel in
-      let spent : l.world.ticks ≡ k.world.ticks = ap (λ (x : Kernel). x.world.ticks) h.kernel in
+      let spent : l.world.clock.ticks ≡ k.world.clock.ticks = ap (λ (x : Kernel). x.world.clock.ticks) h.kernel in
       omega (arith, paid, sent, spent, count, clock)

@@ -34,10 +34,10 @@ use Rattle.mdr_kernel.proofs.Applied.{applied_is_sound}
 -- a state under a budget, after so many messages, where so many commands are left of n. Not each command is a call
 pub record Standing (program : Program) (budget n sent left : ℕ) (k : Kernel) : Type 0 where
   pub world : IsSoundWorld program k.world
-  pub clock : k.world.ticks + k.world.rest ≡ budget
-  pub paid : 2 * k.exchanges ≤ 4 * k.world.ticks + 6 * k.world.calls
+  pub clock : k.world.clock.ticks + k.world.clock.rest ≡ budget
+  pub paid : 2 * k.exchanges ≤ 4 * k.world.clock.ticks + 6 * k.world.kept.calls
   pub count : k.exchanges ≡ sent
-  pub commands : k.world.calls + left ≤ n
+  pub commands : k.world.kept.calls + left ≤ n
 
 -- no state of the kernel half alone is a fault of the far side
 abbrev pub IsOwnEnd : End → Type 0
@@ -55,10 +55,10 @@ module _ (program : Program) (sound : IsRunnable program) (budget n : ℕ) where
   -- a world from which a message is sent: the message is paid for
   record Sends (sent left : ℕ) (k : Kernel) (w : World) : Type 0 where
     world : IsSoundWorld program w
-    clock : w.ticks + w.rest ≡ budget
-    paid : 2 * k.exchanges + 2 ≤ 4 * w.ticks + 6 * w.calls
+    clock : w.clock.ticks + w.clock.rest ≡ budget
+    paid : 2 * k.exchanges + 2 ≤ 4 * w.clock.ticks + 6 * w.kept.calls
     count : k.exchanges ≡ sent
-    commands : w.calls + left ≤ n
+    commands : w.kept.calls + left ≤ n
 
   calls_stand : (f : ℕ) (args : List Wire) (cs : List Command) (sent : ℕ) (k : Kernel) (w : World) → Sends sent (length cs) k w → Stands program budget n (suc sent) (calls program f args w k cs)
   unfolding calls renewed

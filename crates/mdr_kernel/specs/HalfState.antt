@@ -58,4 +58,4 @@ IsAsBefore program script budget es memory (ends.FarFault exchange) = HasWaited 
 
 -- the messages are at most 4 for each tick and 6 for each command begun
 abbrev pub AreFew : Program → List Command → ℕ → List Exchange → (messages ticks : ℕ) → Type 0
-AreFew program script budget es messages ticks = messages ≤ 4 * ticks + 6 * (kernel_in (run_over program script budget es).pending).world.calls
+AreFew program script budget es messages ticks = messages ≤ 4 * ticks + 6 * (kernel_in (run_over program script budget es).pending).world.kept.calls

@@ -76,21 +76,21 @@ module _ (program : Program) (view : List Cell) (m : Memory) where
 
 -- the ticks are there, and the runs have no fault
 pub record IsFit (program : Program) (k : Kernel) (told : ℕ) (stored : List Run) : Type 0 where
-  pub ticks : told ≤ k.world.rest
+  pub ticks : told ≤ k.world.clock.rest
   pub runs : reply_runs_fault program k stored ≡ None
 
 -- and something may be asked for
 pub record IsAsked (k : Kernel) (ticks : ℕ) : Type 0 where
-  pub bound : 2 * k.exchanges + 2 ≤ 4 * (k.world.ticks + ticks) + 6 * k.world.calls
+  pub bound : 2 * k.exchanges + 2 ≤ 4 * (k.world.clock.ticks + ticks) + 6 * k.world.kept.calls
 
 fit_in : (program : Program) (k : Kernel) (ticks : ℕ) (runs : List Run) → ticks_fault k ticks ≡ None → reply_runs_fault program k runs ≡ None → IsFit program k ticks runs
-fit_in program k ticks runs e f = record { ticks = leb-true _ _ (unless_passes (nat_le ticks k.world.rest) refusal.TooManyTicks 0 e); runs = f }
+fit_in program k ticks runs e f = record { ticks = leb-true _ _ (unless_passes (nat_le ticks k.world.clock.rest) refusal.TooManyTicks 0 e); runs = f }
 
 asked_in : (k : Kernel) (ticks : ℕ) → unless (is_awaited k ticks) refusal.NotAwaited 0 ≡ None → ticks_fault k ticks ≡ None → IsAsked k ticks
 unfolding is_awaited
 asked_in k ticks e f =
-    let there : ticks ≤ k.world.rest = leb-true _ _ (unless_passes (nat_le ticks k.world.rest) refusal.TooManyTicks 0 f) in
-    let within : 2 * k.exchanges + 2 ≤ 4 * (k.world.ticks + min ticks k.world.rest) + 6 * k.world.calls = leb-true _ _ (unless_passes (is_awaited k ticks) refusal.NotAwaited 0 e) in
+    let there : ticks ≤ k.world.clock.rest = leb-true _ _ (unless_passes (nat_le ticks k.world.clock.rest) refusal.TooManyTicks 0 f) in
+    let within : 2 * k.exchanges + 2 ≤ 4 * (k.world.clock.ticks + min ticks k.world.clock.rest) + 6 * k.world.kept.calls = leb-true _ _ (unless_passes (is_awaited k ticks) refusal.NotAwaited 0 e) in
     record { bound = omega (arith, there, within) }
 
 pub return_fits : (program : Program) (k : Kernel) (rest : Rest) (ticks : ℕ) (v : Wire) (runs : List Run) → fault_of program k rest (replies.Return ticks v runs) ≡ None → IsFit program k ticks runs
@@ -135,6 +135,6 @@ ask_fits program k rest ticks at service args shapes bytes runs e =
 pub stop_fits : (program : Program) (k : Kernel) (rest : Rest) (ticks number : ℕ) (at : At) (runs : List Run) → fault_of program k rest (replies.Stop ticks number at runs) ≡ None → IsFit program k ticks runs
 unfolding fault_of
 stop_fits program k rest ticks number at runs e =
-    let faults : List (Option Fault) = ticks_fault k ticks ∷ unless (is_user_place program at) refusal.BadPlace 0 ∷ unless (is_stop number ticks k.world.rest) refusal.BadStop 0 ∷ reply_runs_fault program k runs ∷ [] in
+    let faults : List (Option Fault) = ticks_fault k ticks ∷ unless (is_user_place program at) refusal.BadPlace 0 ∷ unless (is_stop number ticks k.world.clock.rest) refusal.BadStop 0 ∷ reply_runs_fault program k runs ∷ [] in
     let all : AreNone faults = no_faults faults e in
     fit_in program k ticks runs all.0 all.1.1.1.0

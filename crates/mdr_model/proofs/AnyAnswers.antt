@@ -38,9 +38,9 @@ Ends P (Stopped kind at w) = P w
 
 -- the clock runs, and the ticks that are counted are gone from the rest; no command begins, the set and the blocks stay
 pub record Goes (first w : World) : Type 0 where
-  pub later : first.ticks ≤ w.ticks
-  pub total : w.ticks + w.rest ≡ first.ticks + first.rest
-  pub calls : w.calls ≡ first.calls
+  pub later : first.clock.ticks ≤ w.clock.ticks
+  pub total : w.clock.ticks + w.clock.rest ≡ first.clock.ticks + first.clock.rest
+  pub calls : w.kept.calls ≡ first.kept.calls
   pub view : w.view ≡ first.view
   pub born : births w.memory ≡ births first.memory
 
@@ -54,9 +54,9 @@ store_born allowed m m' p v e = of (reached allowed m p) e
     of (Err kind) h = absurd (Prim.cc)
 
 module _ (first : World) where
-  tick_goes : (n : ℕ) (at : At) (w : World) (go : World → Ran Wire) → w.rest ≡ n → Goes first w → ((w' : World) → Goes first w' → Ends (Goes first) (go w')) → Ends (Goes first) (counted n at w go)
+  tick_goes : (n : ℕ) (at : At) (w : World) (go : World → Ran Wire) → w.clock.rest ≡ n → Goes first w → ((w' : World) → Goes first w' → Ends (Goes first) (go w')) → Ends (Goes first) (counted n at w go)
   tick_goes zero at w go e s goes = s
-  tick_goes (suc q) at w go e s goes = goes _ (record { later = omega (arith, s.later); total = omega (arith, s.total); calls = s.calls; view = s.view; born = s.born })
+  tick_goes (suc q) at w go e s goes = goes _ (record { later = omega (arith, s.later); total = omega (arith, s.total, e); calls = s.calls; view = s.view; born = s.born })
 
   load_goes : (r : Result Wire StopKind) (at : At) (w : World) (go : Wire → Ran Wire) → Goes first w → ((v : Wire) → Ends (Goes first) (go v)) → Ends (Goes first) (when_loaded r at w go)
   load_goes (Ok v) at w go s goes = goes v
@@ -94,7 +94,7 @@ module _ (first : World) where
   tree_goes Tree.Idle w s = s
   tree_goes (Tree.Done v t) w s = s
   tree_goes (Tree.Stop kind at) w s = s
-  tree_goes (Tree.Tick at t) w s = tick_goes w.rest at w (λ w'. in_kernel t w') refl s (λ w' s'. tree_goes t w' s')
+  tree_goes (Tree.Tick at t) w s = tick_goes w.clock.rest at w (λ w'. in_kernel t w') refl s (λ w' s'. tree_goes t w' s')
   tree_goes (Tree.Load at p k) w s = load_goes (loaded everywhere w.memory p) at w (λ v. in_kernel (k v) w) s (λ v. tree_goes (k v) w s)
   tree_goes (Tree.Store at p v t) w s =
       store_goes (stored everywhere w.memory p v) at w (λ w'. in_kernel t w') s (λ m e. store_born everywhere w.memory m p v e) (λ w' s'. tree_goes t w' s')
@@ -117,7 +117,7 @@ service_goes asked w = served_goes w asked w (itself w)
 -- the blocks are the globals as they were born, and the messages are paid for
 pub record IsPaid (program : Program) (k : Kernel) : Type 0 where
   pub born : births k.world.memory ≡ globals_of program
-  pub paid : 2 * k.exchanges ≤ 4 * k.world.ticks + 6 * k.world.calls
+  pub paid : 2 * k.exchanges ≤ 4 * k.world.clock.ticks + 6 * k.world.kept.calls
 
 -- where a run waits user code may touch the visible cells
 abbrev pub Stays : Program → Pending → Type 0
@@ -128,7 +128,7 @@ module _ (program : Program) where
   -- a world from which a message is sent: the message is paid for
   record CanSend (k : Kernel) (w : World) : Type 0 where
     born : births w.memory ≡ globals_of program
-    paid : 2 * k.exchanges + 2 ≤ 4 * w.ticks + 6 * w.calls
+    paid : 2 * k.exchanges + 2 ≤ 4 * w.clock.ticks + 6 * w.kept.calls
 
   send_later : (k : Kernel) (w w' : World) → CanSend k w → Goes w w' → CanSend k w'
   send_later k w w' s g = record { born = g.born ∙ s.born; paid = omega (arith, g.later, g.calls, s.paid) }
@@ -246,9 +246,9 @@ run_stays program script budget answers =
     from_pending program answers (split_commands program script (first_kernel program budget)) (commands_stay program script (first_kernel program budget) (record { born = refl; paid = omega arith }))
 
 pub paid_everywhere : (program : Program) (script : List Command) (budget : ℕ) (answers : List Reading) → let k : Kernel = kernel_in (split_run program script budget answers).pending in
-    2 * k.exchanges ≤ 4 * k.world.ticks + 6 * k.world.calls
+    2 * k.exchanges ≤ 4 * k.world.clock.ticks + 6 * k.world.kept.calls
 paid_everywhere program script budget answers = of (split_run program script budget answers).pending (run_stays program script budget answers)
   where
-    of : (p : Pending) → Stays program p → 2 * (kernel_in p).exchanges ≤ 4 * (kernel_in p).world.ticks + 6 * (kernel_in p).world.calls
+    of : (p : Pending) → Stays program p → 2 * (kernel_in p).exchanges ≤ 4 * (kernel_in p).world.clock.ticks + 6 * (kernel_in p).world.kept.calls
     of (Over end k) s = s.paid
     of (Waits m k rest script) s = s.0.paid

@@ -187,7 +187,7 @@ split_is_one_memory program script budget sound named =
           record {
             outcome = ap outcome_of (λ i. record { end = same_end i; world = (ap (λ (x : Kernel). x.world) same_kernel ∙ f.world) i });
             own = subst (λ (e : End). IsOwn e) (sym same_end) (own_end program script (first_world program budget));
-            messages = subst (λ (x : Kernel). 2 * x.exchanges ≤ 4 * x.world.ticks + 6 * x.world.calls) (sym same_kernel) f.bound;
+            messages = subst (λ (x : Kernel). 2 * x.exchanges ≤ 4 * x.world.clock.ticks + 6 * x.world.kept.calls) (sym same_kernel) f.bound;
           };
       ends =
           let r : Reaches program sound [] p (answers_of program sound f.turns p (idle_user (first_memory program))) (watched program script budget).end f.kernel =

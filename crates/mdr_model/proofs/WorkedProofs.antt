@@ -91,7 +91,7 @@ only_cell n = record { born = record { serial = 0; kind = Static; ty = 2; count 
 -- the kernel half at the end of a run of one command
 abbrev ended : (value ticks exchanges : ℕ) → List Happened → Kernel
 ended value ticks exchanges events = record {
-  world = record { memory = only_cell value; view = record { serial = 0; index = 0 } ∷ []; ticks = ticks; rest = 1000000 - ticks; events = events; calls = 1 };
+  world = record { memory = only_cell value; view = record { serial = 0; index = 0 } ∷ []; clock = record { ticks = ticks; rest = 1000000 - ticks }; kept = record { events = events; calls = 1 } };
   agreed = only_cell value;
   exchanges = exchanges;
 }

@@ -1,5 +1,5 @@
 -- The kernel half as a machine over answers: it waits at each message that it sends, judges the answer, and goes on.
-use Rattle.std.specs.Prelude.{ℕ, suc, ◌+◌, ◌-◌, List, [], ◌∷◌, Option, Some, None, Ok, Err, unwrap_or}
+use Rattle.std.specs.Prelude.{ℕ, suc, List, [], ◌∷◌, Option, Some, None, Ok, Err, unwrap_or}
 use Rattle.mdr_core.specs.declared.stop.StopKind.TheVariants as stop
 use Rattle.mdr_core.specs.declared.refusal.RefuseKind.TheVariants as refusal
 use Rattle.mdr_core.specs.declared.program.Program.{Program}
@@ -16,7 +16,7 @@ use Rattle.mdr_model.specs.declared.outcome.End.TheVariants as ends
 use Rattle.mdr_model.specs.Memory.{first_memory}
 use Rattle.mdr_model.specs.Sets.{runs_of_cells}
 use Rattle.mdr_model.specs.Tree.{Asked}
-use Rattle.mdr_model.specs.World.{World, Ran, Ended, Stopped, served, kernel_call}
+use Rattle.mdr_model.specs.World.{World, advanced, Ran, Ended, Stopped, served, kernel_call}
 use Rattle.mdr_model.specs.Watched.{renewed, returned, Beginning, Did, Opens, begin, first_world}
 use Rattle.mdr_model.specs.Copies.{Told, tells, agreed_after, put_runs}
 use Rattle.mdr_model.specs.Faults.{fault}
@@ -36,14 +36,14 @@ unfoldable pub calls : Program → ℕ → List Wire → World → Kernel → Li
 calls program f args w k script =
     let w' : World = renewed program w in
     let told : Told = tells program w'.view args k.agreed w'.memory in
-    Waits (message.Call f 0 w'.rest args told.deaths told.news (runs_of_cells w'.view) told.runs) (sent program w' told k) (Noted f) script
+    Waits (message.Call f 0 w'.clock.rest args told.deaths told.news (runs_of_cells w'.view) told.runs) (sent program w' told k) (Noted f) script
 
 -- a downcall came back: the visible set is taken anew, and the result is told
 unfoldable pub comes_back : Program → Wire → World → Kernel → Rest → List Command → Pending
 comes_back program v w k rest script =
     let w' : World = renewed program w in
     let told : Told = tells program w'.view (values_of_result v) k.agreed w'.memory in
-    Waits (message.Back w'.rest v told.deaths told.news (runs_of_cells w'.view) told.runs) (sent program w' told k) rest script
+    Waits (message.Back w'.clock.rest v told.deaths told.news (runs_of_cells w'.view) told.runs) (sent program w' told k) rest script
 
 -- a service was done, and its results are told, and no cells
 unfoldable pub answers : Program → List Wire → World → Kernel → Rest → List Command → Pending
@@ -72,7 +72,7 @@ split_commands program (c ∷ cs) k = split_by (begin program c k.world) program
 
 -- a legal reply is applied: its ticks are spent, and its runs are stored in the memory and in the agreed copy
 abbrev pub spent : ℕ → List Run → World → World
-spent ticks runs w = record w { memory = put_runs runs w.memory; ticks = w.ticks + ticks; rest = w.rest - ticks }
+spent ticks runs w = record w { memory = put_runs runs w.memory; clock = advanced ticks w.clock }
 
 unfoldable pub applied : ℕ → List Run → Kernel → Kernel
 applied ticks runs k = record k { world = spent ticks runs k.world; agreed = put_runs runs k.agreed }

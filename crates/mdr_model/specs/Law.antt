@@ -37,7 +37,7 @@ IsOwn (ends.FarFault exchange) = ⊥
 pub record IsWatched (program : Program) (script : List Command) (budget : ℕ) (end : End) (k : Kernel) : Type 0 where
   pub outcome : outcome_of (finish end k.world) ≡ outcome_of (watched program script budget)
   pub own : IsOwn end
-  pub messages : 2 * k.exchanges ≤ 4 * k.world.ticks + 6 * k.world.calls
+  pub messages : 2 * k.exchanges ≤ 4 * k.world.clock.ticks + 6 * k.world.kept.calls
 
 -- whatever honest answers come, and there are some with which the run is over
 pub record IsOneMemory (program : Program) (script : List Command) (budget : ℕ) : Type 0 where

@@ -90,4 +90,4 @@ kernel_in (Waits m k rest script) = k
 abbrev pub MessagesAreFew : Type 0
 MessagesAreFew =
     (program : Program) (script : List Command) (budget : ℕ) (answers : List Reading) → let k : Kernel = kernel_in (split_run program script budget answers).pending in
-    2 * k.exchanges ≤ 4 * k.world.ticks + 6 * k.world.calls
+    2 * k.exchanges ≤ 4 * k.world.clock.ticks + 6 * k.world.kept.calls

@@ -95,7 +95,7 @@ is_ask_place program service at =
 
 -- a reply that asks for something is awaited as long as the run keeps to 4 messages for each tick and 6 for each command. An honest run never comes to the end of that
 unfoldable pub is_awaited : Kernel → (ticks : ℕ) → Bool
-is_awaited k ticks = nat_le (2 * k.exchanges + 2) (4 * (k.world.ticks + min ticks k.world.rest) + 6 * k.world.calls)
+is_awaited k ticks = nat_le (2 * k.exchanges + 2) (4 * (k.world.clock.ticks + min ticks k.world.clock.rest) + 6 * k.world.kept.calls)
 
 -- the parameters of a service that is built: `writel` takes two u32 numbers
 abbrev pub service_params : List Ty
@@ -143,7 +143,7 @@ abbrev pub upcall_of : Rest → ℕ
 upcall_of (Noted f) = f
 
 abbrev pub ticks_fault : Kernel → ℕ → Option Fault
-ticks_fault k ticks = unless (nat_le ticks k.world.rest) refusal.TooManyTicks 0
+ticks_fault k ticks = unless (nat_le ticks k.world.clock.rest) refusal.TooManyTicks 0
 
 abbrev pub reply_runs_fault : Program → Kernel → List Run → Option Fault
 reply_runs_fault program k runs = runs_fault program k.world.view k.agreed k.world.memory None 0 runs
@@ -185,6 +185,6 @@ fault_of program k rest (replies.Stop ticks number at runs) =
     first_fault (
     ticks_fault k ticks
     ∷ unless (is_user_place program at) refusal.BadPlace 0
-    ∷ unless (is_stop number ticks k.world.rest) refusal.BadStop 0
+    ∷ unless (is_stop number ticks k.world.clock.rest) refusal.BadStop 0
     ∷ reply_runs_fault program k runs
     ∷ [])

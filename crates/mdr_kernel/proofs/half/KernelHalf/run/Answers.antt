@@ -22,7 +22,7 @@ end_shown : (o : Outcome) (end : End) (w : World) → o ≡ outcome_of (finish e
 unfolding outcome_of
 end_shown o end w e = ap (λ (x : Outcome). x.end) e
 
-ticks_shown : (o : Outcome) (end : End) (w : World) → o ≡ outcome_of (finish end w) → o.ticks ≡ w.ticks
+ticks_shown : (o : Outcome) (end : End) (w : World) → o ≡ outcome_of (finish end w) → o.ticks ≡ w.clock.ticks
 unfolding outcome_of
 ticks_shown o end w e = ap (λ (x : Outcome). x.ticks) e
 
