@@ -7,7 +7,8 @@ use Rattle.mdr_model.specs.Holds.{IsSoundMemory}
 use Rattle.mdr_model.specs.Runnable.{IsRunnable}
 use Rattle.mdr_model.specs.World.{World}
 use Rattle.mdr_model.specs.Copies.{put_runs}
-use Rattle.mdr_model.specs.Kernel.{Kernel, applied}
+use Rattle.mdr_model.specs.KernelState.{Kernel}
+use Rattle.mdr_model.specs.Kernel.{applied}
 use Rattle.mdr_model.proofs.MemoryLaws.{born_at-births}
 use Rattle.mdr_model.proofs.CopyLaws.{births-put_runs}
 use Rattle.mdr_model.proofs.Accepted.{IsFit}

@@ -10,7 +10,8 @@ use Rattle.mdr_model.specs.declared.wire.Wire.{Wire}
 use Rattle.mdr_model.specs.declared.message.Run.{Run}
 use Rattle.mdr_model.specs.declared.message.Fault.{Fault}
 use Rattle.mdr_model.specs.declared.message.Message.{Message}
-use Rattle.mdr_model.specs.declared.message.Message.TheVariants as message
+use Rattle.mdr_model.specs.declared.reply.Reply.{Reply}
+use Rattle.mdr_model.specs.declared.reply.Reply.TheVariants as replies
 use Rattle.mdr_model.specs.declared.outcome.Happened.{Happened}
 use Rattle.mdr_model.specs.declared.outcome.Happened.TheVariants as happened
 use Rattle.mdr_model.specs.Values.{wire_of, natural}
@@ -20,7 +21,9 @@ use Rattle.mdr_model.specs.Tree.{Asked, Tree}
 use Rattle.mdr_model.specs.Meaning.{func_at, is_kernel}
 use Rattle.mdr_model.specs.World.{World, Ran, Ended, Stopped, after, counted, when_loaded, when_stored, noted, written, written_if, is_writel, served, as_now, in_kernel, kernel_call}
 use Rattle.mdr_model.specs.Watched.{Finish, renewed, in_user, upcall, name_of, begun, returned, noting, Beginning, Did, Opens, called_by, begin, in_place, and_then, commands, first_world, watched}
-use Rattle.mdr_model.specs.Kernel.{Kernel, Rest, Noted, Pending, Over, Waits, Reading, SplitRun, calls, comes_back, answers, then_split, split_by, split_commands, applied, downcalled, serviced, fault_of, taken, judged, next, first_kernel, run_from_pending, split_run}
+use Rattle.mdr_model.specs.KernelState.{Kernel, Rest, Noted, Pending, Over, Waits, Reading}
+use Rattle.mdr_model.specs.ReplyFaults.{reply_of, fault_of}
+use Rattle.mdr_model.specs.Kernel.{SplitRun, calls, comes_back, answers, then_split, split_by, split_commands, applied, downcalled, serviced, taken, judged, answered, next, first_kernel, run_from_pending, split_run}
 use Rattle.mdr_model.specs.Bytes.{readings, split_run_over_bytes}
 use Rattle.mdr_model.specs.Legal.{kernel_in}
 use Rattle.mdr_kernel.proofs.Worlds.{Ends}
@@ -42,16 +45,16 @@ calls_in-append (x ∷ es) e = omega (arith, calls_in-append es e)
 
 -- the calls among the events are the commands that began
 pub record IsTold (w : World) : Type 0 where
-  pub told : calls_in w.events ≡ w.calls
+  pub told : calls_in w.kept.events ≡ w.kept.calls
 
 noted_told : (e : Happened) (w : World) → one_if_call e ≡ 0 → IsTold w → IsTold (noted e w)
-noted_told e w none s = record { told = omega (arith, calls_in-append w.events e, none, s.told) }
+noted_told e w none s = record { told = omega (arith, calls_in-append w.kept.events e, none, s.told) }
 
 begun_told : (program : Program) (f : ℕ) (args : List Value) (w : World) → IsTold w → IsTold (begun program f args w)
 unfolding begun
 begun_told program f args w s =
     let event : Happened = happened.Call (name_of (func_at program f)) args in
-    let one : calls_in (w.events ++ event ∷ []) ≡ 1 + calls_in w.events = calls_in-append w.events event in
+    let one : calls_in (w.kept.events ++ event ∷ []) ≡ 1 + calls_in w.kept.events = calls_in-append w.kept.events event in
     record { told = omega (arith, one, s.told) }
 
 returned_told : (v : Wire) (w : World) → IsTold w → IsTold (returned v w)
@@ -106,7 +109,7 @@ unfolding in_kernel
 in_kernel_told Tree.Idle w s = s
 in_kernel_told (Tree.Done v t) w s = s
 in_kernel_told (Tree.Stop kind at) w s = s
-in_kernel_told (Tree.Tick at t) w s = tick_told w.rest at w (λ w'. in_kernel t w') s (λ w' s'. in_kernel_told t w' s')
+in_kernel_told (Tree.Tick at t) w s = tick_told w.clock.rest at w (λ w'. in_kernel t w') s (λ w' s'. in_kernel_told t w' s')
 in_kernel_told (Tree.Load at p k) w s = load_told (loaded everywhere w.memory p) at w (λ v. in_kernel (k v) w) s (λ v. in_kernel_told (k v) w s)
 in_kernel_told (Tree.Store at p v t) w s = store_told (stored everywhere w.memory p v) at w (λ w'. in_kernel t w') s (λ w' s'. in_kernel_told t w' s')
 in_kernel_told (Tree.Ask asked k) w s =
@@ -123,7 +126,7 @@ module _ (program : Program) where
   in_user_told Tree.Idle w s = s
   in_user_told (Tree.Done v t) w s = s
   in_user_told (Tree.Stop kind at) w s = s
-  in_user_told (Tree.Tick at t) w s = tick_told w.rest at w (λ w'. in_user program t w') s (λ w' s'. in_user_told t w' s')
+  in_user_told (Tree.Tick at t) w s = tick_told w.clock.rest at w (λ w'. in_user program t w') s (λ w' s'. in_user_told t w' s')
   in_user_told (Tree.Load at p k) w s = load_told (loaded (is_in w.view) w.memory p) at w (λ v. in_user program (k v) w) s (λ v. in_user_told (k v) w s)
   in_user_told (Tree.Store at p v t) w s = store_told (stored (is_in w.view) w.memory p v) at w (λ w'. in_user program t w') s (λ w' s'. in_user_told t w' s')
   in_user_told (Tree.Ask asked k) w s =
@@ -229,35 +232,35 @@ module _ (program : Program) where
   service_count sent k rest cs (Ended results w) s t = answer_count results sent k w rest cs s t
   service_count sent k rest cs (Stopped kind at w) s t = in_world sent k w s t
 
-  taken_count : (reply : Message) (sent : ℕ) (k : Kernel) (rest : Rest) (cs : List Command) → IsCounted sent k → Counts sent (taken program reply k rest cs)
+  taken_count : (reply : Reply) (sent : ℕ) (k : Kernel) (rest : Rest) (cs : List Command) → IsCounted sent k → Counts sent (taken program reply k rest cs)
   unfolding taken
-  taken_count (message.Return ticks v runs) sent k (Noted f) cs s =
+  taken_count (replies.Return ticks v runs) sent k (Noted f) cs s =
       let k' : Kernel = applied ticks runs k in
       let s' : IsCounted sent k' = applied_count sent ticks runs k s in
       commands_count cs sent (record k' { world = returned v k'.world }) (in_world sent k' (returned v k'.world) s' (returned_told v k'.world s'.world))
-  taken_count (message.Down ticks at depth func args runs) sent k rest cs s =
+  taken_count (replies.Down ticks at depth func args runs) sent k rest cs s =
       let k' : Kernel = applied ticks runs k in
       let s' : IsCounted sent k' = applied_count sent ticks runs k s in
       down_count sent k' rest cs (kernel_call program func args depth k'.world) s' (kernel_told program func args depth k'.world s'.world)
-  taken_count (message.Ask ticks at service args shapes bytes runs) sent k rest cs s =
+  taken_count (replies.Ask ticks at service args shapes bytes runs) sent k rest cs s =
       let k' : Kernel = applied ticks runs k in
       let s' : IsCounted sent k' = applied_count sent ticks runs k s in
       let asked : Asked = record { service = service; at = at; args = args; shapes = shapes; bytes = bytes } in
       service_count sent k' rest cs (served asked k'.world) s' (served_told asked k'.world s'.world)
-  taken_count (message.Stop ticks number at runs) sent k rest cs s = applied_count sent ticks runs k s
-  taken_count (message.Call func depth left args deaths news view runs) sent k rest cs s = s
-  taken_count (message.Back left result deaths news view runs) sent k rest cs s = s
-  taken_count (message.Answer results deaths news) sent k rest cs s = s
-  taken_count (message.Refuse reason) sent k rest cs s = s
+  taken_count (replies.Stop ticks number at runs) sent k rest cs s = applied_count sent ticks runs k s
 
-  judged_count : (o : Option Fault) (reply : Message) (sent : ℕ) (k : Kernel) (rest : Rest) (cs : List Command) → IsCounted sent k → Counts sent (judged program o reply k rest cs)
+  judged_count : (o : Option Fault) (reply : Reply) (sent : ℕ) (k : Kernel) (rest : Rest) (cs : List Command) → IsCounted sent k → Counts sent (judged program o reply k rest cs)
   judged_count None reply sent k rest cs s = taken_count reply sent k rest cs s
   judged_count (Some f) reply sent k rest cs s = s
+
+  answered_count : (o : Option Reply) (sent : ℕ) (k : Kernel) (rest : Rest) (cs : List Command) → IsCounted sent k → Counts sent (answered program o k rest cs)
+  answered_count None sent k rest cs s = s
+  answered_count (Some reply) sent k rest cs s = judged_count (fault_of program k rest reply) reply sent k rest cs s
 
   next_count : (a : Reading) (sent : ℕ) (k : Kernel) (rest : Rest) (cs : List Command) → IsCounted sent k → Counts sent (next program a k rest cs)
   unfolding next
   next_count (Err f) sent k rest cs s = s
-  next_count (Ok reply) sent k rest cs s = judged_count (fault_of program k rest reply) reply sent k rest cs s
+  next_count (Ok m) sent k rest cs s = answered_count (reply_of m) sent k rest cs s
 
   -- a run's end: so many messages were sent before it began, and more since then
   pub record IsTotal (sent : ℕ) (r : SplitRun) : Type 0 where

@@ -4,7 +4,8 @@ use Rattle.std.proofs.lemmas.List.{at_drop_more}
 use Rattle.mdr_core.specs.declared.program.Program.{Program}
 use Rattle.mdr_model.specs.declared.command.Command.{Command}
 use Rattle.mdr_model.specs.Watched.{begin}
-use Rattle.mdr_model.specs.Kernel.{Kernel, Pending, split_by, split_commands}
+use Rattle.mdr_model.specs.KernelState.{Kernel, Pending}
+use Rattle.mdr_model.specs.Kernel.{split_by, split_commands}
 use Rattle.mdr_kernel.specs.declared.state.Kernel.{Kernel as CodeKernel}
 use Rattle.mdr_kernel.specs.declared.state.Commanded.{Commanded}
 use Rattle.mdr_kernel.specs.declared.state.Commanded.TheVariants as commanded

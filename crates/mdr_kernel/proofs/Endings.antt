@@ -12,7 +12,8 @@ use Rattle.mdr_model.specs.Text.{text}
 use Rattle.mdr_model.specs.Reading.{reading_of}
 use Rattle.mdr_model.specs.World.{World}
 use Rattle.mdr_model.specs.Watched.{Finish, finish}
-use Rattle.mdr_model.specs.Kernel.{Kernel, Rest, Pending, Over, Waits, Reading, SplitRun, next, first_kernel, run_from_pending, split_run}
+use Rattle.mdr_model.specs.KernelState.{Kernel, Rest, Pending, Over, Waits, Reading}
+use Rattle.mdr_model.specs.Kernel.{SplitRun, next, first_kernel, run_from_pending, split_run}
 use Rattle.mdr_model.specs.Bytes.{readings, split_run_over_bytes}
 use Rattle.mdr_model.specs.Law.{IsOwn}
 use Rattle.mdr_model.specs.Legal.{answer_fault, kernel_in}
@@ -211,11 +212,11 @@ module _ (program : Program) (script : List Command) (budget : ℕ) (es : List E
   as_before (ends.FarFault exchange) k h = failed_so exchange k h
 
   -- the messages are paid for by ticks and commands
-  pub are_few : (end : End) (k : Kernel) (messages ticks : ℕ) → HasEnded program script budget es end k → messages ≤ 2 * k.exchanges → ticks ≡ k.world.ticks → AreFew program script budget es messages ticks
+  pub are_few : (end : End) (k : Kernel) (messages ticks : ℕ) → HasEnded program script budget es end k → messages ≤ 2 * k.exchanges → ticks ≡ k.world.clock.ticks → AreFew program script budget es messages ticks
   unfolding split_run_over_bytes
   are_few end k messages ticks h count clock =
       let l : Kernel = kernel_in (run_over program script budget es).pending in
-      let paid : 2 * l.exchanges ≤ 4 * l.world.ticks + 6 * l.world.calls = paid_everywhere program script budget (readings (answers_of es)) in
+      let paid : 2 * l.exchanges ≤ 4 * l.world.clock.ticks + 6 * l.world.kept.calls = paid_everywhere program script budget (readings (answers_of es)) in
       let sent : l.exchanges ≡ k.exchanges = ap (λ (x : Kernel). x.exchanges) h.kernel in
-      let spent : l.world.ticks ≡ k.world.ticks = ap (λ (x : Kernel). x.world.ticks) h.kernel in
+      let spent : l.world.clock.ticks ≡ k.world.clock.ticks = ap (λ (x : Kernel). x.world.clock.ticks) h.kernel in
       omega (arith, paid, sent, spent, count, clock)

@@ -23,7 +23,7 @@ use Rattle.mdr_model.specs.Values.{fits_type, natural}
 use Rattle.mdr_model.specs.Memory.{Memory, births, normal, first_memory, cell_of, reached, stored, everywhere}
 use Rattle.mdr_model.specs.Tree.{Asked, Tree}
 use Rattle.mdr_model.specs.Meaning.{func_at, critical_of, is_kernel, body_of, type_of_global, pointer_to, value, values, Here, Enters, call, keeps, statement, statements, function}
-use Rattle.mdr_model.specs.World.{World, Ran, Ended, Stopped, after, counted, when_loaded, when_stored, written, written_if, is_writel, served, in_kernel, kernel_call}
+use Rattle.mdr_model.specs.World.{World, advanced, Ran, Ended, Stopped, after, counted, when_loaded, when_stored, written, written_if, is_writel, served, in_kernel, kernel_call}
 use Rattle.mdr_model.specs.Holds.{IsSoundMemory}
 use Rattle.mdr_model.specs.Runnable.{IsRunnablePlace, IsRunnableExpr, IsRunnableWritel, IsRunnableStep, IsRunnableBody, IsRunnableFunc, IsRunnable}
 use Rattle.mdr_model.proofs.MemoryLaws.{born_at-births, births-put}
@@ -53,11 +53,11 @@ births_stored allowed program m m' _ v e = absurd (Prim.cc)
 
 -- a store of a value that fits leaves a sound world
 pub store_keeps : (program : Program) (w w' : World) (place : Lvalue) (kind : Kind) (v : Wire) → IsRunnable program → IsSoundWorld program w → IsRunnablePlace program place kind → fits_type (ty.Int kind) v ≡ true
-    → stored everywhere w.memory (pointer_to program place) v ≡ Ok w'.memory → w'.ticks ≡ w.ticks → w'.rest ≡ w.rest → IsSoundWorld program w'
+    → stored everywhere w.memory (pointer_to program place) v ≡ Ok w'.memory → w'.clock.ticks ≡ w.clock.ticks → w'.clock.rest ≡ w.clock.rest → IsSoundWorld program w'
 store_keeps program w w' place kind v sound h s fit e ticks rest = record {
   born = births_stored everywhere program w.memory w'.memory place v e ∙ h.born;
   filled = (stored_is_sound everywhere program w.memory w'.memory place kind v s fit sound (sound_memory program w sound h) e).filled;
-  clock = let clock : w.ticks + w.rest < 2 ^ 64 = h.clock in omega (arith, clock, ticks, rest);
+  clock = let clock : w.clock.ticks + w.clock.rest < 2 ^ 64 = h.clock in omega (arith, clock, ticks, rest);
 }
 
 -- ---- services
@@ -220,20 +220,20 @@ statement_is program at c n goal form low here next w ran sound is did =
 
 -- ---- ticks
 
-pub tick_wanted : (at : At) (t next : Tree) (w : World) (stop : Option CodeStop) → w.rest ≡ 0 → stop ≡ Some (record { kind = stops.Ticks; at = Some at }) → in_kernel (Tree.Tick at t) w ≡ goes_on stop next w
+pub tick_wanted : (at : At) (t next : Tree) (w : World) (stop : Option CodeStop) → w.clock.rest ≡ 0 → stop ≡ Some (record { kind = stops.Ticks; at = Some at }) → in_kernel (Tree.Tick at t) w ≡ goes_on stop next w
 unfolding in_kernel
 tick_wanted at t next w stop none is =
     ap (λ (q : ℕ). counted q at w (λ w'. in_kernel t w')) none ∙ sym (ap (λ (s : Option CodeStop). goes_on s next w) is)
 
-pub tick_counted : (at : At) (t : Tree) (w w' : World) (ran : Ran Wire) → 0 < w.rest → w' ≡ record w { ticks = suc w.ticks; rest = w.rest - 1 } → in_kernel t w' ≡ ran → in_kernel (Tree.Tick at t) w ≡ ran
+pub tick_counted : (at : At) (t : Tree) (w w' : World) (ran : Ran Wire) → 0 < w.clock.rest → w' ≡ record w { clock = advanced 1 w.clock } → in_kernel t w' ≡ ran → in_kernel (Tree.Tick at t) w ≡ ran
 unfolding in_kernel
 tick_counted at t w w' ran some is did =
-    let more : w.rest ≡ suc (w.rest - 1) = omega arith in
+    let more : w.clock.rest ≡ suc (w.clock.rest - 1) = omega arith in
     ap (λ (q : ℕ). counted q at w (λ w'. in_kernel t w')) more ∙ sym (ap (in_kernel t) is) ∙ did
 
-pub tick_keeps : (program : Program) (w w' : World) → IsSoundWorld program w → 0 < w.rest → w' ≡ record w { ticks = suc w.ticks; rest = w.rest - 1 } → IsSoundWorld program w'
+pub tick_keeps : (program : Program) (w w' : World) → IsSoundWorld program w → 0 < w.clock.rest → w' ≡ record w { clock = advanced 1 w.clock } → IsSoundWorld program w'
 tick_keeps program w w' h some is =
-    subst (IsSoundWorld program) (sym is) (record { born = h.born; filled = h.filled; clock = let clock : w.ticks + w.rest < 2 ^ 64 = h.clock in omega (arith, clock, some) })
+    subst (IsSoundWorld program) (sym is) (record { born = h.born; filled = h.filled; clock = let clock : w.clock.ticks + w.clock.rest < 2 ^ 64 = h.clock in omega (arith, clock, some) })
 
 -- ---- functions
 
@@ -261,8 +261,8 @@ pub call_of_body : (program : Program) (func : ℕ) (args : List Wire) (depth : 
     → ((low : Enters) (depth : ℕ) → in_kernel (statements program half.Kernel low (record { func = func; depth = depth }) (codes_of body) (Tree.Done wire.NoValue Tree.Idle)) w ≡ ran) → kernel_call program func args depth w ≡ ran
 unfolding kernel_call function
 call_of_body program func args depth w body ran is did =
-    ap (λ (b : List Stmt). in_kernel (statements program half.Kernel (function program half.Kernel w.rest) (record { func = func; depth = depth }) (codes_of b) (Tree.Done wire.NoValue Tree.Idle)) w) (sym is)
-    ∙ did (function program half.Kernel w.rest) depth
+    ap (λ (b : List Stmt). in_kernel (statements program half.Kernel (function program half.Kernel w.clock.rest) (record { func = func; depth = depth }) (codes_of b) (Tree.Done wire.NoValue Tree.Idle)) w) (sym is)
+    ∙ did (function program half.Kernel w.clock.rest) depth
 
 -- no statement is left
 pub all_done : (program : Program) (func depth : ℕ) (low : Enters) (body : List Stmt) (i : ℕ) (w w' : World) → length body ≤ i

@@ -11,7 +11,7 @@ use Rattle.mdr_model.specs.declared.wire.Wire.TheVariants as wire
 use Rattle.mdr_model.specs.declared.message.Fault.{Fault}
 use Rattle.mdr_model.specs.Values.{fits_type, integer}
 use Rattle.mdr_model.specs.Faults.{args_fault}
-use Rattle.mdr_model.specs.Kernel.{service_params}
+use Rattle.mdr_model.specs.ReplyFaults.{service_params}
 use Rattle.mdr_copy.proofs.EvaluatedLaws.{number_in_range}
 
 ranged : (k : Kind) (n : ℤ) (v : Wire) → v ≡ wire.Int k n → fits_type (ty.Int U32) v ≡ true → is_in_range U32 n ≡ true

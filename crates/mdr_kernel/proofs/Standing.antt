@@ -8,7 +8,8 @@ use Rattle.mdr_model.specs.declared.wire.Wire.{Wire}
 use Rattle.mdr_model.specs.declared.message.Run.{Run}
 use Rattle.mdr_model.specs.declared.message.Fault.{Fault}
 use Rattle.mdr_model.specs.declared.message.Message.{Message}
-use Rattle.mdr_model.specs.declared.message.Message.TheVariants as message
+use Rattle.mdr_model.specs.declared.reply.Reply.{Reply}
+use Rattle.mdr_model.specs.declared.reply.Reply.TheVariants as replies
 use Rattle.mdr_model.specs.declared.outcome.End.{End}
 use Rattle.mdr_model.specs.declared.outcome.End.TheVariants as ends
 use Rattle.mdr_model.specs.Runnable.{IsRunnable}
@@ -17,7 +18,9 @@ use Rattle.mdr_model.specs.Tree.{Asked}
 use Rattle.mdr_model.specs.World.{World, Ran, Ended, Stopped, served, kernel_call}
 use Rattle.mdr_model.specs.Values.{wire_of}
 use Rattle.mdr_model.specs.Watched.{renewed, begun, returned, noting, called_by, begin, first_world}
-use Rattle.mdr_model.specs.Kernel.{Kernel, Rest, Noted, Pending, Over, Waits, Reading, calls, comes_back, answers, then_split, split_by, split_commands, applied, downcalled, serviced, fault_of, taken, judged, next, first_kernel}
+use Rattle.mdr_model.specs.KernelState.{Kernel, Rest, Noted, Pending, Over, Waits, Reading}
+use Rattle.mdr_model.specs.ReplyFaults.{reply_of, fault_of}
+use Rattle.mdr_model.specs.Kernel.{calls, comes_back, answers, then_split, split_by, split_commands, applied, downcalled, serviced, taken, judged, answered, next, first_kernel}
 use Rattle.mdr_model.proofs.FirstMemory.{first_holds}
 use Rattle.mdr_kernel.specs.declared.state.Kernel.{Kernel as CodeKernel}
 use Rattle.mdr_kernel.specs.declared.state.Open.{Open}
@@ -31,10 +34,10 @@ use Rattle.mdr_kernel.proofs.Applied.{applied_is_sound}
 -- a state under a budget, after so many messages, where so many commands are left of n. Not each command is a call
 pub record Standing (program : Program) (budget n sent left : ℕ) (k : Kernel) : Type 0 where
   pub world : IsSoundWorld program k.world
-  pub clock : k.world.ticks + k.world.rest ≡ budget
-  pub paid : 2 * k.exchanges ≤ 4 * k.world.ticks + 6 * k.world.calls
+  pub clock : k.world.clock.ticks + k.world.clock.rest ≡ budget
+  pub paid : 2 * k.exchanges ≤ 4 * k.world.clock.ticks + 6 * k.world.kept.calls
   pub count : k.exchanges ≡ sent
-  pub commands : k.world.calls + left ≤ n
+  pub commands : k.world.kept.calls + left ≤ n
 
 -- no state of the kernel half alone is a fault of the far side
 abbrev pub IsOwnEnd : End → Type 0
@@ -52,10 +55,10 @@ module _ (program : Program) (sound : IsRunnable program) (budget n : ℕ) where
   -- a world from which a message is sent: the message is paid for
   record Sends (sent left : ℕ) (k : Kernel) (w : World) : Type 0 where
     world : IsSoundWorld program w
-    clock : w.ticks + w.rest ≡ budget
-    paid : 2 * k.exchanges + 2 ≤ 4 * w.ticks + 6 * w.calls
+    clock : w.clock.ticks + w.clock.rest ≡ budget
+    paid : 2 * k.exchanges + 2 ≤ 4 * w.clock.ticks + 6 * w.kept.calls
     count : k.exchanges ≡ sent
-    commands : w.calls + left ≤ n
+    commands : w.kept.calls + left ≤ n
 
   calls_stand : (f : ℕ) (args : List Wire) (cs : List Command) (sent : ℕ) (k : Kernel) (w : World) → Sends sent (length cs) k w → Stands program budget n (suc sent) (calls program f args w k cs)
   unfolding calls renewed
@@ -174,36 +177,39 @@ module _ (program : Program) (sound : IsRunnable program) (budget n : ℕ) where
   service_stands sent k w rest cs (Ended results w') s g = answer_stands results sent k w' rest cs (sends_later sent (length cs) k w w' s g)
   service_stands sent k w rest cs (Stopped kind at w') s g = tt
 
-  taken_stands : (reply : Message) (sent : ℕ) (k : Kernel) (rest : Rest) (cs : List Command) → fault_of program k rest reply ≡ None → Standing program budget n sent (length cs) k → Stands program budget n (suc sent) (taken program reply k rest cs)
+  taken_stands : (reply : Reply) (sent : ℕ) (k : Kernel) (rest : Rest) (cs : List Command) → fault_of program k rest reply ≡ None → Standing program budget n sent (length cs) k → Stands program budget n (suc sent) (taken program reply k rest cs)
   unfolding taken
-  taken_stands (message.Return ticks v runs) sent k (Noted f) cs e s =
+  taken_stands (replies.Return ticks v runs) sent k (Noted f) cs e s =
       commands_stand cs sent (record (applied ticks runs k) { world = returned v (applied ticks runs k).world })
       (returned_stands sent (length cs) (applied ticks runs k) v (applied_stands sent (length cs) k ticks runs (return_fits program k (Noted f) ticks v runs e) s))
-  taken_stands (message.Down ticks at depth func args runs) sent k rest cs e s =
+  taken_stands (replies.Down ticks at depth func args runs) sent k rest cs e s =
       let d : IsDown program k ticks func runs = down_fits program k rest ticks at depth func args runs e in
       let k' : Kernel = applied ticks runs k in
       let sends : Sends sent (length cs) k' k'.world = applied_sends sent (length cs) k ticks runs d.fit d.asked s in
       down_stands sent k' k'.world rest cs (kernel_call program func args depth k'.world) sends (kernel_goes program func args depth k'.world sound d.kernel sends.world)
-  taken_stands (message.Ask ticks at service args shapes bytes runs) sent k rest cs e s =
+  taken_stands (replies.Ask ticks at service args shapes bytes runs) sent k rest cs e s =
       let a : IsAsk program k ticks args runs = ask_fits program k rest ticks at service args shapes bytes runs e in
       let k' : Kernel = applied ticks runs k in
       let sends : Sends sent (length cs) k' k'.world = applied_sends sent (length cs) k ticks runs a.fit a.asked s in
       let asked : Asked = record { service = service; at = at; args = args; shapes = shapes; bytes = bytes } in
       service_stands sent k' k'.world rest cs (served asked k'.world) sends (service_goes program asked k'.world sends.world)
-  taken_stands (message.Stop ticks number at runs) sent k rest cs e s = tt
-  taken_stands (message.Call func depth left args deaths news view runs) sent k rest cs e s = tt
-  taken_stands (message.Back left result deaths news view runs) sent k rest cs e s = tt
-  taken_stands (message.Answer results deaths news) sent k rest cs e s = tt
-  taken_stands (message.Refuse reason) sent k rest cs e s = tt
+  taken_stands (replies.Stop ticks number at runs) sent k rest cs e s = tt
 
-  pub next_stands : (a : Reading) (sent : ℕ) (k : Kernel) (rest : Rest) (cs : List Command) → Standing program budget n sent (length cs) k → Stands program budget n (suc sent) (next program a k rest cs)
-  unfolding next
-  next_stands (Err f) sent k rest cs s = tt
-  next_stands (Ok reply) sent k rest cs s = of (fault_of program k rest reply) refl
+  judged_stands : (reply : Reply) (sent : ℕ) (k : Kernel) (rest : Rest) (cs : List Command) → Standing program budget n sent (length cs) k → Stands program budget n (suc sent) (judged program (fault_of program k rest reply) reply k rest cs)
+  judged_stands reply sent k rest cs s = of (fault_of program k rest reply) refl
     where
       of : (o : Option Fault) → fault_of program k rest reply ≡ o → Stands program budget n (suc sent) (judged program o reply k rest cs)
       of None e = taken_stands reply sent k rest cs e s
       of (Some f) e = tt
+
+  answered_stands : (o : Option Reply) (sent : ℕ) (k : Kernel) (rest : Rest) (cs : List Command) → Standing program budget n sent (length cs) k → Stands program budget n (suc sent) (answered program o k rest cs)
+  answered_stands None sent k rest cs s = tt
+  answered_stands (Some reply) sent k rest cs s = judged_stands reply sent k rest cs s
+
+  pub next_stands : (a : Reading) (sent : ℕ) (k : Kernel) (rest : Rest) (cs : List Command) → Standing program budget n sent (length cs) k → Stands program budget n (suc sent) (next program a k rest cs)
+  unfolding next
+  next_stands (Err f) sent k rest cs s = tt
+  next_stands (Ok m) sent k rest cs s = answered_stands (reply_of m) sent k rest cs s
 
 -- the state in which a run begins
 pub first_stands : (program : Program) (script : List Command) (budget : ℕ) → IsRunnable program → budget < 2 ^ 64 → Standing program budget (length script) 0 (length script) (first_kernel program budget)

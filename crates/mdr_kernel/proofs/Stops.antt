@@ -11,7 +11,8 @@ use Rattle.mdr_model.specs.declared.message.Message.{Message}
 use Rattle.mdr_model.specs.Memory.{Memory, first_memory}
 use Rattle.mdr_model.specs.Text.{text}
 use Rattle.mdr_model.specs.Reading.{reading_of}
-use Rattle.mdr_model.specs.Kernel.{Kernel, Rest, Pending, Over, Waits, SplitRun, next, run_from_pending, split_run}
+use Rattle.mdr_model.specs.KernelState.{Kernel, Rest, Pending, Over, Waits}
+use Rattle.mdr_model.specs.Kernel.{SplitRun, next, run_from_pending, split_run}
 use Rattle.mdr_model.specs.Bytes.{readings, split_run_over_bytes}
 use Rattle.mdr_model.specs.Legal.{kernel_in}
 use Rattle.mdr_kernel.specs.Runs.{sent_of, then_answers, answers_of, run_over, HasEnded}

@@ -11,7 +11,8 @@ use Rattle.mdr_model.specs.Text.{text}
 use Rattle.mdr_model.specs.Reading.{reading_of}
 use Rattle.mdr_model.specs.Bytes.{readings, split_run_over_bytes}
 use Rattle.mdr_model.specs.Watched.{finish}
-use Rattle.mdr_model.specs.Kernel.{Kernel, Rest, Pending, Over, Waits, SplitRun, next, split_commands, first_kernel, run_from_pending, split_run}
+use Rattle.mdr_model.specs.KernelState.{Kernel, Rest, Pending, Over, Waits}
+use Rattle.mdr_model.specs.Kernel.{SplitRun, next, split_commands, first_kernel, run_from_pending, split_run}
 use Rattle.mdr_model.specs.Legal.{kernel_in}
 use Rattle.mdr_msg.specs.WellFormed.{IsMessage}
 use Rattle.mdr_msg.specs.OverBytes.{HaveSpellings}

@@ -6,7 +6,7 @@ use Rattle.mdr_core.specs.declared.code.Stmt.{Stmt}
 use Rattle.mdr_core.specs.declared.code.Step.TheVariants as step
 use Rattle.mdr_core.specs.Code.{Code, Codes}
 use Rattle.mdr_core.specs.Folds.{code_list, before, code_of, codes_of}
-use Rattle.mdr_model.specs.Kernel.{calls_func, any_calls, has_number, any_has_number}
+use Rattle.mdr_model.specs.ReplyFaults.{calls_func, any_calls, has_number, any_has_number}
 use Rattle.mdr_core.proofs.Coded.{code_is, for_is}
 
 or_false : (b : Bool) → (b || false) ≡ b

@@ -19,9 +19,9 @@ use Rattle.mdr_kernel.specs.States.{IsSoundWorld}
 -- the world is sound and later, and no command began
 pub record Gone (program : Program) (w w' : World) : Type 0 where
   pub sound : IsSoundWorld program w'
-  pub clock : w'.ticks + w'.rest ≡ w.ticks + w.rest
-  pub later : w.ticks ≤ w'.ticks
-  pub calls : w'.calls ≡ w.calls
+  pub clock : w'.clock.ticks + w'.clock.rest ≡ w.clock.ticks + w.clock.rest
+  pub later : w.clock.ticks ≤ w'.clock.ticks
+  pub calls : w'.kept.calls ≡ w.kept.calls
 
 pub holds_in : {program : Program} {w : World} → IsSoundWorld program w → Holds program w.memory
 holds_in s = record { born = s.born; filled = s.filled }

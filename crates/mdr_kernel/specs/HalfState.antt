@@ -10,7 +10,7 @@ use Rattle.mdr_model.specs.declared.outcome.End.TheVariants as ends
 use Rattle.mdr_model.specs.Memory.{Memory}
 use Rattle.mdr_model.specs.Faults.{fault}
 use Rattle.mdr_model.specs.Reading.{reading_of}
-use Rattle.mdr_model.specs.Kernel.{Kernel, Rest, Waits}
+use Rattle.mdr_model.specs.KernelState.{Kernel, Rest, Waits}
 use Rattle.mdr_model.specs.Bytes.{split_run_over_bytes}
 use Rattle.mdr_model.specs.Legal.{answer_fault, kernel_in}
 use Rattle.mdr_kernel.specs.Runs.{answers_of, run_over}
@@ -58,4 +58,4 @@ IsAsBefore program script budget es memory (ends.FarFault exchange) = HasWaited 
 
 -- the messages are at most 4 for each tick and 6 for each command begun
 abbrev pub AreFew : Program → List Command → ℕ → List Exchange → (messages ticks : ℕ) → Type 0
-AreFew program script budget es messages ticks = messages ≤ 4 * ticks + 6 * (kernel_in (run_over program script budget es).pending).world.calls
+AreFew program script budget es messages ticks = messages ≤ 4 * ticks + 6 * (kernel_in (run_over program script budget es).pending).world.kept.calls

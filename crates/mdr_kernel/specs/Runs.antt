@@ -11,7 +11,8 @@ use Rattle.mdr_model.specs.declared.outcome.Outcome.{Outcome}
 use Rattle.mdr_model.specs.Text.{text}
 use Rattle.mdr_model.specs.Reading.{reading_of}
 use Rattle.mdr_model.specs.Watched.{Finish, finish}
-use Rattle.mdr_model.specs.Kernel.{Kernel, Rest, Pending, Over, Waits, SplitRun, next}
+use Rattle.mdr_model.specs.KernelState.{Kernel, Rest, Pending, Over, Waits}
+use Rattle.mdr_model.specs.Kernel.{SplitRun, next}
 use Rattle.mdr_model.specs.Bytes.{split_run_over_bytes}
 use Rattle.mdr_model.specs.Legal.{kernel_in}
 use Rattle.mdr_model.specs.Outcome.{outcome_of}

@@ -4,7 +4,7 @@ use Rattle.std.specs.List.{AllByRecursion}
 use Rattle.mdr_core.specs.declared.program.Program.{Program}
 use Rattle.mdr_model.specs.declared.command.Command.{Command}
 use Rattle.mdr_model.specs.World.{World, Ran, Ended, Stopped}
-use Rattle.mdr_model.specs.Kernel.{Kernel, Rest, Noted, Pending, Over, Waits}
+use Rattle.mdr_model.specs.KernelState.{Kernel, Rest, Noted, Pending, Over, Waits}
 use Rattle.mdr_model.specs.Memory.{births, first_memory}
 use Rattle.mdr_model.specs.Holds.{IsFilled}
 use Rattle.mdr_kernel.specs.declared.state.World.{World as CodeWorld}
@@ -19,7 +19,7 @@ use Rattle.mdr_kernel.specs.declared.state.Commanded.TheVariants as commanded
 -- ---- meanings
 
 abbrev pub world_of : CodeWorld → World
-world_of w = record { memory = w.memory.items; view = w.view; ticks = w.ticks; rest = w.rest; events = w.events; calls = w.calls }
+world_of w = record { memory = w.memory.items; view = w.view; clock = record { ticks = w.ticks; rest = w.rest }; kept = record { events = w.events; calls = w.calls } }
 
 abbrev pub kernel_of : CodeKernel → Kernel
 kernel_of k = record { world = world_of k.world; agreed = k.agreed; exchanges = k.exchanges }
@@ -51,7 +51,7 @@ then_by script (commanded.Rests p) go = pending_of script p
 pub record IsSoundWorld (program : Program) (w : World) : Type 0 where
   pub born : births w.memory ≡ births (first_memory program)
   pub filled : IsFilled program w.memory
-  pub clock : w.ticks + w.rest < 2 ^ 64
+  pub clock : w.clock.ticks + w.clock.rest < 2 ^ 64
 
 -- a command that returned leaves such a world
 abbrev pub ReturnsSound : Program → Commanded → Type 0

@@ -1,10 +1,11 @@
 // Which replies are legal.
 
 ghost use Rattle.std.specs.Prelude.{◌≡◌, ◌∷◌, [], ◌&&◌, ◌==◌, ℕ, List, nat_lt, nat_le, find};
-ghost use Rattle.mdr_model.specs.declared.message.Message.TheVariants as message;
+ghost use Rattle.mdr_model.specs.declared.reply.Reply.TheVariants as replies;
 ghost use Rattle.mdr_model.specs.Faults.{fault, unless, first_fault, params_of, args_fault};
 ghost use Rattle.mdr_model.specs.Meaning.{func_at};
-ghost use Rattle.mdr_model.specs.Kernel.{Noted, fault_of, is_awaited, has_down_stub, service_params, service_fault, stop_number, user_stop, is_stop, result_type, reply_runs_fault};
+ghost use Rattle.mdr_model.specs.KernelState.{Noted};
+ghost use Rattle.mdr_model.specs.ReplyFaults.{fault_of, is_awaited, has_down_stub, service_params, service_fault, stop_number, user_stop, is_stop, result_type, reply_runs_fault};
 ghost use Rattle.mdr_model.specs.Values.{fits_result};
 ghost use Rattle.mdr_kernel.specs.States.{kernel_of};
 
@@ -12,7 +13,7 @@ use crate::state::Kernel;
 use crate::stubs::{func_at, has_down_stub, is_ask_place, is_user_place};
 use mdr_copy::{args_fault, fits_result, runs_fault};
 use mdr_core::{Ann, At, Items, Kind, Param, Program, RefuseKind, StopKind, Ty};
-use mdr_model::{Fault, Message, Run, Shape64, Wire};
+use mdr_model::{Fault, Reply, Run, Shape64, Wire};
 use std::alloc::Global;
 
 fn fault(kind: RefuseKind) -> Option<Fault>
@@ -36,7 +37,7 @@ fn first_of(found: Option<Fault>, last: Option<Fault>) -> Option<Fault>
 
 /// Whether a reply that asks for something is awaited: the run keeps to 4 messages for each tick and 6 for each
 /// command.
-#[tactic(auto, unfolding(mdr_model::specs::Kernel::is_awaited))]
+#[tactic(auto, unfolding(mdr_model::specs::ReplyFaults::is_awaited))]
 fn is_awaited(kernel: &Kernel, ticks: u64) -> bool
     ensures { result ≡ is_awaited (kernel_of kernel.now) ticks }
 {
@@ -145,7 +146,7 @@ fn stop_in(kinds: &[StopKind], number: u32) -> Option<StopKind>
 }
 
 /// The stop with a number, if user code may end there.
-#[tactic(auto, unfolding(mdr_model::specs::Kernel::user_stop))]
+#[tactic(auto, unfolding(mdr_model::specs::ReplyFaults::user_stop))]
 pub(crate) fn user_stop(number: u32) -> Option<StopKind>
     ensures { result ≡ user_stop number }
 {
@@ -176,7 +177,7 @@ fn is_stop(number: u32, ticks: u64, rest: u64) -> bool
     user_stop(number).is_some() && (!(number == 16) || ticks == rest)
 }
 
-#[tactic(auto, unfolding(mdr_model::specs::Kernel::fault_of))]
+#[tactic(auto, unfolding(mdr_model::specs::ReplyFaults::fault_of))]
 fn return_fault(
     program: &Program,
     kernel: &Kernel,
@@ -185,7 +186,7 @@ fn return_fault(
     value: Wire,
     runs: &[Run],
 ) -> Option<Fault>
-    ensures { result ≡ fault_of program.now (kernel_of kernel.now) (Noted func) (message.Return ticks value runs.now) }
+    ensures { result ≡ fault_of program.now (kernel_of kernel.now) (Noted func) (replies.Return ticks value runs.now) }
 {
     if !(ticks <= kernel.world.rest) {
         fault(RefuseKind::TooManyTicks)
@@ -216,7 +217,7 @@ fn stub_fault(
     }
 }
 
-#[tactic(auto, unfolding(mdr_model::specs::Kernel::fault_of))]
+#[tactic(auto, unfolding(mdr_model::specs::ReplyFaults::fault_of))]
 fn down_fault(
     program: &Program,
     kernel: &Kernel,
@@ -227,7 +228,7 @@ fn down_fault(
     args: &[Wire],
     runs: &[Run],
 ) -> Option<Fault>
-    ensures { (upcall : ℕ) → result ≡ fault_of program.now (kernel_of kernel.now) (Noted upcall) (message.Down ticks at depth func args.now runs.now) }
+    ensures { (upcall : ℕ) → result ≡ fault_of program.now (kernel_of kernel.now) (Noted upcall) (replies.Down ticks at depth func args.now runs.now) }
 {
     if !is_awaited(kernel, ticks) {
         fault(RefuseKind::NotAwaited)
@@ -264,7 +265,7 @@ fn asked_fault(
     )
 }
 
-#[tactic(auto, unfolding(mdr_model::specs::Kernel::fault_of))]
+#[tactic(auto, unfolding(mdr_model::specs::ReplyFaults::fault_of))]
 fn ask_fault(
     alloc: Global,
     program: &Program,
@@ -277,7 +278,7 @@ fn ask_fault(
     bytes: &[u8],
     runs: &[Run],
 ) -> Option<Fault>
-    ensures { (upcall : ℕ) → result ≡ fault_of program.now (kernel_of kernel.now) (Noted upcall) (message.Ask ticks at service args.now shapes.now bytes.now runs.now) }
+    ensures { (upcall : ℕ) → result ≡ fault_of program.now (kernel_of kernel.now) (Noted upcall) (replies.Ask ticks at service args.now shapes.now bytes.now runs.now) }
 {
     if !is_awaited(kernel, ticks) {
         fault(RefuseKind::NotAwaited)
@@ -293,7 +294,7 @@ fn ask_fault(
     }
 }
 
-#[tactic(auto, unfolding(mdr_model::specs::Kernel::fault_of))]
+#[tactic(auto, unfolding(mdr_model::specs::ReplyFaults::fault_of))]
 fn stop_fault(
     program: &Program,
     kernel: &Kernel,
@@ -302,7 +303,7 @@ fn stop_fault(
     at: At,
     runs: &[Run],
 ) -> Option<Fault>
-    ensures { (upcall : ℕ) → result ≡ fault_of program.now (kernel_of kernel.now) (Noted upcall) (message.Stop ticks number at runs.now) }
+    ensures { (upcall : ℕ) → result ≡ fault_of program.now (kernel_of kernel.now) (Noted upcall) (replies.Stop ticks number at runs.now) }
 {
     if !(ticks <= kernel.world.rest) {
         fault(RefuseKind::TooManyTicks)
@@ -316,23 +317,23 @@ fn stop_fault(
 }
 
 /// The first fault of a reply to an upcall of a function, in the order of the refusals.
-#[tactic(auto, unfolding(mdr_model::specs::Kernel::fault_of))]
+#[tactic(auto, unfolding(mdr_model::specs::ReplyFaults::fault_of))]
 pub(crate) fn fault_of(
     alloc: Global,
     program: &Program,
     kernel: &Kernel,
     func: u32,
-    reply: &Message,
+    reply: &Reply,
 ) -> Option<Fault>
     ensures { result ≡ fault_of program.now (kernel_of kernel.now) (Noted func) reply.now }
 {
     match reply {
-        Message::Return {
+        Reply::Return {
             ticks,
             result,
             runs,
         } => return_fault(program, kernel, func, *ticks, *result, runs.as_slice()),
-        Message::Down {
+        Reply::Down {
             ticks,
             at,
             depth,
@@ -349,7 +350,7 @@ pub(crate) fn fault_of(
             args.as_slice(),
             runs.as_slice(),
         ),
-        Message::Ask {
+        Reply::Ask {
             ticks,
             at,
             service,
@@ -369,15 +370,11 @@ pub(crate) fn fault_of(
             bytes.as_slice(),
             runs.as_slice(),
         ),
-        Message::Stop {
+        Reply::Stop {
             ticks,
             stop,
             at,
             runs,
         } => stop_fault(program, kernel, *ticks, *stop, *at, runs.as_slice()),
-        Message::Call { .. }
-        | Message::Back { .. }
-        | Message::Answer { .. }
-        | Message::Refuse { .. } => fault(RefuseKind::NotAwaited),
     }
 }

@@ -6,6 +6,7 @@ mod half;
 mod legal;
 mod next;
 mod outcome;
+mod reply;
 mod run;
 mod script;
 mod sending;

@@ -85,7 +85,7 @@ pub(crate) fn outcome_of(
     ticks: u64,
     memory: &[MemoryBlock],
 ) -> Result<Outcome, OutOfMemory>
-    ensures { IfOk result (λ o. (w : AnyWorld) → w.events ≡ events → w.ticks ≡ ticks → w.memory ≡ memory.now → o ≡ outcome_of (finish end w)) }
+    ensures { IfOk result (λ o. (w : AnyWorld) → w.kept.events ≡ events → w.clock.ticks ≡ ticks → w.memory ≡ memory.now → o ≡ outcome_of (finish end w)) }
 {
     let objects = objects_of(alloc, memory)?;
     Ok(Outcome {

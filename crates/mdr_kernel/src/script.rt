@@ -8,7 +8,8 @@ ghost use Rattle.mdr_model.specs.World.{kernel_call, World as AnyWorld};
 ghost use Rattle.mdr_model.specs.declared.wire.Wire.{Wire as AnyWire};
 ghost use Rattle.mdr_model.specs.Values.{wire_of};
 ghost use Rattle.mdr_model.specs.Watched.{noting, called_by, begun, begin};
-ghost use Rattle.mdr_model.specs.Kernel.{then_split, split_by, split_commands, Kernel as AnyKernel, Pending as AnyPending};
+ghost use Rattle.mdr_model.specs.KernelState.{Kernel as AnyKernel, Pending as AnyPending};
+ghost use Rattle.mdr_model.specs.Kernel.{then_split, split_by, split_commands};
 ghost use Rattle.mdr_kernel.specs.States.{world_of, kernel_of, pending_of, then_by, IsSoundWorld, ReturnsSound};
 
 use crate::events::{begin, end};

@@ -6,7 +6,7 @@ ghost use Rattle.mdr_core.specs.declared.types.Ty.TheVariants as ty;
 ghost use Rattle.mdr_model.specs.declared.message.Shape64.{Shape64 as AnyShape};
 ghost use Rattle.mdr_model.specs.Values.{fits_type, natural};
 ghost use Rattle.mdr_model.specs.Faults.{args_fault};
-ghost use Rattle.mdr_model.specs.Kernel.{service_params};
+ghost use Rattle.mdr_model.specs.ReplyFaults.{service_params};
 ghost use Rattle.mdr_model.specs.World.{written_if, written, served};
 ghost use Rattle.mdr_kernel.specs.States.{world_of, ran_of};
 

@@ -6,7 +6,7 @@ ghost use Rattle.std.specs.Option.{option_copied};
 ghost use Rattle.mdr_core.specs.declared.program.Func.{Func as AnyFunc};
 ghost use Rattle.mdr_core.specs.Folds.{called_of, code_of, codes_of};
 ghost use Rattle.mdr_model.specs.Meaning.{func_at, body_of, is_kernel, is_user};
-ghost use Rattle.mdr_model.specs.Kernel.{callee_is, calls_func, any_calls, has_down_stub, has_number, any_has_number, is_user_place, is_ask_place};
+ghost use Rattle.mdr_model.specs.ReplyFaults.{callee_is, calls_func, any_calls, has_down_stub, has_number, any_has_number, is_user_place, is_ask_place};
 
 use mdr_core::{At, Callee, Func, Program, Step, Stmt};
 
@@ -104,7 +104,7 @@ fn any_calls_down(program: &Program, func: u32) -> bool
 }
 
 /// Whether user code may call a function: it is of the kernel half, and a body of the user half names it.
-#[tactic(auto, unfolding(mdr_model::specs::Kernel::has_down_stub))]
+#[tactic(auto, unfolding(mdr_model::specs::ReplyFaults::has_down_stub))]
 pub(crate) fn has_down_stub(program: &Program, func: u32) -> bool
     ensures { result ≡ has_down_stub program.now func }
 {
@@ -169,7 +169,7 @@ fn has_statement(program: &Program, at: At) -> bool
 }
 
 /// Whether a place is a statement of a function of the user half.
-#[tactic(auto, unfolding(mdr_model::specs::Kernel::is_user_place))]
+#[tactic(auto, unfolding(mdr_model::specs::ReplyFaults::is_user_place))]
 pub(crate) fn is_user_place(program: &Program, at: At) -> bool
     ensures { result ≡ is_user_place program.now at }
 {
@@ -177,7 +177,7 @@ pub(crate) fn is_user_place(program: &Program, at: At) -> bool
 }
 
 /// Whether a service may be asked for from a place. Objects of locals are born and die at statement 0.
-#[tactic(auto, unfolding(mdr_model::specs::Kernel::is_ask_place))]
+#[tactic(auto, unfolding(mdr_model::specs::ReplyFaults::is_ask_place))]
 pub(crate) fn is_ask_place(program: &Program, service: u32, at: At) -> bool
     ensures { result ≡ is_ask_place program.now service at }
 {

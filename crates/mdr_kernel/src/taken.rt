@@ -8,7 +8,8 @@ ghost use Rattle.mdr_model.specs.Runnable.{IsRunnable};
 ghost use Rattle.mdr_model.specs.Meaning.{is_kernel};
 ghost use Rattle.mdr_model.specs.World.{kernel_call, served};
 ghost use Rattle.mdr_model.specs.Faults.{args_fault};
-ghost use Rattle.mdr_model.specs.Kernel.{service_params, user_stop, applied, continued, downcalled, serviced, fault_of, taken};
+ghost use Rattle.mdr_model.specs.ReplyFaults.{service_params, user_stop, fault_of};
+ghost use Rattle.mdr_model.specs.Kernel.{applied, continued, downcalled, serviced, taken};
 ghost use Rattle.mdr_kernel.specs.States.{world_of, kernel_of, pending_of, rest_of, left_of, IsSoundWorld};
 
 use crate::events::end;
@@ -19,8 +20,8 @@ use crate::service::served;
 use crate::state::{Kernel, Open, Pending};
 use crate::work::kernel_call;
 use mdr_copy::put_runs;
-use mdr_core::{At, Items, OutOfMemory, Program, RefuseKind, StopKind};
-use mdr_model::{Command, End, Message, Run, Wire};
+use mdr_core::{At, Items, OutOfMemory, Program, StopKind};
+use mdr_model::{Command, End, Reply, Run, Wire};
 use std::alloc::Global;
 
 /// The reply's ticks are spent, and its runs are stored in the memory and in the agreed copy.
@@ -112,7 +113,7 @@ fn serviced(
     }
 }
 
-/// What a legal reply does; no other message is one.
+/// What a legal reply does.
 #[tactic(auto, unfolding(mdr_model::specs::Kernel::taken))]
 pub(crate) fn taken(
     alloc: Global,
@@ -120,7 +121,7 @@ pub(crate) fn taken(
     script: &[Command],
     kernel: Kernel,
     upcall: Open,
-    reply: Message,
+    reply: Reply,
 ) -> Result<Pending, OutOfMemory>
     requires program { IsRunnable program.now }
     requires world { IsSoundWorld program.now (world_of kernel.world) }
@@ -128,7 +129,7 @@ pub(crate) fn taken(
     ensures { IfOk result (λ p. pending_of script.now p ≡ taken program.now reply (kernel_of kernel) (rest_of upcall) (left_of script.now upcall)) }
 {
     match reply {
-        Message::Return {
+        Reply::Return {
             ticks,
             result: value,
             runs,
@@ -136,7 +137,7 @@ pub(crate) fn taken(
             let kernel = applied(ticks, runs.as_slice(), kernel);
             continued(alloc, program, script, value, kernel, upcall)
         }
-        Message::Down {
+        Reply::Down {
             ticks,
             func,
             runs,
@@ -145,7 +146,7 @@ pub(crate) fn taken(
             let kernel = applied(ticks, runs.as_slice(), kernel);
             downcalled(alloc, program, func, kernel, upcall)
         }
-        Message::Ask {
+        Reply::Ask {
             ticks,
             at,
             service,
@@ -156,7 +157,7 @@ pub(crate) fn taken(
             let kernel = applied(ticks, runs.as_slice(), kernel);
             serviced(alloc, program, at, service, args.as_slice(), kernel, upcall)
         }
-        Message::Stop {
+        Reply::Stop {
             ticks,
             stop,
             at,
@@ -164,13 +165,6 @@ pub(crate) fn taken(
         } => {
             let kernel = applied(ticks, runs.as_slice(), kernel);
             Ok(Pending::Over(End::Stop(stop_of(stop), Some(at)), kernel))
-        }
-        Message::Call { .. }
-        | Message::Back { .. }
-        | Message::Answer { .. }
-        | Message::Refuse { .. } => {
-            let exchange = kernel.exchanges;
-            Ok(Pending::Over(End::Refused(exchange, RefuseKind::NotAwaited, 0), kernel))
         }
     }
 }

@@ -151,7 +151,7 @@ fn statement(
 fn tick(world: &mut World)
     requires some { 0 < world.old.rest }
     requires clock { world.old.ticks + world.old.rest < 2 ^ 64 }
-    ensures { world.new ≡ record world.old { ticks = suc world.old.ticks; rest = world.old.rest - 1 } }
+    ensures { world.new ≡ record world.old { ticks = world.old.ticks + 1; rest = world.old.rest - 1 } }
 {
     world.rest -= 1;
     world.ticks += 1;

@@ -12,7 +12,7 @@ use Rattle.mdr_model.specs.declared.message.Run.{Run}
 use Rattle.mdr_model.specs.declared.message.SetRun.{SetRun}
 use Rattle.mdr_model.specs.declared.message.Shape64.{Shape64}
 use Rattle.mdr_model.specs.declared.message.Fault.{Fault}
-use Rattle.mdr_model.specs.declared.message.Message.TheVariants as message
+use Rattle.mdr_model.specs.declared.reply.Reply.TheVariants as replies
 use Rattle.mdr_model.specs.declared.memory.Cell.{Cell}
 use Rattle.mdr_model.specs.Values.{fits_result}
 use Rattle.mdr_model.specs.Memory.{Memory}
@@ -20,7 +20,8 @@ use Rattle.mdr_model.specs.Sets.{is_in, follows_maybe}
 use Rattle.mdr_model.specs.Meaning.{func_at, is_kernel}
 use Rattle.mdr_model.specs.Copies.{CellValue, numbered}
 use Rattle.mdr_model.specs.Faults.{unless, or_else, first_fault, params_of, args_fault, is_known, is_view, fits_cell, set_run_of, run_fault, runs_fault}
-use Rattle.mdr_model.specs.Kernel.{Kernel, Rest, upcall_of, result_type, fault_of, is_awaited, is_user_place, is_ask_place, is_stop, has_down_stub, service_params, service_fault, ticks_fault, reply_runs_fault}
+use Rattle.mdr_model.specs.KernelState.{Kernel, Rest}
+use Rattle.mdr_model.specs.ReplyFaults.{upcall_of, result_type, fault_of, is_awaited, is_user_place, is_ask_place, is_stop, has_down_stub, service_params, service_fault, ticks_fault, reply_runs_fault}
 use Rattle.mdr_model.proofs.KernelWork.{stub_is_kernel}
 
 -- ---- tests that were passed
@@ -75,24 +76,24 @@ module _ (program : Program) (view : List Cell) (m : Memory) where
 
 -- the ticks are there, and the runs have no fault
 pub record IsFit (program : Program) (k : Kernel) (told : ℕ) (stored : List Run) : Type 0 where
-  pub ticks : told ≤ k.world.rest
+  pub ticks : told ≤ k.world.clock.rest
   pub runs : reply_runs_fault program k stored ≡ None
 
 -- and something may be asked for
 pub record IsAsked (k : Kernel) (ticks : ℕ) : Type 0 where
-  pub bound : 2 * k.exchanges + 2 ≤ 4 * (k.world.ticks + ticks) + 6 * k.world.calls
+  pub bound : 2 * k.exchanges + 2 ≤ 4 * (k.world.clock.ticks + ticks) + 6 * k.world.kept.calls
 
 fit_in : (program : Program) (k : Kernel) (ticks : ℕ) (runs : List Run) → ticks_fault k ticks ≡ None → reply_runs_fault program k runs ≡ None → IsFit program k ticks runs
-fit_in program k ticks runs e f = record { ticks = leb-true _ _ (unless_passes (nat_le ticks k.world.rest) refusal.TooManyTicks 0 e); runs = f }
+fit_in program k ticks runs e f = record { ticks = leb-true _ _ (unless_passes (nat_le ticks k.world.clock.rest) refusal.TooManyTicks 0 e); runs = f }
 
 asked_in : (k : Kernel) (ticks : ℕ) → unless (is_awaited k ticks) refusal.NotAwaited 0 ≡ None → ticks_fault k ticks ≡ None → IsAsked k ticks
 unfolding is_awaited
 asked_in k ticks e f =
-    let there : ticks ≤ k.world.rest = leb-true _ _ (unless_passes (nat_le ticks k.world.rest) refusal.TooManyTicks 0 f) in
-    let within : 2 * k.exchanges + 2 ≤ 4 * (k.world.ticks + min ticks k.world.rest) + 6 * k.world.calls = leb-true _ _ (unless_passes (is_awaited k ticks) refusal.NotAwaited 0 e) in
+    let there : ticks ≤ k.world.clock.rest = leb-true _ _ (unless_passes (nat_le ticks k.world.clock.rest) refusal.TooManyTicks 0 f) in
+    let within : 2 * k.exchanges + 2 ≤ 4 * (k.world.clock.ticks + min ticks k.world.clock.rest) + 6 * k.world.kept.calls = leb-true _ _ (unless_passes (is_awaited k ticks) refusal.NotAwaited 0 e) in
     record { bound = omega (arith, there, within) }
 
-pub return_fits : (program : Program) (k : Kernel) (rest : Rest) (ticks : ℕ) (v : Wire) (runs : List Run) → fault_of program k rest (message.Return ticks v runs) ≡ None → IsFit program k ticks runs
+pub return_fits : (program : Program) (k : Kernel) (rest : Rest) (ticks : ℕ) (v : Wire) (runs : List Run) → fault_of program k rest (replies.Return ticks v runs) ≡ None → IsFit program k ticks runs
 unfolding fault_of
 return_fits program k rest ticks v runs e =
     let faults : List (Option Fault) = ticks_fault k ticks ∷ unless (fits_result (result_type (func_at program (upcall_of rest))) v) refusal.BadResult 0 ∷ reply_runs_fault program k runs ∷ [] in
@@ -104,7 +105,7 @@ pub record IsDown (program : Program) (k : Kernel) (ticks func : ℕ) (runs : Li
   pub asked : IsAsked k ticks
   pub kernel : is_kernel program func ≡ true
 
-pub down_fits : (program : Program) (k : Kernel) (rest : Rest) (ticks : ℕ) (at : At) (depth func : ℕ) (args : List Wire) (runs : List Run) → fault_of program k rest (message.Down ticks at depth func args runs) ≡ None
+pub down_fits : (program : Program) (k : Kernel) (rest : Rest) (ticks : ℕ) (at : At) (depth func : ℕ) (args : List Wire) (runs : List Run) → fault_of program k rest (replies.Down ticks at depth func args runs) ≡ None
     → IsDown program k ticks func runs
 unfolding fault_of
 down_fits program k rest ticks at depth func args runs e =
@@ -123,7 +124,7 @@ pub record IsAsk (program : Program) (k : Kernel) (ticks : ℕ) (args : List Wir
   pub fitting : args_fault 0 service_params args ≡ None
 
 pub ask_fits : (program : Program) (k : Kernel) (rest : Rest) (ticks : ℕ) (at : At) (service : ℕ) (args : List Wire) (shapes : List Shape64) (bytes : List ℕ) (runs : List Run)
-    → fault_of program k rest (message.Ask ticks at service args shapes bytes runs) ≡ None → IsAsk program k ticks args runs
+    → fault_of program k rest (replies.Ask ticks at service args shapes bytes runs) ≡ None → IsAsk program k ticks args runs
 unfolding fault_of
 ask_fits program k rest ticks at service args shapes bytes runs e =
     let faults : List (Option Fault) = unless (is_awaited k ticks) refusal.NotAwaited 0 ∷ ticks_fault k ticks ∷ unless (is_ask_place program service at) refusal.BadPlace 0 ∷ service_fault service shapes bytes ∷ args_fault 0 service_params args
@@ -131,9 +132,9 @@ ask_fits program k rest ticks at service args shapes bytes runs e =
     let all : AreNone faults = no_faults faults e in
     record { fit = fit_in program k ticks runs all.1.0 all.1.1.1.1.1.0; asked = asked_in k ticks all.0 all.1.0; fitting = all.1.1.1.1.0 }
 
-pub stop_fits : (program : Program) (k : Kernel) (rest : Rest) (ticks number : ℕ) (at : At) (runs : List Run) → fault_of program k rest (message.Stop ticks number at runs) ≡ None → IsFit program k ticks runs
+pub stop_fits : (program : Program) (k : Kernel) (rest : Rest) (ticks number : ℕ) (at : At) (runs : List Run) → fault_of program k rest (replies.Stop ticks number at runs) ≡ None → IsFit program k ticks runs
 unfolding fault_of
 stop_fits program k rest ticks number at runs e =
-    let faults : List (Option Fault) = ticks_fault k ticks ∷ unless (is_user_place program at) refusal.BadPlace 0 ∷ unless (is_stop number ticks k.world.rest) refusal.BadStop 0 ∷ reply_runs_fault program k runs ∷ [] in
+    let faults : List (Option Fault) = ticks_fault k ticks ∷ unless (is_user_place program at) refusal.BadPlace 0 ∷ unless (is_stop number ticks k.world.clock.rest) refusal.BadStop 0 ∷ reply_runs_fault program k runs ∷ [] in
     let all : AreNone faults = no_faults faults e in
     fit_in program k ticks runs all.0 all.1.1.1.0

@@ -1,5 +1,5 @@
 -- Accesses of user code are the same on both sides, and keep the relation.
-use Rattle.std.proofs.Common.{◌≡◌, ℕ, suc, Bool, true, false, List, Option, Some, None, Result, Ok, Err, refl, sym, ◌∙◌, ap, subst, arith}
+use Rattle.std.proofs.Common.{◌≡◌, ◌+◌, ◌-◌, ℕ, suc, Bool, true, false, List, Option, Some, None, Result, Ok, Err, refl, sym, ◌∙◌, ap, subst, arith}
 use Rattle.std.specs.Prelude.{is_some, nat_lt}
 use Rattle.mdr_core.specs.declared.stop.StopKind.{StopKind}
 use Rattle.mdr_core.specs.declared.stop.StopKind.TheVariants as stop
@@ -11,11 +11,12 @@ use Rattle.mdr_model.specs.declared.message.New.{New}
 use Rattle.mdr_model.specs.Values.{fits}
 use Rattle.mdr_model.specs.Memory.{Memory, Cell, births, born_at, is_live, cell_at, put, cell_of, normal, reached, reached_by, loaded, loaded_from, loaded_cell, loaded_value, stored, stored_into}
 use Rattle.mdr_model.specs.Sets.{is_in, visible_of, visible}
-use Rattle.mdr_model.specs.World.{World}
-use Rattle.mdr_model.specs.Kernel.{Kernel, user_stop}
+use Rattle.mdr_model.specs.World.{advanced, World}
+use Rattle.mdr_model.specs.KernelState.{Kernel}
+use Rattle.mdr_model.specs.ReplyFaults.{user_stop}
 use Rattle.mdr_model.specs.Agreement.{IsKnown}
 use Rattle.mdr_model.proofs.Fair.{Knowledge, IsKnownView, IsKnownPointer, IsValueAt, IsUserStop}
-use Rattle.mdr_model.proofs.Relations.{Holds, serials_of, Rel}
+use Rattle.mdr_model.proofs.Relations.{Holds, serials_of, Rel, same_clock, total, later}
 use Rattle.mdr_model.proofs.MemoryLaws.{is_live-births, born_at-births, births-put}
 use Rattle.mdr_model.proofs.ValueLaws.{fitting_is_normal}
 use Rattle.mdr_model.proofs.HoldsLaws.{cell_fits, holds_put, view_within, loaded_is}
@@ -106,18 +107,18 @@ reach_stop allowed m wire.NoValue kind e = stop_is _ _ null_stop e
 -- ---- while user code runs
 
 -- a tick of user code
-pub ticks : {program : Program} {K : Knowledge} {k : Kernel} {w : World} {um : Memory} (q : ℕ) → Rel program K k w um → w.rest ≡ suc q → Rel program K k (record w { rest = q; ticks = suc w.ticks }) um
-ticks q r e = record {
+pub ticks : {program : Program} {K : Knowledge} {k : Kernel} {w : World} {um : Memory} (q : ℕ) → Rel program K k w um → w.clock.rest ≡ suc q → Rel program K k (record w { clock = advanced 1 w.clock }) um
+ticks {k = k} {w = w} q r e =
+    let counted : w.clock.ticks + 1 ≡ k.world.clock.ticks + (k.world.clock.rest - (w.clock.rest - 1)) = omega (arith, total r, later r, e) in
+    let left : w.clock.rest - 1 ≡ k.world.clock.rest - (k.world.clock.rest - (w.clock.rest - 1)) = omega (arith, total r, later r, e) in record {
   next = r.next;
   memories = r.memories;
   knows = r.knows;
   holds = r.holds;
   view = r.view;
   same_view = r.same_view;
-  same_events = r.same_events;
-  same_calls = r.same_calls;
-  clock = omega (arith, r.clock);
-  later = omega (arith, r.later);
+  same_kept = r.same_kept;
+  clock = same_clock counted left;
 }
 
 -- a load gives the same on both sides
@@ -205,10 +206,8 @@ stores_in {program} {w = w} {um = um} c v r seen known holds =
       holds = holds;
       view = r.view ∙ ap (λ (bs : List New). visible_of program bs) (sym same);
       same_view = r.same_view;
-      same_events = r.same_events;
-      same_calls = r.same_calls;
+      same_kept = r.same_kept;
       clock = r.clock;
-      later = r.later;
     }
 
 -- a store through a known pointer keeps the memory

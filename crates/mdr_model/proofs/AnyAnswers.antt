@@ -11,15 +11,18 @@ use Rattle.mdr_model.specs.declared.message.New.{New}
 use Rattle.mdr_model.specs.declared.message.Run.{Run}
 use Rattle.mdr_model.specs.declared.message.Fault.{Fault}
 use Rattle.mdr_model.specs.declared.message.Message.{Message}
-use Rattle.mdr_model.specs.declared.message.Message.TheVariants as message
+use Rattle.mdr_model.specs.declared.reply.Reply.{Reply}
+use Rattle.mdr_model.specs.declared.reply.Reply.TheVariants as replies
 use Rattle.mdr_model.specs.Values.{wire_of, natural}
 use Rattle.mdr_model.specs.Memory.{Memory, Cell, births, put, normal, loaded, stored, stored_into, reached, everywhere}
 use Rattle.mdr_model.specs.Sets.{visible_of, visible}
 use Rattle.mdr_model.specs.Tree.{Asked, Tree}
 use Rattle.mdr_model.specs.Meaning.{is_kernel}
 use Rattle.mdr_model.specs.World.{World, Ran, Ended, Stopped, after, counted, when_loaded, when_stored, written, written_if, is_writel, served, as_now, in_kernel, kernel_call}
-use Rattle.mdr_model.specs.Watched.{renewed, begun, returned, noting, Beginning, Did, Opens, called_by, begin, first_world}
-use Rattle.mdr_model.specs.Kernel.{Kernel, Rest, Noted, Pending, Over, Waits, Reading, calls, comes_back, answers, then_split, split_by, split_commands, applied, downcalled, serviced, fault_of, taken, judged, next, first_kernel, run_from_pending, split_run}
+use Rattle.mdr_model.specs.Watched.{renewed, begun, returned, noting, called_by, begin, first_world}
+use Rattle.mdr_model.specs.KernelState.{Kernel, Rest, Noted, Pending, Over, Waits, Reading}
+use Rattle.mdr_model.specs.ReplyFaults.{reply_of, fault_of}
+use Rattle.mdr_model.specs.Kernel.{calls, comes_back, answers, then_split, split_by, split_commands, applied, downcalled, serviced, taken, judged, answered, next, first_kernel, run_from_pending, split_run}
 use Rattle.mdr_model.specs.Legal.{kernel_in}
 use Rattle.mdr_model.proofs.Relations.{globals_of}
 use Rattle.mdr_model.proofs.MemoryLaws.{births-put}
@@ -35,9 +38,9 @@ Ends P (Stopped kind at w) = P w
 
 -- the clock runs, and the ticks that are counted are gone from the rest; no command begins, the set and the blocks stay
 pub record Goes (first w : World) : Type 0 where
-  pub later : first.ticks ≤ w.ticks
-  pub total : w.ticks + w.rest ≡ first.ticks + first.rest
-  pub calls : w.calls ≡ first.calls
+  pub later : first.clock.ticks ≤ w.clock.ticks
+  pub total : w.clock.ticks + w.clock.rest ≡ first.clock.ticks + first.clock.rest
+  pub calls : w.kept.calls ≡ first.kept.calls
   pub view : w.view ≡ first.view
   pub born : births w.memory ≡ births first.memory
 
@@ -51,9 +54,9 @@ store_born allowed m m' p v e = of (reached allowed m p) e
     of (Err kind) h = absurd (Prim.cc)
 
 module _ (first : World) where
-  tick_goes : (n : ℕ) (at : At) (w : World) (go : World → Ran Wire) → w.rest ≡ n → Goes first w → ((w' : World) → Goes first w' → Ends (Goes first) (go w')) → Ends (Goes first) (counted n at w go)
+  tick_goes : (n : ℕ) (at : At) (w : World) (go : World → Ran Wire) → w.clock.rest ≡ n → Goes first w → ((w' : World) → Goes first w' → Ends (Goes first) (go w')) → Ends (Goes first) (counted n at w go)
   tick_goes zero at w go e s goes = s
-  tick_goes (suc q) at w go e s goes = goes _ (record { later = omega (arith, s.later); total = omega (arith, s.total); calls = s.calls; view = s.view; born = s.born })
+  tick_goes (suc q) at w go e s goes = goes _ (record { later = omega (arith, s.later); total = omega (arith, s.total, e); calls = s.calls; view = s.view; born = s.born })
 
   load_goes : (r : Result Wire StopKind) (at : At) (w : World) (go : Wire → Ran Wire) → Goes first w → ((v : Wire) → Ends (Goes first) (go v)) → Ends (Goes first) (when_loaded r at w go)
   load_goes (Ok v) at w go s goes = goes v
@@ -91,7 +94,7 @@ module _ (first : World) where
   tree_goes Tree.Idle w s = s
   tree_goes (Tree.Done v t) w s = s
   tree_goes (Tree.Stop kind at) w s = s
-  tree_goes (Tree.Tick at t) w s = tick_goes w.rest at w (λ w'. in_kernel t w') refl s (λ w' s'. tree_goes t w' s')
+  tree_goes (Tree.Tick at t) w s = tick_goes w.clock.rest at w (λ w'. in_kernel t w') refl s (λ w' s'. tree_goes t w' s')
   tree_goes (Tree.Load at p k) w s = load_goes (loaded everywhere w.memory p) at w (λ v. in_kernel (k v) w) s (λ v. tree_goes (k v) w s)
   tree_goes (Tree.Store at p v t) w s =
       store_goes (stored everywhere w.memory p v) at w (λ w'. in_kernel t w') s (λ m e. store_born everywhere w.memory m p v e) (λ w' s'. tree_goes t w' s')
@@ -114,7 +117,7 @@ service_goes asked w = served_goes w asked w (itself w)
 -- the blocks are the globals as they were born, and the messages are paid for
 pub record IsPaid (program : Program) (k : Kernel) : Type 0 where
   pub born : births k.world.memory ≡ globals_of program
-  pub paid : 2 * k.exchanges ≤ 4 * k.world.ticks + 6 * k.world.calls
+  pub paid : 2 * k.exchanges ≤ 4 * k.world.clock.ticks + 6 * k.world.kept.calls
 
 -- where a run waits user code may touch the visible cells
 abbrev pub Stays : Program → Pending → Type 0
@@ -125,7 +128,7 @@ module _ (program : Program) where
   -- a world from which a message is sent: the message is paid for
   record CanSend (k : Kernel) (w : World) : Type 0 where
     born : births w.memory ≡ globals_of program
-    paid : 2 * k.exchanges + 2 ≤ 4 * w.ticks + 6 * w.calls
+    paid : 2 * k.exchanges + 2 ≤ 4 * w.clock.ticks + 6 * w.kept.calls
 
   send_later : (k : Kernel) (w w' : World) → CanSend k w → Goes w w' → CanSend k w'
   send_later k w w' s g = record { born = g.born ∙ s.born; paid = omega (arith, g.later, g.calls, s.paid) }
@@ -201,30 +204,33 @@ module _ (program : Program) where
   service_stays k rest script (Ended results w') s seen g = answer_stays results k w' rest script (send_later k k.world w' s g) (goes_seen k.world w' g seen)
   service_stays k rest script (Stopped kind at w') s seen g = paid_in k w' (send_later k k.world w' s g)
 
-  taken_stays : (reply : Message) (k : Kernel) (rest : Rest) (script : List Command) → fault_of program k rest reply ≡ None → IsPaid program k → k.world.view ≡ visible program k.world.memory → Stays program (taken program reply k rest script)
+  taken_stays : (reply : Reply) (k : Kernel) (rest : Rest) (script : List Command) → fault_of program k rest reply ≡ None → IsPaid program k → k.world.view ≡ visible program k.world.memory → Stays program (taken program reply k rest script)
   unfolding taken
-  taken_stays (message.Return ticks v runs) k (Noted f) script e s seen = commands_stay script _ (returns_paid (applied ticks runs k) v (applied_paid k ticks runs s))
-  taken_stays (message.Down ticks at depth func args runs) k rest script e s seen =
+  taken_stays (replies.Return ticks v runs) k (Noted f) script e s seen = commands_stay script _ (returns_paid (applied ticks runs k) v (applied_paid k ticks runs s))
+  taken_stays (replies.Down ticks at depth func args runs) k rest script e s seen =
       let d : IsDown program k ticks func runs = down_fits program k rest ticks at depth func args runs e in
       down_stays (applied ticks runs k) rest script (kernel_call program func args depth (applied ticks runs k).world) (applied_sends k ticks runs d.asked s) (kernel_goes program func args depth (applied ticks runs k).world)
-  taken_stays (message.Ask ticks at service args shapes bytes runs) k rest script e s seen =
+  taken_stays (replies.Ask ticks at service args shapes bytes runs) k rest script e s seen =
       let a : IsAsk program k ticks args runs = ask_fits program k rest ticks at service args shapes bytes runs e in
       let asked : Asked = record { service = service; at = at; args = args; shapes = shapes; bytes = bytes } in
       service_stays (applied ticks runs k) rest script (served asked (applied ticks runs k).world) (applied_sends k ticks runs a.asked s) (still_seen k ticks runs seen) (service_goes asked (applied ticks runs k).world)
-  taken_stays (message.Stop ticks number at runs) k rest script e s seen = applied_paid k ticks runs s
-  taken_stays (message.Call func depth left args deaths news view runs) k rest script e s seen = s
-  taken_stays (message.Back left result deaths news view runs) k rest script e s seen = s
-  taken_stays (message.Answer results deaths news) k rest script e s seen = s
-  taken_stays (message.Refuse reason) k rest script e s seen = s
+  taken_stays (replies.Stop ticks number at runs) k rest script e s seen = applied_paid k ticks runs s
+
+  judged_stays : (reply : Reply) (k : Kernel) (rest : Rest) (script : List Command) → IsPaid program k → k.world.view ≡ visible program k.world.memory → Stays program (judged program (fault_of program k rest reply) reply k rest script)
+  judged_stays reply k rest script s seen = of (fault_of program k rest reply) refl
+    where
+      of : (o : Option Fault) → fault_of program k rest reply ≡ o → Stays program (judged program o reply k rest script)
+      of None e = taken_stays reply k rest script e s seen
+      of (Some f) e = s
+
+  answered_stays : (o : Option Reply) (k : Kernel) (rest : Rest) (script : List Command) → IsPaid program k → k.world.view ≡ visible program k.world.memory → Stays program (answered program o k rest script)
+  answered_stays None k rest script s seen = s
+  answered_stays (Some reply) k rest script s seen = judged_stays reply k rest script s seen
 
   next_stays : (a : Reading) (m : Message) (k : Kernel) (rest : Rest) (script : List Command) → Stays program (Waits m k rest script) → Stays program (next program a k rest script)
   unfolding next
   next_stays (Err f) m k rest script s = s.0
-  next_stays (Ok reply) m k rest script s = of (fault_of program k rest reply) refl
-    where
-      of : (o : Option Fault) → fault_of program k rest reply ≡ o → Stays program (judged program o reply k rest script)
-      of None e = taken_stays reply k rest script e s.0 s.1
-      of (Some f) e = s.0
+  next_stays (Ok reply) m k rest script s = answered_stays (reply_of reply) k rest script s.0 s.1
 
   from_pending : (readings : List Reading) (p : Pending) → Stays program p → Stays program (run_from_pending program readings p).pending
   unfolding run_from_pending
@@ -240,9 +246,9 @@ run_stays program script budget answers =
     from_pending program answers (split_commands program script (first_kernel program budget)) (commands_stay program script (first_kernel program budget) (record { born = refl; paid = omega arith }))
 
 pub paid_everywhere : (program : Program) (script : List Command) (budget : ℕ) (answers : List Reading) → let k : Kernel = kernel_in (split_run program script budget answers).pending in
-    2 * k.exchanges ≤ 4 * k.world.ticks + 6 * k.world.calls
+    2 * k.exchanges ≤ 4 * k.world.clock.ticks + 6 * k.world.kept.calls
 paid_everywhere program script budget answers = of (split_run program script budget answers).pending (run_stays program script budget answers)
   where
-    of : (p : Pending) → Stays program p → 2 * (kernel_in p).exchanges ≤ 4 * (kernel_in p).world.ticks + 6 * (kernel_in p).world.calls
+    of : (p : Pending) → Stays program p → 2 * (kernel_in p).exchanges ≤ 4 * (kernel_in p).world.clock.ticks + 6 * (kernel_in p).world.kept.calls
     of (Over end k) s = s.paid
     of (Waits m k rest script) s = s.0.paid

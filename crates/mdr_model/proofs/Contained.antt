@@ -4,12 +4,13 @@ use Rattle.std.specs.List.{AllByRecursion, list_all}
 use Rattle.mdr_core.specs.declared.program.Program.{Program}
 use Rattle.mdr_model.specs.declared.message.New.{New}
 use Rattle.mdr_model.specs.declared.message.Run.{Run}
-use Rattle.mdr_model.specs.declared.message.Message.{Message}
-use Rattle.mdr_model.specs.declared.message.Message.TheVariants as message
+use Rattle.mdr_model.specs.declared.reply.Reply.{Reply}
+use Rattle.mdr_model.specs.declared.reply.Reply.TheVariants as replies
 use Rattle.mdr_model.specs.Memory.{Memory, Cell, births, cell_at, put}
 use Rattle.mdr_model.specs.Sets.{is_same_cell, is_in, visible_of, visible}
 use Rattle.mdr_model.specs.Copies.{CellValue, numbered, values_of_runs, put_all, put_runs}
-use Rattle.mdr_model.specs.Kernel.{Kernel, Rest, fault_of, reply_runs_fault}
+use Rattle.mdr_model.specs.KernelState.{Kernel, Rest}
+use Rattle.mdr_model.specs.ReplyFaults.{fault_of, reply_runs_fault}
 use Rattle.mdr_model.specs.Legal.{is_lock_in, is_lock, IsContained, runs_told}
 use Rattle.mdr_model.proofs.Tests.{not_both, and_both, and_left, and_right}
 use Rattle.mdr_model.proofs.Relations.{globals_of}
@@ -55,18 +56,14 @@ visible_unlocked program m c rising e =
 runs_are_inside : (program : Program) (k : Kernel) (rs : List Run) → reply_runs_fault program k rs ≡ None → list_all (λ (x : CellValue). is_in k.world.view x.cell) (values_of_runs rs) ≡ true
 runs_are_inside program k rs e = inside_all program k.world.view k.world.memory rs (runs_pass program k.world.view k.world.memory k.agreed None 0 rs e)
 
-told_inside : (program : Program) (k : Kernel) (rest : Rest) (a : Message) → fault_of program k rest a ≡ None → list_all (λ (x : CellValue). is_in k.world.view x.cell) (values_of_runs (runs_told a)) ≡ true
+told_inside : (program : Program) (k : Kernel) (rest : Rest) (a : Reply) → fault_of program k rest a ≡ None → list_all (λ (x : CellValue). is_in k.world.view x.cell) (values_of_runs (runs_told a)) ≡ true
 unfolding values_of_runs
-told_inside program k rest (message.Return ticks result runs) e = runs_are_inside program k runs (return_fits program k rest ticks result runs e).runs
-told_inside program k rest (message.Down ticks at depth func args runs) e = runs_are_inside program k runs (down_fits program k rest ticks at depth func args runs e).fit.runs
-told_inside program k rest (message.Ask ticks at service args shapes bytes runs) e = runs_are_inside program k runs (ask_fits program k rest ticks at service args shapes bytes runs e).fit.runs
-told_inside program k rest (message.Stop ticks number at runs) e = runs_are_inside program k runs (stop_fits program k rest ticks number at runs e).runs
-told_inside program k rest (message.Call func depth left args deaths news view runs) e = refl
-told_inside program k rest (message.Back left result deaths news view runs) e = refl
-told_inside program k rest (message.Answer results deaths news) e = refl
-told_inside program k rest (message.Refuse reason) e = refl
+told_inside program k rest (replies.Return ticks result runs) e = runs_are_inside program k runs (return_fits program k rest ticks result runs e).runs
+told_inside program k rest (replies.Down ticks at depth func args runs) e = runs_are_inside program k runs (down_fits program k rest ticks at depth func args runs e).fit.runs
+told_inside program k rest (replies.Ask ticks at service args shapes bytes runs) e = runs_are_inside program k runs (ask_fits program k rest ticks at service args shapes bytes runs e).fit.runs
+told_inside program k rest (replies.Stop ticks number at runs) e = runs_are_inside program k runs (stop_fits program k rest ticks number at runs e).runs
 
-pub legal_is_contained : (program : Program) (k : Kernel) (rest : Rest) (a : Message) → births k.world.memory ≡ globals_of program → k.world.view ≡ visible program k.world.memory → fault_of program k rest a ≡ None
+pub legal_is_contained : (program : Program) (k : Kernel) (rest : Rest) (a : Reply) → births k.world.memory ≡ globals_of program → k.world.view ≡ visible program k.world.memory → fault_of program k rest a ≡ None
     → IsContained program k.world.memory (put_runs (runs_told a) k.world.memory) k.world.view
 unfolding put_runs visible
 legal_is_contained program k rest a born seen e = record {

@@ -14,7 +14,7 @@ use Rattle.mdr_model.specs.Tree.{Asked, Tree}
 use Rattle.mdr_model.specs.Meaning.{func_at}
 use Rattle.mdr_model.specs.World.{is_writel}
 use Rattle.mdr_model.specs.Faults.{params_of, args_fault}
-use Rattle.mdr_model.specs.Kernel.{stop_number, user_stop, is_user_place, has_down_stub, service_params, result_type}
+use Rattle.mdr_model.specs.ReplyFaults.{stop_number, user_stop, is_user_place, has_down_stub, service_params, result_type}
 
 -- what user code was told of: blocks, as they were born
 abbrev pub Knowledge : Type 0

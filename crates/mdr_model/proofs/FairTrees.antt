@@ -30,7 +30,7 @@ use Rattle.mdr_model.specs.Memory.{births, global_blocks, first_memory}
 use Rattle.mdr_model.specs.Tree.{Tree}
 use Rattle.mdr_model.specs.Meaning.{func_at, critical_of, is_kernel, is_user, is_own, body_of, type_of_global, pointer_to, stop_of, given, value, values, Here, Enters, by_half, at_depth, call, keeps, statement, number_of, statements, function, started}
 use Rattle.mdr_model.specs.Faults.{params_of, args_fault}
-use Rattle.mdr_model.specs.Kernel.{callee_is, calls_func, any_calls, has_down_stub, has_number, any_has_number, is_user_place, user_stop}
+use Rattle.mdr_model.specs.ReplyFaults.{callee_is, calls_func, any_calls, has_down_stub, has_number, any_has_number, is_user_place, user_stop}
 use Rattle.mdr_core.specs.Types.{first_types}
 use Rattle.mdr_model.specs.Runnable.{IsVariable, IsRunnablePlace, IsRunnableExpr, IsRunnableWritel, IsRunnableCall, IsRunnableStep, IsRunnableBody, IsRunnableFunc, IsRunnable}
 use Rattle.mdr_model.proofs.Fair.{Knowledge, IsAmong, Grows, IsKnownPointer, IsValueAt, IsPlace, IsUserStop, Fair}

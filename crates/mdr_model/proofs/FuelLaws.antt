@@ -13,7 +13,7 @@ use Rattle.mdr_model.specs.Sets.{is_in}
 use Rattle.mdr_model.specs.Tree.{Tree, cut}
 use Rattle.mdr_model.specs.Walk.{Reached, Walked, walked, on_load, on_store, walk}
 use Rattle.mdr_model.specs.Meaning.{started}
-use Rattle.mdr_model.specs.Kernel.{Reading}
+use Rattle.mdr_model.specs.KernelState.{Reading}
 use Rattle.mdr_model.specs.User.{User, Work, Nothing, AwaitsBack, AwaitsAnswer, Refuses, Runs, when_fits, opened, Delivered, replied, replied_to, done, deliver, first_user, user_after, granted, allowance, user_reply}
 use Rattle.mdr_model.proofs.AlikeLaws.{fuel_no_matter}
 

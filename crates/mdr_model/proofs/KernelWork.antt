@@ -10,7 +10,7 @@ use Rattle.mdr_model.specs.Memory.{Memory, loaded, stored, everywhere}
 use Rattle.mdr_model.specs.Tree.{Asked, Tree}
 use Rattle.mdr_model.specs.Meaning.{func_at, is_kernel}
 use Rattle.mdr_model.specs.World.{World, Ran, Ended, Stopped, after, counted, when_loaded, when_stored, written, written_if, is_writel, served, as_now, in_kernel, kernel_call}
-use Rattle.mdr_model.specs.Kernel.{has_down_stub, result_type}
+use Rattle.mdr_model.specs.ReplyFaults.{has_down_stub, result_type}
 use Rattle.mdr_model.specs.Runnable.{IsRunnable}
 use Rattle.mdr_model.proofs.Fair.{IsResultOf, IsServed, Fair}
 use Rattle.mdr_model.proofs.Relations.{Holds, globals_of}
@@ -20,8 +20,8 @@ use Rattle.mdr_model.proofs.FairTrees.{fair_kernel}
 
 -- the run has gone on: the clock runs, no command begins, the set stays, and the memory holds
 pub record Later (program : Program) (w w' : World) : Type 0 where
-  pub later : w.ticks ≤ w'.ticks
-  pub calls : w'.calls ≡ w.calls
+  pub later : w.clock.ticks ≤ w'.clock.ticks
+  pub calls : w'.kept.calls ≡ w.kept.calls
   pub view : w'.view ≡ w.view
   pub holds : Holds program w'.memory
 
@@ -33,7 +33,7 @@ pub data Leaves {A : Type 0} (L : World → Type 0) (P : A → Type 0) : Ran A �
 -- a service takes no tick, and `writel`, the one that is built, changes no memory
 pub record Serviced (program : Program) (w w' : World) : Type 0 where
   pub goes_on : Later program w w'
-  pub rest : w'.rest ≡ w.rest
+  pub rest : w'.clock.rest ≡ w.clock.rest
   pub memory : w'.memory ≡ w.memory
 
 -- ---- services
@@ -96,7 +96,7 @@ module _ (program : Program) (func : ℕ) (first : World) where
   tree_leaves (Tree.Done v t) credit fair w l = ended _ w l (record { fits = ap (fits_result (result_type (func_at program func))) (result_is_normal (result_type (func_at program func)) w.memory v fair.fits) ∙ fair.fits })
   tree_leaves (Tree.Stop kind at) credit fair w l = stopped _ _ w l
   tree_leaves (Tree.Tick at t) credit fair w l =
-      after_tick w.rest at w (λ w'. in_kernel t w') l (λ w' l'. tree_leaves t (suc (suc credit)) fair.1 w' l')
+      after_tick w.clock.rest at w (λ w'. in_kernel t w') l (λ w' l'. tree_leaves t (suc (suc credit)) fair.1 w' l')
   tree_leaves (Tree.Load at p k) credit fair w l =
       after_load (loaded everywhere w.memory p) at w (λ v. in_kernel (k v) w) l
       (λ v e. tree_leaves (k v) credit (fair.2 v (loaded_fits program everywhere w.memory p v l.holds fair.1 e)) w l)
@@ -113,7 +113,7 @@ module _ (program : Program) (func : ℕ) (first : World) where
 pub kernel_leaves : {program : Program} (func : ℕ) (args : List Wire) (depth : ℕ) (w : World) → IsRunnable program → is_kernel program func ≡ true → Holds program w.memory → Leaves (Later program w) (IsResultOf program func) (kernel_call program func args depth w)
 unfolding kernel_call
 kernel_leaves {program} func args depth w sound kernel holds =
-    tree_leaves program func w _ 0 (fair_kernel program sound w.rest func args depth (globals_of program) 0 kernel (λ b h. h)) w
+    tree_leaves program func w _ 0 (fair_kernel program sound w.clock.rest func args depth (globals_of program) 0 kernel (λ b h. h)) w
     (record { later = omega arith; calls = refl; view = refl; holds = holds })
 
 -- a function with a down stub is of the kernel half

@@ -13,11 +13,12 @@ use Rattle.mdr_model.specs.declared.outcome.End.{End}
 use Rattle.mdr_model.specs.Memory.{Memory, first_memory}
 use Rattle.mdr_model.specs.Sets.{cells_of_runs}
 use Rattle.mdr_model.specs.Tree.{Tree}
-use Rattle.mdr_model.specs.Meaning.{is_kernel, is_user, started}
+use Rattle.mdr_model.specs.Meaning.{is_user, started}
 use Rattle.mdr_model.specs.World.{World, Ran, Ended, Stopped}
 use Rattle.mdr_model.specs.Watched.{Finish, and_then, begin, in_place, commands, watched, first_world}
 use Rattle.mdr_model.specs.Copies.{agreed_after}
-use Rattle.mdr_model.specs.Kernel.{Kernel, Pending, Over, Waits, Reading, next, split_commands, first_kernel, run_from_pending, split_run}
+use Rattle.mdr_model.specs.KernelState.{Kernel, Pending, Over, Waits, Reading}
+use Rattle.mdr_model.specs.Kernel.{next, split_commands, first_kernel, run_from_pending, split_run}
 use Rattle.mdr_model.specs.User.{User, Work, Nothing, AwaitsBack, AwaitsAnswer, Runs, Delivered, Opened, deliver, opened, done, when_fits, call_fits, told, first_user, user_after, user_reply, allowance}
 use Rattle.mdr_model.specs.Outcome.{outcome_of}
 use Rattle.mdr_model.specs.Runnable.{IsRunnable, IsBound}
@@ -186,7 +187,7 @@ split_is_one_memory program script budget sound named =
           record {
             outcome = ap outcome_of (λ i. record { end = same_end i; world = (ap (λ (x : Kernel). x.world) same_kernel ∙ f.world) i });
             own = subst (λ (e : End). IsOwn e) (sym same_end) (own_end program script (first_world program budget));
-            messages = subst (λ (x : Kernel). 2 * x.exchanges ≤ 4 * x.world.ticks + 6 * x.world.calls) (sym same_kernel) f.bound;
+            messages = subst (λ (x : Kernel). 2 * x.exchanges ≤ 4 * x.world.clock.ticks + 6 * x.world.kept.calls) (sym same_kernel) f.bound;
           };
       ends =
           let r : Reaches program sound [] p (answers_of program sound f.turns p (idle_user (first_memory program))) (watched program script budget).end f.kernel =

@@ -12,12 +12,12 @@ use Rattle.mdr_model.specs.World.{World}
 use Rattle.mdr_model.specs.Watched.{renewed}
 use Rattle.mdr_model.specs.Faults.{runs_fault}
 use Rattle.mdr_model.specs.Copies.{Told, died, news_of, without, with_news, left_of, changed_values, told_news, begun_copy, tells, agreed_after, changed_cells, changes, put_runs}
-use Rattle.mdr_model.specs.Kernel.{Kernel}
+use Rattle.mdr_model.specs.KernelState.{Kernel}
 use Rattle.mdr_model.specs.User.{lives_fit, view_fits, runs_fit, cells_fit, renewed_copy, still_live}
 use Rattle.mdr_model.specs.Runnable.{IsRunnable}
 use Rattle.mdr_model.specs.Agreement.{IsShown, learnt, IsShared}
 use Rattle.mdr_model.proofs.Fair.{Knowledge, IsAmong}
-use Rattle.mdr_model.proofs.Relations.{Holds, serials_of, Knows, Agree, Rel}
+use Rattle.mdr_model.proofs.Relations.{Holds, serials_of, Knows, Agree, Rel, same_clock}
 use Rattle.mdr_model.proofs.KernelWork.{Later, Serviced}
 use Rattle.mdr_model.proofs.MemoryLaws.{is_live-births, itself}
 use Rattle.mdr_model.proofs.SetLaws.{Rises, runs_rise, cells_of_runs-runs}
@@ -68,10 +68,8 @@ shared_rel {program} {K} {copy} values view w e next a seen shared =
       holds = a.holds;
       view = seen;
       same_view = refl;
-      same_events = refl;
-      same_calls = refl;
-      clock = refl;
-      later = omega arith;
+      same_kept = refl;
+      clock = same_clock (omega arith) (omega arith);
     }
 
 -- the visible cells and their changes fit

@@ -9,7 +9,7 @@ use Rattle.mdr_model.specs.declared.message.Message.TheVariants as message
 use Rattle.mdr_model.specs.Xdr.{four}
 use Rattle.mdr_model.specs.Text.{text}
 use Rattle.mdr_model.specs.Reading.{reading_of}
-use Rattle.mdr_model.specs.Kernel.{Reading}
+use Rattle.mdr_model.specs.KernelState.{Reading}
 use Rattle.mdr_model.specs.User.{User, Opened, Refuses, Runs, Delivered, opened, replied, done, deliver, first_user, user_after, granted, allowance, user_reply}
 use Rattle.mdr_model.specs.Bytes.{readings, user_reply_to_bytes}
 use Rattle.mdr_model.specs.Refusals.{is_refusal, accepted, RefusedLeavesUser, RefusedAreLeftOut}

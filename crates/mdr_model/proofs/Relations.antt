@@ -1,12 +1,12 @@
 -- How the memories of a whole run and of a split one are related: while the kernel half has control, and while the user half has. The relations of memories alone are those of every memory and set; here stand the values' types and the run's clock beside them.
-use Rattle.std.proofs.Common.{◌≡◌, ℕ, ◌+◌, ◌≤◌, true, List, Some}
+use Rattle.std.proofs.Common.{◌≡◌, ℕ, ◌+◌, ◌-◌, ◌≤◌, true, List, Some, ap, arith}
 use Rattle.mdr_core.specs.declared.program.Program.{Program}
 use Rattle.mdr_model.specs.declared.message.New.{New}
 pub use Rattle.mdr_model.specs.Holds.{IsFilled}
 use Rattle.mdr_model.specs.Memory.{Memory, births, born_at, is_live, first_memory}
 use Rattle.mdr_model.specs.Sets.{visible}
-use Rattle.mdr_model.specs.World.{World}
-use Rattle.mdr_model.specs.Kernel.{Kernel}
+use Rattle.mdr_model.specs.World.{Clock, advanced, World}
+use Rattle.mdr_model.specs.KernelState.{Kernel}
 use Rattle.mdr_model.specs.Agreement.{is_told, Serials, IsAgreed, IsShared}
 use Rattle.mdr_model.proofs.Fair.{Knowledge, IsAmong}
 
@@ -35,6 +35,10 @@ pub record Agree (program : Program) (K : Knowledge) (copy : Memory) (w : World)
   pub knows : Knows program K w.memory
   pub holds : Holds program w.memory
 
+-- the ticks that the user half has counted, and not yet told
+abbrev pub used : Kernel → World → ℕ
+used k w = k.world.clock.rest - w.clock.rest
+
 -- the user half has control: the kernel half waits in state k, the whole run has come to w, and the user half's memory is um
 pub record Rel (program : Program) (K : Knowledge) (k : Kernel) (w : World) (um : Memory) : Type 0 where
   pub next : ℕ
@@ -43,7 +47,22 @@ pub record Rel (program : Program) (K : Knowledge) (k : Kernel) (w : World) (um 
   pub holds : Holds program w.memory
   pub view : w.view ≡ visible program w.memory
   pub same_view : k.world.view ≡ w.view
-  pub same_events : k.world.events ≡ w.events
-  pub same_calls : k.world.calls ≡ w.calls
-  pub clock : k.world.ticks + k.world.rest ≡ w.ticks + w.rest
-  pub later : k.world.ticks ≤ w.ticks
+  pub same_kept : k.world.kept ≡ w.kept
+  pub clock : w.clock ≡ advanced (used k w) k.world.clock
+
+-- ---- clocks
+
+pub same_clock : {c d : Clock} → c.ticks ≡ d.ticks → c.rest ≡ d.rest → c ≡ d
+same_clock e f = λ i. record { ticks = e i; rest = f i }
+
+-- the ticks that were counted are gone from the rest
+pub total : {program : Program} {K : Knowledge} {k : Kernel} {w : World} {um : Memory} → Rel program K k w um → k.world.clock.ticks + k.world.clock.rest ≡ w.clock.ticks + w.clock.rest
+total {k = k} {w = w} r =
+    let ticks : w.clock.ticks ≡ k.world.clock.ticks + (k.world.clock.rest - w.clock.rest) = ap (λ (c : Clock). c.ticks) r.clock in
+    let rest : w.clock.rest ≡ k.world.clock.rest - (k.world.clock.rest - w.clock.rest) = ap (λ (c : Clock). c.rest) r.clock in
+    omega (arith, ticks, rest)
+
+pub later : {program : Program} {K : Knowledge} {k : Kernel} {w : World} {um : Memory} → Rel program K k w um → k.world.clock.ticks ≤ w.clock.ticks
+later {k = k} {w = w} r =
+    let ticks : w.clock.ticks ≡ k.world.clock.ticks + (k.world.clock.rest - w.clock.rest) = ap (λ (c : Clock). c.ticks) r.clock in
+    omega (arith, ticks)

@@ -10,27 +10,26 @@ use Rattle.mdr_core.specs.declared.types.Ty.{Ty}
 use Rattle.mdr_core.specs.declared.refusal.RefuseKind.TheVariants as refusal
 use Rattle.mdr_model.specs.declared.wire.Wire.{Wire}
 use Rattle.mdr_model.specs.declared.message.Run.{Run}
-use Rattle.mdr_model.specs.declared.message.Message.TheVariants as message
+use Rattle.mdr_model.specs.declared.reply.Reply.TheVariants as replies
 use Rattle.mdr_model.specs.Values.{fits_type, fits_result}
 use Rattle.mdr_model.specs.Memory.{Memory, Cell, normal}
 use Rattle.mdr_model.specs.Tree.{Asked}
-use Rattle.mdr_model.specs.World.{World}
+use Rattle.mdr_model.specs.World.{Kept, advanced, World}
 use Rattle.mdr_model.specs.Meaning.{func_at}
 use Rattle.mdr_model.specs.Faults.{fault, params_of, args_fault, runs_fault}
 use Rattle.mdr_model.specs.Copies.{changes, put_runs}
-use Rattle.mdr_model.specs.Kernel.{Kernel, Rest, fault_of, upcall_of, applied, stop_number, user_stop, is_awaited, is_ask_place, service_params, result_type, reply_runs_fault}
+use Rattle.mdr_model.specs.KernelState.{Kernel, Rest}
+use Rattle.mdr_model.specs.ReplyFaults.{fault_of, upcall_of, stop_number, user_stop, is_awaited, is_ask_place, service_params, result_type, reply_runs_fault}
+use Rattle.mdr_model.specs.Kernel.{applied}
 use Rattle.mdr_model.specs.Agreement.{IsAgreed}
 use Rattle.mdr_model.proofs.ValueLaws.{typed_is_normal, result_is_normal}
 use Rattle.mdr_model.proofs.Fair.{Knowledge, IsPlace, IsUserStop, IsAskable, IsDowncall, IsResultOf}
-use Rattle.mdr_model.proofs.Relations.{serials_of, Agree, Rel}
+use Rattle.mdr_model.proofs.Relations.{serials_of, Agree, Rel, total, later}
+pub use Rattle.mdr_model.proofs.Relations.{used}
 use Rattle.mdr_model.proofs.Tests.{other_number}
 use Rattle.mdr_model.proofs.AgreedReplies.{reply_whole, reply_user, replied, get}
 use Rattle.mdr_model.proofs.RunLaws.{changes_fit}
 use Rattle.mdr_model.proofs.ViewLaws.{view_rises, tellable}
-
--- the ticks that a reply tells
-abbrev pub used : Kernel → World → ℕ
-used k w = k.world.rest - w.rest
 
 -- the runs that it tells
 abbrev pub told_runs : Kernel → World → Memory → List Run
@@ -44,11 +43,10 @@ resumed k w um = record { world = w; agreed = put_runs (told_runs k w um) k.agre
 pub stores_reply : {program : Program} {K : Knowledge} {k : Kernel} {w : World} {um : Memory} → Rel program K k w um → applied (used k w) (told_runs k w um) k ≡ resumed k w um
 unfolding applied
 stores_reply {program} {k = k} {w = w} {um = um} r =
-    let ticks_are : k.world.ticks + (k.world.rest - w.rest) ≡ w.ticks = omega (arith, r.clock, r.later) in
-    let rest_is : k.world.rest - (k.world.rest - w.rest) ≡ w.rest = omega (arith, r.clock, r.later) in
+    let clock_is : advanced (used k w) k.world.clock ≡ w.clock = sym r.clock in
     let memory_is : put_runs (told_runs k w um) k.world.memory ≡ w.memory = reply_whole r.memories in
     λ i. record {
-      world = record { memory = memory_is i; view = r.same_view i; ticks = ticks_are i; rest = rest_is i; events = r.same_events i; calls = r.same_calls i };
+      world = record { memory = memory_is i; view = r.same_view i; clock = clock_is i; kept = r.same_kept i };
       agreed = put_runs (told_runs k w um) k.agreed;
       exchanges = k.exchanges;
     }
@@ -64,7 +62,7 @@ agrees {program} {K} {k} {w} {um} r = record {
 
 -- a reply that asks for something is within the bound on messages
 pub record IsWithin (k : Kernel) (w : World) (questions : ℕ) : Type 0 where
-  pub bound : 2 * k.exchanges + 2 * questions ≤ 4 * w.ticks + 6 * w.calls
+  pub bound : 2 * k.exchanges + 2 * questions ≤ 4 * w.clock.ticks + 6 * w.kept.calls
 
 -- its runs have no fault
 runs_legal : {program : Program} {K : Knowledge} {k : Kernel} {w : World} {um : Memory} → Rel program K k w um → reply_runs_fault program k (told_runs k w um) ≡ None
@@ -74,8 +72,8 @@ runs_legal {program} {k = k} {w = w} {um = um} r =
     (λ c inside. tellable program w.memory k.world.memory um w.view c r.view r.holds (sym (r.memories.whole_born c.serial)) inside (get c r.memories inside))
 
 -- and its ticks are there
-ticks_legal : {program : Program} {K : Knowledge} {k : Kernel} {w : World} {um : Memory} → Rel program K k w um → nat_le (used k w) k.world.rest ≡ true
-ticks_legal r = le-leb _ _ (omega (arith, r.clock, r.later))
+ticks_legal : {program : Program} {K : Knowledge} {k : Kernel} {w : World} {um : Memory} → Rel program K k w um → nat_le (used k w) k.world.clock.rest ≡ true
+ticks_legal r = le-leb _ _ (omega (arith, total r, later r))
 
 pub args_normal : (m : Memory) (i : ℕ) (ts : List Ty) (vs : List Wire) → args_fault i ts vs ≡ None → map (normal m) vs ≡ vs
 unfolding args_fault
@@ -91,30 +89,32 @@ args_normal m i (t ∷ ts) (v ∷ vs) e = of (fits_type t v) refl e (args_normal
 
 awaited : {program : Program} {K : Knowledge} {k : Kernel} {w : World} {um : Memory} (credit : ℕ) → Rel program K k w um → IsWithin k w (suc credit) → is_awaited k (used k w) ≡ true
 unfolding is_awaited
-awaited {k = k} {w = w} credit r within = le-leb _ _ (omega (arith, within.bound, r.clock, r.later, r.same_calls))
+awaited {k = k} {w = w} credit r within =
+    let calls : k.world.kept.calls ≡ w.kept.calls = ap (λ (x : Kept). x.calls) r.same_kept in
+    le-leb _ _ (omega (arith, within.bound, total r, later r, calls))
 
-pub legal_return : {program : Program} {K : Knowledge} {k : Kernel} {w : World} {um : Memory} (rest : Rest) (v : Wire) → Rel program K k w um → IsResultOf program (upcall_of rest) v → fault_of program k rest (message.Return (used k w) (normal w.memory v) (told_runs k w um)) ≡ None
+pub legal_return : {program : Program} {K : Knowledge} {k : Kernel} {w : World} {um : Memory} (rest : Rest) (v : Wire) → Rel program K k w um → IsResultOf program (upcall_of rest) v → fault_of program k rest (replies.Return (used k w) (normal w.memory v) (told_runs k w um)) ≡ None
 unfolding fault_of
 legal_return {program} {k = k} {w = w} {um = um} rest v r fits =
     let result : fits_result (result_type (func_at program (upcall_of rest))) (normal w.memory v) ≡ true =
     ap (λ (x : Wire). fits_result (result_type (func_at program (upcall_of rest))) x) (result_is_normal _ w.memory v fits.fits) ∙ fits.fits in
     rw (ticks_legal r, result, runs_legal r) refl
 
-pub legal_stop : {program : Program} {K : Knowledge} {k : Kernel} {w : World} {um : Memory} (rest : Rest) (kind : StopKind) (at : At) → Rel program K k w um → IsPlace program half.User at → IsUserStop kind → fault_of program k rest (message.Stop (used k w) (stop_number kind) at (told_runs k w um)) ≡ None
+pub legal_stop : {program : Program} {K : Knowledge} {k : Kernel} {w : World} {um : Memory} (rest : Rest) (kind : StopKind) (at : At) → Rel program K k w um → IsPlace program half.User at → IsUserStop kind → fault_of program k rest (replies.Stop (used k w) (stop_number kind) at (told_runs k w um)) ≡ None
 unfolding fault_of
 legal_stop {program} {k = k} {w = w} {um = um} rest kind at r place own =
     let there : is_none (user_stop (stop_number kind)) ≡ false = ap (λ (o : Option StopKind). is_none o) own.told in
     let other : (stop_number kind == 16) ≡ false = other_number _ _ own.no_ticks in
     rw (ticks_legal r, place, there, other, runs_legal r) refl
 
-pub legal_ticks : {program : Program} {K : Knowledge} {k : Kernel} {w : World} {um : Memory} (rest : Rest) (at : At) → Rel program K k w um → IsPlace program half.User at → w.rest ≡ 0 → fault_of program k rest (message.Stop (used k w) 16 at (told_runs k w um)) ≡ None
+pub legal_ticks : {program : Program} {K : Knowledge} {k : Kernel} {w : World} {um : Memory} (rest : Rest) (at : At) → Rel program K k w um → IsPlace program half.User at → w.clock.rest ≡ 0 → fault_of program k rest (replies.Stop (used k w) 16 at (told_runs k w um)) ≡ None
 unfolding fault_of user_stop
 legal_ticks {program} {k = k} {w = w} {um = um} rest at r place none =
-    let all : (used k w == k.world.rest) ≡ true = ap (λ (n : ℕ). k.world.rest - n == k.world.rest) none ∙ eq-eqb _ _ (omega arith) in
+    let all : (used k w == k.world.clock.rest) ≡ true = ap (λ (n : ℕ). k.world.clock.rest - n == k.world.clock.rest) none ∙ eq-eqb _ _ (omega arith) in
     rw (ticks_legal r, place, all, runs_legal r) refl
 
 pub legal_ask : {program : Program} {K : Knowledge} {k : Kernel} {w : World} {um : Memory} (rest : Rest) (asked : Asked) (credit : ℕ) → Rel program K k w um → IsPlace program half.User asked.at → IsAskable program asked → IsWithin k w (suc credit)
-    → fault_of program k rest (message.Ask (used k w) asked.at asked.service (map (normal w.memory) asked.args) asked.shapes asked.bytes (told_runs k w um)) ≡ None
+    → fault_of program k rest (replies.Ask (used k w) asked.at asked.service (map (normal w.memory) asked.args) asked.shapes asked.bytes (told_runs k w um)) ≡ None
 unfolding fault_of is_ask_place
 legal_ask {program} {k = k} {w = w} {um = um} rest asked credit r place askable within =
     let args : args_fault 0 service_params (map (normal w.memory) asked.args) ≡ None =
@@ -122,7 +122,7 @@ legal_ask {program} {k = k} {w = w} {um = um} rest asked credit r place askable 
     rw (awaited credit r within, ticks_legal r, place, askable.shapes, askable.bytes, askable.writel, args, runs_legal r) refl
 
 pub legal_down : {program : Program} {K : Knowledge} {k : Kernel} {w : World} {um : Memory} (rest : Rest) (at : At) (func : ℕ) (args : List Wire) (depth credit : ℕ) → Rel program K k w um → IsPlace program half.User at → IsDowncall program func args depth → IsWithin k w (suc credit)
-    → fault_of program k rest (message.Down (used k w) at depth func (map (normal w.memory) args) (told_runs k w um)) ≡ None
+    → fault_of program k rest (replies.Down (used k w) at depth func (map (normal w.memory) args) (told_runs k w um)) ≡ None
 unfolding fault_of
 legal_down {program} {k = k} {w = w} {um = um} rest at func args depth credit r place down within =
     let some : nat_lt 0 depth ≡ true = lt-ltb _ _ down.some in

@@ -11,16 +11,20 @@ use Rattle.mdr_model.specs.declared.message.Run.{Run}
 use Rattle.mdr_model.specs.declared.message.Fault.{Fault}
 use Rattle.mdr_model.specs.declared.message.Message.{Message}
 use Rattle.mdr_model.specs.declared.message.Message.TheVariants as message
+use Rattle.mdr_model.specs.declared.reply.Reply.{Reply}
+use Rattle.mdr_model.specs.declared.reply.Reply.TheVariants as replies
 use Rattle.mdr_model.specs.declared.outcome.End.{End}
 use Rattle.mdr_model.specs.declared.outcome.End.TheVariants as ends
 use Rattle.mdr_model.specs.Memory.{Memory, Cell, normal, loaded}
 use Rattle.mdr_model.specs.Sets.{is_in, runs_of_cells}
 use Rattle.mdr_model.specs.Tree.{Asked, Tree}
 use Rattle.mdr_model.specs.Walk.{Walked, walk, on_load, on_store}
-use Rattle.mdr_model.specs.World.{World, Ran, Ended, Stopped, after, counted, when_loaded, when_stored, served, as_now, kernel_call}
+use Rattle.mdr_model.specs.World.{World, advanced, Ran, Ended, Stopped, after, counted, when_loaded, when_stored, served, as_now, kernel_call}
 use Rattle.mdr_model.specs.Watched.{renewed, in_user, Finish, finish, noting, and_then, commands}
 use Rattle.mdr_model.specs.Copies.{Told, tells, agreed_after, put_runs}
-use Rattle.mdr_model.specs.Kernel.{Kernel, Rest, Noted, Pending, Over, Waits, fault_of, upcall_of, applied, stop_number, user_stop, next, judged, taken, continued, downcalled, serviced, comes_back, answers, service_params}
+use Rattle.mdr_model.specs.KernelState.{Kernel, Rest, Noted, Pending, Over, Waits}
+use Rattle.mdr_model.specs.ReplyFaults.{reply_of as read_as, fault_of, upcall_of, stop_number, user_stop, service_params}
+use Rattle.mdr_model.specs.Kernel.{applied, next, judged, answered, taken, continued, downcalled, serviced, comes_back, answers}
 use Rattle.mdr_core.specs.declared.types.Ty.{Ty}
 use Rattle.mdr_model.specs.Faults.{args_fault}
 use Rattle.mdr_model.specs.User.{User, Nothing, AwaitsBack, AwaitsAnswer, Runs, Delivered, deliver, opened, replied, replied_to, back_fits, answer_fits, when_fits, still_live, told as user_told, done as user_done}
@@ -49,7 +53,7 @@ pub record Finishes (program : Program) (fuel : ℕ) (p : Pending) (u : User) (f
   pub kernel : Kernel
   pub meets : meet program fuel turns p u ≡ Over f.end kernel
   pub world : kernel.world ≡ f.world
-  pub bound : 2 * kernel.exchanges ≤ 4 * kernel.world.ticks + 6 * kernel.world.calls
+  pub bound : 2 * kernel.exchanges ≤ 4 * kernel.world.clock.ticks + 6 * kernel.world.kept.calls
 
 -- a message more
 pub one_more : {program : Program} {fuel : ℕ} (m : Message) (k : Kernel) (rest : Rest) (script : List Command) (u : User) (d : Delivered) (f : Finish) → deliver program fuel u (Ok m) ≡ d
@@ -63,7 +67,7 @@ one_more {program} {fuel} m k rest script u d f e h = record {
 }
 
 -- the run is over
-pub is_over : {program : Program} {fuel : ℕ} (end : End) (k : Kernel) (u : User) → 2 * k.exchanges ≤ 4 * k.world.ticks + 6 * k.world.calls
+pub is_over : {program : Program} {fuel : ℕ} (end : End) (k : Kernel) (u : User) → 2 * k.exchanges ≤ 4 * k.world.clock.ticks + 6 * k.world.kept.calls
     → Finishes program fuel (Over end k) u (finish end k.world)
 is_over end k u bound = record { turns = 0; kernel = k; meets = refl; world = refl; bound = bound }
 
@@ -76,12 +80,12 @@ idle_user copy = record { agreed = copy; work = Nothing }
 
 -- what follows the upcall comes to the whole run's end
 pub record GoesOn (program : Program) (fuel : ℕ) (rest : Rest) (script : List Command) : Type 0 where
-  pub by : (K : Knowledge) (k : Kernel) (v : Wire) → Agree program K k.agreed k.world → 2 * k.exchanges ≤ 4 * k.world.ticks + 6 * k.world.calls
+  pub by : (K : Knowledge) (k : Kernel) (v : Wire) → Agree program K k.agreed k.world → 2 * k.exchanges ≤ 4 * k.world.clock.ticks + 6 * k.world.kept.calls
       → Finishes program fuel (continued program v k rest script) (idle_user k.agreed) (ended_at program rest script (Ended v k.world))
 
 -- the user half's reply when it has walked n ticks of a tree
 abbrev pub reply_of : Kernel → World → Memory → ℕ → Tree → Delivered
-reply_of k w um n t = replied_to w.view k.world.rest k.agreed (walk (is_in w.view) n t um)
+reply_of k w um n t = replied_to w.view k.world.clock.rest k.agreed (walk (is_in w.view) n t um)
 
 abbrev pub ServesAt : Program → ℕ → Rest → List Command → Tree → Kernel → World → Memory → ℕ → Type 0
 ServesAt program fuel rest script t k w um n =
@@ -90,7 +94,7 @@ ServesAt program fuel rest script t k w um n =
 -- the same of what the walk and the whole run come to
 abbrev pub ServesBy : Program → ℕ → Rest → List Command → Kernel → World → Walked → Ran Wire → Type 0
 ServesBy program fuel rest script k w walked ran =
-    Finishes program fuel (next program (Ok (replied_to w.view k.world.rest k.agreed walked).reply) k rest script) (replied_to w.view k.world.rest k.agreed walked).user (ended_at program rest script ran)
+    Finishes program fuel (next program (Ok (replied_to w.view k.world.clock.rest k.agreed walked).reply) k rest script) (replied_to w.view k.world.clock.rest k.agreed walked).user (ended_at program rest script ran)
 
 moved : {program : Program} {fuel : ℕ} (rest : Rest) (script : List Command) (k : Kernel) (w : World) (x x' : Walked) (y y' : Ran Wire) → x' ≡ x → y' ≡ y → ServesBy program fuel rest script k w x y → ServesBy program fuel rest script k w x' y'
 moved {program} {fuel} rest script k w x x' y y' e f h =
@@ -98,13 +102,27 @@ moved {program} {fuel} rest script k w x x' y y' e f h =
 
 -- from each pair of states in relation, the tree is served
 pub record Serves (program : Program) (fuel : ℕ) (rest : Rest) (script : List Command) (K : Knowledge) (credit : ℕ) (t : Tree) : Type 0 where
-  pub by : (k : Kernel) (w : World) (um : Memory) (n : ℕ) → w.rest ≡ n → Rel program K k w um → Replies.IsWithin k w credit → ServesAt program fuel rest script t k w um n
+  pub by : (k : Kernel) (w : World) (um : Memory) (n : ℕ) → w.clock.rest ≡ n → Rel program K k w um → Replies.IsWithin k w credit → ServesAt program fuel rest script t k w um n
 
 -- ---- an honest reply leads on
 
-next_taken : (program : Program) (k : Kernel) (rest : Rest) (script : List Command) (reply : Message) → fault_of program k rest reply ≡ None → next program (Ok reply) k rest script ≡ taken program reply k rest script
+-- a reply as a message
+abbrev pub message_of : Reply → Message
+message_of (replies.Return ticks result runs) = message.Return ticks result runs
+message_of (replies.Down ticks at depth func args runs) = message.Down ticks at depth func args runs
+message_of (replies.Ask ticks at service args shapes bytes runs) = message.Ask ticks at service args shapes bytes runs
+message_of (replies.Stop ticks number at runs) = message.Stop ticks number at runs
+
+is_reply : (reply : Reply) → read_as (message_of reply) ≡ Some reply
+is_reply (replies.Return ticks result runs) = refl
+is_reply (replies.Down ticks at depth func args runs) = refl
+is_reply (replies.Ask ticks at service args shapes bytes runs) = refl
+is_reply (replies.Stop ticks number at runs) = refl
+
+next_taken : (program : Program) (k : Kernel) (rest : Rest) (script : List Command) (reply : Reply) → fault_of program k rest reply ≡ None → next program (Ok (message_of reply)) k rest script ≡ taken program reply k rest script
 unfolding next
-next_taken program k rest script reply e = ap (λ (f : Option Fault). judged program f reply k rest script) e
+next_taken program k rest script reply e =
+    ap (λ (o : Option Reply). answered program o k rest script) (is_reply reply) ∙ ap (λ (f : Option Fault). judged program f reply k rest script) e
 
 next_return : {program : Program} {K : Knowledge} {k : Kernel} {w : World} {um : Memory} (rest : Rest) (script : List Command) (v : Wire) → Rel program K k w um → IsResultOf program (upcall_of rest) v
     → next program (Ok (message.Return (Replies.used k w) (normal um v) (Replies.told_runs k w um))) k rest script ≡ continued program (normal w.memory v) (Replies.resumed k w um) rest script
@@ -122,7 +140,7 @@ next_stop {program} {k = k} {w = w} {um = um} rest script kind at r place own =
     ∙ ap (λ (o : Option StopKind). Over (ends.Stop (Rattle.std.specs.Prelude.unwrap_or o stop.Bug) (Some at)) (applied (Replies.used k w) (Replies.told_runs k w um) k)) own.told
     ∙ ap (λ (k' : Kernel). Over (ends.Stop kind (Some at)) k') (Replies.stores_reply r)
 
-next_ticks : {program : Program} {K : Knowledge} {k : Kernel} {w : World} {um : Memory} (rest : Rest) (script : List Command) (at : At) → Rel program K k w um → IsPlace program half.User at → w.rest ≡ 0
+next_ticks : {program : Program} {K : Knowledge} {k : Kernel} {w : World} {um : Memory} (rest : Rest) (script : List Command) (at : At) → Rel program K k w um → IsPlace program half.User at → w.clock.rest ≡ 0
     → next program (Ok (message.Stop (Replies.used k w) 16 at (Replies.told_runs k w um))) k rest script ≡ Over (ends.Stop stop.Ticks (Some at)) (Replies.resumed k w um)
 unfolding taken user_stop
 next_ticks {program} {k = k} {w = w} {um = um} rest script at r place none =
@@ -154,14 +172,14 @@ next_down {program} {k = k} {w = w} {um = um} rest script at func args depth cre
 -- ---- the user half accepts an honest message
 
 deliver_back : {program : Program} (fuel func e : ℕ) {K : Knowledge} (copy : Memory) (w : World) (v : Wire) (seen : List Cell) (goes : Wire → Tree) (told : Told) → IsResultOf program func v → Messages.Messaged program K copy w e told
-    → deliver program fuel (record { agreed = copy; work = AwaitsBack func seen goes }) (Ok (message.Back w.rest v told.deaths told.news (runs_of_cells w.view) told.runs))
-    ≡ reply_of (Messages.waiting program told copy w e) w (agreed_after program told copy) w.rest (goes v)
+    → deliver program fuel (record { agreed = copy; work = AwaitsBack func seen goes }) (Ok (message.Back w.clock.rest v told.deaths told.news (runs_of_cells w.view) told.runs))
+    ≡ reply_of (Messages.waiting program told copy w e) w (agreed_after program told copy) w.clock.rest (goes v)
 unfolding deliver opened back_fits
 deliver_back {program} fuel func e copy w v seen goes told fits m = rw (fits.fits, m.lives, m.cells, m.view) refl
 
-deliver_answer : {program : Program} (fuel e : ℕ) {K : Knowledge} (copy : Memory) (w : World) (left : ℕ) (view : List Cell) (results : List Wire) (asked : Asked) (goes : List Wire → Tree) (told : Told) → IsServed results → w.rest ≡ left → w.view ≡ view → Messages.Answered program K copy w e told
+deliver_answer : {program : Program} (fuel e : ℕ) {K : Knowledge} (copy : Memory) (w : World) (left : ℕ) (view : List Cell) (results : List Wire) (asked : Asked) (goes : List Wire → Tree) (told : Told) → IsServed results → w.clock.rest ≡ left → w.view ≡ view → Messages.Answered program K copy w e told
     → deliver program fuel (record { agreed = copy; work = AwaitsAnswer asked view left goes }) (Ok (message.Answer results told.deaths told.news))
-    ≡ reply_of (Messages.waiting program told copy w e) w (agreed_after program told copy) w.rest (goes results)
+    ≡ reply_of (Messages.waiting program told copy w e) w (agreed_after program told copy) w.clock.rest (goes results)
 unfolding deliver opened answer_fits
 deliver_answer {program} fuel e copy w left view results asked goes told none same_rest same_view m =
     let C : Memory = agreed_after program told copy in
@@ -216,13 +234,13 @@ module _ (program : Program) (sound : IsRunnable program) (fuel : ℕ) (rest : R
   unfolding walk replied in_user
   tick_serves {K} credit at t place later = record { by = λ k w um n e r within. of n k w um e r within }
     where
-      of : (n : ℕ) (k : Kernel) (w : World) (um : Memory) → w.rest ≡ n → Rel program K k w um → Replies.IsWithin k w credit → ServesAt program fuel rest script (Tree.Tick at t) k w um n
+      of : (n : ℕ) (k : Kernel) (w : World) (um : Memory) → w.clock.rest ≡ n → Rel program K k w um → Replies.IsWithin k w credit → ServesAt program fuel rest script (Tree.Tick at t) k w um n
       of zero k w um e r within =
           let go : World → Ran Wire = λ (w' : World). in_user program t w' in
-          let whole : ended_at program rest script (counted w.rest at w go) ≡ finish (ends.Stop stop.Ticks (Some at)) w =
+          let whole : ended_at program rest script (counted w.clock.rest at w go) ≡ finish (ends.Stop stop.Ticks (Some at)) w =
           ap (λ (q : ℕ). ended_at program rest script (counted q at w go)) e ∙ stopped_ends stop.Ticks at w in
-          subst (λ (q : ℕ). Finishes program fuel (next program (Ok (message.Stop (k.world.rest - q) 16 at (Replies.told_runs k w um))) k rest script)
-          (idle_user (put_runs (Replies.told_runs k w um) k.agreed)) (ended_at program rest script (counted w.rest at w go))) e
+          subst (λ (q : ℕ). Finishes program fuel (next program (Ok (message.Stop (k.world.clock.rest - q) 16 at (Replies.told_runs k w um))) k rest script)
+          (idle_user (put_runs (Replies.told_runs k w um) k.agreed)) (ended_at program rest script (counted w.clock.rest at w go))) e
           (subst (λ (f : Finish). Finishes program fuel (next program (Ok (message.Stop (Replies.used k w) 16 at (Replies.told_runs k w um))) k rest script)
           (idle_user (put_runs (Replies.told_runs k w um) k.agreed)) f) (sym whole)
           (subst (λ (p : Pending). Finishes program fuel p (idle_user (put_runs (Replies.told_runs k w um) k.agreed)) (finish (ends.Stop stop.Ticks (Some at)) w))
@@ -230,10 +248,10 @@ module _ (program : Program) (sound : IsRunnable program) (fuel : ℕ) (rest : R
           (is_over _ (Replies.resumed k w um) _ (omega (arith, within.bound)))))
       of (suc q) k w um e r within =
           let go : World → Ran Wire = λ (w' : World). in_user program t w' in
-          let w' : World = record w { rest = q; ticks = suc w.ticks } in
+          let w' : World = record w { clock = advanced 1 w.clock } in
           subst (λ (f : Finish). Finishes program fuel (next program (Ok (reply_of k w' um q t).reply) k rest script) (reply_of k w' um q t).user f)
           (sym (ap (λ (n : ℕ). ended_at program rest script (counted n at w go)) e))
-          (later.by k w' um q refl (Accesses.ticks q r e) (record { bound = omega (arith, within.bound) }))
+          (later.by k w' um q (omega (arith, e)) (Accesses.ticks q r e) (record { bound = omega (arith, within.bound) }))
 
   load_serves : {K : Knowledge} (credit : ℕ) (at : At) (p : Wire) (next' : Wire → Tree) → IsPlace program half.User at → IsKnownPointer K p
       → ((v : Wire) → IsValueAt program p v → Serves program fuel rest script K credit (next' v)) → Serves program fuel rest script K credit (Tree.Load at p next')
@@ -243,7 +261,7 @@ module _ (program : Program) (sound : IsRunnable program) (fuel : ℕ) (rest : R
         of k w um n e r within (loaded (is_in w.view) w.memory p) (Accesses.get p r known) refl;
   }
     where
-      of : (k : Kernel) (w : World) (um : Memory) (n : ℕ) → w.rest ≡ n → Rel program K k w um → Replies.IsWithin k w credit
+      of : (k : Kernel) (w : World) (um : Memory) (n : ℕ) → w.clock.rest ≡ n → Rel program K k w um → Replies.IsWithin k w credit
           → (x : Result Wire StopKind) → loaded (is_in w.view) um p ≡ loaded (is_in w.view) w.memory p → loaded (is_in w.view) w.memory p ≡ x
           → ServesAt program fuel rest script (Tree.Load at p next') k w um n
       of k w um n e r within (Ok v) same is =
@@ -262,7 +280,7 @@ module _ (program : Program) (sound : IsRunnable program) (fuel : ℕ) (rest : R
   unfolding walk replied in_user
   store_serves {K} credit at p v t place known fits later = record { by = λ k w um n e r within. of k w um n e r within (Accesses.store p v r known fits) }
     where
-      of : (k : Kernel) (w : World) (um : Memory) (n : ℕ) → w.rest ≡ n → Rel program K k w um → Replies.IsWithin k w credit
+      of : (k : Kernel) (w : World) (um : Memory) (n : ℕ) → w.clock.rest ≡ n → Rel program K k w um → Replies.IsWithin k w credit
           → Accesses.Stores program K k w um p v → ServesAt program fuel rest script (Tree.Store at p v t) k w um n
       of k w um n e r within (Accesses.goes m m' e1 e2 r') =
           moved rest script k w _ _ _ _
@@ -280,7 +298,7 @@ module _ (program : Program) (sound : IsRunnable program) (fuel : ℕ) (rest : R
       → Finishes program fuel (Over (ends.Stop kind at) (record (Replies.resumed k w um) { world = w' })) u (ended_at program rest script (Stopped kind at w'))
   question_stops {k = k} {w = w} {um = um} u credit kind at w' r within later = of rest
     where
-      bound : 2 * k.exchanges ≤ 4 * w'.ticks + 6 * w'.calls
+      bound : 2 * k.exchanges ≤ 4 * w'.clock.ticks + 6 * w'.kept.calls
       bound = omega (arith, within.bound, later.later, later.calls)
 
       of : (r : Rest) → Finishes program fuel (Over (ends.Stop kind at) (record (Replies.resumed k w um) { world = w' })) u (ended_at program r script (Stopped kind at w'))
@@ -300,9 +318,9 @@ module _ (program : Program) (sound : IsRunnable program) (fuel : ℕ) (rest : R
       let told : Told = Messages.telling program (v ∷ []) copy w'' in
       let m : Messages.Messaged program K copy w'' e told = Messages.message_is (v ∷ []) w' e sound (onward (Replies.agrees r) l.holds) in
       one_more _ (Messages.waiting program told copy w'' e) rest script (record { agreed = copy; work = AwaitsBack func w.view next' })
-      (reply_of (Messages.waiting program told copy w'' e) w'' (agreed_after program told copy) w''.rest (next' v)) _
+      (reply_of (Messages.waiting program told copy w'' e) w'' (agreed_after program told copy) w''.clock.rest (next' v)) _
       (deliver_back fuel func e copy w'' v w.view next' told given m)
-      ((later (K ++ told.news) (grows_by K told.news) v given).by (Messages.waiting program told copy w'' e) w'' (agreed_after program told copy) w''.rest refl m.rel
+      ((later (K ++ told.news) (grows_by K told.news) v given).by (Messages.waiting program told copy w'' e) w'' (agreed_after program told copy) w''.clock.rest refl m.rel
       (record { bound = omega (arith, within.bound, l.later, l.calls) }))
   crossed {K} credit func next' k w um r within later _ (KernelWork.stopped kind at w' l) = question_stops _ (suc credit) kind at w' r within l
 
@@ -324,7 +342,7 @@ module _ (program : Program) (sound : IsRunnable program) (fuel : ℕ) (rest : R
       → ((K' : Knowledge) → Grows K K' → (vs : List Wire) → IsServed vs → Serves program fuel rest script K' credit (next' vs))
       → (ran : Ran (List Wire)) → KernelWork.Leaves (KernelWork.Serviced program w) IsServed ran
       → Finishes program fuel (serviced program ran (Replies.resumed k w um) rest script)
-      (record { agreed = put_runs (Replies.told_runs k w um) k.agreed; work = AwaitsAnswer asked w.view w.rest next' })
+      (record { agreed = put_runs (Replies.told_runs k w um) k.agreed; work = AwaitsAnswer asked w.view w.clock.rest next' })
       (ended_at program rest script (after ran (λ vs w'. in_user program (next' vs) w')))
   unfolding answers
   asked_for {K} credit asked next' k w um r within later _ (KernelWork.ended vs w' l given) =
@@ -332,10 +350,10 @@ module _ (program : Program) (sound : IsRunnable program) (fuel : ℕ) (rest : R
       let e : ℕ = suc k.exchanges in
       let told : Told = tells program [] vs copy w'.memory in
       let m : Messages.Answered program K copy w' e told = Messages.answer_is vs e sound r l in
-      one_more _ (Messages.waiting program told copy w' e) rest script (record { agreed = copy; work = AwaitsAnswer asked w.view w.rest next' })
-      (reply_of (Messages.waiting program told copy w' e) w' (agreed_after program told copy) w'.rest (next' vs)) _
-      (deliver_answer fuel e copy w' w.rest w.view vs asked next' told given l.rest l.goes_on.view m)
-      ((later (K ++ told.news) (grows_by K told.news) vs given).by (Messages.waiting program told copy w' e) w' (agreed_after program told copy) w'.rest refl m.rel
+      one_more _ (Messages.waiting program told copy w' e) rest script (record { agreed = copy; work = AwaitsAnswer asked w.view w.clock.rest next' })
+      (reply_of (Messages.waiting program told copy w' e) w' (agreed_after program told copy) w'.clock.rest (next' vs)) _
+      (deliver_answer fuel e copy w' w.clock.rest w.view vs asked next' told given l.rest l.goes_on.view m)
+      ((later (K ++ told.news) (grows_by K told.news) vs given).by (Messages.waiting program told copy w' e) w' (agreed_after program told copy) w'.clock.rest refl m.rel
       (record { bound = omega (arith, within.bound, l.goes_on.later, l.goes_on.calls) }))
   asked_for {K} credit asked next' k w um r within later _ (KernelWork.stopped kind at w' l) = question_stops _ (suc credit) kind at w' r within l.goes_on
 
@@ -347,7 +365,7 @@ module _ (program : Program) (sound : IsRunnable program) (fuel : ℕ) (rest : R
     by = λ k w um n e r within.
         let f : Finish = ended_at program rest script (in_user program (Tree.Ask asked next') w) in
         subst (λ (q : ℕ). ServesAt program fuel rest script (Tree.Ask asked next') k w um q) e
-        (subst (λ (p : Pending). Finishes program fuel p (record { agreed = put_runs (Replies.told_runs k w um) k.agreed; work = AwaitsAnswer asked w.view w.rest next' }) f)
+        (subst (λ (p : Pending). Finishes program fuel p (record { agreed = put_runs (Replies.told_runs k w um) k.agreed; work = AwaitsAnswer asked w.view w.clock.rest next' }) f)
         (sym (next_ask rest script asked credit r place askable within))
         (asked_for credit asked next' k w um r within later _
         (KernelWork.service_leaves (as_now w.memory asked) w (Messages.holds_of (Replies.agrees r)))));

@@ -1,20 +1,24 @@
 -- An answer ends a run refused exactly where it isn't legal, and leaves the whole state.
-use Rattle.std.proofs.Common.{◌≡◌, ℕ, Bool, true, false, List, [], ◌∷◌, ◌++◌, Option, Some, None, Ok, Err, refl, sym, ◌∙◌, ap, subst}
+use Rattle.std.proofs.Common.{◌≡◌, ℕ, List, [], ◌∷◌, ◌++◌, Option, Some, None, Ok, Err, refl, sym, ◌∙◌, ap, subst}
 use Rattle.std.proofs.lemmas.List.{append-nil}
 use Rattle.mdr_core.specs.declared.refusal.RefuseKind.{RefuseKind}
+use Rattle.mdr_core.specs.declared.refusal.RefuseKind.TheVariants as refusal
 use Rattle.mdr_core.specs.declared.program.Program.{Program}
 use Rattle.mdr_model.specs.declared.command.Command.{Command}
 use Rattle.mdr_model.specs.declared.wire.Wire.{Wire}
 use Rattle.mdr_model.specs.declared.message.Fault.{Fault}
 use Rattle.mdr_model.specs.declared.message.Message.{Message}
-use Rattle.mdr_model.specs.declared.message.Message.TheVariants as message
+use Rattle.mdr_model.specs.declared.reply.Reply.{Reply}
+use Rattle.mdr_model.specs.declared.reply.Reply.TheVariants as replies
 use Rattle.mdr_model.specs.declared.outcome.End.TheVariants as ends
 use Rattle.mdr_model.specs.World.{World, Ran, Ended, Stopped, served, kernel_call}
 use Rattle.mdr_model.specs.Watched.{Beginning, Did, Opens, begin}
 use Rattle.mdr_model.specs.Faults.{fault}
-use Rattle.mdr_model.specs.Kernel.{Kernel, Rest, Noted, Pending, Over, Waits, Reading, SplitRun, calls, comes_back, answers, then_split, split_by, split_commands, applied, downcalled, serviced, refused, fault_of, taken, judged, next, first_kernel, run_from_pending, split_run}
+use Rattle.mdr_model.specs.KernelState.{Kernel, Rest, Noted, Pending, Over, Waits, Reading}
+use Rattle.mdr_model.specs.ReplyFaults.{reply_of}
+use Rattle.mdr_model.specs.Kernel.{SplitRun, calls, comes_back, answers, split_by, split_commands, applied, downcalled, serviced, refused, taken, judged, answered, next, first_kernel, run_from_pending, split_run}
 use Rattle.mdr_model.specs.Law.{IsOwn}
-use Rattle.mdr_model.specs.Legal.{answer_fault, EndsUnchanged}
+use Rattle.mdr_model.specs.Legal.{message_fault, answer_fault, EndsUnchanged}
 
 -- ---- one answer more
 
@@ -79,30 +83,33 @@ module _ (program : Program) where
   service_ends (Ended results w) k rest script = answer_ends results w k rest script
   service_ends (Stopped kind at w) k rest script = tt
 
-  -- a reply without a fault is one of the four kinds that are awaited
-  taken_ends : (m : Message) (k : Kernel) (rest : Rest) (script : List Command) → fault_of program k rest m ≡ None → EndsItself (taken program m k rest script)
-  unfolding taken fault_of
-  taken_ends (message.Return ticks v runs) k (Noted f) script e = commands_end script _
-  taken_ends (message.Down ticks at depth func args runs) k rest script e = down_ends (kernel_call program func args depth (applied ticks runs k).world) (applied ticks runs k) rest script
-  taken_ends (message.Ask ticks at service args shapes bytes runs) k rest script e =
+  taken_ends : (reply : Reply) (k : Kernel) (rest : Rest) (script : List Command) → EndsItself (taken program reply k rest script)
+  unfolding taken
+  taken_ends (replies.Return ticks v runs) k (Noted f) script = commands_end script _
+  taken_ends (replies.Down ticks at depth func args runs) k rest script = down_ends (kernel_call program func args depth (applied ticks runs k).world) (applied ticks runs k) rest script
+  taken_ends (replies.Ask ticks at service args shapes bytes runs) k rest script =
       service_ends (served (record { service = service; at = at; args = args; shapes = shapes; bytes = bytes }) (applied ticks runs k).world) (applied ticks runs k) rest script
-  taken_ends (message.Stop ticks number at runs) k rest script e = tt
-  taken_ends (message.Call func depth left args deaths news view runs) k rest script e = absurd (Prim.cc)
-  taken_ends (message.Back left result deaths news view runs) k rest script e = absurd (Prim.cc)
-  taken_ends (message.Answer results deaths news) k rest script e = absurd (Prim.cc)
-  taken_ends (message.Refuse reason) k rest script e = absurd (Prim.cc)
+  taken_ends (replies.Stop ticks number at runs) k rest script = tt
+
+  answered_refuses : (o : Option Reply) (k : Kernel) (rest : Rest) (script : List Command) (f : Fault) → message_fault program k rest o ≡ Some f → answered program o k rest script ≡ refused f k
+  answered_refuses None k rest script f e = let same : fault refusal.NotAwaited 0 ≡ f = Prim.cc in ap (λ (x : Fault). refused x k) same
+  answered_refuses (Some reply) k rest script f e = ap (λ (o : Option Fault). judged program o reply k rest script) e
+
+  answered_ends : (o : Option Reply) (k : Kernel) (rest : Rest) (script : List Command) → message_fault program k rest o ≡ None → EndsItself (answered program o k rest script)
+  answered_ends None k rest script e = absurd (Prim.cc)
+  answered_ends (Some reply) k rest script e = subst (λ (o : Option Fault). EndsItself (judged program o reply k rest script)) (sym e) (taken_ends reply k rest script)
 
   -- a fault ends the run where it stands
   pub next_refuses : (a : Reading) (k : Kernel) (rest : Rest) (script : List Command) (f : Fault) → answer_fault program k rest a ≡ Some f → next program a k rest script ≡ refused f k
   unfolding next
   next_refuses (Err g) k rest script f e = let same : g ≡ f = Prim.cc in ap (λ (x : Fault). refused x k) same
-  next_refuses (Ok m) k rest script f e = ap (λ (o : Option Fault). judged program o m k rest script) e
+  next_refuses (Ok m) k rest script f e = answered_refuses (reply_of m) k rest script f e
 
   -- without one it doesn't end refused
   pub next_ends : (a : Reading) (k : Kernel) (rest : Rest) (script : List Command) → answer_fault program k rest a ≡ None → EndsItself (next program a k rest script)
   unfolding next
   next_ends (Err g) k rest script e = absurd (Prim.cc)
-  next_ends (Ok m) k rest script e = subst (λ (o : Option Fault). EndsItself (judged program o m k rest script)) (sym e) (taken_ends m k rest script e)
+  next_ends (Ok m) k rest script e = answered_ends (reply_of m) k rest script e
 
   -- so a refusal tells the fault
   pub next_only : (a : Reading) (k k' : Kernel) (rest : Rest) (script : List Command) (exchange : ℕ) (cause : RefuseKind) (number : ℕ) → next program a k rest script ≡ Over (ends.Refused exchange cause number) k'

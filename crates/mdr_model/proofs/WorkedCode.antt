@@ -1,5 +1,5 @@
 -- The code of the worked drivers as plain data, one equation for each form that they have, and what a run asks of it.
-use Rattle.std.proofs.Common.{◌≡◌, ℕ, zero, suc, true, false, ◌||◌, List, [], ◌∷◌, None, refl, sym, ap, ◌∙◌}
+use Rattle.std.proofs.Common.{◌≡◌, ℕ, zero, suc, true, false, ◌||◌, List, [], ◌∷◌, None, refl, ap, ◌∙◌}
 use mathlib.Core.Path.{fun_ext}
 use Rattle.std.specs.Prelude.{pos}
 use Rattle.mdr_core.specs.declared.kind.Kind.TheVariants.{U32}
@@ -22,7 +22,7 @@ use Rattle.mdr_model.specs.declared.wire.Wire.{Wire}
 use Rattle.mdr_model.specs.declared.wire.Wire.TheVariants as wire
 use Rattle.mdr_model.specs.Tree.{Tree}
 use Rattle.mdr_model.specs.Meaning.{func_at, is_kernel, is_user, body_of, Enters, statements, function}
-use Rattle.mdr_model.specs.Kernel.{any_calls, any_has_number, has_down_stub, is_user_place}
+use Rattle.mdr_model.specs.ReplyFaults.{any_calls, any_has_number, has_down_stub, is_user_place}
 use Rattle.mdr_model.specs.Worked.{number, increment, call_of as call_named, set_to, bump, add_one, reset}
 
 -- ---- forms

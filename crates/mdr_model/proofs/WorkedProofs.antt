@@ -15,7 +15,7 @@ use Rattle.mdr_model.specs.declared.message.Message.TheVariants as message
 use Rattle.mdr_model.specs.declared.outcome.Happened.{Happened}
 use Rattle.mdr_model.specs.declared.outcome.Happened.TheVariants as happened
 use Rattle.mdr_model.specs.declared.outcome.End.TheVariants as ends
-use Rattle.mdr_model.specs.Kernel.{Kernel, Reading}
+use Rattle.mdr_model.specs.KernelState.{Kernel, Reading}
 use Rattle.mdr_model.specs.Memory.{leaves_of, fits_at, Memory}
 use Rattle.mdr_model.specs.Watched.{Finish, finish}
 use Rattle.mdr_model.specs.User.{Delivered, Runs, done, told}
@@ -25,7 +25,8 @@ use Rattle.mdr_model.proofs.WorkedCode.{add_one_bodies, add_one_code, bump_bodie
 use Rattle.mdr_model.specs.Worked.{add_one, bump, u32_value, count_view, count_is, BumpPrints, BumpIdles, BumpStops, AddOnePrints, calling, BumpSends, BumpSpells, reset, ResetPrints, ResetSends}
 use Rattle.mdr_model.specs.Copies.{numbered, values_of_runs, put_all, put_runs, held, changed_cells, changes, died, without, inserted, with_news, news_of, left_of, changed_values, told_news, begun_copy, agreed_after, tells}
 use Rattle.mdr_model.specs.Faults.{args_fault, fits_cell, run_fault, runs_fault}
-use Rattle.mdr_model.specs.Kernel.{is_ask_place, is_awaited, user_stop, fault_of, calls, comes_back, answers, split_commands, applied, taken, next, first_kernel, run_from_pending, split_run}
+use Rattle.mdr_model.specs.ReplyFaults.{is_ask_place, is_awaited, user_stop, fault_of}
+use Rattle.mdr_model.specs.Kernel.{calls, comes_back, answers, split_commands, applied, taken, next, first_kernel, run_from_pending, split_run}
 use Rattle.mdr_model.specs.Meaning.{is_kernel, is_user, pointer_to}
 use Rattle.mdr_model.specs.Memory.{born_at, is_live, cell_at, put, killed, normal, first_memory, reached, loaded, stored}
 use Rattle.mdr_model.specs.Outcome.{outcome_of}
@@ -90,7 +91,7 @@ only_cell n = record { born = record { serial = 0; kind = Static; ty = 2; count 
 -- the kernel half at the end of a run of one command
 abbrev ended : (value ticks exchanges : ℕ) → List Happened → Kernel
 ended value ticks exchanges events = record {
-  world = record { memory = only_cell value; view = record { serial = 0; index = 0 } ∷ []; ticks = ticks; rest = 1000000 - ticks; events = events; calls = 1 };
+  world = record { memory = only_cell value; view = record { serial = 0; index = 0 } ∷ []; clock = record { ticks = ticks; rest = 1000000 - ticks }; kept = record { events = events; calls = 1 } };
   agreed = only_cell value;
   exchanges = exchanges;
 }

@@ -4,7 +4,8 @@ use Rattle.mdr_core.specs.declared.program.Program.{Program}
 use Rattle.mdr_model.specs.declared.command.Command.{Command}
 use Rattle.mdr_model.specs.Text.{text}
 use Rattle.mdr_model.specs.Reading.{reading_of}
-use Rattle.mdr_model.specs.Kernel.{Reading, SplitRun, split_run}
+use Rattle.mdr_model.specs.KernelState.{Reading}
+use Rattle.mdr_model.specs.Kernel.{SplitRun, split_run}
 use Rattle.mdr_model.specs.User.{user_reply}
 
 abbrev pub readings : List (List ℕ) → List Reading

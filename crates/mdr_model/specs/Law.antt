@@ -6,7 +6,8 @@ use Rattle.mdr_model.specs.declared.message.Message.{Message}
 use Rattle.mdr_model.specs.declared.outcome.End.{End}
 use Rattle.mdr_model.specs.declared.outcome.End.TheVariants as ends
 use Rattle.mdr_model.specs.Watched.{finish, watched}
-use Rattle.mdr_model.specs.Kernel.{Kernel, Over, Reading, split_run}
+use Rattle.mdr_model.specs.KernelState.{Kernel, Over, Reading}
+use Rattle.mdr_model.specs.Kernel.{split_run}
 use Rattle.mdr_model.specs.User.{user_reply}
 use Rattle.mdr_model.specs.Outcome.{outcome_of}
 use Rattle.mdr_core.specs.Sound.{IsSound}
@@ -36,7 +37,7 @@ IsOwn (ends.FarFault exchange) = ⊥
 pub record IsWatched (program : Program) (script : List Command) (budget : ℕ) (end : End) (k : Kernel) : Type 0 where
   pub outcome : outcome_of (finish end k.world) ≡ outcome_of (watched program script budget)
   pub own : IsOwn end
-  pub messages : 2 * k.exchanges ≤ 4 * k.world.ticks + 6 * k.world.calls
+  pub messages : 2 * k.exchanges ≤ 4 * k.world.clock.ticks + 6 * k.world.kept.calls
 
 -- whatever honest answers come, and there are some with which the run is over
 pub record IsOneMemory (program : Program) (script : List Command) (budget : ℕ) : Type 0 where

@@ -12,6 +12,8 @@ pub mod Faults
 pub mod Xdr
 pub mod Text
 pub mod Reading
+pub mod KernelState
+pub mod ReplyFaults
 pub mod Kernel
 pub mod User
 pub mod Agreement

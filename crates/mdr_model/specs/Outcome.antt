@@ -36,9 +36,9 @@ objects_of m = map object_of m
 -- the outcome of a run that ended so: its objects are the globals in order, which are all live blocks
 unfoldable pub outcome_of : Finish → Outcome
 outcome_of f = record {
-  events = f.world.events;
+  events = f.world.kept.events;
   end = f.end;
-  ticks = f.world.ticks;
+  ticks = f.world.clock.ticks;
   live = length f.world.memory;
   objects = objects_of f.world.memory;
 }

@@ -4,7 +4,7 @@ use Rattle.mdr_core.specs.declared.program.Program.{Program}
 use Rattle.mdr_model.specs.declared.message.Message.{Message}
 use Rattle.mdr_model.specs.declared.message.Message.TheVariants as message
 use Rattle.mdr_model.specs.Reading.{reading_of}
-use Rattle.mdr_model.specs.Kernel.{Reading}
+use Rattle.mdr_model.specs.KernelState.{Reading}
 use Rattle.mdr_model.specs.User.{User, deliver, user_reply}
 use Rattle.mdr_model.specs.Bytes.{readings, user_reply_to_bytes}
 

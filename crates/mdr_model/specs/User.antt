@@ -19,7 +19,8 @@ use Rattle.mdr_model.specs.Walk.{Reached, Walked, walk}
 use Rattle.mdr_model.specs.Meaning.{func_at, is_user, started}
 use Rattle.mdr_model.specs.Copies.{Told, agreed_after, with_news, without, changes, put_runs}
 use Rattle.mdr_model.specs.Faults.{params_of, args_fault, runs_fault}
-use Rattle.mdr_model.specs.Kernel.{Reading, stop_number, result_type}
+use Rattle.mdr_model.specs.KernelState.{Reading}
+use Rattle.mdr_model.specs.ReplyFaults.{stop_number, result_type}
 
 -- ---- states
 

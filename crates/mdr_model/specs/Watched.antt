@@ -39,7 +39,7 @@ in_user program (Tree.Cross at func args depth k) w =
 
 -- a function of the user half is called by a command
 unfoldable pub upcall : Program → (func : ℕ) (args : List Wire) → World → Ran Wire
-upcall program func args w = in_user program (started program half.User (suc w.rest) func args 0) (renewed program w)
+upcall program func args w = in_user program (started program half.User (suc w.clock.rest) func args 0) (renewed program w)
 
 -- ---- scripts
 
@@ -54,7 +54,7 @@ name_of (Some f) = f.name
 
 -- a `call` command begins
 unfoldable pub begun : Program → (func : ℕ) (args : List Value) → World → World
-begun program f args w = noted (happened.Call (name_of (func_at program f)) args) (record w { calls = suc w.calls })
+begun program f args w = noted (happened.Call (name_of (func_at program f)) args) (record w { kept = record w.kept { calls = suc w.kept.calls } })
 
 -- its result is noted
 unfoldable pub returned : Wire → World → World
@@ -100,7 +100,7 @@ commands program (c ∷ cs) w = and_then (in_place program (begin program c w)) 
 
 -- the state in which a run begins
 unfoldable pub first_world : Program → ℕ → World
-first_world program budget = record { memory = first_memory program; view = []; ticks = 0; rest = budget; events = []; calls = 0 }
+first_world program budget = record { memory = first_memory program; view = []; clock = record { ticks = 0; rest = budget }; kept = record { events = []; calls = 0 } }
 
 -- the one-memory meaning of a script under a budget of ticks
 unfoldable pub watched : Program → List Command → ℕ → Finish

@@ -25,7 +25,8 @@ use Rattle.mdr_model.specs.declared.message.Message.TheVariants as message
 use Rattle.mdr_model.specs.declared.outcome.End.TheVariants as ends
 use Rattle.mdr_model.specs.Text.{text}
 use Rattle.mdr_model.specs.Watched.{watched, finish}
-use Rattle.mdr_model.specs.Kernel.{Kernel, Over, split_run}
+use Rattle.mdr_model.specs.KernelState.{Kernel, Over}
+use Rattle.mdr_model.specs.Kernel.{split_run}
 use Rattle.mdr_model.specs.Outcome.{outcome_of}
 use Rattle.mdr_model.specs.Report.{report}
 use Rattle.mdr_core.specs.Types.{first_types}

@@ -1,5 +1,5 @@
 -- The state of a whole run, and what code of the kernel half does in it.
-use Rattle.std.specs.Prelude.{ℕ, zero, suc, Bool, true, false, cond, List, [], ◌∷◌, ◌++◌, map, Option, Some, Result, Ok, Err, ◌==◌, nat_lt}
+use Rattle.std.specs.Prelude.{ℕ, zero, suc, ◌+◌, ◌-◌, Bool, true, false, cond, List, [], ◌∷◌, ◌++◌, map, Option, Some, Result, Ok, Err, ◌==◌, nat_lt}
 use Rattle.mdr_core.specs.declared.stop.StopKind.{StopKind}
 use Rattle.mdr_core.specs.declared.stop.StopKind.TheVariants as stop
 use Rattle.mdr_core.specs.declared.place.At.{At}
@@ -14,14 +14,26 @@ use Rattle.mdr_model.specs.Memory.{Memory, Cell, normal, loaded, stored, everywh
 use Rattle.mdr_model.specs.Tree.{Asked, Tree}
 use Rattle.mdr_model.specs.Meaning.{started}
 
--- a run's state: its memory, the cells that the innermost upcall may touch, the ticks that were counted and those that the budget leaves, the events so far, and how many `call` commands have begun
+-- the ticks that were counted, and those that the budget leaves
+pub record Clock : Type 0 where
+  pub ticks : ℕ
+  pub rest : ℕ
+
+-- so many ticks are counted
+abbrev pub advanced : ℕ → Clock → Clock
+advanced n c = record { ticks = c.ticks + n; rest = c.rest - n }
+
+-- what user code can't change: the events so far, and how many `call` commands have begun
+pub record Kept : Type 0 where
+  pub events : List Happened
+  pub calls : ℕ
+
+-- a run's state: its memory, the cells that the innermost upcall may touch, its clock, and what user code can't change
 pub record World : Type 0 where
   pub memory : Memory
   pub view : List Cell
-  pub ticks : ℕ
-  pub rest : ℕ
-  pub events : List Happened
-  pub calls : ℕ
+  pub clock : Clock
+  pub kept : Kept
 
 -- a piece of work in a run: it ended with a result, or it stopped the run, at a place if any
 pub data Ran (A : Type 0) : Type 0 where
@@ -37,11 +49,11 @@ after (Stopped kind at w) go = Stopped kind at w
 
 abbrev pub counted : {A : Type 0} → ℕ → At → World → (World → Ran A) → Ran A
 counted zero at w go = Stopped stop.Ticks (Some at) w
-counted (suc q) at w go = go (record w { rest = q; ticks = suc w.ticks })
+counted (suc q) at w go = go (record w { clock = advanced 1 w.clock })
 
 -- one tick: the run stops where the budget is used, else the tick is counted
 abbrev pub ticked : {A : Type 0} → At → World → (World → Ran A) → Ran A
-ticked at w go = counted w.rest at w go
+ticked at w go = counted w.clock.rest at w go
 
 abbrev pub when_loaded : {A : Type 0} → Result Wire StopKind → At → World → (Wire → Ran A) → Ran A
 when_loaded (Ok v) at w go = go v
@@ -52,7 +64,7 @@ when_stored (Ok m) at w go = go (record w { memory = m })
 when_stored (Err kind) at w go = Stopped kind (Some at) w
 
 abbrev pub noted : Happened → World → World
-noted event w = record w { events = w.events ++ event ∷ [] }
+noted event w = record w { kept = record w.kept { events = w.kept.events ++ event ∷ [] } }
 
 abbrev pub written_if : Bool → At → ℕ → ℕ → World → Ran (List Wire)
 written_if true at register number w = Ended [] (noted (happened.Wrote register number) w)
@@ -90,4 +102,4 @@ in_kernel (Tree.Cross at func args depth k) w = Ended wire.NoValue w
 
 -- a function of the kernel half is called, with so many functions active before it
 unfoldable pub kernel_call : Program → (func : ℕ) (args : List Wire) (depth : ℕ) → World → Ran Wire
-kernel_call program func args depth w = in_kernel (started program half.Kernel (suc w.rest) func args depth) w
+kernel_call program func args depth w = in_kernel (started program half.Kernel (suc w.clock.rest) func args depth) w

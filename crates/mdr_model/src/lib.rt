@@ -6,6 +6,7 @@ mod laws;
 mod memory;
 mod message;
 mod outcome;
+mod reply;
 mod wire;
 mod worked;
 mod worked_copies;
@@ -21,6 +22,7 @@ pub use laws::{
 pub use memory::{Cell, MemoryBlock};
 pub use message::{BirthKind, Fault, Message, New, Run, SetRun, Shape64};
 pub use outcome::{End, Happened, Object, Outcome, Seen};
+pub use reply::Reply;
 pub use wire::{Wire, WireView};
 pub use worked::{
     a_budget_stops_the_run, add_one_prints_its_report, an_empty_script_ends_at_once,

@@ -5,7 +5,8 @@ use Rattle.mdr_model.specs.declared.command.Command.{Command}
 use Rattle.mdr_model.specs.declared.message.Message.{Message}
 use Rattle.mdr_model.specs.Text.{text}
 use Rattle.mdr_model.specs.Reading.{reading_of}
-use Rattle.mdr_model.specs.Kernel.{Pending, Over, Waits, Reading, SplitRun, next, first_kernel, split_commands, run_from_pending, split_run}
+use Rattle.mdr_model.specs.KernelState.{Pending, Over, Waits, Reading}
+use Rattle.mdr_model.specs.Kernel.{SplitRun, next, first_kernel, split_commands, run_from_pending, split_run}
 use Rattle.mdr_model.specs.User.{user_reply}
 use Rattle.mdr_model.specs.Runnable.{IsRunnable, IsBound}
 use Rattle.mdr_model.specs.Law.{read, IsHonest, IsOneMemory}

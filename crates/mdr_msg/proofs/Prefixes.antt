@@ -6,7 +6,7 @@ use Rattle.mdr_core.specs.declared.program.Program.{Program}
 use Rattle.mdr_model.specs.declared.message.Message.{Message}
 use Rattle.mdr_model.specs.Text.{text}
 use Rattle.mdr_model.specs.Reading.{reading_of}
-use Rattle.mdr_model.specs.Kernel.{Kernel, Rest, Reading}
+use Rattle.mdr_model.specs.KernelState.{Kernel, Rest, Reading}
 use Rattle.mdr_model.specs.Legal.{IsLegal}
 use Rattle.mdr_xdr.specs.Bytes.{IsBytes}
 use Rattle.mdr_xdr.proofs.Readers.{IsBytes-take}

@@ -2,7 +2,7 @@
 use Rattle.std.specs.Prelude.{◌≡◌, ℕ, List, [], ◌++◌}
 use Rattle.mdr_core.specs.declared.program.Program.{Program}
 use Rattle.mdr_model.specs.Reading.{reading_of}
-use Rattle.mdr_model.specs.Kernel.{Kernel, Rest}
+use Rattle.mdr_model.specs.KernelState.{Kernel, Rest}
 use Rattle.mdr_model.specs.Legal.{IsLegal}
 use Rattle.mdr_xdr.specs.Bytes.{IsBytes}
 

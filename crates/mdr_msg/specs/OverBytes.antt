@@ -7,7 +7,8 @@ use Rattle.mdr_model.specs.declared.message.Message.{Message}
 use Rattle.mdr_model.specs.declared.outcome.End.{End}
 use Rattle.mdr_model.specs.Text.{text}
 use Rattle.mdr_model.specs.Reading.{reading_of}
-use Rattle.mdr_model.specs.Kernel.{Kernel, Over, split_run}
+use Rattle.mdr_model.specs.KernelState.{Kernel, Over}
+use Rattle.mdr_model.specs.Kernel.{split_run}
 use Rattle.mdr_model.specs.User.{user_reply}
 use Rattle.mdr_core.specs.Sound.{IsSound}
 use Rattle.mdr_model.specs.Built.{IsBuilt}

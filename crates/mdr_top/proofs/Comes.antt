@@ -7,7 +7,7 @@ use Rattle.mdr_model.specs.declared.outcome.End.{End}
 use Rattle.mdr_model.specs.declared.outcome.End.TheVariants as ends
 use Rattle.mdr_model.specs.declared.outcome.Outcome.{Outcome}
 use Rattle.mdr_model.specs.Watched.{Finish, finish}
-use Rattle.mdr_model.specs.Kernel.{Pending, Over, Waits}
+use Rattle.mdr_model.specs.KernelState.{Pending, Over, Waits}
 use Rattle.mdr_model.specs.Outcome.{outcome_of}
 use Rattle.mdr_model.specs.Legal.{kernel_in}
 use Rattle.mdr_kernel.specs.Runs.{run_over, finish_of, IsRun, HasEnded}

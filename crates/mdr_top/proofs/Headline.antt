@@ -61,7 +61,7 @@ began_means program source calls es s text h bound served b =
     of (inr m) = inr (record {
       reported = subst (λ (o : Outcome). Reported program o s text) m.outcome b.reported;
       own = subst (λ (o : Outcome). IsOwn o.end) m.outcome m.own;
-      messages = subst (λ (o : Outcome). 2 * length es ≤ 4 * o.ticks + 6 * (watched program calls default_ticks).world.calls) m.outcome m.messages;
+      messages = subst (λ (o : Outcome). 2 * length es ≤ 4 * o.ticks + 6 * (watched program calls default_ticks).world.kept.calls) m.outcome m.messages;
     })
 
 pub ran_means : (program : Program) (source : List ℕ) (calls : List Command) (loaded : Option Loaded) (es : List Exchange) (s : Status) (text : List ℕ) → HasProgram source program → IsBound program calls → IsHonest loaded es

@@ -13,7 +13,7 @@ use Rattle.mdr_model.specs.Built.{IsBuilt}
 use Rattle.mdr_model.specs.Runnable.{IsBound}
 use Rattle.mdr_model.proofs.BuiltLaws.{runnable}
 use Rattle.mdr_model.specs.Watched.{Finish, finish, watched}
-use Rattle.mdr_model.specs.Kernel.{Kernel, Pending, Over, Waits}
+use Rattle.mdr_model.specs.KernelState.{Kernel, Pending, Over, Waits}
 use Rattle.mdr_model.specs.Outcome.{outcome_of}
 use Rattle.mdr_model.specs.Law.{IsOwn, IsWatched}
 use Rattle.mdr_msg.specs.OverBytes.{IsHonestReply, IsHonestOverBytes, IsOneMemoryOverBytes}
@@ -47,11 +47,11 @@ length-texts [] = refl
 length-texts (m ∷ ms) = ap suc (length-texts ms)
 
 -- equal outcomes tell of as many commands
-same_calls : (f g : Finish) → outcome_of f ≡ outcome_of g → IsTold f.world → IsTold g.world → f.world.calls ≡ g.world.calls
+same_calls : (f g : Finish) → outcome_of f ≡ outcome_of g → IsTold f.world → IsTold g.world → f.world.kept.calls ≡ g.world.kept.calls
 unfolding outcome_of
 same_calls f g e s t = sym s.told ∙ ap (λ (o : Outcome). calls_in o.events) e ∙ t.told
 
-ticks_of : (f : Finish) → (outcome_of f).ticks ≡ f.world.ticks
+ticks_of : (f : Finish) → (outcome_of f).ticks ≡ f.world.clock.ticks
 unfolding outcome_of
 ticks_of f = refl
 
@@ -73,8 +73,8 @@ is_meant program calls budget es o end k sent over is w =
     let told : IsTold k.world = subst (λ (x : Kernel). IsTold x.world) kernel total.world in
     let exchanged : k.exchanges ≡ length (run_over program calls budget es).sent + 0 = ap (λ (x : Kernel). x.exchanges) (sym kernel) ∙ total.count in
     let messages : length es ≡ length (run_over program calls budget es).sent = sym (length-sent es) ∙ ap length sent ∙ length-texts (run_over program calls budget es).sent in
-    let begun : k.world.calls ≡ (watched program calls budget).world.calls = same_calls (finish end k.world) (watched program calls budget) w.outcome told (watched_told program calls budget) in
-    let ticks : o.ticks ≡ k.world.ticks = ap (λ (x : Outcome). x.ticks) is ∙ ticks_of (finish end k.world) in
+    let begun : k.world.kept.calls ≡ (watched program calls budget).world.kept.calls = same_calls (finish end k.world) (watched program calls budget) w.outcome told (watched_told program calls budget) in
+    let ticks : o.ticks ≡ k.world.clock.ticks = ap (λ (x : Outcome). x.ticks) is ∙ ticks_of (finish end k.world) in
     record {
       outcome = is ∙ w.outcome;
       own = subst (λ (x : Outcome). IsOwn x.end) (sym is) (owns (finish end k.world) w.own);

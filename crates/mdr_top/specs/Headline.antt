@@ -27,7 +27,7 @@ meant program calls = outcome_of (watched program calls default_ticks)
 pub record IsMeaning (program : Program) (calls : List Command) (es : List Exchange) (s : Status) (text : List ℕ) : Type 0 where
   pub reported : Reported program (meant program calls) s text
   pub own : IsOwn (meant program calls).end
-  pub messages : 2 * length es ≤ 4 * (meant program calls).ticks + 6 * (watched program calls default_ticks).world.calls
+  pub messages : 2 * length es ≤ 4 * (meant program calls).ticks + 6 * (watched program calls default_ticks).world.kept.calls
 
 -- the words name a source and a script, which are read, and are a program and calls of its functions
 pub record IsAccepted (words : List (List ℕ)) (files : Files) (source : List ℕ) (program : Program) (calls : List Command) : Type 0 where

@@ -17,7 +17,7 @@ use Rattle.mdr_user.specs.Honest.{Honest}
 pub record IsMeant (program : Program) (calls : List Command) (budget : ℕ) (es : List Exchange) (o : Outcome) : Type 0 where
   pub outcome : o ≡ outcome_of (watched program calls budget)
   pub own : IsOwn o.end
-  pub messages : 2 * length es ≤ 4 * o.ticks + 6 * (watched program calls budget).world.calls
+  pub messages : 2 * length es ≤ 4 * o.ticks + 6 * (watched program calls budget).world.kept.calls
 
 -- a run whose far side answers as the user half means what one memory does, or the far side failed
 abbrev pub RunIsMeaning : Type 0

@@ -15,7 +15,7 @@ use Rattle.mdr_model.specs.Sets.{is_in, cells_of_runs}
 use Rattle.mdr_model.specs.Tree.{Tree}
 use Rattle.mdr_model.specs.Walk.{walk}
 use Rattle.mdr_model.specs.Meaning.{func_at, function}
-use Rattle.mdr_model.specs.Kernel.{result_type}
+use Rattle.mdr_model.specs.ReplyFaults.{result_type}
 use Rattle.mdr_model.specs.User.{Delivered, told, is_empty, still_live, lives_fit, renewed_copy, call_fits, back_fits, answer_fits, opened, replied_to, deliver}
 use Rattle.mdr_model.specs.Copies.{values_of_runs, put_all, put_runs, agreed_after}
 use Rattle.mdr_user.specs.declared.state.Asked.{Asked}

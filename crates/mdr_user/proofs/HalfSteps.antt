@@ -5,7 +5,7 @@ use Rattle.mdr_model.specs.Memory.{Memory, first_memory}
 use Rattle.mdr_model.specs.Holds.{IsSoundMemory}
 use Rattle.mdr_model.specs.Text.{text}
 use Rattle.mdr_model.specs.Reading.{reading_of}
-use Rattle.mdr_model.specs.Kernel.{Reading}
+use Rattle.mdr_model.specs.KernelState.{Reading}
 use Rattle.mdr_model.specs.User.{User, deliver, first_user, user_after, allowance, user_reply}
 use Rattle.mdr_model.specs.Bytes.{readings, user_reply_to_bytes}
 use Rattle.mdr_model.specs.declared.message.Fault.{Fault}

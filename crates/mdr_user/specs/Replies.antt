@@ -10,7 +10,7 @@ use Rattle.mdr_model.specs.declared.message.Message.{Message}
 use Rattle.mdr_model.specs.declared.message.Message.TheVariants as message
 use Rattle.mdr_model.specs.Memory.{Memory, normal}
 use Rattle.mdr_model.specs.Walk.{Reached}
-use Rattle.mdr_model.specs.Kernel.{stop_number}
+use Rattle.mdr_model.specs.ReplyFaults.{stop_number}
 use Rattle.mdr_model.specs.User.{Delivered, closed, AwaitsBack, AwaitsAnswer}
 use Rattle.mdr_user.specs.declared.state.Asked.{Asked}
 use Rattle.mdr_user.specs.declared.state.Position.{Position}

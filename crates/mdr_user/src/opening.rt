@@ -4,7 +4,7 @@ ghost use Rattle.std.specs.Prelude.{◌≡◌, ◌&&◌, IfOk, IfSome, filter, i
 ghost use Rattle.mdr_model.specs.Values.{fits_result};
 ghost use Rattle.mdr_model.specs.Memory.{is_live};
 ghost use Rattle.mdr_model.specs.Meaning.{func_at, is_user};
-ghost use Rattle.mdr_model.specs.Kernel.{result_type};
+ghost use Rattle.mdr_model.specs.ReplyFaults.{result_type};
 ghost use Rattle.mdr_model.specs.Copies.{without, with_news};
 ghost use Rattle.mdr_model.specs.User.{still_live, runs_fit};
 ghost use Rattle.mdr_model.specs.Runnable.{IsRunnable};

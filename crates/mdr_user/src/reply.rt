@@ -4,7 +4,7 @@ ghost use Rattle.std.specs.Prelude.{◌≡◌, ◌≤◌, ℕ, IfOk};
 ghost use Rattle.mdr_core.specs.declared.program.Program.{Program as AnyProgram};
 ghost use Rattle.mdr_model.specs.Memory.{births};
 ghost use Rattle.mdr_model.specs.Copies.{changes, put_runs};
-ghost use Rattle.mdr_model.specs.Kernel.{stop_number};
+ghost use Rattle.mdr_model.specs.ReplyFaults.{stop_number};
 ghost use Rattle.mdr_model.specs.User.{replied};
 ghost use Rattle.mdr_model.specs.Holds.{IsSoundMemory};
 ghost use Rattle.mdr_model.specs.declared.wire.Wire.TheVariants.{NoValue};

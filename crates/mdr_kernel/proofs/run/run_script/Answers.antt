@@ -10,7 +10,8 @@ use Rattle.mdr_model.specs.Runnable.{IsRunnable}
 use Rattle.mdr_model.specs.Memory.{Memory}
 use Rattle.mdr_model.specs.Text.{text}
 use Rattle.mdr_model.specs.Reading.{reading_of}
-use Rattle.mdr_model.specs.Kernel.{Kernel, Pending, split_commands, next, first_kernel}
+use Rattle.mdr_model.specs.KernelState.{Kernel, Pending}
+use Rattle.mdr_model.specs.Kernel.{split_commands, next, first_kernel}
 use Rattle.mdr_kernel.specs.declared.state.Kernel.{Kernel as CodeKernel}
 use Rattle.mdr_kernel.specs.declared.state.Open.{Open}
 use Rattle.mdr_kernel.specs.declared.state.Pending.{Pending as CodePending}
@@ -22,7 +23,7 @@ use Rattle.mdr_msg.specs.WellFormed.{IsMessage}
 use Rattle.mdr_kernel.specs.Runs.{sent_of, answers_of, Turned, HasEnded}
 use Rattle.mdr_kernel.specs.Calls.{sends, had, IsPlace}
 use Rattle.mdr_kernel.proofs.Standing.{Stands, left_before, first_stands, commands_stand, next_stands, turn_smaller}
-use Rattle.mdr_kernel.proofs.Turns.{AllAnswered, SoFar, first_of, begins_so, goes_so, over_so, fails_so}
+use Rattle.mdr_kernel.proofs.Turns.{SoFar, first_of, begins_so, goes_so, over_so, fails_so}
 use Rattle.mdr_kernel.proofs.Stops.{on_err, calls_none, calls_more, counts_answered, counts_unanswered, place_after, place_unanswered, stops_first, stops_here, stops_in}
 use Rattle.mdr_kernel.proofs.run.run_script.Goals as goal
 

@@ -8,7 +8,8 @@ use Rattle.mdr_model.specs.Values.{wire_of}
 use Rattle.mdr_model.specs.Meaning.{is_kernel}
 use Rattle.mdr_model.specs.World.{World}
 use Rattle.mdr_model.specs.Watched.{begun, called_by}
-use Rattle.mdr_model.specs.Kernel.{Kernel, Pending, calls, split_by}
+use Rattle.mdr_model.specs.KernelState.{Kernel, Pending}
+use Rattle.mdr_model.specs.Kernel.{calls, split_by}
 use Rattle.mdr_kernel.specs.States.{world_of, kernel_of, pending_of, IsSoundWorld}
 use Rattle.mdr_kernel.proofs.Worlds.{begun_is_sound}
 use Rattle.mdr_kernel.proofs.script.called.Goals as goal

@@ -1,4 +1,4 @@
-use Rattle.std.proofs.Common.{refl, subst}
+use Rattle.std.proofs.Common.{subst}
 use Rattle.mdr_kernel.specs.States.{kernel_of, ReturnsSound}
 use Rattle.mdr_kernel.proofs.Commanding.{commanded_on}
 use Rattle.mdr_kernel.proofs.script.split_commands.Goals as goal

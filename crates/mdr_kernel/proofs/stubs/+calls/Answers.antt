@@ -1,7 +1,7 @@
 use Rattle.std.proofs.Common.{List, sym, ap, ◌∙◌}
 use Rattle.mdr_core.specs.declared.code.Stmt.{Stmt}
 use Rattle.mdr_core.specs.Folds.{codes_of}
-use Rattle.mdr_model.specs.Kernel.{any_calls}
+use Rattle.mdr_model.specs.ReplyFaults.{any_calls}
 use Rattle.mdr_kernel.proofs.Walks.{for_calls_first, for_calls_second, for_calls_third}
 use Rattle.mdr_kernel.proofs.stubs.+calls.Goals as goal
 

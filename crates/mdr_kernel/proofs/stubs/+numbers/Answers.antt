@@ -1,7 +1,7 @@
 use Rattle.std.proofs.Common.{List, eq-eqb, sym, ap, ◌∙◌}
 use Rattle.mdr_core.specs.declared.code.Stmt.{Stmt}
 use Rattle.mdr_core.specs.Folds.{codes_of}
-use Rattle.mdr_model.specs.Kernel.{any_has_number}
+use Rattle.mdr_model.specs.ReplyFaults.{any_has_number}
 use Rattle.mdr_kernel.proofs.Walks.{not_number, for_number_first, for_number_own, for_number_second, for_number_third}
 use Rattle.mdr_kernel.proofs.stubs.+numbers.Goals as goal
 

@@ -1,6 +1,6 @@
 use Rattle.std.proofs.Common.{◌≡◌, drop}
 use Rattle.mdr_core.specs.Folds.{codes_of}
-use Rattle.mdr_model.specs.Kernel.{any_has_number}
+use Rattle.mdr_model.specs.ReplyFaults.{any_has_number}
 use Rattle.mdr_kernel.proofs.stubs.+numbers.Given as goal
 
 abbrev pub invariant-any_has_number-loop-s : goal.invariant-any_has_number-loop-s

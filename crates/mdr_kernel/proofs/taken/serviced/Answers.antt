@@ -4,7 +4,8 @@ use Rattle.mdr_core.specs.declared.program.Program.{Program}
 use Rattle.mdr_model.specs.declared.command.Command.{Command}
 use Rattle.mdr_model.specs.declared.wire.Wire.{Wire}
 use Rattle.mdr_model.specs.World.{World, Ran, Ended}
-use Rattle.mdr_model.specs.Kernel.{Kernel, Rest, Pending, answers, serviced}
+use Rattle.mdr_model.specs.KernelState.{Kernel, Rest, Pending}
+use Rattle.mdr_model.specs.Kernel.{answers, serviced}
 use Rattle.mdr_kernel.specs.declared.state.Stopped.{Stopped as CodeStop}
 use Rattle.mdr_kernel.specs.States.{world_of, kernel_of, pending_of, rest_of, left_of, ran_of}
 use Rattle.mdr_kernel.proofs.taken.serviced.Goals as goal

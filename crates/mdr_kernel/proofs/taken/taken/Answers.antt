@@ -5,18 +5,20 @@ use Rattle.mdr_core.specs.declared.program.Program.{Program}
 use Rattle.mdr_model.specs.declared.wire.Wire.{Wire}
 use Rattle.mdr_model.specs.declared.message.Run.{Run}
 use Rattle.mdr_model.specs.declared.message.Shape64.{Shape64}
-use Rattle.mdr_model.specs.declared.message.Message.{Message}
-use Rattle.mdr_model.specs.declared.message.Message.TheVariants as message
+use Rattle.mdr_model.specs.declared.reply.Reply.{Reply}
+use Rattle.mdr_model.specs.declared.reply.Reply.TheVariants as replies
 use Rattle.mdr_model.specs.Runnable.{IsRunnable}
 use Rattle.mdr_model.specs.Faults.{args_fault}
-use Rattle.mdr_model.specs.Kernel.{Kernel, Rest, service_params, fault_of, applied}
+use Rattle.mdr_model.specs.KernelState.{Kernel, Rest}
+use Rattle.mdr_model.specs.ReplyFaults.{service_params, fault_of}
+use Rattle.mdr_model.specs.Kernel.{applied}
 use Rattle.mdr_kernel.specs.States.{kernel_of, rest_of, IsSoundWorld}
 use Rattle.mdr_model.proofs.Accepted.{IsFit, IsDown, IsAsk, return_fits, down_fits, ask_fits, stop_fits}
 use Rattle.mdr_kernel.proofs.Applied.{applied_is_sound}
 use Rattle.mdr_kernel.proofs.taken.taken.Goals as goal
 
 -- the reply that was matched has no fault
-abbrev IsLegal : Program → Kernel → Rest → Message → Type 0
+abbrev IsLegal : Program → Kernel → Rest → Reply → Type 0
 IsLegal program k rest m = fault_of program k rest m ≡ None
 
 applied_world : (program : Program) (k k' : Kernel) (ticks : ℕ) (runs stored : List Run) → IsRunnable program → IsSoundWorld program k.world → IsFit program k ticks runs → stored ≡ runs → k' ≡ applied ticks stored k → IsSoundWorld program k'.world
@@ -28,19 +30,19 @@ pub applied-kernel-requires-clause-ticks : goal.applied-kernel-requires-clause-t
 applied-kernel-requires-clause-ticks c =
     let k : Kernel = kernel_of c.args.kernel in
     let rest : Rest = rest_of c.args.upcall in
-    let legal : IsLegal c.args.program.now k rest (message.Return c.in-Return.ticks c.in-Return.value c.in-Return.runs) = subst (IsLegal c.args.program.now k rest) c.in-Return.is c.requires.legal in
+    let legal : IsLegal c.args.program.now k rest (replies.Return c.in-Return.ticks c.in-Return.value c.in-Return.runs) = subst (IsLegal c.args.program.now k rest) c.in-Return.is c.requires.legal in
     (return_fits c.args.program.now k rest c.in-Return.ticks c.in-Return.value c.in-Return.runs legal).ticks
 
 pub continued-requires-clause-world : goal.continued-requires-clause-world
 continued-requires-clause-world c =
     let k : Kernel = kernel_of c.args.kernel in
     let rest : Rest = rest_of c.args.upcall in
-    let legal : IsLegal c.args.program.now k rest (message.Return c.in-Return.ticks c.in-Return.value c.in-Return.runs) = subst (IsLegal c.args.program.now k rest) c.in-Return.is c.requires.legal in
+    let legal : IsLegal c.args.program.now k rest (replies.Return c.in-Return.ticks c.in-Return.value c.in-Return.runs) = subst (IsLegal c.args.program.now k rest) c.in-Return.is c.requires.legal in
     let fit : IsFit c.args.program.now k c.in-Return.ticks c.in-Return.runs = return_fits c.args.program.now k rest c.in-Return.ticks c.in-Return.value c.in-Return.runs legal in
     applied_world c.args.program.now k _ c.in-Return.ticks c.in-Return.runs _ c.requires.program c.requires.world fit c.as_slice.ensures c.applied-kernel.ensures
 
 -- a downcall
-down_of : (program : Program) (k : Kernel) (rest : Rest) (reply : Message) (ticks : ℕ) (at : At) (depth func : ℕ) (args : List Wire) (runs : List Run) → reply ≡ message.Down ticks at depth func args runs → IsLegal program k rest reply
+down_of : (program : Program) (k : Kernel) (rest : Rest) (reply : Reply) (ticks : ℕ) (at : At) (depth func : ℕ) (args : List Wire) (runs : List Run) → reply ≡ replies.Down ticks at depth func args runs → IsLegal program k rest reply
     → IsDown program k ticks func runs
 down_of program k rest reply ticks at depth func args runs is legal = down_fits program k rest ticks at depth func args runs (subst (IsLegal program k rest) is legal)
 
@@ -60,8 +62,8 @@ downcalled-requires-clause-world c =
     applied_world c.args.program.now (kernel_of c.args.kernel) _ c.in-Down.ticks c.in-Down.runs _ c.requires.program c.requires.world fit c.as_slice-in-Down.ensures c.applied-kernel-in-Down.ensures
 
 -- a service that is asked for
-ask_of : (program : Program) (k : Kernel) (rest : Rest) (reply : Message) (ticks : ℕ) (at : At) (service : ℕ) (args : List Wire) (shapes : List Shape64) (bytes : List ℕ) (runs : List Run)
-    → reply ≡ message.Ask ticks at service args shapes bytes runs → IsLegal program k rest reply → IsAsk program k ticks args runs
+ask_of : (program : Program) (k : Kernel) (rest : Rest) (reply : Reply) (ticks : ℕ) (at : At) (service : ℕ) (args : List Wire) (shapes : List Shape64) (bytes : List ℕ) (runs : List Run)
+    → reply ≡ replies.Ask ticks at service args shapes bytes runs → IsLegal program k rest reply → IsAsk program k ticks args runs
 ask_of program k rest reply ticks at service args shapes bytes runs is legal = ask_fits program k rest ticks at service args shapes bytes runs (subst (IsLegal program k rest) is legal)
 
 pub applied-kernel-requires-in-Ask-clause-ticks : goal.applied-kernel-requires-in-Ask-clause-ticks
@@ -79,5 +81,5 @@ pub applied-kernel-requires-in-Stop-clause-ticks :
 applied-kernel-requires-in-Stop-clause-ticks c =
     let k : Kernel = kernel_of c.args.kernel in
     let rest : Rest = rest_of c.args.upcall in
-    let legal : IsLegal c.args.program.now k rest (message.Stop c.in-Stop.ticks c.in-Stop.stop c.in-Stop.at c.in-Stop.runs) = subst (IsLegal c.args.program.now k rest) c.in-Stop.is c.requires.legal in
+    let legal : IsLegal c.args.program.now k rest (replies.Stop c.in-Stop.ticks c.in-Stop.stop c.in-Stop.at c.in-Stop.runs) = subst (IsLegal c.args.program.now k rest) c.in-Stop.is c.requires.legal in
     (stop_fits c.args.program.now k rest c.in-Stop.ticks c.in-Stop.stop c.in-Stop.at c.in-Stop.runs legal).ticks

@@ -1,4 +1,4 @@
-use Rattle.std.proofs.Common.{map, ◌∙◌}
+use Rattle.std.proofs.Common.{◌∙◌}
 use Rattle.mdr_core.specs.Folds.{term_of, lvalue_of, goal_of, call_of, code_of}
 use Rattle.mdr_core.proofs.Coded.{code_is, assign_is, call_is}
 use Rattle.mdr_kernel.specs.States.{world_of}

@@ -1,5 +1,5 @@
 use Rattle.std.proofs.Common.{subst}
-use Rattle.mdr_model.specs.Kernel.{Pending}
+use Rattle.mdr_model.specs.KernelState.{Pending}
 use Rattle.mdr_model.proofs.AnyAnswers.{Stays, run_stays}
 use Rattle.mdr_model.proofs.Contained.{legal_is_contained}
 use Rattle.mdr_model.proofs.laws.a_legal_reply_is_contained.Goals as goal

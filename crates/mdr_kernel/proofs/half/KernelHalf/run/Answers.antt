@@ -5,7 +5,7 @@ use Rattle.mdr_model.specs.declared.command.Command.{Command}
 use Rattle.mdr_model.specs.declared.outcome.End.{End}
 use Rattle.mdr_model.specs.declared.outcome.Outcome.{Outcome}
 use Rattle.mdr_model.specs.World.{World}
-use Rattle.mdr_model.specs.Kernel.{Kernel}
+use Rattle.mdr_model.specs.KernelState.{Kernel}
 use Rattle.mdr_model.specs.Legal.{kernel_in}
 use Rattle.mdr_outside.specs.declared.far.Exchange.{Exchange}
 use Rattle.mdr_model.specs.Watched.{finish}
@@ -22,7 +22,7 @@ end_shown : (o : Outcome) (end : End) (w : World) → o ≡ outcome_of (finish e
 unfolding outcome_of
 end_shown o end w e = ap (λ (x : Outcome). x.end) e
 
-ticks_shown : (o : Outcome) (end : End) (w : World) → o ≡ outcome_of (finish end w) → o.ticks ≡ w.ticks
+ticks_shown : (o : Outcome) (end : End) (w : World) → o ≡ outcome_of (finish end w) → o.ticks ≡ w.clock.ticks
 unfolding outcome_of
 ticks_shown o end w e = ap (λ (x : Outcome). x.ticks) e
 
