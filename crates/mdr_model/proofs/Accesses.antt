@@ -111,15 +111,15 @@ pub ticks : {program : Program} {K : Knowledge} {k : Kernel} {w : World} {um : M
 ticks {k = k} {w = w} q r e =
     let counted : w.clock.ticks + 1 ≡ k.world.clock.ticks + (k.world.clock.rest - (w.clock.rest - 1)) = omega (arith, total r, later r, e) in
     let left : w.clock.rest - 1 ≡ k.world.clock.rest - (k.world.clock.rest - (w.clock.rest - 1)) = omega (arith, total r, later r, e) in record {
-  next = r.next;
-  memories = r.memories;
-  knows = r.knows;
-  holds = r.holds;
-  view = r.view;
-  same_view = r.same_view;
-  same_kept = r.same_kept;
-  clock = same_clock counted left;
-}
+      next = r.next;
+      memories = r.memories;
+      knows = r.knows;
+      holds = r.holds;
+      view = r.view;
+      same_view = r.same_view;
+      same_kept = r.same_kept;
+      clock = same_clock counted left;
+    }
 
 -- a load gives the same on both sides
 pub get : {program : Program} {K : Knowledge} {k : Kernel} {w : World} {um : Memory} (p : Wire) → Rel program K k w um → IsKnownPointer K p → loaded (is_in w.view) um p ≡ loaded (is_in w.view) w.memory p
