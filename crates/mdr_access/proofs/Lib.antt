@@ -4,5 +4,6 @@ pub mod FormBodies
 pub mod KeyLaws
 pub mod OwnedLaws
 pub mod WalkLaws
+pub mod WorkedFormProofs
 pub mod WorkedLaws
 pub mod WorkedProofs

@@ -8,3 +8,4 @@ pub mod Owned
 pub mod Told
 pub mod Walked
 pub mod Worked
+pub mod WorkedForms

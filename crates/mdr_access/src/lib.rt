@@ -13,4 +13,4 @@ mod worked;
 
 pub use laws::keys_are_right;
 pub use plan::keys_of;
-pub use worked::a_network_driver_has_keys;
+pub use worked::{a_network_driver_has_keys, forms_have_keys};
