@@ -1,5 +1,5 @@
 -- The fields that a `for` exposes: those of what it begins with, and of its loop.
-use Rattle.std.proofs.Common.{◌≡◌, List, [], ◌∷◌, ◌++◌, map, Option, Some, None, refl, sym, ap, ◌∙◌, append_assoc}
+use Rattle.std.proofs.Common.{◌≡◌, List, [], ◌∷◌, ◌++◌, map, Option, Some, None, refl, sym, ap, ◌∙◌, append_assoc, append-nil}
 use Rattle.std.specs.Option.{option_map}
 use Rattle.mdr_core.specs.declared.code.Expr.{Expr}
 use Rattle.mdr_core.specs.declared.code.Stmt.{Stmt}
@@ -9,12 +9,12 @@ use Rattle.mdr_core.specs.Code.{Code}
 use Rattle.mdr_core.specs.Folds.{term_of, code_list, test_of, before, code_of, codes_of}
 use Rattle.mdr_core.specs.declared.plan.Key.{Key}
 use Rattle.mdr_core.specs.Typing.{Slot}
-use Rattle.mdr_slice.proofs.Bodies.{append_nil, for_code}
+use Rattle.mdr_slice.proofs.Bodies.{for_code}
 use Rattle.mdr_access.specs.Exposed.{option_fields, term_fields, code_fields, all_code_fields}
 
 module _ (program : Program) (slots : List Slot) where
   fields_before : (cs : List Code) (c : Code) → all_code_fields program slots (before cs c) ≡ all_code_fields program slots (code_list cs) ++ code_fields program slots c
-  fields_before [] c = append_nil (code_fields program slots c)
+  fields_before [] c = append-nil (code_fields program slots c)
   fields_before (d ∷ ds) c =
       ap (λ xs. code_fields program slots d ++ xs) (fields_before ds c) ∙ sym (append_assoc (code_fields program slots d) (all_code_fields program slots (code_list ds)) (code_fields program slots c))
 

@@ -1,5 +1,5 @@
 -- The access forms of a `for`: those of what it begins with, and of its loop.
-use Rattle.std.proofs.Common.{◌≡◌, List, [], ◌∷◌, ◌++◌, map, Option, Some, None, refl, sym, ap, ◌∙◌, append_assoc}
+use Rattle.std.proofs.Common.{◌≡◌, List, [], ◌∷◌, ◌++◌, map, Option, Some, None, refl, sym, ap, ◌∙◌, append_assoc, append-nil}
 use Rattle.std.specs.Option.{option_map}
 use Rattle.mdr_core.specs.declared.code.Expr.{Expr}
 use Rattle.mdr_core.specs.declared.code.Stmt.{Stmt}
@@ -8,12 +8,12 @@ use Rattle.mdr_core.specs.declared.program.Program.{Program}
 use Rattle.mdr_core.specs.Code.{Code}
 use Rattle.mdr_core.specs.Folds.{term_of, code_list, test_of, before, code_of, codes_of}
 use Rattle.mdr_core.specs.Typing.{Slot}
-use Rattle.mdr_slice.proofs.Bodies.{append_nil, for_code}
+use Rattle.mdr_slice.proofs.Bodies.{for_code}
 use Rattle.mdr_access.specs.Forms.{Form, option_forms, term_forms, code_forms, all_code_forms}
 
 module _ (program : Program) (slots : List Slot) where
   forms_before : (cs : List Code) (c : Code) → all_code_forms program slots (before cs c) ≡ all_code_forms program slots (code_list cs) ++ code_forms program slots c
-  forms_before [] c = append_nil (code_forms program slots c)
+  forms_before [] c = append-nil (code_forms program slots c)
   forms_before (d ∷ ds) c =
       ap (λ xs. code_forms program slots d ++ xs) (forms_before ds c) ∙ sym (append_assoc (code_forms program slots d) (all_code_forms program slots (code_list ds)) (code_forms program slots c))
 

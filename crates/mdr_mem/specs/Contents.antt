@@ -12,6 +12,7 @@ use Rattle.mdr_model.specs.Values.{wire_of}
 use Rattle.mdr_model.specs.Memory.{Memory, is_live, cell_at, put, killed}
 use Rattle.mdr_model.specs.declared.memory.MemoryBlock.{MemoryBlock}
 use Rattle.mdr_model.specs.declared.memory.Cell.{Cell}
+use Rattle.mdr_model.specs.Sets.{is_same_cell}
 use Rattle.mdr_model.specs.Agreement.{SerialsRise, IsBelow, names_it}
 use Rattle.mdr_mem.specs.declared.cells.Life.{Life}
 use Rattle.mdr_mem.specs.declared.cells.Life.TheVariants as life
@@ -105,9 +106,6 @@ abbrev pub kind_of : Option New → Option BirthKind
 kind_of born = option_map (λ n. n.kind) born
 
 -- ---- cells that may be touched
-
-abbrev pub is_same_cell : Cell → Cell → Bool
-is_same_cell a b = a.serial == b.serial && a.index == b.index
 
 abbrev pub may_touch : Option (List Cell) → Cell → Bool
 may_touch None c = true

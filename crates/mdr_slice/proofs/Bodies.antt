@@ -1,5 +1,5 @@
 -- The code of a `for`: a block of what it begins with and its loop.
-use Rattle.std.proofs.Common.{◌≡◌, ℕ, List, [], ◌∷◌, ◌++◌, map, Option, Some, None, refl, sym, ap, ◌∙◌, append_assoc}
+use Rattle.std.proofs.Common.{◌≡◌, ℕ, List, [], ◌∷◌, ◌++◌, map, Option, Some, None, refl, sym, ap, ◌∙◌, append_assoc, append-nil}
 use Rattle.std.specs.Option.{option_map}
 use Rattle.mdr_core.specs.declared.code.Expr.{Expr}
 use Rattle.mdr_core.specs.declared.code.Stmt.{Stmt}
@@ -13,14 +13,10 @@ pub for_code : (s : Stmt) (init : List Stmt) (test : Option Expr) (next body : L
     → code_of s ≡ Code.Block (before (map code_of init) (Code.Loop s.number (test_of test) (codes_of next) (codes_of body)))
 for_code s init test next body is = code_is s _ is ∙ for_is s.number init test next body
 
-pub append_nil : {A : Type 0} (xs : List A) → xs ++ [] ≡ xs
-append_nil [] = refl
-append_nil (x ∷ xs) = ap (λ ys. x ∷ ys) (append_nil xs)
-
 -- ---- calls
 
 calls_before : (cs : List Code) (c : Code) → all_calls (before cs c) ≡ all_calls (code_list cs) ++ calls c
-calls_before [] c = append_nil (calls c)
+calls_before [] c = append-nil (calls c)
 calls_before (d ∷ ds) c = ap (λ xs. calls d ++ xs) (calls_before ds c) ∙ sym (append_assoc (calls d) (all_calls (code_list ds)) (calls c))
 
 pub for_calls : (s : Stmt) (init : List Stmt) (test : Option Expr) (next body : List Stmt) → s.step ≡ step.For init test next body
@@ -42,7 +38,7 @@ for_adds_calls s init test next body is xs ys zs ex ey ez old a b now ea eb en =
 -- ---- names
 
 names_before : (cs : List Code) (c : Code) → all_code_names (before cs c) ≡ all_code_names (code_list cs) ++ code_names c
-names_before [] c = append_nil (code_names c)
+names_before [] c = append-nil (code_names c)
 names_before (d ∷ ds) c = ap (λ xs. code_names d ++ xs) (names_before ds c) ∙ sym (append_assoc (code_names d) (all_code_names (code_list ds)) (code_names c))
 
 test_names : (test : Option Expr) → term_names (test_of test) ≡ option_names (option_map term_of test)
