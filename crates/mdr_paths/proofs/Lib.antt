@@ -4,3 +4,4 @@ pub mod PathLaws
 pub mod ReachLaws
 pub mod Tables
 pub mod Told
+pub mod TurnedLaws

@@ -141,7 +141,7 @@ pub leads_is : (edges : List (List ℕ)) (d c : ℕ) → leads (graph edges) d c
 unfolding leads graph
 leads_is edges d c = refl
 
-graph_rises : (edges : List (List ℕ)) → Rises numbers (graph edges).all
+pub graph_rises : (edges : List (List ℕ)) → Rises numbers (graph edges).all
 unfolding graph
 graph_rises edges = range_rises 0 (length edges)
 

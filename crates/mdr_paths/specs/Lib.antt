@@ -3,3 +3,4 @@ pub mod Laws
 pub mod Marking
 pub mod Numbers
 pub mod Paths
+pub mod Turned

@@ -4,7 +4,9 @@
 mod laws;
 #[cfg(test)]
 mod tests;
+mod turned;
 mod worklist;
 
 pub use laws::paths_have_laws;
+pub use turned::turned_edges;
 pub use worklist::{mark_all, marked_nodes, marks_of, reached};
