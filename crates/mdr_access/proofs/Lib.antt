@@ -3,6 +3,7 @@ pub mod FieldBodies
 pub mod FormBodies
 pub mod KeyLaws
 pub mod OwnedLaws
+pub mod SharedLaws
 pub mod WalkLaws
 pub mod WorkedFormProofs
 pub mod WorkedLaws

@@ -23,7 +23,7 @@ use Rattle.mdr_access.specs.Forms.{func_forms}
 use Rattle.mdr_access.specs.KeyOrder.{keys}
 use Rattle.mdr_access.specs.Keys.{AreKeys, CallsUser, IsPlan, IsTouched, LeadsTo}
 use Rattle.mdr_access.specs.Owned.{Owns, HasOne}
-use Rattle.mdr_access.specs.Walked.{AreFound, AreLists, AreOwned, IsFoundBy, IsFoundIf, IsTouchedAt, is_user, is_user_half, user_by, users}
+use Rattle.mdr_access.specs.Walked.{AreFound, AreLists, AreOwned, IsFoundBy, IsFoundIf, IsFoundIn, IsTouchedAt, is_user, is_user_half, user_by, users}
 use Rattle.mdr_access.proofs.AllKeysLaws.{all_kept, all_rise, picked_of, of_picked, picked_inside, picked_rise, place_of}
 
 user_half : (h : Half) → is_user_half h ≡ true → h ≡ User
@@ -158,8 +158,9 @@ keys_told program halves t marks told = record {
 pub found_are : (program : Program) (halves : List Half) (edges rows : List (List ℕ)) (t : ℕ) (all found : List Key) → t < length program.funcs → AreCallees program true edges → all ≡ all_keys program → AreOwned program all rows
     → IsFoundBy (map (users halves) edges) rows all t found → AreKeys program halves t found
 found_are program halves edges rows t all found inside callees is owned by =
-    let marks = touched_told program halves t all rows by.led by.marks (leads_told program halves edges t by.led inside callees by.reached) owned by.told in
-    subst (AreKeys program halves t) (sym (by.is ∙ ap (λ xs. picked xs by.marks) is)) (keys_told program halves t by.marks (subst (λ xs. Tells (length xs) (IsTouchedAt program halves t xs) by.marks) is marks))
+    let marks = touched_told program halves t all rows by.led by.found_in.marks (leads_told program halves edges t by.led inside callees by.reached) owned by.found_in.told in
+    subst (AreKeys program halves t) (sym (by.found_in.is ∙ ap (λ xs. picked xs by.found_in.marks) is))
+    (keys_told program halves t by.found_in.marks (subst (λ xs. Tells (length xs) (IsTouchedAt program halves t xs) by.found_in.marks) is marks))
 
 -- ---- as the code has it
 
@@ -172,26 +173,15 @@ owns_row program all f own row names are = record { each = λ other h. subst (λ
 pub are_owned : (program : Program) (all : List Key) (rows : List (List ℕ)) → length rows ≡ length program.funcs → ((f : ℕ) → f < length program.funcs → OwnsRow program all f (get_or rows f [])) → AreOwned program all rows
 are_owned program all rows size each = record { size = size; each = λ u own names. (each u (some_inside program.funcs u own names)).each own names }
 
-pub found_by : {A : Type 0} (g : A → List ℕ) (edges rows : List A) (all : List Key) (t n : ℕ) (led led_slice skipped slice marks marks_slice : List Bool) (found : List Key)
-    → AreReached (map g edges) (t ∷ []) led → led_slice ≡ led → skipped ≡ map not led_slice → slice ≡ skipped → n ≡ length all
-    → Tells n (CalledByUser slice (map g rows) (length rows)) marks → marks_slice ≡ marks → found ≡ picked all marks_slice → IsFoundBy (map g edges) (map g rows) all t found
-found_by g edges rows all t n led led_slice skipped slice marks marks_slice found reached e_led e_skipped e_slice e_n told e_marks is = record {
-  led = led;
-  reached = reached;
+pub keys_found : {A : Type 0} (g : A → List ℕ) (rows : List A) (all : List Key) (n : ℕ) (led skipped slice marks marks_slice : List Bool) (found : List Key)
+    → skipped ≡ map not led → slice ≡ skipped → n ≡ length all → Tells n (CalledByUser slice (map g rows) (length rows)) marks → marks_slice ≡ marks → found ≡ picked all marks_slice → IsFoundIn (map g rows) all led found
+keys_found g rows all n led skipped slice marks marks_slice found e_skipped e_slice e_n told e_marks is = record {
   marks = marks;
   told =
       subst (λ m. Tells m (CalledByUser (map not led) (map g rows) (length (map g rows))) marks) e_n
-      (subst (λ k. Tells n (CalledByUser (map not led) (map g rows) k) marks) (sym (length-map rows g)) (subst (λ xs. Tells n (CalledByUser xs (map g rows) (length rows)) marks) (e_slice ∙ e_skipped ∙ ap (map not) e_led) told));
+      (subst (λ k. Tells n (CalledByUser (map not led) (map g rows) k) marks) (sym (length-map rows g)) (subst (λ xs. Tells n (CalledByUser xs (map g rows) (length rows)) marks) (e_slice ∙ e_skipped) told));
   is = is ∙ ap (picked all) e_marks;
 }
-
-pub list_none : (u : Bool) (edges rows : List (List ℕ)) (all : List Key) (t : ℕ) (found : List Key) → u ≡ false → found ≡ [] → IsFoundIf u edges rows all t found
-list_none true edges rows all t found e is = absurd (both_ways true e refl)
-list_none false edges rows all t found e is = is
-
-pub list_some : (u : Bool) (edges rows : List (List ℕ)) (all : List Key) (t : ℕ) (found list : List Key) → u ≡ true → list ≡ found → IsFoundBy edges rows all t found → IsFoundIf u edges rows all t list
-list_some true edges rows all t found list e is by = subst (IsFoundBy edges rows all t) (sym is) by
-list_some false edges rows all t found list e is by = absurd (both_ways false refl e)
 
 pub found_none : (halves : List Half) (edges rows : List (List ℕ)) (all : List Key) (lists : List (List Key)) → lists ≡ [] → AreFound halves edges rows all 0 lists
 found_none halves edges rows all [] e = record { size = refl; each = λ t ks h. absurd (nothing_there ks h) }

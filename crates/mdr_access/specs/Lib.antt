@@ -5,6 +5,7 @@ pub mod KeyOrder
 pub mod Keys
 pub mod Laws
 pub mod Owned
+pub mod Shared
 pub mod Told
 pub mod Walked
 pub mod Worked

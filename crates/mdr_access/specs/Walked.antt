@@ -43,13 +43,17 @@ pub record AreOwned (program : Program) (keys : List Key) (rows : List (List ℕ
   pub size : length rows ≡ length program.funcs
   pub each : (u : ℕ) (own : Func) → slice_get program.funcs u ≡ Some own → AreNodes (length keys) (Owns program (func_forms program own) keys) (get_or rows u [])
 
+-- the keys are those that the rows of what is marked have
+pub record IsFoundIn (rows : List (List ℕ)) (keys : List Key) (led : List Bool) (found : List Key) : Type 0 where
+  pub marks : List Bool
+  pub told : Tells (length keys) (CalledByUser (map not led) rows (length rows)) marks
+  pub is : found ≡ picked keys marks
+
 -- the keys are those that the rows of what t leads to have
 pub record IsFoundBy (edges rows : List (List ℕ)) (keys : List Key) (t : ℕ) (found : List Key) : Type 0 where
   pub led : List Bool
   pub reached : AreReached edges (t ∷ []) led
-  pub marks : List Bool
-  pub told : Tells (length keys) (CalledByUser (map not led) rows (length rows)) marks
-  pub is : found ≡ picked keys marks
+  pub found_in : IsFoundIn rows keys led found
 
 -- the list of a function: nothing in the kernel half, S(t) in the user half
 pub record IsListOf (program : Program) (halves : List Half) (t : ℕ) (ks : List Key) : Type 0 where

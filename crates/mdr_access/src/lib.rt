@@ -8,6 +8,7 @@ mod keys;
 mod laws;
 mod owned;
 mod plan;
+mod shared;
 mod walk;
 mod worked;
 

@@ -1,19 +1,22 @@
 // The plan that has the keys of each function.
 
-ghost use Rattle.std.specs.Prelude.{◌≡◌, ◌≤◌, IfOk, get_or, length, map, vec_items};
+ghost use Rattle.std.specs.Prelude.{◌≡◌, ◌↔◌, ◌<◌, ◌≤◌, IfOk, IsTrue, OnOk, get_or, length, map, true, vec_items};
 ghost use Rattle.mdr_core.specs.Sound.{IsSound};
 ghost use Rattle.mdr_core.specs.declared.program.Func.{Func as AnyFunc};
 ghost use Rattle.mdr_access.specs.AllKeys.{all_keys};
 ghost use Rattle.mdr_access.specs.Exposed.{exposed_fields};
 ghost use Rattle.mdr_access.specs.Keys.{HasEach, IsPlan};
-ghost use Rattle.mdr_access.specs.Walked.{AreFound, AreLists, AreOwned, IsFoundBy, IsFoundIf};
+ghost use Rattle.mdr_access.specs.Shared.{AreFirsts, AreWalks};
+ghost use Rattle.mdr_access.specs.Walked.{AreFound, AreLists, AreOwned, IsFoundBy, IsFoundIf, IsFoundIn, is_user};
 
 use crate::copies::{copied_flags, copied_halves, copied_types, names_of};
 use crate::exposed::exposed_fields;
 use crate::keys::all_keys;
 use crate::owned::owned;
+use crate::shared::{each_alone, share};
 use crate::walk::{is_user, led_marks, picked, turned, user_edges};
 use mdr_core::{Half, Items, Key, OutOfMemory, Plan, Program};
+use mdr_paths::turned_edges;
 use mdr_slice::{Halves, call_graph, called_marks};
 use std::alloc::{AllocError, Global};
 
@@ -38,45 +41,112 @@ fn rows_of(
     Ok(rows)
 }
 
-/// The keys of all that a function leads to.
+/// What the lists of keys are made from: the calls of functions of the user half, each way, and for each function the indices
+/// of the keys that it has access forms for.
+#[derive(Clone, Copy)]
+struct Walks<'a> {
+    edges: &'a [Vec<u32>],
+    turned: &'a [Vec<u32>],
+    rows: &'a [Vec<u32>],
+    keys: &'a [Key],
+}
+
+/// The keys of all that is marked.
 fn found_keys(
     alloc: Global,
-    edges: &[Vec<u32>],
     rows: &[Vec<u32>],
     keys: &[Key],
-    func: u32,
+    led: &[bool],
 ) -> Result<Vec<Key>, AllocError>
-    requires { length edges.now ≡ length rows.now }
-    ensures { IfOk result (λ found. IsFoundBy (map vec_items edges.now) (map vec_items rows.now) keys.now func found.items) }
+    requires { length led.now ≡ length rows.now }
+    ensures { IfOk result (λ found. IsFoundIn (map vec_items rows.now) keys.now led.now found.items) }
 {
-    let led = led_marks(alloc, edges, func)?;
-    let skipped = turned(alloc, led.as_slice())?;
+    let skipped = turned(alloc, led)?;
     let count = keys.len();
     let marks = called_marks(alloc, count, rows, skipped.as_slice())?;
     let found = picked(alloc, keys, marks.as_slice())?;
     Ok(found)
 }
 
-/// The list of a function of either half.
-fn list_of(
+/// The list of a function by a walk from it, which tells too for which of the later functions it stands.
+fn walked_list(
     alloc: Global,
-    is_user: bool,
-    edges: &[Vec<u32>],
-    rows: &[Vec<u32>],
-    keys: &[Key],
+    walks: &Walks<'_>,
+    firsts: &mut Vec<u32>,
     func: u32,
 ) -> Result<Items<Key>, AllocError>
-    requires { length edges.now ≡ length rows.now }
-    ensures { IfOk result (λ ks. IsFoundIf is_user (map vec_items edges.now) (map vec_items rows.now) keys.now func ks) }
+    requires walks { AreWalks (map vec_items walks.now.edges.now) (map vec_items walks.now.turned.now) (map vec_items walks.now.rows.now) }
+    requires firsts { AreFirsts (map vec_items walks.now.edges.now) firsts.old.items }
+    requires inside { func < length walks.now.rows.now }
+    ensures list { IfOk result (λ ks. IsFoundBy (map vec_items walks.now.edges.now) (map vec_items walks.now.rows.now) walks.now.keys.now func ks) }
+    ensures firsts { OnOk result (AreFirsts (map vec_items walks.now.edges.now) firsts.new.items) }
 {
-    if !is_user {
-        return Ok(Items::new(alloc));
-    }
-    let found = found_keys(alloc, edges, rows, keys, func)?;
+    let led = led_marks(alloc, walks.edges, func)?;
+    share(alloc, walks.turned, led.as_slice(), firsts, func)?;
+    let found = found_keys(alloc, walks.rows, walks.keys, led.as_slice())?;
     Ok(Items::from_vec(found))
 }
 
-/// The lists of all functions.
+/// Whether a function shares the list of the one that stands for it.
+fn is_shared(halves: &[Half], first: u32, func: u32) -> bool
+    ensures { IsTrue result ↔ ((first < func) × (is_user halves.now first ≡ true)) }
+{
+    first < func && is_user(halves, first)
+}
+
+/// The list of a function of either half, with the lists of all before it.
+fn list_of(
+    alloc: Global,
+    walks: &Walks<'_>,
+    halves: &[Half],
+    firsts: &mut Vec<u32>,
+    lists: &[Items<Key>],
+    func: u32,
+) -> Result<Items<Key>, AllocError>
+    requires walks { AreWalks (map vec_items walks.now.edges.now) (map vec_items walks.now.turned.now) (map vec_items walks.now.rows.now) }
+    requires firsts { AreFirsts (map vec_items walks.now.edges.now) firsts.old.items }
+    requires found { AreFound halves.now (map vec_items walks.now.edges.now) (map vec_items walks.now.rows.now) walks.now.keys.now func lists.now }
+    requires inside { func < length walks.now.rows.now }
+    ensures list { IfOk result (λ ks. IsFoundIf (is_user halves.now func) (map vec_items walks.now.edges.now) (map vec_items walks.now.rows.now) walks.now.keys.now func ks) }
+    ensures firsts { OnOk result (AreFirsts (map vec_items walks.now.edges.now) firsts.new.items) }
+{
+    if !is_user(halves, func) {
+        return Ok(Items::new(alloc));
+    }
+    let first = firsts[func as usize];
+    if is_shared(halves, first, func) {
+        let list = Items::from_slice(alloc, lists[first as usize].as_slice())?;
+        return Ok(list);
+    }
+    walked_list(alloc, walks, firsts, func)
+}
+
+/// The lists of all functions. Functions that lead to each other have one, of one walk.
+fn all_lists(
+    alloc: Global,
+    walks: &Walks<'_>,
+    halves: &[Half],
+) -> Result<Vec<Items<Key>>, AllocError>
+    requires walks { AreWalks (map vec_items walks.now.edges.now) (map vec_items walks.now.turned.now) (map vec_items walks.now.rows.now) }
+    ensures { IfOk result (λ lists. AreFound halves.now (map vec_items walks.now.edges.now) (map vec_items walks.now.rows.now) walks.now.keys.now (length walks.now.rows.now) lists.items) }
+{
+    let mut firsts = each_alone(alloc, walks.edges.len())?;
+    let mut lists = Vec::new(alloc);
+    for func in 0..walks.rows.len() {
+        let list = list_of(
+            alloc,
+            walks,
+            halves,
+            &mut firsts,
+            lists.as_slice(),
+            func as u32,
+        )?;
+        lists.push(list)?;
+    }
+    Ok(lists)
+}
+
+/// The lists of all functions, by the calls of functions of the user half.
 fn lists_of(
     alloc: Global,
     halves: &[Half],
@@ -88,18 +158,14 @@ fn lists_of(
     requires few { length rows.now ≤ 4294967296 }
     ensures { IfOk result (λ lists. AreFound halves.now (map vec_items edges.now) (map vec_items rows.now) keys.now (length rows.now) lists.items) }
 {
-    let mut lists = Vec::new(alloc);
-    for func in 0..rows.len() {
-        let list = list_of(
-            alloc,
-            is_user(halves, func as u32),
-            edges,
-            rows,
-            keys,
-            func as u32,
-        )?;
-        lists.push(list)?;
-    }
+    let turned = turned_edges(alloc, edges)?;
+    let walks = Walks {
+        edges,
+        turned: turned.as_slice(),
+        rows,
+        keys,
+    };
+    let lists = all_lists(alloc, &walks, halves)?;
     Ok(lists)
 }
 
