@@ -1,0 +1,16 @@
+pub mod Tree
+pub mod Alike
+pub mod Cut
+pub mod Walk
+pub mod Values
+pub mod Numbers
+pub mod Pointers
+pub mod Named
+pub mod Expressions
+pub mod Sides
+pub mod Lives
+pub mod Printed
+pub mod Asking
+pub mod Calls
+pub mod Statements
+pub mod Bodies
