@@ -1,2 +1,4 @@
 pub mod CutLaws
 pub mod WalkLaws
+pub mod AlikeLaws
+pub mod FuelLaws

@@ -14,3 +14,4 @@ pub mod Asking
 pub mod Calls
 pub mod Statements
 pub mod Bodies
+pub mod Fuel

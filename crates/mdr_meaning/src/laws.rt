@@ -1,6 +1,7 @@
 // Laws, each as a function that does nothing.
 
 ghost use Rattle.mdr_meaning.specs.Cut.{CutIsAlike, CutsCut};
+ghost use Rattle.mdr_meaning.specs.Fuel.{FuelIsNoMatter, StartedFuelIsNoMatter, UserTreesAreEqual};
 ghost use Rattle.mdr_meaning.specs.Walk.{WalksGoOn};
 
 /// Equality up to a number of ticks is a relation that each node keeps, and cutting twice is cutting once.
@@ -12,4 +13,15 @@ pub fn equality_up_to_ticks_is_alike()
 /// A walk with more ticks is the walk with fewer, and then on from where that one stands.
 pub fn walks_go_on<M>()
     ensures { WalksGoOn M }
+{}
+
+/// Trees of any two fuels above a number of ticks are equal up to so many ticks, of code and of a started function.
+pub fn fuel_is_no_matter()
+    ensures code { FuelIsNoMatter }
+    ensures started { StartedFuelIsNoMatter }
+{}
+
+/// A program that is declared alike and has the user half's bodies has the user half's trees.
+pub fn user_trees_are_equal()
+    ensures { UserTreesAreEqual }
 {}

@@ -5,6 +5,8 @@ mod laws;
 mod shape;
 mod wire;
 
-pub use laws::{equality_up_to_ticks_is_alike, walks_go_on};
+pub use laws::{
+    equality_up_to_ticks_is_alike, fuel_is_no_matter, user_trees_are_equal, walks_go_on,
+};
 pub use shape::Shape64;
 pub use wire::{Wire, WireView};
