@@ -2,3 +2,4 @@ pub mod CutLaws
 pub mod WalkLaws
 pub mod AlikeLaws
 pub mod FuelLaws
+pub mod FewLaws

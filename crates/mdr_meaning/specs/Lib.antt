@@ -15,3 +15,4 @@ pub mod Calls
 pub mod Statements
 pub mod Bodies
 pub mod Fuel
+pub mod Few

@@ -1,6 +1,7 @@
 // Laws, each as a function that does nothing.
 
 ghost use Rattle.mdr_meaning.specs.Cut.{CutIsAlike, CutsCut};
+ghost use Rattle.mdr_meaning.specs.Few.{QuestionsAreFew};
 ghost use Rattle.mdr_meaning.specs.Fuel.{FuelIsNoMatter, StartedFuelIsNoMatter, UserTreesAreEqual};
 ghost use Rattle.mdr_meaning.specs.Walk.{WalksGoOn};
 
@@ -24,4 +25,9 @@ pub fn fuel_is_no_matter()
 /// A program that is declared alike and has the user half's bodies has the user half's trees.
 pub fn user_trees_are_equal()
     ensures { UserTreesAreEqual }
+{}
+
+/// A started function asks at most two questions before its first tick, and two more for each tick.
+pub fn questions_are_few()
+    ensures { QuestionsAreFew }
 {}
