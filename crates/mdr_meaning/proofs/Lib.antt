@@ -3,3 +3,5 @@ pub mod WalkLaws
 pub mod AlikeLaws
 pub mod FuelLaws
 pub mod FewLaws
+pub mod WorkedProofs
+pub mod StopProofs

@@ -16,3 +16,6 @@ pub mod Statements
 pub mod Bodies
 pub mod Fuel
 pub mod Few
+pub mod Small
+pub mod Worked
+pub mod WorkedStops

@@ -4,6 +4,7 @@
 mod laws;
 mod shape;
 mod wire;
+mod worked;
 
 pub use laws::{
     equality_up_to_ticks_is_alike, fuel_is_no_matter, questions_are_few, user_trees_are_equal,
@@ -11,3 +12,7 @@ pub use laws::{
 };
 pub use shape::Shape64;
 pub use wire::{Wire, WireView};
+pub use worked::{
+    calls_are_made, loops_turn, objects_live_and_die, operators_work, parts_have_an_order,
+    pointers_are_followed, services_are_asked, stops_have_places,
+};
