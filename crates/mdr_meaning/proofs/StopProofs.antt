@@ -20,7 +20,7 @@ stops_have_places = record { null_loaded = refl; null_moved = refl; null_member 
 
 pub parts_have_an_order : PartsHaveAnOrder
 unfolding means started cut slot_of operated fitted fitted_or quotient converted is_in_range size cells struct_cells leaves_below field_leaves field_start repeated leaves printed digits form.out-Ty denote.Hole.Carrier.out
-parts_have_an_order = record { right_first = refl; value_first = refl; bounds_first = refl; null_first = refl; index_first = refl; callee_first = refl; arguments_first = refl; depth_last = refl }
+parts_have_an_order = record { right_first = refl; value_first = refl; bounds_first = refl; null_first = refl; index_first = refl; callee_first = refl; arguments_first = refl; null_before_depth = refl; arguments_before_depth = refl; depth_last = refl }
 
 pub services_are_asked : ServicesAreAsked
 unfolding means started cut slot_of operated fitted fitted_or quotient converted is_in_range size cells struct_cells leaves_below field_leaves field_start repeated leaves printed digits form.out-Ty denote.Hole.Carrier.out

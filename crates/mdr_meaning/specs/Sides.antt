@@ -3,11 +3,13 @@ use Rattle.std.specs.Prelude.{ℕ, Bool, List, [], ◌∷◌, Option}
 use Rattle.mdr_core.specs.declared.types.Ty.{Ty}
 use Rattle.mdr_core.specs.declared.place.At.{At}
 use Rattle.mdr_core.specs.Code.{Way, Codes}
+use Rattle.mdr_core.specs.Layout.{chosen, zero_value}
 use Rattle.mdr_core.specs.Typing.{Slot}
 use Rattle.mdr_meaning.specs.declared.wire.Wire.{Wire}
 use Rattle.mdr_meaning.specs.declared.wire.Wire.TheVariants as wire
 use Rattle.mdr_meaning.specs.Numbers.{Numbered}
 use Rattle.mdr_meaning.specs.Tree.{Tree}
+use Rattle.mdr_meaning.specs.Values.{wire_of}
 
 -- a function's body: its slots, parameters first, the type of its result, its code
 pub record Body : Type 0 where
@@ -61,8 +63,12 @@ Means = Here → Codes → Go
 abbrev pub in_here : Here → ℕ → At
 in_here here n = record { func = here.func; stmt = n }
 
+-- what a slot holds before its declaration runs: a zero, and an object's slot no address
+abbrev pub undeclared : Slot → Wire
+undeclared s = chosen s.object wire.Null (wire_of (zero_value s.ty))
+
 -- the slots of a function that was called: each parameter holds its argument
 abbrev pub framed : List Slot → List Wire → List Wire
 framed [] vs = []
-framed (s ∷ ss) [] = wire.NoValue ∷ framed ss []
+framed (s ∷ ss) [] = undeclared s ∷ framed ss []
 framed (s ∷ ss) (v ∷ vs) = v ∷ framed ss vs

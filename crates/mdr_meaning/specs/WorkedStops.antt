@@ -90,6 +90,10 @@ pub record StopsHavePlaces : Type 0 where
 
 -- ---- which comes first
 
+-- a statement where 256 functions are active
+abbrev pub at_last_depth : Code → Ending
+at_last_depth c = (run five (started (side five (only (body [] ty.Void (c ∷ []))) false) 20 0 [] 255 Tree.Idle) (mem five_cells [] 0 [])).ending
+
 pub record PartsHaveAnOrder : Type 0 where
   -- the right side before the left, and the value of a call before the left side
   pub right_first : ends_of (only (body [] ty.Void (Code.Assign 1 (behind_p 0) (to_number undefined) ∷ []))) ≡ here stop.DivZero
@@ -102,7 +106,9 @@ pub record PartsHaveAnOrder : Type 0 where
   -- the callee, then the arguments, then whether there is one to call, then the depth
   pub callee_first : ends_of (only (body [] ty.Void (calling (Called.Through (Term.Load (Lvalue.Deref null))) (undefined ∷ []) ∷ []))) ≡ here stop.Null
   pub arguments_first : ends_of (only (body [] ty.Void (calling (Called.Through null) (undefined ∷ []) ∷ []))) ≡ here stop.DivZero
-  pub depth_last : ends_of (only (body [] ty.Void (calling (Called.Direct 0) (undefined ∷ []) ∷ []))) ≡ here stop.DivZero
+  pub null_before_depth : at_last_depth (calling (Called.Through null) []) ≡ here stop.Null
+  pub arguments_before_depth : at_last_depth (calling (Called.Direct 0) (undefined ∷ [])) ≡ here stop.DivZero
+  pub depth_last : at_last_depth (calling (Called.Direct 0) []) ≡ here stop.Depth
 
 -- ---- services
 
