@@ -5,3 +5,4 @@ pub mod FuelLaws
 pub mod FewLaws
 pub mod WorkedProofs
 pub mod StopProofs
+pub mod NumberLaws

@@ -44,9 +44,10 @@ pub record Numbered : Type 0 where
 abbrev pub numbered : Program → Numbered
 numbered program = record { program = program; number = number_in program.types }
 
--- each type of the table has its number there
+-- each type of the table has its number there, and no other type has that number
 pub record IsNumbered (known : Numbered) : Type 0 where
   pub names : (ty : Ty) → HasNumber known.program ty → slice_get known.program.types (known.number ty) ≡ Some ty
+  pub back : (ty u : Ty) → slice_get known.program.types (known.number ty) ≡ Some u → u ≡ ty
 
 abbrev pub ProgramsAreNumbered : Type 0
 ProgramsAreNumbered = (program : Program) → IsNumbered (numbered program)

@@ -3,6 +3,7 @@
 ghost use Rattle.mdr_meaning.specs.Cut.{CutIsAlike, CutsCut};
 ghost use Rattle.mdr_meaning.specs.Few.{QuestionsAreFew};
 ghost use Rattle.mdr_meaning.specs.Fuel.{FuelIsNoMatter, StartedFuelIsNoMatter, UserTreesAreEqual};
+ghost use Rattle.mdr_meaning.specs.Numbers.{ProgramsAreNumbered};
 ghost use Rattle.mdr_meaning.specs.Walk.{WalksGoOn};
 
 /// Equality up to a number of ticks is a relation that each node keeps, and cutting twice is cutting once.
@@ -30,4 +31,9 @@ pub fn user_trees_are_equal()
 /// A started function asks at most two questions before its first tick, and two more for each tick.
 pub fn questions_are_few()
     ensures { QuestionsAreFew }
+{}
+
+/// Each type of a program's table has its number there, which no other type has.
+pub fn programs_are_numbered()
+    ensures { ProgramsAreNumbered }
 {}
