@@ -6,3 +6,6 @@ pub mod FewLaws
 pub mod WorkedProofs
 pub mod StopProofs
 pub mod NumberLaws
+pub mod PointerLaws
+pub mod FitLaws
+pub mod ExpressionLaws

@@ -16,6 +16,10 @@ pub mod Statements
 pub mod Bodies
 pub mod Fuel
 pub mod Few
+pub mod Fit
+pub mod Fair
+pub mod Slots
+pub mod FairExpressions
 pub mod Small
 pub mod Worked
 pub mod WorkedStops

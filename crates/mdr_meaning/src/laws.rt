@@ -1,6 +1,7 @@
 // Laws, each as a function that does nothing.
 
 ghost use Rattle.mdr_meaning.specs.Cut.{CutIsAlike, CutsCut};
+ghost use Rattle.mdr_meaning.specs.FairExpressions.{ExpressionsAreFair, LvaluesAreFair};
 ghost use Rattle.mdr_meaning.specs.Few.{QuestionsAreFew};
 ghost use Rattle.mdr_meaning.specs.Fuel.{FuelIsNoMatter, StartedFuelIsNoMatter, UserTreesAreEqual};
 ghost use Rattle.mdr_meaning.specs.Numbers.{ProgramsAreNumbered};
@@ -36,4 +37,11 @@ pub fn questions_are_few()
 /// Each type of a program's table has its number there, which no other type has.
 pub fn programs_are_numbered()
     ensures { ProgramsAreNumbered }
+{}
+
+/// The value of a sound program's expression, and the address of what its lvalue names, name nothing unknown and fit
+/// their types; and evaluation comes to no stops but its own.
+pub fn expressions_are_fair()
+    ensures values { ExpressionsAreFair }
+    ensures addresses { LvaluesAreFair }
 {}

@@ -7,8 +7,8 @@ mod wire;
 mod worked;
 
 pub use laws::{
-    equality_up_to_ticks_is_alike, fuel_is_no_matter, programs_are_numbered, questions_are_few,
-    user_trees_are_equal, walks_go_on,
+    equality_up_to_ticks_is_alike, expressions_are_fair, fuel_is_no_matter, programs_are_numbered,
+    questions_are_few, user_trees_are_equal, walks_go_on,
 };
 pub use shape::Shape64;
 pub use wire::{Wire, WireView};
