@@ -1,0 +1,11 @@
+pub mod CutLaws
+pub mod WalkLaws
+pub mod AlikeLaws
+pub mod FuelLaws
+pub mod FewLaws
+pub mod WorkedProofs
+pub mod StopProofs
+pub mod NumberLaws
+pub mod PointerLaws
+pub mod FitLaws
+pub mod ExpressionLaws

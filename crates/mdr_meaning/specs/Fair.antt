@@ -1,0 +1,147 @@
+-- Fair trees: what is known of the tree of a sound program's code. It names only what there is and what is known, uses values as their types allow, and comes to no stop but its own.
+use Rattle.std.specs.Prelude.{◌≡◌, ℕ, ◌≤◌, Bool, true, false, ◌||◌, ◌==◌, ◌⊎◌, List, [], ◌∷◌, map, Option, Some, slice_get}
+use Rattle.mdr_core.specs.declared.kind.Kind.TheVariants.{U8, U32, S32}
+use Rattle.mdr_core.specs.declared.place.At.{At}
+use Rattle.mdr_core.specs.declared.stop.StopKind.{StopKind}
+use Rattle.mdr_core.specs.declared.stop.StopKind.TheVariants as stop
+use Rattle.mdr_core.specs.declared.types.Ty.{Ty}
+use Rattle.mdr_core.specs.declared.types.Ty.TheVariants as type
+use Rattle.mdr_core.specs.declared.program.Program.{Program}
+use Rattle.mdr_core.specs.declared.program.Func.{Func}
+use Rattle.mdr_core.specs.declared.program.Param.{Param}
+use Rattle.mdr_core.specs.Code.{Code, Codes}
+use Rattle.mdr_core.specs.Kinds.{is_in_range}
+use Rattle.mdr_core.specs.Services.{Service, Kzalloc, Kcalloc, Readl, RequestIrq, Enter, service_numbered}
+use Rattle.mdr_meaning.specs.declared.shape.Shape64.{Shape64}
+use Rattle.mdr_meaning.specs.declared.wire.Wire.{Wire}
+use Rattle.mdr_meaning.specs.declared.wire.Wire.TheVariants as wire
+use Rattle.mdr_meaning.specs.Fit.{Knowledge, Grows, IsKnownView, IsInteger, IsDataPointer, IsAddress, PointsTo, Fits, IsResult}
+use Rattle.mdr_meaning.specs.Sides.{Body, Side}
+use Rattle.mdr_meaning.specs.Tree.{Asked, Tree}
+use Rattle.mdr_meaning.specs.Values.{first_of}
+
+-- the stops that code comes to by itself. The others are those of services and of sets of cells
+abbrev pub is_code_stop : StopKind → Bool
+is_code_stop stop.Null = true
+is_code_stop stop.Dead = true
+is_code_stop stop.Bounds = true
+is_code_stop stop.Overflow = true
+is_code_stop stop.DivZero = true
+is_code_stop stop.Shift = true
+is_code_stop stop.Compare = true
+is_code_stop stop.BadCast = true
+is_code_stop stop.BadCall = false
+is_code_stop stop.NoValue = true
+is_code_stop stop.LockHeld = false
+is_code_stop stop.LockFree = false
+is_code_stop stop.Depth = true
+is_code_stop stop.Bug = false
+is_code_stop stop.Annotation = false
+is_code_stop stop.Ticks = true
+is_code_stop stop.Atomic = false
+
+-- ---- places
+
+-- a statement of the code has the number
+abbrev mutual
+  pub stands_in : ℕ → Code → Bool
+  stands_in n (Code.Declare m i) = n == m
+  stands_in n (Code.Text m i bytes) = n == m
+  stands_in n (Code.Assign m p e) = n == m
+  stands_in n (Code.Call m goal form) = n == m
+  stands_in n (Code.If m e one other) = n == m || (stands n one || stands n other)
+  stands_in n (Code.Loop m e step body) = n == m || (stands n step || stands n body)
+  stands_in n (Code.Block body) = stands n body
+  stands_in n (Code.Return m e) = n == m
+  stands_in n (Code.Jump m way) = n == m
+
+  pub stands : ℕ → Codes → Bool
+  stands n Codes.End = false
+  stands n (Codes.Then c cs) = stands_in n c || stands n cs
+
+-- a statement of a body of the side, or 0 for the body as a whole
+pub record IsPlace (side : Side) (at : At) : Type 0 where
+  pub body : Body
+  pub own : side.own at.func ≡ Some body
+  pub stmt : (at.stmt ≡ 0) ⊎ (stands at.stmt body.code ≡ true)
+
+-- ---- what is passed on
+
+-- a value that names nothing unknown
+abbrev pub IsKnown : Program → Knowledge → Wire → Type 0
+IsKnown program K (wire.Int k n) = is_in_range k n ≡ true
+IsKnown program K wire.Null = Unit {0}
+IsKnown program K (wire.Ptr p) = IsKnownView program K p
+IsKnown program K wire.Dead = Unit {0}
+IsKnown program K (wire.Fn f) = (func : Func) × (slice_get program.funcs f ≡ Some func)
+IsKnown program K (wire.Lock s) = ⊥
+IsKnown program K wire.NoValue = ⊥
+
+abbrev pub AreKnown : Program → Knowledge → List Wire → Type 0
+AreKnown program K [] = Unit {0}
+AreKnown program K (v ∷ vs) = IsKnown program K v × AreKnown program K vs
+
+-- as many values as types, each of which fits
+abbrev pub AllFit : Program → Knowledge → List Wire → List Ty → Type 0
+AllFit program K [] [] = Unit {0}
+AllFit program K [] (t ∷ ts) = ⊥
+AllFit program K (v ∷ vs) [] = ⊥
+AllFit program K (v ∷ vs) (t ∷ ts) = Fits program K t v × AllFit program K vs ts
+
+-- objects are of types of the table
+abbrev pub AreShapes : Program → List Shape64 → Type 0
+AreShapes program [] = Unit {0}
+AreShapes program (s ∷ shapes) = ((ty : Ty) × (slice_get program.types s.ty ≡ Some ty)) × AreShapes program shapes
+
+-- a pointer for each object, to elements of its type
+abbrev pub AreBorn : Program → Knowledge → List Shape64 → List Wire → Type 0
+AreBorn program K [] [] = Unit {0}
+AreBorn program K [] (p ∷ ps) = ⊥
+AreBorn program K (s ∷ shapes) [] = ⊥
+AreBorn program K (s ∷ shapes) (p ∷ ps) = IsDataPointer program K (λ n. n ≡ s.ty) p × AreBorn program K shapes ps
+
+abbrev pub is_first_type : List Shape64 → ℕ → Type 0
+is_first_type [] n = ⊥
+is_first_type (s ∷ shapes) n = n ≡ s.ty
+
+-- what a service gives: an allocation null or a new object, `readl` a u32, `request_irq` an s32, the births of objects their pointers, any other nothing
+abbrev pub IsServed : Program → Knowledge → Asked → Option Service → List Wire → Type 0
+IsServed program K a (Some Kzalloc) rs = IsDataPointer program K (is_first_type a.shapes) (first_of rs)
+IsServed program K a (Some Kcalloc) rs = IsDataPointer program K (is_first_type a.shapes) (first_of rs)
+IsServed program K a (Some Readl) rs = IsInteger U32 (first_of rs)
+IsServed program K a (Some RequestIrq) rs = IsInteger S32 (first_of rs)
+IsServed program K a (Some Enter) rs = AreBorn program K a.shapes rs
+IsServed program K a _ rs = first_of rs ≡ wire.NoValue
+
+-- a call of a function of the other half
+pub record IsCall (program : Program) (K : Knowledge) (func : Func) (f : ℕ) (args : List Wire) (depth : ℕ) : Type 0 where
+  pub names : slice_get program.funcs f ≡ Some func
+  pub fit : AllFit program K args (map (λ (p : Param). p.ty) func.params)
+  pub some : 1 ≤ depth
+  pub limited : depth ≤ 255
+
+-- ---- trees
+
+-- a tree of a side's code, under a function with this result, where so much is known
+abbrev pub Fair : Program → Side → (result : Ty) → Knowledge → Tree → Type 0
+Fair program side result K Tree.Idle = ⊥
+Fair program side result K (Tree.Waits k) = ⊥
+Fair program side result K (Tree.Done v t) = IsResult program K result v
+Fair program side result K (Tree.Stop kind at) = IsPlace side at × (is_code_stop kind ≡ true)
+Fair program side result K (Tree.Tick at d t) = IsPlace side at × (1 ≤ d) × (d ≤ 256) × Fair program side result K t
+Fair program side result K (Tree.Load at p k) =
+    IsPlace side at × ((ty : Ty) × PointsTo program K ty p × ((v : Wire) → Fits program K ty v → Fair program side result K (k v)))
+Fair program side result K (Tree.Store at p v t) = IsPlace side at × ((ty : Ty) × PointsTo program K ty p × Fits program K ty v) × Fair program side result K t
+Fair program side result K (Tree.Read at p n k) = IsPlace side at × PointsTo program K (type.Int U8) p × ((bs : List ℕ) → Fair program side result K (k bs))
+Fair program side result K (Tree.Fresh at v k) = IsPlace side at × IsAddress program K v × Fair program side result K (k v)
+Fair program side result K (Tree.Birth at shapes k) =
+    IsPlace side at × AreShapes program shapes
+    × ((K' : Knowledge) → Grows K K' → (ps : List Wire) → AreBorn program K' shapes ps → Fair program side result K' (k ps))
+Fair program side result K (Tree.Death at ps t) = IsPlace side at × AreKnown program K ps × Fair program side result K t
+Fair program side result K (Tree.Ask a k) =
+    IsPlace side a.at × AreKnown program K a.args × AreShapes program a.shapes
+    × ((K' : Knowledge) → Grows K K' → (rs : List Wire) → IsServed program K' a (service_numbered a.service) rs → Fair program side result K' (k rs))
+Fair program side result K (Tree.Cross at f args depth k) =
+    IsPlace side at
+    × ((func : Func) × IsCall program K func f args depth
+    × ((K' : Knowledge) → Grows K K' → (v : Wire) → IsResult program K' func.result v → Fair program side result K' (k v)))
