@@ -32,3 +32,5 @@ mod Alike
 mod Starred
 mod Voids
 mod Stated
+mod OuterForms
+mod Sources

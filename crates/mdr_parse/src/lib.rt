@@ -2,26 +2,37 @@
 #![tactic(auto)]
 
 mod arguments;
+mod blocks;
 mod constants;
 mod declarators;
 mod error;
+mod faults;
 mod fields;
 mod forms;
+mod functions;
 mod globals;
+mod heads;
 mod initialisers;
 mod laws;
+mod lists;
 mod locals;
 mod look;
+mod named;
 mod openings;
 mod operands;
 mod operators;
+mod outside;
+mod parsing;
 mod parts;
 mod postfix;
 mod simple;
 mod sort;
+mod structs;
 mod tails;
+mod toplevel;
 mod types;
 mod words;
 
 pub use error::ParseError;
-pub use laws::{reading_is_exact, sources_have_one_tree};
+pub use laws::{faults_have_no_tree, reading_is_exact, sources_have_one_tree};
+pub use parsing::parse;
