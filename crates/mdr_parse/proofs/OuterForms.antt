@@ -1,5 +1,5 @@
 -- What a type begins outside functions, and what items begin with.
-use Rattle.std.proofs.Common.{◌≡◌, refl, sym, subst, ap, ◌∙◌, ◌+◌, ℕ, Bool, true, false, List, [], ◌∷◌, ◌++◌, append_assoc, length, Option, Some, None, Result, Ok, Err}
+use Rattle.std.proofs.Common.{◌≡◌, refl, sym, subst, ap, ◌∙◌, ◌+◌, ℕ, Bool, true, false, List, [], ◌∷◌, ◌++◌, append_assoc, length, Option, Some, Result, Ok, Err}
 use Rattle.mdr_core.specs.declared.place.Place.{Place}
 use Rattle.mdr_syntax.specs.declared.token.Token.{Token}
 use Rattle.mdr_syntax.specs.declared.tree.Head.{Head}
@@ -7,18 +7,18 @@ use Rattle.mdr_syntax.specs.declared.tree.Item.{Item}
 use Rattle.mdr_syntax.specs.declared.tree.ItemWhat.TheVariants as item_is
 use Rattle.mdr_parse.specs.declared.error.Failure.{Failure}
 use Rattle.mdr_parse.specs.Sorts.{Sort, is, sort_of}
-use Rattle.mdr_parse.specs.Forms.{Part, Specifier, Right, ◌>>=◌, take, form, one, Rule, and_then}
+use Rattle.mdr_parse.specs.Forms.{Specifier, Right, ◌>>=◌, take, form, Rule, and_then}
 use Rattle.mdr_parse.specs.Forms.Part.{base, item}
 use Rattle.mdr_parse.specs.Forms.Repeated.{field_groups}
 use Rattle.mdr_parse.specs.Forms.Nonterminal.{part, many, stars, outer, remote, critical, function, function_end, fields, qualified}
-use Rattle.mdr_parse.specs.Forms.Right.{gives, takes, then}
+use Rattle.mdr_parse.specs.Forms.Right.{gives, takes}
 use Rattle.mdr_parse.specs.Forms.Empty.{cannot}
 use Rattle.mdr_parse.specs.Expressions.{text_of}
 use Rattle.mdr_parse.specs.Declarations.{declarator_rule}
 use Rattle.mdr_parse.specs.Statements.{joined, item_at, are_named, function_with, function_head, function_there, function_end_rule, named_global, more_globals, globals_with, outer_rule, remote_rule, critical_rule, qualified_rule, item_rule, struct_or_outer}
 use Rattle.mdr_parse.specs.Outside.{global_named, named_in, unqualified_rule, field_lists, struct_end, struct_specifier, struct_behind}
 use Rattle.mdr_parse.specs.Grammar.{rule, part_rule}
-use Rattle.mdr_parse.specs.Front.{Read, and_read, word_at, begun_at, first as first_read, front}
+use Rattle.mdr_parse.specs.Front.{and_read, word_at, begun_at, first as first_read, front}
 use Rattle.mdr_parse.specs.Gives.{Gives, read_by, after_stars}
 use Rattle.mdr_parse.proofs.Hungry.{opens}
 use Rattle.mdr_parse.proofs.Fronts.{first_of}

@@ -1,5 +1,5 @@
 -- Reading items up to the end is reading a source token by token.
-use Rattle.std.proofs.Common.{◌≡◌, refl, sym, subst, ap, ◌∙◌, ◌+◌, ◌-◌, arith, ℕ, suc, Bool, true, false, List, [], ◌∷◌, length, take, drop, inl, inr, Option, Some, None, Result, Ok, Err, slice_get}
+use Rattle.std.proofs.Common.{◌≡◌, refl, sym, subst, ap, ◌∙◌, ◌+◌, ◌-◌, arith, ℕ, suc, Bool, true, false, List, [], ◌∷◌, length, drop, inl, inr, Ok, Err, slice_get}
 use Rattle.std.proofs.lemmas.List.{take-append-drop}
 use Rattle.std.proofs.Math.Nat.{eq-or-lt_of_le}
 use Rattle.mdr_syntax.specs.declared.token.Token.{Token}
@@ -8,7 +8,6 @@ use Rattle.mdr_syntax.specs.declared.tree.Tree.{Tree}
 use Rattle.mdr_parse.specs.declared.error.ParseError.{ParseError}
 use Rattle.mdr_parse.specs.declared.error.ParseError.TheVariants.{NotInProfile, Expected, OutOfMemory}
 use Rattle.mdr_parse.specs.Sorts.{Sort, is, sort_of}
-use Rattle.mdr_parse.specs.Forms.{Right}
 use Rattle.mdr_parse.specs.Forms.Repeated.{items}
 use Rattle.mdr_parse.specs.Forms.Nonterminal.{many}
 use Rattle.mdr_parse.specs.Forms.Right.{gives, takes}

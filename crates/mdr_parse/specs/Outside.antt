@@ -1,19 +1,18 @@
 -- What stands behind the first tokens of items.
-use Rattle.std.specs.Prelude.{ℕ, Bool, true, false, List, [], ◌∷◌, Option, Some, None}
+use Rattle.std.specs.Prelude.{ℕ, Bool, true, List, [], Option, Some, None}
 use Rattle.mdr_core.specs.declared.place.Place.{Place}
 use Rattle.mdr_syntax.specs.declared.token.Token.{Token}
 use Rattle.mdr_syntax.specs.declared.tree.AnnText.{AnnText}
 use Rattle.mdr_syntax.specs.declared.tree.Const.{Const}
 use Rattle.mdr_syntax.specs.declared.tree.Decl.{Decl}
 use Rattle.mdr_syntax.specs.declared.tree.Decl.TheViews.{roll-Decl}
-use Rattle.mdr_syntax.specs.declared.tree.Enumerator.{Enumerator}
 use Rattle.mdr_syntax.specs.declared.tree.Head.{Head}
 use Rattle.mdr_syntax.specs.declared.tree.Item.{Item}
 use Rattle.mdr_syntax.specs.declared.tree.ItemWhat.TheVariants as item_is
 use Rattle.mdr_syntax.specs.declared.tree.Node.{Node}
 use Rattle.mdr_parse.specs.Sorts.{Sort}
 use Rattle.mdr_parse.specs.Forms.{Part, Specifier, Right, ◌>>=◌, take, form, one, Rule}
-use Rattle.mdr_parse.specs.Forms.Nonterminal.{option, many, function, fields, qualified, outer, remote, critical}
+use Rattle.mdr_parse.specs.Forms.Nonterminal.{option, many, function, fields, outer, remote, critical}
 use Rattle.mdr_parse.specs.Forms.Repeated.{field_groups, items}
 use Rattle.mdr_parse.specs.Forms.Right.{gives}
 use Rattle.mdr_parse.specs.Expressions.{text_of, struct_of}

@@ -1,10 +1,10 @@
 // The error at the first token that can't stand where it does.
 
-ghost use Rattle.std.specs.Prelude.{◌≡◌, ◌-◌, length, map, slice_get, IfOk};
+ghost use Rattle.std.specs.Prelude.{◌≡◌, ◌-◌, length, slice_get, IfOk};
 ghost use Rattle.std.specs.List.{list_any};
 ghost use Rattle.std.specs.Str.{bytes_eq};
 ghost use Rattle.std.specs.Option.{option_copied};
-ghost use Rattle.mdr_parse.specs.Parsing.{left_out as listed_words, is_left_out as is_listed, error_at as fault_at, last_place as place_of_last, error_in as fault_in, end_place as place_of_end};
+ghost use Rattle.mdr_parse.specs.Parsing.{left_out as listed_words, is_left_out as is_listed, error_at as fault_at, error_in as fault_in, end_place as place_of_end};
 
 use crate::error::ParseError;
 use crate::look::{copied, text_of};

@@ -1,6 +1,6 @@
 // Functions (C99 6.9.1).
 
-ghost use Rattle.std.specs.Prelude.{◌≡◌, ◌<◌, ◌≤◌, length, IfOk, IfErr, Err, true, false, [], ◌∷◌};
+ghost use Rattle.std.specs.Prelude.{◌≡◌, ◌<◌, ◌≤◌, length, IfOk, IfErr, Err, true, false};
 ghost use Rattle.mdr_syntax.specs.declared.tree.ItemWhat.TheVariants as item_is;
 ghost use Rattle.mdr_parse.specs.Forms.Nonterminal.{function_end as an_end};
 ghost use Rattle.mdr_parse.specs.Front.{and_read, first, front};

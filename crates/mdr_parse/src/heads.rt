@@ -1,6 +1,6 @@
 // Heads of functions, and prototypes (C99 6.9.1, 6.7.5.3).
 
-ghost use Rattle.std.specs.Prelude.{◌≡◌, ◌<◌, ◌≤◌, length, IfOk, IfErr, true, false, [], ◌∷◌};
+ghost use Rattle.std.specs.Prelude.{◌≡◌, ◌<◌, ◌≤◌, length, IfOk, IfErr, true, false};
 ghost use Rattle.mdr_syntax.specs.declared.tree.ItemWhat.TheVariants as item_is;
 ghost use Rattle.mdr_parse.specs.Forms.Nonterminal.{remote as a_remote};
 ghost use Rattle.mdr_parse.specs.Front.{and_read, first, front};

@@ -1,6 +1,6 @@
 // What a type begins outside functions: globals, prototypes and functions (C99 6.9).
 
-ghost use Rattle.std.specs.Prelude.{◌≡◌, ◌<◌, ◌≤◌, length, IfOk};
+ghost use Rattle.std.specs.Prelude.{◌<◌, ◌≤◌, length, IfOk};
 ghost use Rattle.mdr_parse.specs.Forms.Nonterminal.{outer as an_outer, critical as a_critical};
 ghost use Rattle.mdr_parse.specs.Front.{first, front};
 ghost use Rattle.mdr_parse.specs.Statements.{outer_rule, critical_rule};

@@ -1,6 +1,6 @@
 // Structs, enumerations and `#define` lines as items (C99 6.7.2).
 
-ghost use Rattle.std.specs.Prelude.{◌≡◌, ◌<◌, ◌≤◌, ◌++◌, length, IfOk, IfErr, IfSome, true, [], ◌∷◌};
+ghost use Rattle.std.specs.Prelude.{◌≡◌, ◌<◌, ◌≤◌, length, IfOk, IfErr, IfSome, true, [], ◌∷◌};
 ghost use Rattle.mdr_syntax.specs.declared.tree.ItemWhat.TheVariants as item_is;
 ghost use Rattle.mdr_parse.specs.Expressions.{text_of as text_in, number_in as number_of, kind_in as kind_of};
 ghost use Rattle.mdr_parse.specs.Forms.Part.{field_group as a_field_group};
@@ -28,11 +28,8 @@ fn is_negative(what: &Lexeme) -> bool
 {
     match what {
         Lexeme::Define(_, negative, _, _) => *negative,
-        Lexeme::Word(_)
-        | Lexeme::Number(_, _)
-        | Lexeme::Text(_)
-        | Lexeme::Punct(_)
-        | Lexeme::End => false,
+        Lexeme::Word(_) | Lexeme::Number(_, _) | Lexeme::Text(_) | Lexeme::Punct(_) | Lexeme::End =>
+            false,
     }
 }
 

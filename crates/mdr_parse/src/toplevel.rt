@@ -1,6 +1,6 @@
 // Items, and all of a source (C99 6.9).
 
-ghost use Rattle.std.specs.Prelude.{◌≡◌, ◌<◌, ◌≤◌, ◌++◌, length, IfOk, IfErr, IfSome, true};
+ghost use Rattle.std.specs.Prelude.{◌≡◌, ◌<◌, ◌≤◌, length, IfOk, IfErr, IfSome, true};
 ghost use Rattle.mdr_parse.specs.Forms.Part.{item as an_item};
 ghost use Rattle.mdr_parse.specs.Forms.Nonterminal.{part, option, qualified as a_qualified, outer as an_outer};
 ghost use Rattle.mdr_parse.specs.Front.{and_read, first, front};
@@ -172,10 +172,7 @@ fn item(reader: Reader, tokens: &[Token]) -> Result<(Items<Item>, &[Token]), Fai
 }
 
 /// An item, if there is one.
-fn item_option(
-    reader: Reader,
-    tokens: &[Token],
-) -> Result<(Option<Items<Item>>, &[Token]), Failure>
+fn item_option(reader: Reader, tokens: &[Token]) -> Result<(Option<Items<Item>>, &[Token]), Failure>
     ensures reads { Gives (λ x. x.0) (λ x. x.1.now) result (first reader.halves (option true an_item) tokens.now) }
     ensures shorter { IfOk result (λ x. length x.1.now ≤ length tokens.now) }
     ensures taken { IfOk result (λ x. IfSome x.0 (λ v. length x.1.now < length tokens.now)) }

@@ -21,4 +21,3 @@ returns-else-are_named-clause-reads c = subst (λ o. Gives (λ x. x.0) (λ x. x.
 
 pub returns-in_default-sort : goal.returns-in_default-sort
 returns-in_default-sort c = record { reads = subst (λ o. Gives (λ x. x.0) (λ x. x.1.now) c.refused-in_default-sort.result o) (sym (none c.args.reader.halves (function_end c.args.place c.args.head) c.in-Some.ensures.found (no_end _ _ _ _ c.in_default-sort.not-Semicolon c.in_default-sort.not-OpenBrace))) c.refused-in_default-sort.ensures.reads; shorter = c.refused-in_default-sort.ensures.shorter }
-

@@ -1,7 +1,6 @@
-use Rattle.std.proofs.Common.{sym, ap, ◌∙◌, arith, ◌++◌, [], ◌∷◌, Ok, true}
+use Rattle.std.proofs.Common.{sym, ap, ◌∙◌, arith, ◌++◌, [], ◌∷◌, Ok}
 use Rattle.std.proofs.lemmas.Result.{err_from_is_err_and}
 use Rattle.mdr_parse.specs.Forms.Repeated.{items}
-use Rattle.mdr_parse.specs.Forms.Nonterminal.{many}
 use Rattle.mdr_parse.specs.Statements.{joined}
 use Rattle.mdr_parse.specs.Front.{and_read}
 use Rattle.mdr_parse.proofs.Turns.{many_more, many_end, many_fails, fails_by, fails_and}
