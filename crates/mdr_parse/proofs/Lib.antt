@@ -32,3 +32,4 @@ mod Alike
 mod Starred
 mod Voids
 mod Stated
+mod Deeper

@@ -8,3 +8,5 @@ pub mod Running
 pub mod Front
 pub mod Gives
 pub mod Tails
+pub mod Behind
+pub mod Others

@@ -2,6 +2,9 @@
 #![tactic(auto)]
 
 mod arguments;
+mod blocks;
+mod branches;
+mod conditions;
 mod constants;
 mod declarators;
 mod error;
@@ -9,9 +12,13 @@ mod fields;
 mod forms;
 mod globals;
 mod initialisers;
+mod iteration;
+mod labels;
 mod laws;
+mod leaving;
 mod locals;
 mod look;
+mod nodes;
 mod openings;
 mod operands;
 mod operators;
@@ -19,6 +26,8 @@ mod parts;
 mod postfix;
 mod simple;
 mod sort;
+mod statements;
+mod switches;
 mod tails;
 mod types;
 mod words;
