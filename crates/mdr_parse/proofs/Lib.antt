@@ -34,3 +34,4 @@ mod Voids
 mod Stated
 mod OuterForms
 mod Sources
+mod Deeper

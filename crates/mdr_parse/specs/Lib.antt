@@ -11,3 +11,5 @@ pub mod Tails
 pub mod Outside
 pub mod Ending
 pub mod Parsing
+pub mod Behind
+pub mod Others
