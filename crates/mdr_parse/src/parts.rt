@@ -1,6 +1,6 @@
 // What is read besides the tree itself.
 
-use mdr_core::{Items, Place};
+use mdr_core::{Boxed, Items, Place};
 use mdr_syntax::{Base, Form, Node};
 
 /// A statement, and whether no `else` behind it could belong to it.
@@ -8,6 +8,21 @@ use mdr_syntax::{Base, Form, Node};
 pub struct Ended {
     pub node: Node,
     pub closed: bool,
+}
+
+/// A statement that is a part of another, and whether no `else` behind it could belong to it.
+#[derive(Debug, Drop)]
+pub struct Branch {
+    pub node: Boxed<Node>,
+    pub closed: bool,
+}
+
+/// What stands in the parentheses of a `for`.
+#[derive(Debug, Drop)]
+pub struct LoopHead {
+    pub init: Items<Node>,
+    pub test: Option<Form>,
+    pub step: Option<Boxed<Node>>,
 }
 
 /// A base type, and the place of its first token.
