@@ -5,7 +5,7 @@ use Rattle.mdr_model.specs.declared.message.Run.{Run}
 use Rattle.mdr_model.specs.Memory.{first_memory}
 use Rattle.mdr_model.specs.Holds.{IsSoundMemory}
 use Rattle.mdr_model.specs.Runnable.{IsRunnable}
-use Rattle.mdr_model.specs.World.{World}
+use Rattle.mdr_model.specs.World.{World, top}
 use Rattle.mdr_model.specs.Copies.{put_runs}
 use Rattle.mdr_model.specs.KernelState.{Kernel}
 use Rattle.mdr_model.specs.Kernel.{applied}
@@ -25,5 +25,5 @@ memory_is_sound {program} {w} sound s = record {
 pub applied_is_sound : (program : Program) (k : Kernel) (ticks : ℕ) (runs : List Run) → IsRunnable program → IsSoundWorld program k.world → IsFit program k ticks runs → IsSoundWorld program (applied ticks runs k).world
 unfolding applied
 applied_is_sound program k ticks runs sound s fit =
-    let memory : IsSoundMemory program (put_runs runs k.world.memory) = runs_are_sound program k.world.view k.agreed k.world.memory None 0 runs (memory_is_sound sound s) fit.runs in
+    let memory : IsSoundMemory program (put_runs runs k.world.memory) = runs_are_sound program (top k.world.views) k.agreed k.world.memory None 0 runs (memory_is_sound sound s) fit.runs in
     record { born = births-put_runs runs k.world.memory ∙ s.born; filled = memory.filled; clock = omega (arith, s.clock, fit.ticks) }

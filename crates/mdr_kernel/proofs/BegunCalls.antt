@@ -7,6 +7,7 @@ use Rattle.mdr_core.specs.declared.value.Value.{Value}
 use Rattle.mdr_model.specs.declared.command.Command.{Command}
 use Rattle.mdr_model.specs.declared.command.Command.TheVariants as command
 use Rattle.mdr_model.specs.declared.wire.Wire.{Wire}
+use Rattle.mdr_model.specs.declared.memory.Cell.{Cell}
 use Rattle.mdr_model.specs.declared.message.Run.{Run}
 use Rattle.mdr_model.specs.declared.message.Fault.{Fault}
 use Rattle.mdr_model.specs.declared.message.Message.{Message}
@@ -19,8 +20,8 @@ use Rattle.mdr_model.specs.Memory.{Memory, normal, loaded, stored, everywhere}
 use Rattle.mdr_model.specs.Sets.{is_in}
 use Rattle.mdr_model.specs.Tree.{Asked, Tree}
 use Rattle.mdr_model.specs.Meaning.{func_at, is_kernel}
-use Rattle.mdr_model.specs.World.{World, Ran, Ended, Stopped, after, counted, when_loaded, when_stored, noted, written, written_if, is_writel, served, as_now, in_kernel, kernel_call}
-use Rattle.mdr_model.specs.Watched.{Finish, renewed, in_user, upcall, name_of, begun, returned, noting, Beginning, Did, Opens, called_by, begin, in_place, and_then, commands, first_world, watched}
+use Rattle.mdr_model.specs.World.{World, top, below, Ran, Ended, Stopped, after, counted, when_loaded, when_stored, noted, written, written_if, is_writel, served, as_now, in_kernel, kernel_call}
+use Rattle.mdr_model.specs.Watched.{Finish, with_view, upcall_begun, renewed, upcall_ended, ending, in_user, upcall, name_of, begun, returned, noting, Beginning, Did, Opens, called_by, begin, in_place, and_then, commands, first_world, watched}
 use Rattle.mdr_model.specs.KernelState.{Kernel, Rest, Noted, Pending, Over, Waits, Reading}
 use Rattle.mdr_model.specs.ReplyFaults.{reply_of, fault_of}
 use Rattle.mdr_model.specs.Kernel.{SplitRun, calls, comes_back, answers, then_split, split_by, split_commands, applied, downcalled, serviced, taken, judged, answered, next, first_kernel, run_from_pending, split_run}
@@ -61,9 +62,12 @@ returned_told : (v : Wire) (w : World) → IsTold w → IsTold (returned v w)
 unfolding returned
 returned_told v w s = noted_told _ w refl s
 
-renewed_told : (program : Program) (w : World) → IsTold w → IsTold (renewed program w)
-unfolding renewed
-renewed_told program w s = record { told = s.told }
+view_told : (program : Program) (others : List (List Cell)) (w : World) → IsTold w → IsTold (with_view program others w)
+unfolding with_view
+view_told program others w s = record { told = s.told }
+
+ended_told : (w : World) → IsTold w → IsTold (upcall_ended w)
+ended_told w s = record { told = s.told }
 
 -- ---- trees
 
@@ -127,13 +131,13 @@ module _ (program : Program) where
   in_user_told (Tree.Done v t) w s = s
   in_user_told (Tree.Stop kind at) w s = s
   in_user_told (Tree.Tick at t) w s = tick_told w.clock.rest at w (λ w'. in_user program t w') s (λ w' s'. in_user_told t w' s')
-  in_user_told (Tree.Load at p k) w s = load_told (loaded (is_in w.view) w.memory p) at w (λ v. in_user program (k v) w) s (λ v. in_user_told (k v) w s)
-  in_user_told (Tree.Store at p v t) w s = store_told (stored (is_in w.view) w.memory p v) at w (λ w'. in_user program t w') s (λ w' s'. in_user_told t w' s')
+  in_user_told (Tree.Load at p k) w s = load_told (loaded (is_in (top w.views)) w.memory p) at w (λ v. in_user program (k v) w) s (λ v. in_user_told (k v) w s)
+  in_user_told (Tree.Store at p v t) w s = store_told (stored (is_in (top w.views)) w.memory p v) at w (λ w'. in_user program t w') s (λ w' s'. in_user_told t w' s')
   in_user_told (Tree.Ask asked k) w s =
       after_told (served (as_now w.memory asked) w) (λ vs w'. in_user program (k vs) w') (served_told (as_now w.memory asked) w s) (λ vs w' s'. in_user_told (k vs) w' s')
   in_user_told (Tree.Cross at func args depth k) w s =
       after_told (kernel_call program func (map (normal w.memory) args) depth w) (λ v w'. in_user program (k v) (renewed program w'))
-      (kernel_told program func (map (normal w.memory) args) depth w s) (λ v w' s'. in_user_told (k v) (renewed program w') (renewed_told program w' s'))
+      (kernel_told program func (map (normal w.memory) args) depth w s) (λ v w' s'. in_user_told (k v) (renewed program w') (view_told program (below w'.views) w' s'))
 
   -- ---- on one memory
 
@@ -141,9 +145,13 @@ module _ (program : Program) where
   noting_told (Ended v w) s = returned_told v w s
   noting_told (Stopped kind at w) s = s
 
+  ending_told : (ran : Ran Wire) → Ends IsTold ran → Ends IsTold (ending ran)
+  ending_told (Ended v w) s = ended_told w s
+  ending_told (Stopped kind at w) s = s
+
   upcall_told : (f : ℕ) (args : List Wire) → Tells (upcall program f args)
   unfolding upcall
-  upcall_told f args w s = in_user_told _ (renewed program w) (renewed_told program w s)
+  upcall_told f args w s = ending_told _ (in_user_told _ (upcall_begun program w) (view_told program w.views w s))
 
   -- what a command comes to, done or to be done
   abbrev Begins : Beginning → Type 0
@@ -194,11 +202,11 @@ module _ (program : Program) where
 
   calls_count : (f : ℕ) (args : List Wire) (sent : ℕ) (cs : List Command) (k : Kernel) (w : World) → IsCounted sent k → IsTold w → Counts sent (calls program f args w k cs)
   unfolding calls
-  calls_count f args sent cs k w s t = record { world = renewed_told program w t; count = ap suc s.count }
+  calls_count f args sent cs k w s t = record { world = view_told program w.views w t; count = ap suc s.count }
 
   back_count : (v : Wire) (sent : ℕ) (k : Kernel) (w : World) (rest : Rest) (cs : List Command) → IsCounted sent k → IsTold w → Counts sent (comes_back program v w k rest cs)
   unfolding comes_back
-  back_count v sent k w rest cs s t = record { world = renewed_told program w t; count = ap suc s.count }
+  back_count v sent k w rest cs s t = record { world = view_told program (below w.views) w t; count = ap suc s.count }
 
   answer_count : (results : List Wire) (sent : ℕ) (k : Kernel) (w : World) (rest : Rest) (cs : List Command) → IsCounted sent k → IsTold w → Counts sent (answers program results w k rest cs)
   unfolding answers
@@ -237,7 +245,8 @@ module _ (program : Program) where
   taken_count (replies.Return ticks v runs) sent k (Noted f) cs s =
       let k' : Kernel = applied ticks runs k in
       let s' : IsCounted sent k' = applied_count sent ticks runs k s in
-      commands_count cs sent (record k' { world = returned v k'.world }) (in_world sent k' (returned v k'.world) s' (returned_told v k'.world s'.world))
+      let w : World = upcall_ended k'.world in
+      commands_count cs sent (record k' { world = returned v w }) (in_world sent k' (returned v w) s' (returned_told v w (ended_told k'.world s'.world)))
   taken_count (replies.Down ticks at depth func args runs) sent k rest cs s =
       let k' : Kernel = applied ticks runs k in
       let s' : IsCounted sent k' = applied_count sent ticks runs k s in

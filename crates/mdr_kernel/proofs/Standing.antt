@@ -17,7 +17,7 @@ use Rattle.mdr_model.specs.Meaning.{is_kernel}
 use Rattle.mdr_model.specs.Tree.{Asked}
 use Rattle.mdr_model.specs.World.{World, Ran, Ended, Stopped, served, kernel_call}
 use Rattle.mdr_model.specs.Values.{wire_of}
-use Rattle.mdr_model.specs.Watched.{renewed, begun, returned, noting, called_by, begin, first_world}
+use Rattle.mdr_model.specs.Watched.{with_view, upcall_ended, begun, returned, noting, called_by, begin, first_world}
 use Rattle.mdr_model.specs.KernelState.{Kernel, Rest, Noted, Pending, Over, Waits, Reading}
 use Rattle.mdr_model.specs.ReplyFaults.{reply_of, fault_of}
 use Rattle.mdr_model.specs.Kernel.{calls, comes_back, answers, then_split, split_by, split_commands, applied, downcalled, serviced, taken, judged, answered, next, first_kernel}
@@ -61,7 +61,7 @@ module _ (program : Program) (sound : IsRunnable program) (budget n : ℕ) where
     commands : w.kept.calls + left ≤ n
 
   calls_stand : (f : ℕ) (args : List Wire) (cs : List Command) (sent : ℕ) (k : Kernel) (w : World) → Sends sent (length cs) k w → Stands program budget n (suc sent) (calls program f args w k cs)
-  unfolding calls renewed
+  unfolding calls with_view
   calls_stand f args cs sent k w s = record {
     world = record { born = s.world.born; filled = s.world.filled; clock = s.world.clock };
     clock = s.clock;
@@ -71,7 +71,7 @@ module _ (program : Program) (sound : IsRunnable program) (budget n : ℕ) where
   }
 
   back_stands : (v : Wire) (sent : ℕ) (k : Kernel) (w : World) (rest : Rest) (cs : List Command) → Sends sent (length cs) k w → Stands program budget n (suc sent) (comes_back program v w k rest cs)
-  unfolding comes_back renewed
+  unfolding comes_back with_view
   back_stands v sent k w rest cs s = record {
     world = record { born = s.world.born; filled = s.world.filled; clock = s.world.clock };
     clock = s.clock;
@@ -92,6 +92,9 @@ module _ (program : Program) (sound : IsRunnable program) (budget n : ℕ) where
   returned_stands : (sent left : ℕ) (k : Kernel) (v : Wire) → Standing program budget n sent left k → Standing program budget n sent left (record k { world = returned v k.world })
   unfolding returned
   returned_stands sent left k v s = record { world = record { born = s.world.born; filled = s.world.filled; clock = s.world.clock }; clock = s.clock; paid = s.paid; count = s.count; commands = s.commands }
+
+  ended_stands : (sent left : ℕ) (k : Kernel) → Standing program budget n sent left k → Standing program budget n sent left (record k { world = upcall_ended k.world })
+  ended_stands sent left k s = record { world = record { born = s.world.born; filled = s.world.filled; clock = s.world.clock }; clock = s.clock; paid = s.paid; count = s.count; commands = s.commands }
 
   gone_stands : (sent left : ℕ) (k : Kernel) (w w' : World) → Sends sent left k w → Gone program w w' → Standing program budget n sent left (record k { world = w' })
   gone_stands sent left k w w' s g = record {
@@ -180,8 +183,8 @@ module _ (program : Program) (sound : IsRunnable program) (budget n : ℕ) where
   taken_stands : (reply : Reply) (sent : ℕ) (k : Kernel) (rest : Rest) (cs : List Command) → fault_of program k rest reply ≡ None → Standing program budget n sent (length cs) k → Stands program budget n (suc sent) (taken program reply k rest cs)
   unfolding taken
   taken_stands (replies.Return ticks v runs) sent k (Noted f) cs e s =
-      commands_stand cs sent (record (applied ticks runs k) { world = returned v (applied ticks runs k).world })
-      (returned_stands sent (length cs) (applied ticks runs k) v (applied_stands sent (length cs) k ticks runs (return_fits program k (Noted f) ticks v runs e) s))
+      commands_stand cs sent _ (returned_stands sent (length cs) _ v
+      (ended_stands sent (length cs) (applied ticks runs k) (applied_stands sent (length cs) k ticks runs (return_fits program k (Noted f) ticks v runs e) s)))
   taken_stands (replies.Down ticks at depth func args runs) sent k rest cs e s =
       let d : IsDown program k ticks func runs = down_fits program k rest ticks at depth func args runs e in
       let k' : Kernel = applied ticks runs k in

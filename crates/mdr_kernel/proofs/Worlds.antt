@@ -3,6 +3,7 @@ use Rattle.std.proofs.Common.{◌≡◌, ℕ, ◌+◌, ◌≤◌, true, List, ar
 use Rattle.mdr_core.specs.declared.value.Value.{Value}
 use Rattle.mdr_core.specs.declared.program.Program.{Program}
 use Rattle.mdr_model.specs.declared.wire.Wire.{Wire}
+use Rattle.mdr_model.specs.declared.memory.Cell.{Cell}
 use Rattle.mdr_model.specs.Tree.{Asked}
 use Rattle.mdr_model.specs.Meaning.{is_kernel}
 use Rattle.mdr_model.specs.World.{World, Ran, served, kernel_call}
@@ -33,6 +34,9 @@ begun_is_sound program f args w s = record { born = s.born; filled = s.filled; c
 pub returned_is_sound : (program : Program) (v : Wire) (w : World) → IsSoundWorld program w → IsSoundWorld program (returned v w)
 unfolding returned
 returned_is_sound program v w s = record { born = s.born; filled = s.filled; clock = s.clock }
+
+pub shown_is_sound : (program : Program) (views : List (List Cell)) (w : World) → IsSoundWorld program w → IsSoundWorld program (record w { views = views })
+shown_is_sound program views w s = record { born = s.born; filled = s.filled; clock = s.clock }
 
 gone_in : (program : Program) (w w' : World) → IsSoundWorld program w → Later program w w' → Goes w w' → Gone program w w'
 gone_in program w w' s l k = record {

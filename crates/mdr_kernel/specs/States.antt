@@ -19,7 +19,7 @@ use Rattle.mdr_kernel.specs.declared.state.Commanded.TheVariants as commanded
 -- ---- meanings
 
 abbrev pub world_of : CodeWorld → World
-world_of w = record { memory = w.memory.items; view = w.view; clock = record { ticks = w.ticks; rest = w.rest }; kept = record { events = w.events; calls = w.calls } }
+world_of w = record { memory = w.memory.items; views = w.views; clock = record { ticks = w.ticks; rest = w.rest }; kept = record { events = w.events; calls = w.calls } }
 
 abbrev pub kernel_of : CodeKernel → Kernel
 kernel_of k = record { world = world_of k.world; agreed = k.agreed; exchanges = k.exchanges }

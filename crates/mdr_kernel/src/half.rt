@@ -15,6 +15,7 @@ ghost use Rattle.mdr_kernel.specs.Calls.{sends, IsStopped};
 use crate::outcome::outcome_of;
 use crate::run::run_script;
 use crate::state::{Kernel, World};
+use crate::views::Views;
 use mdr_copy::{copied, first_memory};
 use mdr_core::{Items, OutOfMemory, Program};
 use mdr_model::{Command, MemoryBlock, Outcome};
@@ -63,7 +64,7 @@ fn first_kernel(
     let agreed = first_memory(alloc, program)?;
     let world = World {
         memory,
-        view: Items::new(alloc),
+        views: Views::new(alloc),
         ticks: 0,
         rest: ticks,
         events: Items::new(alloc),

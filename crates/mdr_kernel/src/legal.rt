@@ -81,7 +81,7 @@ fn reply_runs_fault(program: &Program, kernel: &Kernel, runs: &[Run]) -> Option<
 {
     runs_fault(
         program,
-        kernel.world.view.as_slice(),
+        kernel.world.views.top(),
         kernel.agreed.as_slice(),
         kernel.world.memory.as_slice(),
         runs,

@@ -14,6 +14,7 @@ mod service;
 mod state;
 mod stubs;
 mod taken;
+mod views;
 mod work;
 
 pub use half::KernelHalf;

@@ -1,8 +1,9 @@
 // The messages that the kernel half sends.
 
-ghost use Rattle.std.specs.Prelude.{◌≡◌, [], List, IfOk};
+ghost use Rattle.std.specs.Prelude.{◌≡◌, [], ◌∷◌, List, IfOk};
 ghost use Rattle.mdr_model.specs.declared.command.Command.{Command as AnyCommand};
 ghost use Rattle.mdr_model.specs.Sets.{visible};
+ghost use Rattle.mdr_model.specs.World.{below};
 ghost use Rattle.mdr_model.specs.Kernel.{calls, comes_back, answers};
 ghost use Rattle.mdr_kernel.specs.States.{world_of, kernel_of, pending_of, rest_of, left_of};
 
@@ -13,23 +14,27 @@ use mdr_core::{Items, OutOfMemory, Program};
 use mdr_model::{Message, Wire};
 use std::alloc::Global;
 
-/// The visible set is taken anew.
-fn renewed(alloc: Global, program: &Program, world: World) -> Result<World, OutOfMemory>
-    ensures { IfOk result (λ w. w ≡ record world { view = visible program.now world.memory.items }) }
+/// An upcall begins: its visible set is taken.
+fn upcall_begun(alloc: Global, program: &Program, world: World) -> Result<World, OutOfMemory>
+    ensures { IfOk result (λ w. w ≡ record world { views = visible program.now world.memory.items ∷ world.views }) }
 {
+    let mut world = world;
     let view = visible(alloc, program, world.memory.as_slice())?;
-    Ok(World {
-        memory: world.memory,
-        view,
-        ticks: world.ticks,
-        rest: world.rest,
-        events: world.events,
-        calls: world.calls,
-    })
+    world.views.push(view)?;
+    Ok(world)
+}
+
+/// A downcall came back: the visible set is taken anew.
+fn renewed(alloc: Global, program: &Program, world: World) -> Result<World, OutOfMemory>
+    ensures { IfOk result (λ w. w ≡ record world { views = visible program.now world.memory.items ∷ below world.views }) }
+{
+    let mut world = world;
+    world.views.pop();
+    upcall_begun(alloc, program, world)
 }
 
 /// An upcall with arguments begins: the visible set is taken, and the call is told.
-#[tactic(auto, unfolding(mdr_model::specs::Kernel::calls, mdr_model::specs::Watched::renewed))]
+#[tactic(auto, unfolding(mdr_model::specs::Kernel::calls, mdr_model::specs::Watched::with_view))]
 pub(crate) fn calls(
     alloc: Global,
     program: &Program,
@@ -39,8 +44,8 @@ pub(crate) fn calls(
 ) -> Result<Pending, OutOfMemory>
     ensures { IfOk result (λ p. (script : List AnyCommand) → pending_of script p ≡ calls program.now upcall.func args (world_of kernel.world) (kernel_of kernel) (left_of script upcall)) }
 {
-    let world = renewed(alloc, program, kernel.world)?;
-    let view = world.view.as_slice();
+    let world = upcall_begun(alloc, program, kernel.world)?;
+    let view = world.views.top();
     let memory = world.memory.as_slice();
     let (telling, agreed) = tells(alloc, program, view, args.as_slice(), kernel.agreed, memory)?;
     let message = Message::Call {
@@ -63,7 +68,7 @@ pub(crate) fn calls(
 }
 
 /// A downcall came back: the visible set is taken anew, and the result is told.
-#[tactic(auto, unfolding(mdr_model::specs::Kernel::comes_back, mdr_model::specs::Watched::renewed))]
+#[tactic(auto, unfolding(mdr_model::specs::Kernel::comes_back, mdr_model::specs::Watched::with_view))]
 pub(crate) fn comes_back(
     alloc: Global,
     program: &Program,
@@ -74,7 +79,7 @@ pub(crate) fn comes_back(
     ensures { IfOk result (λ p. (script : List AnyCommand) → pending_of script p ≡ comes_back program.now value (world_of kernel.world) (kernel_of kernel) (rest_of upcall) (left_of script upcall)) }
 {
     let world = renewed(alloc, program, kernel.world)?;
-    let view = world.view.as_slice();
+    let view = world.views.top();
     let memory = world.memory.as_slice();
     let (telling, agreed) = tells(alloc, program, view, &[value], kernel.agreed, memory)?;
     let message = Message::Back {

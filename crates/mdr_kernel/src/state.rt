@@ -1,14 +1,15 @@
 // Where a split run stands.
 
+use crate::views::Views;
 use mdr_core::{At, Items, StopKind};
-use mdr_model::{Cell, End, Happened, MemoryBlock, Message};
+use mdr_model::{End, Happened, MemoryBlock, Message};
 
-/// What happened in the kernel half so far: its memory, the cells that the open upcall may touch, the ticks that
+/// What happened in the kernel half so far: its memory, the cells that the open upcalls may touch, the ticks that
 /// were counted and those that the budget leaves, the events, and how many commands have begun.
 #[derive(Debug, Drop)]
 pub(crate) struct World {
     pub(crate) memory: Vec<MemoryBlock>,
-    pub(crate) view: Items<Cell>,
+    pub(crate) views: Views,
     pub(crate) ticks: u64,
     pub(crate) rest: u64,
     pub(crate) events: Items<Happened>,

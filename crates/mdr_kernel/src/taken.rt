@@ -63,6 +63,7 @@ fn continued(
     ensures { IfOk result (λ p. pending_of script.now p ≡ continued program.now value (kernel_of kernel) (rest_of upcall) (left_of script.now upcall)) }
 {
     let mut kernel = kernel;
+    kernel.world.views.pop();
     end(value, &mut kernel.world)?;
     split_commands(alloc, program, script, upcall.done, kernel)
 }

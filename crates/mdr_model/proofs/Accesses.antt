@@ -11,7 +11,7 @@ use Rattle.mdr_model.specs.declared.message.New.{New}
 use Rattle.mdr_model.specs.Values.{fits}
 use Rattle.mdr_model.specs.Memory.{Memory, Cell, births, born_at, is_live, cell_at, put, cell_of, normal, reached, reached_by, loaded, loaded_from, loaded_cell, loaded_value, stored, stored_into}
 use Rattle.mdr_model.specs.Sets.{is_in, visible_of, visible}
-use Rattle.mdr_model.specs.World.{advanced, World}
+use Rattle.mdr_model.specs.World.{advanced, World, top}
 use Rattle.mdr_model.specs.KernelState.{Kernel}
 use Rattle.mdr_model.specs.ReplyFaults.{user_stop}
 use Rattle.mdr_model.specs.Agreement.{IsKnown}
@@ -29,10 +29,10 @@ unfolding is_live
 same_live {K = K} p r known = ap (λ (o : Option New). is_some o) (alike p.serial r.memories (view_known K p known))
 
 -- an access reaches the same on both sides
-same_reach : {program : Program} {K : Knowledge} {k : Kernel} {w : World} {um : Memory} (p : Wire) → Rel program K k w um → IsKnownPointer K p → reached (is_in w.view) um p ≡ reached (is_in w.view) w.memory p
+same_reach : {program : Program} {K : Knowledge} {k : Kernel} {w : World} {um : Memory} (p : Wire) → Rel program K k w um → IsKnownPointer K p → reached (is_in (top w.views)) um p ≡ reached (is_in (top w.views)) w.memory p
 unfolding reached
 same_reach {w = w} {um = um} (wire.Ptr p) r known =
-    ap (λ (b : Bool). reached_by b (nat_lt p.index p.count) (is_in w.view (cell_of p)) (cell_of p)) (same_live p r known)
+    ap (λ (b : Bool). reached_by b (nat_lt p.index p.count) (is_in (top w.views) (cell_of p)) (cell_of p)) (same_live p r known)
 same_reach (wire.Int kind n) r known = refl
 same_reach wire.Null r known = refl
 same_reach wire.Dead r known = refl
@@ -116,27 +116,27 @@ ticks {k = k} {w = w} q r e =
       knows = r.knows;
       holds = r.holds;
       view = r.view;
-      same_view = r.same_view;
+      same_views = r.same_views;
       same_kept = r.same_kept;
       clock = same_clock counted left;
     }
 
 -- a load gives the same on both sides
-pub get : {program : Program} {K : Knowledge} {k : Kernel} {w : World} {um : Memory} (p : Wire) → Rel program K k w um → IsKnownPointer K p → loaded (is_in w.view) um p ≡ loaded (is_in w.view) w.memory p
+pub get : {program : Program} {K : Knowledge} {k : Kernel} {w : World} {um : Memory} (p : Wire) → Rel program K k w um → IsKnownPointer K p → loaded (is_in (top w.views)) um p ≡ loaded (is_in (top w.views)) w.memory p
 unfolding loaded
 get {w = w} {um = um} p r known =
-    ap (λ (x : Result Cell StopKind). loaded_from um x) (same_reach p r known) ∙ of (reached (is_in w.view) w.memory p) refl
+    ap (λ (x : Result Cell StopKind). loaded_from um x) (same_reach p r known) ∙ of (reached (is_in (top w.views)) w.memory p) refl
   where
-    of : (x : Result Cell StopKind) → reached (is_in w.view) w.memory p ≡ x → loaded_from um x ≡ loaded_from w.memory x
+    of : (x : Result Cell StopKind) → reached (is_in (top w.views)) w.memory p ≡ x → loaded_from um x ≡ loaded_from w.memory x
     of (Err kind) e = refl
-    of (Ok c) e = ap loaded_cell (in_view c r.memories (reached_allowed (is_in w.view) w.memory p c e))
+    of (Ok c) e = ap loaded_cell (in_view c r.memories (reached_allowed (is_in (top w.views)) w.memory p c e))
 
 -- where a known pointer reaches a cell, its block is as it was born
-reached_born : {program : Program} {K : Knowledge} {k : Kernel} {w : World} {um : Memory} (p : WireView) (c : Cell) → Rel program K k w um → (known : IsKnownView K p) → reached (is_in w.view) w.memory (wire.Ptr p) ≡ Ok c → born_at w.memory p.serial ≡ Some known.block
+reached_born : {program : Program} {K : Knowledge} {k : Kernel} {w : World} {um : Memory} (p : WireView) (c : Cell) → Rel program K k w um → (known : IsKnownView K p) → reached (is_in (top w.views)) w.memory (wire.Ptr p) ≡ Ok c → born_at w.memory p.serial ≡ Some known.block
 unfolding reached
 reached_born {w = w} p c r known e = of (is_live w.memory p.serial) refl e
   where
-    of : (a : Bool) → is_live w.memory p.serial ≡ a → reached_by a (nat_lt p.index p.count) (is_in w.view (cell_of p)) (cell_of p) ≡ Ok c → born_at w.memory p.serial ≡ Some known.block
+    of : (a : Bool) → is_live w.memory p.serial ≡ a → reached_by a (nat_lt p.index p.count) (is_in (top w.views) (cell_of p)) (cell_of p) ≡ Ok c → born_at w.memory p.serial ≡ Some known.block
     of false a h = absurd (Prim.cc)
     of true a h = ap (born_at w.memory) (sym known.serial) ∙ r.knows.as_born known.block known.among (ap (is_live w.memory) known.serial ∙ a)
 
@@ -149,11 +149,11 @@ loaded_reached allowed m p v e = of (reached allowed m p) refl e
     of (Ok c) q h = (c, q)
 
 -- and it is a value of the pointer's type
-pub gets : {program : Program} {K : Knowledge} {k : Kernel} {w : World} {um : Memory} (p v : Wire) → Rel program K k w um → IsKnownPointer K p → loaded (is_in w.view) w.memory p ≡ Ok v → IsValueAt program p v
+pub gets : {program : Program} {K : Knowledge} {k : Kernel} {w : World} {um : Memory} (p v : Wire) → Rel program K k w um → IsKnownPointer K p → loaded (is_in (top w.views)) w.memory p ≡ Ok v → IsValueAt program p v
 gets {program} {w = w} (wire.Ptr p) v r known e =
-    let there = loaded_reached (is_in w.view) w.memory (wire.Ptr p) v e in
+    let there = loaded_reached (is_in (top w.views)) w.memory (wire.Ptr p) v e in
     subst (λ (n : ℕ). fits program n v ≡ true) (sym (view_within known.block p known.view).type_is)
-    (cell_fits program w.memory (cell_of p) v known.block r.holds (loaded_is (is_in w.view) w.memory p v e) (reached_born p there.0 r known there.1))
+    (cell_fits program w.memory (cell_of p) v known.block r.holds (loaded_is (is_in (top w.views)) w.memory p v e) (reached_born p there.0 r known there.1))
 gets (wire.Int kind n) v r known e = elim known [ ]
 gets wire.Null v r known e = elim known [ ]
 gets wire.Dead v r known e = elim known [ ]
@@ -194,7 +194,7 @@ fitting_at program K (wire.Lock s) v fit = elim fit [ ]
 fitting_at program K wire.NoValue v fit = elim fit [ ]
 
 -- a store of one known value into one visible cell on both sides keeps the relation
-stores_in : {program : Program} {K : Knowledge} {k : Kernel} {w : World} {um : Memory} (c : Cell) (v : Wire) → Rel program K k w um → is_in w.view c ≡ true → IsKnown (serials_of K) v → Holds program (put w.memory c (normal w.memory v))
+stores_in : {program : Program} {K : Knowledge} {k : Kernel} {w : World} {um : Memory} (c : Cell) (v : Wire) → Rel program K k w um → is_in (top w.views) c ≡ true → IsKnown (serials_of K) v → Holds program (put w.memory c (normal w.memory v))
     → Rel program K k (record w { memory = put w.memory c (normal w.memory v) }) (put um c (normal um v))
 unfolding visible
 stores_in {program} {w = w} {um = um} c v r seen known holds =
@@ -205,18 +205,18 @@ stores_in {program} {w = w} {um = um} c v r seen known holds =
       knows = record { globals = r.knows.globals; as_born = λ b h live. born_at-births _ w.memory b.serial same ∙ r.knows.as_born b h (sym (is_live-births _ w.memory b.serial same) ∙ live) };
       holds = holds;
       view = r.view ∙ ap (λ (bs : List New). visible_of program bs) (sym same);
-      same_view = r.same_view;
+      same_views = r.same_views;
       same_kept = r.same_kept;
       clock = r.clock;
     }
 
 -- a store through a known pointer keeps the memory
-stored_keeps : {program : Program} {K : Knowledge} {k : Kernel} {w : World} {um : Memory} (p v : Wire) (c : Cell) → Rel program K k w um → IsKnownPointer K p → IsValueAt program p v → reached (is_in w.view) w.memory p ≡ Ok c
+stored_keeps : {program : Program} {K : Knowledge} {k : Kernel} {w : World} {um : Memory} (p v : Wire) (c : Cell) → Rel program K k w um → IsKnownPointer K p → IsValueAt program p v → reached (is_in (top w.views)) w.memory p ≡ Ok c
     → Holds program (put w.memory c (normal w.memory v))
 stored_keeps {program} {w = w} (wire.Ptr p) v c r known fit e =
     subst (λ (x : Wire). Holds program (put w.memory c x)) (sym (fitting_is_normal program p.ty w.memory v fit))
     (holds_put program w.memory c v known.block r.holds
-    (ap (λ (d : Cell). born_at w.memory d.serial) (sym (reached_is (is_in w.view) w.memory p c e)) ∙ reached_born p c r known e)
+    (ap (λ (d : Cell). born_at w.memory d.serial) (sym (reached_is (is_in (top w.views)) w.memory p c e)) ∙ reached_born p c r known e)
     (subst (λ (n : ℕ). fits program n v ≡ true) (view_within known.block p known.view).type_is fit))
 stored_keeps (wire.Int kind n) v c r known fit e = elim known [ ]
 stored_keeps wire.Null v c r known fit e = elim known [ ]
@@ -227,18 +227,18 @@ stored_keeps wire.NoValue v c r known fit e = elim known [ ]
 
 -- a store stops on both sides alike, or keeps the relation
 pub data Stores (program : Program) (K : Knowledge) (k : Kernel) (w : World) (um : Memory) (p v : Wire) : Type 0 where
-  stops : (kind : StopKind) → stored (is_in w.view) um p v ≡ Err kind → stored (is_in w.view) w.memory p v ≡ Err kind → IsUserStop kind → Stores program K k w um p v
-  goes : (m m' : Memory) → stored (is_in w.view) um p v ≡ Ok m → stored (is_in w.view) w.memory p v ≡ Ok m' → Rel program K k (record w { memory = m' }) m → Stores program K k w um p v
+  stops : (kind : StopKind) → stored (is_in (top w.views)) um p v ≡ Err kind → stored (is_in (top w.views)) w.memory p v ≡ Err kind → IsUserStop kind → Stores program K k w um p v
+  goes : (m m' : Memory) → stored (is_in (top w.views)) um p v ≡ Ok m → stored (is_in (top w.views)) w.memory p v ≡ Ok m' → Rel program K k (record w { memory = m' }) m → Stores program K k w um p v
 
 pub store : {program : Program} {K : Knowledge} {k : Kernel} {w : World} {um : Memory} (p v : Wire) → Rel program K k w um → IsKnownPointer K p → IsValueAt program p v → Stores program K k w um p v
 unfolding stored
-store {program} {K} {k} {w} {um} p v r known fits = of (reached (is_in w.view) w.memory p) refl
+store {program} {K} {k} {w} {um} p v r known fits = of (reached (is_in (top w.views)) w.memory p) refl
   where
-    into : (m : Memory) (x : Result Cell StopKind) → reached (is_in w.view) m p ≡ x → stored (is_in w.view) m p v ≡ stored_into m v x
+    into : (m : Memory) (x : Result Cell StopKind) → reached (is_in (top w.views)) m p ≡ x → stored (is_in (top w.views)) m p v ≡ stored_into m v x
     into m x e = ap (λ (y : Result Cell StopKind). stored_into m v y) e
 
-    of : (x : Result Cell StopKind) → reached (is_in w.view) w.memory p ≡ x → Stores program K k w um p v
-    of (Err kind) e = stops kind (into um _ (same_reach p r known ∙ e)) (into w.memory _ e) (reach_stop (is_in w.view) w.memory p kind e)
+    of : (x : Result Cell StopKind) → reached (is_in (top w.views)) w.memory p ≡ x → Stores program K k w um p v
+    of (Err kind) e = stops kind (into um _ (same_reach p r known ∙ e)) (into w.memory _ e) (reach_stop (is_in (top w.views)) w.memory p kind e)
     of (Ok c) e =
         goes (put um c (normal um v)) (put w.memory c (normal w.memory v)) (into um _ (same_reach p r known ∙ e)) (into w.memory _ e)
-        (stores_in c v r (reached_allowed (is_in w.view) w.memory p c e) (fitting_at program K p v fits) (stored_keeps p v c r known fits e))
+        (stores_in c v r (reached_allowed (is_in (top w.views)) w.memory p c e) (fitting_at program K p v fits) (stored_keeps p v c r known fits e))

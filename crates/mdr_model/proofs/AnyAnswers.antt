@@ -18,8 +18,8 @@ use Rattle.mdr_model.specs.Memory.{Memory, Cell, births, put, normal, loaded, st
 use Rattle.mdr_model.specs.Sets.{visible_of, visible}
 use Rattle.mdr_model.specs.Tree.{Asked, Tree}
 use Rattle.mdr_model.specs.Meaning.{is_kernel}
-use Rattle.mdr_model.specs.World.{World, Ran, Ended, Stopped, after, counted, when_loaded, when_stored, written, written_if, is_writel, served, as_now, in_kernel, kernel_call}
-use Rattle.mdr_model.specs.Watched.{renewed, begun, returned, noting, called_by, begin, first_world}
+use Rattle.mdr_model.specs.World.{World, top, Ran, Ended, Stopped, after, counted, when_loaded, when_stored, written, written_if, is_writel, served, as_now, in_kernel, kernel_call}
+use Rattle.mdr_model.specs.Watched.{with_view, upcall_ended, begun, returned, noting, called_by, begin, first_world}
 use Rattle.mdr_model.specs.KernelState.{Kernel, Rest, Noted, Pending, Over, Waits, Reading}
 use Rattle.mdr_model.specs.ReplyFaults.{reply_of, fault_of}
 use Rattle.mdr_model.specs.Kernel.{calls, comes_back, answers, then_split, split_by, split_commands, applied, downcalled, serviced, taken, judged, answered, next, first_kernel, run_from_pending, split_run}
@@ -36,12 +36,12 @@ abbrev pub Ends : {A : Type 0} → (World → Type 0) → Ran A → Type 0
 Ends P (Ended x w) = P w
 Ends P (Stopped kind at w) = P w
 
--- the clock runs, and the ticks that are counted are gone from the rest; no command begins, the set and the blocks stay
+-- the clock runs, and the ticks that are counted are gone from the rest; no command begins, the visible sets and the blocks stay
 pub record Goes (first w : World) : Type 0 where
   pub later : first.clock.ticks ≤ w.clock.ticks
   pub total : w.clock.ticks + w.clock.rest ≡ first.clock.ticks + first.clock.rest
   pub calls : w.kept.calls ≡ first.kept.calls
-  pub view : w.view ≡ first.view
+  pub views : w.views ≡ first.views
   pub born : births w.memory ≡ births first.memory
 
 -- a store changes no block
@@ -56,7 +56,7 @@ store_born allowed m m' p v e = of (reached allowed m p) e
 module _ (first : World) where
   tick_goes : (n : ℕ) (at : At) (w : World) (go : World → Ran Wire) → w.clock.rest ≡ n → Goes first w → ((w' : World) → Goes first w' → Ends (Goes first) (go w')) → Ends (Goes first) (counted n at w go)
   tick_goes zero at w go e s goes = s
-  tick_goes (suc q) at w go e s goes = goes _ (record { later = omega (arith, s.later); total = omega (arith, s.total, e); calls = s.calls; view = s.view; born = s.born })
+  tick_goes (suc q) at w go e s goes = goes _ (record { later = omega (arith, s.later); total = omega (arith, s.total, e); calls = s.calls; views = s.views; born = s.born })
 
   load_goes : (r : Result Wire StopKind) (at : At) (w : World) (go : Wire → Ran Wire) → Goes first w → ((v : Wire) → Ends (Goes first) (go v)) → Ends (Goes first) (when_loaded r at w go)
   load_goes (Ok v) at w go s goes = goes v
@@ -64,7 +64,7 @@ module _ (first : World) where
 
   store_goes : (r : Result Memory StopKind) (at : At) (w : World) (go : World → Ran Wire) → Goes first w → ((m : Memory) → r ≡ Ok m → births m ≡ births w.memory) → ((w' : World) → Goes first w' → Ends (Goes first) (go w'))
       → Ends (Goes first) (when_stored r at w go)
-  store_goes (Ok m) at w go s born goes = goes _ (record { later = s.later; total = s.total; calls = s.calls; view = s.view; born = born m refl ∙ s.born })
+  store_goes (Ok m) at w go s born goes = goes _ (record { later = s.later; total = s.total; calls = s.calls; views = s.views; born = born m refl ∙ s.born })
   store_goes (Err kind) at w go s born goes = s
 
   served_goes : (asked : Asked) (w : World) → Goes first w → Ends (Goes first) (served asked w)
@@ -72,7 +72,7 @@ module _ (first : World) where
   served_goes asked w s = of (is_writel asked.service)
     where
       wrote : (b : Bool) (register number : ℕ) → Ends (Goes first) (written_if b asked.at register number w)
-      wrote true register number = record { later = s.later; total = s.total; calls = s.calls; view = s.view; born = s.born }
+      wrote true register number = record { later = s.later; total = s.total; calls = s.calls; views = s.views; born = s.born }
       wrote false register number = s
 
       with : (args : List Wire) → Ends (Goes first) (written asked.at args w)
@@ -103,7 +103,7 @@ module _ (first : World) where
   tree_goes (Tree.Cross at func args depth k) w s = s
 
 itself : (w : World) → Goes w w
-itself w = record { later = omega arith; total = refl; calls = refl; view = refl; born = refl }
+itself w = record { later = omega arith; total = refl; calls = refl; views = refl; born = refl }
 
 pub kernel_goes : (program : Program) (func : ℕ) (args : List Wire) (depth : ℕ) (w : World) → Ends (Goes w) (kernel_call program func args depth w)
 unfolding kernel_call
@@ -122,7 +122,7 @@ pub record IsPaid (program : Program) (k : Kernel) : Type 0 where
 -- where a run waits user code may touch the visible cells
 abbrev pub Stays : Program → Pending → Type 0
 Stays program (Over end k) = IsPaid program k
-Stays program (Waits m k rest script) = IsPaid program k × (k.world.view ≡ visible program k.world.memory)
+Stays program (Waits m k rest script) = IsPaid program k × (top k.world.views ≡ visible program k.world.memory)
 
 module _ (program : Program) where
   -- a world from which a message is sent: the message is paid for
@@ -137,14 +137,14 @@ module _ (program : Program) where
   paid_in k w s = record { born = s.born; paid = omega (arith, s.paid) }
 
   calls_stay : (f : ℕ) (args : List Wire) (script : List Command) (k : Kernel) (w : World) → CanSend k w → Stays program (calls program f args w k script)
-  unfolding calls renewed
+  unfolding calls with_view
   calls_stay f args script k w s = (record { born = s.born; paid = omega (arith, s.paid) }, refl)
 
   back_stays : (v : Wire) (k : Kernel) (w : World) (rest : Rest) (script : List Command) → CanSend k w → Stays program (comes_back program v w k rest script)
-  unfolding comes_back renewed
+  unfolding comes_back with_view
   back_stays v k w rest script s = (record { born = s.born; paid = omega (arith, s.paid) }, refl)
 
-  answer_stays : (results : List Wire) (k : Kernel) (w : World) (rest : Rest) (script : List Command) → CanSend k w → w.view ≡ visible program w.memory → Stays program (answers program results w k rest script)
+  answer_stays : (results : List Wire) (k : Kernel) (w : World) (rest : Rest) (script : List Command) → CanSend k w → top w.views ≡ visible program w.memory → Stays program (answers program results w k rest script)
   unfolding answers
   answer_stays results k w rest script s seen = (record { born = s.born; paid = omega (arith, s.paid) }, seen)
 
@@ -157,6 +157,9 @@ module _ (program : Program) where
   returns_paid : (k : Kernel) (v : Wire) → IsPaid program k → IsPaid program (record k { world = returned v k.world })
   unfolding returned
   returns_paid k v s = record { born = s.born; paid = s.paid }
+
+  ended_paid : (k : Kernel) → IsPaid program k → IsPaid program (record k { world = upcall_ended k.world })
+  ended_paid k s = record { born = s.born; paid = s.paid }
 
   own_stays : (go : Kernel → Pending) → ((k : Kernel) → IsPaid program k → Stays program (go k)) → (k : Kernel) (w : World) (ran : Ran Wire) → CanSend k w → Ends (Goes w) ran → Stays program (then_split (noting ran) k go)
   own_stays go later k w (Ended v w') s g = later _ (returns_paid (record k { world = w' }) v (paid_in k w' (send_later k w w' s g)))
@@ -188,25 +191,25 @@ module _ (program : Program) where
   applied_sends k ticks runs asked s = record { born = births-put_runs runs k.world.memory ∙ s.born; paid = asked.bound }
 
   -- the visible cells depend on the blocks alone
-  still_seen : (k : Kernel) (ticks : ℕ) (runs : List Run) → k.world.view ≡ visible program k.world.memory → (applied ticks runs k).world.view ≡ visible program (applied ticks runs k).world.memory
+  still_seen : (k : Kernel) (ticks : ℕ) (runs : List Run) → top k.world.views ≡ visible program k.world.memory → top (applied ticks runs k).world.views ≡ visible program (applied ticks runs k).world.memory
   unfolding applied visible
   still_seen k ticks runs seen = seen ∙ ap (λ (bs : List New). visible_of program bs) (sym (births-put_runs runs k.world.memory))
 
-  goes_seen : (w w' : World) → Goes w w' → w.view ≡ visible program w.memory → w'.view ≡ visible program w'.memory
+  goes_seen : (w w' : World) → Goes w w' → top w.views ≡ visible program w.memory → top w'.views ≡ visible program w'.memory
   unfolding visible
-  goes_seen w w' g seen = g.view ∙ seen ∙ ap (λ (bs : List New). visible_of program bs) (sym g.born)
+  goes_seen w w' g seen = ap top g.views ∙ seen ∙ ap (λ (bs : List New). visible_of program bs) (sym g.born)
 
   down_stays : (k : Kernel) (rest : Rest) (script : List Command) (ran : Ran Wire) → CanSend k k.world → Ends (Goes k.world) ran → Stays program (downcalled program ran k rest script)
   down_stays k rest script (Ended v w') s g = back_stays v k w' rest script (send_later k k.world w' s g)
   down_stays k rest script (Stopped kind at w') s g = paid_in k w' (send_later k k.world w' s g)
 
-  service_stays : (k : Kernel) (rest : Rest) (script : List Command) (ran : Ran (List Wire)) → CanSend k k.world → k.world.view ≡ visible program k.world.memory → Ends (Goes k.world) ran → Stays program (serviced program ran k rest script)
+  service_stays : (k : Kernel) (rest : Rest) (script : List Command) (ran : Ran (List Wire)) → CanSend k k.world → top k.world.views ≡ visible program k.world.memory → Ends (Goes k.world) ran → Stays program (serviced program ran k rest script)
   service_stays k rest script (Ended results w') s seen g = answer_stays results k w' rest script (send_later k k.world w' s g) (goes_seen k.world w' g seen)
   service_stays k rest script (Stopped kind at w') s seen g = paid_in k w' (send_later k k.world w' s g)
 
-  taken_stays : (reply : Reply) (k : Kernel) (rest : Rest) (script : List Command) → fault_of program k rest reply ≡ None → IsPaid program k → k.world.view ≡ visible program k.world.memory → Stays program (taken program reply k rest script)
+  taken_stays : (reply : Reply) (k : Kernel) (rest : Rest) (script : List Command) → fault_of program k rest reply ≡ None → IsPaid program k → top k.world.views ≡ visible program k.world.memory → Stays program (taken program reply k rest script)
   unfolding taken
-  taken_stays (replies.Return ticks v runs) k (Noted f) script e s seen = commands_stay script _ (returns_paid (applied ticks runs k) v (applied_paid k ticks runs s))
+  taken_stays (replies.Return ticks v runs) k (Noted f) script e s seen = commands_stay script _ (returns_paid _ v (ended_paid (applied ticks runs k) (applied_paid k ticks runs s)))
   taken_stays (replies.Down ticks at depth func args runs) k rest script e s seen =
       let d : IsDown program k ticks func runs = down_fits program k rest ticks at depth func args runs e in
       down_stays (applied ticks runs k) rest script (kernel_call program func args depth (applied ticks runs k).world) (applied_sends k ticks runs d.asked s) (kernel_goes program func args depth (applied ticks runs k).world)
@@ -216,14 +219,14 @@ module _ (program : Program) where
       service_stays (applied ticks runs k) rest script (served asked (applied ticks runs k).world) (applied_sends k ticks runs a.asked s) (still_seen k ticks runs seen) (service_goes asked (applied ticks runs k).world)
   taken_stays (replies.Stop ticks number at runs) k rest script e s seen = applied_paid k ticks runs s
 
-  judged_stays : (reply : Reply) (k : Kernel) (rest : Rest) (script : List Command) → IsPaid program k → k.world.view ≡ visible program k.world.memory → Stays program (judged program (fault_of program k rest reply) reply k rest script)
+  judged_stays : (reply : Reply) (k : Kernel) (rest : Rest) (script : List Command) → IsPaid program k → top k.world.views ≡ visible program k.world.memory → Stays program (judged program (fault_of program k rest reply) reply k rest script)
   judged_stays reply k rest script s seen = of (fault_of program k rest reply) refl
     where
       of : (o : Option Fault) → fault_of program k rest reply ≡ o → Stays program (judged program o reply k rest script)
       of None e = taken_stays reply k rest script e s seen
       of (Some f) e = s
 
-  answered_stays : (o : Option Reply) (k : Kernel) (rest : Rest) (script : List Command) → IsPaid program k → k.world.view ≡ visible program k.world.memory → Stays program (answered program o k rest script)
+  answered_stays : (o : Option Reply) (k : Kernel) (rest : Rest) (script : List Command) → IsPaid program k → top k.world.views ≡ visible program k.world.memory → Stays program (answered program o k rest script)
   answered_stays None k rest script s seen = s
   answered_stays (Some reply) k rest script s seen = judged_stays reply k rest script s seen
 

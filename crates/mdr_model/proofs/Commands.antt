@@ -17,8 +17,8 @@ use Rattle.mdr_model.specs.Memory.{Memory}
 use Rattle.mdr_model.specs.Sets.{runs_of_cells}
 use Rattle.mdr_model.specs.Tree.{Tree}
 use Rattle.mdr_model.specs.Meaning.{func_at, is_kernel, is_user, started}
-use Rattle.mdr_model.specs.World.{World, Ran}
-use Rattle.mdr_model.specs.Watched.{renewed, in_user, upcall, begun, returned, noting, Beginning, called_by, begin, in_place, and_then, commands}
+use Rattle.mdr_model.specs.World.{World, top, Ran}
+use Rattle.mdr_model.specs.Watched.{with_view, upcall_begun, upcall_ended, ending, in_user, upcall, begun, returned, noting, Beginning, called_by, begin, in_place, and_then, commands}
 use Rattle.mdr_model.specs.Copies.{Told, agreed_after}
 use Rattle.mdr_model.specs.KernelState.{Kernel, Noted}
 use Rattle.mdr_model.specs.Kernel.{calls, then_split, split_by, split_commands}
@@ -54,7 +54,7 @@ no_arguments program sound func args e = no_values args (subst (λ (ts : List Ty
 
 -- the user half accepts a call
 deliver_call : {program : Program} (fuel func e : ℕ) {K : Knowledge} (copy : Memory) (w : World) (told : Told) → is_user program func ≡ true → IsRunnable program → Messages.Messaged program K copy w e told
-    → deliver program fuel (idle_user copy) (Ok (message.Call func 0 w.clock.rest [] told.deaths told.news (runs_of_cells w.view) told.runs))
+    → deliver program fuel (idle_user copy) (Ok (message.Call func 0 w.clock.rest [] told.deaths told.news (runs_of_cells (top w.views)) told.runs))
     ≡ reply_of (Messages.waiting program told copy w e) w (agreed_after program told copy) w.clock.rest (started program half.User fuel func [] 0)
 unfolding deliver opened call_fits args_fault
 deliver_call {program} fuel func e copy w told user sound m = rw (user, no_params program sound func, m.lives, m.cells, m.view) refl
@@ -67,7 +67,7 @@ module _ (program : Program) (sound : IsRunnable program) (fuel : ℕ) where
 
   goes_on : (f : ℕ) (cs : List Command) → FinishesAll cs → GoesOn program (suc fuel) (Noted f) cs
   unfolding returned
-  goes_on f cs later = record { by = λ K k v a bound. later K (record k { world = returned v k.world }) (onward a a.holds) bound }
+  goes_on f cs later = record { by = λ K k v a bound. later K (record k { world = returned v (upcall_ended k.world) }) (onward a a.holds) bound }
 
   kernel_command : (cs : List Command) → FinishesAll cs → (K : Knowledge) (k : Kernel) (w : World) → Agree program K k.agreed w → 2 * k.exchanges ≤ 4 * w.clock.ticks + 6 * w.kept.calls → (f : ℕ) (ran : Ran Wire) → Leaves (Later program w) (IsResultOf program f) ran
       → Finishes program (suc fuel) (then_split (noting ran) k (λ k'. split_commands program cs k')) (idle_user k.agreed) (and_then (noting ran) (λ w'. commands program cs w'))
@@ -79,17 +79,17 @@ module _ (program : Program) (sound : IsRunnable program) (fuel : ℕ) where
 
   user_command : (f : ℕ) (cs : List Command) → FinishesAll cs → (K : Knowledge) (k : Kernel) (w : World) → Agree program K k.agreed w → 2 * k.exchanges + 6 ≤ 4 * w.clock.ticks + 6 * w.kept.calls → is_user program f ≡ true
       → Finishes program (suc fuel) (calls program f [] w k cs) (idle_user k.agreed) (and_then (noting (upcall program f [] w)) (λ w'. commands program cs w'))
-  unfolding calls upcall renewed
+  unfolding calls upcall with_view
   user_command f cs later K k w a bound user =
       let e : ℕ = suc k.exchanges in
-      let w' : World = renewed program w in
+      let w' : World = upcall_begun program w in
       let told : Told = Messages.telling program [] k.agreed w' in
-      let m : Messages.Messaged program K k.agreed w' e told = Messages.message_is [] w e sound a in
+      let m : Messages.Messaged program K k.agreed w' e told = Messages.message_is [] w.views w e sound a in
       let tree : Tree = started program half.User (suc fuel) f [] 0 in
       let same : started program half.User (suc w.clock.rest) f [] 0 ≡ tree = same_started program sound half.User w.clock.rest fuel f [] 0 user in
       let fair : Fair program half.User f (K ++ told.news) 2 tree = fair_user program sound fuel f (K ++ told.news) 2 user m.rel.knows.globals in
       let served : Serves program (suc fuel) (Noted f) cs (K ++ told.news) 2 tree = serves program sound (suc fuel) (Noted f) cs (goes_on f cs later) tree 2 (K ++ told.news) fair in
-      subst (λ (t : Tree). Finishes program (suc fuel) (calls program f [] w k cs) (idle_user k.agreed) (and_then (noting (in_user program t w')) (λ x. commands program cs x))) (sym same)
+      subst (λ (t : Tree). Finishes program (suc fuel) (calls program f [] w k cs) (idle_user k.agreed) (and_then (noting (ending (in_user program t w'))) (λ x. commands program cs x))) (sym same)
       (one_more _ (Messages.waiting program told k.agreed w' e) (Noted f) cs (idle_user k.agreed) (reply_of (Messages.waiting program told k.agreed w' e) w' (agreed_after program told k.agreed) w'.clock.rest tree) _
       (deliver_call (suc fuel) f e k.agreed w' told user sound m)
       (served.by (Messages.waiting program told k.agreed w' e) w' (agreed_after program told k.agreed) w'.clock.rest refl m.rel (record { bound = omega (arith, bound) })))

@@ -12,6 +12,7 @@ use Rattle.mdr_model.specs.Copies.{CellValue, numbered, values_of_runs, put_all,
 use Rattle.mdr_model.specs.KernelState.{Kernel, Rest}
 use Rattle.mdr_model.specs.ReplyFaults.{fault_of, reply_runs_fault}
 use Rattle.mdr_model.specs.Legal.{is_lock_in, is_lock, IsContained, runs_told}
+use Rattle.mdr_model.specs.World.{top}
 use Rattle.mdr_model.proofs.Tests.{not_both, and_both, and_left, and_right}
 use Rattle.mdr_model.proofs.Relations.{globals_of}
 use Rattle.mdr_model.proofs.MemoryLaws.{RisesFrom, cell_at-put_other}
@@ -53,29 +54,29 @@ visible_unlocked program m c rising e =
 
 -- ---- a legal reply
 
-runs_are_inside : (program : Program) (k : Kernel) (rs : List Run) → reply_runs_fault program k rs ≡ None → list_all (λ (x : CellValue). is_in k.world.view x.cell) (values_of_runs rs) ≡ true
-runs_are_inside program k rs e = inside_all program k.world.view k.world.memory rs (runs_pass program k.world.view k.world.memory k.agreed None 0 rs e)
+runs_are_inside : (program : Program) (k : Kernel) (rs : List Run) → reply_runs_fault program k rs ≡ None → list_all (λ (x : CellValue). is_in (top k.world.views) x.cell) (values_of_runs rs) ≡ true
+runs_are_inside program k rs e = inside_all program (top k.world.views) k.world.memory rs (runs_pass program (top k.world.views) k.world.memory k.agreed None 0 rs e)
 
-told_inside : (program : Program) (k : Kernel) (rest : Rest) (a : Reply) → fault_of program k rest a ≡ None → list_all (λ (x : CellValue). is_in k.world.view x.cell) (values_of_runs (runs_told a)) ≡ true
+told_inside : (program : Program) (k : Kernel) (rest : Rest) (a : Reply) → fault_of program k rest a ≡ None → list_all (λ (x : CellValue). is_in (top k.world.views) x.cell) (values_of_runs (runs_told a)) ≡ true
 unfolding values_of_runs
 told_inside program k rest (replies.Return ticks result runs) e = runs_are_inside program k runs (return_fits program k rest ticks result runs e).runs
 told_inside program k rest (replies.Down ticks at depth func args runs) e = runs_are_inside program k runs (down_fits program k rest ticks at depth func args runs e).fit.runs
 told_inside program k rest (replies.Ask ticks at service args shapes bytes runs) e = runs_are_inside program k runs (ask_fits program k rest ticks at service args shapes bytes runs e).fit.runs
 told_inside program k rest (replies.Stop ticks number at runs) e = runs_are_inside program k runs (stop_fits program k rest ticks number at runs e).runs
 
-pub legal_is_contained : (program : Program) (k : Kernel) (rest : Rest) (a : Reply) → births k.world.memory ≡ globals_of program → k.world.view ≡ visible program k.world.memory → fault_of program k rest a ≡ None
-    → IsContained program k.world.memory (put_runs (runs_told a) k.world.memory) k.world.view
+pub legal_is_contained : (program : Program) (k : Kernel) (rest : Rest) (a : Reply) → births k.world.memory ≡ globals_of program → top k.world.views ≡ visible program k.world.memory → fault_of program k rest a ≡ None
+    → IsContained program k.world.memory (put_runs (runs_told a) k.world.memory) (top k.world.views)
 unfolding put_runs visible
 legal_is_contained program k rest a born seen e = record {
   blocks = births-put_runs (runs_told a) k.world.memory;
   outside = out;
-  locks = λ c lock. out c (unseen c lock (is_in k.world.view c) refl);
+  locks = λ c lock. out c (unseen c lock (is_in (top k.world.views) c) refl);
 }
   where
-    out : (c : Cell) → is_in k.world.view c ≡ false → cell_at (put_all (values_of_runs (runs_told a)) k.world.memory) c ≡ cell_at k.world.memory c
-    out c outside = put_all-outside k.world.view (values_of_runs (runs_told a)) k.world.memory c (told_inside program k rest a e) outside
+    out : (c : Cell) → is_in (top k.world.views) c ≡ false → cell_at (put_all (values_of_runs (runs_told a)) k.world.memory) c ≡ cell_at k.world.memory c
+    out c outside = put_all-outside (top k.world.views) (values_of_runs (runs_told a)) k.world.memory c (told_inside program k rest a e) outside
 
-    unseen : (c : Cell) → is_lock program k.world.memory c ≡ true → (t : Bool) → is_in k.world.view c ≡ t → is_in k.world.view c ≡ false
+    unseen : (c : Cell) → is_lock program k.world.memory c ≡ true → (t : Bool) → is_in (top k.world.views) c ≡ t → is_in (top k.world.views) c ≡ false
     unseen c lock true t =
         absurd (not_both lock (visible_unlocked program k.world.memory c (subst (λ (bs : List New). RisesFrom 0 bs) (sym born) (globals_rise program)) (subst (λ (cs : List Cell). is_in cs c ≡ true) seen t)))
     unseen c lock false t = t

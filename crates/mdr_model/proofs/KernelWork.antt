@@ -1,4 +1,4 @@
--- What work of the kernel half leaves: the clock runs, no command begins, the set stays, and the memory holds.
+-- What work of the kernel half leaves: the clock runs, no command begins, the visible sets stay, and the memory holds.
 use Rattle.std.proofs.Common.{ap, ◌≡◌, ℕ, zero, suc, ◌≤◌, Bool, true, false, cond, ◌&&◌, List, [], ◌∷◌, nat_lt, Option, Result, Ok, Err, refl, ◌∙◌, arith}
 use Rattle.mdr_core.specs.declared.stop.StopKind.{StopKind}
 use Rattle.mdr_core.specs.declared.place.At.{At}
@@ -18,11 +18,11 @@ use Rattle.mdr_model.proofs.ValueLaws.{result_is_normal}
 use Rattle.mdr_model.proofs.HoldsLaws.{loaded_fits, stored_holds}
 use Rattle.mdr_model.proofs.FairTrees.{fair_kernel}
 
--- the run has gone on: the clock runs, no command begins, the set stays, and the memory holds
+-- the run has gone on: the clock runs, no command begins, the sets stay, and the memory holds
 pub record Later (program : Program) (w w' : World) : Type 0 where
   pub later : w.clock.ticks ≤ w'.clock.ticks
   pub calls : w'.kept.calls ≡ w.kept.calls
-  pub view : w'.view ≡ w.view
+  pub views : w'.views ≡ w.views
   pub holds : Holds program w'.memory
 
 -- what a piece of kernel work leaves, however it ends
@@ -42,10 +42,10 @@ written_leaves : {program : Program} (at : At) (args : List Wire) (w : World) �
 written_leaves {program} at args w holds = of args
   where
     stays : Serviced program w w
-    stays = record { goes_on = record { later = omega arith; calls = refl; view = refl; holds = holds }; rest = refl; memory = refl }
+    stays = record { goes_on = record { later = omega arith; calls = refl; views = refl; holds = holds }; rest = refl; memory = refl }
 
     in_range : (b : Bool) (register number : ℕ) → Leaves (Serviced program w) IsServed (written_if b at register number w)
-    in_range true register number = ended [] _ (record { goes_on = record { later = omega arith; calls = refl; view = refl; holds = holds }; rest = refl; memory = refl }) refl
+    in_range true register number = ended [] _ (record { goes_on = record { later = omega arith; calls = refl; views = refl; holds = holds }; rest = refl; memory = refl }) refl
     in_range false register number = stopped _ _ w stays
 
     of : (vs : List Wire) → Leaves (Serviced program w) IsServed (written at vs w)
@@ -60,13 +60,13 @@ service_leaves {program} asked w holds = of (is_writel asked.service)
   where
     of : (b : Bool) → Leaves (Serviced program w) IsServed (cond b (written asked.at asked.args w) (Ended [] w))
     of true = written_leaves asked.at asked.args w holds
-    of false = ended [] w (record { goes_on = record { later = omega arith; calls = refl; view = refl; holds = holds }; rest = refl; memory = refl }) refl
+    of false = ended [] w (record { goes_on = record { later = omega arith; calls = refl; views = refl; holds = holds }; rest = refl; memory = refl }) refl
 
 -- ---- functions of the kernel half
 
 -- what goes on later has gone on
 later_still : {program : Program} {w w' w'' : World} → Later program w w' → Later program w' w'' → Later program w w''
-later_still a b = record { later = omega (arith, a.later, b.later); calls = b.calls ∙ a.calls; view = b.view ∙ a.view; holds = b.holds }
+later_still a b = record { later = omega (arith, a.later, b.later); calls = b.calls ∙ a.calls; views = b.views ∙ a.views; holds = b.holds }
 
 module _ (program : Program) (func : ℕ) (first : World) where
   abbrev Left : Ran Wire → Type 0
@@ -74,7 +74,7 @@ module _ (program : Program) (func : ℕ) (first : World) where
 
   after_tick : (q : ℕ) (at : At) (w : World) (go : World → Ran Wire) → Later program first w → ((w' : World) → Later program first w' → Left (go w')) → Left (counted q at w go)
   after_tick zero at w go l goes = stopped _ _ w l
-  after_tick (suc q) at w go l goes = goes _ (record { later = omega (arith, l.later); calls = l.calls; view = l.view; holds = l.holds })
+  after_tick (suc q) at w go l goes = goes _ (record { later = omega (arith, l.later); calls = l.calls; views = l.views; holds = l.holds })
 
   after_load : (r : Result Wire StopKind) (at : At) (w : World) (go : Wire → Ran Wire) → Later program first w → ((v : Wire) → r ≡ Ok v → Left (go v)) → Left (when_loaded r at w go)
   after_load (Ok v) at w go l goes = goes v refl
@@ -82,7 +82,7 @@ module _ (program : Program) (func : ℕ) (first : World) where
 
   after_store : (r : Result Memory StopKind) (at : At) (w : World) (go : World → Ran Wire) → Later program first w → ((m : Memory) → r ≡ Ok m → Holds program m)
       → ((w' : World) → Later program first w' → Left (go w')) → Left (when_stored r at w go)
-  after_store (Ok m) at w go l holds goes = goes _ (record { later = l.later; calls = l.calls; view = l.view; holds = holds m refl })
+  after_store (Ok m) at w go l holds goes = goes _ (record { later = l.later; calls = l.calls; views = l.views; holds = holds m refl })
   after_store (Err kind) at w go l holds goes = stopped _ _ w l
 
   after_service : (ran : Ran (List Wire)) (w : World) (go : List Wire → World → Ran Wire) → Later program first w → Leaves (Serviced program w) IsServed ran
@@ -114,7 +114,7 @@ pub kernel_leaves : {program : Program} (func : ℕ) (args : List Wire) (depth :
 unfolding kernel_call
 kernel_leaves {program} func args depth w sound kernel holds =
     tree_leaves program func w _ 0 (fair_kernel program sound w.clock.rest func args depth (globals_of program) 0 kernel (λ b h. h)) w
-    (record { later = omega arith; calls = refl; view = refl; holds = holds })
+    (record { later = omega arith; calls = refl; views = refl; holds = holds })
 
 -- a function with a down stub is of the kernel half
 pub stub_is_kernel : (program : Program) (func : ℕ) → has_down_stub program func ≡ true → is_kernel program func ≡ true

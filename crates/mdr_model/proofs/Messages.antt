@@ -8,8 +8,8 @@ use Rattle.mdr_model.specs.declared.message.New.{New}
 use Rattle.mdr_model.specs.declared.message.Run.{Run}
 use Rattle.mdr_model.specs.Memory.{Memory, Cell, births, born_at, is_live}
 use Rattle.mdr_model.specs.Sets.{is_same_cell, is_in, runs_of_cells, cells_of_runs, visible_of, visible}
-use Rattle.mdr_model.specs.World.{World}
-use Rattle.mdr_model.specs.Watched.{renewed}
+use Rattle.mdr_model.specs.World.{World, top}
+use Rattle.mdr_model.specs.Watched.{with_view}
 use Rattle.mdr_model.specs.Faults.{runs_fault}
 use Rattle.mdr_model.specs.Copies.{Told, died, news_of, without, with_news, left_of, changed_values, told_news, begun_copy, tells, agreed_after, changed_cells, changes, put_runs}
 use Rattle.mdr_model.specs.KernelState.{Kernel}
@@ -37,12 +37,12 @@ waiting program told copy w e = record { world = w; agreed = agreed_after progra
 -- the user half accepts what a message tells, has the visible cells as they are, and knows what it was told
 pub record Messaged (program : Program) (K : Knowledge) (copy : Memory) (w : World) (e : ℕ) (told : Told) : Type 0 where
   pub lives : lives_fit program copy told.deaths told.news ≡ true
-  pub cells : cells_fit program (renewed_copy program told.deaths told.news copy) (runs_of_cells w.view) told.runs ≡ true
-  pub view : cells_of_runs (runs_of_cells w.view) ≡ w.view
+  pub cells : cells_fit program (renewed_copy program told.deaths told.news copy) (runs_of_cells (top w.views)) told.runs ≡ true
+  pub view : cells_of_runs (runs_of_cells (top w.views)) ≡ top w.views
   pub rel : Rel program (K ++ told.news) (waiting program told copy w e) w (agreed_after program told copy)
 
 abbrev pub telling : Program → List Wire → Memory → World → Told
-telling program values copy w = tells program w.view values copy w.memory
+telling program values copy w = tells program (top w.views) values copy w.memory
 
 -- what is known after a message
 knows_more : {program : Program} {K : Knowledge} {copy : Memory} {w : World} (view : List Cell) (values : List Wire) → Agree program K copy w → Knows program (K ++ told_news view values copy w.memory) w.memory
@@ -56,18 +56,18 @@ knows_more {program} {K} {copy} {w} view values a = record {
     of b (inr h) live = told_among view values copy w.memory b a.memories.formed.rises h
 
 -- the relation after a message whose copy is shared
-shared_rel : {program : Program} {K : Knowledge} {copy : Memory} (values : List Wire) (view : List Cell) (w : World) (e next : ℕ) → Agree program K copy w → w.view ≡ visible program w.memory
-    → IsShared program (learnt (serials_of K) (told_news view values copy w.memory)) next w.view (after program view values copy w.memory) w.memory w.memory (after program view values copy w.memory)
+shared_rel : {program : Program} {K : Knowledge} {copy : Memory} (values : List Wire) (view : List Cell) (w : World) (e next : ℕ) → Agree program K copy w → top w.views ≡ visible program w.memory
+    → IsShared program (learnt (serials_of K) (told_news view values copy w.memory)) next (top w.views) (after program view values copy w.memory) w.memory w.memory (after program view values copy w.memory)
     → Rel program (K ++ told_news view values copy w.memory) (record { world = w; agreed = after program view values copy w.memory; exchanges = e }) w (after program view values copy w.memory)
 shared_rel {program} {K} {copy} values view w e next a seen shared =
     let told : List New = told_news view values copy w.memory in
     let both : Memory = after program view values copy w.memory in record {
       next = next;
-      memories = subst (λ (s : ℕ → Bool). IsShared program s next w.view both w.memory w.memory both) (learnt_is K told) shared;
+      memories = subst (λ (s : ℕ → Bool). IsShared program s next (top w.views) both w.memory w.memory both) (learnt_is K told) shared;
       knows = knows_more view values a;
       holds = a.holds;
       view = seen;
-      same_view = refl;
+      same_views = refl;
       same_kept = refl;
       clock = same_clock (omega arith) (omega arith);
     }
@@ -89,12 +89,12 @@ cells_are {program} {K} {copy} values w a =
     (born_at-begun program view values copy m c.serial (a.memories.born c.serial) (placed program view values copy m c a.memories shown inside)) inside refl) in
     rw (runs_rise view rising, view_shows program begun m view (λ b among. globals_begun view values b a among) a.holds.born refl, faultless) refl
 
-pub message_is : {program : Program} {K : Knowledge} {copy : Memory} (values : List Wire) (w : World) (e : ℕ) → IsRunnable program → Agree program K copy w
-    → Messaged program K copy (renewed program w) e (telling program values copy (renewed program w))
-unfolding renewed tells begun_copy left_of
-message_is {program} {K} {copy} values w e sound a =
+pub message_is : {program : Program} {K : Knowledge} {copy : Memory} (values : List Wire) (others : List (List Cell)) (w : World) (e : ℕ) → IsRunnable program → Agree program K copy w
+    → Messaged program K copy (with_view program others w) e (telling program values copy (with_view program others w))
+unfolding with_view tells begun_copy left_of
+message_is {program} {K} {copy} values others w e sound a =
     let view : List Cell = visible program w.memory in
-    let w' : World = renewed program w in
+    let w' : World = with_view program others w in
     let a' : Agree program K copy w' = onward a a.holds in
     record {
       lives = lives_pass program view values copy w.memory a.memories (held_blocks program w.memory sound a.holds);
@@ -107,7 +107,7 @@ message_is {program} {K} {copy} values w e sound a =
 pub record Answered (program : Program) (K : Knowledge) (copy : Memory) (w : World) (e : ℕ) (told : Told) : Type 0 where
   pub lives : lives_fit program copy told.deaths told.news ≡ true
   pub no_runs : told.runs ≡ []
-  pub view : filter (still_live (agreed_after program told copy)) w.view ≡ w.view
+  pub view : filter (still_live (agreed_after program told copy)) (top w.views) ≡ top w.views
   pub rel : Rel program (K ++ told.news) (waiting program told copy w e) w (agreed_after program told copy)
 
 filter_all : (p : Cell → Bool) (cs : List Cell) → ((c : Cell) → is_in cs c ≡ true → p c ≡ true) → filter p cs ≡ cs
@@ -122,19 +122,19 @@ filter_all p (c ∷ cs) each =
     or_true false = refl
 
 -- the set stays the visible one while a service is done
-pub view_stays : {program : Program} {K : Knowledge} {k : Kernel} {w w' : World} {um : Memory} → Rel program K k w um → Later program w w' → w'.view ≡ visible program w'.memory
+pub view_stays : {program : Program} {K : Knowledge} {k : Kernel} {w w' : World} {um : Memory} → Rel program K k w um → Later program w w' → top w'.views ≡ visible program w'.memory
 unfolding visible
-view_stays {program} {w = w} {w' = w'} r l = l.view ∙ r.view ∙ ap (λ (bs : List New). visible_of program bs) (r.holds.born ∙ sym l.holds.born)
+view_stays {program} {w = w} {w' = w'} r l = ap top l.views ∙ r.view ∙ ap (λ (bs : List New). visible_of program bs) (r.holds.born ∙ sym l.holds.born)
 
 still_shared : {program : Program} {K : Knowledge} {k : Kernel} {w w' : World} {um : Memory} (results : List Wire) (r : Rel program K k w um) → Serviced program w w'
-    → IsShared program (learnt (serials_of K) (told_news [] results (put_runs (told_runs k w um) k.agreed) w'.memory)) r.next w'.view
+    → IsShared program (learnt (serials_of K) (told_news [] results (put_runs (told_runs k w um) k.agreed) w'.memory)) r.next (top w'.views)
     (after program [] results (put_runs (told_runs k w um) k.agreed) w'.memory) w'.memory w'.memory (after program [] results (put_runs (told_runs k w um) k.agreed) w'.memory)
 still_shared {program} {K} {k} {w} {w'} {um} results r l =
-    let now : IsShared program (learnt (serials_of K) (told_news [] results um w.memory)) r.next w.view (after program [] results um w.memory) w.memory w.memory (after program [] results um w.memory) =
-    answered program w.view results w.memory r.memories (held_follows program r.next w.memory w.memory r.holds r.holds (replied r.memories).low) (left_alone program results r.memories) in
-    subst (λ (copy : Memory). IsShared program (learnt (serials_of K) (told_news [] results copy w'.memory)) r.next w'.view (after program [] results copy w'.memory) w'.memory w'.memory (after program [] results copy w'.memory)) (sym (reply_user r.memories))
-    (subst (λ (m : Memory). IsShared program (learnt (serials_of K) (told_news [] results um m)) r.next w'.view (after program [] results um m) m m (after program [] results um m)) (sym l.memory)
-    (subst (λ (view : List Cell). IsShared program (learnt (serials_of K) (told_news [] results um w.memory)) r.next view (after program [] results um w.memory) w.memory w.memory (after program [] results um w.memory)) (sym l.goes_on.view) now))
+    let now : IsShared program (learnt (serials_of K) (told_news [] results um w.memory)) r.next (top w.views) (after program [] results um w.memory) w.memory w.memory (after program [] results um w.memory) =
+    answered program (top w.views) results w.memory r.memories (held_follows program r.next w.memory w.memory r.holds r.holds (replied r.memories).low) (left_alone program results r.memories) in
+    subst (λ (copy : Memory). IsShared program (learnt (serials_of K) (told_news [] results copy w'.memory)) r.next (top w'.views) (after program [] results copy w'.memory) w'.memory w'.memory (after program [] results copy w'.memory)) (sym (reply_user r.memories))
+    (subst (λ (m : Memory). IsShared program (learnt (serials_of K) (told_news [] results um m)) r.next (top w'.views) (after program [] results um m) m m (after program [] results um m)) (sym l.memory)
+    (subst (λ (view : List Cell). IsShared program (learnt (serials_of K) (told_news [] results um w.memory)) r.next view (after program [] results um w.memory) w.memory w.memory (after program [] results um w.memory)) (sym (ap top l.goes_on.views)) now))
 
 pub answer_is : {program : Program} {K : Knowledge} {k : Kernel} {w w' : World} {um : Memory} (results : List Wire) (e : ℕ) → IsRunnable program → Rel program K k w um → Serviced program w w'
     → Answered program K (put_runs (told_runs k w um) k.agreed) w' e (tells program [] results (put_runs (told_runs k w um) k.agreed) w'.memory)
@@ -142,11 +142,11 @@ unfolding tells changes changed_cells runs_of_cells
 answer_is {program} {K} {k} {w} {w'} {um} results e sound r l =
     let copy : Memory = put_runs (told_runs k w um) k.agreed in
     let a : Agree program K copy w' = onward (agrees r) l.goes_on.holds in
-    let shared : IsShared program (learnt (serials_of K) (told_news [] results copy w'.memory)) r.next w'.view (after program [] results copy w'.memory) w'.memory w'.memory (after program [] results copy w'.memory) = still_shared results r l in
+    let shared : IsShared program (learnt (serials_of K) (told_news [] results copy w'.memory)) r.next (top w'.views) (after program [] results copy w'.memory) w'.memory w'.memory (after program [] results copy w'.memory) = still_shared results r l in
     record {
       lives = lives_pass program [] results copy w'.memory a.memories (held_blocks program w'.memory sound l.goes_on.holds);
       no_runs = refl;
-      view = filter_all (still_live (after program [] results copy w'.memory)) w'.view (λ c inside. shared.placed c inside);
+      view = filter_all (still_live (after program [] results copy w'.memory)) (top w'.views) (λ c inside. shared.placed c inside);
       rel = shared_rel results [] w' e r.next a (view_stays r l.goes_on) shared;
     }
 

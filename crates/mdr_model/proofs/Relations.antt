@@ -5,7 +5,7 @@ use Rattle.mdr_model.specs.declared.message.New.{New}
 pub use Rattle.mdr_model.specs.Holds.{IsFilled}
 use Rattle.mdr_model.specs.Memory.{Memory, births, born_at, is_live, first_memory}
 use Rattle.mdr_model.specs.Sets.{visible}
-use Rattle.mdr_model.specs.World.{Clock, advanced, World}
+use Rattle.mdr_model.specs.World.{Clock, advanced, World, top}
 use Rattle.mdr_model.specs.KernelState.{Kernel}
 use Rattle.mdr_model.specs.Agreement.{is_told, Serials, IsAgreed, IsShared}
 use Rattle.mdr_model.proofs.Fair.{Knowledge, IsAmong}
@@ -42,11 +42,11 @@ used k w = k.world.clock.rest - w.clock.rest
 -- the user half has control: the kernel half waits in state k, the whole run has come to w, and the user half's memory is um
 pub record Rel (program : Program) (K : Knowledge) (k : Kernel) (w : World) (um : Memory) : Type 0 where
   pub next : ℕ
-  pub memories : IsShared program (serials_of K) next w.view k.agreed k.world.memory w.memory um
+  pub memories : IsShared program (serials_of K) next (top w.views) k.agreed k.world.memory w.memory um
   pub knows : Knows program K w.memory
   pub holds : Holds program w.memory
-  pub view : w.view ≡ visible program w.memory
-  pub same_view : k.world.view ≡ w.view
+  pub view : top w.views ≡ visible program w.memory
+  pub same_views : k.world.views ≡ w.views
   pub same_kept : k.world.kept ≡ w.kept
   pub clock : w.clock ≡ advanced (used k w) k.world.clock
 

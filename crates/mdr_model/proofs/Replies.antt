@@ -14,7 +14,7 @@ use Rattle.mdr_model.specs.declared.reply.Reply.TheVariants as replies
 use Rattle.mdr_model.specs.Values.{fits_type, fits_result}
 use Rattle.mdr_model.specs.Memory.{Memory, Cell, normal}
 use Rattle.mdr_model.specs.Tree.{Asked}
-use Rattle.mdr_model.specs.World.{Kept, advanced, World}
+use Rattle.mdr_model.specs.World.{Kept, advanced, World, top}
 use Rattle.mdr_model.specs.Meaning.{func_at}
 use Rattle.mdr_model.specs.Faults.{fault, params_of, args_fault, runs_fault}
 use Rattle.mdr_model.specs.Copies.{changes, put_runs}
@@ -33,7 +33,7 @@ use Rattle.mdr_model.proofs.ViewLaws.{view_rises, tellable}
 
 -- the runs that it tells
 abbrev pub told_runs : Kernel → World → Memory → List Run
-told_runs k w um = changes w.view k.agreed um
+told_runs k w um = changes (top w.views) k.agreed um
 
 -- the kernel half after it
 abbrev pub resumed : Kernel → World → Memory → Kernel
@@ -46,7 +46,7 @@ stores_reply {program} {k = k} {w = w} {um = um} r =
     let clock_is : advanced (used k w) k.world.clock ≡ w.clock = sym r.clock in
     let memory_is : put_runs (told_runs k w um) k.world.memory ≡ w.memory = reply_whole r.memories in
     λ i. record {
-      world = record { memory = memory_is i; view = r.same_view i; clock = clock_is i; kept = r.same_kept i };
+      world = record { memory = memory_is i; views = r.same_views i; clock = clock_is i; kept = r.same_kept i };
       agreed = put_runs (told_runs k w um) k.agreed;
       exchanges = k.exchanges;
     }
@@ -67,9 +67,9 @@ pub record IsWithin (k : Kernel) (w : World) (questions : ℕ) : Type 0 where
 -- its runs have no fault
 runs_legal : {program : Program} {K : Knowledge} {k : Kernel} {w : World} {um : Memory} → Rel program K k w um → reply_runs_fault program k (told_runs k w um) ≡ None
 runs_legal {program} {k = k} {w = w} {um = um} r =
-    ap (λ (view : List Cell). runs_fault program view k.agreed k.world.memory None 0 (told_runs k w um)) r.same_view
-    ∙ changes_fit program w.view k.agreed k.world.memory k.agreed um (view_rises program w.memory w.view r.view r.holds.born)
-    (λ c inside. tellable program w.memory k.world.memory um w.view c r.view r.holds (sym (r.memories.whole_born c.serial)) inside (get c r.memories inside))
+    ap (λ (views : List (List Cell)). runs_fault program (top views) k.agreed k.world.memory None 0 (told_runs k w um)) r.same_views
+    ∙ changes_fit program (top w.views) k.agreed k.world.memory k.agreed um (view_rises program w.memory (top w.views) r.view r.holds.born)
+    (λ c inside. tellable program w.memory k.world.memory um (top w.views) c r.view r.holds (sym (r.memories.whole_born c.serial)) inside (get c r.memories inside))
 
 -- and its ticks are there
 ticks_legal : {program : Program} {K : Knowledge} {k : Kernel} {w : World} {um : Memory} → Rel program K k w um → nat_le (used k w) k.world.clock.rest ≡ true

@@ -19,8 +19,8 @@ use Rattle.mdr_model.specs.Memory.{Memory, Cell, normal, loaded}
 use Rattle.mdr_model.specs.Sets.{is_in, runs_of_cells}
 use Rattle.mdr_model.specs.Tree.{Asked, Tree}
 use Rattle.mdr_model.specs.Walk.{Walked, walk, on_load, on_store}
-use Rattle.mdr_model.specs.World.{World, advanced, Ran, Ended, Stopped, after, counted, when_loaded, when_stored, served, as_now, kernel_call}
-use Rattle.mdr_model.specs.Watched.{renewed, in_user, Finish, finish, noting, and_then, commands}
+use Rattle.mdr_model.specs.World.{World, top, below, advanced, Ran, Ended, Stopped, after, counted, when_loaded, when_stored, served, as_now, kernel_call}
+use Rattle.mdr_model.specs.Watched.{with_view, renewed, ending, in_user, Finish, finish, noting, and_then, commands}
 use Rattle.mdr_model.specs.Copies.{Told, tells, agreed_after, put_runs}
 use Rattle.mdr_model.specs.KernelState.{Kernel, Rest, Noted, Pending, Over, Waits}
 use Rattle.mdr_model.specs.ReplyFaults.{reply_of as read_as, fault_of, upcall_of, stop_number, user_stop, service_params}
@@ -73,7 +73,7 @@ is_over end k u bound = record { turns = 0; kernel = k; meets = refl; world = re
 
 -- what the whole run does after an upcall that was open
 abbrev pub ended_at : Program → Rest → List Command → Ran Wire → Finish
-ended_at program (Noted f) script ran = and_then (noting ran) (λ w. commands program script w)
+ended_at program (Noted f) script ran = and_then (noting (ending ran)) (λ w. commands program script w)
 
 abbrev pub idle_user : Memory → User
 idle_user copy = record { agreed = copy; work = Nothing }
@@ -85,7 +85,7 @@ pub record GoesOn (program : Program) (fuel : ℕ) (rest : Rest) (script : List 
 
 -- the user half's reply when it has walked n ticks of a tree
 abbrev pub reply_of : Kernel → World → Memory → ℕ → Tree → Delivered
-reply_of k w um n t = replied_to w.view k.world.clock.rest k.agreed (walk (is_in w.view) n t um)
+reply_of k w um n t = replied_to (top w.views) k.world.clock.rest k.agreed (walk (is_in (top w.views)) n t um)
 
 abbrev pub ServesAt : Program → ℕ → Rest → List Command → Tree → Kernel → World → Memory → ℕ → Type 0
 ServesAt program fuel rest script t k w um n =
@@ -94,7 +94,7 @@ ServesAt program fuel rest script t k w um n =
 -- the same of what the walk and the whole run come to
 abbrev pub ServesBy : Program → ℕ → Rest → List Command → Kernel → World → Walked → Ran Wire → Type 0
 ServesBy program fuel rest script k w walked ran =
-    Finishes program fuel (next program (Ok (replied_to w.view k.world.clock.rest k.agreed walked).reply) k rest script) (replied_to w.view k.world.clock.rest k.agreed walked).user (ended_at program rest script ran)
+    Finishes program fuel (next program (Ok (replied_to (top w.views) k.world.clock.rest k.agreed walked).reply) k rest script) (replied_to (top w.views) k.world.clock.rest k.agreed walked).user (ended_at program rest script ran)
 
 moved : {program : Program} {fuel : ℕ} (rest : Rest) (script : List Command) (k : Kernel) (w : World) (x x' : Walked) (y y' : Ran Wire) → x' ≡ x → y' ≡ y → ServesBy program fuel rest script k w x y → ServesBy program fuel rest script k w x' y'
 moved {program} {fuel} rest script k w x x' y y' e f h =
@@ -172,12 +172,12 @@ next_down {program} {k = k} {w = w} {um = um} rest script at func args depth cre
 -- ---- the user half accepts an honest message
 
 deliver_back : {program : Program} (fuel func e : ℕ) {K : Knowledge} (copy : Memory) (w : World) (v : Wire) (seen : List Cell) (goes : Wire → Tree) (told : Told) → IsResultOf program func v → Messages.Messaged program K copy w e told
-    → deliver program fuel (record { agreed = copy; work = AwaitsBack func seen goes }) (Ok (message.Back w.clock.rest v told.deaths told.news (runs_of_cells w.view) told.runs))
+    → deliver program fuel (record { agreed = copy; work = AwaitsBack func seen goes }) (Ok (message.Back w.clock.rest v told.deaths told.news (runs_of_cells (top w.views)) told.runs))
     ≡ reply_of (Messages.waiting program told copy w e) w (agreed_after program told copy) w.clock.rest (goes v)
 unfolding deliver opened back_fits
 deliver_back {program} fuel func e copy w v seen goes told fits m = rw (fits.fits, m.lives, m.cells, m.view) refl
 
-deliver_answer : {program : Program} (fuel e : ℕ) {K : Knowledge} (copy : Memory) (w : World) (left : ℕ) (view : List Cell) (results : List Wire) (asked : Asked) (goes : List Wire → Tree) (told : Told) → IsServed results → w.clock.rest ≡ left → w.view ≡ view → Messages.Answered program K copy w e told
+deliver_answer : {program : Program} (fuel e : ℕ) {K : Knowledge} (copy : Memory) (w : World) (left : ℕ) (view : List Cell) (results : List Wire) (asked : Asked) (goes : List Wire → Tree) (told : Told) → IsServed results → w.clock.rest ≡ left → top w.views ≡ view → Messages.Answered program K copy w e told
     → deliver program fuel (record { agreed = copy; work = AwaitsAnswer asked view left goes }) (Ok (message.Answer results told.deaths told.news))
     ≡ reply_of (Messages.waiting program told copy w e) w (agreed_after program told copy) w.clock.rest (goes results)
 unfolding deliver opened answer_fits
@@ -190,7 +190,7 @@ deliver_answer {program} fuel e copy w left view results asked goes told none sa
     ∙ ap (λ (t : Told). let copy' : Memory = agreed_after program t copy in let view' : List Cell = filter (still_live copy') view in replied_to view' left copy' (walk (is_in view') left (goes results) copy')) no_runs
     ∙ ap (λ (v : List Cell). let view' : List Cell = filter (still_live C) v in replied_to view' left C (walk (is_in view') left (goes results) C)) (sym same_view)
     ∙ ap (λ (v : List Cell). replied_to v left C (walk (is_in v) left (goes results) C)) m.view
-    ∙ ap (λ (n : ℕ). replied_to w.view n C (walk (is_in w.view) n (goes results) C)) (sym same_rest)
+    ∙ ap (λ (n : ℕ). replied_to (top w.views) n C (walk (is_in (top w.views)) n (goes results) C)) (sym same_rest)
 
 -- ---- the induction
 
@@ -258,20 +258,20 @@ module _ (program : Program) (sound : IsRunnable program) (fuel : ℕ) (rest : R
   unfolding walk replied in_user
   load_serves {K} credit at p next' place known later = record {
     by = λ k w um n e r within.
-        of k w um n e r within (loaded (is_in w.view) w.memory p) (Accesses.get p r known) refl;
+        of k w um n e r within (loaded (is_in (top w.views)) w.memory p) (Accesses.get p r known) refl;
   }
     where
       of : (k : Kernel) (w : World) (um : Memory) (n : ℕ) → w.clock.rest ≡ n → Rel program K k w um → Replies.IsWithin k w credit
-          → (x : Result Wire StopKind) → loaded (is_in w.view) um p ≡ loaded (is_in w.view) w.memory p → loaded (is_in w.view) w.memory p ≡ x
+          → (x : Result Wire StopKind) → loaded (is_in (top w.views)) um p ≡ loaded (is_in (top w.views)) w.memory p → loaded (is_in (top w.views)) w.memory p ≡ x
           → ServesAt program fuel rest script (Tree.Load at p next') k w um n
       of k w um n e r within (Ok v) same is =
           moved rest script k w _ _ _ _
-          (ap (λ (x : Result Wire StopKind). on_load x at um n (λ v'. walk (is_in w.view) n (next' v') um)) (same ∙ is))
+          (ap (λ (x : Result Wire StopKind). on_load x at um n (λ v'. walk (is_in (top w.views)) n (next' v') um)) (same ∙ is))
           (ap (λ (x : Result Wire StopKind). when_loaded x at w (λ v'. in_user program (next' v') w)) is)
           ((later v (Accesses.gets p v r known is)).by k w um n e r within)
       of k w um n e r within (Err kind) same is =
           moved rest script k w _ _ _ _
-          (ap (λ (x : Result Wire StopKind). on_load x at um n (λ v'. walk (is_in w.view) n (next' v') um)) (same ∙ is))
+          (ap (λ (x : Result Wire StopKind). on_load x at um n (λ v'. walk (is_in (top w.views)) n (next' v') um)) (same ∙ is))
           (ap (λ (x : Result Wire StopKind). when_loaded x at w (λ v'. in_user program (next' v') w)) is)
           ((stop_serves credit kind at place (Accesses.load_stop _ _ p kind is)).by k w um n e r within)
 
@@ -284,12 +284,12 @@ module _ (program : Program) (sound : IsRunnable program) (fuel : ℕ) (rest : R
           → Accesses.Stores program K k w um p v → ServesAt program fuel rest script (Tree.Store at p v t) k w um n
       of k w um n e r within (Accesses.goes m m' e1 e2 r') =
           moved rest script k w _ _ _ _
-          (ap (λ (x : Result Memory StopKind). on_store x at um n (λ m''. walk (is_in w.view) n t m'')) e1)
+          (ap (λ (x : Result Memory StopKind). on_store x at um n (λ m''. walk (is_in (top w.views)) n t m'')) e1)
           (ap (λ (x : Result Memory StopKind). when_stored x at w (λ w'. in_user program t w')) e2)
           (later.by k (record w { memory = m' }) m n e r' (record { bound = within.bound }))
       of k w um n e r within (Accesses.stops kind e1 e2 own) =
           moved rest script k w _ _ _ _
-          (ap (λ (x : Result Memory StopKind). on_store x at um n (λ m''. walk (is_in w.view) n t m'')) e1)
+          (ap (λ (x : Result Memory StopKind). on_store x at um n (λ m''. walk (is_in (top w.views)) n t m'')) e1)
           (ap (λ (x : Result Memory StopKind). when_stored x at w (λ w'. in_user program t w')) e2)
           ((stop_serves credit kind at place own).by k w um n e r within)
 
@@ -308,18 +308,18 @@ module _ (program : Program) (sound : IsRunnable program) (fuel : ℕ) (rest : R
       → ((K' : Knowledge) → Grows K K' → (v : Wire) → IsResultOf program func v → Serves program fuel rest script K' credit (next' v))
       → (ran : Ran Wire) → KernelWork.Leaves (KernelWork.Later program w) (IsResultOf program func) ran
       → Finishes program fuel (downcalled program ran (Replies.resumed k w um) rest script)
-      (record { agreed = put_runs (Replies.told_runs k w um) k.agreed; work = AwaitsBack func w.view next' })
+      (record { agreed = put_runs (Replies.told_runs k w um) k.agreed; work = AwaitsBack func (top w.views) next' })
       (ended_at program rest script (after ran (λ v w'. in_user program (next' v) (renewed program w'))))
-  unfolding comes_back renewed
+  unfolding comes_back with_view
   crossed {K} credit func next' k w um r within later _ (KernelWork.ended v w' l given) =
       let copy : Memory = put_runs (Replies.told_runs k w um) k.agreed in
       let e : ℕ = suc k.exchanges in
       let w'' : World = renewed program w' in
       let told : Told = Messages.telling program (v ∷ []) copy w'' in
-      let m : Messages.Messaged program K copy w'' e told = Messages.message_is (v ∷ []) w' e sound (onward (Replies.agrees r) l.holds) in
-      one_more _ (Messages.waiting program told copy w'' e) rest script (record { agreed = copy; work = AwaitsBack func w.view next' })
+      let m : Messages.Messaged program K copy w'' e told = Messages.message_is (v ∷ []) (below w'.views) w' e sound (onward (Replies.agrees r) l.holds) in
+      one_more _ (Messages.waiting program told copy w'' e) rest script (record { agreed = copy; work = AwaitsBack func (top w.views) next' })
       (reply_of (Messages.waiting program told copy w'' e) w'' (agreed_after program told copy) w''.clock.rest (next' v)) _
-      (deliver_back fuel func e copy w'' v w.view next' told given m)
+      (deliver_back fuel func e copy w'' v (top w.views) next' told given m)
       ((later (K ++ told.news) (grows_by K told.news) v given).by (Messages.waiting program told copy w'' e) w'' (agreed_after program told copy) w''.clock.rest refl m.rel
       (record { bound = omega (arith, within.bound, l.later, l.calls) }))
   crossed {K} credit func next' k w um r within later _ (KernelWork.stopped kind at w' l) = question_stops _ (suc credit) kind at w' r within l
@@ -330,7 +330,7 @@ module _ (program : Program) (sound : IsRunnable program) (fuel : ℕ) (rest : R
   unfolding walk replied in_user
   cross_serves {K} credit at func args depth next' place down later = record {
     by = λ k w um n e r within.
-        let u : User = record { agreed = put_runs (Replies.told_runs k w um) k.agreed; work = AwaitsBack func w.view next' } in
+        let u : User = record { agreed = put_runs (Replies.told_runs k w um) k.agreed; work = AwaitsBack func (top w.views) next' } in
         let f : Finish = ended_at program rest script (in_user program (Tree.Cross at func args depth next') w) in
         subst (λ (q : ℕ). ServesAt program fuel rest script (Tree.Cross at func args depth next') k w um q) e
         (subst (λ (p : Pending). Finishes program fuel p u f) (sym (next_down rest script at func args depth credit r place down within))
@@ -342,7 +342,7 @@ module _ (program : Program) (sound : IsRunnable program) (fuel : ℕ) (rest : R
       → ((K' : Knowledge) → Grows K K' → (vs : List Wire) → IsServed vs → Serves program fuel rest script K' credit (next' vs))
       → (ran : Ran (List Wire)) → KernelWork.Leaves (KernelWork.Serviced program w) IsServed ran
       → Finishes program fuel (serviced program ran (Replies.resumed k w um) rest script)
-      (record { agreed = put_runs (Replies.told_runs k w um) k.agreed; work = AwaitsAnswer asked w.view w.clock.rest next' })
+      (record { agreed = put_runs (Replies.told_runs k w um) k.agreed; work = AwaitsAnswer asked (top w.views) w.clock.rest next' })
       (ended_at program rest script (after ran (λ vs w'. in_user program (next' vs) w')))
   unfolding answers
   asked_for {K} credit asked next' k w um r within later _ (KernelWork.ended vs w' l given) =
@@ -350,9 +350,9 @@ module _ (program : Program) (sound : IsRunnable program) (fuel : ℕ) (rest : R
       let e : ℕ = suc k.exchanges in
       let told : Told = tells program [] vs copy w'.memory in
       let m : Messages.Answered program K copy w' e told = Messages.answer_is vs e sound r l in
-      one_more _ (Messages.waiting program told copy w' e) rest script (record { agreed = copy; work = AwaitsAnswer asked w.view w.clock.rest next' })
+      one_more _ (Messages.waiting program told copy w' e) rest script (record { agreed = copy; work = AwaitsAnswer asked (top w.views) w.clock.rest next' })
       (reply_of (Messages.waiting program told copy w' e) w' (agreed_after program told copy) w'.clock.rest (next' vs)) _
-      (deliver_answer fuel e copy w' w.clock.rest w.view vs asked next' told given l.rest l.goes_on.view m)
+      (deliver_answer fuel e copy w' w.clock.rest (top w.views) vs asked next' told given l.rest (ap top l.goes_on.views) m)
       ((later (K ++ told.news) (grows_by K told.news) vs given).by (Messages.waiting program told copy w' e) w' (agreed_after program told copy) w'.clock.rest refl m.rel
       (record { bound = omega (arith, within.bound, l.goes_on.later, l.goes_on.calls) }))
   asked_for {K} credit asked next' k w um r within later _ (KernelWork.stopped kind at w' l) = question_stops _ (suc credit) kind at w' r within l.goes_on
@@ -365,7 +365,7 @@ module _ (program : Program) (sound : IsRunnable program) (fuel : ℕ) (rest : R
     by = λ k w um n e r within.
         let f : Finish = ended_at program rest script (in_user program (Tree.Ask asked next') w) in
         subst (λ (q : ℕ). ServesAt program fuel rest script (Tree.Ask asked next') k w um q) e
-        (subst (λ (p : Pending). Finishes program fuel p (record { agreed = put_runs (Replies.told_runs k w um) k.agreed; work = AwaitsAnswer asked w.view w.clock.rest next' }) f)
+        (subst (λ (p : Pending). Finishes program fuel p (record { agreed = put_runs (Replies.told_runs k w um) k.agreed; work = AwaitsAnswer asked (top w.views) w.clock.rest next' }) f)
         (sym (next_ask rest script asked credit r place askable within))
         (asked_for credit asked next' k w um r within later _
         (KernelWork.service_leaves (as_now w.memory asked) w (Messages.holds_of (Replies.agrees r)))));

@@ -37,7 +37,7 @@ use Rattle.mdr_model.specs.Tree.{Tree}
 use Rattle.mdr_model.specs.User.{view_fits, runs_fit, lives_fit, call_fits, back_fits, answer_fits, opened, replied, deliver, first_user, user_after, allowance, user_reply}
 use Rattle.mdr_model.specs.Values.{fits, fits_result, is_view_of, is_same_view, is_same}
 use Rattle.mdr_model.specs.Walk.{walk}
-use Rattle.mdr_model.specs.Watched.{renewed, in_user, upcall, begin, begun, returned, commands, first_world, watched}
+use Rattle.mdr_model.specs.Watched.{with_view, in_user, upcall, begin, begun, returned, commands, first_world, watched}
 use Rattle.mdr_model.specs.World.{served, in_kernel, kernel_call}
 use Rattle.mdr_model.specs.Xdr.{four, eight, item, opaque, listed}
 use Rattle.mdr_core.specs.Bits.{bit_of, of_bits}
@@ -72,11 +72,11 @@ abbrev ends_run : Wire → Tree
 ends_run v = Tree.Done v Tree.Idle
 
 bump_opens : (fuel : ℕ) → opens bump (entered bump bump_bodies half.User fuel 1 [] 0 ends_run) ≡ deliver bump fuel (first_user bump) begins
-unfolding numbered values_of_runs put_all put_runs held changed_cells changes died without inserted with_news news_of left_of changed_values told_news begun_copy agreed_after tells args_fault fits_cell run_fault runs_fault is_ask_place is_awaited user_stop fault_of calls comes_back answers split_commands applied taken next first_kernel run_from_pending split_run is_kernel is_user pointer_to born_at is_live cell_at put killed normal first_memory reached loaded stored outcome_of value_shown argument_shown cell_shown arguments_shown cells_shown event_line event_lines end_line object_line object_lines report is_in cells_from cells_of_runs runs_of_cells rises_after is_keyed visible_of visible value_text new_text run_text set_run_text shape_text text view_fits runs_fit lives_fit call_fits back_fits answer_fits opened replied deliver first_user user_after allowance user_reply fits fits_result is_view_of is_same_view is_same walk renewed in_user upcall begin begun returned commands first_world watched served in_kernel kernel_call four eight item opaque listed bit_of of_bits is_in_range fitted_or fitted quotient bitwise operated negated flipped is_right_operand digits leaves_of fits_at repeated cells leaves form.out-Ty denote.Hole.Carrier.out
+unfolding numbered values_of_runs put_all put_runs held changed_cells changes died without inserted with_news news_of left_of changed_values told_news begun_copy agreed_after tells args_fault fits_cell run_fault runs_fault is_ask_place is_awaited user_stop fault_of calls comes_back answers split_commands applied taken next first_kernel run_from_pending split_run is_kernel is_user pointer_to born_at is_live cell_at put killed normal first_memory reached loaded stored outcome_of value_shown argument_shown cell_shown arguments_shown cells_shown event_line event_lines end_line object_line object_lines report is_in cells_from cells_of_runs runs_of_cells rises_after is_keyed visible_of visible value_text new_text run_text set_run_text shape_text text view_fits runs_fit lives_fit call_fits back_fits answer_fits opened replied deliver first_user user_after allowance user_reply fits fits_result is_view_of is_same_view is_same walk with_view in_user upcall begin begun returned commands first_world watched served in_kernel kernel_call four eight item opaque listed bit_of of_bits is_in_range fitted_or fitted quotient bitwise operated negated flipped is_right_operand digits leaves_of fits_at repeated cells leaves form.out-Ty denote.Hole.Carrier.out
 bump_opens fuel = ap (opens bump) (λ i. sym bump_user i fuel 1 [] 0 ends_run)
 
 reset_opens : (fuel : ℕ) → opens reset (entered reset reset_bodies half.User fuel 1 [] 0 ends_run) ≡ deliver reset fuel (first_user reset) begins
-unfolding numbered values_of_runs put_all put_runs held changed_cells changes died without inserted with_news news_of left_of changed_values told_news begun_copy agreed_after tells args_fault fits_cell run_fault runs_fault is_ask_place is_awaited user_stop fault_of calls comes_back answers split_commands applied taken next first_kernel run_from_pending split_run is_kernel is_user pointer_to born_at is_live cell_at put killed normal first_memory reached loaded stored outcome_of value_shown argument_shown cell_shown arguments_shown cells_shown event_line event_lines end_line object_line object_lines report is_in cells_from cells_of_runs runs_of_cells rises_after is_keyed visible_of visible value_text new_text run_text set_run_text shape_text text view_fits runs_fit lives_fit call_fits back_fits answer_fits opened replied deliver first_user user_after allowance user_reply fits fits_result is_view_of is_same_view is_same walk renewed in_user upcall begin begun returned commands first_world watched served in_kernel kernel_call four eight item opaque listed bit_of of_bits is_in_range fitted_or fitted quotient bitwise operated negated flipped is_right_operand digits leaves_of fits_at repeated cells leaves form.out-Ty denote.Hole.Carrier.out
+unfolding numbered values_of_runs put_all put_runs held changed_cells changes died without inserted with_news news_of left_of changed_values told_news begun_copy agreed_after tells args_fault fits_cell run_fault runs_fault is_ask_place is_awaited user_stop fault_of calls comes_back answers split_commands applied taken next first_kernel run_from_pending split_run is_kernel is_user pointer_to born_at is_live cell_at put killed normal first_memory reached loaded stored outcome_of value_shown argument_shown cell_shown arguments_shown cells_shown event_line event_lines end_line object_line object_lines report is_in cells_from cells_of_runs runs_of_cells rises_after is_keyed visible_of visible value_text new_text run_text set_run_text shape_text text view_fits runs_fit lives_fit call_fits back_fits answer_fits opened replied deliver first_user user_after allowance user_reply fits fits_result is_view_of is_same_view is_same walk with_view in_user upcall begin begun returned commands first_world watched served in_kernel kernel_call four eight item opaque listed bit_of of_bits is_in_range fitted_or fitted quotient bitwise operated negated flipped is_right_operand digits leaves_of fits_at repeated cells leaves form.out-Ty denote.Hole.Carrier.out
 reset_opens fuel = ap (opens reset) (λ i. sym reset_user i fuel 1 [] 0 ends_run)
 
 -- the reply to the last of these messages, which follow on that one
@@ -91,7 +91,7 @@ only_cell n = record { born = record { serial = 0; kind = Static; ty = 2; count 
 -- the kernel half at the end of a run of one command
 abbrev ended : (value ticks exchanges : ℕ) → List Happened → Kernel
 ended value ticks exchanges events = record {
-  world = record { memory = only_cell value; view = record { serial = 0; index = 0 } ∷ []; clock = record { ticks = ticks; rest = 1000000 - ticks }; kept = record { events = events; calls = 1 } };
+  world = record { memory = only_cell value; views = []; clock = record { ticks = ticks; rest = 1000000 - ticks }; kept = record { events = events; calls = 1 } };
   agreed = only_cell value;
   exchanges = exchanges;
 }
@@ -105,7 +105,7 @@ reset_end = ended 0 4 3 (happened.Call (codes "f") [] ∷ happened.Wrote 0 0 ∷
 -- ---- the examples
 
 bump_runs : watched bump (calling 1) 1000000 ≡ finish ends.Ok bump_end.world
-unfolding numbered values_of_runs put_all put_runs held changed_cells changes died without inserted with_news news_of left_of changed_values told_news begun_copy agreed_after tells args_fault fits_cell run_fault runs_fault is_ask_place is_awaited user_stop fault_of calls comes_back answers split_commands applied taken next first_kernel run_from_pending split_run is_kernel is_user pointer_to born_at is_live cell_at put killed normal first_memory reached loaded stored is_in cells_from cells_of_runs runs_of_cells rises_after is_keyed visible_of visible view_fits runs_fit lives_fit call_fits back_fits answer_fits opened replied deliver first_user user_after allowance user_reply fits fits_result is_view_of is_same_view is_same walk renewed in_user upcall begin begun returned commands first_world watched served in_kernel kernel_call is_in_range fitted_or fitted quotient bitwise operated negated flipped is_right_operand leaves_of fits_at repeated cells leaves form.out-Ty denote.Hole.Carrier.out
+unfolding numbered values_of_runs put_all put_runs held changed_cells changes died without inserted with_news news_of left_of changed_values told_news begun_copy agreed_after tells args_fault fits_cell run_fault runs_fault is_ask_place is_awaited user_stop fault_of calls comes_back answers split_commands applied taken next first_kernel run_from_pending split_run is_kernel is_user pointer_to born_at is_live cell_at put killed normal first_memory reached loaded stored is_in cells_from cells_of_runs runs_of_cells rises_after is_keyed visible_of visible view_fits runs_fit lives_fit call_fits back_fits answer_fits opened replied deliver first_user user_after allowance user_reply fits fits_result is_view_of is_same_view is_same walk with_view in_user upcall begin begun returned commands first_world watched served in_kernel kernel_call is_in_range fitted_or fitted quotient bitwise operated negated flipped is_right_operand leaves_of fits_at repeated cells leaves form.out-Ty denote.Hole.Carrier.out
 bump_runs = rw (bump_user, bump_kernel) refl
 
 pub bump_prints : BumpPrints
@@ -113,19 +113,19 @@ unfolding outcome_of value_shown argument_shown cell_shown arguments_shown cells
 bump_prints = ap (λ (f : Finish). report bump (outcome_of f)) bump_runs
 
 pub bump_idles : BumpIdles
-unfolding numbered values_of_runs put_all put_runs held changed_cells changes died without inserted with_news news_of left_of changed_values told_news begun_copy agreed_after tells args_fault fits_cell run_fault runs_fault is_ask_place is_awaited user_stop fault_of calls comes_back answers split_commands applied taken next first_kernel run_from_pending split_run is_kernel is_user pointer_to born_at is_live cell_at put killed normal first_memory reached loaded stored outcome_of value_shown argument_shown cell_shown arguments_shown cells_shown event_line event_lines end_line object_line object_lines report is_in cells_from cells_of_runs runs_of_cells rises_after is_keyed visible_of visible value_text new_text run_text set_run_text shape_text text view_fits runs_fit lives_fit call_fits back_fits answer_fits opened replied deliver first_user user_after allowance user_reply fits fits_result is_view_of is_same_view is_same walk renewed in_user upcall begin begun returned commands first_world watched served in_kernel kernel_call four eight item opaque listed bit_of of_bits is_in_range fitted_or fitted quotient bitwise operated negated flipped is_right_operand digits leaves_of fits_at repeated cells leaves form.out-Ty denote.Hole.Carrier.out
+unfolding numbered values_of_runs put_all put_runs held changed_cells changes died without inserted with_news news_of left_of changed_values told_news begun_copy agreed_after tells args_fault fits_cell run_fault runs_fault is_ask_place is_awaited user_stop fault_of calls comes_back answers split_commands applied taken next first_kernel run_from_pending split_run is_kernel is_user pointer_to born_at is_live cell_at put killed normal first_memory reached loaded stored outcome_of value_shown argument_shown cell_shown arguments_shown cells_shown event_line event_lines end_line object_line object_lines report is_in cells_from cells_of_runs runs_of_cells rises_after is_keyed visible_of visible value_text new_text run_text set_run_text shape_text text view_fits runs_fit lives_fit call_fits back_fits answer_fits opened replied deliver first_user user_after allowance user_reply fits fits_result is_view_of is_same_view is_same walk with_view in_user upcall begin begun returned commands first_world watched served in_kernel kernel_call four eight item opaque listed bit_of of_bits is_in_range fitted_or fitted quotient bitwise operated negated flipped is_right_operand digits leaves_of fits_at repeated cells leaves form.out-Ty denote.Hole.Carrier.out
 bump_idles = refl
 
 pub bump_stops : BumpStops
-unfolding numbered values_of_runs put_all put_runs held changed_cells changes died without inserted with_news news_of left_of changed_values told_news begun_copy agreed_after tells args_fault fits_cell run_fault runs_fault is_ask_place is_awaited user_stop fault_of calls comes_back answers split_commands applied taken next first_kernel run_from_pending split_run is_kernel is_user pointer_to born_at is_live cell_at put killed normal first_memory reached loaded stored outcome_of value_shown argument_shown cell_shown arguments_shown cells_shown event_line event_lines end_line object_line object_lines report is_in cells_from cells_of_runs runs_of_cells rises_after is_keyed visible_of visible value_text new_text run_text set_run_text shape_text text view_fits runs_fit lives_fit call_fits back_fits answer_fits opened replied deliver first_user user_after allowance user_reply fits fits_result is_view_of is_same_view is_same walk renewed in_user upcall begin begun returned commands first_world watched served in_kernel kernel_call four eight item opaque listed bit_of of_bits is_in_range fitted_or fitted quotient bitwise operated negated flipped is_right_operand digits leaves_of fits_at repeated cells leaves form.out-Ty denote.Hole.Carrier.out
+unfolding numbered values_of_runs put_all put_runs held changed_cells changes died without inserted with_news news_of left_of changed_values told_news begun_copy agreed_after tells args_fault fits_cell run_fault runs_fault is_ask_place is_awaited user_stop fault_of calls comes_back answers split_commands applied taken next first_kernel run_from_pending split_run is_kernel is_user pointer_to born_at is_live cell_at put killed normal first_memory reached loaded stored outcome_of value_shown argument_shown cell_shown arguments_shown cells_shown event_line event_lines end_line object_line object_lines report is_in cells_from cells_of_runs runs_of_cells rises_after is_keyed visible_of visible value_text new_text run_text set_run_text shape_text text view_fits runs_fit lives_fit call_fits back_fits answer_fits opened replied deliver first_user user_after allowance user_reply fits fits_result is_view_of is_same_view is_same walk with_view in_user upcall begin begun returned commands first_world watched served in_kernel kernel_call four eight item opaque listed bit_of of_bits is_in_range fitted_or fitted quotient bitwise operated negated flipped is_right_operand digits leaves_of fits_at repeated cells leaves form.out-Ty denote.Hole.Carrier.out
 bump_stops = rw (bump_user, bump_kernel) refl
 
 pub add_one_prints : AddOnePrints
-unfolding numbered values_of_runs put_all put_runs held changed_cells changes died without inserted with_news news_of left_of changed_values told_news begun_copy agreed_after tells args_fault fits_cell run_fault runs_fault is_ask_place is_awaited user_stop fault_of calls comes_back answers split_commands applied taken next first_kernel run_from_pending split_run is_kernel is_user pointer_to born_at is_live cell_at put killed normal first_memory reached loaded stored outcome_of value_shown argument_shown cell_shown arguments_shown cells_shown event_line event_lines end_line object_line object_lines report is_in cells_from cells_of_runs runs_of_cells rises_after is_keyed visible_of visible value_text new_text run_text set_run_text shape_text text view_fits runs_fit lives_fit call_fits back_fits answer_fits opened replied deliver first_user user_after allowance user_reply fits fits_result is_view_of is_same_view is_same walk renewed in_user upcall begin begun returned commands first_world watched served in_kernel kernel_call four eight item opaque listed bit_of of_bits is_in_range fitted_or fitted quotient bitwise operated negated flipped is_right_operand digits leaves_of fits_at repeated cells leaves form.out-Ty denote.Hole.Carrier.out
+unfolding numbered values_of_runs put_all put_runs held changed_cells changes died without inserted with_news news_of left_of changed_values told_news begun_copy agreed_after tells args_fault fits_cell run_fault runs_fault is_ask_place is_awaited user_stop fault_of calls comes_back answers split_commands applied taken next first_kernel run_from_pending split_run is_kernel is_user pointer_to born_at is_live cell_at put killed normal first_memory reached loaded stored outcome_of value_shown argument_shown cell_shown arguments_shown cells_shown event_line event_lines end_line object_line object_lines report is_in cells_from cells_of_runs runs_of_cells rises_after is_keyed visible_of visible value_text new_text run_text set_run_text shape_text text view_fits runs_fit lives_fit call_fits back_fits answer_fits opened replied deliver first_user user_after allowance user_reply fits fits_result is_view_of is_same_view is_same walk with_view in_user upcall begin begun returned commands first_world watched served in_kernel kernel_call four eight item opaque listed bit_of of_bits is_in_range fitted_or fitted quotient bitwise operated negated flipped is_right_operand digits leaves_of fits_at repeated cells leaves form.out-Ty denote.Hole.Carrier.out
 add_one_prints = rw (is_entered add_one add_one_bodies add_one_code half.User) refl
 
 pub bump_sends : BumpSends
-unfolding numbered values_of_runs put_all put_runs held changed_cells changes died without inserted with_news news_of left_of changed_values told_news begun_copy agreed_after tells args_fault fits_cell run_fault runs_fault is_ask_place is_awaited user_stop fault_of calls comes_back answers split_commands applied taken next first_kernel run_from_pending split_run is_kernel is_user pointer_to born_at is_live cell_at put killed normal first_memory reached loaded stored is_in cells_from cells_of_runs runs_of_cells rises_after is_keyed visible_of visible view_fits runs_fit lives_fit call_fits back_fits answer_fits opened replied deliver first_user user_after allowance user_reply fits fits_result is_view_of is_same_view is_same walk renewed in_user upcall begin begun returned commands first_world watched served in_kernel kernel_call is_in_range fitted_or fitted quotient bitwise operated negated flipped is_right_operand leaves_of fits_at repeated cells leaves form.out-Ty denote.Hole.Carrier.out
+unfolding numbered values_of_runs put_all put_runs held changed_cells changes died without inserted with_news news_of left_of changed_values told_news begun_copy agreed_after tells args_fault fits_cell run_fault runs_fault is_ask_place is_awaited user_stop fault_of calls comes_back answers split_commands applied taken next first_kernel run_from_pending split_run is_kernel is_user pointer_to born_at is_live cell_at put killed normal first_memory reached loaded stored is_in cells_from cells_of_runs runs_of_cells rises_after is_keyed visible_of visible view_fits runs_fit lives_fit call_fits back_fits answer_fits opened replied deliver first_user user_after allowance user_reply fits fits_result is_view_of is_same_view is_same walk with_view in_user upcall begin begun returned commands first_world watched served in_kernel kernel_call is_in_range fitted_or fitted quotient bitwise operated negated flipped is_right_operand leaves_of fits_at repeated cells leaves form.out-Ty denote.Hole.Carrier.out
 bump_sends = record {
   sent = rw (bump_place 1, bump_stub, bump_kernel, bump_place 2, bump_place 3, bump_stub, bump_kernel) refl;
   honest = (
@@ -149,7 +149,7 @@ unfolding four eight item opaque listed value_text new_text run_text set_run_tex
 bump_spells = record { sent = refl; answers = refl }
 
 reset_runs : watched reset (calling 1) 1000000 ≡ finish ends.Ok reset_end.world
-unfolding numbered values_of_runs put_all put_runs held changed_cells changes died without inserted with_news news_of left_of changed_values told_news begun_copy agreed_after tells args_fault fits_cell run_fault runs_fault is_ask_place is_awaited user_stop fault_of calls comes_back answers split_commands applied taken next first_kernel run_from_pending split_run is_kernel is_user pointer_to born_at is_live cell_at put killed normal first_memory reached loaded stored is_in cells_from cells_of_runs runs_of_cells rises_after is_keyed visible_of visible view_fits runs_fit lives_fit call_fits back_fits answer_fits opened replied deliver first_user user_after allowance user_reply fits fits_result is_view_of is_same_view is_same walk renewed in_user upcall begin begun returned commands first_world watched served in_kernel kernel_call is_in_range fitted_or fitted quotient bitwise operated negated flipped is_right_operand leaves_of fits_at repeated cells leaves form.out-Ty denote.Hole.Carrier.out
+unfolding numbered values_of_runs put_all put_runs held changed_cells changes died without inserted with_news news_of left_of changed_values told_news begun_copy agreed_after tells args_fault fits_cell run_fault runs_fault is_ask_place is_awaited user_stop fault_of calls comes_back answers split_commands applied taken next first_kernel run_from_pending split_run is_kernel is_user pointer_to born_at is_live cell_at put killed normal first_memory reached loaded stored is_in cells_from cells_of_runs runs_of_cells rises_after is_keyed visible_of visible view_fits runs_fit lives_fit call_fits back_fits answer_fits opened replied deliver first_user user_after allowance user_reply fits fits_result is_view_of is_same_view is_same walk with_view in_user upcall begin begun returned commands first_world watched served in_kernel kernel_call is_in_range fitted_or fitted quotient bitwise operated negated flipped is_right_operand leaves_of fits_at repeated cells leaves form.out-Ty denote.Hole.Carrier.out
 reset_runs = rw (reset_user, reset_kernel) refl
 
 pub reset_prints : ResetPrints
@@ -157,7 +157,7 @@ unfolding outcome_of value_shown argument_shown cell_shown arguments_shown cells
 reset_prints = ap (λ (f : Finish). report reset (outcome_of f)) reset_runs
 
 pub reset_sends : ResetSends
-unfolding numbered values_of_runs put_all put_runs held changed_cells changes died without inserted with_news news_of left_of changed_values told_news begun_copy agreed_after tells args_fault fits_cell run_fault runs_fault is_ask_place is_awaited user_stop fault_of calls comes_back answers split_commands applied taken next first_kernel run_from_pending split_run is_kernel is_user pointer_to born_at is_live cell_at put killed normal first_memory reached loaded stored is_in cells_from cells_of_runs runs_of_cells rises_after is_keyed visible_of visible view_fits runs_fit lives_fit call_fits back_fits answer_fits opened replied deliver first_user user_after allowance user_reply fits fits_result is_view_of is_same_view is_same walk renewed in_user upcall begin begun returned commands first_world watched served in_kernel kernel_call is_in_range fitted_or fitted quotient bitwise operated negated flipped is_right_operand leaves_of fits_at repeated cells leaves form.out-Ty denote.Hole.Carrier.out
+unfolding numbered values_of_runs put_all put_runs held changed_cells changes died without inserted with_news news_of left_of changed_values told_news begun_copy agreed_after tells args_fault fits_cell run_fault runs_fault is_ask_place is_awaited user_stop fault_of calls comes_back answers split_commands applied taken next first_kernel run_from_pending split_run is_kernel is_user pointer_to born_at is_live cell_at put killed normal first_memory reached loaded stored is_in cells_from cells_of_runs runs_of_cells rises_after is_keyed visible_of visible view_fits runs_fit lives_fit call_fits back_fits answer_fits opened replied deliver first_user user_after allowance user_reply fits fits_result is_view_of is_same_view is_same walk with_view in_user upcall begin begun returned commands first_world watched served in_kernel kernel_call is_in_range fitted_or fitted quotient bitwise operated negated flipped is_right_operand leaves_of fits_at repeated cells leaves form.out-Ty denote.Hole.Carrier.out
 reset_sends = record {
   sent = rw (reset_place 2, reset_stub, reset_kernel, reset_place 3) refl;
   honest = (

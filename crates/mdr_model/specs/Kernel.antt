@@ -16,8 +16,8 @@ use Rattle.mdr_model.specs.declared.outcome.End.TheVariants as ends
 use Rattle.mdr_model.specs.Memory.{first_memory}
 use Rattle.mdr_model.specs.Sets.{runs_of_cells}
 use Rattle.mdr_model.specs.Tree.{Asked}
-use Rattle.mdr_model.specs.World.{World, advanced, Ran, Ended, Stopped, served, kernel_call}
-use Rattle.mdr_model.specs.Watched.{renewed, returned, Beginning, Did, Opens, begin, first_world}
+use Rattle.mdr_model.specs.World.{World, top, advanced, Ran, Ended, Stopped, served, kernel_call}
+use Rattle.mdr_model.specs.Watched.{upcall_begun, renewed, upcall_ended, returned, Beginning, Did, Opens, begin, first_world}
 use Rattle.mdr_model.specs.Copies.{Told, tells, agreed_after, put_runs}
 use Rattle.mdr_model.specs.Faults.{fault}
 use Rattle.mdr_model.specs.KernelState.{Kernel, Rest, Noted, Pending, Over, Waits, Reading}
@@ -34,16 +34,16 @@ sent program w told k = record { world = w; agreed = agreed_after program told k
 -- an upcall begins: the visible set is taken, and the call is told
 unfoldable pub calls : Program → ℕ → List Wire → World → Kernel → List Command → Pending
 calls program f args w k script =
-    let w' : World = renewed program w in
-    let told : Told = tells program w'.view args k.agreed w'.memory in
-    Waits (message.Call f 0 w'.clock.rest args told.deaths told.news (runs_of_cells w'.view) told.runs) (sent program w' told k) (Noted f) script
+    let w' : World = upcall_begun program w in
+    let told : Told = tells program (top w'.views) args k.agreed w'.memory in
+    Waits (message.Call f 0 w'.clock.rest args told.deaths told.news (runs_of_cells (top w'.views)) told.runs) (sent program w' told k) (Noted f) script
 
 -- a downcall came back: the visible set is taken anew, and the result is told
 unfoldable pub comes_back : Program → Wire → World → Kernel → Rest → List Command → Pending
 comes_back program v w k rest script =
     let w' : World = renewed program w in
-    let told : Told = tells program w'.view (values_of_result v) k.agreed w'.memory in
-    Waits (message.Back w'.clock.rest v told.deaths told.news (runs_of_cells w'.view) told.runs) (sent program w' told k) rest script
+    let told : Told = tells program (top w'.views) (values_of_result v) k.agreed w'.memory in
+    Waits (message.Back w'.clock.rest v told.deaths told.news (runs_of_cells (top w'.views)) told.runs) (sent program w' told k) rest script
 
 -- a service was done, and its results are told, and no cells
 unfoldable pub answers : Program → List Wire → World → Kernel → Rest → List Command → Pending
@@ -78,7 +78,7 @@ unfoldable pub applied : ℕ → List Run → Kernel → Kernel
 applied ticks runs k = record k { world = spent ticks runs k.world; agreed = put_runs runs k.agreed }
 
 abbrev pub continued : Program → Wire → Kernel → Rest → List Command → Pending
-continued program v k (Noted f) script = split_commands program script (record k { world = returned v k.world })
+continued program v k (Noted f) script = split_commands program script (record k { world = returned v (upcall_ended k.world) })
 
 abbrev pub downcalled : Program → Ran Wire → Kernel → Rest → List Command → Pending
 downcalled program (Ended v w) k rest script = comes_back program v w k rest script

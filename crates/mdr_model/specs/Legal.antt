@@ -18,6 +18,7 @@ use Rattle.mdr_model.specs.Copies.{put_runs}
 use Rattle.mdr_model.specs.KernelState.{Kernel, Rest, Pending, Over, Waits, Reading}
 use Rattle.mdr_model.specs.ReplyFaults.{reply_of, fault_of}
 use Rattle.mdr_model.specs.Kernel.{refused, split_run}
+use Rattle.mdr_model.specs.World.{top}
 
 -- the first fault of a message: it is no reply, or the reply has one
 abbrev pub message_fault : Program → Kernel → Rest → Option Reply → Option Fault
@@ -78,7 +79,7 @@ abbrev pub LegalIsContained : Type 0
 LegalIsContained =
     (program : Program) (script : List Command) (budget : ℕ) (answers : List Reading) (reply : Reply) (m : Message) (k : Kernel) (rest : Rest) (left : List Command)
     → (split_run program script budget answers).pending ≡ Waits m k rest left → fault_of program k rest reply ≡ None
-    → IsContained program k.world.memory (put_runs (runs_told reply) k.world.memory) k.world.view
+    → IsContained program k.world.memory (put_runs (runs_told reply) k.world.memory) (top k.world.views)
 
 -- ---- any answers
 

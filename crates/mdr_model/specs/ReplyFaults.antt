@@ -21,7 +21,7 @@ use Rattle.mdr_model.specs.declared.reply.Reply.{Reply}
 use Rattle.mdr_model.specs.declared.reply.Reply.TheVariants as replies
 use Rattle.mdr_model.specs.Values.{fits_result}
 use Rattle.mdr_model.specs.Meaning.{func_at, body_of, is_kernel, is_user}
-use Rattle.mdr_model.specs.World.{is_writel}
+use Rattle.mdr_model.specs.World.{is_writel, top}
 use Rattle.mdr_model.specs.Faults.{fault, unless, first_fault, params_of, args_fault, runs_fault}
 use Rattle.mdr_model.specs.KernelState.{Kernel, Rest, Noted}
 
@@ -146,7 +146,7 @@ abbrev pub ticks_fault : Kernel → ℕ → Option Fault
 ticks_fault k ticks = unless (nat_le ticks k.world.clock.rest) refusal.TooManyTicks 0
 
 abbrev pub reply_runs_fault : Program → Kernel → List Run → Option Fault
-reply_runs_fault program k runs = runs_fault program k.world.view k.agreed k.world.memory None 0 runs
+reply_runs_fault program k runs = runs_fault program (top k.world.views) k.agreed k.world.memory None 0 runs
 
 -- the fault of a service that is asked for: `writel` is the one that is built, and it has neither shapes nor bytes
 abbrev pub service_fault : ℕ → List Shape64 → List ℕ → Option Fault

@@ -12,15 +12,32 @@ use Rattle.mdr_model.specs.declared.outcome.End.{End}
 use Rattle.mdr_model.specs.declared.outcome.End.TheVariants as ends
 use Rattle.mdr_model.specs.declared.outcome.Happened.TheVariants as happened
 use Rattle.mdr_model.specs.Values.{wire_of, value_of}
-use Rattle.mdr_model.specs.Memory.{first_memory, normal, loaded, stored}
+use Rattle.mdr_model.specs.Memory.{Cell, first_memory, normal, loaded, stored}
 use Rattle.mdr_model.specs.Sets.{is_in, visible}
 use Rattle.mdr_model.specs.Tree.{Tree}
 use Rattle.mdr_model.specs.Meaning.{func_at, is_kernel, started}
-use Rattle.mdr_model.specs.World.{World, Ran, Ended, Stopped, after, ticked, when_loaded, when_stored, noted, served, as_now, kernel_call}
+use Rattle.mdr_model.specs.World.{World, top, below, Ran, Ended, Stopped, after, ticked, when_loaded, when_stored, noted, served, as_now, kernel_call}
 
--- the visible set is taken anew
-unfoldable pub renewed : Program → World → World
-renewed program w = record w { view = visible program w.memory }
+-- the visible set as it is now lies on top of others
+unfoldable pub with_view : Program → List (List Cell) → World → World
+with_view program others w = record w { views = visible program w.memory ∷ others }
+
+-- an upcall begins: its visible set is taken
+abbrev pub upcall_begun : Program → World → World
+upcall_begun program w = with_view program w.views w
+
+-- a downcall came back: the visible set is taken anew
+abbrev pub renewed : Program → World → World
+renewed program w = with_view program (below w.views) w
+
+-- the innermost upcall returned: its visible set is gone
+abbrev pub upcall_ended : World → World
+upcall_ended w = record w { views = below w.views }
+
+-- where its function ended
+abbrev pub ending : Ran Wire → Ran Wire
+ending (Ended v w) = Ended v (upcall_ended w)
+ending (Stopped kind at w) = Stopped kind at w
 
 -- what a tree of the user half does: each access is guarded by the visible set, a downcall is done in place, and the set is taken anew when it returns
 unfoldable pub in_user : Program → Tree → World → Ran Wire
@@ -29,17 +46,17 @@ in_user program (Tree.Done v t) w = Ended (normal w.memory v) w
 in_user program (Tree.Stop kind at) w = Stopped kind (Some at) w
 in_user program (Tree.Tick at t) w = ticked at w (λ w'. in_user program t w')
 in_user program (Tree.Load at p k) w =
-    when_loaded (loaded (is_in w.view) w.memory p) at w (λ v. in_user program (k v) w)
+    when_loaded (loaded (is_in (top w.views)) w.memory p) at w (λ v. in_user program (k v) w)
 in_user program (Tree.Store at p v t) w =
-    when_stored (stored (is_in w.view) w.memory p v) at w (λ w'. in_user program t w')
+    when_stored (stored (is_in (top w.views)) w.memory p v) at w (λ w'. in_user program t w')
 in_user program (Tree.Ask asked k) w =
     after (served (as_now w.memory asked) w) (λ results w'. in_user program (k results) w')
 in_user program (Tree.Cross at func args depth k) w =
     after (kernel_call program func (map (normal w.memory) args) depth w) (λ v w'. in_user program (k v) (renewed program w'))
 
--- a function of the user half is called by a command
+-- a function of the user half is called: its visible set is taken when it begins, and is gone when it returned
 unfoldable pub upcall : Program → (func : ℕ) (args : List Wire) → World → Ran Wire
-upcall program func args w = in_user program (started program half.User (suc w.clock.rest) func args 0) (renewed program w)
+upcall program func args w = ending (in_user program (started program half.User (suc w.clock.rest) func args 0) (upcall_begun program w))
 
 -- ---- scripts
 
@@ -100,7 +117,7 @@ commands program (c ∷ cs) w = and_then (in_place program (begin program c w)) 
 
 -- the state in which a run begins
 unfoldable pub first_world : Program → ℕ → World
-first_world program budget = record { memory = first_memory program; view = []; clock = record { ticks = 0; rest = budget }; kept = record { events = []; calls = 0 } }
+first_world program budget = record { memory = first_memory program; views = []; clock = record { ticks = 0; rest = budget }; kept = record { events = []; calls = 0 } }
 
 -- the one-memory meaning of a script under a budget of ticks
 unfoldable pub watched : Program → List Command → ℕ → Finish

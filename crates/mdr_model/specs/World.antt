@@ -28,12 +28,22 @@ pub record Kept : Type 0 where
   pub events : List Happened
   pub calls : ℕ
 
--- a run's state: its memory, the cells that the innermost upcall may touch, its clock, and what user code can't change
+-- a run's state: its memory, the visible sets of the upcalls that are open, the innermost one's first, its clock, and what user code can't change. A function of the user half is active exactly where there is such a set
 pub record World : Type 0 where
   pub memory : Memory
-  pub view : List Cell
+  pub views : List (List Cell)
   pub clock : Clock
   pub kept : Kept
+
+-- the cells that the innermost upcall may touch; none, where no upcall is open
+abbrev pub top : List (List Cell) → List Cell
+top [] = []
+top (view ∷ views) = view
+
+-- the sets of the upcalls around it
+abbrev pub below : List (List Cell) → List (List Cell)
+below [] = []
+below (view ∷ views) = views
 
 -- a piece of work in a run: it ended with a result, or it stopped the run, at a place if any
 pub data Ran (A : Type 0) : Type 0 where
