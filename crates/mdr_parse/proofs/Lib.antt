@@ -32,4 +32,6 @@ mod Alike
 mod Starred
 mod Voids
 mod Stated
+mod OuterForms
+mod Sources
 mod Deeper

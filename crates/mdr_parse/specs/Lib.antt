@@ -8,5 +8,8 @@ pub mod Running
 pub mod Front
 pub mod Gives
 pub mod Tails
+pub mod Outside
+pub mod Ending
+pub mod Parsing
 pub mod Behind
 pub mod Others

@@ -24,7 +24,7 @@ use mdr_syntax::{AnnText, Base, Const, Decl, Token};
 use std::alloc::Global;
 
 /// A copy of a type.
-fn same_base(alloc: Global, base: &Base) -> Result<Base, Failure>
+pub fn same_base(alloc: Global, base: &Base) -> Result<Base, Failure>
     ensures value { IfOk result (λ b. b ≡ base.now) }
     ensures memory { IfErr result (λ e. e ≡ Memory) }
 {
@@ -110,7 +110,7 @@ pub fn specifiers(reader: Reader, tokens: &[Token]) -> Result<(Specifier, &[Toke
 }
 
 /// What stands behind a declarator's stars.
-fn behind_stars<'t>(
+pub fn behind_stars<'t>(
     reader: Reader,
     tokens: &'t [Token],
     base: &Specifier,

@@ -39,6 +39,16 @@ impl Failure {
     }
 }
 
+impl From<AllocError> for ParseError {
+    ghost use Rattle.mdr_parse.specs.declared.error.ParseError.TheVariants.{OutOfMemory};
+
+    ghost from_gives = { λ _ e. e ≡ OutOfMemory };
+
+    fn from(_e: AllocError) -> ParseError {
+        ParseError::OutOfMemory
+    }
+}
+
 impl From<AllocError> for Failure {
     ghost use Rattle.mdr_parse.specs.declared.error.Failure.TheVariants.{Memory};
 

@@ -85,7 +85,7 @@ fn fields_behind<'t>(
 }
 
 /// The fields of a declaration.
-fn field_group(reader: Reader, tokens: &[Token]) -> Result<(Items<Decl>, &[Token]), Failure>
+pub fn field_group(reader: Reader, tokens: &[Token]) -> Result<(Items<Decl>, &[Token]), Failure>
     ensures reads { Gives (λ x. x.0) (λ x. x.1.now) result (first reader.halves (part a_field_group) tokens.now) }
     ensures shorter { IfOk result (λ x. length x.1.now < length tokens.now) }
 {
@@ -102,7 +102,7 @@ fn typed_fields(reader: Reader, tokens: &[Token]) -> Result<(Items<Decl>, &[Toke
 }
 
 /// An enumeration constant.
-fn enumerator(reader: Reader, tokens: &[Token]) -> Result<(Enumerator, &[Token]), Failure>
+pub fn enumerator(reader: Reader, tokens: &[Token]) -> Result<(Enumerator, &[Token]), Failure>
     ensures reads { Gives (λ x. x.0) (λ x. x.1.now) result (first reader.halves (part an_enumerator) tokens.now) }
     ensures shorter { IfOk result (λ x. length x.1.now < length tokens.now) }
 {

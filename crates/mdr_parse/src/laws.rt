@@ -1,11 +1,11 @@
 // Laws of the grammar, each the contract of a function that does nothing.
 
-ghost use Rattle.std.specs.Prelude.{◌≡◌, Bool, List};
+ghost use Rattle.std.specs.Prelude.{◌≡◌, ℕ, Bool, List};
 ghost use Rattle.mdr_syntax.specs.declared.token.Token.{Token};
 ghost use Rattle.mdr_syntax.specs.declared.tree.Tree.{Tree};
 ghost use Rattle.mdr_parse.specs.Statements.{source};
 ghost use Rattle.mdr_parse.specs.Grammar.{Reads};
-ghost use Rattle.mdr_parse.specs.Running.{run, Tells};
+ghost use Rattle.mdr_parse.specs.Running.{run, Tells, FirstFault};
 
 /// Tokens are the source of at most one tree.
 pub fn sources_have_one_tree()
@@ -17,4 +17,9 @@ pub fn sources_have_one_tree()
 /// these tokens goes on.
 pub fn reading_is_exact()
     ensures { (halves : Bool) (tokens : List Token) → Tells halves tokens (run halves source tokens) }
+{}
+
+/// Tokens with a first fault are the source of no tree.
+pub fn faults_have_no_tree()
+    ensures { (halves : Bool) (tokens : List Token) (n : ℕ) (tree : Tree) → FirstFault halves tokens n → ¬ Reads halves tokens tree }
 {}

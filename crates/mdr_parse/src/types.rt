@@ -73,7 +73,7 @@ fn unsigned_behind<'t>(
 }
 
 /// The struct of a name.
-fn struct_named(reader: Reader, name: &Token) -> Result<Base, Failure>
+pub fn struct_named(reader: Reader, name: &Token) -> Result<Base, Failure>
     ensures value { IfOk result (λ b. b ≡ struct_of name.now) }
     ensures memory { IfErr result (λ e. e ≡ Memory) }
 {

@@ -1,0 +1,7 @@
+use Rattle.std.proofs.Common.{sym, subst}
+use Rattle.mdr_parse.specs.Gives.{Gives}
+use Rattle.mdr_parse.proofs.OuterForms.{remote_stars}
+use Rattle.mdr_parse.proofs.heads.remote.Goals as goal
+
+pub returns-clause-reads : goal.returns-clause-reads
+returns-clause-reads c = subst (λ o. Gives (λ x. x.0) (λ x. x.1.now) c.remote_starred.result o) (sym (remote_stars c.args.reader.halves c.args.place c.args.base.now c.args.tokens.now c.stars-count.ensures.reads)) c.remote_starred.ensures.reads

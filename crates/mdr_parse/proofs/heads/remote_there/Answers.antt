@@ -1,0 +1,10 @@
+use Rattle.std.proofs.Common.{false}
+use Rattle.mdr_parse.specs.Sorts.{Sort}
+use Rattle.mdr_parse.specs.Forms.{◌>>=◌}
+use Rattle.mdr_parse.specs.Statements.{function_head}
+use Rattle.mdr_parse.specs.Outside.{remote_end}
+use Rattle.mdr_parse.proofs.OuterForms.{bound, behind_word}
+use Rattle.mdr_parse.proofs.heads.remote_there.Goals as goal
+
+pub returns-clause-reads : goal.returns-clause-reads
+returns-clause-reads c = behind_word c.args.reader.halves Sort.Open (λ bracket. function_head false c.args.base.now c.args.count c.args.name.now >>= λ h. remote_end c.args.place h) (λ x. x.0) (λ x. x.1.now) c.remote_head.result c.args.tokens.now c.in_ok-rest.ensures.reads (bound c.args.reader.halves (function_head false c.args.base.now c.args.count c.args.name.now) (λ h. remote_end c.args.place h) (λ x. x.0) (λ x. x.1.now) c.remote_head.result c.in_ok-rest.rest.now c.remote_head.ensures.reads)

@@ -1,0 +1,13 @@
+use Rattle.std.proofs.Common.{refl, sym, subst, ◌∙◌, arith}
+use Rattle.mdr_parse.specs.Sorts.{Sort}
+use Rattle.mdr_parse.specs.Forms.Nonterminal.{qualified}
+use Rattle.mdr_parse.specs.Gives.{Gives}
+use Rattle.mdr_parse.proofs.Arms.{past, read_again}
+use Rattle.mdr_parse.proofs.OuterForms.{only_unqualified}
+use Rattle.mdr_parse.proofs.toplevel.qualified.Goals as goal
+
+pub qualifiers-preserved : goal.qualifiers-preserved
+qualifiers-preserved c = record { read = sym (past c.args.reader.halves (qualified c.args.place) Sort.Qualifier c.qualifiers.rest.now c.in-Some.ensures.found refl refl ∙ read_again _) ∙ c.qualifiers.invariant.read; shorter = omega (arith, c.in-Some.ensures.shorter, c.qualifiers.invariant.shorter) }
+
+pub returns-in-None-clause-reads : goal.returns-in-None-clause-reads
+returns-in-None-clause-reads c = subst (λ o. Gives (λ x. x.0) (λ x. x.1.now) c.unqualified.result o) (sym (only_unqualified c.args.reader.halves c.args.place c.qualifiers.rest.now c.in-None.ensures.found) ∙ c.qualifiers.invariant.read) c.unqualified.ensures.reads

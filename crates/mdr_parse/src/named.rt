@@ -1,0 +1,127 @@
+// Globals behind the name of the first, and globals of which the first is a pointer to functions.
+
+ghost use Rattle.std.specs.Prelude.{◌≡◌, ◌<◌, ◌≤◌, length, IfOk, IfErr};
+ghost use Rattle.mdr_parse.specs.Front.{and_read, front};
+ghost use Rattle.mdr_parse.specs.Declarations.{declarator_rule};
+ghost use Rattle.mdr_parse.specs.Statements.{global_with, globals_with, more_globals};
+ghost use Rattle.mdr_parse.specs.Outside.{named_decl as decl_with, global_named};
+ghost use Rattle.mdr_parse.specs.Gives.{Gives, read_by, after_stars};
+ghost use Rattle.mdr_parse.specs.declared.error.Failure.TheVariants.{Memory};
+
+use crate::constants::{annotation_option, size};
+use crate::declarators::{behind_stars, same_base};
+use crate::error::Failure;
+use crate::globals::{ended_globals, global_behind};
+use crate::initialisers::initial_option;
+use crate::look::{Reader, copied, text_of};
+use crate::parts::Specifier;
+use mdr_core::{Items, Place};
+use mdr_syntax::{AnnText, Const, Decl, Item, ItemWhat, Token};
+
+/// The declarator of a global with its parts.
+fn named_decl(
+    reader: Reader,
+    base: &Specifier,
+    stars: u32,
+    name: &Token,
+    size: Option<Const>,
+    ann: Option<AnnText>,
+) -> Result<Decl, Failure>
+    ensures value { IfOk result (λ d. d ≡ decl_with base.now stars name.now size ann) }
+    ensures memory { IfErr result (λ e. e ≡ Memory) }
+{
+    Ok(Decl {
+        place: name.place,
+        name: Some(copied(reader.alloc, text_of(&name.what))?),
+        base: same_base(reader.alloc, &base.base)?,
+        stars,
+        size,
+        fun: None,
+        ann,
+    })
+}
+
+/// A global behind its name.
+fn named_global<'t>(
+    reader: Reader,
+    tokens: &'t [Token],
+    place: Place,
+    base: &Specifier,
+    count: u32,
+    name: &Token,
+) -> Result<(Item, &'t [Token]), Failure>
+    ensures reads { Gives (λ x. x.0) (λ x. x.1.now) result (front reader.halves (global_named place base.now count name.now) tokens.now) }
+    ensures shorter { IfOk result (λ x. length x.1.now ≤ length tokens.now) }
+{
+    let (size, rest) = size(reader, tokens)?;
+    let (ann, rest) = annotation_option(reader, rest, 0)?;
+    let decl = named_decl(reader, base, count, name, size, ann)?;
+    let (init, rest) = initial_option(reader, rest)?;
+    Ok((
+        Item {
+            place,
+            what: ItemWhat::Global(decl, init),
+        },
+        rest,
+    ))
+}
+
+/// Globals behind the name of the first.
+pub fn named_globals<'t>(
+    reader: Reader,
+    tokens: &'t [Token],
+    place: Place,
+    base: &Specifier,
+    count: u32,
+    name: &Token,
+) -> Result<(Items<Item>, &'t [Token]), Failure>
+    ensures reads { Gives (λ x. x.0) (λ x. x.1.now) result (and_read (front reader.halves (global_named place base.now count name.now) tokens.now) (λ g us. front reader.halves (more_globals place base.now g) us)) }
+    ensures shorter { IfOk result (λ x. length x.1.now ≤ length tokens.now) }
+{
+    let (item, rest) = named_global(reader, tokens, place, base, count, name)?;
+    ended_globals(reader, rest, item, place, base)
+}
+
+/// Globals behind the declarator of the first.
+fn declared_globals<'t>(
+    reader: Reader,
+    tokens: &'t [Token],
+    place: Place,
+    base: &Specifier,
+    decl: Decl,
+) -> Result<(Items<Item>, &'t [Token]), Failure>
+    ensures reads { Gives (λ x. x.0) (λ x. x.1.now) result (and_read (front reader.halves (global_with place decl) tokens.now) (λ g us. front reader.halves (more_globals place base.now g) us)) }
+    ensures shorter { IfOk result (λ x. length x.1.now ≤ length tokens.now) }
+{
+    let (item, rest) = global_behind(reader, tokens, place, decl)?;
+    ended_globals(reader, rest, item, place, base)
+}
+
+/// Globals behind the declarator of the first, as the grammar has them.
+fn other_globals<'t>(
+    reader: Reader,
+    tokens: &'t [Token],
+    place: Place,
+    base: &Specifier,
+    decl: Decl,
+) -> Result<(Items<Item>, &'t [Token]), Failure>
+    ensures reads { Gives (λ x. x.0) (λ x. x.1.now) result (front reader.halves (globals_with place base.now decl) tokens.now) }
+    ensures shorter { IfOk result (λ x. length x.1.now ≤ length tokens.now) }
+{
+    declared_globals(reader, tokens, place, base, decl)
+}
+
+/// Globals of which the first is a pointer to functions, behind their type's stars.
+pub fn pointer_globals<'t>(
+    reader: Reader,
+    tokens: &'t [Token],
+    place: Place,
+    base: &Specifier,
+    count: u32,
+) -> Result<(Items<Item>, &'t [Token]), Failure>
+    ensures reads { Gives (λ x. x.0) (λ x. x.1.now) result (and_read (read_by reader.halves (after_stars (declarator_rule 0 base.now count)) tokens.now) (λ d us. front reader.halves (globals_with place base.now d) us)) }
+    ensures shorter { IfOk result (λ x. length x.1.now < length tokens.now) }
+{
+    let (decl, rest) = behind_stars(reader, tokens, base, count, 0)?;
+    other_globals(reader, rest, place, base, decl)
+}
