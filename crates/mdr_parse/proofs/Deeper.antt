@@ -1,23 +1,22 @@
 -- Statements, by what stands behind their first words.
-use Rattle.std.proofs.Common.{◌≡◌, ◌<◌, ◌≤◌, refl, sym, subst, ap, ◌∙◌, arith, ◌+◌, ℕ, Bool, true, false, List, [], ◌∷◌, ◌++◌, length, Option, Some, None, Result, Ok, Err}
+use Rattle.std.proofs.Common.{◌≡◌, ◌<◌, refl, sym, subst, ap, ◌∙◌, arith, ◌+◌, ℕ, Bool, true, false, List, [], ◌∷◌, ◌++◌, Option, Some, None, Result, Ok}
 use Rattle.mdr_core.specs.declared.place.Place.{Place}
 use Rattle.mdr_syntax.specs.declared.token.Token.{Token}
 use Rattle.mdr_syntax.specs.declared.tree.Form.{Form}
 use Rattle.mdr_syntax.specs.declared.tree.Node.{Node}
 use Rattle.mdr_parse.specs.declared.error.Failure.{Failure}
 use Rattle.mdr_parse.specs.Sorts.{Sort, sort_of}
-use Rattle.mdr_parse.specs.Forms.{Ended, Part, PartValue, Right, ◌>>=◌, take, form, one}
+use Rattle.mdr_parse.specs.Forms.{Ended, Part, Right, ◌>>=◌, take, one}
 use Rattle.mdr_parse.specs.Forms.Part.{statement, body, block_item, simple}
 use Rattle.mdr_parse.specs.Forms.Repeated.{block_items}
 use Rattle.mdr_parse.specs.Forms.Nonterminal.{part, option, many}
 use Rattle.mdr_parse.specs.Forms.Right.{gives}
 use Rattle.mdr_parse.specs.Forms.Rule.{given}
 use Rattle.mdr_parse.specs.Forms.Empty.{cannot}
-use Rattle.mdr_parse.specs.Grammar.{part_rule}
 use Rattle.mdr_parse.specs.Expressions.{is_level_free}
-use Rattle.mdr_parse.specs.Statements.{condition, loop_head, deeper_rule, deeper_keyword_rule, single_rule, in_block, joined, items_in, nested_in, block_end, opening_simple_rule, label_rule}
-use Rattle.mdr_parse.specs.Behind.{after_condition, after_head, after_do, after_nested, while_behind, done, loop_init, loop_test, loop_step, loop_parts}
-use Rattle.mdr_parse.specs.Front.{Read, and_read, word_at, first, front}
+use Rattle.mdr_parse.specs.Statements.{condition, loop_head, deeper_rule, single_rule, in_block, joined, items_in, nested_in, block_end, opening_simple_rule, label_rule}
+use Rattle.mdr_parse.specs.Behind.{after_condition, after_head, after_do, after_nested, done, loop_init, loop_test, loop_step, loop_parts}
+use Rattle.mdr_parse.specs.Front.{and_read, word_at, first, front}
 use Rattle.mdr_parse.specs.Gives.{Gives, Fails, read_by}
 use Rattle.mdr_parse.proofs.Hungry.{opens}
 use Rattle.mdr_parse.proofs.Through.{bind, and_same}

@@ -1,21 +1,20 @@
 -- The cycle of statements.
-use Rattle.std.proofs.Common.{refl, sym, ap, ◌∙◌, arith, ◌+◌, [], ◌∷◌, ◌++◌, true, false, Ok, Some, None}
+use Rattle.std.proofs.Common.{refl, sym, ap, ◌∙◌, arith, ◌+◌, true, Ok}
 use Rattle.std.proofs.lemmas.Result.{err_from_is_err_and}
 use Rattle.mdr_parse.specs.Sorts.{Sort}
 use Rattle.mdr_parse.specs.Forms.Part.{statement, body, simple, plain, clause, label, block_item}
 use Rattle.mdr_parse.specs.Forms.Repeated.{statements, clauses}
-use Rattle.mdr_parse.specs.Forms.Nonterminal.{part, option, many, otherwise}
+use Rattle.mdr_parse.specs.Forms.Nonterminal.{part, many}
 use Rattle.mdr_parse.specs.Forms.Right.{gives}
 use Rattle.mdr_parse.specs.Forms.{and_then}
 use Rattle.mdr_parse.specs.Expressions.{is_level_free}
-use Rattle.mdr_parse.specs.Statements.{deeper_rule, single_rule, statement_rule, in_block, simple_end, other_branch, clause_of}
+use Rattle.mdr_parse.specs.Statements.{deeper_rule, single_rule, statement_rule, in_block, simple_end, clause_of}
 use Rattle.mdr_parse.specs.Behind.{other_of, branches, repeated_while, repeated_for, switched}
 use Rattle.mdr_parse.specs.Front.{first}
-use Rattle.mdr_parse.specs.Gives.{read_by}
-use Rattle.mdr_parse.proofs.Arms.{goes, arm, at_end, past_arm, not_past}
+use Rattle.mdr_parse.proofs.Arms.{goes, arm, at_end, past_arm}
 use Rattle.mdr_parse.proofs.Expressing.{gives_same}
 use Rattle.mdr_parse.proofs.Going.{first_by, through_by, through_all}
-use Rattle.mdr_parse.proofs.Stated.{nested_allowed, nested_forbidden, deeper_is, deeper_refused, deeper_simple, only_single, forbidden_by, other_forbidden, no_else, item_is}
+use Rattle.mdr_parse.proofs.Stated.{nested_allowed, nested_forbidden, deeper_is, deeper_refused, deeper_simple, only_single, forbidden_by, item_is}
 use Rattle.mdr_parse.proofs.Turns.{fails_by, optional, many_more, many_end, many_fails, or_ok, or_other, or_fails}
 use Rattle.mdr_parse.proofs.Deeper.{free_below, by_condition, by_head, by_do, by_nested, by_single, more_so_far, all_so_far, fails_so_far}
 use Rattle.mdr_parse.proofs.+statement.Goals as goal
