@@ -8,7 +8,7 @@ mod worked;
 
 pub use laws::{
     equality_up_to_ticks_is_alike, expressions_are_fair, fuel_is_no_matter, programs_are_numbered,
-    questions_are_few, user_trees_are_equal, walks_go_on,
+    questions_are_few, user_trees_are_equal, walks_go_on, walks_may_be_cut,
 };
 pub use shape::Shape64;
 pub use wire::{Wire, WireView};
