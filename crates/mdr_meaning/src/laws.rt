@@ -5,6 +5,7 @@ ghost use Rattle.mdr_meaning.specs.FairExpressions.{ExpressionsAreFair, LvaluesA
 ghost use Rattle.mdr_meaning.specs.Few.{QuestionsAreFew};
 ghost use Rattle.mdr_meaning.specs.Fuel.{FuelIsNoMatter, StartedFuelIsNoMatter, UserTreesAreEqual};
 ghost use Rattle.mdr_meaning.specs.Numbers.{ProgramsAreNumbered};
+ghost use Rattle.mdr_meaning.specs.Placed.{TreesArePlaced};
 ghost use Rattle.mdr_meaning.specs.Walk.{WalksCut, WalksGoOn};
 
 /// Equality up to a number of ticks is a relation that each node keeps, and cutting twice is cutting once.
@@ -49,4 +50,11 @@ pub fn programs_are_numbered()
 pub fn expressions_are_fair()
     ensures values { ExpressionsAreFair }
     ensures addresses { LvaluesAreFair }
+{}
+
+/// Each step of a started function's tree stands at a statement of its side, with at most 256 functions active; each
+/// stop is one that code comes to, and each crossing calls a function that the side has no body of. This holds of any
+/// code, sound or not.
+pub fn trees_are_placed()
+    ensures { TreesArePlaced }
 {}
