@@ -9,3 +9,4 @@ pub mod NumberLaws
 pub mod PointerLaws
 pub mod FitLaws
 pub mod ExpressionLaws
+pub mod PlacedLaws

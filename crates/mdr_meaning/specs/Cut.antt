@@ -1,5 +1,6 @@
 -- A tree as far as a number of ticks lets it go.
 use Rattle.std.specs.Prelude.{◌≡◌, ℕ, zero, suc, ◌≤◌}
+use Rattle.mdr_core.specs.declared.place.At.{At}
 use Rattle.mdr_core.specs.declared.stop.StopKind.TheVariants.{Ticks}
 use Rattle.mdr_meaning.specs.Tree.{Tree}
 use Rattle.mdr_meaning.specs.Alike.{IsCongruence}
@@ -19,6 +20,11 @@ cut r (Tree.Birth at shapes k) = Tree.Birth at shapes (λ ps. cut r (k ps))
 cut r (Tree.Death at ps t) = Tree.Death at ps (cut r t)
 cut r (Tree.Ask asked k) = Tree.Ask asked (λ vs. cut r (k vs))
 cut r (Tree.Cross at func args depth k) = Tree.Cross at func args depth (λ v. cut r (k v))
+
+-- what follows a tick
+abbrev pub cut_next : ℕ → At → Tree → Tree
+cut_next zero at t = Tree.Stop Ticks at
+cut_next (suc r) at t = cut r t
 
 -- two trees are the same up to so many ticks
 pub record SameCut (r : ℕ) (t u : Tree) : Type 0 where

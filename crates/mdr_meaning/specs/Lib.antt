@@ -18,6 +18,7 @@ pub mod Fuel
 pub mod Few
 pub mod Fit
 pub mod Fair
+pub mod Placed
 pub mod Slots
 pub mod FairExpressions
 pub mod Small

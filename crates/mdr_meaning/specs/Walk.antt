@@ -4,6 +4,7 @@ use Rattle.mdr_core.specs.declared.stop.StopKind.{StopKind}
 use Rattle.mdr_core.specs.declared.place.At.{At}
 use Rattle.mdr_meaning.specs.declared.wire.Wire.{Wire}
 use Rattle.mdr_meaning.specs.declared.shape.Shape64.{Shape64}
+use Rattle.mdr_meaning.specs.Cut.{cut, cut_next}
 use Rattle.mdr_meaning.specs.Tree.{Asked, Tree}
 
 -- a memory with objects that were just born in it
@@ -79,3 +80,19 @@ further a n w = onward a n w.reached w.memory w.left
 
 abbrev pub WalksGoOn : Type 0 → Type 0
 WalksGoOn M = (a : Accesses M) (n more : ℕ) (t : Tree) (m : M) → walk a (n + more) t m ≡ further a more (walk a n t m)
+
+-- what a walk reaches, with s ticks more in the tree
+abbrev pub cut_reached : ℕ → Reached → Reached
+cut_reached s Reached.Idles = Reached.Idles
+cut_reached s (Reached.Opens k) = Reached.Opens (λ vs. cut s (k vs))
+cut_reached s (Reached.Ended v t) = Reached.Ended v (cut s t)
+cut_reached s (Reached.Stopped kind at) = Reached.Stopped kind at
+cut_reached s (Reached.Needs at d t) = Reached.Needs at d (cut_next s at t)
+cut_reached s (Reached.Asks asked k) = Reached.Asks asked (λ vs. cut s (k vs))
+cut_reached s (Reached.Crosses at func args depth k) = Reached.Crosses at func args depth (λ v. cut s (k v))
+
+-- a walk of a tree that is cut, r ticks behind the walk's own, is the walk of the tree, with what it reaches cut
+abbrev pub WalksCut : Type 0 → Type 0
+WalksCut M =
+    (a : Accesses M) (n r : ℕ) (t : Tree) (m : M)
+    → walk a n (cut (n + r) t) m ≡ walked (cut_reached ((walk a n t m).left + r) (walk a n t m).reached) (walk a n t m).memory (walk a n t m).left

@@ -1,6 +1,6 @@
 -- Functions worked out: what the definitions make of small bodies, on a small memory.
 use Rattle.std.specs.Prelude.{◌≡◌, ℕ, zero, suc, Bool, true, false, List, [], ◌∷◌, ◌++◌, Option, Some, None, pos, codes}
-use Rattle.mdr_core.specs.declared.kind.Kind.TheVariants.{U8, U32, S32}
+use Rattle.mdr_core.specs.declared.kind.Kind.TheVariants.{U8, S8, U32, S32}
 use Rattle.mdr_core.specs.declared.place.At.{At}
 use Rattle.mdr_core.specs.declared.stop.StopKind.TheVariants as stop
 use Rattle.mdr_core.specs.declared.types.Ty.{Ty}
@@ -272,6 +272,32 @@ dangles = body (local (ty.Ptr u32) ∷ object u32 ∷ []) ty.Void
 
 abbrev pub Dangles : Type 0
 Dangles = (called (with_globals (global u32 ∷ [])) (only dangles) false 20 0 [] (mem ((w32 0 ∷ []) ∷ []) [] 0 [])).ending ≡ Stopped stop.Dead (at_stmt 0 4)
+
+-- void f(void){ char b[4] = "ab"; }
+abbrev pub fills_text : Body
+fills_text = body (array (ty.Int S8) 4 ∷ []) ty.Void (Code.Declare 1 0 ∷ Code.Text 1 0 (97 ∷ 98 ∷ []) ∷ [])
+
+abbrev pub s8 : ℕ → Wire
+s8 n = wire.Int S8 (pos n)
+
+-- the text's bytes, and zeros behind them
+abbrev pub FillsText : Type 0
+FillsText =
+    called (with_globals []) (only fills_text) false 20 0 [] (mem [] [] 0 [])
+    ≡ ran (Ended wire.NoValue) (mem ((s8 97 ∷ s8 98 ∷ s8 0 ∷ s8 0 ∷ []) ∷ []) ((0 ∷ []) ∷ []) 2 [])
+
+-- void f(void){ void *p; p = kzalloc(struct node); kfree(p); }
+abbrev pub allocates : Body
+allocates = body (local ty.VoidPtr ∷ []) ty.Void
+    (Code.Declare 1 0
+    ∷ Code.Call 2 (Goal.Into (Lvalue.Slot 0)) (record { callee = Called.Service 1; args = []; shape = Some (ty.Struct 0); format = None })
+    ∷ Code.Call 3 Goal.Nowhere (form (Called.Service 3) (var 0 ∷ []))
+    ∷ [])
+
+abbrev pub Allocates : Type 0
+Allocates =
+    called (with_globals []) (only allocates) false 20 0 [] (mem [] [] 0 [])
+    ≡ ran (Ended wire.NoValue) (mem ((w32 0 ∷ wire.Null ∷ []) ∷ []) ((0 ∷ []) ∷ []) 3 (1 ∷ 3 ∷ []))
 
 -- ---- calls
 -- u32 h(u32 n){ if (n < 1) return 9; return h(n - 1); } void f(void){ u32 (*p)(u32); p = h; g = p(3); k(g + 5); }   h is 0, f is 1, k of the other half

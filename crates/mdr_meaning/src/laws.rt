@@ -5,7 +5,8 @@ ghost use Rattle.mdr_meaning.specs.FairExpressions.{ExpressionsAreFair, LvaluesA
 ghost use Rattle.mdr_meaning.specs.Few.{QuestionsAreFew};
 ghost use Rattle.mdr_meaning.specs.Fuel.{FuelIsNoMatter, StartedFuelIsNoMatter, UserTreesAreEqual};
 ghost use Rattle.mdr_meaning.specs.Numbers.{ProgramsAreNumbered};
-ghost use Rattle.mdr_meaning.specs.Walk.{WalksGoOn};
+ghost use Rattle.mdr_meaning.specs.Placed.{TreesArePlaced};
+ghost use Rattle.mdr_meaning.specs.Walk.{WalksCut, WalksGoOn};
 
 /// Equality up to a number of ticks is a relation that each node keeps, and cutting twice is cutting once.
 pub fn equality_up_to_ticks_is_alike()
@@ -16,6 +17,11 @@ pub fn equality_up_to_ticks_is_alike()
 /// A walk with more ticks is the walk with fewer, and then on from where that one stands.
 pub fn walks_go_on<M>()
     ensures { WalksGoOn M }
+{}
+
+/// A walk of a tree that is cut behind the walk's own ticks is the walk of the tree, with what it reaches cut.
+pub fn walks_may_be_cut<M>()
+    ensures { WalksCut M }
 {}
 
 /// Trees of any two fuels above a number of ticks are equal up to so many ticks, of code and of a started function.
@@ -44,4 +50,11 @@ pub fn programs_are_numbered()
 pub fn expressions_are_fair()
     ensures values { ExpressionsAreFair }
     ensures addresses { LvaluesAreFair }
+{}
+
+/// Each step of a started function's tree stands at a statement of its side, with at most 256 functions active; each
+/// stop is one that code comes to, and each crossing calls a function that the side has no body of. This holds of any
+/// code, sound or not.
+pub fn trees_are_placed()
+    ensures { TreesArePlaced }
 {}

@@ -1,4 +1,10 @@
-//! The meaning of a driver's code: the tree of its observable steps.
+//! The meaning of a driver's code: the tree of its observable steps, for each statement, expression, lvalue, call and
+//! service of a `Program`. Definitions and laws alone: nothing here runs.
+//!
+//! Proved of every program: fuel is no matter, a tree stands where its side has code, and asks few questions. Proved of
+//! sound programs: the values of expressions and the addresses of lvalues are known and fit their types. Not proved yet:
+//! the same of the values that statements and calls pass on. Programs, a type's number among them, have their meaning
+//! by `specs/Bodies`; what services do, and when a run stops in them, is not told by trees.
 #![tactic(auto)]
 
 mod laws;
@@ -8,7 +14,7 @@ mod worked;
 
 pub use laws::{
     equality_up_to_ticks_is_alike, expressions_are_fair, fuel_is_no_matter, programs_are_numbered,
-    questions_are_few, user_trees_are_equal, walks_go_on,
+    questions_are_few, trees_are_placed, user_trees_are_equal, walks_go_on, walks_may_be_cut,
 };
 pub use shape::Shape64;
 pub use wire::{Wire, WireView};

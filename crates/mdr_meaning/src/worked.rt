@@ -1,6 +1,6 @@
 // Small bodies worked out, each as a function that does nothing.
 
-ghost use Rattle.mdr_meaning.specs.Worked.{CountsDown, Sums, Renews, Overflows, Divides, FillsObject, AsksForObject, BreaksOut, ReturnsOut, Dangles, Calls, Narrows, Deepens, WalksRing, TakesNode, AddsFour, AddsFive};
+ghost use Rattle.mdr_meaning.specs.Worked.{CountsDown, Sums, Renews, Overflows, Divides, FillsObject, AsksForObject, BreaksOut, ReturnsOut, Dangles, FillsText, Allocates, Calls, Narrows, Deepens, WalksRing, TakesNode, AddsFour, AddsFive};
 ghost use Rattle.mdr_meaning.specs.WorkedStops.{StopsHavePlaces, PartsHaveAnOrder, ServicesAreAsked};
 
 /// Loops take a tick for each test, `continue` goes to the step, and a slot is zero each time it is declared.
@@ -23,6 +23,8 @@ pub fn objects_live_and_die()
     ensures left { BreaksOut }
     ensures returned { ReturnsOut }
     ensures dangling { Dangles }
+    ensures text { FillsText }
+    ensures heap { Allocates }
 {}
 
 /// Bodies of the own side are entered, at most 256 deep, other functions are crossings, and values convert.
