@@ -99,7 +99,7 @@ pub fn kind_in(what: &Lexeme) -> Kind
 pub fn copied(alloc: Global, name: &[u8]) -> Result<Name, AllocError>
     ensures { IfOk result (λ n. n ≡ name.now) }
 {
-    Ok(Items::from_vec(Vec::from_slice(alloc, name)?))
+    Items::from_slice(alloc, name)
 }
 
 /// Whether tokens may stand inside so many parentheses.
