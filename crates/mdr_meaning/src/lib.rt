@@ -1,10 +1,10 @@
 //! The meaning of a driver's code: the tree of its observable steps, for each statement, expression, lvalue, call and
 //! service of a `Program`. Definitions and laws alone: nothing here runs.
 //!
-//! Proved of every program: fuel is no matter, a tree stands where its side has code, and asks few questions. Proved of
-//! sound programs: the values of expressions and the addresses of lvalues are known and fit their types. Not proved yet:
-//! the same of the values that statements and calls pass on. Programs, a type's number among them, have their meaning
-//! by `specs/Bodies`; what services do, and when a run stops in them, is not told by trees.
+//! Proved of every program: fuel is no matter, each step stands where its side has code, and questions are few. Proved
+//! of sound programs: the values of expressions and the addresses of lvalues name nothing unknown and fit their types.
+//! Not proved yet: the same of the values that statements and calls pass on. Trees don't say what services do, nor the
+//! stops that come in them.
 #![tactic(auto)]
 
 mod laws;
