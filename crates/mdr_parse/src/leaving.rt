@@ -169,12 +169,8 @@ pub fn past_else(halves: bool, is_closed: bool, tokens: &[Token]) -> Option<&[To
     ensures found { GoesOn halves is_closed (λ x. x.now) result tokens.now }
     ensures shorter { IfSome result (λ x. length x.now < length tokens.now) }
 {
-    if is_closed {
-        match past(halves, Sort::Else, tokens) {
-            Some((_, rest)) => Some(rest),
-            None => None,
-        }
-    } else {
-        None
+    match past(halves, Sort::Else, tokens) {
+        Some((_, rest)) => { if is_closed { Some(rest) } else { None } }
+        None => None,
     }
 }
