@@ -10,3 +10,5 @@ pub mod Written
 pub mod Signs
 pub mod Alike
 pub mod Forms
+pub mod Initialisers
+pub mod Globals

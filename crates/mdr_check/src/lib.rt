@@ -8,6 +8,7 @@ mod declarator;
 mod enumerator;
 mod fault;
 mod head;
+mod initialiser;
 mod joining;
 mod object;
 mod operand;
@@ -16,6 +17,7 @@ mod scope;
 mod source;
 mod structs;
 mod types;
+mod variable;
 
 pub use fault::{Fault, FaultKind};
 pub use scope::{
