@@ -6,3 +6,4 @@ pub mod Declarators
 pub mod Enumerating
 pub mod Likeness
 pub mod Initialising
+pub mod Agreeing

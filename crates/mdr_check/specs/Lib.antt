@@ -12,3 +12,4 @@ pub mod Alike
 pub mod Forms
 pub mod Initialisers
 pub mod Globals
+pub mod Functions

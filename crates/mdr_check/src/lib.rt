@@ -7,6 +7,7 @@ mod constant;
 mod declarator;
 mod enumerator;
 mod fault;
+mod function;
 mod head;
 mod initialiser;
 mod joining;
