@@ -7,3 +7,5 @@ pub mod Enumerating
 pub mod Likeness
 pub mod Initialising
 pub mod Agreeing
+pub mod Filing
+pub mod Shortness

@@ -13,3 +13,7 @@ pub mod Forms
 pub mod Initialisers
 pub mod Globals
 pub mod Functions
+pub mod Files
+pub mod Names
+pub mod Uses
+pub mod Whole
