@@ -7,5 +7,6 @@ pub mod Enumerating
 pub mod Likeness
 pub mod Initialising
 pub mod Agreeing
+pub mod Tabling
 pub mod Filing
 pub mod Shortness

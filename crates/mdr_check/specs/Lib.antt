@@ -13,7 +13,8 @@ pub mod Forms
 pub mod Initialisers
 pub mod Globals
 pub mod Functions
+pub mod Tables
 pub mod Files
-pub mod Names
 pub mod Uses
+pub mod Names
 pub mod Whole

@@ -20,6 +20,7 @@ mod operator;
 mod scope;
 mod source;
 mod structs;
+mod table;
 mod types;
 mod uses;
 mod variable;
