@@ -5,3 +5,8 @@ pub mod Stars
 pub mod Declarators
 pub mod Enumerating
 pub mod Likeness
+pub mod Initialising
+pub mod Agreeing
+pub mod Tabling
+pub mod Filing
+pub mod Shortness

@@ -10,3 +10,11 @@ pub mod Written
 pub mod Signs
 pub mod Alike
 pub mod Forms
+pub mod Initialisers
+pub mod Globals
+pub mod Functions
+pub mod Tables
+pub mod Files
+pub mod Uses
+pub mod Names
+pub mod Whole

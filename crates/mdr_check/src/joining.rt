@@ -1,7 +1,7 @@
 // Forms with several parts.
 
-ghost use Rattle.std.specs.Prelude.{◌≡◌, [], IfOk};
-ghost use Rattle.mdr_check.specs.Faults.{Checked, told, demand, refuse, joined, extended};
+ghost use Rattle.std.specs.Prelude.{◌≡◌, ◌++◌, IfOk};
+ghost use Rattle.mdr_check.specs.Faults.{Checked, told, demand, refuse, joined, extended, followed};
 ghost use Rattle.mdr_check.specs.declared.fault.FaultKind.TheVariants.{Mismatch};
 
 use crate::fault::{Fault, FaultKind, lesser};
@@ -66,4 +66,27 @@ pub fn mismatch<A: Drop>(place: Place) -> Result<A, Fault>
         place,
         kind: FaultKind::Mismatch,
     })
+}
+
+/// All of the one, and then all of the other.
+pub fn followed<A: Drop>(
+    all: Result<Items<A>, Fault>,
+    rest: Result<Items<A>, Fault>,
+) -> Result<Result<Items<A>, Fault>, AllocError>
+    ensures { IfOk result (λ r. r ≡ followed all rest) }
+{
+    match both(all, rest) {
+        Ok((xs, ys)) => Ok(Ok(appended(xs, ys)?)),
+        Err(fault) => Ok(Err(fault)),
+    }
+}
+
+fn appended<A: Drop>(xs: Items<A>, ys: Items<A>) -> Result<Items<A>, AllocError>
+    ensures { IfOk result (λ zs. zs ≡ xs ++ ys) }
+{
+    let mut all = xs;
+    for y in ys.into_vec() {
+        all.push(y)?;
+    }
+    Ok(all)
 }

@@ -3,19 +3,28 @@
 
 mod alike;
 mod annotation;
+mod body;
 mod constant;
 mod declarator;
 mod enumerator;
 mod fault;
+mod file;
+mod function;
 mod head;
+mod initialiser;
 mod joining;
+mod names;
 mod object;
 mod operand;
 mod operator;
 mod scope;
 mod source;
 mod structs;
+mod table;
 mod types;
+mod uses;
+mod variable;
+mod whole;
 
 pub use fault::{Fault, FaultKind};
 pub use scope::{

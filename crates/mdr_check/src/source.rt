@@ -117,7 +117,7 @@ pub fn defines_of(alloc: Global, items: &[Item]) -> Result<Items<Named>, AllocEr
     Ok(names)
 }
 
-fn is_numbered(tag: Option<&Tag>, n: usize) -> bool
+pub fn is_numbered(tag: Option<&Tag>, n: usize) -> bool
     ensures { result ≡ is_numbered (option_copied tag.entry) n }
 {
     match tag {
@@ -127,7 +127,7 @@ fn is_numbered(tag: Option<&Tag>, n: usize) -> bool
 }
 
 /// Whether the next struct that becomes complete has this name.
-fn is_next(scope: &Scope, name: &[u8]) -> bool
+pub fn is_next(scope: &Scope, name: &[u8]) -> bool
     ensures { result ≡ is_numbered (tag_named scope.now name.now) (length scope.now.structs) }
 {
     is_numbered(tag_named(scope, name), scope.structs.len())

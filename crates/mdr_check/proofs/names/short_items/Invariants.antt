@@ -1,0 +1,7 @@
+use Rattle.std.proofs.Common.{◌≡◌, drop, map}
+use Rattle.mdr_check.specs.Faults.{told}
+use Rattle.mdr_check.specs.Names.{first_of, all_fine, short_item}
+use Rattle.mdr_check.proofs.names.short_items.Given as goal
+
+abbrev pub invariant-loop-item : goal.invariant-loop-item
+invariant-loop-item l = first_of l.all (told (all_fine (map short_item (drop l.item-index l.items)))) ≡ told (all_fine (map short_item l.items))
