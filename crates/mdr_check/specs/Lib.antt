@@ -10,3 +10,7 @@ pub mod Written
 pub mod Signs
 pub mod Alike
 pub mod Forms
+pub mod Converting
+pub mod Postfix
+pub mod Binaries
+pub mod Expressions

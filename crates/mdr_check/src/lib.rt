@@ -12,6 +12,7 @@ mod joining;
 mod object;
 mod operand;
 mod operator;
+mod room;
 mod scope;
 mod source;
 mod structs;
