@@ -128,14 +128,30 @@ target p (scalar.Handle e ts) = refuse p Mismatch
 
 -- ---- prefix forms (6.5.3)
 
-unfoldable pub prefix_of : Place → Operand → PrefixOperator → Checked Operand
-prefix_of p x prefix.Promote = after (integer_at p x) (λ n. Right (promoted_number n))
-prefix_of p x prefix.Negate = after (integer_at p x) (λ n. Right (negated_number n))
-prefix_of p x prefix.Flip = after (integer_at p x) (λ n. Right (flipped_number n))
-prefix_of p x prefix.Not = after (scalar_at p x) (λ v. Right (truth (expr.Not (expression_of v))))
-prefix_of p x prefix.Address = address p x
-prefix_of p x prefix.Target = after (scalar_at p x) (target p)
+unfoldable pub promotion_at : Place → Operand → Checked Operand
+promotion_at p x = after (integer_at p x) (λ n. Right (promoted_number n))
 
+unfoldable pub negation_at : Place → Operand → Checked Operand
+negation_at p x = after (integer_at p x) (λ n. Right (negated_number n))
+
+unfoldable pub flip_at : Place → Operand → Checked Operand
+flip_at p x = after (integer_at p x) (λ n. Right (flipped_number n))
+
+unfoldable pub not_at : Place → Operand → Checked Operand
+not_at p x = after (scalar_at p x) (λ v. Right (truth (expr.Not (expression_of v))))
+
+unfoldable pub target_at : Place → Operand → Checked Operand
+target_at p x = after (scalar_at p x) (target p)
+
+unfoldable pub prefix_of : Place → Operand → PrefixOperator → Checked Operand
+prefix_of p x prefix.Promote = promotion_at p x
+prefix_of p x prefix.Negate = negation_at p x
+prefix_of p x prefix.Flip = flip_at p x
+prefix_of p x prefix.Not = not_at p x
+prefix_of p x prefix.Address = address p x
+prefix_of p x prefix.Target = target_at p x
+
+-- `++` and `--` aren't built as parts of expressions
 abbrev pub prefix_by : Place → Option PrefixOperator → Operand → Checked Operand
 prefix_by p None x = refuse p Mismatch
 prefix_by p (Some op) x = prefix_of p x op

@@ -18,3 +18,7 @@ pub mod Files
 pub mod Uses
 pub mod Names
 pub mod Whole
+pub mod Converting
+pub mod Postfix
+pub mod Binaries
+pub mod Expressions

@@ -17,6 +17,7 @@ mod names;
 mod object;
 mod operand;
 mod operator;
+mod room;
 mod scope;
 mod source;
 mod structs;
