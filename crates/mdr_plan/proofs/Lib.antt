@@ -1,0 +1,9 @@
+pub mod Fronts
+pub mod TypesAgain
+pub mod TypesSound
+pub mod TypesRead
+pub mod Worth
+pub mod WrittenTexts
+pub mod LinesAre
+pub mod LinesAgain
+pub mod Found

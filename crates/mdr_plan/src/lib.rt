@@ -1,0 +1,20 @@
+//! The lines of a plan's text, read.
+//!
+//! A text is read line by line, and a line's text is that which `mdr_half` writes: what is read here is what is
+//! written there, byte for byte. Which lines may come next is told by what was read before.
+#![tactic(auto)]
+
+mod front;
+mod keys;
+mod line;
+mod lines;
+mod number;
+mod reader;
+mod types;
+mod unread;
+mod words;
+
+pub use line::{Line, Stage};
+pub use lines::line_of;
+pub use reader::Reader;
+pub use unread::Unread;
