@@ -7,3 +7,6 @@ pub mod WrittenTexts
 pub mod LinesAre
 pub mod LinesAgain
 pub mod Found
+pub mod Going
+pub mod Passing
+pub mod Keyed

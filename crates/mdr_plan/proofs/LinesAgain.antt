@@ -19,7 +19,7 @@ use Rattle.mdr_plan.specs.declared.reader.Reader.{Reader}
 use Rattle.mdr_plan.specs.Front.{is_name_byte, strip, word_at}
 use Rattle.mdr_plan.specs.TypeReading.{when, is_empty, pointer_of, type_at, more_at, typed_by, struct_number, behind}
 use Rattle.mdr_plan.specs.TypeReading.{struct_at as type_struct_at}
-use Rattle.mdr_plan.specs.Lines.{begins_name, is_name, is_new, first_text, type_bytes, half_text, root_text, key_text, IsSmall, numbered, line_text, IsNext, Reads}
+use Rattle.mdr_plan.specs.Lines.{begins_name, is_name, is_new, first_text, half_text, root_text, key_text, IsSmall, numbered, line_text, IsNext, Reads}
 use Rattle.mdr_plan.specs.LineReading.{or_else, behind_number, small_number_of, global_of, field_of, elem_of, key_of, place_of, heading_at, end_at, first_at, struct_at, pointer_at, type_line_at, function_line_at, down_line_at, up_line_at, key_line_at, stub_at, line_at}
 use Rattle.mdr_plan.proofs.Fronts.{IsWord, IsBreak, strip_again, strip_is, word_again}
 use Rattle.mdr_plan.proofs.Worth.{number_again, all_digits}
@@ -173,12 +173,14 @@ no_struct_by r ty text p (Some l) e =
     let w = when_ok _ (Some (line.Struct a.0)) l a.2 in
     absurd (no_pointer r.structs a.0 ty (new_word r.structs a.0 (both _ (is_new r.structs a.0) w.0).1) (ap (pointer_of r.structs) (sym (strip_is (codes "struct ") text a.0 a.1)) ∙ p))
 
-pointer_piece : (r : Reader) (ty : Ty) → IsNext r (line.Type ty) → pointer_at r (type_bytes r.structs ty) ≡ Some (line.Type ty)
+pointer_piece : (r : Reader) (ty : Ty) (text : List ℕ) → IsNext r (line.Type ty text) → pointer_at r text ≡ Some (line.Type ty text)
 unfolding pointer_at
-pointer_piece r ty h = rw (pointer_again r.structs (type_bytes r.structs ty) ty h.1) (when_is _ (line.Type ty) (both_true _ _ h.0 h.2))
+pointer_piece r ty text h =
+    rw (pointer_again r.structs text ty h.1)
+    (when_is _ (line.Type ty text) (both_true _ _ h.0 h.2))
 
-type_long : (r : Reader) (ty : Ty) → IsNext r (line.Type ty) → 9 ≤ length r.plan.types
-type_long r ty h =
+type_long : (r : Reader) (ty : Ty) (text : List ℕ) → IsNext r (line.Type ty text) → 9 ≤ length r.plan.types
+type_long r ty text h =
     let b = both _ (nat_lt 8 (length r.plan.types)) h.0 in
     let lt : 8 < length r.plan.types = (Decides-ltb 8 (length r.plan.types)).0 b.1 in
     omega (arith, lt)
@@ -195,13 +197,12 @@ struct_again r name h =
     let text = codes "struct " ++ name in
     type_line_again r text (line.Struct name) (ap (λ o. or_else o (or_else (struct_at r text) (pointer_at r text))) (no_first r text (struct_long r name h)) ∙ ap (λ o. or_else o (pointer_at r text)) (struct_piece r name h))
 
-pointer_line_again : (r : Reader) (ty : Ty) → IsNext r (line.Type ty) → type_line_at r (line_text r (line.Type ty)) ≡ Some (line.Type ty)
-pointer_line_again r ty h =
-    let text = type_bytes r.structs ty in
-    type_line_again r text (line.Type ty)
-    (ap (λ o. or_else o (or_else (struct_at r text) (pointer_at r text))) (no_first r text (type_long r ty h))
+pointer_line_again : (r : Reader) (ty : Ty) (text : List ℕ) → IsNext r (line.Type ty text) → type_line_at r (line_text r (line.Type ty text)) ≡ Some (line.Type ty text)
+pointer_line_again r ty text h =
+    type_line_again r text (line.Type ty text)
+    (ap (λ o. or_else o (or_else (struct_at r text) (pointer_at r text))) (no_first r text (type_long r ty text h))
     ∙ ap (λ o. or_else o (pointer_at r text)) (no_struct_by r ty text (pointer_again r.structs text ty h.1) (struct_at r text) refl)
-    ∙ pointer_piece r ty h)
+    ∙ pointer_piece r ty text h)
 
 -- ---- which word begins the line
 
@@ -237,7 +238,7 @@ text_again : (r : Reader) (l : Line) → IsNext r l → line_at r (line_text r l
 text_again r line.Heading h = at_heading r line.Heading (heading_again r h)
 text_again r line.First h = at_type r (length r.plan.types) _ line.First (first_again r h)
 text_again r (line.Struct name) h = at_type r (length r.plan.types) _ (line.Struct name) (struct_again r name h)
-text_again r (line.Type ty) h = at_type r (length r.plan.types) _ (line.Type ty) (pointer_line_again r ty h)
+text_again r (line.Type ty text) h = at_type r (length r.plan.types) _ (line.Type ty text) (pointer_line_again r ty text h)
 text_again r (line.Function name half is_root) h = at_function r (length r.plan.names) _ (line.Function name half is_root) (function_again r name half is_root h)
 text_again r (line.Down k) h = at_down r (decimal k) (line.Down k) (down_again r k h)
 text_again r (line.Up k) h = at_up r (decimal k) (line.Up k) (up_again r k h)

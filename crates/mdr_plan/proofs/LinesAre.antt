@@ -179,14 +179,9 @@ pointer_line_is : (r : Reader) (text : List ℕ) (l : Line) → pointer_at r tex
 unfolding pointer_at
 pointer_line_is r text l e =
     let a = bind_ok (pointer_of r.structs text) _ l e in
-    let w = when_ok _ (Some (line.Type a.0)) l a.2 in
+    let w = when_ok _ (Some (line.Type a.0 text)) l a.2 in
     let b = both _ (is_before r.last text) w.0 in
-    let p = pointer_is r.structs text a.0 a.1 in
-    let same : type_bytes r.structs a.0 ≡ text = bytes_are r.structs a.0 text p in
-    subst (ReadsType r text) (some_same (line.Type a.0) l w.1) (record {
-      next = (b.0, subst (λ t. IsPointerText r.structs a.0 t) (sym same) p, subst (λ t. IsTrue (is_before r.last t)) (sym same) b.1);
-      same = ap (λ t. numbered (codes "type ") (length r.plan.types) (codes " " ++ t)) same;
-    })
+    subst (ReadsType r text) (some_same (line.Type a.0 text) l w.1) (record { next = (b.0, pointer_is r.structs text a.0 a.1, b.1); same = refl })
 
 type_line_is : (r : Reader) (bytes : List ℕ) (l : Line) → type_line_at r bytes ≡ Some l → Reads r bytes l
 unfolding type_line_at

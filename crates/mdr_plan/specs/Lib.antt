@@ -5,3 +5,5 @@ pub mod TypeReading
 pub mod Numbers
 pub mod Lines
 pub mod LineReading
+pub mod Steps
+pub mod Texts

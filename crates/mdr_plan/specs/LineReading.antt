@@ -79,7 +79,7 @@ struct_at r text = do
 unfoldable pub pointer_at : Reader → List ℕ → Option Line
 pointer_at r text = do
   ty ← pointer_of r.structs text
-  when (takes_types r.stage && nat_lt 8 (length r.plan.types) && is_before r.last text) (Some (line.Type ty))
+  when (takes_types r.stage && nat_lt 8 (length r.plan.types) && is_before r.last text) (Some (line.Type ty text))
 
 unfoldable pub type_line_at : Reader → List ℕ → Option Line
 type_line_at r bytes = do

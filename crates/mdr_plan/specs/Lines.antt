@@ -147,7 +147,7 @@ abbrev pub line_text : Reader → Line → List ℕ
 line_text r line.Heading = codes "plan 1"
 line_text r line.First = numbered (codes "type ") (length r.plan.types) (codes " " ++ first_text (length r.plan.types))
 line_text r (line.Struct name) = numbered (codes "type ") (length r.plan.types) (codes " struct " ++ name)
-line_text r (line.Type ty) = numbered (codes "type ") (length r.plan.types) (codes " " ++ type_bytes r.structs ty)
+line_text r (line.Type ty text) = numbered (codes "type ") (length r.plan.types) (codes " " ++ text)
 line_text r (line.Function name half is_root) = numbered (codes "function ") (length r.plan.names) (codes " " ++ (name ++ (half_text half ++ root_text is_root)))
 line_text r (line.Down k) = codes "down " ++ decimal k
 line_text r (line.Up k) = codes "up " ++ decimal k
@@ -163,7 +163,7 @@ abbrev pub IsNext : Reader → Line → Type 0
 IsNext r line.Heading = IsTrue (begins r.stage)
 IsNext r line.First = IsTrue (takes_types r.stage && nat_lt (length r.plan.types) 9)
 IsNext r (line.Struct name) = IsTrue (takes_types r.stage && (length r.plan.types == 9 + length r.structs) && nat_lt (length r.structs) (2 ^ 32) && is_new r.structs name)
-IsNext r (line.Type ty) = IsTrue (takes_types r.stage && nat_lt 8 (length r.plan.types)) × IsPointerText r.structs ty (type_bytes r.structs ty) × IsTrue (is_before r.last (type_bytes r.structs ty))
+IsNext r (line.Type ty text) = IsTrue (takes_types r.stage && nat_lt 8 (length r.plan.types)) × IsPointerText r.structs ty text × IsTrue (is_before r.last text)
 IsNext r (line.Function name half is_root) = IsTrue (takes_functions r.stage && nat_lt 8 (length r.plan.types) && is_new r.plan.names name)
 IsNext r (line.Down k) = IsTrue (takes_downs r.stage && nat_le r.low k && nat_lt k (length r.plan.down)) × (k < 2 ^ 64)
 IsNext r (line.Up k) = IsTrue (takes_ups r.stage && is_next_user r k) × (k < 2 ^ 64)

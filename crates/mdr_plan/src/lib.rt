@@ -9,12 +9,16 @@ mod keys;
 mod line;
 mod lines;
 mod number;
+mod plan_error;
 mod reader;
+mod reading;
 mod types;
 mod unread;
 mod words;
 
 pub use line::{Line, Stage};
 pub use lines::line_of;
+pub use plan_error::PlanError;
 pub use reader::Reader;
+pub use reading::read_plan;
 pub use unread::Unread;

@@ -23,8 +23,8 @@ pub enum Line {
     First,
     /// The next struct.
     Struct(Name),
-    /// A type of pointers, to functions too.
-    Type(Ty),
+    /// A type of pointers, to functions too, and its text.
+    Type(Ty, Name),
     /// The next function, its half, and whether it is a root.
     Function(Name, Half, bool),
     /// A function that the user half may call by a stub.

@@ -238,7 +238,7 @@ fn pointer_at(alloc: Global, reader: &Reader, text: &[u8]) -> Result<Line, Unrea
 {
     let ty = pointer_type(alloc, reader.structs.as_slice(), text)?;
     if takes_pointer(reader, text) {
-        Ok(Line::Type(ty))
+        Ok(Line::Type(ty, Items::from_slice(alloc, text)?))
     } else {
         Err(Unread::Refused)
     }
