@@ -10,3 +10,4 @@ pub mod Found
 pub mod Going
 pub mod Passing
 pub mod Keyed
+pub mod Once

@@ -6,21 +6,18 @@ use Rattle.std.proofs.lemmas.Slice.Eq.{bytes_eq-Decides}
 use Rattle.mdr_core.specs.declared.plan.Half.{Half}
 use Rattle.mdr_core.specs.declared.plan.Half.TheVariants.{Kernel, User}
 use Rattle.mdr_core.specs.declared.plan.Key.{Key}
-use Rattle.mdr_core.specs.declared.types.Ty.{Ty}
-use Rattle.mdr_core.specs.TypeText.{Text, is_before}
+use Rattle.mdr_core.specs.TypeText.{is_before}
 use Rattle.mdr_plan.specs.declared.line.Line.{Line}
 use Rattle.mdr_plan.specs.declared.line.Line.TheVariants as line
 use Rattle.mdr_plan.specs.declared.reader.Reader.{Reader}
 use Rattle.mdr_plan.specs.Front.{strip, word_at}
 use Rattle.mdr_plan.specs.Numbers.{number_of}
-use Rattle.mdr_plan.specs.TypeTexts.{IsPointerText}
 use Rattle.mdr_plan.specs.TypeReading.{small, pointer_of}
-use Rattle.mdr_plan.specs.Lines.{begins, first_text, type_bytes, half_text, root_text, key_text, IsSmall, numbered, Reads}
+use Rattle.mdr_plan.specs.Lines.{begins, first_text, half_text, root_text, key_text, IsSmall, numbered, Reads}
 use Rattle.mdr_plan.specs.LineReading.{or_else, behind_number, small_number_of, global_of, field_of, elem_of, key_of, place_of, heading_at, end_at, first_at, struct_at, pointer_at, type_line_at, function_line_at, down_line_at, up_line_at, key_line_at, stub_at, line_at}
 use Rattle.mdr_plan.proofs.Fronts.{strip_is, word_is}
 use Rattle.mdr_plan.proofs.TypesSound.{none_some, bind_ok, when_ok, some_same, by_word}
 use Rattle.mdr_plan.proofs.TypesRead.{both, pointer_is}
-use Rattle.mdr_plan.proofs.WrittenTexts.{written_is}
 use Rattle.mdr_plan.proofs.Worth.{number_is}
 
 -- what is read one way or another
@@ -171,9 +168,6 @@ struct_line_is r text l e =
     let a = bind_ok (strip (codes "struct ") text) _ l e in
     let w = when_ok _ (Some (line.Struct a.0)) l a.2 in
     subst (ReadsType r text) (some_same (line.Struct a.0) l w.1) (record { next = w.0; same = ap (λ t. numbered (codes "type ") (length r.plan.types) (codes " " ++ t)) (sym (strip_is (codes "struct ") text a.0 a.1)) })
-
-pub bytes_are : (names : List (List ℕ)) (ty : Ty) (bytes : List ℕ) → IsPointerText names ty bytes → type_bytes names ty ≡ bytes
-bytes_are names ty bytes h = ap (λ (x : Text). x.bytes) (written_is names ty h.pointer h.whole h.written) ∙ h.same
 
 pointer_line_is : (r : Reader) (text : List ℕ) (l : Line) → pointer_at r text ≡ Some l → ReadsType r text l
 unfolding pointer_at

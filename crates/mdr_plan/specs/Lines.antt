@@ -6,15 +6,14 @@ use Rattle.mdr_core.specs.declared.plan.Half.{Half}
 use Rattle.mdr_core.specs.declared.plan.Half.TheVariants.{Kernel, User}
 use Rattle.mdr_core.specs.declared.plan.Key.{Key}
 use Rattle.mdr_core.specs.declared.plan.Key.TheVariants.{Global, Field, Elem}
-use Rattle.mdr_core.specs.declared.types.Ty.{Ty}
-use Rattle.mdr_core.specs.TypeText.{text_of, is_before}
+use Rattle.mdr_core.specs.TypeText.{is_before}
 use Rattle.mdr_plan.specs.declared.line.Line.{Line}
 use Rattle.mdr_plan.specs.declared.line.Line.TheVariants as line
 use Rattle.mdr_plan.specs.declared.line.Stage.{Stage}
 use Rattle.mdr_plan.specs.declared.line.Stage.TheVariants as stage
 use Rattle.mdr_plan.specs.declared.reader.Reader.{Reader}
 use Rattle.mdr_plan.specs.Front.{is_name_byte}
-use Rattle.mdr_plan.specs.TypeTexts.{structs_named, is_named, IsPointerText}
+use Rattle.mdr_plan.specs.TypeTexts.{is_named, IsPointerText}
 
 -- ---- where a line may stand
 
@@ -84,9 +83,6 @@ first_text k =
     else (if k == 6 then codes "s32"
     else (if k == 7 then codes "s64"
     else codes "combolock_t")))))))
-
-abbrev pub type_bytes : List (List ℕ) → Ty → List ℕ
-type_bytes names ty = (text_of (structs_named names) ty).bytes
 
 -- ---- functions and keys
 

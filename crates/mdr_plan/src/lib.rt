@@ -6,6 +6,7 @@
 
 mod front;
 mod keys;
+mod laws;
 mod line;
 mod lines;
 mod number;
@@ -16,6 +17,7 @@ mod types;
 mod unread;
 mod words;
 
+pub use laws::{a_text_is_one_line, pointer_types_have_their_texts};
 pub use line::{Line, Stage};
 pub use lines::line_of;
 pub use plan_error::PlanError;
