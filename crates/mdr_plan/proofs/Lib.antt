@@ -1,0 +1,13 @@
+pub mod Fronts
+pub mod TypesAgain
+pub mod TypesSound
+pub mod TypesRead
+pub mod Worth
+pub mod WrittenTexts
+pub mod LinesAre
+pub mod LinesAgain
+pub mod Found
+pub mod Going
+pub mod Passing
+pub mod Keyed
+pub mod Once

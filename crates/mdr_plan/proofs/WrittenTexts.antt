@@ -1,0 +1,76 @@
+-- What is written of a type is its text.
+use Rattle.std.proofs.Common.{◌≡◌, ℕ, true, false, List, [], ◌∷◌, ◌++◌, map, get_or, slice_get, Some, codes, refl, sym, ap, ◌∙◌, option_map}
+use Rattle.std.specs.List.{position}
+use Rattle.std.proofs.lemmas.Option.{slice_get-map, slice_get-get_or}
+use Rattle.std.proofs.lemmas.List.Quantifiers.{position-Some}
+use Rattle.std.proofs.lemmas.Slice.Eq.{bytes_eq-Decides}
+use Rattle.mdr_core.specs.declared.kind.Kind.{Kind}
+use Rattle.mdr_core.specs.declared.types.Ty.{Ty}
+use Rattle.mdr_core.specs.declared.types.Ty.TheOpen.{Ty-F}
+use Rattle.mdr_core.specs.declared.types.Ty.TheFolds.{fold-Ty, fold-roll-Ty}
+use Rattle.mdr_core.specs.declared.types.Ty.TheVariants as type
+use Rattle.mdr_core.specs.declared.program.StructDef.{StructDef}
+use Rattle.mdr_core.specs.TypeText.{Text, kind_text, star, signature_text, text_layer, text_of, name_or}
+use Rattle.mdr_plan.specs.TypeTexts.{Written, AreParams, is_named, struct_named, structs_named, text}
+use Rattle.mdr_plan.specs.TypeTexts.Written.{OfInt, OfLock, OfStruct, OfVoid, OfPtr, OfFun}
+use Rattle.mdr_plan.specs.TypeTexts.AreParams.{NoParams, Param}
+
+int_is : (structs : List StructDef) (k : Kind) → text_of structs (type.Int k) ≡ text (kind_text k) false
+unfolding text_of
+int_is structs k = ap (fold-Ty Text (text_layer structs)) (sym (type.rolls-Int k)) ∙ fold-roll-Ty Text (text_layer structs) (Ty-F.Int k)
+
+lock_is : (structs : List StructDef) → text_of structs type.Lock ≡ text (codes "combolock_t") false
+unfolding text_of
+lock_is structs = ap (fold-Ty Text (text_layer structs)) (sym type.rolls-Lock) ∙ fold-roll-Ty Text (text_layer structs) Ty-F.Lock
+
+struct_is : (structs : List StructDef) (s : ℕ) → text_of structs (type.Struct s) ≡ text (codes "struct " ++ name_or (slice_get structs s)) false
+unfolding text_of
+struct_is structs s = ap (fold-Ty Text (text_layer structs)) (sym (type.rolls-Struct s)) ∙ fold-roll-Ty Text (text_layer structs) (Ty-F.Struct s)
+
+pointer_is : (structs : List StructDef) (t : Ty) → text_of structs (type.Ptr t) ≡ text ((text_of structs t).bytes ++ star (text_of structs t).starred) true
+unfolding text_of
+pointer_is structs t = ap (fold-Ty Text (text_layer structs)) (sym (type.rolls-Ptr t)) ∙ fold-roll-Ty Text (text_layer structs) (Ty-F.Ptr t)
+
+void_pointer_is : (structs : List StructDef) → text_of structs type.VoidPtr ≡ text (codes "void *") true
+unfolding text_of
+void_pointer_is structs = ap (fold-Ty Text (text_layer structs)) (sym type.rolls-VoidPtr) ∙ fold-roll-Ty Text (text_layer structs) Ty-F.VoidPtr
+
+void_is : (structs : List StructDef) → text_of structs type.Void ≡ text (codes "void") false
+unfolding text_of
+void_is structs = ap (fold-Ty Text (text_layer structs)) (sym type.rolls-Void) ∙ fold-roll-Ty Text (text_layer structs) Ty-F.Void
+
+fun_is : (structs : List StructDef) (ts : List Ty) → text_of structs (type.Fun ts) ≡ text (codes "fn(" ++ (signature_text (map (text_of structs) ts) ++ codes ")")) false
+unfolding text_of
+fun_is structs ts = ap (fold-Ty Text (text_layer structs)) (sym (type.rolls-Fun ts)) ∙ fold-roll-Ty Text (text_layer structs) (Ty-F.Fun ts)
+
+struct_name : (names : List (List ℕ)) (name : List ℕ) (s : ℕ) → position (is_named name) names ≡ Some s → name_or (slice_get (structs_named names) s) ≡ name
+struct_name names name s e =
+    let h = position-Some (is_named name) names s [] e in
+    let got : slice_get names s ≡ Some (get_or names s []) = slice_get-get_or names s [] h.0 in
+    let same : get_or names s [] ≡ name = (bytes_eq-Decides (get_or names s []) name).0 h.1 in
+    ap name_or (slice_get-map struct_named names s ∙ ap (option_map struct_named) got) ∙ same
+
+-- the text of the pointer
+pointed : (names : List (List ℕ)) (t p : Ty) (x : Text) → Written names t p x → text_of (structs_named names) t ≡ x → text_of (structs_named names) p ≡ text (x.bytes ++ star x.starred) true
+pointed names _ _ _ (OfInt k) e = pointer_is _ _ ∙ ap (λ (y : Text). text (y.bytes ++ star y.starred) true) e
+pointed names _ _ _ OfLock e = pointer_is _ _ ∙ ap (λ (y : Text). text (y.bytes ++ star y.starred) true) e
+pointed names _ _ _ (OfStruct s name a b c) e = pointer_is _ _ ∙ ap (λ (y : Text). text (y.bytes ++ star y.starred) true) e
+pointed names _ _ _ OfVoid e = void_pointer_is (structs_named names)
+pointed names _ _ _ (OfPtr t p x w) e = pointer_is _ _ ∙ ap (λ (y : Text). text (y.bytes ++ star y.starred) true) e
+pointed names _ _ _ (OfFun r p ts x xs w i ps) e = pointer_is _ _ ∙ ap (λ (y : Text). text (y.bytes ++ star y.starred) true) e
+
+mutual
+  pub written_is : (names : List (List ℕ)) (t p : Ty) (x : Text) → Written names t p x → text_of (structs_named names) t ≡ x
+  written_is names _ _ _ (OfInt k) = int_is (structs_named names) k
+  written_is names _ _ _ OfLock = lock_is (structs_named names)
+  written_is names _ _ _ (OfStruct s name a b c) = struct_is (structs_named names) s ∙ ap (λ n. text (codes "struct " ++ n) false) (struct_name names name s a)
+  written_is names _ _ _ OfVoid = void_is (structs_named names)
+  written_is names _ _ _ (OfPtr t p x w) = pointed names t p x w (written_is names t p x w)
+  written_is names _ _ _ (OfFun r p ts x xs w i ps) =
+      fun_is (structs_named names) (r ∷ ts)
+      ∙ ap (λ (y : Text). text (codes "fn(" ++ (signature_text (y ∷ map (text_of (structs_named names)) ts) ++ codes ")")) false) (written_is names r p x w)
+      ∙ ap (λ (ys : List Text). text (codes "fn(" ++ (signature_text (x ∷ ys) ++ codes ")")) false) (params_are names ts xs ps)
+
+  params_are : (names : List (List ℕ)) (ts : List Ty) (xs : List Text) → AreParams names ts xs → map (text_of (structs_named names)) ts ≡ xs
+  params_are names _ _ NoParams = refl
+  params_are names _ _ (Param t p ts x xs w i ps) = ap (λ (y : Text). y ∷ map (text_of (structs_named names)) ts) (written_is names t p x w) ∙ ap (λ (ys : List Text). x ∷ ys) (params_are names ts xs ps)

@@ -1,0 +1,9 @@
+pub mod Front
+pub mod Gives
+pub mod TypeTexts
+pub mod TypeReading
+pub mod Numbers
+pub mod Lines
+pub mod LineReading
+pub mod Steps
+pub mod Texts

@@ -1,0 +1,48 @@
+// What stands at the front of a text.
+
+ghost use Rattle.std.specs.Prelude.{◌≡◌, ◌≤◌, length, take, drop};
+ghost use Rattle.std.specs.List.{prefix_len};
+ghost use Rattle.std.specs.Option.{option_map};
+ghost use Rattle.mdr_plan.specs.Front.{is_name_byte, strip, word_at};
+ghost use Rattle.mdr_plan.specs.Gives.{Gives};
+
+use crate::unread::Unread;
+
+/// What stands behind these bytes, where the text begins with them.
+pub fn strip<'a>(bytes: &'a [u8], front: &[u8]) -> Option<&'a [u8]>
+    ensures { option_map (λ r. r.now) result ≡ strip front.now bytes.now }
+{
+    bytes.strip_prefix(front)
+}
+
+/// What stands behind these bytes, with which the text must begin.
+pub fn expect<'a>(bytes: &'a [u8], front: &[u8]) -> Result<&'a [u8], Unread>
+    ensures { Gives (λ r. r.now) result (strip front.now bytes.now) }
+{
+    match strip(bytes, front) {
+        Some(rest) => Ok(rest),
+        None => Err(Unread::Refused),
+    }
+}
+
+/// Whether the byte may stand in a name.
+pub fn is_name_byte(b: u8) -> bool
+    ensures { result ≡ is_name_byte b }
+{
+    b.is_ascii_alphabetic() || b == b'_' || b.is_ascii_digit()
+}
+
+fn word_len(bytes: &[u8]) -> usize
+    ensures count { result ≡ prefix_len is_name_byte bytes.now }
+    ensures within { result ≤ length bytes.now }
+{
+    bytes.iter().take_while(|b| is_name_byte(**b)).count()
+}
+
+/// The word at the front, which may be empty, and what stands behind it.
+#[tactic(auto, unfolding(crate::specs::Front::word_at))]
+pub fn word_at(bytes: &[u8]) -> (&[u8], &[u8])
+    ensures { (result.0.now, result.1.now) ≡ word_at bytes.now }
+{
+    bytes.split_at(word_len(bytes))
+}

@@ -1,0 +1,26 @@
+//! The lines of a plan's text, read.
+//!
+//! A text is read line by line, and a line's text is that which `mdr_half` writes: what is read here is what is
+//! written there, byte for byte. Which lines may come next is told by what was read before.
+#![tactic(auto)]
+
+mod front;
+mod keys;
+mod laws;
+mod line;
+mod lines;
+mod number;
+mod plan_error;
+mod reader;
+mod reading;
+mod types;
+mod unread;
+mod words;
+
+pub use laws::{a_text_is_one_line, pointer_types_have_their_texts};
+pub use line::{Line, Stage};
+pub use lines::line_of;
+pub use plan_error::PlanError;
+pub use reader::Reader;
+pub use reading::read_plan;
+pub use unread::Unread;

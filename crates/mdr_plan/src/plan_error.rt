@@ -1,0 +1,30 @@
+// Why bytes are no plan's text.
+
+ghost use Rattle.std.specs.Prelude.{◌≡◌};
+ghost use Rattle.mdr_plan.specs.declared.plan_error.PlanError.TheVariants.{OutOfMemory};
+
+use std::alloc::{AllocError, AllocFailed};
+
+/// Why bytes are no plan's text.
+#[derive(Clone, Copy, Debug, PartialEq, Eq)]
+pub enum PlanError {
+    /// The first line, counted from 1, that no line of a plan's text goes on with, or the text's end before its last line.
+    Line(u64),
+    OutOfMemory,
+}
+
+impl From<AllocError> for PlanError {
+    ghost from_gives = { λ _ e. e ≡ OutOfMemory };
+
+    fn from(_e: AllocError) -> PlanError {
+        PlanError::OutOfMemory
+    }
+}
+
+impl<T: Drop> From<AllocFailed<T>> for PlanError {
+    ghost from_gives = { λ _ e. e ≡ OutOfMemory };
+
+    fn from(_e: AllocFailed<T>) -> PlanError {
+        PlanError::OutOfMemory
+    }
+}
