@@ -1,13 +1,12 @@
 -- Initialisers, as their parts.
-use Rattle.std.proofs.Common.{ℕ, ◌≡◌, ◌<◌, ◌+◌, List, [], ◌∷◌, ◌++◌, map, take, drop, length, get_or, refl, ap, suc, append_assoc, Option, Some, None, Result, Ok, Err}
+use Rattle.std.proofs.Common.{ℕ, ◌≡◌, ◌<◌, ◌+◌, List, [], ◌∷◌, ◌++◌, map, drop, length, get_or, refl, ap, suc, append_assoc, Option, Result, Ok, Err}
 use Rattle.std.specs.Prelude.{◌&&◌, ◌||◌, not, is_none, is_some, nat_lt}
-use Rattle.std.specs.List.{list_all, list_any}
+use Rattle.std.specs.List.{list_any}
 use Rattle.std.proofs.Math.Path.{sym, ◌∙◌}
 use Rattle.std.proofs.lemmas.List.{at_drop_more}
 use Rattle.mdr_core.specs.declared.place.Place.{Place}
 use Rattle.mdr_syntax.specs.declared.tree.Elem.{Elem, out-Elem}
 use Rattle.mdr_syntax.specs.declared.tree.FieldName.{FieldName}
-use Rattle.mdr_syntax.specs.declared.tree.Init.{Init}
 use Rattle.mdr_syntax.specs.declared.tree.Init.TheOpen.{Init-F}
 use Rattle.mdr_syntax.specs.declared.tree.Init.TheFolds.{fold-roll-Init, fold_out-Elem}
 use Rattle.mdr_syntax.specs.declared.tree.Init.TheVariants as written

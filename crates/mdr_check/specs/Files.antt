@@ -1,11 +1,9 @@
 -- A whole file: its items in their order, each where those before it stand (C99 6.9).
-use Rattle.std.specs.Prelude.{ℕ, ◌+◌, ◌==◌, not, Bool, true, false, Ok, List, [], ◌∷◌, ◌++◌, map, length, Option, Some, None}
+use Rattle.std.specs.Prelude.{ℕ, ◌+◌, ◌==◌, not, Bool, true, false, Ok, List, [], ◌∷◌, ◌++◌, map, length}
 use Rattle.mdr_core.specs.declared.place.Place.{Place}
 use Rattle.mdr_core.specs.declared.program.Field.{Field}
-use Rattle.mdr_core.specs.declared.program.StructDef.{StructDef}
 use Rattle.mdr_syntax.specs.declared.tree.Decl.{Decl}
 use Rattle.mdr_syntax.specs.declared.tree.Head.{Head}
-use Rattle.mdr_syntax.specs.declared.tree.Init.{Init}
 use Rattle.mdr_syntax.specs.declared.tree.Item.{Item}
 use Rattle.mdr_syntax.specs.declared.tree.ItemWhat.{ItemWhat}
 use Rattle.mdr_syntax.specs.declared.tree.ItemWhat.TheVariants as item
@@ -15,7 +13,6 @@ use Rattle.mdr_check.specs.declared.fault.FaultKind.TheVariants.{Redefined, Limi
 use Rattle.mdr_check.specs.declared.file.Known.{Known}
 use Rattle.mdr_check.specs.declared.file.Piece.{Piece}
 use Rattle.mdr_check.specs.declared.file.Piece.TheVariants as piece
-use Rattle.mdr_check.specs.declared.function.Declared.{Declared}
 use Rattle.mdr_check.specs.declared.head.Heading.{Heading}
 use Rattle.mdr_check.specs.declared.scope.Candidate.{Candidate}
 use Rattle.mdr_check.specs.declared.scope.Entity.TheVariants as entity
@@ -24,7 +21,7 @@ use Rattle.mdr_check.specs.declared.variable.Variable.{Variable}
 use Rattle.mdr_check.specs.Annotations.{candidate}
 use Rattle.mdr_check.specs.Declarations.{number_constant}
 use Rattle.mdr_check.specs.Enums.{with_name, new_name, enumerators, behind_enumerators}
-use Rattle.mdr_check.specs.Faults.{Checked, Right, after, both, demand, next, told}
+use Rattle.mdr_check.specs.Faults.{Checked, Right, after, both, demand, next}
 use Rattle.mdr_check.specs.Functions.{is_defined, behind_function, function_declared, functions_behind}
 use Rattle.mdr_check.specs.Globals.{global, behind_global}
 use Rattle.mdr_check.specs.Scopes.{tag_named}

@@ -1,5 +1,5 @@
 -- Functions behind declarations (C99 6.7, 6.9.1): which are declared, and whether their declarations agree.
-use Rattle.std.specs.Prelude.{ℕ, ◌+◌, ◌==◌, ◌&&◌, ◌||◌, not, Bool, true, false, List, [], ◌∷◌, ◌++◌, map, length, find, Option, Some, None, is_some, slice_get, Result, Ok, Err}
+use Rattle.std.specs.Prelude.{ℕ, ◌+◌, ◌==◌, ◌&&◌, ◌||◌, not, Bool, true, false, List, [], ◌∷◌, ◌++◌, length, find, Option, Some, None, is_some, Result, Ok, Err}
 use Rattle.std.specs.List.{list_any}
 use Rattle.std.specs.Str.{bytes_eq}
 use Rattle.mdr_core.specs.declared.place.Place.{Place}
@@ -8,7 +8,6 @@ use Rattle.mdr_core.specs.declared.types.Ann.{Ann}
 use Rattle.mdr_core.specs.declared.types.Ann.TheVariants as ann
 use Rattle.mdr_core.specs.declared.types.LenOf.{LenOf}
 use Rattle.mdr_core.specs.declared.types.LenOf.TheVariants as len
-use Rattle.mdr_core.specs.Layout.{chosen}
 use Rattle.mdr_syntax.specs.declared.tree.Head.{Head}
 use Rattle.mdr_syntax.specs.declared.tree.Item.{Item}
 use Rattle.mdr_syntax.specs.declared.tree.ItemWhat.{ItemWhat}
@@ -21,9 +20,9 @@ use Rattle.mdr_check.specs.declared.scope.Entity.{Entity}
 use Rattle.mdr_check.specs.declared.scope.Entity.TheVariants as entity
 use Rattle.mdr_check.specs.declared.scope.Scope.{Scope}
 use Rattle.mdr_check.specs.declared.scope.Signature.{Signature}
-use Rattle.mdr_check.specs.Alike.{is_alike, are_alike}
+use Rattle.mdr_check.specs.Alike.{is_alike}
 use Rattle.mdr_check.specs.Enums.{with_name}
-use Rattle.mdr_check.specs.Faults.{Checked, Right, demand, told}
+use Rattle.mdr_check.specs.Faults.{Checked, demand, told}
 use Rattle.mdr_check.specs.Heads.{heading}
 use Rattle.mdr_check.specs.Scopes.{entity_among}
 use Rattle.mdr_check.specs.Source.{signature}

@@ -1,5 +1,5 @@
 -- First values of globals (C99 6.7.8).
-use Rattle.std.specs.Prelude.{ℕ, ◌+◌, ◌-◌, ◌==◌, ◌&&◌, ◌||◌, not, nat_lt, Bool, true, false, ℤ, pos, List, [], ◌∷◌, ◌++◌, map, length, find, position, Option, Some, None, is_some, is_none, slice_get}
+use Rattle.std.specs.Prelude.{ℕ, ◌+◌, ◌-◌, ◌==◌, ◌&&◌, ◌||◌, not, nat_lt, Bool, true, false, pos, List, [], ◌∷◌, ◌++◌, length, find, position, Option, Some, None, is_some, is_none, slice_get}
 use Rattle.std.specs.List.{list_all, list_any}
 use Rattle.std.specs.Str.{bytes_eq}
 use Rattle.mdr_core.specs.declared.kind.Kind.{Kind}

@@ -1,6 +1,5 @@
 -- Functions are defined where they are used, and where they aren't (C99 6.9, paragraphs 3 and 5).
-use Rattle.std.specs.Prelude.{◌||◌, ℕ, Bool, true, false, List, [], ◌∷◌, map, Option, Some, None}
-use Rattle.std.specs.List.{list_any}
+use Rattle.std.specs.Prelude.{◌||◌, ℕ, Bool, false, List, [], ◌∷◌, map, Option, Some, None}
 use Rattle.std.specs.Str.{bytes_eq}
 use Rattle.mdr_core.specs.declared.place.Place.{Place}
 use Rattle.mdr_syntax.specs.declared.tree.Const.{Const}
@@ -16,7 +15,7 @@ use Rattle.mdr_syntax.specs.declared.tree.ItemWhat.TheVariants as item
 use Rattle.mdr_syntax.specs.declared.tree.Node.{Node}
 use Rattle.mdr_check.specs.declared.fault.FaultKind.TheVariants.{Incomplete}
 use Rattle.mdr_check.specs.declared.function.Declared.{Declared}
-use Rattle.mdr_check.specs.Faults.{Checked, Right, both, demand, each}
+use Rattle.mdr_check.specs.Faults.{Checked, Right, demand, each}
 use Rattle.mdr_check.specs.Functions.{is_defined}
 
 -- which names a body uses for what the file declares

@@ -5,7 +5,7 @@ use Rattle.mdr_syntax.specs.declared.tree.Item.{Item}
 use Rattle.mdr_check.specs.declared.file.Piece.{Piece}
 use Rattle.mdr_check.specs.Faults.{Checked, Right, both}
 use Rattle.mdr_check.specs.Files.{BodyRule, pieces_behind, known_behind, first_known}
-use Rattle.mdr_check.specs.Names.{Verdict, short_items}
+use Rattle.mdr_check.specs.Names.{short_items}
 use Rattle.mdr_check.specs.Uses.{UseRule, defined_functions}
 
 abbrev pub kept : List Piece → List Place → Checked (List Piece)

@@ -5,7 +5,7 @@ use Rattle.mdr_core.specs.declared.stop.StopKind.{StopKind}
 use Rattle.mdr_core.specs.declared.stop.StopKind.TheVariants as stop
 use Rattle.mdr_core.specs.declared.types.Ty.{Ty}
 use Rattle.mdr_core.specs.declared.types.Ty.TheVariants as ty
-use Rattle.mdr_core.specs.declared.types.Ty.TheVariants.{outs-Ptr, outs-Struct}
+use Rattle.mdr_core.specs.declared.types.Ty.TheVariants.{outs-Struct}
 use Rattle.mdr_core.specs.declared.value.View.{View}
 use Rattle.mdr_core.specs.declared.program.Program.{Program}
 use Rattle.mdr_core.specs.declared.program.Field.{Field}

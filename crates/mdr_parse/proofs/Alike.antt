@@ -2,7 +2,7 @@
 use Rattle.std.proofs.Common.{◌≡◌, refl, sym, ap, ◌∙◌, ℕ, Bool, true, false, List, [], ◌∷◌, length, Err}
 use Rattle.mdr_syntax.specs.declared.token.Token.{Token}
 use Rattle.mdr_parse.specs.Sorts.{Sort, is, sort_of}
-use Rattle.mdr_parse.specs.Forms.{Part, Right, Rule, and_then}
+use Rattle.mdr_parse.specs.Forms.{Rule, and_then}
 use Rattle.mdr_parse.specs.Forms.Right.{gives}
 use Rattle.mdr_syntax.specs.declared.tree.Init
 use Rattle.mdr_parse.specs.Forms.Part.{base, specifiers, element}

@@ -1,14 +1,13 @@
 -- Stars, and what stands behind them.
-use Rattle.std.proofs.Common.{◌≡◌, refl, sym, subst, ap, ◌∙◌, ◌+◌, ℕ, Bool, true, false, nat_le, List, [], ◌∷◌, length, Result, Ok, Err}
+use Rattle.std.proofs.Common.{◌≡◌, refl, sym, ap, ◌∙◌, ◌+◌, ℕ, Bool, true, false, nat_le, List, [], ◌∷◌, Ok}
 use Rattle.mdr_syntax.specs.declared.token.Token.{Token}
-use Rattle.mdr_parse.specs.declared.error.Failure.{Failure}
 use Rattle.mdr_parse.specs.Sorts.{Sort, sort_of}
 use Rattle.mdr_parse.specs.Forms.{Right, Rule, Empty}
 use Rattle.mdr_parse.specs.Forms.Nonterminal.{stars}
-use Rattle.mdr_parse.specs.Forms.Rule.{never, given}
+use Rattle.mdr_parse.specs.Forms.Rule.{given}
 use Rattle.mdr_parse.specs.Expressions.{stars_rule}
 use Rattle.mdr_parse.specs.Front.{Read, and_read, nothing_at, begun_at, first, front}
-use Rattle.mdr_parse.specs.Gives.{Gives, read_from, after_stars}
+use Rattle.mdr_parse.specs.Gives.{read_from, after_stars}
 use Rattle.mdr_parse.proofs.Fronts.{first_of, first_none}
 use Rattle.mdr_parse.proofs.Arms.{read_again}
 

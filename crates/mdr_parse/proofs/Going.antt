@@ -1,21 +1,20 @@
 -- What is read where the first token begins it, and what else where it doesn't.
-use Rattle.std.proofs.Common.{◌≡◌, ◌≤◌, ◌<◌, refl, sym, subst, ap, ◌∙◌, arith, ℕ, suc, Bool, true, false, not, ◌&&◌, nat_eq, List, [], ◌∷◌, ◌++◌, length, Option, Some, None, Result, Ok, Err}
+use Rattle.std.proofs.Common.{◌≡◌, ◌≤◌, refl, sym, subst, ap, ◌∙◌, arith, ℕ, suc, Bool, true, false, not, ◌&&◌, nat_eq, List, [], ◌∷◌, ◌++◌, length, Option, Some, None, Result, Ok, Err}
 use Rattle.mdr_syntax.specs.declared.token.Token.{Token}
 use Rattle.mdr_parse.specs.declared.error.Failure.{Failure}
-use Rattle.mdr_parse.specs.declared.error.Failure.TheVariants.{Memory, Fault}
-use Rattle.mdr_parse.specs.Sorts.{Sort, is, sort_of}
-use Rattle.mdr_parse.specs.Forms.{Part, PartValue, repeated, separated, enclosed, Repeated, Separated, Enclosed, Nonterminal, Value, Right, ◌>>=◌, form, Rule, Empty, and_then, or_else, where_allowed}
-use Rattle.mdr_parse.specs.Forms.Nonterminal.{part, option, many, commas, commas_open, after_comma}
+use Rattle.mdr_parse.specs.Sorts.{Sort, sort_of}
+use Rattle.mdr_parse.specs.Forms.{Part, PartValue, repeated, enclosed, Repeated, Enclosed, Nonterminal, Value, Right, ◌>>=◌, form, Rule, Empty, and_then, or_else, where_allowed}
+use Rattle.mdr_parse.specs.Forms.Nonterminal.{part, option, many, commas_open, after_comma}
 use Rattle.mdr_parse.specs.Forms.Right.{gives, takes, then}
 use Rattle.mdr_parse.specs.Forms.Rule.{never, given}
-use Rattle.mdr_parse.specs.Forms.Empty.{cannot, may}
+use Rattle.mdr_parse.specs.Forms.Empty.{may}
 use Rattle.mdr_parse.specs.Grammar.{part_rule, rule, empty}
 use Rattle.mdr_parse.specs.Front.{Read, and_read, word_at, nothing_at, begun_at, first, front}
-use Rattle.mdr_parse.specs.Gives.{Gives, Fails, read_from, read_by, is_at, chosen, perhaps}
+use Rattle.mdr_parse.specs.Gives.{Gives, read_from, read_by, chosen, perhaps}
 use Rattle.mdr_parse.proofs.Hungry.{opens}
 use Rattle.mdr_parse.proofs.Every.{all_sorts, every_sort}
 use Rattle.mdr_parse.proofs.Fronts.{Rest, rest_front, rest_first, first_of, first_none}
-use Rattle.mdr_parse.proofs.Arms.{goes, past, not_past, read_again}
+use Rattle.mdr_parse.proofs.Arms.{goes, read_again}
 
 -- ---- one behind the other
 

@@ -1,12 +1,11 @@
 -- What reads behind stars reads with them.
-use Rattle.std.proofs.Common.{◌≡◌, refl, sym, ap, ◌∙◌, ◌+◌, ℕ, Bool, true, false, not, List, [], ◌∷◌, Option, Some, None, length, Ok, Err}
-use Rattle.mdr_core.specs.declared.place.Place.{Place}
+use Rattle.std.proofs.Common.{◌≡◌, refl, sym, ap, ◌∙◌, ◌+◌, ℕ, Bool, false, not, List, [], ◌∷◌, None, Ok}
 use Rattle.mdr_syntax.specs.declared.token.Token.{Token}
 use Rattle.mdr_parse.specs.Sorts.{Sort, sort_of}
 use Rattle.mdr_parse.specs.Forms.{Specifier, Right, Rule, Empty, one, form}
 use Rattle.mdr_parse.specs.Forms.Part.{declarator}
 use Rattle.mdr_parse.specs.Forms.Nonterminal.{part, stars, parameter_declarator}
-use Rattle.mdr_parse.specs.Forms.Rule.{never, given}
+use Rattle.mdr_parse.specs.Forms.Rule.{given}
 use Rattle.mdr_parse.specs.Forms.Empty.{cannot, may}
 use Rattle.mdr_parse.specs.Declarations.{declarator_rule, parameter_declarator_rule, unnamed}
 use Rattle.mdr_parse.specs.Front.{and_read, nothing_at, begun_at, first, front}

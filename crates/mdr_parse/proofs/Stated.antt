@@ -1,12 +1,11 @@
 -- Statements, by their first token and by what is allowed.
 use Rattle.std.proofs.lemmas.List.{append-nil}
-use Rattle.std.proofs.Common.{◌≡◌, refl, sym, subst, ap, ◌∙◌, ◌+◌, ℕ, Bool, true, false, List, [], ◌∷◌, ◌++◌, append_assoc, length, Option, Some, None, Result, Ok, Err}
-use Rattle.mdr_core.specs.declared.place.Place.{Place}
+use Rattle.std.proofs.Common.{◌≡◌, refl, sym, subst, ap, ◌∙◌, ◌+◌, ℕ, Bool, true, false, List, [], ◌∷◌, ◌++◌, append_assoc, length, Option, None, Result, Ok, Err}
 use Rattle.mdr_syntax.specs.declared.token.Token.{Token}
 use Rattle.mdr_parse.specs.declared.error.Failure.{Failure}
 use Rattle.mdr_parse.specs.Sorts.{Sort, is, sort_of}
 use Rattle.mdr_syntax.specs.declared.tree.Node.{Node}
-use Rattle.mdr_parse.specs.Forms.{Ended, Part, PartValue, Right, Rule, ◌>>=◌, form, and_then, where_allowed}
+use Rattle.mdr_parse.specs.Forms.{Ended, Part, PartValue, Right, Rule, and_then, where_allowed}
 use Rattle.mdr_parse.specs.Forms.Part.{statement, body, block_item, opening, simple, right_side, right, expression}
 use Rattle.mdr_parse.specs.Forms.Repeated.{block_items}
 use Rattle.mdr_parse.specs.Forms.Nonterminal.{part, option, many, otherwise}
@@ -14,7 +13,7 @@ use Rattle.mdr_parse.specs.Forms.Right.{gives}
 use Rattle.mdr_parse.specs.Forms.Rule.{never, given}
 use Rattle.mdr_parse.specs.Grammar.{rule, part_rule}
 use Rattle.mdr_parse.specs.Expressions.{is_level_free}
-use Rattle.mdr_parse.specs.Statements.{joined, items_in, nested_in, semicolon_behind, keyword_rule, statement_rule, deeper_rule, deeper_keyword_rule, simple_end, simple_rule, single_rule, opening_simple_rule, locals_rule}
+use Rattle.mdr_parse.specs.Statements.{joined, items_in, nested_in, semicolon_behind, statement_rule, deeper_rule, simple_end, simple_rule, single_rule, opening_simple_rule, locals_rule}
 use Rattle.mdr_parse.specs.Front.{Read, and_read, word_at, begun_at, first, front}
 use Rattle.mdr_parse.specs.Gives.{Gives, read_by}
 use Rattle.mdr_parse.proofs.Hungry.{opens}

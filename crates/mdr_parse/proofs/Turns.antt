@@ -4,7 +4,7 @@ use Rattle.mdr_syntax.specs.declared.token.Token.{Token}
 use Rattle.mdr_parse.specs.declared.error.Failure.{Failure}
 use Rattle.mdr_parse.specs.declared.error.Failure.TheVariants.{Memory, Fault}
 use Rattle.mdr_parse.specs.Sorts.{Sort, is}
-use Rattle.mdr_parse.specs.Forms.{Part, PartValue, repeated, separated, enclosed, Repeated, Separated, Enclosed, Right, form}
+use Rattle.mdr_parse.specs.Forms.{Part, PartValue, repeated, separated, enclosed, Repeated, Separated, Enclosed, form}
 use Rattle.mdr_parse.specs.Forms.Nonterminal.{part, option, many, commas, commas_open, after_comma}
 use Rattle.mdr_parse.specs.Grammar.{rule}
 use Rattle.mdr_parse.specs.Front.{Read, and_read, word_at, first, front}

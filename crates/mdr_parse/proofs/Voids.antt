@@ -1,5 +1,5 @@
 -- Parameters behind a first `void`.
-use Rattle.std.proofs.Common.{◌≡◌, refl, sym, subst, ap, ◌∙◌, ◌+◌, ℕ, Bool, true, false, not, List, [], ◌∷◌, length, Option, Some, None, Result, Ok, Err}
+use Rattle.std.proofs.Common.{◌≡◌, refl, sym, ap, ◌∙◌, ◌+◌, ℕ, Bool, true, false, not, List, [], ◌∷◌, length, Option, None, Ok, Err}
 use Rattle.mdr_core.specs.declared.place.Place.{Place}
 use Rattle.mdr_syntax.specs.declared.token.Token.{Token}
 use Rattle.mdr_syntax.specs.declared.tree.AnnText.{AnnText}
@@ -8,15 +8,13 @@ use Rattle.mdr_parse.specs.Sorts.{Sort, is, sort_of}
 use Rattle.mdr_parse.specs.Forms.{Rule, where_allowed, and_then, ◌>>=◌}
 use Rattle.mdr_parse.specs.Forms.Part.{annotation}
 use Rattle.mdr_parse.specs.Forms.Rule.{never, given}
-use Rattle.mdr_parse.specs.Forms.Nonterminal.{part, option, after_void, parameters, parameter_declarator}
-use Rattle.mdr_parse.specs.Grammar.{rule, part_rule}
+use Rattle.mdr_parse.specs.Forms.Nonterminal.{part, after_void, parameters, parameter_declarator}
+use Rattle.mdr_parse.specs.Grammar.{rule}
 use Rattle.mdr_parse.specs.Expressions.{may_open}
 use Rattle.mdr_parse.specs.Declarations.{annotation_rule, annotated_parameter, more_parameters, void_base, void_with, perhaps_void_with, declared_void, annotated_void, listed_parameters, parameters_rule}
-use Rattle.mdr_parse.specs.Front.{Read, and_read, word_at, nothing_at, begun_at, first, front}
+use Rattle.mdr_parse.specs.Front.{Read, and_read, word_at, begun_at, first, front}
 use Rattle.mdr_parse.specs.Gives.{read_from, read_by, perhaps, chosen}
 use Rattle.mdr_parse.specs.Forms.Empty.{may}
-use Rattle.mdr_parse.proofs.Hungry.{opens}
-use Rattle.mdr_parse.proofs.Arms.{none}
 use Rattle.mdr_parse.proofs.Going.{first_from, begin_both, goes_on_at, option_is, going}
 use Rattle.mdr_parse.proofs.Alike.{alike}
 

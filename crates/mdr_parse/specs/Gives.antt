@@ -1,5 +1,5 @@
 -- What a function returned is what is read at the front of the tokens, unless memory ran out.
-use Rattle.std.specs.Prelude.{ℕ, suc, ◌+◌, ◌≤◌, Bool, false, nat_eq, true, length, ◌≡◌, List, Option, Some, None, [], ◌∷◌, Result, Ok, Err}
+use Rattle.std.specs.Prelude.{ℕ, ◌+◌, ◌≤◌, Bool, false, nat_eq, true, length, ◌≡◌, List, Option, Some, None, [], ◌∷◌, Result, Ok, Err}
 use Rattle.mdr_syntax.specs.declared.token.Token.{Token}
 use Rattle.mdr_parse.specs.declared.error.Failure.{Failure}
 use Rattle.mdr_parse.specs.declared.error.Failure.TheVariants.{Memory, Fault}

@@ -3,7 +3,7 @@ use Rattle.std.proofs.lemmas.Result.{err_from_is_err_and}
 use Rattle.mdr_parse.specs.Sorts.{Sort}
 use Rattle.mdr_parse.specs.Forms.Part.{specifiers, parameter}
 use Rattle.mdr_parse.specs.Forms.Separated.{parameters_at}
-use Rattle.mdr_parse.specs.Forms.Nonterminal.{part, commas, parameters, after_void}
+use Rattle.mdr_parse.specs.Forms.Nonterminal.{commas, parameters, after_void}
 use Rattle.mdr_parse.specs.Declarations.{parameter_of, more_parameters, listed_parameters}
 use Rattle.mdr_parse.specs.Front.{first}
 use Rattle.mdr_parse.specs.Gives.{Gives}

@@ -7,7 +7,7 @@ use Rattle.mdr_parse.specs.Forms.Right.{gives}
 use Rattle.mdr_syntax.specs.declared.tree.Init
 use Rattle.mdr_parse.specs.Declarations.{bare_element}
 use Rattle.mdr_parse.specs.Gives.{Gives}
-use Rattle.mdr_parse.proofs.Arms.{goes, arm, refused, none, at_end, past_arm}
+use Rattle.mdr_parse.proofs.Arms.{goes, arm, refused, at_end, past_arm}
 use Rattle.mdr_parse.proofs.Going.{through, through_all_by}
 use Rattle.mdr_parse.proofs.Alike.{only_bare, only_constant}
 use Rattle.std.proofs.lemmas.Result.{err_from_is_err_and}

@@ -1,5 +1,4 @@
 use Rattle.std.proofs.Common.{refl}
-use Rattle.mdr_parse.specs.Forms.Empty.{cannot}
 use Rattle.mdr_parse.specs.Forms.Part.{specifiers}
 use Rattle.mdr_parse.specs.Statements.{locals_rule, locals_of}
 use Rattle.mdr_parse.proofs.Going.{through_by}
