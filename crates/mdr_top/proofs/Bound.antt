@@ -9,8 +9,7 @@ use Rattle.mdr_core.specs.declared.program.Func.{Func}
 use Rattle.mdr_core.specs.Sound.{IsSound}
 use Rattle.mdr_model.specs.Built.{IsBuilt}
 use Rattle.mdr_model.specs.declared.command.Command.{Command as AnyCommand}
-use Rattle.mdr_model.specs.Meaning.{func_at}
-use Rattle.mdr_model.specs.Faults.{params_of, args_fault}
+use Rattle.mdr_model.specs.Faults.{args_fault}
 use Rattle.mdr_model.specs.Runnable.{IsRunnable, IsBoundCommand, IsBound}
 use Rattle.mdr_model.proofs.BuiltLaws.{runnable}
 use Rattle.mdr_model.proofs.Commands.{no_params}

@@ -18,14 +18,20 @@ use Rattle.mdr_outside.specs.declared.far.Exchange.{Exchange}
 use Rattle.mdr_outside.specs.Shelf.{ReadsFrom}
 use Rattle.mdr_user.specs.Honest.{program_of_tokens, program_of_text}
 use Rattle.mdr_top.specs.declared.status.Status.{Status}
+use Rattle.mdr_top.specs.declared.status.Status.TheVariants as status
 use Rattle.mdr_top.specs.Words.{command_of}
-use Rattle.mdr_top.specs.Answers.{Files, longest_source, longest_script, default_ticks, status_of, Unread, NoProgram, HasProgram, Ran, Called, Scripted, Compiled, Sourced, Answered, Prints}
+use Rattle.mdr_top.specs.Answers.{Files, longest_source, longest_script, default_ticks, status_of, Unread, NoSource, NoProgram, HasProgram, Ran, Called, Scripted, Compiled, Sourced, Answered, Prints}
 use Rattle.mdr_top.specs.Comes.{IsWanted, IsDueToFar, Ends, IsEnd, Comes}
 use Rattle.mdr_top.proofs.Headline.{nothing_end}
 
 pub no_program : (source : List ℕ) (s : Status) (text : List ℕ) → NoProgram source s text → program_of_text source ≡ None
 no_program source s text (NoProgram.fault e r is t) = ap program_of_tokens r
-no_program source s text (NoProgram.unbuilt ts r none is t) = ap program_of_tokens r ∙ none
+no_program source s text (NoProgram.undeclared ts r none why) = ap program_of_tokens r ∙ none
+
+pub source_is : (source : List ℕ) (s : Status) (text : List ℕ) → NoProgram source s text → s ≡ status.SourceRefused
+source_is source s text (NoProgram.fault e r is t) = is
+source_is source s text (NoProgram.undeclared ts r none (NoSource.unparsed n first is t)) = is
+source_is source s text (NoProgram.undeclared ts r none (NoSource.unbuilt tree reads is t)) = is
 
 -- a read that failed says nothing
 failed_reads : (files : Files) (name : List ℕ) (limit : ℕ) → ReadsFrom files name limit reads.Failed
@@ -104,8 +110,7 @@ module _ (words : List (List ℕ)) (files : Files) (loaded : Option Loaded) (es 
   sourced_comes name script_name s text e (Sourced.read source r (Compiled.refused n)) = source_comes n
     where
       source_comes : NoProgram source s text → Comes words files loaded es s
-      source_comes (NoProgram.fault f q is t) = subst (Comes words files loaded es) (sym is) (record { source = source; named = record { name = name; script_name = script_name; command = e; read = r }; none = no_program source s text (NoProgram.fault f q is t) })
-      source_comes (NoProgram.unbuilt ts q v is t) = subst (Comes words files loaded es) (sym is) (record { source = source; named = record { name = name; script_name = script_name; command = e; read = r }; none = no_program source s text (NoProgram.unbuilt ts q v is t) })
+      source_comes n = subst (Comes words files loaded es) (sym (source_is source s text n)) (record { source = source; named = record { name = name; script_name = script_name; command = e; read = r }; none = no_program source s text n })
   sourced_comes name script_name s text e (Sourced.read source r (Compiled.accepted program h c)) = scripted_comes name script_name source program s text e r h c
 
   answered_comes : (s : Status) (text : List ℕ) → Answered words files loaded es s text → Comes words files loaded es s

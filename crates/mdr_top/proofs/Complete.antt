@@ -48,7 +48,7 @@ not_long (Some f) name limit a told r r' =
 
 pub not_refused : (source : List ℕ) (program : Program) (s : Status) (text : List ℕ) → HasProgram source program → NoProgram source s text → ⊥
 not_refused source program s text h (NoProgram.fault e r is t) = not_ok (tokens_of source) h.tokens e h.read r
-not_refused source program s text h (NoProgram.unbuilt ts r none is t) =
+not_refused source program s text h (NoProgram.undeclared ts r none why) =
     not_some (program_of (whats ts)) program (ap (λ (us : List Token). program_of (whats us)) (ok_same (tokens_of source) ts h.tokens r h.read) ∙ h.declared) none
 
 -- ---- what is accepted runs

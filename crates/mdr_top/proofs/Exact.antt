@@ -13,10 +13,10 @@ use Rattle.mdr_user.specs.Honest.{program_of_text}
 use Rattle.mdr_top.specs.declared.status.Status.{Status}
 use Rattle.mdr_top.specs.declared.status.Status.TheVariants as status
 use Rattle.mdr_top.specs.Words.{command_of}
-use Rattle.mdr_top.specs.Answers.{Files, longest_source, longest_script, status_of, Unread, NoProgram, Called, Scripted, Compiled, Sourced, Answered, Prints}
+use Rattle.mdr_top.specs.Answers.{Files, longest_source, longest_script, status_of, Unread, Called, Scripted, Compiled, Sourced, Answered, Prints}
 use Rattle.mdr_top.specs.Comes.{sized, calls_due, script_due, program_due, source_due, due_of, IsOfRun, IsDueTo, IsDueOrFault, IsExact}
 use Rattle.mdr_top.proofs.Headline.{text_of}
-use Rattle.mdr_top.proofs.Comes.{no_program, end_of}
+use Rattle.mdr_top.proofs.Comes.{no_program, source_is, end_of}
 
 -- a read that failed, or what is due
 abbrev Dues : Option Status → Status → Type 0
@@ -27,10 +27,6 @@ end_is ends.Ok = tt
 end_is (ends.Stop kind at) = tt
 end_is (ends.Refused exchange cause number) = tt
 end_is (ends.FarFault exchange) = tt
-
-source_is : (source : List ℕ) (s : Status) (text : List ℕ) → NoProgram source s text → s ≡ status.SourceRefused
-source_is source s text (NoProgram.fault e r is t) = is
-source_is source s text (NoProgram.unbuilt ts r none is t) = is
 
 -- a file that is there and fits
 fits : (bytes : List ℕ) (limit : ℕ) (given : Option Status) (s : Status) → length bytes ≤ limit → Dues given s → Dues (sized (nat_lt limit (length bytes)) given) s

@@ -15,16 +15,14 @@ use Rattle.mdr_outside.specs.declared.far.LoadAnswer.{LoadAnswer}
 use Rattle.mdr_outside.specs.declared.far.LoadAnswer.TheVariants as loads
 use Rattle.mdr_outside.specs.declared.far.Loaded.{Loaded}
 use Rattle.mdr_outside.specs.declared.far.Exchange.{Exchange}
-use Rattle.mdr_outside.specs.Shelf.{ReadsFrom}
 use Rattle.mdr_outside.specs.Far.{loaded_with}
 use Rattle.mdr_kernel.specs.Runs.{IsFarFault}
 use Rattle.mdr_user.specs.Honest.{program_of_tokens, program_of_text, IsHonestLoad, IsServed, IsHonestSince, IsHonest}
 use Rattle.mdr_top.specs.declared.status.Status.{Status}
 use Rattle.mdr_top.specs.declared.status.Status.TheVariants as status
-use Rattle.mdr_top.specs.Words.{command_of}
 use Rattle.mdr_top.specs.Meanings.{IsMeant}
-use Rattle.mdr_top.specs.Answers.{Files, longest_source, longest_script, default_ticks, status_of, nothing_ran, Unread, NoProgram, HasProgram, Reported, Began, Ran, Called, Scripted, Compiled, Sourced, Answered, Prints}
-use Rattle.mdr_top.specs.Headline.{meant, IsMeaning, IsAccepted, MeansBy, Means}
+use Rattle.mdr_top.specs.Answers.{default_ticks, status_of, nothing_ran, NoSource, NoProgram, HasProgram, Reported, Began, Ran}
+use Rattle.mdr_top.specs.Headline.{IsMeaning}
 use Rattle.mdr_top.proofs.Meanings.{run_is_meaning}
 
 -- ---- a run
@@ -89,7 +87,8 @@ IsEarly status.TooLarge = Unit {0}
 
 pub source_early : (source : List ℕ) (s : Status) (text : List ℕ) → NoProgram source s text → IsEarly s
 source_early source s text (NoProgram.fault f r e t) = subst IsEarly (sym e) tt
-source_early source s text (NoProgram.unbuilt ts r v e t) = subst IsEarly (sym e) tt
+source_early source s text (NoProgram.undeclared ts r v (NoSource.unparsed n first e t)) = subst IsEarly (sym e) tt
+source_early source s text (NoProgram.undeclared ts r v (NoSource.unbuilt tree reads e t)) = subst IsEarly (sym e) tt
 
 pub own_never : (end : End) → IsOwn end → status_of end ≡ status.Marshal → ⊥
 own_never ends.Ok own e = Prim.cc

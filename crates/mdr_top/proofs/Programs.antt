@@ -1,5 +1,7 @@
--- The program of a source: there is one, and it is sound.
-use Rattle.std.proofs.Common.{◌≡◌, ℕ, List, Option, Some, Result, Ok, ap, ◌∙◌}
+-- The program of a source: there is one, and it is sound; or why there is none.
+use Rattle.std.proofs.Common.{◌≡◌, ℕ, List, Option, Some, None, Result, Ok, Err, ap, ◌∙◌}
+use Rattle.std.specs.Prelude.{IfOk}
+use Rattle.mdr_core.specs.declared.memory_error.OutOfMemory.{OutOfMemory}
 use Rattle.mdr_core.specs.declared.program.Program.{Program}
 use Rattle.mdr_syntax.specs.declared.token.Token.{Token}
 use Rattle.mdr_syntax.specs.Reading.{whats}
@@ -7,10 +9,19 @@ use Rattle.mdr_syntax.specs.Tokens.{tokens_of}
 use Rattle.mdr_syntax.specs.Sources.{program_of}
 use Rattle.mdr_syntax.proofs.Soundness.{is_sound}
 use Rattle.mdr_user.proofs.SoundSources.{program_is_sound, program_is_built}
-use Rattle.mdr_top.specs.Answers.{HasProgram}
+use Rattle.mdr_top.specs.Answers.{HasProgram, NoProgram, NoSource}
+use Rattle.mdr_top.specs.Stages.{StageIs}
+use Rattle.mdr_top.specs.declared.due.Stage.{Stage}
+use Rattle.mdr_top.specs.declared.due.Stage.TheVariants as stage
 
 pub has_program : (bytes : List ℕ) (ts : List Token) (program : Program) → tokens_of bytes ≡ Ok ts → program_of (whats ts) ≡ Some program → HasProgram bytes program
 has_program bytes ts program e d = record { tokens = ts; read = e; declared = d; sound = program_is_sound program (is_sound (whats ts) program d); built = program_is_built program (is_sound (whats ts) program d) }
+
+-- what is said of a source's tokens is said of the source
+pub no_program_for : (bytes : List ℕ) (ts : List Token) (r : Result (Stage Program) OutOfMemory) → tokens_of bytes ≡ Ok ts → program_of (whats ts) ≡ None → IfOk r (StageIs (λ _. ⊥) (NoSource ts)) → IfOk r (StageIs (HasProgram bytes) (NoProgram bytes))
+no_program_for bytes ts (Ok (stage.Goes x)) e none h = elim h [ ]
+no_program_for bytes ts (Ok (stage.Ends due)) e none h = NoProgram.undeclared ts e none h
+no_program_for bytes ts (Err x) e none h = tt
 
 pub some_same : {X : Type 0} (o : Option X) (x y : X) → o ≡ Some x → o ≡ Some y → x ≡ y
 some_same o x y e f = Prim.cc

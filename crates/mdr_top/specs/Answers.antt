@@ -1,5 +1,5 @@
 -- What the program answers, stage by stage, with one constructor for each reason.
-use Rattle.std.specs.Prelude.{Bool, true, false, ◌≡◌, ◌≤◌, ℕ, List, [], ◌++◌, length, take, codes, Option, Some, None, option_map, Ok, Err}
+use Rattle.std.specs.Prelude.{Bool, true, false, ◌≡◌, ◌≤◌, ℕ, List, [], ◌++◌, length, take, codes, Option, Some, None, option_map, slice_get, Ok, Err}
 use Rattle.mdr_core.specs.declared.program.Program.{Program}
 use Rattle.mdr_core.specs.declared.refusal.RefuseKind.TheVariants as refusal
 use Rattle.mdr_model.specs.declared.outcome.End.{End}
@@ -13,9 +13,13 @@ use Rattle.mdr_model.specs.Built.{IsBuilt}
 use Rattle.mdr_model.specs.Runnable.{IsBound}
 use Rattle.mdr_syntax.specs.declared.token.Token.{Token}
 use Rattle.mdr_syntax.specs.declared.error.LexError.{LexError}
+use Rattle.mdr_syntax.specs.declared.tree.Tree.{Tree}
 use Rattle.mdr_syntax.specs.Reading.{whats}
 use Rattle.mdr_syntax.specs.Tokens.{tokens_of}
 use Rattle.mdr_syntax.specs.Sources.{program_of}
+use Rattle.mdr_parse.specs.Grammar.{Reads}
+use Rattle.mdr_parse.specs.Parsing.{end_place, error_in}
+use Rattle.mdr_parse.specs.Running.{FirstFault}
 use Rattle.mdr_model.specs.declared.command.Command.{Command}
 use Rattle.mdr_top.specs.Commands.{commands_of}
 use Rattle.mdr_outside.specs.declared.shelf.ReadAnswer.TheVariants as reads
@@ -27,7 +31,7 @@ use Rattle.mdr_outside.specs.Far.{loaded_with}
 use Rattle.mdr_kernel.specs.Runs.{IsRun}
 use Rattle.mdr_top.specs.declared.status.Status.{Status}
 use Rattle.mdr_top.specs.declared.status.Status.TheVariants as status
-use Rattle.mdr_top.specs.Lines.{usage_line, source_line, begin, fault_line, script_line, file_line}
+use Rattle.mdr_top.specs.Lines.{usage_line, source_line, begin, fault_line, parse_line, script_line, file_line}
 use Rattle.mdr_top.specs.Words.{command_of}
 
 -- the files as functions of their names, told or not
@@ -47,10 +51,15 @@ pub data Unread (files : Files) (name : List ℕ) (limit : ℕ) (s : Status) (te
   long : ReadsFrom files name limit reads.TooLarge → s ≡ status.TooLarge → text ≡ file_line (codes "too large ") name → Unread files name limit s text
   failed : s ≡ status.ReadFault → text ≡ file_line (codes "read fault ") name → Unread files name limit s text
 
+-- what is said of tokens that aren't a program of the forms that are built: the first that no source has there, or else that they aren't built yet
+pub data NoSource (ts : List Token) (s : Status) (text : List ℕ) : Type 0 where
+  unparsed : (n : ℕ) → FirstFault false ts n → s ≡ status.SourceRefused → text ≡ parse_line (error_in (end_place ts) (slice_get ts n)) → NoSource ts s text
+  unbuilt : (tree : Tree) → Reads false ts tree → s ≡ status.SourceRefused → text ≡ source_line begin (codes "Unbuilt") → NoSource ts s text
+
 -- a source that is refused
 pub data NoProgram (bytes : List ℕ) (s : Status) (text : List ℕ) : Type 0 where
   fault : (e : LexError) → tokens_of bytes ≡ Err e → s ≡ status.SourceRefused → text ≡ fault_line e → NoProgram bytes s text
-  unbuilt : (ts : List Token) → tokens_of bytes ≡ Ok ts → program_of (whats ts) ≡ None → s ≡ status.SourceRefused → text ≡ source_line begin (codes "Unbuilt") → NoProgram bytes s text
+  undeclared : (ts : List Token) → tokens_of bytes ≡ Ok ts → program_of (whats ts) ≡ None → NoSource ts s text → NoProgram bytes s text
 
 -- a source and the program that it declares, which is sound, and of forms that are built
 pub record HasProgram (bytes : List ℕ) (program : Program) : Type 0 where

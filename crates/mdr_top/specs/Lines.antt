@@ -2,6 +2,8 @@
 use Rattle.std.specs.Prelude.{ℕ, List, [], ◌++◌, codes, decimal}
 use Rattle.mdr_core.specs.declared.place.Place.{Place}
 use Rattle.mdr_model.specs.Report.{newline}
+use Rattle.mdr_parse.specs.declared.error.ParseError.{ParseError}
+use Rattle.mdr_parse.specs.declared.error.ParseError.TheVariants as parse
 use Rattle.mdr_syntax.specs.declared.error.LexError.{LexError}
 use Rattle.mdr_syntax.specs.declared.error.LexError.TheVariants.{BadByte, BadNumber, OpenComment, OpenText, OutOfMemory}
 
@@ -23,6 +25,16 @@ fault_line (BadNumber p) = source_line p (codes "BadNumber")
 fault_line (OpenComment p) = source_line p (codes "OpenComment")
 fault_line (OpenText p) = source_line p (codes "OpenText")
 fault_line OutOfMemory = []
+
+-- a word of C99 that sources do without
+unfoldable pub left_out : List ℕ → List ℕ
+left_out word = codes "NotInProfile " ++ word
+
+-- tokens that are no source; want of memory has no line
+abbrev pub parse_line : ParseError → List ℕ
+parse_line (parse.NotInProfile p word) = source_line p (left_out word)
+parse_line (parse.Expected p) = source_line p (codes "Expected")
+parse_line parse.OutOfMemory = []
 
 -- a script that is refused: the line and the kind
 unfoldable pub script_line : ℕ → List ℕ → List ℕ

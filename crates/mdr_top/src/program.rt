@@ -1,16 +1,17 @@
 // The driver's program.
 
 ghost use Rattle.std.specs.Prelude.{◌≡◌, IfOk};
-ghost use Rattle.mdr_top.specs.Answers.{HasProgram, NoProgram};
-ghost use Rattle.mdr_top.specs.Lines.{source_line};
+ghost use Rattle.mdr_top.specs.Answers.{HasProgram, NoProgram, NoSource};
+ghost use Rattle.mdr_top.specs.Lines.{source_line, left_out};
 ghost use Rattle.mdr_top.specs.Stages.{StageIs, IsDue};
 ghost use Rattle.mdr_top.specs.declared.status.Status.TheVariants as status;
 
 use crate::due::{Due, Stage};
-use crate::lines::source_line;
+use crate::lines::{left_out_line, source_line};
 use crate::status::Status;
-use mdr_core::{OutOfMemory, Place, Program};
-use mdr_syntax::{LexError, SourceError, read_source, tokens};
+use mdr_core::{Name, OutOfMemory, Place, Program};
+use mdr_parse::{ParseError, parse};
+use mdr_syntax::{LexError, SourceError, Token, read_source, tokens};
 use std::alloc::Global;
 
 /// What is due where the source is refused.
@@ -23,6 +24,28 @@ fn refused(alloc: Global, place: Place, kind: &str) -> Result<Stage<Program>, Ou
     }))
 }
 
+/// What is due where a word stands that sources do without.
+fn left_out(alloc: Global, place: Place, word: &Name) -> Result<Stage<Program>, OutOfMemory>
+    ensures { IfOk result (IsDue status.SourceRefused (source_line place (left_out word.now))) }
+{
+    Ok(Stage::Ends(Due {
+        status: Status::SourceRefused,
+        text: left_out_line(alloc, place, word)?,
+    }))
+}
+
+/// What is due where tokens declare no program of the forms that are built.
+fn no_source(alloc: Global, tokens: &[Token]) -> Result<Stage<Program>, OutOfMemory>
+    ensures { IfOk result (StageIs (λ _. ⊥) (NoSource tokens.now)) }
+{
+    match parse(alloc, tokens, false) {
+        Ok(_tree) => refused(alloc, Place { line: 1, column: 1 }, "Unbuilt"),
+        Err(ParseError::NotInProfile(place, word)) => left_out(alloc, place, &word),
+        Err(ParseError::Expected(place)) => refused(alloc, place, "Expected"),
+        Err(ParseError::OutOfMemory) => Err(OutOfMemory),
+    }
+}
+
 /// The program of a source, or what is due where it is none that is taken.
 pub(crate) fn program(alloc: Global, source: &[u8]) -> Result<Stage<Program>, OutOfMemory>
     ensures { IfOk result (StageIs (HasProgram source.now) (NoProgram source.now)) }
@@ -30,7 +53,7 @@ pub(crate) fn program(alloc: Global, source: &[u8]) -> Result<Stage<Program>, Ou
     match tokens(alloc, source) {
         Ok(tokens) => match read_source(alloc, tokens.as_slice()) {
             Ok(program) => Ok(Stage::Goes(program)),
-            Err(SourceError::Unbuilt) => refused(alloc, Place { line: 1, column: 1 }, "Unbuilt"),
+            Err(SourceError::Unbuilt) => no_source(alloc, tokens.as_slice()),
             Err(SourceError::OutOfMemory) => Err(OutOfMemory),
         },
         Err(LexError::BadByte(place)) => refused(alloc, place, "BadByte"),

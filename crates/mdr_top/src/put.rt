@@ -14,6 +14,14 @@ pub(crate) fn put_word(out: &mut Vec<u8>, word: &str) -> Result<(), OutOfMemory>
     Ok(())
 }
 
+/// Bytes as they are.
+pub(crate) fn put_bytes(out: &mut Vec<u8>, bytes: &[u8]) -> Result<(), OutOfMemory>
+    ensures { OnOk result (out.new.items ≡ out.old.items ++ bytes.now) }
+{
+    out.extend_from_slice(bytes)?;
+    Ok(())
+}
+
 /// A number in decimal digits.
 pub(crate) fn put_number(alloc: Global, out: &mut Vec<u8>, n: u32) -> Result<(), OutOfMemory>
     ensures { OnOk result (out.new.items ≡ out.old.items ++ decimal n) }

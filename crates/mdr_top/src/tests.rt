@@ -3,6 +3,7 @@
 mod answers;
 mod drivers;
 mod files;
+mod grammar;
 mod halves;
 mod output;
 

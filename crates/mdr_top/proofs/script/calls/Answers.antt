@@ -1,5 +1,4 @@
-use Rattle.std.proofs.Common.{List, map, ap, ◌∙◌}
-use Rattle.mdr_model.specs.declared.command.Command.{Command}
+use Rattle.std.proofs.Common.{map, ap, ◌∙◌}
 use Rattle.mdr_top.specs.Commands.{call_of}
 use Rattle.mdr_top.proofs.Bound.{has_script}
 use Rattle.mdr_top.proofs.script.calls.Goals as goal
