@@ -245,8 +245,7 @@ fn a_source_that_is_cut_is_refused_at_its_end(rt: HostRuntime) -> Result<(), Fai
         return Ok(());
     };
     let all = all.as_slice();
-    // all but the last brace and the end
-    for n in 1..all.len() - 1 {
+    for n in 1..all.len() {
         assert!(rt;
             ends_early(rt.alloc(), &all[..n], &all[n - 1]),
             "behind {n} tokens"
