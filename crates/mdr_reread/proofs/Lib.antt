@@ -1,0 +1,15 @@
+pub mod Tests
+pub mod WordFronts
+pub mod TextFronts
+pub mod NumberFronts
+pub mod SignFronts
+pub mod Parts
+pub mod ShownForms
+pub mod FormsApart
+pub mod DeclaredParts
+pub mod DeclsApart
+pub mod InitsApart
+pub mod StatedParts
+pub mod StatementsApart
+pub mod DefineFronts
+pub mod ItemsApart
