@@ -8,8 +8,6 @@ mod fit;
 mod operators;
 mod shift;
 mod sum;
-#[cfg(test)]
-mod tests;
 
 pub use bits::flip;
 pub use conversion::{common, conv, promote};

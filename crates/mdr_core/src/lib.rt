@@ -14,8 +14,6 @@ mod program;
 mod refusal;
 mod same;
 mod stop;
-#[cfg(test)]
-mod tests;
 mod text;
 mod types;
 mod undefined;

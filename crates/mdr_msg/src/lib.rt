@@ -22,6 +22,3 @@ pub use mdr_model::{BirthKind, Message, New, Run, SetRun, Shape64, Wire, WireVie
 pub use reading::decode;
 pub use spelling::{reading_of, spelled};
 pub use writing::encode;
-
-#[cfg(test)]
-mod tests;

@@ -13,8 +13,6 @@ mod out_sink;
 mod shelf;
 mod shelf_calls;
 mod sink;
-#[cfg(test)]
-mod tests;
 mod vec_sink;
 
 pub use far::{DeliverAnswer, Exchange, Far, LoadAnswer, Loaded};

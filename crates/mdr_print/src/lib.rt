@@ -12,6 +12,3 @@ mod types;
 
 pub use item::print;
 pub use laws::printed_tokens_are_read;
-
-#[cfg(test)]
-mod tests;

@@ -9,6 +9,3 @@ mod text;
 mod value;
 
 pub use text::report;
-
-#[cfg(test)]
-mod tests;

@@ -37,6 +37,3 @@ pub use tree::{
     Item, ItemWhat, Label, Node, NodeWhat, Tree,
 };
 pub use words::is_reserved;
-
-#[cfg(test)]
-mod tests;

@@ -17,6 +17,3 @@ mod walk;
 pub use half::UserHalf;
 pub use load_error::LoadError;
 pub use local_far::LocalFar;
-
-#[cfg(test)]
-mod tests;

@@ -8,6 +8,3 @@ mod writing;
 pub use cursor::{Cursor, XdrError};
 pub use reading::{get, get_opaque};
 pub use writing::{put, put_opaque};
-
-#[cfg(test)]
-mod tests;

@@ -9,7 +9,7 @@ mod shifts;
 mod signs;
 mod sums;
 
-use crate::{bin, common, conv, flip, neg, promote};
+use mdr_arith::{bin, common, conv, flip, neg, promote};
 use mdr_core::{BinOp, Kind, Undefined};
 use std::process::Abort;
 

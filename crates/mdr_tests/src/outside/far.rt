@@ -1,8 +1,7 @@
 // The far side that gives the answers that it was told to give.
 
-use crate::far::{DeliverAnswer, Exchange, Far, LoadAnswer};
-use crate::lying_far::LyingFar;
 use mdr_core::Items;
+use mdr_outside::{DeliverAnswer, Exchange, Far, LoadAnswer, LyingFar};
 use std::alloc::Global;
 use std::process::Abort;
 use std::test::Fail;

@@ -1,7 +1,6 @@
 // The shelf in memory.
 
-use crate::map_shelf::MapShelf;
-use crate::shelf::{ReadAnswer, Shelf, WriteAnswer};
+use mdr_outside::{MapShelf, ReadAnswer, Shelf, WriteAnswer};
 use std::alloc::Global;
 use std::process::Abort;
 use std::test::Fail;

@@ -1,4 +1,4 @@
-use crate::reached;
+use mdr_paths::reached;
 use std::alloc::Global;
 
 #[test]

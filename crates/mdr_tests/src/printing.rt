@@ -1,7 +1,7 @@
 // A text that was written by hand.
 
-use crate::print;
 use mdr_core::{Boxed, Items, Kind, Name, Place};
+use mdr_print::print;
 use mdr_syntax::{Base, Form, FormWhat, Head, Item, ItemWhat, Node, NodeWhat, Tree};
 use std::alloc::Global;
 use std::test::Fail;

@@ -1,10 +1,10 @@
 // Reports against texts that were written by hand.
 
-use crate::report;
 use mdr_core::{
     Ann, At, Func, GlobalDef, Items, Kind, LockState, Program, RefuseKind, StopKind, Ty, Value,
 };
 use mdr_model::{End, Happened, Object, Outcome, Seen};
+use mdr_report::report;
 use std::alloc::Global;
 use std::test::Fail;
 

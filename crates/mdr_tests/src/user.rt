@@ -1,7 +1,7 @@
 // Messages to the user half, and its replies, as bytes from outside.
 
-use crate::{LoadError, LocalFar, UserHalf};
 use mdr_outside::{DeliverAnswer, Far, LoadAnswer};
+use mdr_user::{LoadError, LocalFar, UserHalf};
 use std::alloc::Global;
 use std::process::Abort;
 use std::test::Fail;

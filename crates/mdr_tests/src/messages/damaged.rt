@@ -1,7 +1,7 @@
 // Bytes that are no message, each with its fault.
 
 use super::bytes_of;
-use crate::{MsgError, decode};
+use mdr_msg::{MsgError, decode};
 use std::test::Fail;
 
 /// A Back with a run of one value, and an Ask with three opaque bytes and their padding.

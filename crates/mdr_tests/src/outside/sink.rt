@@ -1,8 +1,6 @@
 // The sink in memory, and a writer that fails.
 
-use crate::out_sink::OutSink;
-use crate::sink::{Sink, SinkAnswer};
-use crate::vec_sink::VecSink;
+use mdr_outside::{OutSink, Sink, SinkAnswer, VecSink};
 use std::io;
 use std::io::{Error, ErrorKind, Write};
 use std::test::Fail;

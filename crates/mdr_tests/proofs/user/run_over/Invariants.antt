@@ -1,5 +1,5 @@
 use Rattle.mdr_outside.specs.Far.{IsLoaded}
-use Rattle.mdr_user.proofs.tests.run_over.Given as goal
+use Rattle.mdr_tests.proofs.user.run_over.Given as goal
 
 abbrev pub invariant-loop-sent : goal.invariant-loop-sent
 invariant-loop-sent g l = IsLoaded (g.F.Far.loaded l.far)

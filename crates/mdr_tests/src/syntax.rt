@@ -1,5 +1,7 @@
-use super::*;
 use mdr_core::{Kind, Place, Program};
+use mdr_syntax::{
+    LexError, Lexeme, ScriptError, SourceError, Token, read_script, read_source, tokens,
+};
 use std::alloc::{AllocError, Global};
 use std::test::*;
 

@@ -1,7 +1,7 @@
 // A message with many runs, to measure by: time goes with the number of bytes.
 
-use crate::{Message, Run, Wire, can_encode, decode, encode};
 use mdr_core::{Items, Kind};
+use mdr_msg::{Message, Run, Wire, can_encode, decode, encode};
 use std::alloc::Global;
 use std::test::Fail;
 

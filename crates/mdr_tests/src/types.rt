@@ -1,6 +1,6 @@
 // The types of a network driver, and plans for it.
 
-use crate::{
+use mdr_core::{
     Ann, Boxed, Field, Func, GlobalDef, Half, Items, Key, Kind, LockState, Name, Plan, Program,
     StructDef, Ty, Value, same_type, suits, type_number, type_text,
 };

@@ -1,7 +1,7 @@
 // Items of RFC 4506 from outside, and each fault at its offset.
 
-use super::*;
 use mdr_core::Kind;
+use mdr_xdr::{Cursor, XdrError, get, get_opaque, put, put_opaque};
 use std::test::Fail;
 
 fn written(rt: &HostRuntime, kind: Kind, n: i128) -> Result<Vec<u8>, Fail> {

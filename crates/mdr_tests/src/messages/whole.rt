@@ -1,8 +1,8 @@
 // Messages from outside, read and written.
 
 use super::bytes_of;
-use crate::{Message, Wire, can_encode, decode, encode};
 use mdr_core::Items;
+use mdr_msg::{Message, Wire, can_encode, decode, encode};
 use std::alloc::Global;
 use std::process::Abort;
 use std::test::Fail;

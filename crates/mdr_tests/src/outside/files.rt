@@ -1,10 +1,7 @@
 // The adapters over real files, in the folder where the test runs.
 
 use super::shelf::{bytes_of, word_of};
-use crate::folder_shelf::FolderShelf;
-use crate::out_sink::OutSink;
-use crate::shelf::{ReadAnswer, Shelf, WriteAnswer};
-use crate::sink::{Sink, SinkAnswer};
+use mdr_outside::{FolderShelf, OutSink, ReadAnswer, Shelf, Sink, SinkAnswer, WriteAnswer};
 use std::alloc::Global;
 use std::test::Fail;
 use std::{fs, io};

@@ -1,0 +1,23 @@
+//! Tests of the libraries: what their contracts leave open, against values from outside. Nothing here is called.
+#![tactic(auto)]
+
+#[cfg(test)]
+mod arithmetic;
+#[cfg(test)]
+mod items;
+#[cfg(test)]
+mod messages;
+#[cfg(test)]
+mod outside;
+#[cfg(test)]
+mod paths;
+#[cfg(test)]
+mod printing;
+#[cfg(test)]
+mod report;
+#[cfg(test)]
+mod syntax;
+#[cfg(test)]
+mod types;
+#[cfg(test)]
+mod user;
