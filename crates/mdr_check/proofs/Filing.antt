@@ -3,12 +3,12 @@ use Rattle.std.proofs.Common.{ℕ, ◌≡◌, ◌<◌, ◌+◌, List, [], ◌∷
 use Rattle.std.proofs.Math.Path.{sym, ◌∙◌}
 use Rattle.std.proofs.lemmas.List.{at_drop_more, take_more}
 use Rattle.mdr_syntax.specs.declared.tree.Item.{Item}
-use Rattle.mdr_check.specs.declared.fault.Fault.{Fault}
+use Rattle.mdr_faults.specs.declared.fault.Fault.{Fault}
 use Rattle.mdr_check.specs.declared.file.Known.{Known}
 use Rattle.mdr_check.specs.declared.file.Piece.{Piece}
-use Rattle.mdr_check.specs.Faults.{told, followed, extended, next}
+use Rattle.mdr_faults.specs.Faults.{told, followed, extended, next}
 use Rattle.mdr_check.specs.Files.{BodyRule, item_piece, behind_item, pieces_behind, known_behind}
-use Rattle.mdr_check.proofs.Gathered.{one_more}
+use Rattle.mdr_faults.proofs.Gathered.{one_more}
 
 pub one_item : (body : BodyRule) (items : List Item) (known known1 : Known) (i : ℕ) (x : Item) (a a1 w : Result (List Piece) Fault) → i < length items → x ≡ get_or items i x → known1 ≡ behind_item items known x.what → a1 ≡ extended a (told (item_piece body items (take i items) known x.place x.what)) → followed a (told (pieces_behind body items known (take i items) (drop i items))) ≡ w → followed a1 (told (pieces_behind body items known1 (take (i + 1) items) (drop (i + 1) items))) ≡ w
 unfolding pieces_behind

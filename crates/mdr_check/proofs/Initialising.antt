@@ -11,17 +11,17 @@ use Rattle.mdr_syntax.specs.declared.tree.Init.TheOpen.{Init-F}
 use Rattle.mdr_syntax.specs.declared.tree.Init.TheFolds.{fold-roll-Init, fold_out-Elem}
 use Rattle.mdr_syntax.specs.declared.tree.Init.TheVariants as written
 use Rattle.mdr_syntax.specs.declared.tree.Init.TheVariants.{rolls-List}
-use Rattle.mdr_check.specs.declared.fault.Fault.{Fault}
-use Rattle.mdr_check.specs.declared.fault.FaultKind.TheVariants.{Mismatch}
+use Rattle.mdr_faults.specs.declared.fault.Fault.{Fault}
+use Rattle.mdr_faults.specs.declared.fault.FaultKind.TheVariants.{Mismatch}
 use Rattle.mdr_check.specs.declared.initialiser.First.{First}
 use Rattle.mdr_check.specs.declared.initialiser.Placed.{Placed}
-use Rattle.mdr_check.specs.declared.scope.Member.{Member}
-use Rattle.mdr_check.specs.declared.scope.Object.{Object}
-use Rattle.mdr_check.specs.declared.scope.Scope.{Scope}
-use Rattle.mdr_check.specs.Faults.{Checked, Right, Wrong, both, after, demand, told, first, followed, extended, next}
+use Rattle.mdr_faults.specs.declared.scope.Member.{Member}
+use Rattle.mdr_faults.specs.declared.scope.Object.{Object}
+use Rattle.mdr_faults.specs.declared.scope.Scope.{Scope}
+use Rattle.mdr_faults.specs.Faults.{Checked, Right, Wrong, both, after, demand, told, first, followed, extended, next}
 use Rattle.mdr_check.specs.Initialisers.{Part, appended, initial, part, initial_layer, part_layer, list_first, field_of, part_field, are_plain, are_named, is_same_field, are_once, suits_array, suits_struct, has_room, left_of, element_of, array_first, struct_first, elements_first, placed_by, placed_part, placed_parts, members_first, member_first, part_for}
-use Rattle.mdr_check.proofs.Order.{lesser_assoc}
-use Rattle.mdr_check.proofs.Gathered.{one_more}
+use Rattle.mdr_faults.proofs.Order.{lesser_assoc}
+use Rattle.mdr_faults.proofs.Gathered.{one_more}
 
 pub part_is : (scope : Scope) (own : ℕ) (p : Place) (e : Elem) → part scope own p e ≡ record { field = (out-Elem e).field; init = initial scope own p (out-Elem e).init }
 part_is scope own p e = fold_out-Elem (Object → Checked (List First)) Part (initial_layer scope own p) part_layer e

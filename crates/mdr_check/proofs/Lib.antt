@@ -1,12 +1,4 @@
-pub mod Order
-pub mod Gathered
-pub mod Least
-pub mod Stars
-pub mod Declarators
-pub mod Enumerating
-pub mod Likeness
 pub mod Initialising
-pub mod Agreeing
 pub mod Tabling
 pub mod Filing
 pub mod Shortness

@@ -18,10 +18,10 @@ use Rattle.mdr_check.specs.declared.operand.Scalar.{Scalar}
 use Rattle.mdr_check.specs.declared.operand.Scalar.TheVariants as scalar
 use Rattle.mdr_check.specs.declared.operator.BinaryOperator.{BinaryOperator}
 use Rattle.mdr_check.specs.declared.operator.BinaryOperator.TheVariants as binary
-use Rattle.mdr_check.specs.declared.scope.Scope.{Scope}
-use Rattle.mdr_check.specs.declared.fault.FaultKind.TheVariants.{Mismatch}
-use Rattle.mdr_check.specs.Alike.{is_alike, are_alike}
-use Rattle.mdr_check.specs.Faults.{Checked, Right, refuse, after, both}
+use Rattle.mdr_faults.specs.declared.scope.Scope.{Scope}
+use Rattle.mdr_faults.specs.declared.fault.FaultKind.TheVariants.{Mismatch}
+use Rattle.mdr_faults.specs.Alike.{is_alike, are_alike}
+use Rattle.mdr_faults.specs.Faults.{Checked, Right, refuse, after, both}
 use Rattle.mdr_check.specs.Forms.{at_kind, expression_of, integer_at, null_pointer, number, scalar_at, truth}
 use Rattle.mdr_check.specs.Postfix.{is_complete, is_number}
 

@@ -8,25 +8,25 @@ use Rattle.mdr_syntax.specs.declared.tree.Item.{Item}
 use Rattle.mdr_syntax.specs.declared.tree.ItemWhat.{ItemWhat}
 use Rattle.mdr_syntax.specs.declared.tree.ItemWhat.TheVariants as item
 use Rattle.mdr_syntax.specs.declared.tree.Node.{Node}
-use Rattle.mdr_check.specs.declared.body.Body.{Body}
-use Rattle.mdr_check.specs.declared.fault.FaultKind.TheVariants.{Redefined, Limit}
+use Rattle.mdr_headings.specs.declared.body.Body.{Body}
+use Rattle.mdr_faults.specs.declared.fault.FaultKind.TheVariants.{Redefined, Limit}
 use Rattle.mdr_check.specs.declared.file.Known.{Known}
 use Rattle.mdr_check.specs.declared.file.Piece.{Piece}
 use Rattle.mdr_check.specs.declared.file.Piece.TheVariants as piece
-use Rattle.mdr_check.specs.declared.head.Heading.{Heading}
-use Rattle.mdr_check.specs.declared.scope.Candidate.{Candidate}
-use Rattle.mdr_check.specs.declared.scope.Entity.TheVariants as entity
-use Rattle.mdr_check.specs.declared.scope.Scope.{Scope}
+use Rattle.mdr_headings.specs.declared.head.Heading.{Heading}
+use Rattle.mdr_faults.specs.declared.scope.Candidate.{Candidate}
+use Rattle.mdr_faults.specs.declared.scope.Entity.TheVariants as entity
+use Rattle.mdr_faults.specs.declared.scope.Scope.{Scope}
 use Rattle.mdr_check.specs.declared.variable.Variable.{Variable}
-use Rattle.mdr_check.specs.Annotations.{candidate}
-use Rattle.mdr_check.specs.Declarations.{number_constant}
-use Rattle.mdr_check.specs.Enums.{with_name, new_name, enumerators, behind_enumerators}
-use Rattle.mdr_check.specs.Faults.{Checked, Right, after, both, demand, next}
-use Rattle.mdr_check.specs.Functions.{is_defined, behind_function, function_declared, functions_behind}
+use Rattle.mdr_headings.specs.Annotations.{candidate}
+use Rattle.mdr_faults.specs.Declarations.{number_constant}
+use Rattle.mdr_faults.specs.Enums.{with_name, new_name, enumerators, behind_enumerators}
+use Rattle.mdr_faults.specs.Faults.{Checked, Right, after, both, demand, next}
+use Rattle.mdr_headings.specs.Functions.{is_defined, behind_function, function_declared, functions_behind}
 use Rattle.mdr_check.specs.Globals.{global, behind_global}
-use Rattle.mdr_check.specs.Scopes.{tag_named}
-use Rattle.mdr_check.specs.Source.{is_numbered, behind_struct, before_first, scope_of, tags_from, defines_from}
-use Rattle.mdr_check.specs.Structs.{struct_fields}
+use Rattle.mdr_faults.specs.Scopes.{tag_named}
+use Rattle.mdr_headings.specs.Source.{is_numbered, behind_struct, before_first, scope_of, tags_from, defines_from}
+use Rattle.mdr_headings.specs.Structs.{struct_fields}
 
 -- what a body comes to, in the scope behind its function's name
 abbrev pub BodyRule : Type 0

@@ -14,7 +14,7 @@ use Rattle.mdr_core.specs.declared.value.Value.TheVariants as value
 use Rattle.mdr_core.specs.Conversions.{promoted}
 use Rattle.mdr_core.specs.Kinds.{is_same_kind}
 use Rattle.mdr_core.specs.Layout.{chosen}
-use Rattle.mdr_check.specs.declared.fault.FaultKind.TheVariants.{Mismatch, NotAnLvalue}
+use Rattle.mdr_faults.specs.declared.fault.FaultKind.TheVariants.{Mismatch, NotAnLvalue}
 use Rattle.mdr_check.specs.declared.operand.Integer.{Integer}
 use Rattle.mdr_check.specs.declared.operand.Operand.{Operand}
 use Rattle.mdr_check.specs.declared.operand.Operand.TheVariants as operand
@@ -22,7 +22,7 @@ use Rattle.mdr_check.specs.declared.operand.Scalar.{Scalar}
 use Rattle.mdr_check.specs.declared.operand.Scalar.TheVariants as scalar
 use Rattle.mdr_check.specs.declared.operator.PrefixOperator.{PrefixOperator}
 use Rattle.mdr_check.specs.declared.operator.PrefixOperator.TheVariants as prefix
-use Rattle.mdr_check.specs.Faults.{Checked, Right, refuse, after}
+use Rattle.mdr_faults.specs.Faults.{Checked, Right, refuse, after}
 
 -- ---- values
 

@@ -4,21 +4,21 @@ use Rattle.mdr_core.specs.declared.place.Place.{Place}
 use Rattle.mdr_core.specs.declared.types.Ann.{Ann}
 use Rattle.mdr_syntax.specs.declared.tree.Decl.{Decl, out-Decl}
 use Rattle.mdr_syntax.specs.declared.tree.Init.{Init}
-use Rattle.mdr_check.specs.declared.fault.Fault.{Fault}
-use Rattle.mdr_check.specs.declared.fault.FaultKind.TheVariants.{Limit}
+use Rattle.mdr_faults.specs.declared.fault.Fault.{Fault}
+use Rattle.mdr_faults.specs.declared.fault.FaultKind.TheVariants.{Limit}
 use Rattle.mdr_check.specs.declared.initialiser.First.{First}
 use Rattle.mdr_check.specs.declared.initialiser.First.TheVariants as first
 use Rattle.mdr_check.specs.declared.variable.Variable.{Variable}
-use Rattle.mdr_check.specs.declared.scope.Entity.{Entity}
-use Rattle.mdr_check.specs.declared.scope.Entity.TheVariants as entity
-use Rattle.mdr_check.specs.declared.scope.Object.{Object}
-use Rattle.mdr_check.specs.declared.scope.Scope.{Scope}
-use Rattle.mdr_check.specs.Annotations.{annotated}
-use Rattle.mdr_check.specs.Declarations.{object_declared}
-use Rattle.mdr_check.specs.Enums.{with_name, new_name}
-use Rattle.mdr_check.specs.Faults.{Checked, Right, after, both, demand, told}
+use Rattle.mdr_faults.specs.declared.scope.Entity.{Entity}
+use Rattle.mdr_faults.specs.declared.scope.Entity.TheVariants as entity
+use Rattle.mdr_faults.specs.declared.scope.Object.{Object}
+use Rattle.mdr_faults.specs.declared.scope.Scope.{Scope}
+use Rattle.mdr_headings.specs.Annotations.{annotated}
+use Rattle.mdr_faults.specs.Declarations.{object_declared}
+use Rattle.mdr_faults.specs.Enums.{with_name, new_name}
+use Rattle.mdr_faults.specs.Faults.{Checked, Right, after, both, demand, told}
 use Rattle.mdr_check.specs.Initialisers.{initial}
-use Rattle.mdr_check.specs.Structs.{name_or_none}
+use Rattle.mdr_headings.specs.Structs.{name_or_none}
 
 -- the object that a global is
 abbrev pub global_object : Scope → Decl → Checked Object

@@ -16,24 +16,24 @@ use Rattle.mdr_syntax.specs.declared.tree.FieldName.{FieldName}
 use Rattle.mdr_syntax.specs.declared.tree.Init.{Init}
 use Rattle.mdr_syntax.specs.declared.tree.Init.TheOpen.{Init-F, Elem-F}
 use Rattle.mdr_syntax.specs.declared.tree.Init.TheFolds.{fold-Init, fold-Elem}
-use Rattle.mdr_check.specs.declared.fault.FaultKind.TheVariants.{UnknownName, Mismatch, Incomplete}
+use Rattle.mdr_faults.specs.declared.fault.FaultKind.TheVariants.{UnknownName, Mismatch, Incomplete}
 use Rattle.mdr_check.specs.declared.initialiser.First.{First}
 use Rattle.mdr_check.specs.declared.initialiser.First.TheVariants as first
 use Rattle.mdr_check.specs.declared.initialiser.Placed.{Placed}
-use Rattle.mdr_check.specs.declared.scope.Constant.{Constant}
-use Rattle.mdr_check.specs.declared.scope.Entity.{Entity}
-use Rattle.mdr_check.specs.declared.scope.Entity.TheVariants as entity
-use Rattle.mdr_check.specs.declared.scope.Member.{Member}
-use Rattle.mdr_check.specs.declared.scope.Named.{Named}
-use Rattle.mdr_check.specs.declared.scope.Object.{Object}
-use Rattle.mdr_check.specs.declared.scope.Scope.{Scope}
-use Rattle.mdr_check.specs.declared.scope.Signature.{Signature}
-use Rattle.mdr_check.specs.declared.scope.StructEntry.{StructEntry}
-use Rattle.mdr_check.specs.Alike.{is_alike, are_alike}
-use Rattle.mdr_check.specs.Annotations.{is_character}
-use Rattle.mdr_check.specs.Declarations.{number_constant}
-use Rattle.mdr_check.specs.Faults.{Checked, Right, refuse, again, after, both, demand, next}
-use Rattle.mdr_check.specs.Scopes.{entity_named}
+use Rattle.mdr_faults.specs.declared.scope.Constant.{Constant}
+use Rattle.mdr_faults.specs.declared.scope.Entity.{Entity}
+use Rattle.mdr_faults.specs.declared.scope.Entity.TheVariants as entity
+use Rattle.mdr_faults.specs.declared.scope.Member.{Member}
+use Rattle.mdr_faults.specs.declared.scope.Named.{Named}
+use Rattle.mdr_faults.specs.declared.scope.Object.{Object}
+use Rattle.mdr_faults.specs.declared.scope.Scope.{Scope}
+use Rattle.mdr_faults.specs.declared.scope.Signature.{Signature}
+use Rattle.mdr_faults.specs.declared.scope.StructEntry.{StructEntry}
+use Rattle.mdr_faults.specs.Alike.{is_alike, are_alike}
+use Rattle.mdr_headings.specs.Annotations.{is_character}
+use Rattle.mdr_faults.specs.Declarations.{number_constant}
+use Rattle.mdr_faults.specs.Faults.{Checked, Right, refuse, again, after, both, demand, next}
+use Rattle.mdr_faults.specs.Scopes.{entity_named}
 
 -- ---- single values
 

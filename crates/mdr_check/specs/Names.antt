@@ -9,9 +9,9 @@ use Rattle.mdr_syntax.specs.declared.tree.Head.{Head}
 use Rattle.mdr_syntax.specs.declared.tree.Item.{Item}
 use Rattle.mdr_syntax.specs.declared.tree.ItemWhat.{ItemWhat}
 use Rattle.mdr_syntax.specs.declared.tree.ItemWhat.TheVariants as item
-use Rattle.mdr_check.specs.declared.fault.Fault.{Fault}
-use Rattle.mdr_check.specs.declared.fault.FaultKind.TheVariants.{Limit}
-use Rattle.mdr_check.specs.Faults.{Checked, Right, both, demand, lesser}
+use Rattle.mdr_faults.specs.declared.fault.Fault.{Fault}
+use Rattle.mdr_faults.specs.declared.fault.FaultKind.TheVariants.{Limit}
+use Rattle.mdr_faults.specs.Faults.{Checked, Right, both, demand, lesser}
 
 -- what has no value of its own: it is right, or there are faults in it
 abbrev pub Verdict : Type 0

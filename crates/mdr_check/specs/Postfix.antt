@@ -9,26 +9,26 @@ use Rattle.mdr_core.specs.declared.types.Ty.{Ty, out-Ty}
 use Rattle.mdr_core.specs.declared.types.Ty.TheOpen.{Ty-F}
 use Rattle.mdr_core.specs.declared.value.Value.TheVariants as value
 use Rattle.mdr_core.specs.Layout.{chosen}
-use Rattle.mdr_check.specs.declared.fault.FaultKind.TheVariants.{UnknownName, Mismatch, Incomplete}
+use Rattle.mdr_faults.specs.declared.fault.FaultKind.TheVariants.{UnknownName, Mismatch, Incomplete}
 use Rattle.mdr_check.specs.declared.operand.Integer.{Integer}
 use Rattle.mdr_check.specs.declared.operand.Operand.{Operand}
 use Rattle.mdr_check.specs.declared.operand.Operand.TheVariants as operand
 use Rattle.mdr_check.specs.declared.operand.Scalar.{Scalar}
 use Rattle.mdr_check.specs.declared.operand.Scalar.TheVariants as scalar
 use Rattle.mdr_check.specs.declared.room.LocalName.{LocalName}
-use Rattle.mdr_check.specs.declared.scope.Constant.{Constant}
-use Rattle.mdr_check.specs.declared.scope.Entity.{Entity}
-use Rattle.mdr_check.specs.declared.scope.Entity.TheVariants as entity
-use Rattle.mdr_check.specs.declared.scope.Member.{Member}
-use Rattle.mdr_check.specs.declared.scope.Named.{Named}
-use Rattle.mdr_check.specs.declared.scope.Object.{Object}
-use Rattle.mdr_check.specs.declared.scope.Scope.{Scope}
-use Rattle.mdr_check.specs.declared.scope.Signature.{Signature}
-use Rattle.mdr_check.specs.declared.scope.StructEntry.{StructEntry}
-use Rattle.mdr_check.specs.Annotations.{is_integer}
-use Rattle.mdr_check.specs.Faults.{Checked, Right, refuse, again, after, both}
+use Rattle.mdr_faults.specs.declared.scope.Constant.{Constant}
+use Rattle.mdr_faults.specs.declared.scope.Entity.{Entity}
+use Rattle.mdr_faults.specs.declared.scope.Entity.TheVariants as entity
+use Rattle.mdr_faults.specs.declared.scope.Member.{Member}
+use Rattle.mdr_faults.specs.declared.scope.Named.{Named}
+use Rattle.mdr_faults.specs.declared.scope.Object.{Object}
+use Rattle.mdr_faults.specs.declared.scope.Scope.{Scope}
+use Rattle.mdr_faults.specs.declared.scope.Signature.{Signature}
+use Rattle.mdr_faults.specs.declared.scope.StructEntry.{StructEntry}
+use Rattle.mdr_headings.specs.Annotations.{is_integer}
+use Rattle.mdr_faults.specs.Faults.{Checked, Right, refuse, again, after, both}
 use Rattle.mdr_check.specs.Forms.{integer_at, number, scalar_at}
-use Rattle.mdr_check.specs.Scopes.{entity_named}
+use Rattle.mdr_faults.specs.Scopes.{entity_named}
 
 -- ---- names (6.5.1)
 

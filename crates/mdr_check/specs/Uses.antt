@@ -13,10 +13,10 @@ use Rattle.mdr_syntax.specs.declared.tree.Item.{Item}
 use Rattle.mdr_syntax.specs.declared.tree.ItemWhat.{ItemWhat}
 use Rattle.mdr_syntax.specs.declared.tree.ItemWhat.TheVariants as item
 use Rattle.mdr_syntax.specs.declared.tree.Node.{Node}
-use Rattle.mdr_check.specs.declared.fault.FaultKind.TheVariants.{Incomplete}
-use Rattle.mdr_check.specs.declared.function.Declared.{Declared}
-use Rattle.mdr_check.specs.Faults.{Checked, Right, demand, each}
-use Rattle.mdr_check.specs.Functions.{is_defined}
+use Rattle.mdr_faults.specs.declared.fault.FaultKind.TheVariants.{Incomplete}
+use Rattle.mdr_headings.specs.declared.function.Declared.{Declared}
+use Rattle.mdr_faults.specs.Faults.{Checked, Right, demand, each}
+use Rattle.mdr_headings.specs.Functions.{is_defined}
 
 -- which names a body uses for what the file declares
 abbrev pub UseRule : Type 0

@@ -3,7 +3,7 @@ use Rattle.std.specs.Prelude.{List, []}
 use Rattle.mdr_core.specs.declared.place.Place.{Place}
 use Rattle.mdr_syntax.specs.declared.tree.Item.{Item}
 use Rattle.mdr_check.specs.declared.file.Piece.{Piece}
-use Rattle.mdr_check.specs.Faults.{Checked, Right, both}
+use Rattle.mdr_faults.specs.Faults.{Checked, Right, both}
 use Rattle.mdr_check.specs.Files.{BodyRule, pieces_behind, known_behind, first_known}
 use Rattle.mdr_check.specs.Names.{short_items}
 use Rattle.mdr_check.specs.Uses.{UseRule, defined_functions}

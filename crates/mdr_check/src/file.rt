@@ -2,31 +2,28 @@
 
 ghost use Rattle.std.specs.Prelude.{◌≡◌, ◌+◌, [], Ok, IfOk, OnOk, List, true, false, length};
 ghost use Rattle.mdr_core.specs.declared.program.Field.{Field};
-ghost use Rattle.mdr_check.specs.declared.body.Body.{Body};
-ghost use Rattle.mdr_check.specs.declared.head.Heading.{Heading};
-ghost use Rattle.mdr_check.specs.declared.scope.Constant.{Constant};
+ghost use Rattle.mdr_headings.specs.declared.body.Body.{Body};
+ghost use Rattle.mdr_headings.specs.declared.head.Heading.{Heading};
+ghost use Rattle.mdr_faults.specs.declared.scope.Constant.{Constant};
 ghost use Rattle.mdr_check.specs.declared.variable.Variable.{Variable};
-ghost use Rattle.mdr_check.specs.Enums.{with_name, enumerators, behind_enumerators};
-ghost use Rattle.mdr_check.specs.Faults.{Checked, told, after, both};
-ghost use Rattle.mdr_check.specs.Functions.{function_declared};
+ghost use Rattle.mdr_faults.specs.Enums.{with_name, enumerators, behind_enumerators};
+ghost use Rattle.mdr_faults.specs.Faults.{Checked, told, after, both};
+ghost use Rattle.mdr_headings.specs.Functions.{function_declared};
 ghost use Rattle.mdr_check.specs.Globals.{global, behind_global};
-ghost use Rattle.mdr_check.specs.Scopes.{tag_named};
-ghost use Rattle.mdr_check.specs.Source.{behind_struct, before_first, is_numbered};
+ghost use Rattle.mdr_faults.specs.Scopes.{tag_named};
+ghost use Rattle.mdr_headings.specs.Source.{behind_struct, before_first, is_numbered};
 ghost use Rattle.mdr_check.specs.Files.{nothing, define_piece, struct_of, struct_piece, global_of, prototype_of, function_of, body_scope, item_piece, with_scope, behind_head, behind_item, pieces_behind, known_behind, with_outline_if, outlines_behind, outlines_from, with_outlines, first_scope, first_known};
 
-use crate::body::{Bodies, Body};
-use crate::constant::number_constant;
-use crate::enumerator::{declare, enumerators, new_name};
-use crate::fault::{Fault, FaultKind};
-use crate::function::{Declared, function_declared};
-use crate::head::Heading;
-use crate::joining::{both, demanded, extended};
-use crate::scope::{Candidate, Constant, Entity, Scope, tag_named};
-use crate::source::{behind_struct, defines_of, is_next, is_numbered, tags_of};
-use crate::structs::{candidates, struct_fields};
-use crate::types::{copied, small};
 use crate::variable::{Variable, checked_global};
 use mdr_core::{Field, Items, Kind, Name, OutOfMemory, Place, StructDef};
+use mdr_faults::{
+    Candidate, Constant, Entity, Fault, FaultKind, Scope, both, copied, declare, demanded,
+    enumerators, extended, new_name, number_constant, small, tag_named,
+};
+use mdr_headings::{
+    Bodies, Body, Declared, Heading, behind_struct, candidates, defines_of, function_declared,
+    is_next, is_numbered, struct_fields, tags_of,
+};
 use mdr_syntax::{Decl, Enumerator, Head, Init, Item, ItemWhat, Node};
 use std::alloc::{AllocError, Global};
 
@@ -372,7 +369,7 @@ pub fn first_known(alloc: Global, items: &[Item]) -> Result<Known, OutOfMemory>
 // ---- all items
 
 /// What a file's items come to, each behind those before it, and what is known behind them all.
-#[tactic(auto, using(crate::proofs::Gathered::followed_none), unfolding(crate::specs::Files::pieces_behind))]
+#[tactic(auto, using(mdr_faults::proofs::Gathered::followed_none), unfolding(crate::specs::Files::pieces_behind))]
 pub fn pieces_behind<B: Bodies>(
     alloc: Global,
     bodies: &B,

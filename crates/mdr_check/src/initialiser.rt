@@ -7,20 +7,19 @@ ghost use Rattle.std.specs.Str.{bytes_eq};
 ghost use Rattle.mdr_core.specs.declared.types.Ty.{out-Ty};
 ghost use Rattle.mdr_core.specs.Types.{is_scalar};
 ghost use Rattle.mdr_syntax.specs.declared.tree.Elem.{out-Elem};
-ghost use Rattle.mdr_check.specs.Faults.{Checked, Right, told, refuse, demand, after};
-ghost use Rattle.mdr_check.specs.declared.fault.FaultKind.TheVariants.{UnknownName, Mismatch};
-ghost use Rattle.mdr_check.specs.Alike.{are_alike};
+ghost use Rattle.mdr_faults.specs.Faults.{Checked, Right, told, refuse, demand, after};
+ghost use Rattle.mdr_faults.specs.declared.fault.FaultKind.TheVariants.{UnknownName, Mismatch};
+ghost use Rattle.mdr_faults.specs.Alike.{are_alike};
 ghost use Rattle.mdr_check.specs.Initialisers.{null_if, number_first, is_any_pointer_by, null_first, handle_first, function_first, entity_first, named_first, constant_first, address_if, address_first, located_first, address_named, sole, single, left_of, characters, has_room, text_by, takes_text, text_first, field_of, are_plain, are_named, is_same_field, are_once, elements_first, element_of, array_first, suits_array, numbered, part_number, placed, placed_at, placed_by, placed_parts, member_first, part_for, members_first, suits_struct, struct_first, struct_by, list_by, list_first, initial, part};
 
-use crate::alike::{are_alike, is_alike};
-use crate::annotation::is_character;
-use crate::constant::number_constant;
-use crate::fault::{Fault, FaultKind};
-use crate::joining::{demanded, extended, followed, mismatch};
-use crate::scope::{Constant, Entity, Member, Named, Object, Scope, Signature, entity_named};
-use crate::types::{copied_type, is_scalar};
 use mdr_arith::conv;
 use mdr_core::{Items, Kind, Name, Place, Ty};
+use mdr_faults::{
+    Constant, Entity, Fault, FaultKind, Member, Named, Object, Scope, Signature, are_alike,
+    copied_type, demanded, entity_named, extended, followed, is_alike, is_scalar, mismatch,
+    number_constant,
+};
+use mdr_headings::is_character;
 use mdr_syntax::{Const, Elem, FieldName, Init};
 use std::alloc::{AllocError, Global};
 
@@ -564,7 +563,7 @@ fn member_first(
     }
 }
 
-#[tactic(auto, using(crate::proofs::Gathered::followed_none), unfolding(crate::specs::Initialisers::members_first))]
+#[tactic(auto, using(mdr_faults::proofs::Gathered::followed_none), unfolding(crate::specs::Initialisers::members_first))]
 fn members_first(
     alloc: Global,
     parts: &[Placed],
@@ -677,7 +676,7 @@ fn array_first(
 }
 
 #[cycle(initial)]
-#[tactic(auto, using(crate::proofs::Gathered::followed_none), unfolding(crate::specs::Initialisers::elements_first))]
+#[tactic(auto, using(mdr_faults::proofs::Gathered::followed_none), unfolding(crate::specs::Initialisers::elements_first))]
 fn elements_first(
     alloc: Global,
     scope: &Scope,
@@ -748,7 +747,7 @@ fn struct_first(
 }
 
 #[cycle(initial)]
-#[tactic(auto, using(crate::proofs::Gathered::followed_none), unfolding(crate::specs::Initialisers::placed_parts))]
+#[tactic(auto, using(mdr_faults::proofs::Gathered::followed_none), unfolding(crate::specs::Initialisers::placed_parts))]
 fn placed_parts(
     alloc: Global,
     scope: &Scope,

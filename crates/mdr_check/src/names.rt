@@ -3,11 +3,11 @@
 ghost use Rattle.std.specs.Prelude.{◌≡◌, List, map, Option};
 ghost use Rattle.std.specs.Option.{option_map};
 ghost use Rattle.mdr_syntax.specs.declared.tree.Decl.{out-Decl};
-ghost use Rattle.mdr_check.specs.Faults.{told};
+ghost use Rattle.mdr_faults.specs.Faults.{told};
 ghost use Rattle.mdr_check.specs.Names.{Verdict, as_well, all_fine, first_of, short_name, perhaps_short, inner_short, short_decl, short_decls, short_enumerator, short_enumerators, short_head, short_what, short_item, short_items};
 
-use crate::fault::{Fault, FaultKind, lesser};
 use mdr_core::{Name, Place};
+use mdr_faults::{Fault, FaultKind, lesser};
 use mdr_syntax::{Decl, Enumerator, Head, Item, ItemWhat};
 
 /// The first fault of two verdicts.

@@ -2,11 +2,11 @@
 
 ghost use Rattle.std.specs.Prelude.{◌≡◌, IfOk, pos};
 ghost use Rattle.std.specs.Option.{option_map};
-ghost use Rattle.mdr_check.specs.Faults.{told};
+ghost use Rattle.mdr_faults.specs.Faults.{told};
 ghost use Rattle.mdr_check.specs.Forms.{scalar_of, value_of, expression_of, needed, scalar_at, integer_by, integer_at, at_kind, number, truth};
 
-use crate::fault::{Fault, FaultKind};
 use mdr_core::{Boxed, Expr, Items, Kind, Lval, Place, Ty, Value};
+use mdr_faults::{Fault, FaultKind};
 use std::alloc::{AllocError, Global};
 
 /// A value of a scalar type.

@@ -4,9 +4,8 @@ ghost use Rattle.std.specs.Prelude.{◌≡◌, None};
 ghost use Rattle.std.specs.Option.{option_copied};
 ghost use Rattle.mdr_check.specs.Postfix.{local_from};
 
-use crate::fault::Fault;
-use crate::scope::Object;
 use mdr_core::Name;
+use mdr_faults::{Fault, Object};
 
 /// A parameter or a local: its slot, whether it is an object of its own, and what it is or what is wrong with its
 /// declaration.

@@ -5,8 +5,8 @@ ghost use Rattle.mdr_core.specs.TypeText.{is_before};
 ghost use Rattle.mdr_core.specs.Types.{first_types, is_pointer};
 ghost use Rattle.mdr_check.specs.Tables.{struct_types, texted, is_same_at, unless_same, put_at, with_type, with_pointer, with_pointers, types_alone, type_table};
 
-use crate::types::{copied_type, small};
 use mdr_core::{Items, Kind, Name, OutOfMemory, Program, Ty, type_text};
+use mdr_faults::{copied_type, small};
 use std::alloc::{AllocError, Global};
 
 /// A type and its text.

@@ -1,15 +1,13 @@
 // Functions are defined where they are used, and where they aren't (C99 6.9).
 
 ghost use Rattle.std.specs.Prelude.{◌≡◌, ◌||◌, map, IfOk};
-ghost use Rattle.mdr_check.specs.Faults.{told};
-ghost use Rattle.mdr_check.specs.Functions.{is_defined};
+ghost use Rattle.mdr_faults.specs.Faults.{told};
+ghost use Rattle.mdr_headings.specs.Functions.{is_defined};
 ghost use Rattle.mdr_check.specs.Uses.{const_names, any_of, init_names, elem_names, perhaps_names, uses_by, is_used, defined_rule, defined_functions};
 
-use crate::body::Bodies;
-use crate::fault::{Fault, FaultKind};
-use crate::function::{Declared, is_defined};
-use crate::joining::extended;
 use mdr_core::{Items, Place};
+use mdr_faults::{Fault, FaultKind, extended};
+use mdr_headings::{Bodies, Declared, is_defined};
 use mdr_syntax::{Const, Elem, Init, Item, ItemWhat};
 use std::alloc::{AllocError, Global};
 
@@ -109,7 +107,7 @@ fn defined_rule<B: Bodies>(bodies: &B, items: &[Item], f: &Declared) -> Result<P
 }
 
 /// Of each function that is neither used nor defined it is told at its first declaration.
-#[tactic(auto, using(crate::proofs::Gathered::followed_none), unfolding(crate::specs::Uses::defined_functions))]
+#[tactic(auto, using(mdr_faults::proofs::Gathered::followed_none), unfolding(crate::specs::Uses::defined_functions))]
 pub fn defined_functions<B: Bodies>(
     alloc: Global,
     bodies: &B,

@@ -3,24 +3,22 @@
 ghost use Rattle.std.specs.Prelude.{◌≡◌, ◌==◌, ◌∷◌, [], not, IfOk, OnOk, List};
 ghost use Rattle.mdr_core.specs.declared.types.Ann.{Ann};
 ghost use Rattle.mdr_syntax.specs.declared.tree.Decl.{out-Decl};
-ghost use Rattle.mdr_check.specs.declared.fault.FaultKind.TheVariants.{Limit};
+ghost use Rattle.mdr_faults.specs.declared.fault.FaultKind.TheVariants.{Limit};
 ghost use Rattle.mdr_check.specs.declared.initialiser.First.{First};
-ghost use Rattle.mdr_check.specs.declared.scope.Object.{Object};
-ghost use Rattle.mdr_check.specs.Annotations.{annotated};
-ghost use Rattle.mdr_check.specs.Faults.{Checked, told, after, both, demand};
-ghost use Rattle.mdr_check.specs.Enums.{new_name};
+ghost use Rattle.mdr_faults.specs.declared.scope.Object.{Object};
+ghost use Rattle.mdr_headings.specs.Annotations.{annotated};
+ghost use Rattle.mdr_faults.specs.Faults.{Checked, told, after, both, demand};
+ghost use Rattle.mdr_faults.specs.Enums.{new_name};
 ghost use Rattle.mdr_check.specs.Globals.{global_object, global_means, behind_global, first_value, variable_of, variable, global};
-ghost use Rattle.mdr_check.specs.Structs.{name_or_none};
+ghost use Rattle.mdr_headings.specs.Structs.{name_or_none};
 
-use crate::annotation::annotated;
-use crate::enumerator::{declare, new_name};
-use crate::fault::{Fault, FaultKind};
 use crate::initialiser::{First, copied_object, initial};
-use crate::joining::{both, demanded};
-use crate::object::object_declared;
-use crate::scope::{Entity, Object, Scope, is_declared_name};
-use crate::structs::declared_name;
 use mdr_core::{Ann, Items, Name, OutOfMemory, Place};
+use mdr_faults::{
+    Entity, Fault, FaultKind, Object, Scope, both, declare, demanded, is_declared_name, new_name,
+    object_declared,
+};
+use mdr_headings::{annotated, declared_name};
 use mdr_syntax::{Decl, Init};
 use std::alloc::{AllocError, Global};
 

@@ -3,17 +3,16 @@
 ghost use Rattle.std.specs.Prelude.{◌≡◌, IfOk, List, MatchResult};
 ghost use Rattle.mdr_core.specs.declared.place.Place.{Place};
 ghost use Rattle.mdr_check.specs.declared.file.Piece.{Piece};
-ghost use Rattle.mdr_check.specs.Faults.{Checked, Right, told, both, IsFirst};
+ghost use Rattle.mdr_faults.specs.Faults.{Checked, Right, told, both, IsFirst};
 ghost use Rattle.mdr_check.specs.Names.{Verdict};
 ghost use Rattle.mdr_check.specs.Whole.{kept, named, file_pieces};
 
-use crate::body::Bodies;
-use crate::fault::Fault;
 use crate::file::{Piece, first_known, pieces_behind};
-use crate::joining::both;
 use crate::names::short_items;
 use crate::uses::defined_functions;
 use mdr_core::{Items, OutOfMemory, Place};
+use mdr_faults::{Fault, both};
+use mdr_headings::Bodies;
 use mdr_syntax::Item;
 use std::alloc::Global;
 

@@ -1,7 +1,7 @@
 use Rattle.std.proofs.Common.{ap}
 use Rattle.std.proofs.Math.Path.{sym, ◌∙◌}
 use Rattle.std.proofs.lemmas.List.{at_drop_all}
-use Rattle.mdr_check.specs.Faults.{extended}
+use Rattle.mdr_faults.specs.Faults.{extended}
 use Rattle.mdr_check.specs.Files.{known_behind}
 use Rattle.mdr_check.proofs.Filing.{one_item, one_known}
 use Rattle.mdr_check.proofs.file.pieces_behind.Goals as goal

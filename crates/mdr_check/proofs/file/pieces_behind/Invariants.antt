@@ -1,5 +1,5 @@
 use Rattle.std.proofs.Common.{◌≡◌, [], drop, take}
-use Rattle.mdr_check.specs.Faults.{told, followed}
+use Rattle.mdr_faults.specs.Faults.{told, followed}
 use Rattle.mdr_check.specs.Files.{pieces_behind, known_behind}
 use Rattle.mdr_check.proofs.file.pieces_behind.Given as goal
 

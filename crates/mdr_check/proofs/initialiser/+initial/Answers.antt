@@ -1,7 +1,7 @@
 use Rattle.std.proofs.Common.{ap, subst, map}
 use Rattle.std.specs.Prelude.{IfOk, ◌≡◌}
 use Rattle.std.proofs.Math.Path.{◌∙◌}
-use Rattle.mdr_check.specs.Faults.{told, followed, extended}
+use Rattle.mdr_faults.specs.Faults.{told, followed, extended}
 use Rattle.mdr_check.specs.Initialisers.{elements_first, part}
 use Rattle.mdr_check.proofs.Initialising.{one_element, one_part, array_is, struct_is}
 use Rattle.mdr_check.proofs.initialiser.+initial.Goals as goal

@@ -1,5 +1,5 @@
 use Rattle.std.proofs.Common.{◌≡◌, drop, map}
-use Rattle.mdr_check.specs.Faults.{told, followed}
+use Rattle.mdr_faults.specs.Faults.{told, followed}
 use Rattle.mdr_check.specs.Initialisers.{elements_first, part, placed_parts}
 use Rattle.mdr_check.proofs.initialiser.+initial.Given as goal
 

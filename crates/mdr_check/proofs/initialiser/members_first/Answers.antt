@@ -1,6 +1,6 @@
 use Rattle.std.proofs.Common.{ap}
 use Rattle.std.proofs.Math.Path.{◌∙◌}
-use Rattle.mdr_check.specs.Faults.{told, followed}
+use Rattle.mdr_faults.specs.Faults.{told, followed}
 use Rattle.mdr_check.specs.Initialisers.{member_first}
 use Rattle.mdr_check.proofs.Initialising.{one_member}
 use Rattle.mdr_check.proofs.initialiser.members_first.Goals as goal

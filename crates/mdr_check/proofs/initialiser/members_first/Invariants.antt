@@ -1,5 +1,5 @@
 use Rattle.std.proofs.Common.{◌≡◌, drop}
-use Rattle.mdr_check.specs.Faults.{told, followed}
+use Rattle.mdr_faults.specs.Faults.{told, followed}
 use Rattle.mdr_check.specs.Initialisers.{members_first}
 use Rattle.mdr_check.proofs.initialiser.members_first.Given as goal
 

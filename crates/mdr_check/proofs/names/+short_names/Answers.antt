@@ -1,6 +1,6 @@
 use Rattle.std.proofs.Common.{ap}
 use Rattle.std.proofs.Math.Path.{◌∙◌}
-use Rattle.mdr_check.specs.Faults.{told}
+use Rattle.mdr_faults.specs.Faults.{told}
 use Rattle.mdr_check.specs.Names.{first_of, short_decl}
 use Rattle.mdr_check.proofs.Shortness.{one_verdict, decl_is}
 use Rattle.mdr_check.proofs.names.+short_names.Goals as goal

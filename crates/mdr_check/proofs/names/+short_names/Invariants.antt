@@ -1,5 +1,5 @@
 use Rattle.std.proofs.Common.{◌≡◌, drop, map}
-use Rattle.mdr_check.specs.Faults.{told}
+use Rattle.mdr_faults.specs.Faults.{told}
 use Rattle.mdr_check.specs.Names.{first_of, all_fine, short_decl}
 use Rattle.mdr_check.proofs.names.+short_names.Given as goal
 

@@ -1,8 +1,8 @@
 use Rattle.std.proofs.Common.{refl, ap, drop, ◌+◌}
 use Rattle.std.proofs.Math.Path.{◌∙◌}
-use Rattle.mdr_check.specs.Faults.{extended}
+use Rattle.mdr_faults.specs.Faults.{extended}
 use Rattle.mdr_check.specs.Uses.{defined_rule, defined_functions}
-use Rattle.mdr_check.proofs.Gathered.{one_more}
+use Rattle.mdr_faults.proofs.Gathered.{one_more}
 use Rattle.mdr_check.proofs.uses.defined_functions.Goals as goal
 
 pub loop-f-preserved : goal.loop-f-preserved

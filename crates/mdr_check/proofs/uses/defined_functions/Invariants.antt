@@ -1,5 +1,5 @@
 use Rattle.std.proofs.Common.{◌≡◌, drop}
-use Rattle.mdr_check.specs.Faults.{told, followed}
+use Rattle.mdr_faults.specs.Faults.{told, followed}
 use Rattle.mdr_check.specs.Uses.{defined_functions}
 use Rattle.mdr_check.proofs.uses.defined_functions.Given as goal
 

@@ -1,8 +1,8 @@
 use Rattle.std.proofs.Common.{ap, []}
 use Rattle.std.proofs.Math.Path.{◌∙◌}
 use Rattle.mdr_syntax.specs.declared.tree.Decl.{out-Decl}
-use Rattle.mdr_check.specs.Annotations.{annotated}
-use Rattle.mdr_check.specs.Faults.{told, both}
+use Rattle.mdr_headings.specs.Annotations.{annotated}
+use Rattle.mdr_faults.specs.Faults.{told, both}
 use Rattle.mdr_check.specs.Globals.{first_value, variable_of, variable}
 use Rattle.mdr_check.proofs.variable.annotated_variable.Goals as goal
 

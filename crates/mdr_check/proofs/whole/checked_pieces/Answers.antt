@@ -1,5 +1,5 @@
 use Rattle.mdr_check.specs.Whole.{file_pieces}
-use Rattle.mdr_check.proofs.Least.{first_told}
+use Rattle.mdr_faults.proofs.Least.{first_told}
 use Rattle.mdr_check.proofs.whole.checked_pieces.Goals as goal
 
 pub returns : goal.returns

@@ -1,6 +1,0 @@
-use Rattle.std.proofs.Common.{◌≡◌, drop, ◌++◌, map}
-use Rattle.mdr_check.specs.Structs.{member}
-use Rattle.mdr_check.proofs.structs.members.Given as goal
-
-abbrev pub invariant-loop-d : goal.invariant-loop-d
-invariant-loop-d l = l.all ++ map (member l.scope l.limit) (drop l.d-index l.ds) ≡ map (member l.scope l.limit) l.ds

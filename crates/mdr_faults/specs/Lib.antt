@@ -1,0 +1,5 @@
+pub mod Faults
+pub mod Scopes
+pub mod Declarations
+pub mod Enums
+pub mod Alike

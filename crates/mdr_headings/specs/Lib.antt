@@ -1,0 +1,5 @@
+pub mod Annotations
+pub mod Structs
+pub mod Heads
+pub mod Source
+pub mod Functions
