@@ -15,10 +15,9 @@ use Rattle.mdr_model.specs.declared.message.Told.{Told}
 use Rattle.mdr_model.specs.declared.message.Message.TheVariants as message
 use Rattle.mdr_model.specs.declared.outcome.End.TheVariants as ends
 use Rattle.mdr_model.specs.Memory.{Memory}
-use Rattle.mdr_model.specs.Sets.{runs_of_cells}
 use Rattle.mdr_model.specs.Tree.{Tree}
 use Rattle.mdr_model.specs.Meaning.{func_at, is_kernel, is_user, started}
-use Rattle.mdr_model.specs.World.{World, top, Ran}
+use Rattle.mdr_model.specs.World.{World, Ran}
 use Rattle.mdr_model.specs.Watched.{with_view, upcall_begun, upcall_ended, ending, in_user, upcall, begun, returned, noting, Beginning, called_by, begin, in_place, and_then, commands}
 use Rattle.mdr_model.specs.Copies.{agreed_after}
 use Rattle.mdr_model.specs.KernelState.{Kernel, Noted}

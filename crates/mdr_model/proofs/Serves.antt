@@ -7,7 +7,6 @@ use Rattle.mdr_core.specs.declared.plan.Half.TheVariants as half
 use Rattle.mdr_core.specs.declared.program.Program.{Program}
 use Rattle.mdr_model.specs.declared.command.Command.{Command}
 use Rattle.mdr_model.specs.declared.wire.Wire.{Wire}
-use Rattle.mdr_model.specs.declared.message.Run.{Run}
 use Rattle.mdr_model.specs.declared.message.Told.{Told}
 use Rattle.mdr_model.specs.declared.message.Fault.{Fault}
 use Rattle.mdr_model.specs.declared.message.Message.{Message}
@@ -17,7 +16,7 @@ use Rattle.mdr_model.specs.declared.reply.Reply.TheVariants as replies
 use Rattle.mdr_model.specs.declared.outcome.End.{End}
 use Rattle.mdr_model.specs.declared.outcome.End.TheVariants as ends
 use Rattle.mdr_model.specs.Memory.{Memory, Cell, normal, loaded}
-use Rattle.mdr_model.specs.Sets.{is_in, runs_of_cells}
+use Rattle.mdr_model.specs.Sets.{is_in}
 use Rattle.mdr_model.specs.Tree.{Asked, Tree}
 use Rattle.mdr_model.specs.Walk.{Walked, walk, on_load, on_store}
 use Rattle.mdr_model.specs.World.{World, top, below, advanced, Ran, Ended, Stopped, after, counted, when_loaded, when_stored, served, as_now, kernel_call}
