@@ -1,5 +1,4 @@
 pub mod Extents
-pub mod Tellings
 pub mod Serials
 pub mod Arguments
 pub mod Evaluated

@@ -69,8 +69,9 @@ fn killed(
     Ok(out)
 }
 
+/// The copy without the blocks that died. It fails only where the memory for it is missing.
 #[tactic(auto, unfolding(mdr_model::specs::Copies::without))]
-pub(crate) fn without(
+pub fn without(
     alloc: Global,
     deaths: &[u64],
     copy: Vec<MemoryBlock>,

@@ -1,51 +1,16 @@
 // What a message of the kernel half tells of memory, and the agreed copy after it.
 
 ghost use Rattle.std.specs.Prelude.{◌≡◌, ◌++◌, ◌&&◌, not, OnOk, IfOk};
-ghost use Rattle.mdr_copy.specs.Tellings.{told};
 ghost use Rattle.mdr_model.specs.Memory.{is_live};
-ghost use Rattle.mdr_model.specs.Copies.{is_named, died, news_of, changed_values, without, with_news, agreed_after, tells};
+ghost use Rattle.mdr_model.specs.Copies.{is_named, died, news_of, changed_values, with_news, agreed_after, tells};
 
 use crate::changed::{changed_values, changes};
 use crate::lives::{names_block, put_news, without};
+use crate::runs::runs_of_cells;
 use crate::store::{is_live, put_runs};
 use mdr_core::{Items, OutOfMemory, Program};
-use mdr_model::{Cell, MemoryBlock, New, Run, Wire};
+use mdr_model::{Cell, MemoryBlock, New, Told, Wire};
 use std::alloc::Global;
-
-/// What a message tells: first the blocks that died, then those that are new, then values of visible cells.
-#[derive(Debug, Drop)]
-pub struct Telling {
-    pub deaths: Items<u64>,
-    pub news: Items<New>,
-    pub runs: Items<Run>,
-}
-
-fn renewed(
-    alloc: Global,
-    program: &Program,
-    telling: &Telling,
-    copy: Vec<MemoryBlock>,
-) -> Result<Vec<MemoryBlock>, OutOfMemory>
-    ensures { IfOk result (λ m. m.items ≡ with_news program.now telling.now.news (without telling.now.deaths copy.items)) }
-{
-    let left = without(alloc, telling.deaths.as_slice(), copy)?;
-    with_news(alloc, program, telling.news.as_slice(), left)
-}
-
-/// The copy after a message. It fails only where the memory for it is missing.
-#[tactic(auto, unfolding(mdr_model::specs::Copies::agreed_after))]
-pub fn agreed_after(
-    alloc: Global,
-    program: &Program,
-    telling: &Telling,
-    copy: Items<MemoryBlock>,
-) -> Result<Items<MemoryBlock>, OutOfMemory>
-    ensures { IfOk result (λ m. m ≡ agreed_after program.now (told telling.now) copy) }
-{
-    let mut left = renewed(alloc, program, telling, copy.into_vec())?;
-    put_runs(&mut left, telling.runs.as_slice());
-    Ok(Items::from_vec(left))
-}
 
 /// The serials that the copy has and the memory hasn't.
 #[tactic(auto, unfolding(mdr_model::specs::Copies::died))]
@@ -136,7 +101,8 @@ fn told_news(
     news_of(alloc, left, all.as_slice(), memory)
 }
 
-fn with_news(
+/// The copy with the new blocks, which are zero. It fails only where the memory for them is missing.
+pub fn with_news(
     alloc: Global,
     program: &Program,
     news: &[New],
@@ -159,15 +125,22 @@ pub fn tells(
     values: &[Wire],
     copy: Items<MemoryBlock>,
     memory: &[MemoryBlock],
-) -> Result<(Telling, Items<MemoryBlock>), OutOfMemory>
-    ensures what { IfOk result (λ t. told t.0 ≡ tells program.now view.now values.now copy memory.now) }
+) -> Result<(Told, Items<MemoryBlock>), OutOfMemory>
+    ensures what { IfOk result (λ t. t.0 ≡ tells program.now view.now values.now copy memory.now) }
     ensures agreed { IfOk result (λ t. t.1 ≡ agreed_after program.now (tells program.now view.now values.now copy memory.now) copy) }
 {
+    let shown = runs_of_cells(alloc, view)?;
     let deaths = died(alloc, copy.as_slice(), memory)?;
     let left = without(alloc, deaths.as_slice(), copy.into_vec())?;
     let news = told_news(alloc, view, values, left.as_slice(), memory)?;
     let mut agreed = with_news(alloc, program, news.as_slice(), left)?;
     let runs = changes(alloc, view, agreed.as_slice(), memory)?;
     put_runs(&mut agreed, runs.as_slice());
-    Ok((Telling { deaths, news, runs }, Items::from_vec(agreed)))
+    let told = Told {
+        deaths,
+        news,
+        view: shown,
+        runs,
+    };
+    Ok((told, Items::from_vec(agreed)))
 }

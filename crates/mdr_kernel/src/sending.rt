@@ -9,7 +9,7 @@ ghost use Rattle.mdr_kernel.specs.States.{world_of, kernel_of, pending_of, rest_
 
 use crate::events::one_more;
 use crate::state::{Kernel, Open, Pending, World};
-use mdr_copy::{runs_of_cells, tells, visible};
+use mdr_copy::{tells, visible};
 use mdr_core::{Items, OutOfMemory, Program};
 use mdr_model::{Message, Wire};
 use std::alloc::Global;
@@ -47,16 +47,13 @@ pub(crate) fn calls(
     let world = upcall_begun(alloc, program, kernel.world)?;
     let view = world.views.top();
     let memory = world.memory.as_slice();
-    let (telling, agreed) = tells(alloc, program, view, args.as_slice(), kernel.agreed, memory)?;
+    let (told, agreed) = tells(alloc, program, view, args.as_slice(), kernel.agreed, memory)?;
     let message = Message::Call {
         func: upcall.func,
         depth: 0,
         rest: world.rest,
         args,
-        deaths: telling.deaths,
-        news: telling.news,
-        view: runs_of_cells(alloc, view)?,
-        runs: telling.runs,
+        told,
     };
     let exchanges = one_more(kernel.exchanges)?;
     let kernel = Kernel {
@@ -81,14 +78,11 @@ pub(crate) fn comes_back(
     let world = renewed(alloc, program, kernel.world)?;
     let view = world.views.top();
     let memory = world.memory.as_slice();
-    let (telling, agreed) = tells(alloc, program, view, &[value], kernel.agreed, memory)?;
+    let (told, agreed) = tells(alloc, program, view, &[value], kernel.agreed, memory)?;
     let message = Message::Back {
         rest: world.rest,
         result: value,
-        deaths: telling.deaths,
-        news: telling.news,
-        view: runs_of_cells(alloc, view)?,
-        runs: telling.runs,
+        told,
     };
     let exchanges = one_more(kernel.exchanges)?;
     let kernel = Kernel {
@@ -115,11 +109,11 @@ pub(crate) fn answers(
         exchanges,
     } = kernel;
     let memory = world.memory.as_slice();
-    let (telling, agreed) = tells(alloc, program, &[], &[], agreed, memory)?;
+    let (told, agreed) = tells(alloc, program, &[], &[], agreed, memory)?;
     let message = Message::Answer {
         results: Items::new(alloc),
-        deaths: telling.deaths,
-        news: telling.news,
+        deaths: told.deaths,
+        news: told.news,
     };
     let exchanges = one_more(exchanges)?;
     let kernel = Kernel {

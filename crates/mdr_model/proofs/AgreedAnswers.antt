@@ -11,7 +11,7 @@ use Rattle.mdr_model.specs.Sets.{is_in}
 use Rattle.mdr_model.specs.Copies.{died, is_named, left_of, told_news, begun_copy}
 use Rattle.mdr_model.specs.Agreement.{names_it, IsFormed, MayFollow, Serials, IsAgreed, IsShown, has, is_told, learnt, IsShared, born_cell, KeepsShown}
 use Rattle.mdr_model.proofs.LifeLaws.{has-died, sweeps, cell_at-without, zero_cell, cell_at-news, sweeps_pointer, sweeps_other}
-use Rattle.mdr_model.proofs.AgreedMessages.{follows, after, told_at-told, live-left, is_told-told, live-after, cell_at-after, agree-after, shared_of}
+use Rattle.mdr_model.proofs.AgreedMessages.{follows, after, news_at-told, live-left, is_told-told, live-after, cell_at-after, agree-after, shared_of}
 use Rattle.mdr_model.proofs.AgreedReplies.{replied}
 
 sweeps-normal : (copy m : Memory) (o : Option Wire) → ((s : ℕ) → names_it s o ≡ true → is_live copy s ≡ true) → sweeps (died copy m) o ≡ option_map (normal m) o
@@ -55,7 +55,7 @@ cell_at-fresh : {known : Serials} {next : ℕ} (program : Program) (values : Lis
     → cell_at (after program [] values copy m) c ≡ born_cell program (born_at m c.serial) c.index
 unfolding begun_copy is_in is_live
 cell_at-fresh program values copy m c a h k named =
-    grind (arith, cell_at-after program [] values copy m c a (nothing_shown values copy m), cell_at-news program (told_news [] values copy m) (left_of copy m) c, told_at-told [] values copy m c.serial, live-left copy m c.serial, born-zero program (born_at m c.serial) c.index)
+    grind (arith, cell_at-after program [] values copy m c a (nothing_shown values copy m), cell_at-news program (told_news [] values copy m) (left_of copy m) c, news_at-told [] values copy m c.serial, live-left copy m c.serial, born-zero program (born_at m c.serial) c.index)
 
 pub answered : {known : Serials} {next next' : ℕ} {view : List Cell} {copy m w u : Memory} (program : Program) (view' : List Cell) (results : List Wire) (w' : Memory)
     → IsShared program known next view copy m w u → MayFollow program next w next' w' → KeepsShown program next view view' results w w'

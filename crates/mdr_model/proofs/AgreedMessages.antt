@@ -9,9 +9,9 @@ use Rattle.mdr_model.specs.Values.{names_block}
 use Rattle.mdr_model.specs.Memory.{Memory, Cell, born_at, is_live, cell_at}
 use Rattle.mdr_model.specs.Sets.{is_in}
 use Rattle.mdr_model.specs.Copies.{held, has_changed, changed_cells, changes, put_runs, died, with_news, is_named, left_of, changed_values, told_news, begun_copy, tells, agreed_after}
-use Rattle.mdr_model.specs.Agreement.{has_index, names_it, is_named_in, SerialsRise, IsFormed, MayFollow, Serials, IsAgreed, IsShown, told_at, is_told, DeathsRise, NewsRise, IsAccepted, MayBeTold, learnt, IsShared}
+use Rattle.mdr_model.specs.Agreement.{has_index, names_it, is_named_in, SerialsRise, IsFormed, MayFollow, Serials, IsAgreed, IsShown, news_at, is_told, DeathsRise, NewsRise, IsAccepted, MayBeTold, learnt, IsShared}
 use Rattle.mdr_model.proofs.CopyLaws.{same_cell, is_in-changed, unchanged, cell_at-changes, born_at-put_runs, rises-put_runs}
-use Rattle.mdr_model.proofs.LifeLaws.{has-died, born_at-without, cell_at-without, names-sweeps, some-sweeps, rises-without, born_at-news, zero_names, zero_there, cell_at-news, rises-news, told_at-news, news-rise, names-held, named_values}
+use Rattle.mdr_model.proofs.LifeLaws.{has-died, born_at-without, cell_at-without, names-sweeps, some-sweeps, rises-without, born_at-news, zero_names, zero_there, cell_at-news, rises-news, news_at-news, news-rise, names-held, named_values}
 
 -- ---- the kernel half works
 
@@ -51,11 +51,11 @@ formed-left copy m f = record {
 abbrev pub is_named_now : List Cell → List Wire → Memory → Memory → ℕ → Bool
 is_named_now view values copy m s = is_named values s || is_named_in (changed_cells view (left_of copy m) m) m s
 
-pub told_at-told : (view : List Cell) (values : List Wire) (copy m : Memory) (s : ℕ)
-    → told_at (told_news view values copy m) s ≡ cond (not (is_live (left_of copy m) s) && is_named_now view values copy m s) (born_at m s) None
+pub news_at-told : (view : List Cell) (values : List Wire) (copy m : Memory) (s : ℕ)
+    → news_at (told_news view values copy m) s ≡ cond (not (is_live (left_of copy m) s) && is_named_now view values copy m s) (born_at m s) None
 unfolding told_news changed_values
-told_at-told view values copy m s =
-    told_at-news (left_of copy m) (values ++ map (held m) (changed_cells view (left_of copy m) m)) m s
+news_at-told view values copy m s =
+    news_at-news (left_of copy m) (values ++ map (held m) (changed_cells view (left_of copy m) m)) m s
     ∙ ap (λ (b : Bool). cond (not (is_live (left_of copy m) s) && b) (born_at m s) None) (named_values m values (changed_cells view (left_of copy m) m) s)
 
 told-rise : (view : List Cell) (values : List Wire) (copy m : Memory) → SerialsRise m → NewsRise (told_news view values copy m)
@@ -74,7 +74,7 @@ deaths-rise (b ∷ copy) m r = of (is_live m b.born.serial) (deaths-rise copy m 
 pub is_told-told : (view : List Cell) (values : List Wire) (copy m : Memory) (s : ℕ)
     → is_told (told_news view values copy m) s ≡ (is_live m s && not (is_live copy s) && is_named_now view values copy m s)
 unfolding is_told is_live
-is_told-told view values copy m s = grind (arith, told_at-told view values copy m s, live-left copy m s)
+is_told-told view values copy m s = grind (arith, news_at-told view values copy m s, live-left copy m s)
 
 -- the user half accepts what is told of births and deaths
 pub accepted : {known : Serials} {next : ℕ} (program : Program) (view : List Cell) (values : List Wire) (copy m : Memory) → IsAgreed program known next copy m → IsAccepted known (tells program view values copy m) copy
@@ -89,13 +89,13 @@ accepted program view values copy m a = record {
 pub live-begun : (program : Program) (view : List Cell) (values : List Wire) (copy m : Memory) (s : ℕ)
     → is_live (begun_copy program view values copy m) s ≡ (is_live m s && (is_live copy s || is_named_now view values copy m s))
 unfolding begun_copy is_live
-live-begun program view values copy m s = grind (arith, born_at-news program (told_news view values copy m) (left_of copy m) s, told_at-told view values copy m s, live-left copy m s)
+live-begun program view values copy m s = grind (arith, born_at-news program (told_news view values copy m) (left_of copy m) s, news_at-told view values copy m s, live-left copy m s)
 
 pub born_at-begun : (program : Program) (view : List Cell) (values : List Wire) (copy m : Memory) (s : ℕ) → (is_live copy s ≡ true → is_live m s ≡ true → born_at m s ≡ born_at copy s)
     → is_live (begun_copy program view values copy m) s ≡ true → born_at (begun_copy program view values copy m) s ≡ born_at m s
 unfolding begun_copy is_live
 born_at-begun program view values copy m s born h =
-    grind (arith, born_at-news program (told_news view values copy m) (left_of copy m) s, told_at-told view values copy m s, live-left copy m s, born_at-left copy m s)
+    grind (arith, born_at-news program (told_news view values copy m) (left_of copy m) s, news_at-told view values copy m s, live-left copy m s, born_at-left copy m s)
 
 pub formed-begun : {known : Serials} {next : ℕ} (program : Program) (view : List Cell) (values : List Wire) (copy m : Memory) → IsAgreed program known next copy m → IsFormed program (begun_copy program view values copy m)
 unfolding begun_copy is_live names_it
@@ -104,16 +104,16 @@ formed-begun program view values copy m a =
     let news : List New = told_news view values copy m in
     record {
       rises = rises-news program news (left_of copy m) (told-rise view values copy m a.formed.rises) (λ s h. grind (arith, is_told-told view values copy m s, live-left copy m s)) left.rises;
-      sized = λ c. sized_at c (told_at news c.serial) refl;
-      closed = λ c s h. closed_at c s (told_at news c.serial) refl h;
+      sized = λ c. sized_at c (news_at news c.serial) refl;
+      closed = λ c s h. closed_at c s (news_at news c.serial) refl h;
     }
   where
-    sized_at : (c : Cell) (o : Option New) → told_at (told_news view values copy m) c.serial ≡ o
+    sized_at : (c : Cell) (o : Option New) → news_at (told_news view values copy m) c.serial ≡ o
         → is_some (cell_at (with_news program (told_news view values copy m) (left_of copy m)) c) ≡ has_index program (born_at (with_news program (told_news view values copy m) (left_of copy m)) c.serial) c.index
     sized_at c None e = grind (arith, (formed-left copy m a.copied).sized c, cell_at-news program (told_news view values copy m) (left_of copy m) c, born_at-news program (told_news view values copy m) (left_of copy m) c.serial)
     sized_at c (Some n) e = grind (arith, cell_at-news program (told_news view values copy m) (left_of copy m) c, born_at-news program (told_news view values copy m) (left_of copy m) c.serial, zero_there program n c.index)
 
-    closed_at : (c : Cell) (s : ℕ) (o : Option New) → told_at (told_news view values copy m) c.serial ≡ o
+    closed_at : (c : Cell) (s : ℕ) (o : Option New) → news_at (told_news view values copy m) c.serial ≡ o
         → names_it s (cell_at (with_news program (told_news view values copy m) (left_of copy m)) c) ≡ true → is_live (with_news program (told_news view values copy m) (left_of copy m)) s ≡ true
     closed_at c s o e h = grind (
       arith,

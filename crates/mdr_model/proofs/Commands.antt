@@ -11,15 +11,15 @@ use Rattle.mdr_model.specs.declared.command.Command.{Command}
 use Rattle.mdr_model.specs.declared.command.Command.TheVariants as command
 use Rattle.mdr_model.specs.declared.wire.Wire.{Wire}
 use Rattle.mdr_model.specs.Values.{wire_of}
+use Rattle.mdr_model.specs.declared.message.Told.{Told}
 use Rattle.mdr_model.specs.declared.message.Message.TheVariants as message
 use Rattle.mdr_model.specs.declared.outcome.End.TheVariants as ends
 use Rattle.mdr_model.specs.Memory.{Memory}
-use Rattle.mdr_model.specs.Sets.{runs_of_cells}
 use Rattle.mdr_model.specs.Tree.{Tree}
 use Rattle.mdr_model.specs.Meaning.{func_at, is_kernel, is_user, started}
-use Rattle.mdr_model.specs.World.{World, top, Ran}
+use Rattle.mdr_model.specs.World.{World, Ran}
 use Rattle.mdr_model.specs.Watched.{with_view, upcall_begun, upcall_ended, ending, in_user, upcall, begun, returned, noting, Beginning, called_by, begin, in_place, and_then, commands}
-use Rattle.mdr_model.specs.Copies.{Told, agreed_after}
+use Rattle.mdr_model.specs.Copies.{agreed_after}
 use Rattle.mdr_model.specs.KernelState.{Kernel, Noted}
 use Rattle.mdr_model.specs.Kernel.{calls, then_split, split_by, split_commands}
 use Rattle.mdr_model.specs.Faults.{params_of, args_fault}
@@ -54,7 +54,7 @@ no_arguments program sound func args e = no_values args (subst (λ (ts : List Ty
 
 -- the user half accepts a call
 deliver_call : {program : Program} (fuel func e : ℕ) {K : Knowledge} (copy : Memory) (w : World) (told : Told) → is_user program func ≡ true → IsRunnable program → Messages.Messaged program K copy w e told
-    → deliver program fuel (idle_user copy) (Ok (message.Call func 0 w.clock.rest [] told.deaths told.news (runs_of_cells (top w.views)) told.runs))
+    → deliver program fuel (idle_user copy) (Ok (message.Call func 0 w.clock.rest [] told))
     ≡ reply_of (Messages.waiting program told copy w e) w (agreed_after program told copy) w.clock.rest (started program half.User fuel func [] 0)
 unfolding deliver opened call_fits args_fault
 deliver_call {program} fuel func e copy w told user sound m = rw (user, no_params program sound func, m.lives, m.cells, m.view) refl

@@ -164,11 +164,11 @@ module _ (program : Program) where
   opened_cut : (n n' r : ℕ) (copy : Memory) (work : Work) (x : Message) (u u' : User) → r + granted (Ok x) < n → r + granted (Ok x) < n' → cut_user r u ≡ cut_user r u'
       → cut_delivered r (done u (opened program n copy work x)) ≡ cut_delivered r (done u' (opened program n' copy (cut_work (r + granted (Ok x)) work) x))
   unfolding opened
-  opened_cut n n' r copy Nothing (message.Call func depth rest args deaths news view runs) u u' less less' users =
+  opened_cut n n' r copy Nothing (message.Call func depth rest args told) u u' less less' users =
       same_done _ r (r + rest) (started program half.User n func args depth) (started program half.User n' func args depth) rest _ _ u u' (le_refl (r + rest))
       (fuel_no_matter program half.User n n' (r + rest) func less less' args depth (λ v. Tree.Done v Tree.Idle)) users
   opened_cut n n' r copy Nothing _ u u' less less' users = same_refused 2 r u u' users
-  opened_cut n n' r copy (AwaitsBack func seen goes) (message.Back rest result deaths news view runs) u u' less less' users =
+  opened_cut n n' r copy (AwaitsBack func seen goes) (message.Back rest result told) u u' less less' users =
       same_done _ r (r + rest) (goes result) (cut (r + rest) (goes result)) rest _ _ u u' (le_refl (r + rest))
       (sym (cut_cut (r + rest) (r + rest) (goes result) (le_refl (r + rest)))) users
   opened_cut n n' r copy (AwaitsBack func seen goes) _ u u' less less' users = same_refused 2 r u u' users

@@ -4,9 +4,7 @@ use Rattle.mdr_core.specs.declared.plan.Half.TheVariants as half
 use Rattle.mdr_core.specs.declared.program.Program.{Program}
 use Rattle.mdr_model.specs.declared.command.Command.{Command}
 use Rattle.mdr_model.specs.declared.wire.Wire.{Wire}
-use Rattle.mdr_model.specs.declared.message.New.{New}
-use Rattle.mdr_model.specs.declared.message.Run.{Run}
-use Rattle.mdr_model.specs.declared.message.SetRun.{SetRun}
+use Rattle.mdr_model.specs.declared.message.Told.{Told}
 use Rattle.mdr_model.specs.declared.message.Message.{Message}
 use Rattle.mdr_model.specs.declared.message.Message.TheVariants as message
 use Rattle.mdr_model.specs.declared.outcome.End.{End}
@@ -19,7 +17,7 @@ use Rattle.mdr_model.specs.Watched.{Finish, and_then, begin, in_place, commands,
 use Rattle.mdr_model.specs.Copies.{agreed_after}
 use Rattle.mdr_model.specs.KernelState.{Kernel, Pending, Over, Waits, Reading}
 use Rattle.mdr_model.specs.Kernel.{next, split_commands, first_kernel, run_from_pending, split_run}
-use Rattle.mdr_model.specs.User.{User, Work, Nothing, AwaitsBack, AwaitsAnswer, Runs, Delivered, Opened, deliver, opened, done, when_fits, call_fits, told, first_user, user_after, user_reply, allowance}
+use Rattle.mdr_model.specs.User.{User, Work, Nothing, AwaitsBack, AwaitsAnswer, Runs, Delivered, Opened, deliver, opened, done, when_fits, call_fits, first_user, user_after, user_reply, allowance}
 use Rattle.mdr_model.specs.Outcome.{outcome_of}
 use Rattle.mdr_model.specs.Runnable.{IsRunnable, IsBound}
 use Rattle.mdr_model.specs.Law.{read, IsHonest, IsOwn, IsOneMemory}
@@ -34,32 +32,32 @@ use Rattle.mdr_model.proofs.Commands.{finishes}
 
 -- ---- a reply is the same, whatever fuel it is made with
 
-user_of_fits : (program : Program) (copy : Memory) (func depth : ℕ) (args : List Wire) (deaths : List ℕ) (news : List New) (view : List SetRun) (runs : List Run) → call_fits program copy func depth args deaths news view runs ≡ true → is_user program func ≡ true
+user_of_fits : (program : Program) (copy : Memory) (func depth : ℕ) (args : List Wire) (told : Told) → call_fits program copy func depth args told ≡ true → is_user program func ≡ true
 unfolding call_fits
-user_of_fits program copy func depth args deaths news view runs e = and_left _ _ (and_left _ _ (and_left _ _ (and_left _ _ e)))
+user_of_fits program copy func depth args told e = and_left _ _ (and_left _ _ (and_left _ _ (and_left _ _ e)))
 
 module _ (program : Program) (sound : IsRunnable program) (n m : ℕ) where
-  same_call : (copy : Memory) (func depth rest : ℕ) (args : List Wire) (deaths : List ℕ) (news : List New) (view : List SetRun) (runs : List Run)
-      → opened program (suc n) copy Nothing (message.Call func depth rest args deaths news view runs) ≡ opened program (suc m) copy Nothing (message.Call func depth rest args deaths news view runs)
+  same_call : (copy : Memory) (func depth rest : ℕ) (args : List Wire) (told : Told)
+      → opened program (suc n) copy Nothing (message.Call func depth rest args told) ≡ opened program (suc m) copy Nothing (message.Call func depth rest args told)
   unfolding opened
-  same_call copy func depth rest args deaths news view runs = of (call_fits program copy func depth args deaths news view runs) refl
+  same_call copy func depth rest args told = of (call_fits program copy func depth args told) refl
     where
       runs_tree : Tree → Opened
-      runs_tree t = Runs t rest (cells_of_runs view) (agreed_after program (told deaths news runs) copy)
+      runs_tree t = Runs t rest (cells_of_runs told.view) (agreed_after program told copy)
 
-      of : (b : Bool) → call_fits program copy func depth args deaths news view runs ≡ b
-          → when_fits (call_fits program copy func depth args deaths news view runs) (Runs (started program half.User (suc n) func args depth) rest (cells_of_runs view) (agreed_after program (told deaths news runs) copy))
-          ≡ when_fits (call_fits program copy func depth args deaths news view runs) (Runs (started program half.User (suc m) func args depth) rest (cells_of_runs view) (agreed_after program (told deaths news runs) copy))
+      of : (b : Bool) → call_fits program copy func depth args told ≡ b
+          → when_fits (call_fits program copy func depth args told) (Runs (started program half.User (suc n) func args depth) rest (cells_of_runs told.view) (agreed_after program told copy))
+          ≡ when_fits (call_fits program copy func depth args told) (Runs (started program half.User (suc m) func args depth) rest (cells_of_runs told.view) (agreed_after program told copy))
       of true e =
-          ap (λ (t : Tree). when_fits (call_fits program copy func depth args deaths news view runs) (Runs t rest (cells_of_runs view) (agreed_after program (told deaths news runs) copy)))
-          (same_started program sound half.User n m func args depth (user_of_fits program copy func depth args deaths news view runs e))
+          ap (λ (t : Tree). when_fits (call_fits program copy func depth args told) (Runs t rest (cells_of_runs told.view) (agreed_after program told copy)))
+          (same_started program sound half.User n m func args depth (user_of_fits program copy func depth args told e))
       of false e = rw e refl
 
   same_opened : (copy : Memory) (work : Work) (x : Message) → opened program (suc n) copy work x ≡ opened program (suc m) copy work x
   unfolding opened
-  same_opened copy Nothing (message.Call func depth rest args deaths news view runs) = same_call copy func depth rest args deaths news view runs
+  same_opened copy Nothing (message.Call func depth rest args told) = same_call copy func depth rest args told
   same_opened copy Nothing _ = refl
-  same_opened copy (AwaitsBack func seen goes) (message.Back rest result deaths news view runs) = refl
+  same_opened copy (AwaitsBack func seen goes) (message.Back rest result told) = refl
   same_opened copy (AwaitsBack func seen goes) _ = refl
   same_opened copy (AwaitsAnswer asked seen left goes) (message.Answer results deaths news) = refl
   same_opened copy (AwaitsAnswer asked seen left goes) _ = refl

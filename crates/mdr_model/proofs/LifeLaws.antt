@@ -13,7 +13,7 @@ use Rattle.mdr_model.specs.declared.message.New.{New}
 use Rattle.mdr_model.specs.Values.{names_block, wire_of}
 use Rattle.mdr_model.specs.Memory.{Memory, MemoryBlock, Cell, leaves_of, size_of, leaf_at, born_at, is_live, cell_at, swept, swept_block, killed, zero_of, zero_block, normal, normal_if}
 use Rattle.mdr_model.specs.Copies.{held, died, without, inserted, with_news, is_named, news_of}
-use Rattle.mdr_model.specs.Agreement.{cell_zero, names_it, is_named_in, has, told_at, is_told, NewsRise, SerialsRise}
+use Rattle.mdr_model.specs.Agreement.{cell_zero, names_it, is_named_in, has, news_at, is_told, NewsRise, SerialsRise}
 
 -- ---- one block dies
 
@@ -159,7 +159,7 @@ abbrev pub first_of : {A : Type 0} → Option A → Option A → Option A
 first_of (Some x) o = Some x
 first_of None o = o
 
-pub born_at-news : (program : Program) (news : List New) (m : Memory) (s : ℕ) → born_at (with_news program news m) s ≡ first_of (told_at news s) (born_at m s)
+pub born_at-news : (program : Program) (news : List New) (m : Memory) (s : ℕ) → born_at (with_news program news m) s ≡ first_of (news_at news s) (born_at m s)
 unfolding with_news
 born_at-news program [] m s = refl
 born_at-news program (n ∷ news) m s = grind (arith, born_at-news program news m s, born_at-inserted (zero_block program n) (with_news program news m) s)
@@ -206,14 +206,14 @@ pub zero_block-get : (program : Program) (n : New) (i : ℕ) → slice_get (zero
 unfolding cell_zero
 zero_block-get program n i = get-map zero_of (leaves_of program n) i
 
-pub cell_at-news : (program : Program) (news : List New) (m : Memory) (c : Cell) → cell_at (with_news program news m) c ≡ zero_cell program (told_at news c.serial) c.index (cell_at m c)
+pub cell_at-news : (program : Program) (news : List New) (m : Memory) (c : Cell) → cell_at (with_news program news m) c ≡ zero_cell program (news_at news c.serial) c.index (cell_at m c)
 unfolding with_news
 cell_at-news program [] m c = refl
 cell_at-news program (n ∷ news) m c =
     of (n.serial == c.serial) refl (cell_at-news program news m c)
   where
-    of : (t : Bool) → (n.serial == c.serial) ≡ t → cell_at (with_news program news m) c ≡ zero_cell program (told_at news c.serial) c.index (cell_at m c)
-        → cell_at (inserted (zero_block program n) (with_news program news m)) c ≡ zero_cell program (cond (n.serial == c.serial) (Some n) (told_at news c.serial)) c.index (cell_at m c)
+    of : (t : Bool) → (n.serial == c.serial) ≡ t → cell_at (with_news program news m) c ≡ zero_cell program (news_at news c.serial) c.index (cell_at m c)
+        → cell_at (inserted (zero_block program n) (with_news program news m)) c ≡ zero_cell program (cond (n.serial == c.serial) (Some n) (news_at news c.serial)) c.index (cell_at m c)
     of true e later = cell_at-inserted (zero_block program n) (with_news program news m) c ∙ rw e (zero_block-get program n c.index)
     of false e later = cell_at-inserted (zero_block program n) (with_news program news m) c ∙ rw e later
 
@@ -225,13 +225,13 @@ rises-news program (n ∷ news) m q new r =
 
 -- ---- which blocks are told
 
-pub told_at-news : (left : Memory) (values : List Wire) (m : Memory) (s : ℕ) → told_at (news_of left values m) s ≡ cond (not (is_live left s) && is_named values s) (born_at m s) None
+pub news_at-news : (left : Memory) (values : List Wire) (m : Memory) (s : ℕ) → news_at (news_of left values m) s ≡ cond (not (is_live left s) && is_named values s) (born_at m s) None
 unfolding news_of born_at
-told_at-news left values [] s = grind arith
-told_at-news left values (b ∷ m) s = of (not (is_live left b.born.serial) && is_named values b.born.serial) refl (told_at-news left values m s)
+news_at-news left values [] s = grind arith
+news_at-news left values (b ∷ m) s = of (not (is_live left b.born.serial) && is_named values b.born.serial) refl (news_at-news left values m s)
   where
-    of : (t : Bool) → (not (is_live left b.born.serial) && is_named values b.born.serial) ≡ t → told_at (news_of left values m) s ≡ cond (not (is_live left s) && is_named values s) (born_at m s) None
-        → told_at (cond t (b.born ∷ news_of left values m) (news_of left values m)) s ≡ cond (not (is_live left s) && is_named values s) (cond (b.born.serial == s) (Some b.born) (born_at m s)) None
+    of : (t : Bool) → (not (is_live left b.born.serial) && is_named values b.born.serial) ≡ t → news_at (news_of left values m) s ≡ cond (not (is_live left s) && is_named values s) (born_at m s) None
+        → news_at (cond t (b.born ∷ news_of left values m) (news_of left values m)) s ≡ cond (not (is_live left s) && is_named values s) (cond (b.born.serial == s) (Some b.born) (born_at m s)) None
     of true e later = grind (arith, eqb-true b.born.serial s)
     of false e later = grind (arith, eqb-true b.born.serial s)
 
@@ -241,7 +241,7 @@ news-rise left values [] r = tt
 news-rise left values (b ∷ m) r = of (not (is_live left b.born.serial) && is_named values b.born.serial) (news-rise left values m r.1)
   where
     of : (t : Bool) → NewsRise (news_of left values m) → NewsRise (cond t (b.born ∷ news_of left values m) (news_of left values m))
-    of true later = (λ s h. grind (arith, r.0 s, told_at-news left values m s), later)
+    of true later = (λ s h. grind (arith, r.0 s, news_at-news left values m s), later)
     of false later = later
 
 named-append : (s : ℕ) (vs ws : List Wire) → is_named (vs ++ ws) s ≡ (is_named vs s || is_named ws s)

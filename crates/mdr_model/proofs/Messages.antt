@@ -6,12 +6,13 @@ use Rattle.mdr_core.specs.declared.program.Program.{Program}
 use Rattle.mdr_model.specs.declared.wire.Wire.{Wire}
 use Rattle.mdr_model.specs.declared.message.New.{New}
 use Rattle.mdr_model.specs.declared.message.Run.{Run}
+use Rattle.mdr_model.specs.declared.message.Told.{Told}
 use Rattle.mdr_model.specs.Memory.{Memory, Cell, births, born_at, is_live}
 use Rattle.mdr_model.specs.Sets.{is_same_cell, is_in, runs_of_cells, cells_of_runs, visible_of, visible}
 use Rattle.mdr_model.specs.World.{World, top}
 use Rattle.mdr_model.specs.Watched.{with_view}
 use Rattle.mdr_model.specs.Faults.{runs_fault}
-use Rattle.mdr_model.specs.Copies.{Told, died, news_of, without, with_news, left_of, changed_values, told_news, begun_copy, tells, agreed_after, changed_cells, changes, put_runs}
+use Rattle.mdr_model.specs.Copies.{died, news_of, without, with_news, left_of, changed_values, told_news, begun_copy, tells, agreed_after, changed_cells, changes, values_of_runs, put_all, put_runs}
 use Rattle.mdr_model.specs.KernelState.{Kernel}
 use Rattle.mdr_model.specs.User.{lives_fit, view_fits, runs_fit, cells_fit, renewed_copy, still_live}
 use Rattle.mdr_model.specs.Runnable.{IsRunnable}
@@ -37,8 +38,8 @@ waiting program told copy w e = record { world = w; agreed = agreed_after progra
 -- the user half accepts what a message tells, has the visible cells as they are, and knows what it was told
 pub record Messaged (program : Program) (K : Knowledge) (copy : Memory) (w : World) (e : ℕ) (told : Told) : Type 0 where
   pub lives : lives_fit program copy told.deaths told.news ≡ true
-  pub cells : cells_fit program (renewed_copy program told.deaths told.news copy) (runs_of_cells (top w.views)) told.runs ≡ true
-  pub view : cells_of_runs (runs_of_cells (top w.views)) ≡ top w.views
+  pub cells : cells_fit program (renewed_copy program told.deaths told.news copy) told.view told.runs ≡ true
+  pub view : cells_of_runs told.view ≡ top w.views
   pub rel : Rel program (K ++ told.news) (waiting program told copy w e) w (agreed_after program told copy)
 
 abbrev pub telling : Program → List Wire → Memory → World → Told
@@ -102,6 +103,11 @@ message_is {program} {K} {copy} values others w e sound a =
       view = cells_of_runs-runs view;
       rel = shared_rel values view w' e a'.next a' refl (message program view values copy w.memory a'.memories (visible_shown values a));
     }
+
+-- what tells no cells leaves births and deaths alone
+pub agreed_lives : (program : Program) (told : Told) (copy : Memory) → told.runs ≡ [] → renewed_copy program told.deaths told.news copy ≡ agreed_after program told copy
+unfolding agreed_after put_runs values_of_runs put_all
+agreed_lives program told copy none = sym (ap (λ (runs : List Run). put_runs runs (renewed_copy program told.deaths told.news copy)) none)
 
 -- the same of an answer to a service, which names no cells
 pub record Answered (program : Program) (K : Knowledge) (copy : Memory) (w : World) (e : ℕ) (told : Told) : Type 0 where
@@ -169,10 +175,10 @@ no_news copy values (b ∷ m) live =
     let here : is_live copy b.born.serial ≡ true = live b.born.serial (grind (arith, eq-eqb b.born.serial b.born.serial refl)) in
     rw here (no_news copy values m (λ serial e. live serial (grind arith)))
 
-abbrev pub only_runs : List Run → Told
-only_runs runs = record { deaths = []; news = []; runs = runs }
+abbrev pub only_cells : List Cell → List Run → Told
+only_cells view runs = record { deaths = []; news = []; view = runs_of_cells view; runs = runs }
 
-pub tells_changes : (program : Program) (view : List Cell) (values : List Wire) (copy m : Memory) → births copy ≡ births m → tells program view values copy m ≡ only_runs (changes view copy m)
+pub tells_changes : (program : Program) (view : List Cell) (values : List Wire) (copy m : Memory) → births copy ≡ births m → tells program view values copy m ≡ only_cells view (changes view copy m)
 unfolding tells told_news begun_copy left_of without with_news
 tells_changes program view values copy m e =
     let deaths : died copy m ≡ [] = no_deaths copy m (λ serial h. sym (is_live-births copy m serial e) ∙ h) in
@@ -180,6 +186,6 @@ tells_changes program view values copy m e =
     rw (deaths, news) refl
 
 -- and an answer to a service nothing
-pub tells_nothing : (program : Program) (values : List Wire) (copy m : Memory) → births copy ≡ births m → tells program [] values copy m ≡ only_runs []
+pub tells_nothing : (program : Program) (values : List Wire) (copy m : Memory) → births copy ≡ births m → tells program [] values copy m ≡ only_cells [] []
 unfolding changes changed_cells runs_of_cells
 tells_nothing program values copy m e = tells_changes program [] values copy m e

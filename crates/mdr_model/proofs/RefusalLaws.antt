@@ -154,10 +154,10 @@ refused_are_left_out program before last = reply_to_accepted program before last
 -- a refusal that its spelling shows
 pub shown_refusal : (m : Message) (reason : ℕ) → text m ≡ text (message.Refuse reason) → is_refusal m ≡ true
 unfolding text four
-shown_refusal (message.Call func depth rest args deaths news view runs) reason e = absurd (Prim.cc)
+shown_refusal (message.Call func depth rest args told) reason e = absurd (Prim.cc)
 shown_refusal (message.Return ticks result runs) reason e = absurd (Prim.cc)
 shown_refusal (message.Down ticks at depth func args runs) reason e = absurd (Prim.cc)
-shown_refusal (message.Back rest result deaths news view runs) reason e = absurd (Prim.cc)
+shown_refusal (message.Back rest result told) reason e = absurd (Prim.cc)
 shown_refusal (message.Ask ticks at service args shapes bytes runs) reason e = absurd (Prim.cc)
 shown_refusal (message.Answer results deaths news) reason e = absurd (Prim.cc)
 shown_refusal (message.Stop ticks number at runs) reason e = absurd (Prim.cc)

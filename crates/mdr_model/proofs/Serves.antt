@@ -7,7 +7,7 @@ use Rattle.mdr_core.specs.declared.plan.Half.TheVariants as half
 use Rattle.mdr_core.specs.declared.program.Program.{Program}
 use Rattle.mdr_model.specs.declared.command.Command.{Command}
 use Rattle.mdr_model.specs.declared.wire.Wire.{Wire}
-use Rattle.mdr_model.specs.declared.message.Run.{Run}
+use Rattle.mdr_model.specs.declared.message.Told.{Told}
 use Rattle.mdr_model.specs.declared.message.Fault.{Fault}
 use Rattle.mdr_model.specs.declared.message.Message.{Message}
 use Rattle.mdr_model.specs.declared.message.Message.TheVariants as message
@@ -16,18 +16,18 @@ use Rattle.mdr_model.specs.declared.reply.Reply.TheVariants as replies
 use Rattle.mdr_model.specs.declared.outcome.End.{End}
 use Rattle.mdr_model.specs.declared.outcome.End.TheVariants as ends
 use Rattle.mdr_model.specs.Memory.{Memory, Cell, normal, loaded}
-use Rattle.mdr_model.specs.Sets.{is_in, runs_of_cells}
+use Rattle.mdr_model.specs.Sets.{is_in}
 use Rattle.mdr_model.specs.Tree.{Asked, Tree}
 use Rattle.mdr_model.specs.Walk.{Walked, walk, on_load, on_store}
 use Rattle.mdr_model.specs.World.{World, top, below, advanced, Ran, Ended, Stopped, after, counted, when_loaded, when_stored, served, as_now, kernel_call}
 use Rattle.mdr_model.specs.Watched.{with_view, renewed, ending, in_user, Finish, finish, noting, and_then, commands}
-use Rattle.mdr_model.specs.Copies.{Told, tells, agreed_after, put_runs}
+use Rattle.mdr_model.specs.Copies.{tells, agreed_after, put_runs}
 use Rattle.mdr_model.specs.KernelState.{Kernel, Rest, Noted, Pending, Over, Waits}
 use Rattle.mdr_model.specs.ReplyFaults.{reply_of as read_as, fault_of, upcall_of, stop_number, user_stop, service_params}
 use Rattle.mdr_model.specs.Kernel.{applied, next, judged, answered, taken, continued, downcalled, serviced, comes_back, answers}
 use Rattle.mdr_core.specs.declared.types.Ty.{Ty}
 use Rattle.mdr_model.specs.Faults.{args_fault}
-use Rattle.mdr_model.specs.User.{User, Nothing, AwaitsBack, AwaitsAnswer, Runs, Delivered, deliver, opened, replied, replied_to, back_fits, answer_fits, when_fits, still_live, told as user_told, done as user_done}
+use Rattle.mdr_model.specs.User.{User, Nothing, AwaitsBack, AwaitsAnswer, Runs, Delivered, deliver, opened, replied, replied_to, back_fits, answer_fits, when_fits, still_live, renewed_copy, done as user_done}
 use Rattle.mdr_model.specs.Runnable.{IsRunnable}
 use Rattle.mdr_model.proofs.Fair.{Knowledge, Grows, Fair, IsKnownPointer, IsValueAt, IsPlace, IsUserStop, IsAskable, IsDowncall, IsResultOf, IsServed}
 use Rattle.mdr_model.proofs.Relations.{Agree, Rel}
@@ -172,7 +172,7 @@ next_down {program} {k = k} {w = w} {um = um} rest script at func args depth cre
 -- ---- the user half accepts an honest message
 
 deliver_back : {program : Program} (fuel func e : ℕ) {K : Knowledge} (copy : Memory) (w : World) (v : Wire) (seen : List Cell) (goes : Wire → Tree) (told : Told) → IsResultOf program func v → Messages.Messaged program K copy w e told
-    → deliver program fuel (record { agreed = copy; work = AwaitsBack func seen goes }) (Ok (message.Back w.clock.rest v told.deaths told.news (runs_of_cells (top w.views)) told.runs))
+    → deliver program fuel (record { agreed = copy; work = AwaitsBack func seen goes }) (Ok (message.Back w.clock.rest v told))
     ≡ reply_of (Messages.waiting program told copy w e) w (agreed_after program told copy) w.clock.rest (goes v)
 unfolding deliver opened back_fits
 deliver_back {program} fuel func e copy w v seen goes told fits m = rw (fits.fits, m.lives, m.cells, m.view) refl
@@ -184,10 +184,9 @@ unfolding deliver opened answer_fits
 deliver_answer {program} fuel e copy w left view results asked goes told none same_rest same_view m =
     let C : Memory = agreed_after program told copy in
     let accepted : answer_fits program copy results told.deaths told.news ≡ true = rw (none, m.lives) refl in
-    let no_runs : user_told told.deaths told.news [] ≡ told = ap (λ (rs : List Run). user_told told.deaths told.news rs) (sym m.no_runs) in
     ap (λ (b : Bool). user_done (record { agreed = copy; work = AwaitsAnswer asked view left goes }) (when_fits b
-    (let copy' : Memory = agreed_after program (user_told told.deaths told.news []) copy in Runs (goes results) left (filter (still_live copy') view) copy'))) accepted
-    ∙ ap (λ (t : Told). let copy' : Memory = agreed_after program t copy in let view' : List Cell = filter (still_live copy') view in replied_to view' left copy' (walk (is_in view') left (goes results) copy')) no_runs
+    (let copy' : Memory = renewed_copy program told.deaths told.news copy in Runs (goes results) left (filter (still_live copy') view) copy'))) accepted
+    ∙ ap (λ (copy' : Memory). let view' : List Cell = filter (still_live copy') view in replied_to view' left copy' (walk (is_in view') left (goes results) copy')) (Messages.agreed_lives program told copy m.no_runs)
     ∙ ap (λ (v : List Cell). let view' : List Cell = filter (still_live C) v in replied_to view' left C (walk (is_in view') left (goes results) C)) (sym same_view)
     ∙ ap (λ (v : List Cell). replied_to v left C (walk (is_in v) left (goes results) C)) m.view
     ∙ ap (λ (n : ℕ). replied_to (top w.views) n C (walk (is_in (top w.views)) n (goes results) C)) (sym same_rest)

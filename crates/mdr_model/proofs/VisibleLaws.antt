@@ -8,7 +8,7 @@ use Rattle.mdr_model.specs.declared.wire.Wire.{Wire}
 use Rattle.mdr_model.specs.declared.message.New.{New}
 use Rattle.mdr_model.specs.Memory.{Memory, Cell, leaves_of, size_of, leaf_at, fits_at, is_lock_type, is_lock_leaf, births, born_at, cell_at}
 use Rattle.mdr_model.specs.Sets.{is_same_cell, is_in, cells_from, is_open_leaf, is_keyed, keyed_cells, visible_of}
-use Rattle.mdr_model.specs.Agreement.{told_at}
+use Rattle.mdr_model.specs.Agreement.{news_at}
 use Rattle.mdr_model.proofs.Tests.{is_same_number, not_both, and_left, and_right}
 use Rattle.mdr_model.proofs.MemoryLaws.{same_cell, RisesFrom}
 use Rattle.mdr_model.proofs.LifeLaws.{there}
@@ -65,7 +65,7 @@ is_in-filter p (x ∷ xs) c e = of (p x) refl e (is_in-filter p xs c)
     of false q h later = after (is_same_cell c x) (later h)
 
 -- a memory's births find its blocks
-pub told-births : (m : Memory) (s : ℕ) → told_at (births m) s ≡ born_at m s
+pub told-births : (m : Memory) (s : ℕ) → news_at (births m) s ≡ born_at m s
 unfolding born_at
 told-births [] s = refl
 told-births (b ∷ m) s = grind (arith, told-births m s)
@@ -73,7 +73,7 @@ told-births (b ∷ m) s = grind (arith, told-births m s)
 -- a visible cell lies in a block of the list, and may be touched
 pub record IsSeen (program : Program) (n : ℕ) (bs : List New) (c : Cell) : Type 0 where
   pub block : New
-  pub told : told_at bs c.serial ≡ Some block
+  pub told : news_at bs c.serial ≡ Some block
   pub low : n ≤ c.serial
   pub keyed : is_keyed program block c.index ≡ true
 

@@ -18,11 +18,11 @@ use Rattle.mdr_model.specs.declared.outcome.End.TheVariants as ends
 use Rattle.mdr_model.specs.KernelState.{Kernel, Reading}
 use Rattle.mdr_model.specs.Memory.{leaves_of, fits_at, Memory}
 use Rattle.mdr_model.specs.Watched.{Finish, finish}
-use Rattle.mdr_model.specs.User.{Delivered, Runs, done, told}
+use Rattle.mdr_model.specs.User.{Delivered, Runs, done}
 use Rattle.mdr_core.specs.declared.plan.Half.TheVariants as half
 use Rattle.mdr_model.specs.Meaning.{function}
 use Rattle.mdr_model.proofs.WorkedCode.{add_one_bodies, add_one_code, bump_bodies, bump_code, reset_bodies, reset_code, entered, is_entered, bump_stub, bump_place, reset_stub, reset_place}
-use Rattle.mdr_model.specs.Worked.{add_one, bump, u32_value, count_view, count_is, BumpPrints, BumpIdles, BumpStops, AddOnePrints, calling, BumpSends, BumpSpells, reset, ResetPrints, ResetSends}
+use Rattle.mdr_model.specs.Worked.{add_one, bump, u32_value, count_view, count_is, count_told, BumpPrints, BumpIdles, BumpStops, AddOnePrints, calling, BumpSends, BumpSpells, reset, ResetPrints, ResetSends}
 use Rattle.mdr_model.specs.Copies.{numbered, values_of_runs, put_all, put_runs, held, changed_cells, changes, died, without, inserted, with_news, news_of, left_of, changed_values, told_news, begun_copy, agreed_after, tells}
 use Rattle.mdr_model.specs.Faults.{args_fault, fits_cell, run_fault, runs_fault}
 use Rattle.mdr_model.specs.ReplyFaults.{is_ask_place, is_awaited, user_stop, fault_of}
@@ -32,7 +32,7 @@ use Rattle.mdr_model.specs.Memory.{born_at, is_live, cell_at, put, killed, norma
 use Rattle.mdr_model.specs.Outcome.{outcome_of}
 use Rattle.mdr_model.specs.Report.{value_shown, argument_shown, cell_shown, arguments_shown, cells_shown, event_line, event_lines, end_line, object_line, object_lines, report}
 use Rattle.mdr_model.specs.Sets.{is_in, cells_from, cells_of_runs, runs_of_cells, rises_after, is_keyed, visible_of, visible}
-use Rattle.mdr_model.specs.Text.{value_text, new_text, run_text, set_run_text, shape_text, text}
+use Rattle.mdr_model.specs.Text.{value_text, new_text, run_text, set_run_text, told_text, shape_text, text}
 use Rattle.mdr_model.specs.Tree.{Tree}
 use Rattle.mdr_model.specs.User.{view_fits, runs_fit, lives_fit, call_fits, back_fits, answer_fits, opened, replied, deliver, first_user, user_after, allowance, user_reply}
 use Rattle.mdr_model.specs.Values.{fits, fits_result, is_view_of, is_same_view, is_same}
@@ -62,21 +62,21 @@ reset_kernel = is_entered reset reset_bodies reset_code half.Kernel
 -- what the message that begins a run comes to, by the tree of its function
 abbrev opens : Program → Tree → Delivered
 opens program tree =
-    done (first_user program) (Runs tree 1000000 (cells_of_runs count_view) (agreed_after program (told [] [] []) (first_memory program)))
+    done (first_user program) (Runs tree 1000000 (cells_of_runs count_view) (agreed_after program (count_told []) (first_memory program)))
 
 -- that message
 abbrev begins : Reading
-begins = Ok (message.Call 1 0 1000000 [] [] [] count_view [])
+begins = Ok (message.Call 1 0 1000000 [] (count_told []))
 
 abbrev ends_run : Wire → Tree
 ends_run v = Tree.Done v Tree.Idle
 
 bump_opens : (fuel : ℕ) → opens bump (entered bump bump_bodies half.User fuel 1 [] 0 ends_run) ≡ deliver bump fuel (first_user bump) begins
-unfolding numbered values_of_runs put_all put_runs held changed_cells changes died without inserted with_news news_of left_of changed_values told_news begun_copy agreed_after tells args_fault fits_cell run_fault runs_fault is_ask_place is_awaited user_stop fault_of calls comes_back answers split_commands applied taken next first_kernel run_from_pending split_run is_kernel is_user pointer_to born_at is_live cell_at put killed normal first_memory reached loaded stored outcome_of value_shown argument_shown cell_shown arguments_shown cells_shown event_line event_lines end_line object_line object_lines report is_in cells_from cells_of_runs runs_of_cells rises_after is_keyed visible_of visible value_text new_text run_text set_run_text shape_text text view_fits runs_fit lives_fit call_fits back_fits answer_fits opened replied deliver first_user user_after allowance user_reply fits fits_result is_view_of is_same_view is_same walk with_view in_user upcall begin begun returned commands first_world watched served in_kernel kernel_call four eight item opaque listed bit_of of_bits is_in_range fitted_or fitted quotient bitwise operated negated flipped is_right_operand digits leaves_of fits_at repeated cells leaves form.out-Ty denote.Hole.Carrier.out
+unfolding numbered values_of_runs put_all put_runs held changed_cells changes died without inserted with_news news_of left_of changed_values told_news begun_copy agreed_after tells args_fault fits_cell run_fault runs_fault is_ask_place is_awaited user_stop fault_of calls comes_back answers split_commands applied taken next first_kernel run_from_pending split_run is_kernel is_user pointer_to born_at is_live cell_at put killed normal first_memory reached loaded stored outcome_of value_shown argument_shown cell_shown arguments_shown cells_shown event_line event_lines end_line object_line object_lines report is_in cells_from cells_of_runs runs_of_cells rises_after is_keyed visible_of visible value_text new_text run_text set_run_text told_text shape_text text view_fits runs_fit lives_fit call_fits back_fits answer_fits opened replied deliver first_user user_after allowance user_reply fits fits_result is_view_of is_same_view is_same walk with_view in_user upcall begin begun returned commands first_world watched served in_kernel kernel_call four eight item opaque listed bit_of of_bits is_in_range fitted_or fitted quotient bitwise operated negated flipped is_right_operand digits leaves_of fits_at repeated cells leaves form.out-Ty denote.Hole.Carrier.out
 bump_opens fuel = ap (opens bump) (λ i. sym bump_user i fuel 1 [] 0 ends_run)
 
 reset_opens : (fuel : ℕ) → opens reset (entered reset reset_bodies half.User fuel 1 [] 0 ends_run) ≡ deliver reset fuel (first_user reset) begins
-unfolding numbered values_of_runs put_all put_runs held changed_cells changes died without inserted with_news news_of left_of changed_values told_news begun_copy agreed_after tells args_fault fits_cell run_fault runs_fault is_ask_place is_awaited user_stop fault_of calls comes_back answers split_commands applied taken next first_kernel run_from_pending split_run is_kernel is_user pointer_to born_at is_live cell_at put killed normal first_memory reached loaded stored outcome_of value_shown argument_shown cell_shown arguments_shown cells_shown event_line event_lines end_line object_line object_lines report is_in cells_from cells_of_runs runs_of_cells rises_after is_keyed visible_of visible value_text new_text run_text set_run_text shape_text text view_fits runs_fit lives_fit call_fits back_fits answer_fits opened replied deliver first_user user_after allowance user_reply fits fits_result is_view_of is_same_view is_same walk with_view in_user upcall begin begun returned commands first_world watched served in_kernel kernel_call four eight item opaque listed bit_of of_bits is_in_range fitted_or fitted quotient bitwise operated negated flipped is_right_operand digits leaves_of fits_at repeated cells leaves form.out-Ty denote.Hole.Carrier.out
+unfolding numbered values_of_runs put_all put_runs held changed_cells changes died without inserted with_news news_of left_of changed_values told_news begun_copy agreed_after tells args_fault fits_cell run_fault runs_fault is_ask_place is_awaited user_stop fault_of calls comes_back answers split_commands applied taken next first_kernel run_from_pending split_run is_kernel is_user pointer_to born_at is_live cell_at put killed normal first_memory reached loaded stored outcome_of value_shown argument_shown cell_shown arguments_shown cells_shown event_line event_lines end_line object_line object_lines report is_in cells_from cells_of_runs runs_of_cells rises_after is_keyed visible_of visible value_text new_text run_text set_run_text told_text shape_text text view_fits runs_fit lives_fit call_fits back_fits answer_fits opened replied deliver first_user user_after allowance user_reply fits fits_result is_view_of is_same_view is_same walk with_view in_user upcall begin begun returned commands first_world watched served in_kernel kernel_call four eight item opaque listed bit_of of_bits is_in_range fitted_or fitted quotient bitwise operated negated flipped is_right_operand digits leaves_of fits_at repeated cells leaves form.out-Ty denote.Hole.Carrier.out
 reset_opens fuel = ap (opens reset) (λ i. sym reset_user i fuel 1 [] 0 ends_run)
 
 -- the reply to the last of these messages, which follow on that one
@@ -113,15 +113,15 @@ unfolding outcome_of value_shown argument_shown cell_shown arguments_shown cells
 bump_prints = ap (λ (f : Finish). report bump (outcome_of f)) bump_runs
 
 pub bump_idles : BumpIdles
-unfolding numbered values_of_runs put_all put_runs held changed_cells changes died without inserted with_news news_of left_of changed_values told_news begun_copy agreed_after tells args_fault fits_cell run_fault runs_fault is_ask_place is_awaited user_stop fault_of calls comes_back answers split_commands applied taken next first_kernel run_from_pending split_run is_kernel is_user pointer_to born_at is_live cell_at put killed normal first_memory reached loaded stored outcome_of value_shown argument_shown cell_shown arguments_shown cells_shown event_line event_lines end_line object_line object_lines report is_in cells_from cells_of_runs runs_of_cells rises_after is_keyed visible_of visible value_text new_text run_text set_run_text shape_text text view_fits runs_fit lives_fit call_fits back_fits answer_fits opened replied deliver first_user user_after allowance user_reply fits fits_result is_view_of is_same_view is_same walk with_view in_user upcall begin begun returned commands first_world watched served in_kernel kernel_call four eight item opaque listed bit_of of_bits is_in_range fitted_or fitted quotient bitwise operated negated flipped is_right_operand digits leaves_of fits_at repeated cells leaves form.out-Ty denote.Hole.Carrier.out
+unfolding numbered values_of_runs put_all put_runs held changed_cells changes died without inserted with_news news_of left_of changed_values told_news begun_copy agreed_after tells args_fault fits_cell run_fault runs_fault is_ask_place is_awaited user_stop fault_of calls comes_back answers split_commands applied taken next first_kernel run_from_pending split_run is_kernel is_user pointer_to born_at is_live cell_at put killed normal first_memory reached loaded stored outcome_of value_shown argument_shown cell_shown arguments_shown cells_shown event_line event_lines end_line object_line object_lines report is_in cells_from cells_of_runs runs_of_cells rises_after is_keyed visible_of visible value_text new_text run_text set_run_text told_text shape_text text view_fits runs_fit lives_fit call_fits back_fits answer_fits opened replied deliver first_user user_after allowance user_reply fits fits_result is_view_of is_same_view is_same walk with_view in_user upcall begin begun returned commands first_world watched served in_kernel kernel_call four eight item opaque listed bit_of of_bits is_in_range fitted_or fitted quotient bitwise operated negated flipped is_right_operand digits leaves_of fits_at repeated cells leaves form.out-Ty denote.Hole.Carrier.out
 bump_idles = refl
 
 pub bump_stops : BumpStops
-unfolding numbered values_of_runs put_all put_runs held changed_cells changes died without inserted with_news news_of left_of changed_values told_news begun_copy agreed_after tells args_fault fits_cell run_fault runs_fault is_ask_place is_awaited user_stop fault_of calls comes_back answers split_commands applied taken next first_kernel run_from_pending split_run is_kernel is_user pointer_to born_at is_live cell_at put killed normal first_memory reached loaded stored outcome_of value_shown argument_shown cell_shown arguments_shown cells_shown event_line event_lines end_line object_line object_lines report is_in cells_from cells_of_runs runs_of_cells rises_after is_keyed visible_of visible value_text new_text run_text set_run_text shape_text text view_fits runs_fit lives_fit call_fits back_fits answer_fits opened replied deliver first_user user_after allowance user_reply fits fits_result is_view_of is_same_view is_same walk with_view in_user upcall begin begun returned commands first_world watched served in_kernel kernel_call four eight item opaque listed bit_of of_bits is_in_range fitted_or fitted quotient bitwise operated negated flipped is_right_operand digits leaves_of fits_at repeated cells leaves form.out-Ty denote.Hole.Carrier.out
+unfolding numbered values_of_runs put_all put_runs held changed_cells changes died without inserted with_news news_of left_of changed_values told_news begun_copy agreed_after tells args_fault fits_cell run_fault runs_fault is_ask_place is_awaited user_stop fault_of calls comes_back answers split_commands applied taken next first_kernel run_from_pending split_run is_kernel is_user pointer_to born_at is_live cell_at put killed normal first_memory reached loaded stored outcome_of value_shown argument_shown cell_shown arguments_shown cells_shown event_line event_lines end_line object_line object_lines report is_in cells_from cells_of_runs runs_of_cells rises_after is_keyed visible_of visible value_text new_text run_text set_run_text told_text shape_text text view_fits runs_fit lives_fit call_fits back_fits answer_fits opened replied deliver first_user user_after allowance user_reply fits fits_result is_view_of is_same_view is_same walk with_view in_user upcall begin begun returned commands first_world watched served in_kernel kernel_call four eight item opaque listed bit_of of_bits is_in_range fitted_or fitted quotient bitwise operated negated flipped is_right_operand digits leaves_of fits_at repeated cells leaves form.out-Ty denote.Hole.Carrier.out
 bump_stops = rw (bump_user, bump_kernel) refl
 
 pub add_one_prints : AddOnePrints
-unfolding numbered values_of_runs put_all put_runs held changed_cells changes died without inserted with_news news_of left_of changed_values told_news begun_copy agreed_after tells args_fault fits_cell run_fault runs_fault is_ask_place is_awaited user_stop fault_of calls comes_back answers split_commands applied taken next first_kernel run_from_pending split_run is_kernel is_user pointer_to born_at is_live cell_at put killed normal first_memory reached loaded stored outcome_of value_shown argument_shown cell_shown arguments_shown cells_shown event_line event_lines end_line object_line object_lines report is_in cells_from cells_of_runs runs_of_cells rises_after is_keyed visible_of visible value_text new_text run_text set_run_text shape_text text view_fits runs_fit lives_fit call_fits back_fits answer_fits opened replied deliver first_user user_after allowance user_reply fits fits_result is_view_of is_same_view is_same walk with_view in_user upcall begin begun returned commands first_world watched served in_kernel kernel_call four eight item opaque listed bit_of of_bits is_in_range fitted_or fitted quotient bitwise operated negated flipped is_right_operand digits leaves_of fits_at repeated cells leaves form.out-Ty denote.Hole.Carrier.out
+unfolding numbered values_of_runs put_all put_runs held changed_cells changes died without inserted with_news news_of left_of changed_values told_news begun_copy agreed_after tells args_fault fits_cell run_fault runs_fault is_ask_place is_awaited user_stop fault_of calls comes_back answers split_commands applied taken next first_kernel run_from_pending split_run is_kernel is_user pointer_to born_at is_live cell_at put killed normal first_memory reached loaded stored outcome_of value_shown argument_shown cell_shown arguments_shown cells_shown event_line event_lines end_line object_line object_lines report is_in cells_from cells_of_runs runs_of_cells rises_after is_keyed visible_of visible value_text new_text run_text set_run_text told_text shape_text text view_fits runs_fit lives_fit call_fits back_fits answer_fits opened replied deliver first_user user_after allowance user_reply fits fits_result is_view_of is_same_view is_same walk with_view in_user upcall begin begun returned commands first_world watched served in_kernel kernel_call four eight item opaque listed bit_of of_bits is_in_range fitted_or fitted quotient bitwise operated negated flipped is_right_operand digits leaves_of fits_at repeated cells leaves form.out-Ty denote.Hole.Carrier.out
 add_one_prints = rw (is_entered add_one add_one_bodies add_one_code half.User) refl
 
 pub bump_sends : BumpSends
@@ -131,10 +131,10 @@ bump_sends = record {
   honest = (
     ap (λ (d : Delivered). d.reply) (bump_opens 1000001),
     (
-      ap (replies bump 1999999 [] (Ok (message.Back 999998 wire.NoValue [] [] count_view (count_is 1)))) (bump_opens 1999999),
+      ap (replies bump 1999999 [] (Ok (message.Back 999998 wire.NoValue (count_told (count_is 1))))) (bump_opens 1999999),
       (
-        ap (replies bump 1999999 (Ok (message.Back 999998 wire.NoValue [] [] count_view (count_is 1)) ∷ []) (Ok (message.Answer [] [] []))) (bump_opens 1999999),
-        (ap (replies bump 2999994 (Ok (message.Back 999998 wire.NoValue [] [] count_view (count_is 1)) ∷ Ok (message.Answer [] [] []) ∷ []) (Ok (message.Back 999995 wire.NoValue [] [] count_view (count_is 2)))) (bump_opens 2999994), tt),
+        ap (replies bump 1999999 (Ok (message.Back 999998 wire.NoValue (count_told (count_is 1))) ∷ []) (Ok (message.Answer [] [] []))) (bump_opens 1999999),
+        (ap (replies bump 2999994 (Ok (message.Back 999998 wire.NoValue (count_told (count_is 1))) ∷ Ok (message.Answer [] [] []) ∷ []) (Ok (message.Back 999995 wire.NoValue (count_told (count_is 2))))) (bump_opens 2999994), tt),
       ),
     ),
   );
@@ -145,7 +145,7 @@ bump_sends = record {
 }
 
 pub bump_spells : BumpSpells
-unfolding four eight item opaque listed value_text new_text run_text set_run_text shape_text text bit_of of_bits
+unfolding four eight item opaque listed value_text new_text run_text set_run_text told_text shape_text text bit_of of_bits
 bump_spells = record { sent = refl; answers = refl }
 
 reset_runs : watched reset (calling 1) 1000000 ≡ finish ends.Ok reset_end.world
@@ -163,8 +163,8 @@ reset_sends = record {
   honest = (
     ap (λ (d : Delivered). d.reply) (reset_opens 1000001),
     (
-      ap (replies reset 1999998 [] (Ok (message.Back 999997 wire.NoValue [] [] count_view (count_is 0)))) (reset_opens 1999998),
-      (ap (replies reset 1999998 (Ok (message.Back 999997 wire.NoValue [] [] count_view (count_is 0)) ∷ []) (Ok (message.Answer [] [] []))) (reset_opens 1999998), tt),
+      ap (replies reset 1999998 [] (Ok (message.Back 999997 wire.NoValue (count_told (count_is 0))))) (reset_opens 1999998),
+      (ap (replies reset 1999998 (Ok (message.Back 999997 wire.NoValue (count_told (count_is 0))) ∷ []) (Ok (message.Answer [] [] []))) (reset_opens 1999998), tt),
     ),
   );
   kernel = reset_end;

@@ -4,10 +4,11 @@ use Rattle.std.specs.List.{list_any, list_all}
 use Rattle.mdr_core.specs.declared.program.Program.{Program}
 use Rattle.mdr_model.specs.declared.wire.Wire.{Wire}
 use Rattle.mdr_model.specs.declared.message.New.{New}
+use Rattle.mdr_model.specs.declared.message.Told.{Told}
 use Rattle.mdr_model.specs.Values.{names_block}
 use Rattle.mdr_model.specs.Memory.{Memory, Cell, size_of, leaf_at, births, born_at, is_live, cell_at, put, killed, zero_of, zero_block, normal}
 use Rattle.mdr_model.specs.Sets.{is_in}
-use Rattle.mdr_model.specs.Copies.{Told, inserted, is_named, changed_cells, told_news, begun_copy, tells, agreed_after, changes, put_runs}
+use Rattle.mdr_model.specs.Copies.{inserted, is_named, changed_cells, told_news, begun_copy, tells, agreed_after, changes, put_runs}
 use Rattle.mdr_model.specs.User.{has_shape, lives_fit}
 
 -- ---- memories
@@ -74,13 +75,13 @@ IsShown view values copy m =
 unfoldable pub has : List ℕ → ℕ → Bool
 has serials serial = list_any (λ s. s == serial) serials
 
-abbrev pub told_at : List New → ℕ → Option New
-told_at [] serial = None
-told_at (n ∷ news) serial = cond (n.serial == serial) (Some n) (told_at news serial)
+abbrev pub news_at : List New → ℕ → Option New
+news_at [] serial = None
+news_at (n ∷ news) serial = cond (n.serial == serial) (Some n) (news_at news serial)
 
 -- the block is among those that are told
 unfoldable pub is_told : List New → ℕ → Bool
-is_told news serial = is_some (told_at news serial)
+is_told news serial = is_some (news_at news serial)
 
 abbrev pub DeathsRise : List ℕ → Type 0
 DeathsRise [] = Unit {0}

@@ -7,6 +7,7 @@ use Rattle.mdr_model.specs.declared.wire.Wire.TheVariants as wire
 use Rattle.mdr_model.specs.declared.message.New.{New}
 use Rattle.mdr_model.specs.declared.message.Run.{Run}
 use Rattle.mdr_model.specs.declared.message.SetRun.{SetRun}
+use Rattle.mdr_model.specs.declared.message.Told.{Told}
 use Rattle.mdr_model.specs.Values.{is_same, names_block}
 use Rattle.mdr_model.specs.Memory.{Memory, MemoryBlock, Cell, cell_at, is_live, put, killed, zero_block}
 use Rattle.mdr_model.specs.Sets.{cells_of_run, runs_of_cells}
@@ -89,11 +90,6 @@ news_of copy values (b ∷ m) =
 
 -- ---- what a message of the kernel half tells
 
-pub record Told : Type 0 where
-  pub deaths : List ℕ
-  pub news : List New
-  pub runs : List Run
-
 -- the copy without what died since
 unfoldable pub left_of : Memory → Memory → Memory
 left_of copy m = without (died copy m) copy
@@ -112,11 +108,12 @@ told_news view values copy m =
 unfoldable pub begun_copy : Program → List Cell → List Wire → Memory → Memory → Memory
 begun_copy program view values copy m = with_news program (told_news view values copy m) (left_of copy m)
 
--- what a message with these values tells where the copy is agreed and the memory is now: the blocks that died, those that are named for the first time, and the visible cells that differ then
+-- what a message with these values tells where the copy is agreed and the memory is now: the blocks that died, those that are named for the first time, the visible cells, and of these the ones that differ then
 unfoldable pub tells : Program → List Cell → List Wire → Memory → Memory → Told
 tells program view values copy m = record {
   deaths = died copy m;
   news = told_news view values copy m;
+  view = runs_of_cells view;
   runs = changes view (begun_copy program view values copy m) m;
 }
 

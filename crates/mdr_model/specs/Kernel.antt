@@ -6,6 +6,7 @@ use Rattle.mdr_core.specs.declared.program.Program.{Program}
 use Rattle.mdr_model.specs.declared.command.Command.{Command}
 use Rattle.mdr_model.specs.declared.wire.Wire.{Wire}
 use Rattle.mdr_model.specs.declared.message.Run.{Run}
+use Rattle.mdr_model.specs.declared.message.Told.{Told}
 use Rattle.mdr_model.specs.declared.message.Fault.{Fault}
 use Rattle.mdr_model.specs.declared.message.Message.{Message}
 use Rattle.mdr_model.specs.declared.message.Message.TheVariants as message
@@ -14,11 +15,10 @@ use Rattle.mdr_model.specs.declared.reply.Reply.TheVariants as replies
 use Rattle.mdr_model.specs.declared.outcome.End.{End}
 use Rattle.mdr_model.specs.declared.outcome.End.TheVariants as ends
 use Rattle.mdr_model.specs.Memory.{first_memory}
-use Rattle.mdr_model.specs.Sets.{runs_of_cells}
 use Rattle.mdr_model.specs.Tree.{Asked}
 use Rattle.mdr_model.specs.World.{World, top, advanced, Ran, Ended, Stopped, served, kernel_call}
 use Rattle.mdr_model.specs.Watched.{upcall_begun, renewed, upcall_ended, returned, Beginning, Did, Opens, begin, first_world}
-use Rattle.mdr_model.specs.Copies.{Told, tells, agreed_after, put_runs}
+use Rattle.mdr_model.specs.Copies.{tells, agreed_after, put_runs}
 use Rattle.mdr_model.specs.Faults.{fault}
 use Rattle.mdr_model.specs.KernelState.{Kernel, Rest, Noted, Pending, Over, Waits, Reading}
 use Rattle.mdr_model.specs.ReplyFaults.{reply_of, user_stop, fault_of}
@@ -36,14 +36,14 @@ unfoldable pub calls : Program → ℕ → List Wire → World → Kernel → Li
 calls program f args w k script =
     let w' : World = upcall_begun program w in
     let told : Told = tells program (top w'.views) args k.agreed w'.memory in
-    Waits (message.Call f 0 w'.clock.rest args told.deaths told.news (runs_of_cells (top w'.views)) told.runs) (sent program w' told k) (Noted f) script
+    Waits (message.Call f 0 w'.clock.rest args told) (sent program w' told k) (Noted f) script
 
 -- a downcall came back: the visible set is taken anew, and the result is told
 unfoldable pub comes_back : Program → Wire → World → Kernel → Rest → List Command → Pending
 comes_back program v w k rest script =
     let w' : World = renewed program w in
     let told : Told = tells program (top w'.views) (values_of_result v) k.agreed w'.memory in
-    Waits (message.Back w'.clock.rest v told.deaths told.news (runs_of_cells (top w'.views)) told.runs) (sent program w' told k) rest script
+    Waits (message.Back w'.clock.rest v told) (sent program w' told k) rest script
 
 -- a service was done, and its results are told, and no cells
 unfoldable pub answers : Program → List Wire → World → Kernel → Rest → List Command → Pending

@@ -12,6 +12,7 @@ use Rattle.mdr_model.specs.declared.message.BirthKind.TheVariants.{Static, Heap,
 use Rattle.mdr_model.specs.declared.message.New.{New}
 use Rattle.mdr_model.specs.declared.message.Run.{Run}
 use Rattle.mdr_model.specs.declared.message.SetRun.{SetRun}
+use Rattle.mdr_model.specs.declared.message.Told.{Told}
 use Rattle.mdr_model.specs.declared.message.Shape64.{Shape64}
 use Rattle.mdr_model.specs.declared.message.Fault.{Fault}
 use Rattle.mdr_model.specs.declared.message.Message.{Message}
@@ -109,6 +110,14 @@ place_at i = do
   stmt ← four_at func.1
   Ok (record { func = func.0; stmt = stmt.0 }, stmt.1)
 
+unfoldable pub told_at : Input → Read Told
+told_at i = do
+  deaths ← list_at eight_at i
+  news ← list_at new_at deaths.1
+  view ← list_at set_run_at news.1
+  runs ← list_at run_at view.1
+  Ok (record { deaths = deaths.0; news = news.0; view = view.0; runs = runs.0 }, runs.1)
+
 -- ---- messages, behind their kind
 
 unfoldable pub call_at : Input → Read Message
@@ -117,11 +126,8 @@ call_at i = do
   depth ← four_at func.1
   rest ← eight_at depth.1
   args ← list_at value_at rest.1
-  deaths ← list_at eight_at args.1
-  news ← list_at new_at deaths.1
-  view ← list_at set_run_at news.1
-  runs ← list_at run_at view.1
-  Ok (message.Call func.0 depth.0 rest.0 args.0 deaths.0 news.0 view.0 runs.0, runs.1)
+  told ← told_at args.1
+  Ok (message.Call func.0 depth.0 rest.0 args.0 told.0, told.1)
 
 unfoldable pub return_at : Input → Read Message
 return_at i = do
@@ -144,11 +150,8 @@ unfoldable pub back_at : Input → Read Message
 back_at i = do
   rest ← eight_at i
   result ← value_at rest.1
-  deaths ← list_at eight_at result.1
-  news ← list_at new_at deaths.1
-  view ← list_at set_run_at news.1
-  runs ← list_at run_at view.1
-  Ok (message.Back rest.0 result.0 deaths.0 news.0 view.0 runs.0, runs.1)
+  told ← told_at result.1
+  Ok (message.Back rest.0 result.0 told.0, told.1)
 
 unfoldable pub ask_at : Input → Read Message
 ask_at i = do

@@ -33,8 +33,8 @@ reply_of (message.Return ticks result runs) = Some (replies.Return ticks result 
 reply_of (message.Down ticks at depth func args runs) = Some (replies.Down ticks at depth func args runs)
 reply_of (message.Ask ticks at service args shapes bytes runs) = Some (replies.Ask ticks at service args shapes bytes runs)
 reply_of (message.Stop ticks number at runs) = Some (replies.Stop ticks number at runs)
-reply_of (message.Call func depth left args deaths news view runs) = None
-reply_of (message.Back left result deaths news view runs) = None
+reply_of (message.Call func depth left args told) = None
+reply_of (message.Back left result told) = None
 reply_of (message.Answer results deaths news) = None
 reply_of (message.Refuse reason) = None
 

@@ -10,6 +10,7 @@ use Rattle.mdr_model.specs.declared.message.BirthKind.TheVariants.{Static, Heap,
 use Rattle.mdr_model.specs.declared.message.New.{New}
 use Rattle.mdr_model.specs.declared.message.Run.{Run}
 use Rattle.mdr_model.specs.declared.message.SetRun.{SetRun}
+use Rattle.mdr_model.specs.declared.message.Told.{Told}
 use Rattle.mdr_model.specs.declared.message.Shape64.{Shape64}
 use Rattle.mdr_model.specs.declared.message.Message.{Message}
 use Rattle.mdr_model.specs.declared.message.Message.TheVariants as message
@@ -66,6 +67,9 @@ set_text view = listed set_run_text view
 abbrev pub runs_text : List Run → List ℕ
 runs_text runs = listed run_text runs
 
+unfoldable pub told_text : Told → List ℕ
+told_text told = serials_text told.deaths ++ (news_text told.news ++ (set_text told.view ++ runs_text told.runs))
+
 abbrev pub shapes_text : List Shape64 → List ℕ
 shapes_text shapes = listed shape_text shapes
 
@@ -73,13 +77,11 @@ shapes_text shapes = listed shape_text shapes
 
 -- the kind, and the fields in their order
 unfoldable pub text : Message → List ℕ
-text (message.Call func depth rest args deaths news view runs) =
-    four 1 ++ (four func ++ (four depth ++ (eight rest ++ (values_text args ++ (serials_text deaths ++ (news_text news ++ (set_text view ++ runs_text runs)))))))
+text (message.Call func depth rest args told) = four 1 ++ (four func ++ (four depth ++ (eight rest ++ (values_text args ++ told_text told))))
 text (message.Return ticks result runs) = four 2 ++ (eight ticks ++ (value_text result ++ runs_text runs))
 text (message.Down ticks at depth func args runs) =
     four 3 ++ (eight ticks ++ (at_text at ++ (four depth ++ (four func ++ (values_text args ++ runs_text runs)))))
-text (message.Back rest result deaths news view runs) =
-    four 4 ++ (eight rest ++ (value_text result ++ (serials_text deaths ++ (news_text news ++ (set_text view ++ runs_text runs)))))
+text (message.Back rest result told) = four 4 ++ (eight rest ++ (value_text result ++ told_text told))
 text (message.Ask ticks at service args shapes bytes runs) =
     four 5 ++ (eight ticks ++ (at_text at ++ (four service ++ (values_text args ++ (shapes_text shapes ++ (opaque bytes ++ runs_text runs))))))
 text (message.Answer results deaths news) = four 6 ++ (values_text results ++ (serials_text deaths ++ news_text news))

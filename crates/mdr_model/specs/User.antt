@@ -8,6 +8,7 @@ use Rattle.mdr_model.specs.declared.wire.Wire.TheVariants as wire
 use Rattle.mdr_model.specs.declared.message.New.{New}
 use Rattle.mdr_model.specs.declared.message.Run.{Run}
 use Rattle.mdr_model.specs.declared.message.SetRun.{SetRun}
+use Rattle.mdr_model.specs.declared.message.Told.{Told}
 use Rattle.mdr_model.specs.declared.message.Message.{Message}
 use Rattle.mdr_model.specs.declared.message.Message.TheVariants as message
 use Rattle.mdr_core.specs.declared.stop.StopKind.TheVariants as stop
@@ -17,7 +18,7 @@ use Rattle.mdr_model.specs.Sets.{is_in, cells_of_run, cells_of_runs, rises_after
 use Rattle.mdr_model.specs.Tree.{Asked, Tree}
 use Rattle.mdr_model.specs.Walk.{Reached, Walked, walk}
 use Rattle.mdr_model.specs.Meaning.{func_at, is_user, started}
-use Rattle.mdr_model.specs.Copies.{Told, agreed_after, with_news, without, changes, put_runs}
+use Rattle.mdr_model.specs.Copies.{agreed_after, with_news, without, changes, put_runs}
 use Rattle.mdr_model.specs.Faults.{params_of, args_fault, runs_fault}
 use Rattle.mdr_model.specs.KernelState.{Reading}
 use Rattle.mdr_model.specs.ReplyFaults.{stop_number, result_type}
@@ -94,15 +95,15 @@ lives_fit program copy deaths news = deaths_fit program copy deaths && news_fit 
 abbrev pub cells_fit : Program → Memory → List SetRun → List Run → Bool
 cells_fit program copy view runs = view_fits program copy view && runs_fit program copy (cells_of_runs view) runs
 
-unfoldable pub call_fits : Program → Memory → ℕ → ℕ → List Wire → List ℕ → List New → List SetRun → List Run → Bool
-call_fits program copy func depth args deaths news view runs =
+unfoldable pub call_fits : Program → Memory → ℕ → ℕ → List Wire → Told → Bool
+call_fits program copy func depth args told =
     is_user program func && nat_le depth 255 && is_none (args_fault 0 (params_of (func_at program func)) args)
-    && lives_fit program copy deaths news && cells_fit program (renewed_copy program deaths news copy) view runs
+    && lives_fit program copy told.deaths told.news && cells_fit program (renewed_copy program told.deaths told.news copy) told.view told.runs
 
-unfoldable pub back_fits : Program → Memory → ℕ → Wire → List ℕ → List New → List SetRun → List Run → Bool
-back_fits program copy func result deaths news view runs =
+unfoldable pub back_fits : Program → Memory → ℕ → Wire → Told → Bool
+back_fits program copy func result told =
     fits_result (result_type (func_at program func)) result
-    && lives_fit program copy deaths news && cells_fit program (renewed_copy program deaths news copy) view runs
+    && lives_fit program copy told.deaths told.news && cells_fit program (renewed_copy program told.deaths told.news copy) told.view told.runs
 
 -- `writel`, the service that is built, has no result
 abbrev pub is_empty : List Wire → Bool
@@ -125,20 +126,17 @@ abbrev pub when_fits : Bool → Opened → Opened
 when_fits true opened = opened
 when_fits false opened = Refuses 3
 
-abbrev pub told : List ℕ → List New → List Run → Told
-told deaths news runs = record { deaths = deaths; news = news; runs = runs }
-
 -- what a message opens
 unfoldable pub opened : Program → ℕ → Memory → Work → Message → Opened
-opened program fuel copy Nothing (message.Call func depth rest args deaths news view runs) =
-    when_fits (call_fits program copy func depth args deaths news view runs)
-    (Runs (started program half.User fuel func args depth) rest (cells_of_runs view) (agreed_after program (told deaths news runs) copy))
-opened program fuel copy (AwaitsBack func seen goes) (message.Back rest result deaths news view runs) =
-    when_fits (back_fits program copy func result deaths news view runs)
-    (Runs (goes result) rest (cells_of_runs view) (agreed_after program (told deaths news runs) copy))
+opened program fuel copy Nothing (message.Call func depth rest args told) =
+    when_fits (call_fits program copy func depth args told)
+    (Runs (started program half.User fuel func args depth) rest (cells_of_runs told.view) (agreed_after program told copy))
+opened program fuel copy (AwaitsBack func seen goes) (message.Back rest result told) =
+    when_fits (back_fits program copy func result told)
+    (Runs (goes result) rest (cells_of_runs told.view) (agreed_after program told copy))
 opened program fuel copy (AwaitsAnswer asked seen left goes) (message.Answer results deaths news) =
     when_fits (answer_fits program copy results deaths news)
-    (let copy' : Memory = agreed_after program (told deaths news []) copy in
+    (let copy' : Memory = renewed_copy program deaths news copy in
     Runs (goes results) left (filter (still_live copy') seen) copy')
 opened program fuel copy work m = Refuses 2
 
@@ -197,8 +195,8 @@ user_after program fuel u (m ∷ ms) = user_after program fuel (deliver program 
 
 -- the ticks that a message grants
 abbrev pub granted : Reading → ℕ
-granted (Ok (message.Call func depth rest args deaths news view runs)) = rest
-granted (Ok (message.Back rest result deaths news view runs)) = rest
+granted (Ok (message.Call func depth rest args told)) = rest
+granted (Ok (message.Back rest result told)) = rest
 granted (Ok _) = 0
 granted (Err f) = 0
 

@@ -19,6 +19,7 @@ use Rattle.mdr_model.specs.declared.command.Command.TheVariants as command
 use Rattle.mdr_model.specs.declared.wire.Wire.{Wire}
 use Rattle.mdr_model.specs.declared.wire.Wire.TheVariants as wire
 use Rattle.mdr_model.specs.declared.message.SetRun.{SetRun}
+use Rattle.mdr_model.specs.declared.message.Told.{Told}
 use Rattle.mdr_model.specs.declared.message.Run.{Run}
 use Rattle.mdr_model.specs.declared.message.Message.{Message}
 use Rattle.mdr_model.specs.declared.message.Message.TheVariants as message
@@ -136,12 +137,16 @@ count_view = record { serial = 0; first = 0; len = 1 } ∷ []
 abbrev pub count_is : ℕ → List Run
 count_is n = record { serial = 0; first = 0; values = u32_value n ∷ [] } ∷ []
 
+-- a message that tells of it and of these changes, and of no births and deaths
+abbrev pub count_told : List Run → Told
+count_told runs = record { deaths = []; news = []; view = count_view; runs = runs }
+
 abbrev pub bump_sent : List Message
 bump_sent =
-    message.Call 1 0 1000000 [] [] [] count_view []
-    ∷ message.Back 999998 wire.NoValue [] [] count_view (count_is 1)
+    message.Call 1 0 1000000 [] (count_told [])
+    ∷ message.Back 999998 wire.NoValue (count_told (count_is 1))
     ∷ message.Answer [] [] []
-    ∷ message.Back 999995 wire.NoValue [] [] count_view (count_is 2)
+    ∷ message.Back 999995 wire.NoValue (count_told (count_is 2))
     ∷ []
 
 abbrev pub bump_answers : List Message
@@ -164,8 +169,8 @@ pub record BumpSends : Type 0 where
 -- the messages of the driver that sets back: each change is compared with what was told last by either half
 abbrev pub reset_sent : List Message
 reset_sent =
-    message.Call 1 0 1000000 [] [] [] count_view []
-    ∷ message.Back 999997 wire.NoValue [] [] count_view (count_is 0)
+    message.Call 1 0 1000000 [] (count_told [])
+    ∷ message.Back 999997 wire.NoValue (count_told (count_is 0))
     ∷ message.Answer [] [] []
     ∷ []
 

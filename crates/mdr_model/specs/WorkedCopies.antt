@@ -10,12 +10,13 @@ use Rattle.mdr_model.specs.declared.wire.Wire.TheVariants as wire
 use Rattle.mdr_model.specs.declared.message.New.{New}
 use Rattle.mdr_model.specs.declared.message.Run.{Run}
 use Rattle.mdr_model.specs.declared.message.SetRun.{SetRun}
+use Rattle.mdr_model.specs.declared.message.Told.{Told}
 use Rattle.mdr_model.specs.declared.message.BirthKind.TheVariants.{Static, Heap}
 use Rattle.mdr_model.specs.declared.message.Message.TheVariants as message
 use Rattle.mdr_model.specs.Memory.{Memory, MemoryBlock, killed}
 use Rattle.mdr_model.specs.Sets.{cells_of_runs}
 use Rattle.mdr_model.specs.Tree.{Tree}
-use Rattle.mdr_model.specs.Copies.{Told, tells, agreed_after}
+use Rattle.mdr_model.specs.Copies.{tells, agreed_after}
 use Rattle.mdr_model.specs.User.{AwaitsBack, Runs, lives_fit, opened}
 use Rattle.mdr_core.specs.Types.{first_types}
 
@@ -50,15 +51,15 @@ block born x y = record { born = born; cells = x ∷ y ∷ [] }
 abbrev pub whole : ℕ → SetRun
 whole serial = record { serial = serial; first = 0; len = 2 }
 
-abbrev pub told_as : List ℕ → List New → List Run → Told
-told_as deaths news runs = record { deaths = deaths; news = news; runs = runs }
+abbrev pub told_as : List ℕ → List New → List SetRun → List Run → Told
+told_as deaths news view runs = record { deaths = deaths; news = news; view = view; runs = runs }
 
--- what a message that ends a downcall opens in a user half that has this copy: what the downcall's result leads to, over the global's cells and the copy that is agreed then
+-- what a message that ends a downcall opens in a user half that has this copy: what the downcall's result leads to, over the visible cells and the copy that is agreed then
 abbrev pub Opens : (copy : Memory) → Told → (next : Memory) → Type 0
 Opens copy told next =
     (fuel rest : ℕ) (goes : Wire → Tree)
-    → opened pair fuel copy (AwaitsBack 0 [] goes) (message.Back rest wire.NoValue told.deaths told.news (whole 0 ∷ []) told.runs)
-    ≡ Runs (goes wire.NoValue) rest (cells_of_runs (whole 0 ∷ [])) next
+    → opened pair fuel copy (AwaitsBack 0 [] goes) (message.Back rest wire.NoValue told)
+    ≡ Runs (goes wire.NoValue) rest (cells_of_runs told.view) next
 
 -- ---- told in another order than born
 
@@ -74,12 +75,12 @@ without_one = block global_born (number 0) (number 0) ∷ block (heap_born 2) (n
 
 -- a message names block 2 alone, a later one names block 1: the copy has them by their serials. Both die: the deaths are 1, 2, and the user half takes them
 pub record DeathsRise : Type 0 where
-  pub second : tells pair (cells_of_runs (whole 0 ∷ [])) (to 2 ∷ []) global_alone three_blocks ≡ told_as [] (heap_born 2 ∷ []) []
-  pub second_opens : Opens global_alone (told_as [] (heap_born 2 ∷ []) []) without_one
-  pub first : tells pair (cells_of_runs (whole 0 ∷ [])) (to 1 ∷ []) without_one three_blocks ≡ told_as [] (heap_born 1 ∷ []) []
-  pub first_opens : Opens without_one (told_as [] (heap_born 1 ∷ []) []) three_blocks
-  pub deaths : tells pair (cells_of_runs (whole 0 ∷ [])) [] three_blocks global_alone ≡ told_as (1 ∷ 2 ∷ []) [] []
-  pub deaths_open : Opens three_blocks (told_as (1 ∷ 2 ∷ []) [] []) global_alone
+  pub second : tells pair (cells_of_runs (whole 0 ∷ [])) (to 2 ∷ []) global_alone three_blocks ≡ told_as [] (heap_born 2 ∷ []) (whole 0 ∷ []) []
+  pub second_opens : Opens global_alone (told_as [] (heap_born 2 ∷ []) (whole 0 ∷ []) []) without_one
+  pub first : tells pair (cells_of_runs (whole 0 ∷ [])) (to 1 ∷ []) without_one three_blocks ≡ told_as [] (heap_born 1 ∷ []) (whole 0 ∷ []) []
+  pub first_opens : Opens without_one (told_as [] (heap_born 1 ∷ []) (whole 0 ∷ []) []) three_blocks
+  pub deaths : tells pair (cells_of_runs (whole 0 ∷ [])) [] three_blocks global_alone ≡ told_as (1 ∷ 2 ∷ []) [] (whole 0 ∷ []) []
+  pub deaths_open : Opens three_blocks (told_as (1 ∷ 2 ∷ []) [] (whole 0 ∷ []) []) global_alone
 
 -- ---- a new block of zeros
 
@@ -91,8 +92,8 @@ stored_new = block global_born (to 1) (number 0) ∷ block (heap_born 1) (number
 pub record ZerosArentTold : Type 0 where
   pub told :
       tells pair (cells_of_runs (whole 0 ∷ whole 1 ∷ [])) [] global_alone stored_new
-      ≡ told_as [] (heap_born 1 ∷ []) (record { serial = 0; first = 0; values = to 1 ∷ [] } ∷ [])
-  pub copy : agreed_after pair (told_as [] (heap_born 1 ∷ []) (record { serial = 0; first = 0; values = to 1 ∷ [] } ∷ [])) global_alone ≡ stored_new
+      ≡ told_as [] (heap_born 1 ∷ []) (whole 0 ∷ whole 1 ∷ []) (record { serial = 0; first = 0; values = to 1 ∷ [] } ∷ [])
+  pub copy : agreed_after pair (told_as [] (heap_born 1 ∷ []) (whole 0 ∷ whole 1 ∷ []) (record { serial = 0; first = 0; values = to 1 ∷ [] } ∷ [])) global_alone ≡ stored_new
 
 -- ---- a cycle, an alias, a death
 
@@ -102,7 +103,7 @@ cycle = block global_born (to 1) (to 1) ∷ block (heap_born 1) (to 2) (number 0
 
 abbrev pub cycle_told : Told
 cycle_told =
-    told_as [] (heap_born 1 ∷ heap_born 2 ∷ [])
+    told_as [] (heap_born 1 ∷ heap_born 2 ∷ []) (whole 0 ∷ whole 1 ∷ whole 2 ∷ [])
     (record { serial = 0; first = 0; values = to 1 ∷ to 1 ∷ [] } ∷ record { serial = 1; first = 0; values = to 2 ∷ [] } ∷ record { serial = 2; first = 0; values = number 7 ∷ to 1 ∷ [] } ∷ [])
 
 -- block 2 is dead, and the pointer to it
@@ -119,7 +120,7 @@ pub record CycleIsTold : Type 0 where
   pub born_fits : lives_fit pair global_alone cycle_told.deaths cycle_told.news ≡ true
   pub born_copy : agreed_after pair cycle_told global_alone ≡ cycle
   pub death : killed 2 cycle ≡ cycle_left
-  pub death_told : tells pair (cells_of_runs (whole 0 ∷ whole 1 ∷ [])) [] cycle cycle_left ≡ told_as (2 ∷ []) [] []
-  pub death_opens : Opens cycle (told_as (2 ∷ []) [] []) cycle_left
-  pub last_told : tells pair (cells_of_runs (whole 0 ∷ [])) [] cycle_left cycle_gone ≡ told_as (1 ∷ []) [] (record { serial = 0; first = 0; values = number 3 ∷ [] } ∷ [])
-  pub last_opens : Opens cycle_left (told_as (1 ∷ []) [] (record { serial = 0; first = 0; values = number 3 ∷ [] } ∷ [])) cycle_gone
+  pub death_told : tells pair (cells_of_runs (whole 0 ∷ whole 1 ∷ [])) [] cycle cycle_left ≡ told_as (2 ∷ []) [] (whole 0 ∷ whole 1 ∷ []) []
+  pub death_opens : Opens cycle (told_as (2 ∷ []) [] (whole 0 ∷ []) []) cycle_left
+  pub last_told : tells pair (cells_of_runs (whole 0 ∷ [])) [] cycle_left cycle_gone ≡ told_as (1 ∷ []) [] (whole 0 ∷ []) (record { serial = 0; first = 0; values = number 3 ∷ [] } ∷ [])
+  pub last_opens : Opens cycle_left (told_as (1 ∷ []) [] (whole 0 ∷ []) (record { serial = 0; first = 0; values = number 3 ∷ [] } ∷ [])) cycle_gone

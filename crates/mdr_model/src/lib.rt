@@ -20,7 +20,7 @@ pub use laws::{
     split_is_one_memory, steps_may_follow,
 };
 pub use memory::{Cell, MemoryBlock};
-pub use message::{BirthKind, Fault, Message, New, Run, SetRun, Shape64};
+pub use message::{BirthKind, Fault, Message, New, Run, SetRun, Shape64, Told};
 pub use outcome::{End, Happened, Object, Outcome, Seen};
 pub use reply::Reply;
 pub use wire::{Wire, WireView};

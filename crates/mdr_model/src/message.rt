@@ -39,6 +39,16 @@ pub struct SetRun {
     pub len: u32,
 }
 
+/// What a message of the kernel half tells of memory: the blocks that died since the last message, those that are
+/// new, the visible cells, and of these the values of the ones that changed.
+#[derive(Debug, Drop)]
+pub struct Told {
+    pub deaths: Items<u64>,
+    pub news: Items<New>,
+    pub view: Items<SetRun>,
+    pub runs: Items<Run>,
+}
+
 /// What an allocation asks for: `count` elements of a type of the table.
 #[derive(Clone, Copy, Debug, PartialEq, Eq)]
 pub struct Shape64 {
@@ -50,17 +60,13 @@ pub struct Shape64 {
 /// `ticks` are the user half's ticks since the last message that it got; `rest` is what the budget leaves.
 #[derive(Debug, Drop)]
 pub enum Message {
-    /// An upcall of a function, with the functions that are active before it, the blocks that died since the
-    /// last message, those that are new, the visible cells, and of these the ones that changed.
+    /// An upcall of a function, with the functions that are active before it.
     Call {
         func: u32,
         depth: u32,
         rest: u64,
         args: Items<Wire>,
-        deaths: Items<u64>,
-        news: Items<New>,
-        view: Items<SetRun>,
-        runs: Items<Run>,
+        told: Told,
     },
     /// The upcall's function returned.
     Return {
@@ -81,10 +87,7 @@ pub enum Message {
     Back {
         rest: u64,
         result: Wire,
-        deaths: Items<u64>,
-        news: Items<New>,
-        view: Items<SetRun>,
-        runs: Items<Run>,
+        told: Told,
     },
     /// A service is asked for, from a place.
     Ask {
@@ -96,7 +99,7 @@ pub enum Message {
         bytes: Items<u8>,
         runs: Items<Run>,
     },
-    /// The service's results.
+    /// The service's results, the blocks that died, and those that are new. It tells no cells.
     Answer {
         results: Items<Wire>,
         deaths: Items<u64>,

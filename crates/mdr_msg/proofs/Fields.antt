@@ -13,12 +13,12 @@ use Rattle.mdr_model.specs.declared.message.BirthKind.{BirthKind}
 use Rattle.mdr_model.specs.declared.message.BirthKind.TheVariants.{Static, Heap, Auto}
 use Rattle.mdr_model.specs.Faults.{fault}
 use Rattle.mdr_model.specs.Xdr.{Input, Read, ◌>>=◌, four, item, four_at}
-use Rattle.mdr_model.specs.Text.{view_text, value_text, birth_number, new_text, run_text, set_run_text, shape_text, at_text}
-use Rattle.mdr_model.specs.Reading.{kinds, births_by_number, view_at, tagged_at, value_at, number_value_at, birth_or, birth_at, new_at, run_at, set_run_at, shape_at, place_at}
+use Rattle.mdr_model.specs.Text.{view_text, value_text, birth_number, new_text, run_text, set_run_text, shape_text, at_text, told_text}
+use Rattle.mdr_model.specs.Reading.{kinds, births_by_number, view_at, tagged_at, value_at, number_value_at, birth_or, birth_at, new_at, run_at, set_run_at, shape_at, place_at, told_at}
 use Rattle.mdr_xdr.proofs.Readers.{IsReader}
 use Rattle.mdr_xdr.proofs.Numbers.{four_reader, eight_reader, item_reader}
 use Rattle.mdr_xdr.proofs.Sequences.{TakesSome, then_takes, last_takes, Again, then_again, last_again, IsText, made_reader, list_reader, done_takes, fault_takes, cond_takes, chosen_takes, done_again, chosen_again}
-use Rattle.mdr_msg.specs.WellFormed.{IsView, IsValue, IsNew, IsRun, IsSetRun, IsShape, IsPlace}
+use Rattle.mdr_msg.specs.WellFormed.{IsView, IsValue, IsNew, IsRun, IsSetRun, IsShape, IsPlace, IsTold}
 
 pub view_reader : IsReader view_at view_text IsView
 unfolding view_at
@@ -171,3 +171,13 @@ unfolding new_at new_text
 new_reader = made_reader
     (then_takes _ eight_reader (λ serial s. then_takes _ birth_reader (λ kind k. then_takes _ four_reader (λ ty t. last_takes _ four_reader (λ count c. record { is = refl; fits = record { serial = s; ty = t; count = c } })))))
     (λ n h. then_again _ eight_reader n.serial h.serial (then_again _ birth_reader n.kind tt (then_again _ four_reader n.ty h.ty (last_again _ four_reader n.count h.count))))
+
+-- ---- what is told of memory
+
+pub told_reader : IsReader told_at told_text IsTold
+unfolding told_at told_text
+told_reader = made_reader
+    (then_takes _ (list_reader eight_reader) (λ deaths d. then_takes _ (list_reader new_reader) (λ news n. then_takes _ (list_reader set_run_reader) (λ view v.
+    last_takes _ (list_reader run_reader) (λ runs r. record { is = refl; fits = record { deaths = d; news = n; view = v; runs = r } })))))
+    (λ t h. then_again _ (list_reader eight_reader) t.deaths h.deaths (then_again _ (list_reader new_reader) t.news h.news (then_again _ (list_reader set_run_reader) t.view h.view
+    (last_again _ (list_reader run_reader) t.runs h.runs))))

@@ -20,7 +20,7 @@ use Rattle.std.specs.Prelude.{IfOk}
 use Rattle.mdr_msg.specs.declared.error.MsgError.{MsgError}
 use Rattle.mdr_msg.specs.Decoding.{Reads}
 use Rattle.mdr_msg.specs.WellFormed.{IsMessage}
-use Rattle.mdr_msg.proofs.Fields.{value_reader, place_reader, new_reader, run_reader, set_run_reader, shape_reader}
+use Rattle.mdr_msg.proofs.Fields.{value_reader, place_reader, new_reader, run_reader, shape_reader, told_reader}
 
 -- behind a kind, the rest of a message's text
 abbrev IsBehind : ℕ → List ℕ → Message → Type 0
@@ -33,10 +33,7 @@ call_takes =
     then_takes _ four_reader (λ depth h1.
     then_takes _ eight_reader (λ rest h2.
     then_takes _ (list_reader value_reader) (λ args h3.
-    then_takes _ (list_reader eight_reader) (λ deaths h4.
-    then_takes _ (list_reader new_reader) (λ news h5.
-    then_takes _ (list_reader set_run_reader) (λ view h6.
-    last_takes _ (list_reader run_reader) (λ runs h7. record { is = refl; fits = (h0, h1, h2, h3, h4, h5, h6, h7) }))))))))
+    last_takes _ told_reader (λ told h4. record { is = refl; fits = (h0, h1, h2, h3, h4) })))))
 
 return_takes : TakesSome return_at (IsBehind 2)
 unfolding return_at text
@@ -60,10 +57,7 @@ unfolding back_at text
 back_takes =
     then_takes _ eight_reader (λ rest h0.
     then_takes _ value_reader (λ value h1.
-    then_takes _ (list_reader eight_reader) (λ deaths h2.
-    then_takes _ (list_reader new_reader) (λ news h3.
-    then_takes _ (list_reader set_run_reader) (λ view h4.
-    last_takes _ (list_reader run_reader) (λ runs h5. record { is = refl; fits = (h0, h1, h2, h3, h4, h5) }))))))
+    last_takes _ told_reader (λ told h2. record { is = refl; fits = (h0, h1, h2) })))
 
 ask_takes : TakesSome ask_at (IsBehind 5)
 unfolding ask_at text
@@ -122,10 +116,10 @@ behind kind m more lt h is = subst (λ (t : List ℕ). Again (λ i. four_at i >>
 
 message_again : (m : Message) → IsMessage m → Again message_at m (text m)
 unfolding message_by text call_at return_at down_at back_at ask_at answer_at stop_at refuse_at
-message_again (message.Call func depth rest args deaths news view runs) h = behind 1 (message.Call func depth rest args deaths news view runs) _ (omega arith) (λ offset. then_again _ four_reader func h.0 (then_again _ four_reader depth h.1 (then_again _ eight_reader rest h.2 (then_again _ (list_reader value_reader) args h.3 (then_again _ (list_reader eight_reader) deaths h.4 (then_again _ (list_reader new_reader) news h.5 (then_again _ (list_reader set_run_reader) view h.6 (last_again _ (list_reader run_reader) runs h.7)))))))) refl
+message_again (message.Call func depth rest args told) h = behind 1 (message.Call func depth rest args told) _ (omega arith) (λ offset. then_again _ four_reader func h.0 (then_again _ four_reader depth h.1 (then_again _ eight_reader rest h.2 (then_again _ (list_reader value_reader) args h.3 (last_again _ told_reader told h.4))))) refl
 message_again (message.Return ticks value runs) h = behind 2 (message.Return ticks value runs) _ (omega arith) (λ offset. then_again _ eight_reader ticks h.0 (then_again _ value_reader value h.1 (last_again _ (list_reader run_reader) runs h.2))) refl
 message_again (message.Down ticks at depth func args runs) h = behind 3 (message.Down ticks at depth func args runs) _ (omega arith) (λ offset. then_again _ eight_reader ticks h.0 (then_again _ place_reader at h.1 (then_again _ four_reader depth h.2 (then_again _ four_reader func h.3 (then_again _ (list_reader value_reader) args h.4 (last_again _ (list_reader run_reader) runs h.5)))))) refl
-message_again (message.Back rest value deaths news view runs) h = behind 4 (message.Back rest value deaths news view runs) _ (omega arith) (λ offset. then_again _ eight_reader rest h.0 (then_again _ value_reader value h.1 (then_again _ (list_reader eight_reader) deaths h.2 (then_again _ (list_reader new_reader) news h.3 (then_again _ (list_reader set_run_reader) view h.4 (last_again _ (list_reader run_reader) runs h.5)))))) refl
+message_again (message.Back rest value told) h = behind 4 (message.Back rest value told) _ (omega arith) (λ offset. then_again _ eight_reader rest h.0 (then_again _ value_reader value h.1 (last_again _ told_reader told h.2))) refl
 message_again (message.Ask ticks at service args shapes bytes runs) h = behind 5 (message.Ask ticks at service args shapes bytes runs) _ (omega arith) (λ offset. then_again _ eight_reader ticks h.0 (then_again _ place_reader at h.1 (then_again _ four_reader service h.2 (then_again _ (list_reader value_reader) args h.3 (then_again _ (list_reader shape_reader) shapes h.4 (then_again _ opaque_reader bytes h.5 (last_again _ (list_reader run_reader) runs h.6))))))) refl
 message_again (message.Answer results deaths news) h = behind 6 (message.Answer results deaths news) _ (omega arith) (λ offset. then_again _ (list_reader value_reader) results h.0 (then_again _ (list_reader eight_reader) deaths h.1 (last_again _ (list_reader new_reader) news h.2))) refl
 message_again (message.Stop ticks stop at runs) h = behind 7 (message.Stop ticks stop at runs) _ (omega arith) (λ offset. then_again _ eight_reader ticks h.0 (then_again _ four_reader stop h.1 (then_again _ place_reader at h.2 (last_again _ (list_reader run_reader) runs h.3)))) refl

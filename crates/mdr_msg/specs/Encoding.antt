@@ -5,6 +5,7 @@ use Rattle.mdr_core.specs.Kinds.{is_in_range}
 use Rattle.mdr_model.specs.declared.wire.Wire.{Wire}
 use Rattle.mdr_model.specs.declared.wire.Wire.TheVariants as wire
 use Rattle.mdr_model.specs.declared.message.Run.{Run}
+use Rattle.mdr_model.specs.declared.message.Told.{Told}
 use Rattle.mdr_model.specs.declared.message.Message.{Message}
 use Rattle.mdr_model.specs.declared.message.Message.TheVariants as message
 
@@ -34,12 +35,15 @@ CanPutRun r = CanPutValues r.values
 abbrev pub CanPutRuns : List Run → Type 0
 CanPutRuns runs = CanPutList CanPutRun runs
 
+abbrev pub CanPutTold : Told → Type 0
+CanPutTold t = IsShort t.deaths × IsShort t.news × IsShort t.view × CanPutRuns t.runs
+
 -- each list has fewer than 2^31 items, each integer is in its kind's range, and no value is a lock
 abbrev pub CanEncode : Message → Type 0
-CanEncode (message.Call func depth rest args deaths news view runs) = CanPutValues args × IsShort deaths × IsShort news × IsShort view × CanPutRuns runs
+CanEncode (message.Call func depth rest args told) = CanPutValues args × CanPutTold told
 CanEncode (message.Return ticks result runs) = CanPutValue result × CanPutRuns runs
 CanEncode (message.Down ticks at depth func args runs) = CanPutValues args × CanPutRuns runs
-CanEncode (message.Back rest result deaths news view runs) = CanPutValue result × IsShort deaths × IsShort news × IsShort view × CanPutRuns runs
+CanEncode (message.Back rest result told) = CanPutValue result × CanPutTold told
 CanEncode (message.Ask ticks at service args shapes bytes runs) = CanPutValues args × IsShort shapes × IsShort bytes × CanPutRuns runs
 CanEncode (message.Answer results deaths news) = CanPutValues results × IsShort deaths × IsShort news
 CanEncode (message.Stop ticks stop at runs) = CanPutRuns runs

@@ -10,6 +10,7 @@ use Rattle.mdr_model.specs.declared.message.New.{New}
 use Rattle.mdr_model.specs.declared.message.Run.{Run}
 use Rattle.mdr_model.specs.declared.message.SetRun.{SetRun}
 use Rattle.mdr_model.specs.declared.message.Shape64.{Shape64}
+use Rattle.mdr_model.specs.declared.message.Told.{Told}
 use Rattle.mdr_model.specs.declared.message.Message.{Message}
 use Rattle.mdr_model.specs.declared.message.Message.TheVariants as message
 
@@ -58,6 +59,12 @@ pub record IsSetRun (r : SetRun) : Type 0 where
   pub first : IsFour r.first
   pub len : IsFour r.len
 
+pub record IsTold (t : Told) : Type 0 where
+  pub deaths : IsListOf IsEight t.deaths
+  pub news : IsListOf IsNew t.news
+  pub view : IsListOf IsSetRun t.view
+  pub runs : IsListOf IsRun t.runs
+
 pub record IsShape (s : Shape64) : Type 0 where
   pub ty : IsFour s.ty
   pub count : IsEight s.count
@@ -67,13 +74,11 @@ pub record IsPlace (at : At) : Type 0 where
   pub stmt : IsFour at.stmt
 
 abbrev pub IsMessage : Message → Type 0
-IsMessage (message.Call func depth rest args deaths news view runs) =
-    IsFour func × IsFour depth × IsEight rest × IsListOf IsValue args × IsListOf IsEight deaths × IsListOf IsNew news × IsListOf IsSetRun view × IsListOf IsRun runs
+IsMessage (message.Call func depth rest args told) = IsFour func × IsFour depth × IsEight rest × IsListOf IsValue args × IsTold told
 IsMessage (message.Return ticks result runs) = IsEight ticks × IsValue result × IsListOf IsRun runs
 IsMessage (message.Down ticks at depth func args runs) =
     IsEight ticks × IsPlace at × IsFour depth × IsFour func × IsListOf IsValue args × IsListOf IsRun runs
-IsMessage (message.Back rest result deaths news view runs) =
-    IsEight rest × IsValue result × IsListOf IsEight deaths × IsListOf IsNew news × IsListOf IsSetRun view × IsListOf IsRun runs
+IsMessage (message.Back rest result told) = IsEight rest × IsValue result × IsTold told
 IsMessage (message.Ask ticks at service args shapes bytes runs) =
     IsEight ticks × IsPlace at × IsFour service × IsListOf IsValue args × IsListOf IsShape shapes × IsOpaque bytes × IsListOf IsRun runs
 IsMessage (message.Answer results deaths news) = IsListOf IsValue results × IsListOf IsEight deaths × IsListOf IsNew news

@@ -2,10 +2,10 @@
 
 ghost use Rattle.std.specs.Prelude.{◌↔◌, IsTrue};
 ghost use Rattle.std.specs.List.{AllByRecursion};
-ghost use Rattle.mdr_msg.specs.Encoding.{CanEncode, CanPutRun, CanPutRuns, CanPutValue, CanPutValues, IsShort};
+ghost use Rattle.mdr_msg.specs.Encoding.{CanEncode, CanPutRun, CanPutRuns, CanPutTold, CanPutValue, CanPutValues, IsShort};
 
 use mdr_core::Items;
-use mdr_model::{Message, New, Run, SetRun, Wire};
+use mdr_model::{Message, Run, Told, Wire};
 
 fn is_short<T>(items: &Items<T>) -> bool
     ensures { IsTrue result ↔ IsShort items.now }
@@ -47,16 +47,13 @@ fn can_put_runs(runs: &Items<Run>) -> bool
     is_short(runs) && can_put_each_run(runs.as_slice())
 }
 
-/// Whether births, deaths, visible cells and changes are written.
-fn can_put_memory(
-    deaths: &Items<u64>,
-    news: &Items<New>,
-    view: &Items<SetRun>,
-    runs: &Items<Run>,
-) -> bool
-    ensures { IsTrue result ↔ (IsShort deaths.now × IsShort news.now × IsShort view.now × CanPutRuns runs.now) }
+fn can_put_told(told: &Told) -> bool
+    ensures { IsTrue result ↔ CanPutTold told.now }
 {
-    is_short(deaths) && is_short(news) && is_short(view) && can_put_runs(runs)
+    is_short(&told.deaths)
+        && is_short(&told.news)
+        && is_short(&told.view)
+        && can_put_runs(&told.runs)
 }
 
 /// Whether a message has a spelling that `encode` writes: each of its lists has fewer than 2^31 items, each integer
@@ -65,14 +62,7 @@ pub fn can_encode(m: &Message) -> bool
     ensures { IsTrue result ↔ CanEncode m.now }
 {
     match m {
-        Message::Call {
-            args,
-            deaths,
-            news,
-            view,
-            runs,
-            ..
-        } => can_put_values(args) && can_put_memory(deaths, news, view, runs),
+        Message::Call { args, told, .. } => can_put_values(args) && can_put_told(told),
         Message::Return {
             result: value,
             runs,
@@ -81,12 +71,9 @@ pub fn can_encode(m: &Message) -> bool
         Message::Down { args, runs, .. } => can_put_values(args) && can_put_runs(runs),
         Message::Back {
             result: value,
-            deaths,
-            news,
-            view,
-            runs,
+            told,
             ..
-        } => can_put_value(value) && can_put_memory(deaths, news, view, runs),
+        } => can_put_value(value) && can_put_told(told),
         Message::Ask {
             args,
             shapes,

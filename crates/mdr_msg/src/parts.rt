@@ -8,7 +8,7 @@ ghost use Rattle.mdr_msg.specs.Decoding.{Gives};
 use crate::error::MsgError;
 use crate::item::Item;
 use mdr_core::{At, Items, OutOfMemory};
-use mdr_model::{BirthKind, New, Run, SetRun, Shape64, Wire};
+use mdr_model::{BirthKind, New, Run, SetRun, Shape64, Told, Wire};
 use mdr_xdr::Cursor;
 use std::alloc::Global;
 
@@ -211,6 +211,43 @@ impl Item for Run {
             serial,
             first,
             values,
+        })
+    }
+}
+
+impl Item for Told {
+    ghost use Rattle.mdr_model.specs.Text.{told_text};
+    ghost use Rattle.mdr_model.specs.Reading.{told_at};
+    ghost use Rattle.mdr_msg.specs.Encoding.{CanPutTold};
+    ghost use Rattle.mdr_msg.specs.WellFormed.{IsTold};
+
+    ghost text = { told_text };
+
+    ghost can_be_put = { CanPutTold };
+
+    ghost has_spelling = { IsTold };
+
+    ghost reader = { told_at };
+
+    #[tactic(auto, unfolding(mdr_model::specs::Text::told_text))]
+    fn put(&self, out: &mut Vec<u8>) -> Result<(), OutOfMemory> {
+        self.deaths.put(out)?;
+        self.news.put(out)?;
+        self.view.put(out)?;
+        self.runs.put(out)
+    }
+
+    #[tactic(auto, unfolding(mdr_model::specs::Reading::told_at))]
+    fn get(alloc: Global, bytes: &[u8], c: &mut Cursor) -> Result<Told, MsgError> {
+        let deaths = Items::<u64>::get(alloc, bytes, c)?;
+        let news = Items::<New>::get(alloc, bytes, c)?;
+        let view = Items::<SetRun>::get(alloc, bytes, c)?;
+        let runs = Items::<Run>::get(alloc, bytes, c)?;
+        Ok(Told {
+            deaths,
+            news,
+            view,
+            runs,
         })
     }
 }

@@ -2,7 +2,6 @@
 
 ghost use Rattle.std.specs.Prelude.{◌≡◌, IfOk, Ok};
 ghost use Rattle.mdr_model.specs.Text.{text};
-ghost use Rattle.mdr_model.specs.declared.message.Message.{Message as Told};
 ghost use Rattle.mdr_msg.specs.WellFormed.{IsMessage};
 ghost use Rattle.mdr_model.specs.Xdr.{opaque_at};
 ghost use Rattle.mdr_model.specs.Reading.{call_at, return_at, down_at, back_at, ask_at, answer_at, stop_at, refuse_at, message_by, message_at, reading_of};
@@ -11,7 +10,7 @@ ghost use Rattle.mdr_msg.specs.Decoding.{Gives, Reads};
 use crate::error::MsgError;
 use crate::item::Item;
 use mdr_core::{At, Items};
-use mdr_model::{Message, New, Run, SetRun, Shape64, Wire};
+use mdr_model::{Message, New, Run, Shape64, Told, Wire};
 use mdr_xdr::Cursor;
 use std::alloc::Global;
 
@@ -33,19 +32,13 @@ fn get_call(alloc: Global, bytes: &[u8], c: &mut Cursor) -> Result<Message, MsgE
     let depth = u32::get(alloc, bytes, c)?;
     let rest = u64::get(alloc, bytes, c)?;
     let args = Items::<Wire>::get(alloc, bytes, c)?;
-    let deaths = Items::<u64>::get(alloc, bytes, c)?;
-    let news = Items::<New>::get(alloc, bytes, c)?;
-    let view = Items::<SetRun>::get(alloc, bytes, c)?;
-    let runs = Items::<Run>::get(alloc, bytes, c)?;
+    let told = Told::get(alloc, bytes, c)?;
     Ok(Message::Call {
         func,
         depth,
         rest,
         args,
-        deaths,
-        news,
-        view,
-        runs,
+        told,
     })
 }
 
@@ -89,17 +82,11 @@ fn get_back(alloc: Global, bytes: &[u8], c: &mut Cursor) -> Result<Message, MsgE
 {
     let rest = u64::get(alloc, bytes, c)?;
     let value = Wire::get(alloc, bytes, c)?;
-    let deaths = Items::<u64>::get(alloc, bytes, c)?;
-    let news = Items::<New>::get(alloc, bytes, c)?;
-    let view = Items::<SetRun>::get(alloc, bytes, c)?;
-    let runs = Items::<Run>::get(alloc, bytes, c)?;
+    let told = Told::get(alloc, bytes, c)?;
     Ok(Message::Back {
         rest,
         result: value,
-        deaths,
-        news,
-        view,
-        runs,
+        told,
     })
 }
 

@@ -2,36 +2,15 @@
 
 ghost use Rattle.std.specs.Prelude.{◌≡◌, ◌++◌, OnOk, IfOk};
 ghost use Rattle.mdr_model.specs.Xdr.{four, opaque};
-ghost use Rattle.mdr_model.specs.Text.{text, values_text, shapes_text, serials_text, news_text, set_text, runs_text};
+ghost use Rattle.mdr_model.specs.Text.{text, values_text, shapes_text, runs_text};
 ghost use Rattle.mdr_model.specs.declared.message.Message.TheVariants.{Call, Return, Down, Back, Ask, Answer, Stop, Refuse};
 ghost use Rattle.mdr_msg.specs.Encoding.{CanEncode, CanPutRuns, CanPutValues, IsShort};
-ghost use Rattle.mdr_msg.specs.WellFormed.{IsFour, IsEight, IsListOf, IsOpaque, IsValue, IsNew, IsSetRun, IsRun, IsShape, IsMessage};
+ghost use Rattle.mdr_msg.specs.WellFormed.{IsFour, IsListOf, IsOpaque, IsValue, IsRun, IsShape, IsMessage};
 
 use crate::item::Item;
 use mdr_core::{At, Items, OutOfMemory};
-use mdr_model::{Message, New, Run, SetRun, Shape64, Wire};
+use mdr_model::{Message, New, Run, Shape64, Told, Wire};
 use std::alloc::Global;
-
-/// Writes which blocks died, which are new, which cells are visible, and of these the ones that changed.
-fn put_memory(
-    deaths: &Items<u64>,
-    news: &Items<New>,
-    view: &Items<SetRun>,
-    runs: &Items<Run>,
-    out: &mut Vec<u8>,
-) -> Result<(), OutOfMemory>
-    requires deaths { IsShort deaths.now }
-    requires news { IsShort news.now }
-    requires view { IsShort view.now }
-    requires runs { CanPutRuns runs.now }
-    ensures spelled { OnOk result (IsListOf IsEight deaths.now × IsListOf IsNew news.now × IsListOf IsSetRun view.now × IsListOf IsRun runs.now) }
-    ensures written { OnOk result (out.new.items ≡ out.old.items ++ (serials_text deaths.now ++ (news_text news.now ++ (set_text view.now ++ runs_text runs.now)))) }
-{
-    deaths.put(out)?;
-    news.put(out)?;
-    view.put(out)?;
-    runs.put(out)
-}
 
 #[tactic(auto, unfolding(mdr_model::specs::Text::text))]
 fn put_call(
@@ -39,22 +18,19 @@ fn put_call(
     depth: u32,
     rest: u64,
     args: &Items<Wire>,
-    deaths: &Items<u64>,
-    news: &Items<New>,
-    view: &Items<SetRun>,
-    runs: &Items<Run>,
+    told: &Told,
     out: &mut Vec<u8>,
 ) -> Result<(), OutOfMemory>
-    requires { CanEncode (Call func depth rest args.now deaths.now news.now view.now runs.now) }
-    ensures written { OnOk result (out.new.items ≡ out.old.items ++ text (Call func depth rest args.now deaths.now news.now view.now runs.now)) }
-    ensures spelled { OnOk result (IsMessage (Call func depth rest args.now deaths.now news.now view.now runs.now)) }
+    requires { CanEncode (Call func depth rest args.now told.now) }
+    ensures written { OnOk result (out.new.items ≡ out.old.items ++ text (Call func depth rest args.now told.now)) }
+    ensures spelled { OnOk result (IsMessage (Call func depth rest args.now told.now)) }
 {
     1u32.put(out)?;
     func.put(out)?;
     depth.put(out)?;
     rest.put(out)?;
     args.put(out)?;
-    put_memory(deaths, news, view, runs, out)
+    told.put(out)
 }
 
 #[tactic(auto, unfolding(mdr_model::specs::Text::text))]
@@ -117,20 +93,17 @@ fn put_down(
 fn put_back(
     rest: u64,
     value: Wire,
-    deaths: &Items<u64>,
-    news: &Items<New>,
-    view: &Items<SetRun>,
-    runs: &Items<Run>,
+    told: &Told,
     out: &mut Vec<u8>,
 ) -> Result<(), OutOfMemory>
-    requires { CanEncode (Back rest value deaths.now news.now view.now runs.now) }
-    ensures written { OnOk result (out.new.items ≡ out.old.items ++ text (Back rest value deaths.now news.now view.now runs.now)) }
-    ensures spelled { OnOk result (IsMessage (Back rest value deaths.now news.now view.now runs.now)) }
+    requires { CanEncode (Back rest value told.now) }
+    ensures written { OnOk result (out.new.items ≡ out.old.items ++ text (Back rest value told.now)) }
+    ensures spelled { OnOk result (IsMessage (Back rest value told.now)) }
 {
     4u32.put(out)?;
     rest.put(out)?;
     value.put(out)?;
-    put_memory(deaths, news, view, runs, out)
+    told.put(out)
 }
 
 /// Writes what a service is asked.
@@ -232,11 +205,8 @@ fn put_message(m: &Message, out: &mut Vec<u8>) -> Result<(), OutOfMemory>
             depth,
             rest,
             args,
-            deaths,
-            news,
-            view,
-            runs,
-        } => { put_call(*func, *depth, *rest, args, deaths, news, view, runs, out) }
+            told,
+        } => put_call(*func, *depth, *rest, args, told, out),
         Message::Return {
             ticks,
             result: value,
@@ -253,11 +223,8 @@ fn put_message(m: &Message, out: &mut Vec<u8>) -> Result<(), OutOfMemory>
         Message::Back {
             rest,
             result: value,
-            deaths,
-            news,
-            view,
-            runs,
-        } => { put_back(*rest, *value, deaths, news, view, runs, out) }
+            told,
+        } => put_back(*rest, *value, told, out),
         Message::Ask {
             ticks,
             at,

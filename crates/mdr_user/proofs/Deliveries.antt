@@ -6,7 +6,7 @@ use Rattle.mdr_model.specs.declared.wire.Wire.{Wire}
 use Rattle.mdr_model.specs.declared.memory.Cell.{Cell}
 use Rattle.mdr_model.specs.declared.message.New.{New}
 use Rattle.mdr_model.specs.declared.message.Run.{Run}
-use Rattle.mdr_model.specs.declared.message.SetRun.{SetRun}
+use Rattle.mdr_model.specs.declared.message.Told.{Told}
 use Rattle.mdr_model.specs.declared.message.Shape64.{Shape64}
 use Rattle.mdr_model.specs.declared.message.Message.TheVariants as message
 use Rattle.mdr_model.specs.Values.{fits_result}
@@ -16,8 +16,8 @@ use Rattle.mdr_model.specs.Tree.{Tree}
 use Rattle.mdr_model.specs.Walk.{walk}
 use Rattle.mdr_model.specs.Meaning.{func_at, function}
 use Rattle.mdr_model.specs.ReplyFaults.{result_type}
-use Rattle.mdr_model.specs.User.{Delivered, told, is_empty, still_live, lives_fit, renewed_copy, call_fits, back_fits, answer_fits, opened, replied_to, deliver}
-use Rattle.mdr_model.specs.Copies.{values_of_runs, put_all, put_runs, agreed_after}
+use Rattle.mdr_model.specs.User.{Delivered, is_empty, still_live, lives_fit, renewed_copy, call_fits, back_fits, answer_fits, opened, replied_to, deliver}
+use Rattle.mdr_model.specs.Copies.{agreed_after}
 use Rattle.mdr_user.specs.declared.state.Asked.{Asked}
 use Rattle.mdr_user.specs.declared.state.Position.{Position}
 use Rattle.mdr_user.specs.declared.state.State.{State}
@@ -98,12 +98,12 @@ both_false : (a b c : Bool) → (b && c) ≡ false → (a && b && c) ≡ false
 both_false true b c p = p
 both_false false b c p = refl
 
-module _ (program : Program) (n : ℕ) (copy : Memory) (deaths : List ℕ) (news : List New) (view : List SetRun) (runs : List Run) where
+module _ (program : Program) (n : ℕ) (copy : Memory) (told : Told) where
   module _ (func depth rest : ℕ) (args : List Wire) where
     abbrev calling : Delivered
-    calling = deliver program (suc n) (user_of program n (record { agreed = copy; work = Nothing })) (Ok (message.Call func depth rest args deaths news view runs))
+    calling = deliver program (suc n) (user_of program n (record { agreed = copy; work = Nothing })) (Ok (message.Call func depth rest args told))
 
-    call_unfit : call_fits program copy func depth args deaths news view runs ≡ false → calling ≡ refusal program n 3 (record { agreed = copy; work = Nothing })
+    call_unfit : call_fits program copy func depth args told ≡ false → calling ≡ refusal program n 3 (record { agreed = copy; work = Nothing })
     unfolding deliver opened
     call_unfit e = rw e refl
 
@@ -111,28 +111,28 @@ module _ (program : Program) (n : ℕ) (copy : Memory) (deaths : List ℕ) (news
     unfolding call_fits
     call_refused e = call_unfit (and_false_left (may_call program func depth args) _ _ e)
 
-    pub call_refused_of : None ≡ opened_by program copy deaths news view runs → calling ≡ refusal program n 3 (record { agreed = copy; work = Nothing })
+    pub call_refused_of : None ≡ opened_by program copy told → calling ≡ refusal program n 3 (record { agreed = copy; work = Nothing })
     unfolding call_fits
-    call_refused_of e = call_unfit (both_false (may_call program func depth args) _ _ (opens_not program copy deaths news view runs e))
+    call_refused_of e = call_unfit (both_false (may_call program func depth args) _ _ (opens_not program copy told e))
 
-    call_fit : call_fits program copy func depth args deaths news view runs ≡ true
-        → calling ≡ runs_on (cells_of_runs view) rest (rest_at program n (record { func = func; depth = depth; next = 0 })) (agreed_after program (told deaths news runs) copy)
+    call_fit : call_fits program copy func depth args told ≡ true
+        → calling ≡ runs_on (cells_of_runs told.view) rest (rest_at program n (record { func = func; depth = depth; next = 0 })) (agreed_after program told copy)
     unfolding deliver opened function
     call_fit e = rw e refl
 
-    pub call_runs : (s : Sight) → may_call program func depth args ≡ true → Some s ≡ opened_by program copy deaths news view runs
+    pub call_runs : (s : Sight) → may_call program func depth args ≡ true → Some s ≡ opened_by program copy told
         → calling ≡ runs_on s.view rest (rest_at program n (record { func = func; depth = depth; next = 0 })) s.copy
     unfolding call_fits
     call_runs s may e =
-        let o : Opens program copy deaths news view runs s = opens program copy deaths news view runs s e in
+        let o : Opens program copy told s = opens program copy told s e in
         call_fit (and_true _ _ (and_true _ _ may o.lives) o.cells)
-        ∙ runs_same (cells_of_runs view) s.view rest (rest_at program n (record { func = func; depth = depth; next = 0 })) (agreed_after program (told deaths news runs) copy) s.copy o.view_is o.copy_is
+        ∙ runs_same (cells_of_runs told.view) s.view rest (rest_at program n (record { func = func; depth = depth; next = 0 })) (agreed_after program told copy) s.copy o.view_is o.copy_is
 
   module _ (func : ℕ) (seen : List Cell) (next : Position) (rest : ℕ) (value : Wire) where
     abbrev coming_back : Delivered
-    coming_back = deliver program (suc n) (user_of program n (record { agreed = copy; work = AwaitsBack func seen next })) (Ok (message.Back rest value deaths news view runs))
+    coming_back = deliver program (suc n) (user_of program n (record { agreed = copy; work = AwaitsBack func seen next })) (Ok (message.Back rest value told))
 
-    back_unfit : back_fits program copy func value deaths news view runs ≡ false → coming_back ≡ refusal program n 3 (record { agreed = copy; work = AwaitsBack func seen next })
+    back_unfit : back_fits program copy func value told ≡ false → coming_back ≡ refusal program n 3 (record { agreed = copy; work = AwaitsBack func seen next })
     unfolding deliver opened
     back_unfit e = rw e refl
 
@@ -140,21 +140,21 @@ module _ (program : Program) (n : ℕ) (copy : Memory) (deaths : List ℕ) (news
     unfolding back_fits
     back_refused e = back_unfit (and_false_left (fits_result (result_type (func_at program func)) value) _ _ e)
 
-    pub back_refused_of : None ≡ opened_by program copy deaths news view runs → coming_back ≡ refusal program n 3 (record { agreed = copy; work = AwaitsBack func seen next })
+    pub back_refused_of : None ≡ opened_by program copy told → coming_back ≡ refusal program n 3 (record { agreed = copy; work = AwaitsBack func seen next })
     unfolding back_fits
-    back_refused_of e = back_unfit (both_false (fits_result (result_type (func_at program func)) value) _ _ (opens_not program copy deaths news view runs e))
+    back_refused_of e = back_unfit (both_false (fits_result (result_type (func_at program func)) value) _ _ (opens_not program copy told e))
 
-    back_fit : back_fits program copy func value deaths news view runs ≡ true → coming_back ≡ runs_on (cells_of_runs view) rest (rest_at program n next) (agreed_after program (told deaths news runs) copy)
+    back_fit : back_fits program copy func value told ≡ true → coming_back ≡ runs_on (cells_of_runs told.view) rest (rest_at program n next) (agreed_after program told copy)
     unfolding deliver opened
     back_fit e = rw e refl
 
-    pub back_runs : (s : Sight) → fits_result (result_type (func_at program func)) value ≡ true → Some s ≡ opened_by program copy deaths news view runs
+    pub back_runs : (s : Sight) → fits_result (result_type (func_at program func)) value ≡ true → Some s ≡ opened_by program copy told
         → coming_back ≡ runs_on s.view rest (rest_at program n next) s.copy
     unfolding back_fits
     back_runs s may e =
-        let o : Opens program copy deaths news view runs s = opens program copy deaths news view runs s e in
+        let o : Opens program copy told s = opens program copy told s e in
         back_fit (and_true _ _ (and_true _ _ may o.lives) o.cells)
-        ∙ runs_same (cells_of_runs view) s.view rest (rest_at program n next) (agreed_after program (told deaths news runs) copy) s.copy o.view_is o.copy_is
+        ∙ runs_same (cells_of_runs told.view) s.view rest (rest_at program n next) (agreed_after program told copy) s.copy o.view_is o.copy_is
 
 module _ (program : Program) (n : ℕ) (copy : Memory) (deaths : List ℕ) (news : List New) (asked : Asked) (seen : List Cell) (left : ℕ) (next : Position) (results : List Wire) where
   abbrev answering : Delivered
@@ -181,7 +181,7 @@ module _ (program : Program) (n : ℕ) (copy : Memory) (deaths : List ℕ) (news
 
   answer_fit : answer_fits program copy results deaths news ≡ true
       → answering ≡ runs_on (filter (still_live (renewed_copy program deaths news copy)) seen) left (rest_at program n next) (renewed_copy program deaths news copy)
-  unfolding deliver opened agreed_after put_runs values_of_runs put_all
+  unfolding deliver opened
   answer_fit e = rw e refl
 
   pub answer_runs : (left_copy : Memory) (view : List Cell) → is_empty results ≡ true → Some left_copy ≡ renewed program copy deaths news → view ≡ filter (still_live left_copy) seen
@@ -195,24 +195,24 @@ module _ (program : Program) (n : ℕ) (copy : Memory) (deaths : List ℕ) (news
 
 -- ---- kinds that aren't awaited now
 
-pub unawaited_call : (program : Program) (n : ℕ) (s : State) (func depth rest : ℕ) (args : List Wire) (deaths : List ℕ) (news : List New) (view : List SetRun) (runs : List Run) → (s.work ≡ Nothing → ⊥)
-    → deliver program (suc n) (user_of program n s) (Ok (message.Call func depth rest args deaths news view runs)) ≡ refusal program n 2 s
+pub unawaited_call : (program : Program) (n : ℕ) (s : State) (func depth rest : ℕ) (args : List Wire) (told : Told) → (s.work ≡ Nothing → ⊥)
+    → deliver program (suc n) (user_of program n s) (Ok (message.Call func depth rest args told)) ≡ refusal program n 2 s
 unfolding deliver opened
-unawaited_call program n s func depth rest args deaths news view runs other = of s.work other
+unawaited_call program n s func depth rest args told other = of s.work other
   where
-    of : (w : Work) → (w ≡ Nothing → ⊥) → deliver program (suc n) (user_of program n (record s { work = w })) (Ok (message.Call func depth rest args deaths news view runs)) ≡ refusal program n 2 (record s { work = w })
+    of : (w : Work) → (w ≡ Nothing → ⊥) → deliver program (suc n) (user_of program n (record s { work = w })) (Ok (message.Call func depth rest args told)) ≡ refusal program n 2 (record s { work = w })
     of Nothing h = absurd (h refl)
     of (AwaitsBack own seen next) h = refl
     of (AwaitsAnswer asked seen left next) h = refl
 
-pub unawaited_back : (program : Program) (n : ℕ) (s : State) (rest : ℕ) (value : Wire) (deaths : List ℕ) (news : List New) (view : List SetRun) (runs : List Run)
+pub unawaited_back : (program : Program) (n : ℕ) (s : State) (rest : ℕ) (value : Wire) (told : Told)
     → ((func : ℕ) (seen : List Cell) (next : Position) → s.work ≡ AwaitsBack func seen next → ⊥)
-    → deliver program (suc n) (user_of program n s) (Ok (message.Back rest value deaths news view runs)) ≡ refusal program n 2 s
+    → deliver program (suc n) (user_of program n s) (Ok (message.Back rest value told)) ≡ refusal program n 2 s
 unfolding deliver opened
-unawaited_back program n s rest value deaths news view runs other = of s.work other
+unawaited_back program n s rest value told other = of s.work other
   where
     of : (w : Work) → ((func : ℕ) (seen : List Cell) (next : Position) → w ≡ AwaitsBack func seen next → ⊥)
-        → deliver program (suc n) (user_of program n (record s { work = w })) (Ok (message.Back rest value deaths news view runs)) ≡ refusal program n 2 (record s { work = w })
+        → deliver program (suc n) (user_of program n (record s { work = w })) (Ok (message.Back rest value told)) ≡ refusal program n 2 (record s { work = w })
     of Nothing h = refl
     of (AwaitsBack own seen next) h = absurd (h own seen next refl)
     of (AwaitsAnswer asked seen left next) h = refl

@@ -1,19 +1,18 @@
 -- What opens, by its parts.
-use Rattle.std.proofs.Common.{◌≡◌, ℕ, Bool, true, false, ◌&&◌, List, [], Option, Some, None, is_none, not, nat_lt, nat_le, length, refl, sym, ◌∙◌, ap, subst, ltb-true}
+use Rattle.std.proofs.Common.{◌≡◌, ℕ, Bool, true, false, ◌&&◌, List, Option, Some, None, is_none, not, nat_lt, nat_le, length, refl, sym, ◌∙◌, ap, subst, ltb-true}
 use Rattle.std.proofs.lemmas.Bool.{leb-true}
 use Rattle.mdr_core.specs.declared.program.Program.{Program}
 use Rattle.mdr_model.specs.declared.message.New.{New}
-use Rattle.mdr_model.specs.declared.message.Run.{Run}
-use Rattle.mdr_model.specs.declared.message.SetRun.{SetRun}
+use Rattle.mdr_model.specs.declared.message.Told.{Told}
 use Rattle.mdr_model.specs.declared.wire.Wire.{Wire}
 use Rattle.mdr_model.specs.Memory.{Memory}
 use Rattle.mdr_model.specs.Meaning.{func_at, critical_of, is_kernel, is_user}
 use Rattle.mdr_model.proofs.HoldsLaws.{IsThere, get_inside}
 use Rattle.mdr_model.specs.Sets.{cells_of_runs}
-use Rattle.mdr_model.specs.Copies.{values_of_runs, put_all, put_runs, without, with_news, agreed_after}
+use Rattle.mdr_model.specs.Copies.{put_runs, without, agreed_after}
 use Rattle.mdr_model.specs.declared.message.Fault.{Fault}
 use Rattle.mdr_model.specs.Faults.{runs_fault}
-use Rattle.mdr_model.specs.User.{told, deaths_fit, view_fits, runs_fit, lives_fit, cells_fit, renewed_copy}
+use Rattle.mdr_model.specs.User.{deaths_fit, view_fits, runs_fit, lives_fit, cells_fit, renewed_copy}
 use Rattle.mdr_model.specs.Runnable.{IsRunnable}
 use Rattle.mdr_model.specs.Holds.{IsSoundMemory}
 use Rattle.mdr_model.proofs.Tests.{and_left, and_right}
@@ -35,18 +34,6 @@ no_fault : (f : Option Fault) → is_none f ≡ true → f ≡ None
 no_fault None e = refl
 no_fault (Some f) e = absurd (Prim.cc)
 
--- a message that tells of new blocks alone
-pub news_alone : (program : Program) (news : List New) (copy : Memory) (deaths : List ℕ) (runs : List Run) → deaths ≡ [] → runs ≡ []
-    → agreed_after program (record { deaths = deaths; news = news; runs = runs }) copy ≡ with_news program news copy
-unfolding agreed_after put_runs values_of_runs put_all without
-news_alone program news copy deaths runs d r = rw (d, r) refl
-
--- and of deaths alone
-pub deaths_alone : (program : Program) (deaths : List ℕ) (copy : Memory) (news : List New) (runs : List Run) → news ≡ [] → runs ≡ []
-    → agreed_after program (record { deaths = deaths; news = news; runs = runs }) copy ≡ without deaths copy
-unfolding agreed_after put_runs values_of_runs put_all with_news
-deaths_alone program deaths copy news runs n r = rw (n, r) refl
-
 -- ---- what fits
 
 pub record IsRenewed (program : Program) (copy : Memory) (deaths : List ℕ) (news : List New) (left : Memory) : Type 0 where
@@ -67,34 +54,40 @@ renewed_not program copy deaths news e = of (lives_fit program copy deaths news)
     of true t q = absurd (Prim.cc)
     of false t q = t
 
-pub record Opens (program : Program) (copy : Memory) (deaths : List ℕ) (news : List New) (view : List SetRun) (runs : List Run) (s : Sight) : Type 0 where
-  pub lives : lives_fit program copy deaths news ≡ true
-  pub cells : cells_fit program (renewed_copy program deaths news copy) view runs ≡ true
-  pub view_is : s.view ≡ cells_of_runs view
-  pub copy_is : s.copy ≡ agreed_after program (told deaths news runs) copy
+pub record Opens (program : Program) (copy : Memory) (told : Told) (s : Sight) : Type 0 where
+  pub lives : lives_fit program copy told.deaths told.news ≡ true
+  pub cells : cells_fit program (renewed_copy program told.deaths told.news copy) told.view told.runs ≡ true
+  pub view_is : s.view ≡ cells_of_runs told.view
+  pub copy_is : s.copy ≡ agreed_after program told copy
 
-pub opens : (program : Program) (copy : Memory) (deaths : List ℕ) (news : List New) (view : List SetRun) (runs : List Run) (s : Sight) → Some s ≡ opened_by program copy deaths news view runs → Opens program copy deaths news view runs s
+pub opens : (program : Program) (copy : Memory) (told : Told) (s : Sight) → Some s ≡ opened_by program copy told → Opens program copy told s
 unfolding agreed_after
-opens program copy deaths news view runs s e = of (lives_fit program copy deaths news) refl (cells_fit program (renewed_copy program deaths news copy) view runs) refl e
+opens program copy told s e = of (lives_fit program copy told.deaths told.news) refl (cells_fit program left told.view told.runs) refl e
   where
-    found : Sight
-    found = record { view = cells_of_runs view; copy = put_runs runs (renewed_copy program deaths news copy) }
+    left : Memory
+    left = renewed_copy program told.deaths told.news copy
 
-    of : (t : Bool) → lives_fit program copy deaths news ≡ t → (u : Bool) → cells_fit program (renewed_copy program deaths news copy) view runs ≡ u
-        → Some s ≡ and_then (only_if t (renewed_copy program deaths news copy)) (λ left. shown program left view runs) → Opens program copy deaths news view runs s
+    found : Sight
+    found = record { view = cells_of_runs told.view; copy = put_runs told.runs left }
+
+    of : (t : Bool) → lives_fit program copy told.deaths told.news ≡ t → (u : Bool) → cells_fit program left told.view told.runs ≡ u
+        → Some s ≡ and_then (only_if t left) (λ m. shown program m told) → Opens program copy told s
     of true t true u q =
         let same : s ≡ found = some_same s found (rw u at q) in
         record { lives = t; cells = u; view_is = ap (λ (x : Sight). x.view) same; copy_is = ap (λ (x : Sight). x.copy) same }
     of true t false u q = absurd (some_not s (rw u at q))
     of false t u' u q = absurd (some_not s q)
 
-pub opens_not : (program : Program) (copy : Memory) (deaths : List ℕ) (news : List New) (view : List SetRun) (runs : List Run) → None ≡ opened_by program copy deaths news view runs
-    → (lives_fit program copy deaths news && cells_fit program (renewed_copy program deaths news copy) view runs) ≡ false
-opens_not program copy deaths news view runs e = of (lives_fit program copy deaths news) refl (cells_fit program (renewed_copy program deaths news copy) view runs) refl e
+pub opens_not : (program : Program) (copy : Memory) (told : Told) → None ≡ opened_by program copy told
+    → (lives_fit program copy told.deaths told.news && cells_fit program (renewed_copy program told.deaths told.news copy) told.view told.runs) ≡ false
+opens_not program copy told e = of (lives_fit program copy told.deaths told.news) refl (cells_fit program left told.view told.runs) refl e
   where
-    of : (t : Bool) → lives_fit program copy deaths news ≡ t → (u : Bool) → cells_fit program (renewed_copy program deaths news copy) view runs ≡ u
-        → None ≡ and_then (only_if t (renewed_copy program deaths news copy)) (λ left. shown program left view runs)
-        → (lives_fit program copy deaths news && cells_fit program (renewed_copy program deaths news copy) view runs) ≡ false
+    left : Memory
+    left = renewed_copy program told.deaths told.news copy
+
+    of : (t : Bool) → lives_fit program copy told.deaths told.news ≡ t → (u : Bool) → cells_fit program left told.view told.runs ≡ u
+        → None ≡ and_then (only_if t left) (λ m. shown program m told)
+        → (lives_fit program copy told.deaths told.news && cells_fit program left told.view told.runs) ≡ false
     of true t true u q = absurd (none_not _ (rw u at q))
     of true t false u q = rw (t, u) refl
     of false t u' u q = rw t refl
@@ -110,26 +103,20 @@ renewed_is_sound program copy deaths news left e sound h =
     (without_is_sound program deaths copy sound h (and_left (deaths_fit program copy deaths) _ r.lives))
     (and_right (deaths_fit program copy deaths) _ r.lives))
 
-pub opens_sound : (program : Program) (copy : Memory) (deaths : List ℕ) (news : List New) (view : List SetRun) (runs : List Run) (s : Sight) → Some s ≡ opened_by program copy deaths news view runs
-    → IsRunnable program → IsSoundMemory program copy → IsSoundMemory program s.copy
+pub opens_sound : (program : Program) (copy : Memory) (told : Told) (s : Sight) → Some s ≡ opened_by program copy told → IsRunnable program → IsSoundMemory program copy → IsSoundMemory program s.copy
 unfolding agreed_after runs_fit
-opens_sound program copy deaths news view runs s e sound h =
-    let o : Opens program copy deaths news view runs s = opens program copy deaths news view runs s e in
-    let left : Memory = renewed_copy program deaths news copy in
+opens_sound program copy told s e sound h =
+    let o : Opens program copy told s = opens program copy told s e in
+    let left : Memory = renewed_copy program told.deaths told.news copy in
     subst (IsSoundMemory program) (sym o.copy_is)
-    (runs_are_sound program (cells_of_runs view) left left None 0 runs
-    (renewed_is_sound program copy deaths news left (rw o.lives refl) sound h)
-    (no_fault (runs_fault program (cells_of_runs view) left left None 0 runs) (and_right (view_fits program left view) _ o.cells)))
+    (runs_are_sound program (cells_of_runs told.view) left left None 0 told.runs
+    (renewed_is_sound program copy told.deaths told.news left (rw o.lives refl) sound h)
+    (no_fault (runs_fault program (cells_of_runs told.view) left left None 0 told.runs) (and_right (view_fits program left told.view) _ o.cells)))
 
--- ---- what was found, in a list that is the one that was given
+-- ---- what was found, in a copy that is the one that was given
 
-pub opened_at : (program : Program) (copy copy' : Memory) (deaths : List ℕ) (news : List New) (view view' : List SetRun) (runs runs' : List Run) (found x : Option Sight) → copy' ≡ copy → view' ≡ view → runs' ≡ runs
-    → found ≡ opened_by program copy' deaths news view' runs' → found ≡ x → x ≡ opened_by program copy deaths news view runs
-opened_at program copy copy' deaths news view view' runs runs' found x c v r e is =
-    sym is ∙ e
-    ∙ ap (λ (m : Memory). opened_by program m deaths news view' runs') c
-    ∙ ap (λ (w : List SetRun). opened_by program copy deaths news w runs') v
-    ∙ ap (λ (rs : List Run). opened_by program copy deaths news view rs) r
+pub opened_at : (program : Program) (copy copy' : Memory) (told : Told) (found x : Option Sight) → copy' ≡ copy → found ≡ opened_by program copy' told → found ≡ x → x ≡ opened_by program copy told
+opened_at program copy copy' told found x c e is = sym is ∙ e ∙ ap (λ (m : Memory). opened_by program m told) c
 
 pub renewed_at : (program : Program) (copy copy' : Memory) (deaths : List ℕ) (news : List New) (found x : Option Memory) → copy' ≡ copy → found ≡ renewed program copy' deaths news → found ≡ x → x ≡ renewed program copy deaths news
 renewed_at program copy copy' deaths news found x c e is = sym is ∙ e ∙ ap (λ (m : Memory). renewed program m deaths news) c

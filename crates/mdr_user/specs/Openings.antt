@@ -3,8 +3,7 @@ use Rattle.std.specs.Prelude.{ℕ, Bool, true, false, ◌&&◌, List, Option, So
 use Rattle.mdr_core.specs.declared.program.Program.{Program}
 use Rattle.mdr_model.specs.declared.wire.Wire.{Wire}
 use Rattle.mdr_model.specs.declared.message.New.{New}
-use Rattle.mdr_model.specs.declared.message.Run.{Run}
-use Rattle.mdr_model.specs.declared.message.SetRun.{SetRun}
+use Rattle.mdr_model.specs.declared.message.Told.{Told}
 use Rattle.mdr_model.specs.Memory.{Memory}
 use Rattle.mdr_model.specs.Sets.{cells_of_runs}
 use Rattle.mdr_model.specs.Meaning.{func_at, is_user}
@@ -26,12 +25,12 @@ abbrev pub renewed : Program → Memory → List ℕ → List New → Option Mem
 renewed program copy deaths news = only_if (lives_fit program copy deaths news) (renewed_copy program deaths news copy)
 
 -- the cells that may be touched, and the copy with the values that are told
-abbrev pub shown : Program → Memory → List SetRun → List Run → Option Sight
-shown program copy view runs = only_if (cells_fit program copy view runs) (record { view = cells_of_runs view; copy = put_runs runs copy })
+abbrev pub shown : Program → Memory → Told → Option Sight
+shown program copy told = only_if (cells_fit program copy told.view told.runs) (record { view = cells_of_runs told.view; copy = put_runs told.runs copy })
 
 -- both
-abbrev pub opened_by : Program → Memory → List ℕ → List New → List SetRun → List Run → Option Sight
-opened_by program copy deaths news view runs = and_then (renewed program copy deaths news) (λ left. shown program left view runs)
+abbrev pub opened_by : Program → Memory → Told → Option Sight
+opened_by program copy told = and_then (renewed program copy told.deaths told.news) (λ left. shown program left told)
 
 -- the function is one of the user half, at most 256 are active, and the arguments fit
 abbrev pub may_call : Program → ℕ → ℕ → List Wire → Bool

@@ -16,7 +16,7 @@ use crate::state::{Asked, Position, State, Work};
 use crate::walk::walk;
 use mdr_copy::copied;
 use mdr_core::{Items, OutOfMemory, Program};
-use mdr_model::{Cell, MemoryBlock, Message, New, Run, SetRun, Wire};
+use mdr_model::{Cell, MemoryBlock, Message, New, Told, Wire};
 use std::alloc::Global;
 
 /// A refusal changes nothing.
@@ -56,14 +56,11 @@ fn call(
     depth: u32,
     rest: u64,
     args: Items<Wire>,
-    deaths: Items<u64>,
-    news: Items<New>,
-    view: Items<SetRun>,
-    runs: Items<Run>,
+    told: Told,
 ) -> Result<(Message, State), OutOfMemory>
     requires program { IsRunnable program.now }
     requires copy { IsSoundMemory program.now agreed }
-    ensures reply { IfOk result (λ d. (n : ℕ) → deliver program.now (suc n) (user_of program.now n (record { agreed = agreed; work = Nothing })) (Ok (Call func depth rest args deaths news view runs)) ≡ delivered program.now n d) }
+    ensures reply { IfOk result (λ d. (n : ℕ) → deliver program.now (suc n) (user_of program.now n (record { agreed = agreed; work = Nothing })) (Ok (Call func depth rest args told)) ≡ delivered program.now n d) }
     ensures sound { IfOk result (λ d. IsSoundState program.now d.1) }
 {
     let work = Work::Nothing;
@@ -71,15 +68,7 @@ fn call(
         return Ok(refused(3, State { agreed, work }));
     }
     let copy = agreed.as_slice();
-    match opened_by(
-        alloc,
-        program,
-        copy,
-        deaths,
-        news,
-        view.as_slice(),
-        runs.as_slice(),
-    )? {
+    match opened_by(alloc, program, copy, &told)? {
         Some(sight) => {
             let here = Position {
                 func,
@@ -103,15 +92,12 @@ fn back(
     next: Position,
     rest: u64,
     value: Wire,
-    deaths: Items<u64>,
-    news: Items<New>,
-    view: Items<SetRun>,
-    runs: Items<Run>,
+    told: Told,
 ) -> Result<(Message, State), OutOfMemory>
     requires program { IsRunnable program.now }
     requires copy { IsSoundMemory program.now agreed }
     requires position { IsSoundPosition program.now next }
-    ensures reply { IfOk result (λ d. (n : ℕ) → deliver program.now (suc n) (user_of program.now n (record { agreed = agreed; work = AwaitsBack func seen next })) (Ok (Back rest value deaths news view runs)) ≡ delivered program.now n d) }
+    ensures reply { IfOk result (λ d. (n : ℕ) → deliver program.now (suc n) (user_of program.now n (record { agreed = agreed; work = AwaitsBack func seen next })) (Ok (Back rest value told)) ≡ delivered program.now n d) }
     ensures sound { IfOk result (λ d. IsSoundState program.now d.1) }
 {
     if !may_return(program, func, value) {
@@ -123,15 +109,7 @@ fn back(
         return Ok(refused(3, State { agreed, work }));
     }
     let copy = agreed.as_slice();
-    match opened_by(
-        alloc,
-        program,
-        copy,
-        deaths,
-        news,
-        view.as_slice(),
-        runs.as_slice(),
-    )? {
+    match opened_by(alloc, program, copy, &told)? {
         Some(sight) => {
             let (message, state) = run(alloc, program, next, rest, sight.view, sight.copy)?;
             Ok((message, state))
@@ -185,7 +163,7 @@ fn answer(
         };
         return Ok(refused(3, State { agreed, work }));
     }
-    match renewed(alloc, program, agreed.as_slice(), deaths, news)? {
+    match renewed(alloc, program, agreed.as_slice(), &deaths, &news)? {
         Some(copy) => {
             let view = still_live(alloc, copy.as_slice(), seen.as_slice())?;
             let (message, state) = run(alloc, program, next, left, view, copy)?;
@@ -212,22 +190,17 @@ fn on_call(
     depth: u32,
     rest: u64,
     args: Items<Wire>,
-    deaths: Items<u64>,
-    news: Items<New>,
-    view: Items<SetRun>,
-    runs: Items<Run>,
+    told: Told,
 ) -> Result<(Message, State), OutOfMemory>
     requires program { IsRunnable program.now }
     requires state { IsSoundState program.now state }
-    ensures reply { IfOk result (λ d. (n : ℕ) → deliver program.now (suc n) (user_of program.now n state) (Ok (Call func depth rest args deaths news view runs)) ≡ delivered program.now n d) }
+    ensures reply { IfOk result (λ d. (n : ℕ) → deliver program.now (suc n) (user_of program.now n state) (Ok (Call func depth rest args told)) ≡ delivered program.now n d) }
     ensures sound { IfOk result (λ d. IsSoundState program.now d.1) }
 {
     let State { agreed, work } = state;
     match work {
         Work::Nothing => {
-            let (message, state) = call(
-                alloc, program, agreed, func, depth, rest, args, deaths, news, view, runs,
-            )?;
+            let (message, state) = call(alloc, program, agreed, func, depth, rest, args, told)?;
             Ok((message, state))
         }
         other => Ok(refused(
@@ -247,14 +220,11 @@ fn on_back(
     state: State,
     rest: u64,
     value: Wire,
-    deaths: Items<u64>,
-    news: Items<New>,
-    view: Items<SetRun>,
-    runs: Items<Run>,
+    told: Told,
 ) -> Result<(Message, State), OutOfMemory>
     requires program { IsRunnable program.now }
     requires state { IsSoundState program.now state }
-    ensures reply { IfOk result (λ d. (n : ℕ) → deliver program.now (suc n) (user_of program.now n state) (Ok (Back rest value deaths news view runs)) ≡ delivered program.now n d) }
+    ensures reply { IfOk result (λ d. (n : ℕ) → deliver program.now (suc n) (user_of program.now n state) (Ok (Back rest value told)) ≡ delivered program.now n d) }
     ensures sound { IfOk result (λ d. IsSoundState program.now d.1) }
 {
     let State { agreed, work } = state;
@@ -265,7 +235,7 @@ fn on_back(
             next,
         } => {
             let (message, state) = back(
-                alloc, program, agreed, func, seen, next, rest, value, deaths, news, view, runs,
+                alloc, program, agreed, func, seen, next, rest, value, told,
             )?;
             Ok((message, state))
         }
@@ -335,21 +305,13 @@ pub(crate) fn deliver(
             depth,
             rest,
             args,
-            deaths,
-            news,
-            view,
-            runs,
-        } => on_call(
-            alloc, program, state, func, depth, rest, args, deaths, news, view, runs,
-        ),
+            told,
+        } => on_call(alloc, program, state, func, depth, rest, args, told),
         Message::Back {
             rest,
             result: value,
-            deaths,
-            news,
-            view,
-            runs,
-        } => on_back(alloc, program, state, rest, value, deaths, news, view, runs),
+            told,
+        } => on_back(alloc, program, state, rest, value, told),
         Message::Answer {
             results,
             deaths,

@@ -5,7 +5,6 @@ ghost use Rattle.mdr_model.specs.Values.{fits_result};
 ghost use Rattle.mdr_model.specs.Memory.{is_live};
 ghost use Rattle.mdr_model.specs.Meaning.{func_at, is_user};
 ghost use Rattle.mdr_model.specs.ReplyFaults.{result_type};
-ghost use Rattle.mdr_model.specs.Copies.{without, with_news};
 ghost use Rattle.mdr_model.specs.User.{still_live, runs_fit};
 ghost use Rattle.mdr_model.specs.Runnable.{IsRunnable};
 ghost use Rattle.mdr_model.specs.Holds.{IsSoundMemory};
@@ -13,11 +12,11 @@ ghost use Rattle.mdr_user.specs.Openings.{renewed, shown, opened_by, may_call};
 
 use crate::reply::told_copy;
 use mdr_copy::{
-    Telling, agreed_after, args_fault, cells_of_runs, copied, deaths_fit, fits_result, is_live,
-    news_fit, runs_fault, view_fits,
+    args_fault, cells_of_runs, copied, deaths_fit, fits_result, is_live, news_fit, runs_fault,
+    view_fits, with_news, without,
 };
 use mdr_core::{Items, OutOfMemory, Program, Ty};
-use mdr_model::{Cell, MemoryBlock, New, Run, SetRun, Wire};
+use mdr_model::{Cell, MemoryBlock, New, Run, Told, Wire};
 use std::alloc::Global;
 
 /// The cells that user code may touch from now on, and the agreed copy.
@@ -48,60 +47,27 @@ pub(crate) fn may_return(program: &Program, func: u32, value: Wire) -> bool
     }
 }
 
-fn without(
-    alloc: Global,
-    program: &Program,
-    deaths: Items<u64>,
-    copy: Items<MemoryBlock>,
-) -> Result<Items<MemoryBlock>, OutOfMemory>
-    ensures { IfOk result (λ left. left ≡ without deaths copy) }
-{
-    let telling = Telling {
-        deaths,
-        news: Items::new(alloc),
-        runs: Items::new(alloc),
-    };
-    let left = agreed_after(alloc, program, &telling, copy)?;
-    Ok(left)
-}
-
-fn with_news(
-    alloc: Global,
-    program: &Program,
-    news: Items<New>,
-    copy: Items<MemoryBlock>,
-) -> Result<Items<MemoryBlock>, OutOfMemory>
-    ensures { IfOk result (λ more. more ≡ with_news program.now news copy) }
-{
-    let telling = Telling {
-        deaths: Items::new(alloc),
-        news,
-        runs: Items::new(alloc),
-    };
-    let more = agreed_after(alloc, program, &telling, copy)?;
-    Ok(more)
-}
-
 /// The copy once the deaths and births of a message are in it, where they fit.
 #[tactic(auto, unfolding(mdr_model::specs::User::lives_fit))]
 pub(crate) fn renewed(
     alloc: Global,
     program: &Program,
     copy: &[MemoryBlock],
-    deaths: Items<u64>,
-    news: Items<New>,
+    deaths: &Items<u64>,
+    news: &Items<New>,
 ) -> Result<Option<Items<MemoryBlock>>, OutOfMemory>
-    ensures { IfOk result (λ left. left ≡ renewed program.now copy.now deaths news) }
+    ensures { IfOk result (λ left. left ≡ renewed program.now copy.now deaths.now news.now) }
 {
     if !deaths_fit(program, copy, deaths.as_slice()) {
         return Ok(None);
     }
-    let own = Items::from_vec(copied(alloc, copy)?);
-    let left = without(alloc, program, deaths, own)?;
+    let own = copied(alloc, copy)?;
+    let left = without(alloc, deaths.as_slice(), own)?;
     if !news_fit(program, left.as_slice(), news.as_slice()) {
         return Ok(None);
     }
-    Ok(Some(with_news(alloc, program, news, left)?))
+    let more = with_news(alloc, program, news.as_slice(), left)?;
+    Ok(Some(Items::from_vec(more)))
 }
 
 #[tactic(auto, unfolding(mdr_model::specs::User::runs_fit))]
@@ -116,11 +82,12 @@ fn shown(
     alloc: Global,
     program: &Program,
     copy: Items<MemoryBlock>,
-    view: &[SetRun],
-    runs: &[Run],
+    told: &Told,
 ) -> Result<Option<Sight>, OutOfMemory>
-    ensures { IfOk result (λ s. s ≡ shown program.now copy view.now runs.now) }
+    ensures { IfOk result (λ s. s ≡ shown program.now copy told.now) }
 {
+    let view = told.view.as_slice();
+    let runs = told.runs.as_slice();
     if !view_fits(program, copy.as_slice(), view) {
         return Ok(None);
     }
@@ -139,15 +106,12 @@ pub(crate) fn opened_by(
     alloc: Global,
     program: &Program,
     copy: &[MemoryBlock],
-    deaths: Items<u64>,
-    news: Items<New>,
-    view: &[SetRun],
-    runs: &[Run],
+    told: &Told,
 ) -> Result<Option<Sight>, OutOfMemory>
-    ensures { IfOk result (λ s. s ≡ opened_by program.now copy.now deaths news view.now runs.now) }
+    ensures { IfOk result (λ s. s ≡ opened_by program.now copy.now told.now) }
 {
-    match renewed(alloc, program, copy, deaths, news)? {
-        Some(left) => Ok(shown(alloc, program, left, view, runs)?),
+    match renewed(alloc, program, copy, &told.deaths, &told.news)? {
+        Some(left) => Ok(shown(alloc, program, left, told)?),
         None => Ok(None),
     }
 }

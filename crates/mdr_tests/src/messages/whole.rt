@@ -12,7 +12,7 @@ use std::test::Fail;
 const RUN: [(&str, &str); 8] = [
     (
         "00000001000000010000000000000000000f4240000000000000000000000000000000010000000000000000000000000000000100000000",
-        "Call { func: 1, depth: 0, rest: 1000000, args: Items { items: [] }, deaths: Items { items: [] }, news: Items { items: [] }, view: Items { items: [SetRun { serial: 0, first: 0, len: 1 }] }, runs: Items { items: [] } }",
+        "Call { func: 1, depth: 0, rest: 1000000, args: Items { items: [] }, told: Told { deaths: Items { items: [] }, news: Items { items: [] }, view: Items { items: [SetRun { serial: 0, first: 0, len: 1 }] }, runs: Items { items: [] } } }",
     ),
     (
         "000000030000000000000001000000010000000100000001000000000000000000000000",
@@ -20,7 +20,7 @@ const RUN: [(&str, &str); 8] = [
     ),
     (
         "0000000400000000000f423e0000000c0000000000000000000000010000000000000000000000000000000100000001000000000000000000000000000000010000000200000001",
-        "Back { rest: 999998, result: NoValue, deaths: Items { items: [] }, news: Items { items: [] }, view: Items { items: [SetRun { serial: 0, first: 0, len: 1 }] }, runs: Items { items: [Run { serial: 0, first: 0, values: Items { items: [Int(U32, 1)] } }] } }",
+        "Back { rest: 999998, result: NoValue, told: Told { deaths: Items { items: [] }, news: Items { items: [] }, view: Items { items: [SetRun { serial: 0, first: 0, len: 1 }] }, runs: Items { items: [Run { serial: 0, first: 0, values: Items { items: [Int(U32, 1)] } }] } } }",
     ),
     (
         "0000000500000000000000010000000100000002000000050000000200000002000000010000000200000004000000000000000000000000",
@@ -36,7 +36,7 @@ const RUN: [(&str, &str); 8] = [
     ),
     (
         "0000000400000000000f423b0000000c0000000000000000000000010000000000000000000000000000000100000001000000000000000000000000000000010000000200000002",
-        "Back { rest: 999995, result: NoValue, deaths: Items { items: [] }, news: Items { items: [] }, view: Items { items: [SetRun { serial: 0, first: 0, len: 1 }] }, runs: Items { items: [Run { serial: 0, first: 0, values: Items { items: [Int(U32, 2)] } }] } }",
+        "Back { rest: 999995, result: NoValue, told: Told { deaths: Items { items: [] }, news: Items { items: [] }, view: Items { items: [SetRun { serial: 0, first: 0, len: 1 }] }, runs: Items { items: [Run { serial: 0, first: 0, values: Items { items: [Int(U32, 2)] } }] } } }",
     ),
     (
         "0000000200000000000000000000000c00000000",

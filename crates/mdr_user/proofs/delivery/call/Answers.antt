@@ -7,15 +7,14 @@ use Rattle.mdr_user.proofs.delivery.call.Goals as goal
 
 pub returns-then-not-may_call-clause-reply : goal.returns-then-not-may_call-clause-reply
 returns-then-not-may_call-clause-reply c = λ n.
-    call_refused c.args.program.now n c.args.agreed c.args.deaths c.args.news c.args.view c.args.runs c.args.func c.args.depth c.args.rest c.args.args
+    call_refused c.args.program.now n c.args.agreed c.args.told c.args.func c.args.depth c.args.rest c.args.args
     (ap (may_call c.args.program.now c.args.func c.args.depth) (sym c.as_slice.ensures) ∙ sym c.may_call.ensures ∙ c.if-not-may_call.true)
     ∙ ap (delivered c.args.program.now n) (sym c.refused.ensures)
 
 pub run-requires-clause-copy : goal.run-requires-clause-copy
 run-requires-clause-copy c =
-    opens_sound c.args.program.now c.args.agreed c.args.deaths c.args.news c.args.view c.args.runs c.in-Some.sight
-    (opened_at c.args.program.now c.args.agreed c.as_slice-copy.result.now c.args.deaths c.args.news c.args.view c.as_slice-2.result.now c.args.runs c.as_slice-3.result.now c.in_ok-sight.field-0 (Some c.in-Some.sight) c.as_slice-copy.ensures c.as_slice-2.ensures c.as_slice-3.ensures
-    c.in_ok-sight.ensures c.in-Some.is)
+    opens_sound c.args.program.now c.args.agreed c.args.told c.in-Some.sight
+    (opened_at c.args.program.now c.args.agreed c.as_slice-copy.result.now c.args.told c.in_ok-sight.field-0 (Some c.in-Some.sight) c.as_slice-copy.ensures c.in_ok-sight.ensures c.in-Some.is)
     c.requires.program c.requires.copy
 
 pub run-requires-clause-position : goal.run-requires-clause-position
@@ -24,15 +23,13 @@ run-requires-clause-position c =
 
 pub returns-in_ok-message-in-Some-clause-reply : goal.returns-in_ok-message-in-Some-clause-reply
 returns-in_ok-message-in-Some-clause-reply c = λ n.
-    call_runs c.args.program.now n c.args.agreed c.args.deaths c.args.news c.args.view c.args.runs c.args.func c.args.depth c.args.rest c.args.args c.in-Some.sight
+    call_runs c.args.program.now n c.args.agreed c.args.told c.args.func c.args.depth c.args.rest c.args.args c.in-Some.sight
     (ap (may_call c.args.program.now c.args.func c.args.depth) (sym c.as_slice.ensures) ∙ sym c.may_call.ensures ∙ c.if-not-may_call.false)
-    (opened_at c.args.program.now c.args.agreed c.as_slice-copy.result.now c.args.deaths c.args.news c.args.view c.as_slice-2.result.now c.args.runs c.as_slice-3.result.now c.in_ok-sight.field-0 (Some c.in-Some.sight) c.as_slice-copy.ensures c.as_slice-2.ensures c.as_slice-3.ensures
-    c.in_ok-sight.ensures c.in-Some.is)
+    (opened_at c.args.program.now c.args.agreed c.as_slice-copy.result.now c.args.told c.in_ok-sight.field-0 (Some c.in-Some.sight) c.as_slice-copy.ensures c.in_ok-sight.ensures c.in-Some.is)
     ∙ c.in_ok-message-in-Some.ensures.reply n
 
 pub returns-in-None-clause-reply : goal.returns-in-None-clause-reply
 returns-in-None-clause-reply c = λ n.
-    call_refused_of c.args.program.now n c.args.agreed c.args.deaths c.args.news c.args.view c.args.runs c.args.func c.args.depth c.args.rest c.args.args
-    (opened_at c.args.program.now c.args.agreed c.as_slice-copy.result.now c.args.deaths c.args.news c.args.view c.as_slice-2.result.now c.args.runs c.as_slice-3.result.now c.in_ok-sight.field-0 None c.as_slice-copy.ensures c.as_slice-2.ensures c.as_slice-3.ensures
-    c.in_ok-sight.ensures c.in-None.is)
+    call_refused_of c.args.program.now n c.args.agreed c.args.told c.args.func c.args.depth c.args.rest c.args.args
+    (opened_at c.args.program.now c.args.agreed c.as_slice-copy.result.now c.args.told c.in_ok-sight.field-0 None c.as_slice-copy.ensures c.in_ok-sight.ensures c.in-None.is)
     ∙ ap (delivered c.args.program.now n) (sym c.refused-in-None.ensures)

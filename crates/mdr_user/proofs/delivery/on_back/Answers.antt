@@ -8,7 +8,7 @@ use Rattle.mdr_user.proofs.delivery.on_back.Goals as goal
 pub returns-in_default : goal.returns-in_default
 returns-in_default c = record {
   reply = λ n.
-      unawaited_back c.args.program.now n c.args.state c.args.rest c.args.value c.args.deaths c.args.news c.args.view c.args.runs c.in_default.not-AwaitsBack
+      unawaited_back c.args.program.now n c.args.state c.args.rest c.args.value c.args.told c.in_default.not-AwaitsBack
       ∙ ap (delivered c.args.program.now n) (sym c.refused.ensures);
   sound =
       subst (λ (d : Message × State). IsSoundState c.args.program.now d.1) (sym c.refused.ensures) c.requires.state;
