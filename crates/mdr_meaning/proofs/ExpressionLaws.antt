@@ -14,7 +14,7 @@ use Rattle.mdr_core.specs.declared.code.BinOp.TheVariants.{Add, Sub, Mul, Div, R
 use Rattle.mdr_core.specs.Code.{Term, Lvalue}
 use Rattle.mdr_core.specs.Conversions.{converted}
 use Rattle.mdr_core.specs.Kinds.{is_in_range}
-use Rattle.mdr_core.specs.Layout.{fields_of, fields_or}
+use Rattle.mdr_core.specs.Layout.{chosen, fields_of, fields_or}
 use Rattle.mdr_core.specs.Operators.{operated, negated, flipped, is_right_operand}
 use Rattle.mdr_core.specs.Sound.{IsSound}
 use Rattle.mdr_core.specs.Types.{HasNumber}
@@ -32,7 +32,7 @@ use Rattle.mdr_meaning.specs.Pointers.{cast, difference, global, member, moved, 
 use Rattle.mdr_meaning.specs.Sides.{Side}
 use Rattle.mdr_meaning.specs.Slots.{slot_fits, SlotsFit, elements}
 use Rattle.mdr_meaning.specs.Tree.{Tree}
-use Rattle.mdr_meaning.specs.Values.{at_kind, integer, is_true, pick, truth, wire_of}
+use Rattle.mdr_meaning.specs.Values.{at_kind, integer, is_true, truth, wire_of}
 use Rattle.mdr_meaning.proofs.FitLaws.{to_integer, of_integer, to_pointer, of_pointer, to_address, of_address, pointer_address, pointer_known, literal_fits, truth_fits, result_fits, related_fits, difference_fits, cast_fits}
 use Rattle.mdr_meaning.proofs.NumberLaws.{numbered_in}
 use Rattle.mdr_meaning.proofs.PointerLaws.{Yields, global_fits, member_fits, moved_fits}
@@ -99,7 +99,7 @@ module _ (program : Program) (sound : IsSound program) (side : Side) (result : T
   gives_fair : (P : Wire → Type 0) (v : Wire) → P v → Gives P (gives v)
   gives_fair P v p = record { by = λ k g. g.by v p }
 
-  pick_fair : (P : Wire → Type 0) (b : Bool) (f g : (Wire → Tree) → Tree) → Gives P f → Gives P g → Gives P (pick b f g)
+  pick_fair : (P : Wire → Type 0) (b : Bool) (f g : (Wire → Tree) → Tree) → Gives P f → Gives P g → Gives P (chosen b f g)
   pick_fair P true f g a b = a
   pick_fair P false f g a b = b
 
@@ -190,15 +190,15 @@ module _ (program : Program) (sound : IsSound program) (side : Side) (result : T
           (tested _ _ (value (known_of program) at held b) (λ y. related (known_of program).program op x y) (λ y right. related_fits program K (known_of program).program op x y) (value_fair b h.type h.right))))
       value_fair (Term.And a b) t h =
           at_type _ t _ h.is
-          (and_then (Fits program K h.left.type) (Fits program K (ty.Int S32)) (value (known_of program) at held a) (λ x k'. pick (is_true x) (value (known_of program) at held b) (gives (truth false)) (λ y. k' (truth (is_true y))))
+          (and_then (Fits program K h.left.type) (Fits program K (ty.Int S32)) (value (known_of program) at held a) (λ x k'. chosen (is_true x) (value (known_of program) at held b) (gives (truth false)) (λ y. k' (truth (is_true y))))
           (value_fair a h.left.type h.left.operand)
-          (λ x left. made (λ v. Unit {0}) _ (pick (is_true x) (value (known_of program) at held b) (gives (truth false))) (λ y. truth (is_true y)) (λ y q. bool_fits (is_true y))
+          (λ x left. made (λ v. Unit {0}) _ (chosen (is_true x) (value (known_of program) at held b) (gives (truth false))) (λ y. truth (is_true y)) (λ y q. bool_fits (is_true y))
           (pick_fair (λ v. Unit {0}) (is_true x) (value (known_of program) at held b) (gives (truth false)) (weaker _ _ _ (λ v q. tt) (value_fair b h.right.type h.right.operand)) (gives_fair (λ v. Unit {0}) (truth false) tt))))
       value_fair (Term.Or a b) t h =
           at_type _ t _ h.is
-          (and_then (Fits program K h.left.type) (Fits program K (ty.Int S32)) (value (known_of program) at held a) (λ x k'. pick (is_true x) (gives (truth true)) (value (known_of program) at held b) (λ y. k' (truth (is_true y))))
+          (and_then (Fits program K h.left.type) (Fits program K (ty.Int S32)) (value (known_of program) at held a) (λ x k'. chosen (is_true x) (gives (truth true)) (value (known_of program) at held b) (λ y. k' (truth (is_true y))))
           (value_fair a h.left.type h.left.operand)
-          (λ x left. made (λ v. Unit {0}) _ (pick (is_true x) (gives (truth true)) (value (known_of program) at held b)) (λ y. truth (is_true y)) (λ y q. bool_fits (is_true y))
+          (λ x left. made (λ v. Unit {0}) _ (chosen (is_true x) (gives (truth true)) (value (known_of program) at held b)) (λ y. truth (is_true y)) (λ y q. bool_fits (is_true y))
           (pick_fair (λ v. Unit {0}) (is_true x) (gives (truth true)) (value (known_of program) at held b) (gives_fair (λ v. Unit {0}) (truth true) tt) (weaker _ _ _ (λ v q. tt) (value_fair b h.right.type h.right.operand)))))
       value_fair (Term.Conv k e) t h =
           at_type _ t _ h.is (made _ _ (value (known_of program) at held e) (λ x. wire.Int k (converted k (integer x))) (λ v q. of_integer program K k _ (refl, converted-in_range k (integer v))) (value_fair e (ty.Int h.from) h.operand))

@@ -10,7 +10,7 @@ use Rattle.mdr_core.specs.declared.value.View.{View}
 use Rattle.mdr_core.specs.declared.program.Program.{Program}
 use Rattle.mdr_core.specs.declared.program.Field.{Field}
 use Rattle.mdr_core.specs.declared.program.GlobalDef.{GlobalDef}
-use Rattle.mdr_core.specs.Layout.{Alone, cells, cells_at, cells_or, fields_of, field_start, leaves, leaves_below, repeated, struct_by, struct_cells, struct_of}
+use Rattle.mdr_core.specs.Layout.{chosen, Alone, cells, cells_at, cells_or, fields_of, field_start, leaves, leaves_below, repeated, struct_by, struct_cells, struct_of}
 use Rattle.mdr_core.specs.Sound.{IsSound}
 use Rattle.mdr_core.specs.Views.{IsIn, Whole, Element, Inside}
 use Rattle.mdr_core.proofs.Laid.{laid_out, type_has_cells}
@@ -24,7 +24,7 @@ use Rattle.mdr_meaning.specs.Fair.{is_code_stop}
 use Rattle.mdr_meaning.specs.Fit.{Knowledge, KnowsGlobals, IsKnownView, PointsTo, view_of}
 use Rattle.mdr_meaning.specs.Numbers.{number_in}
 use Rattle.mdr_meaning.specs.Pointers.{at_index, global, global_by, field_in, field_view, indexed, member, moved, size, struct_numbered, struct_by as struct_named}
-use Rattle.mdr_meaning.specs.Values.{checked, pick}
+use Rattle.mdr_meaning.specs.Values.{checked}
 
 -- ---- parts of a block
 
@@ -158,7 +158,7 @@ module _ (program : Program) (sound : IsSound program) where
     named : struct_numbered program p.ty ≡ Some s
     named = ap struct_named h.0 ∙ ap struct_by (outs-Struct s)
 
-    by_range : (b : Bool) → nat_lt p.index p.count ≡ b → Yields (PointsTo program K x.ty) (pick b (field_in (known_of program) p (struct_numbered program p.ty) f) (Err stop.Bounds))
+    by_range : (b : Bool) → nat_lt p.index p.count ≡ b → Yields (PointsTo program K x.ty) (chosen b (field_in (known_of program) p (struct_numbered program p.ty) f) (Err stop.Bounds))
     by_range true q = rw (named, field) (known_field K p s f x h.0 field number (ltb-true _ _ q) h.1)
     by_range false q = refl
   member_fits K (wire.Int _ _) s f x field number h = elim h [ ]
