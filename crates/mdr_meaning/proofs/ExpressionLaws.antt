@@ -62,11 +62,11 @@ field_numbered program sound s f x e = by_struct (slice_get program.structs s) r
   by_struct None q e = absurd cc
   by_struct (Some def) q e = ((sound.structs s def q).fields f x e).in_table
 
-elements_extent : (b : Bool) (t : Ty) (n : ℕ) → elements (extent b t n) ≡ t
+pub elements_extent : (b : Bool) (t : Ty) (n : ℕ) → elements (extent b t n) ≡ t
 elements_extent true t n = refl
 elements_extent false t n = refl
 
-named_slot : (b : Bool) (t u : Ty) (n : ℕ) → One t ≡ extent b u n → u ≡ t
+pub named_slot : (b : Bool) (t u : Ty) (n : ℕ) → One t ≡ extent b u n → u ≡ t
 named_slot true t u n e = absurd cc
 named_slot false t u n e = cc
 
@@ -90,13 +90,13 @@ module _ (program : Program) (sound : IsSound program) (side : Side) (result : T
   made : (P Q : Wire → Type 0) (f : (Wire → Tree) → Tree) (m : Wire → Wire) → ((v : Wire) → P v → Q (m v)) → Gives P f → Gives Q (λ k. f (λ x. k (m x)))
   made P Q f m w h = record { by = λ k g. h.by (λ x. k (m x)) (record { by = λ v p. g.by (m v) (w v p) }) }
 
-  tested : (P Q : Wire → Type 0) (f : (Wire → Tree) → Tree) (m : Wire → Result Wire StopKind) → ((v : Wire) → P v → Yields Q (m v)) → Gives P f → Gives Q (λ k. f (λ x. given at (m x) k))
+  pub tested : (P Q : Wire → Type 0) (f : (Wire → Tree) → Tree) (m : Wire → Result Wire StopKind) → ((v : Wire) → P v → Yields Q (m v)) → Gives P f → Gives Q (λ k. f (λ x. given at (m x) k))
   tested P Q f m w h = record { by = λ k g. h.by (λ x. given at (m x) k) (record { by = λ v p. given_fair Q (m v) k (w v p) g }) }
 
-  and_then : (P Q : Wire → Type 0) (f : (Wire → Tree) → Tree) (m : Wire → (Wire → Tree) → Tree) → Gives P f → ((v : Wire) → P v → Gives Q (m v)) → Gives Q (λ k. f (λ x. m x k))
+  pub and_then : (P Q : Wire → Type 0) (f : (Wire → Tree) → Tree) (m : Wire → (Wire → Tree) → Tree) → Gives P f → ((v : Wire) → P v → Gives Q (m v)) → Gives Q (λ k. f (λ x. m x k))
   and_then P Q f m h w = record { by = λ k g. h.by (λ x. m x k) (record { by = λ v p. (w v p).by k g }) }
 
-  gives_fair : (P : Wire → Type 0) (v : Wire) → P v → Gives P (gives v)
+  pub gives_fair : (P : Wire → Type 0) (v : Wire) → P v → Gives P (gives v)
   gives_fair P v p = record { by = λ k g. g.by v p }
 
   pick_fair : (P : Wire → Type 0) (b : Bool) (f g : (Wire → Tree) → Tree) → Gives P f → Gives P g → Gives P (chosen b f g)

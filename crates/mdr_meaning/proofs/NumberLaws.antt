@@ -9,7 +9,7 @@ use Rattle.mdr_core.specs.Kinds.{is_same_kind}
 use Rattle.mdr_core.specs.Layout.{chosen}
 use Rattle.mdr_meaning.specs.Numbers.{all_same, same_layers, is_same_type, number_in, ProgramsAreNumbered}
 
-left_of : (x y : Bool) → (x && y) ≡ true → x ≡ true
+pub left_of : (x y : Bool) → (x && y) ≡ true → x ≡ true
 left_of true y h = refl
 left_of false y h = h
 

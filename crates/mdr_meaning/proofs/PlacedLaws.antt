@@ -117,6 +117,13 @@ function_goes : (v : Wire) → Goes (function_of v)
 function_goes (wire.Fn f) = tt
 function_goes v = refl
 
+own : (n : ℕ) → (n == n) ≡ true
+own n = eq-eqb n n refl
+
+-- the statement's own number, before those of its parts
+pub own_first : (n : ℕ) (b : Bool) → (n == n || b) ≡ true
+own_first n b = or_left (n == n) b (own n)
+
 module _ (side : Side) where
   -- ---- evaluations, at a place of the side
 
@@ -271,28 +278,28 @@ module _ (side : Side) where
 
   -- ---- in a function of the side
 
-  record IsHere (here : Here) : Type 0 where
-    whole : IsPlace side (in_here here 0)
-    some : 1 ≤ here.depth
-    limited : here.depth ≤ 256
+  pub record IsHere (here : Here) : Type 0 where
+    pub whole : IsPlace side (in_here here 0)
+    pub some : 1 ≤ here.depth
+    pub limited : here.depth ≤ 256
 
-  record Inside (here : Here) (cs : Codes) : Type 0 where
-    each : (n : ℕ) → stands n cs ≡ true → IsPlace side (in_here here n)
+  pub record Inside (here : Here) (cs : Codes) : Type 0 where
+    pub each : (n : ℕ) → stands n cs ≡ true → IsPlace side (in_here here n)
 
-  record InsideCode (here : Here) (c : Code) : Type 0 where
-    each : (n : ℕ) → stands_in n c ≡ true → IsPlace side (in_here here n)
+  pub record InsideCode (here : Here) (c : Code) : Type 0 where
+    pub each : (n : ℕ) → stands_in n c ≡ true → IsPlace side (in_here here n)
 
-  first_inside : (here : Here) (c : Code) (cs : Codes) → Inside here (Codes.Then c cs) → InsideCode here c
+  pub first_inside : (here : Here) (c : Code) (cs : Codes) → Inside here (Codes.Then c cs) → InsideCode here c
   first_inside here c cs h = record { each = λ n e. h.each n (or_left (stands_in n c) (stands n cs) e) }
 
-  rest_inside : (here : Here) (c : Code) (cs : Codes) → Inside here (Codes.Then c cs) → Inside here cs
+  pub rest_inside : (here : Here) (c : Code) (cs : Codes) → Inside here (Codes.Then c cs) → Inside here cs
   rest_inside here c cs h = record { each = λ n e. h.each n (or_right (stands_in n c) (stands n cs) e) }
 
   or_none : (b : Bool) → (b || false) ≡ true → b ≡ true
   or_none true h = refl
   or_none false h = h
 
-  only_inside : (here : Here) (c : Code) → InsideCode here c → Inside here (Codes.Then c Codes.End)
+  pub only_inside : (here : Here) (c : Code) → InsideCode here c → Inside here (Codes.Then c Codes.End)
   only_inside here c h = record { each = λ n e. h.each n (or_none (stands_in n c) e) }
 
   births_placed : (here : Here) → IsPlace side (in_here here 0) → (shapes : List Shape64) (k : List Wire → Tree) → ((ps : List Wire) → Placed side (k ps)) → Placed side (births side here shapes k)
@@ -378,13 +385,6 @@ module _ (side : Side) where
     returns_placed : (at : At) → IsPlace side at → (e : Option Term) (l : Locals) (k : Next) → NextPlaced k → Placed side (returns side low here at e l k)
     returns_placed at w None l k n = n.by (Returns wire.NoValue) l
     returns_placed at w (Some e) l k n = (keeps_value at w side.known l.slots e).by _ (λ v. n.by (Returns v) l)
-
-    own : (n : ℕ) → (n == n) ≡ true
-    own n = eq-eqb n n refl
-
-    -- the statement's own number, before those of its parts
-    own_first : (n : ℕ) (b : Bool) → (n == n || b) ≡ true
-    own_first n b = or_left (n == n) b (own n)
 
     mutual
       stmt_placed : (code : Code) → InsideCode here code → GoPlaced (stmt side low here code)

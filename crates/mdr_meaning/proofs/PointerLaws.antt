@@ -166,6 +166,23 @@ module _ (program : Program) (sound : IsSound program) where
   member_fits K (wire.Lock _) s f x field number h = elim h [ ]
   member_fits K wire.NoValue s f x field number h = elim h [ ]
 
+  -- another element of what is viewed, or the place behind it
+  pub at_index_fits : (K : Knowledge) (t : Ty) (p : WireView) (i : ℕ) → slice_get program.types p.ty ≡ Some t → IsKnownView program K p → i ≤ p.count → PointsTo program K t (wire.Ptr (at_index p i))
+  at_index_fits K t p i e h inside = (
+    e,
+    record {
+      shape = h.shape;
+      known = h.known;
+      view = record {
+        ty = h.view.ty;
+        names = h.view.names;
+        part = part_moved program (view_of p) _ 0 h.view.ty h.shape.count refl refl refl h.view.part;
+        inside = inside;
+      };
+      small = h.small;
+    },
+  )
+
   -- 6.5.6
   indexed_fits : (K : Knowledge) (t : Ty) (p : WireView) (i : ℤ) → slice_get program.types p.ty ≡ Some t → IsKnownView program K p → Yields (PointsTo program K t) (indexed p i)
   indexed_fits K t p i e h = by_range (not (int_lt i (pos 0)) && not (int_lt (pos p.count) i)) refl where
@@ -174,20 +191,7 @@ module _ (program : Program) (sound : IsSound program) where
     inside (negsuc n) q = let low : pos 0 ≤ℤ negsuc n = at_least (negsuc n) (pos 0) (pos p.count) q in absurd (omega (arith, ints))
 
     by_range : (b : Bool) → (not (int_lt i (pos 0)) && not (int_lt (pos p.count) i)) ≡ b → Yields (PointsTo program K t) (checked b stop.Bounds (wire.Ptr (at_index p (unsigned_abs i))))
-    by_range true q = (
-      e,
-      record {
-        shape = h.shape;
-        known = h.known;
-        view = record {
-          ty = h.view.ty;
-          names = h.view.names;
-          part = part_moved program (view_of p) _ 0 h.view.ty h.shape.count refl refl refl h.view.part;
-          inside = inside i q;
-        };
-        small = h.small;
-      },
-    )
+    by_range true q = at_index_fits K t p (unsigned_abs i) e h (inside i q)
     by_range false q = refl
 
   pub moved_fits : (K : Knowledge) (t : Ty) (v : Wire) (n : ℤ) → PointsTo program K t v → Yields (PointsTo program K t) (moved v n)

@@ -93,12 +93,17 @@ abbrev pub AreShapes : Program → List Shape64 → Type 0
 AreShapes program [] = Unit {0}
 AreShapes program (s ∷ shapes) = ((ty : Ty) × (slice_get program.types s.ty ≡ Some ty)) × AreShapes program shapes
 
--- a pointer for each object, to elements of its type
+-- a pointer stands at the first of so many elements
+abbrev pub Begins : (count : ℕ) → Wire → Type 0
+Begins count (wire.Ptr p) = (p.index ≡ 0) × (p.count ≡ count)
+Begins count _ = Unit {0}
+
+-- a pointer for each object, to the first of its elements
 abbrev pub AreBorn : Program → Knowledge → List Shape64 → List Wire → Type 0
 AreBorn program K [] [] = Unit {0}
 AreBorn program K [] (p ∷ ps) = ⊥
 AreBorn program K (s ∷ shapes) [] = ⊥
-AreBorn program K (s ∷ shapes) (p ∷ ps) = IsDataPointer program K (λ n. n ≡ s.ty) p × AreBorn program K shapes ps
+AreBorn program K (s ∷ shapes) (p ∷ ps) = IsDataPointer program K (λ n. n ≡ s.ty) p × Begins s.count p × AreBorn program K shapes ps
 
 abbrev pub is_first_type : List Shape64 → ℕ → Type 0
 is_first_type [] n = ⊥

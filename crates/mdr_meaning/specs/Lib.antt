@@ -21,6 +21,7 @@ pub mod Fair
 pub mod Placed
 pub mod Slots
 pub mod FairExpressions
+pub mod FairTrees
 pub mod Small
 pub mod Worked
 pub mod WorkedStops

@@ -2,6 +2,7 @@
 
 ghost use Rattle.mdr_meaning.specs.Cut.{CutIsAlike, CutsCut};
 ghost use Rattle.mdr_meaning.specs.FairExpressions.{ExpressionsAreFair, LvaluesAreFair};
+ghost use Rattle.mdr_meaning.specs.FairTrees.{SidesAreOfPrograms, TreesAreFair};
 ghost use Rattle.mdr_meaning.specs.Few.{QuestionsAreFew};
 ghost use Rattle.mdr_meaning.specs.Fuel.{FuelIsNoMatter, StartedFuelIsNoMatter, UserTreesAreEqual};
 ghost use Rattle.mdr_meaning.specs.Numbers.{ProgramsAreNumbered};
@@ -57,4 +58,12 @@ pub fn expressions_are_fair()
 /// code, sound or not.
 pub fn trees_are_placed()
     ensures { TreesArePlaced }
+{}
+
+/// The tree of a sound program's function, started with arguments that fit, names nothing unknown and passes on values
+/// that fit, whatever fitting values it is answered with; and it ends with a value of the function's result or with a
+/// stop that code comes to. This holds on each side of a program.
+pub fn trees_are_fair()
+    ensures fair { TreesAreFair }
+    ensures sides { SidesAreOfPrograms }
 {}
