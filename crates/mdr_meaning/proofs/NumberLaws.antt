@@ -20,7 +20,7 @@ right_of false y h = absurd cc
 some_same : {A : Type 0} {x y : A} → Some x ≡ Some y → x ≡ y
 some_same e = cc
 
-not_both : {b : Bool} → b ≡ true → b ≡ false → ⊥
+pub not_both : {b : Bool} → b ≡ true → b ≡ false → ⊥
 not_both p q = cc
 
 kinds_exact : (k l : Kind) → is_same_kind k l ≡ true → k ≡ l

@@ -28,7 +28,7 @@ use Rattle.mdr_meaning.specs.Sides.{framed, undeclared}
 use Rattle.mdr_meaning.specs.Slots.{slot_fits}
 use Rattle.mdr_meaning.specs.Values.{wire_of}
 use Rattle.mdr_meaning.proofs.GrowthLaws.{data_weaker, slot_grows}
-use Rattle.mdr_meaning.proofs.NumberLaws.{left_of, numbered_in}
+use Rattle.mdr_meaning.proofs.NumberLaws.{left_of, not_both, numbered_in}
 
 -- ---- one slot is set
 
@@ -82,9 +82,6 @@ scalar_by n (Ty-F.Struct s) h = by_count (nat_lt s n) h where
 
 scalar_is : (n : ℕ) (t : Ty) → sort_of n t ≡ Scalar → IsTrue (is_scalar t)
 scalar_is n t h = scalar_by n (out-Ty t) (sym (sort_is n t) ∙ h)
-
-not_both : {b : Bool} → b ≡ true → b ≡ false → ⊥
-not_both p q = cc
 
 module _ (program : Program) where
   param_slot : (siblings : List Sibling) (p : Param) → IsSoundParam program siblings p → IsSoundSlot program (slot_of_param p)
