@@ -70,15 +70,15 @@ pub named_slot : (b : Bool) (t u : Ty) (n : ℕ) → One t ≡ extent b u n → 
 named_slot true t u n e = absurd cc
 named_slot false t u n e = cc
 
-module _ (program : Program) (sound : IsSound program) (side : Side) (result : Ty) (K : Knowledge) (globals : KnowsGlobals program K) (at : At) (here : IsPlace side at) where
+module _ (program : Program) (sound : IsSound program) (side : Side) (result : Ty) (K : Knowledge) (live : List Wire) (globals : KnowsGlobals program K) (at : At) (here : IsPlace side at) where
   -- what goes on with a value that has P is fair
   pub record Goes (P : Wire → Type 0) (k : Wire → Tree) : Type 0 where
-    pub by : (v : Wire) → P v → Fair program side result K (k v)
+    pub by : (v : Wire) → P v → Fair program side result K live (k v)
 
   pub record Gives (P : Wire → Type 0) (f : (Wire → Tree) → Tree) : Type 0 where
-    pub by : (k : Wire → Tree) → Goes P k → Fair program side result K (f k)
+    pub by : (k : Wire → Tree) → Goes P k → Fair program side result K live (f k)
 
-  pub given_fair : (P : Wire → Type 0) (r : Result Wire StopKind) (k : Wire → Tree) → Yields P r → Goes P k → Fair program side result K (given at r k)
+  pub given_fair : (P : Wire → Type 0) (r : Result Wire StopKind) (k : Wire → Tree) → Yields P r → Goes P k → Fair program side result K live (given at r k)
   given_fair P (Ok v) k h g = g.by v h
   given_fair P (Err kind) k h g = (here, h)
 
@@ -242,9 +242,9 @@ module _ (program : Program) (sound : IsSound program) (side : Side) (result : T
           (λ a points. tested _ _ (value (known_of program) at held e) (λ n. moved a (integer n)) (λ n q. moved_fits program sound K h.type a (integer n) points) (value_fair e (ty.Int h.kind) h.index)))
 
 pub expressions_are_fair : ExpressionsAreFair
-expressions_are_fair program side result K at slots held h e t typed k goes =
-    (value_fair program h.sound side result K h.globals at h.here slots held h.fit e t typed).by k (record { by = goes })
+expressions_are_fair program side result K live at slots held h e t typed k goes =
+    (value_fair program h.sound side result K live h.globals at h.here slots held h.fit e t typed).by k (record { by = goes })
 
 pub lvalues_are_fair : LvaluesAreFair
-lvalues_are_fair program side result K at slots held h p x typed k goes =
-    (place_fair program h.sound side result K h.globals at h.here slots held h.fit p x typed).by k (record { by = goes })
+lvalues_are_fair program side result K live at slots held h p x typed k goes =
+    (place_fair program h.sound side result K live h.globals at h.here slots held h.fit p x typed).by k (record { by = goes })

@@ -1,5 +1,5 @@
 -- Slots of functions: what they hold when a function is entered, and what is put into them.
-use Rattle.std.proofs.Common.{◌≡◌, ℕ, zero, suc, ◌+◌, ◌-◌, ◌<◌, ◌≤◌, ◌⊎◌, inl, inr, Bool, true, false, not, ◌&&◌, nat_lt, List, [], ◌∷◌, ◌++◌, map, Some, None, slice_get, slice_set, IsTrue, pos, refl, sym, ap, ◌∙◌, subst, ltb-true, ltb-false, arith}
+use Rattle.std.proofs.Common.{◌≡◌, ℕ, zero, suc, ◌+◌, ◌-◌, ◌*◌, ◌<◌, ◌≤◌, ◌⊎◌, inl, inr, Bool, true, false, not, ◌&&◌, nat_lt, List, [], ◌∷◌, ◌++◌, length, map, Some, None, slice_get, slice_set, IsTrue, pos, refl, sym, ap, ◌∙◌, subst, ltb-true, ltb-false, arith}
 use Rattle.mdr_core.specs.declared.types.Ty.{Ty, out-Ty}
 use Rattle.mdr_core.specs.declared.types.Ty.TheOpen.{Ty-F}
 use Rattle.mdr_core.specs.declared.types.Ty.TheFolds.{map-Ty}
@@ -10,17 +10,20 @@ use Rattle.mdr_core.specs.declared.program.Param.{Param}
 use Rattle.mdr_core.specs.declared.kind.Kind.{Kind}
 use Rattle.mdr_core.specs.declared.kind.Kind.TheVariants.{U8, U16, U32, U64, S8, S16, S32, S64}
 use Rattle.mdr_core.specs.Kinds.{is_in_range}
-use Rattle.mdr_core.specs.Layout.{chosen, zero_by, zero_value}
-use Rattle.mdr_core.specs.Sound.{Sibling, IsSound, IsSoundLocal, IsSoundParam}
-use Rattle.mdr_core.specs.Types.{Aggregate, HasNumber, Scalar, Sort, Wrong, is_scalar, is_scalar_by, sort_layer, sort_of}
+use Rattle.mdr_core.specs.Layout.{Alone, Leaf, cells, chosen, leaves, leaves_by, repeated, struct_cells, zero_by, zero_value}
+use Rattle.mdr_core.specs.Sound.{Sibling, all_cells, IsSound, IsSoundLocal, IsSoundParam}
+use Rattle.mdr_core.specs.Types.{Aggregate, HasNoLock, HasNumber, Scalar, Sort, Wrong, is_scalar, is_scalar_by, sort_layer, sort_of}
 use Rattle.mdr_core.specs.Typing.{Slot, slot_of_local, slot_of_param, slots_of}
+use Rattle.mdr_core.specs.declared.types.Ty.TheVariants as ty
+use Rattle.mdr_core.specs.declared.types.Ty.TheVariants.{outs-Lock}
 use Rattle.mdr_core.proofs.Laid.{sort_is}
+use Rattle.mdr_core.proofs.Lying.{length-repeated}
 use Rattle.mdr_core.proofs.Viewed.{some_same}
 use Rattle.mdr_meaning.specs.declared.shape.Shape64.{Shape64}
 use Rattle.mdr_meaning.specs.declared.wire.Wire.{Wire}
 use Rattle.mdr_meaning.specs.declared.wire.Wire.TheVariants as wire
 use Rattle.mdr_meaning.specs.Expressions.{slot_of}
-use Rattle.mdr_meaning.specs.Fair.{AllFit, AreShapes, Begins}
+use Rattle.mdr_meaning.specs.Fair.{AllFit, AreBirths, Begins, IsBirth}
 use Rattle.mdr_meaning.specs.Fit.{Knowledge, Grows, IsDataPointer, PointsTo, Fits, FitsLayer}
 use Rattle.mdr_meaning.specs.Lives.{param_shapes, shape_of}
 use Rattle.mdr_meaning.specs.Bodies.{known_of}
@@ -59,9 +62,10 @@ nothing_fits program K Ty-F.Void h = h
 
 -- ---- slots of sound functions
 
--- an object has a type of the table, an array is an object, and what is none is a scalar
+-- an object has a type of the table and may be born, an array is an object, and what is none is a scalar
 pub record IsSoundSlot (program : Program) (s : Slot) : Type 0 where
   pub in_table : s.object ≡ true → HasNumber program s.ty
+  pub birth : s.object ≡ true → IsBirth program (shape_of (known_of program) s)
   pub plain : s.object ≡ false → IsTrue (is_scalar s.ty)
   pub arrays : s.array ≡ true → s.object ≡ true
 
@@ -83,15 +87,52 @@ scalar_by n (Ty-F.Struct s) h = by_count (nat_lt s n) h where
 scalar_is : (n : ℕ) (t : Ty) → sort_of n t ≡ Scalar → IsTrue (is_scalar t)
 scalar_is n t h = scalar_by n (out-Ty t) (sym (sort_is n t) ∙ h)
 
+-- ---- a scalar is one cell, and no lock
+
+one_cell_by : (known : ℕ → List Leaf) (t : Ty) (l : Ty-F Ty) → IsTrue (is_scalar_by l) → leaves_by known Alone t l ≡ record { home = Alone; type = t } ∷ []
+one_cell_by known t (Ty-F.Int k) h = refl
+one_cell_by known t (Ty-F.Ptr u) h = refl
+one_cell_by known t Ty-F.VoidPtr h = refl
+one_cell_by known t (Ty-F.Fun ts) h = refl
+one_cell_by known t l h = absurd cc
+
+one_cell : (program : Program) (t : Ty) → IsTrue (is_scalar t) → cells program t ≡ record { home = Alone; type = t } ∷ []
+unfolding cells leaves
+one_cell program t h = one_cell_by (struct_cells program.structs) t (out-Ty t) h
+
+scalar_no_lock : (t : Ty) → IsTrue (is_scalar t) → t ≡ ty.Lock → ⊥
+scalar_no_lock t h e = let layer : is_scalar_by (out-Ty t) ≡ is_scalar_by Ty-F.Lock = ap is_scalar_by (ap out-Ty e ∙ outs-Lock) in not_both h layer
+
+no_lock_in : (program : Program) (t : Ty) → IsTrue (is_scalar t) → HasNoLock program t
+no_lock_in program t h = record { none = λ i leaf e. among i leaf (sym (ap (λ xs. slice_get xs i) (one_cell program t h)) ∙ e) } where
+  among : (i : ℕ) (leaf : Leaf) → slice_get (record { home = Alone; type = t } ∷ []) i ≡ Some leaf → leaf.type ≡ ty.Lock → ⊥
+  among zero leaf e q = scalar_no_lock t h (ap (λ (x : Leaf). x.type) (some_same e) ∙ q)
+  among (suc i) leaf e q = cc
+
+scalar_small : (program : Program) (t : Ty) → IsTrue (is_scalar t) → length (all_cells program t 1) ≤ 65536
+scalar_small program t h = let many : length (repeated 1 (cells program t)) ≡ 1 * length (cells program t) = length-repeated 1 (cells program t) in let one : length (cells program t) ≡ 1 = ap length (one_cell program t h) in omega (arith, many, one)
+
 module _ (program : Program) where
+  birth_is : (s : Slot) → HasNumber program s.ty → HasNoLock program s.ty → 1 ≤ s.count → length (all_cells program s.ty s.count) ≤ 65536 → IsBirth program (shape_of (known_of program) s)
+  birth_is s table none some small = record { ty = s.ty; names = numbered_in program.types s.ty table.number table.names; no_lock = none; some = some; small = small }
+
   param_slot : (siblings : List Sibling) (p : Param) → IsSoundParam program siblings p → IsSoundSlot program (slot_of_param p)
-  param_slot siblings p h = record { in_table = λ e. h.in_table; plain = λ e. scalar_is _ p.ty h.sort; arrays = λ e. absurd cc }
+  param_slot siblings p h =
+      let scalar : IsTrue (is_scalar p.ty) = scalar_is _ p.ty h.sort in
+      record {
+        in_table = λ e. h.in_table;
+        birth = λ e. birth_is (slot_of_param p) h.in_table (no_lock_in program p.ty scalar) (omega arith) (scalar_small program p.ty scalar);
+        plain = λ e. scalar;
+        arrays = λ e. absurd cc;
+      }
 
   local_slot : (l : Local) → IsSoundLocal program l → IsSoundSlot program (slot_of_local l)
-  local_slot l h = record { in_table = h.in_table; plain = λ e. scalar_is _ l.ty (h.slot e).1; arrays = λ e. by_object l.object refl e } where
-    by_object : (b : Bool) → l.object ≡ b → l.array ≡ true → b ≡ true
-    by_object true q e = refl
-    by_object false q e = absurd (not_both e (h.slot q).0)
+  local_slot l h =
+      record { in_table = h.in_table; birth = λ e. birth_is (slot_of_local l) (h.in_table e) h.no_lock h.count.some h.small; plain = λ e. scalar_is _ l.ty (h.slot e).1; arrays = λ e. by_object l.object refl e }
+    where
+      by_object : (b : Bool) → l.object ≡ b → l.array ≡ true → b ≡ true
+      by_object true q e = refl
+      by_object false q e = absurd (not_both e (h.slot q).0)
 
   each_local : (Q : Slot → Type 0) (ls : List Local) → ((i : ℕ) (l : Local) → slice_get ls i ≡ Some l → Q (slot_of_local l)) → (i : ℕ) (s : Slot) → slice_get (map slot_of_local ls) i ≡ Some s → Q s
   each_local Q [] h i s e = absurd cc
@@ -280,11 +321,11 @@ module _ (program : Program) where
 
   -- ---- the shapes of object parameters
 
-  shapes_by : (b : Bool) (s : Slot) (rest : List Shape64) → (b ≡ true → HasNumber program s.ty) → AreShapes program rest → AreShapes program (chosen b (shape_of (known_of program) s ∷ rest) rest)
-  shapes_by true s rest h k = let number = h refl in ((s.ty, numbered_in program.types s.ty number.number number.names), k)
-  shapes_by false s rest h k = k
+  births_by : (b : Bool) (s : Slot) (rest : List Shape64) → (b ≡ true → IsBirth program (shape_of (known_of program) s)) → AreBirths program rest → AreBirths program (chosen b (shape_of (known_of program) s ∷ rest) rest)
+  births_by true s rest h k = (h refl, k)
+  births_by false s rest h k = k
 
-  pub param_shapes_are : (ss : List Slot) → AreSoundSlots program ss → AreShapes program (param_shapes (known_of program) ss)
-  param_shapes_are [] h = tt
-  param_shapes_are (s ∷ ss) h =
-      shapes_by (s.object && not s.is_local) s (param_shapes (known_of program) ss) (λ e. (h.each 0 s refl).in_table (left_of s.object (not s.is_local) e)) (param_shapes_are ss (record { each = λ i. h.each (suc i) }))
+  pub params_are_births : (ss : List Slot) → AreSoundSlots program ss → AreBirths program (param_shapes (known_of program) ss)
+  params_are_births [] h = tt
+  params_are_births (s ∷ ss) h =
+      births_by (s.object && not s.is_local) s (param_shapes (known_of program) ss) (λ e. (h.each 0 s refl).birth (left_of s.object (not s.is_local) e)) (params_are_births ss (record { each = λ i. h.each (suc i) }))

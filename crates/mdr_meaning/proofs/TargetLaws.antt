@@ -79,9 +79,9 @@ module _ (program : Program) (K : Knowledge) where
 
 -- ---- the type of what is named
 
-module _ (program : Program) (sound : IsSound program) (side : Side) (result : Ty) (K : Knowledge) (globals : KnowsGlobals program K) (at : At) (here : IsPlace side at) where
+module _ (program : Program) (sound : IsSound program) (side : Side) (result : Ty) (K : Knowledge) (live : List Wire) (globals : KnowsGlobals program K) (at : At) (here : IsPlace side at) where
   abbrev Reaches : (Wire → Type 0) → ((Wire → Tree) → Tree) → Type 0
-  Reaches P f = Gives program sound side result K globals at here P f
+  Reaches P f = Gives program sound side result K live globals at here P f
 
   -- the type is that of what is reached; where there is none, only null is
   abbrev pub Named : Option Ty → Ty → ((Wire → Tree) → Tree) → Type 0
@@ -95,8 +95,8 @@ module _ (program : Program) (sound : IsSound program) (side : Side) (result : T
   null_moved v n q = subst (λ x. Yields (λ y. y ≡ wire.Null) (moved x n)) (sym q) refl
 
   -- nothing is loaded through a null pointer
-  null_load : (k : Wire → Tree) (v : Wire) → v ≡ wire.Null → Fair program side result K (Tree.Load at v k)
-  null_load k v q = subst (λ x. Fair program side result K (Tree.Load at x k)) (sym q) (here, (ty.Void, tt, λ x bad. elim (subst (λ l. FitsLayer program K l x) outs-Void bad) [ ]))
+  null_load : (k : Wire → Tree) (v : Wire) → v ≡ wire.Null → Fair program side result K live (Tree.Load at v k)
+  null_load k v q = subst (λ x. Fair program side result K live (Tree.Load at x k)) (sym q) (here, (ty.Void, tt, λ x bad. elim (subst (λ l. FitsLayer program K l x) outs-Void bad) [ ]))
 
   load_by : (o : Option Ty) (t : Ty) (found : (Wire → Tree) → Tree) → Named o (ty.Ptr t) found → Named (target_of o) t (λ k. found (λ p. Tree.Load at p k))
   load_by (Some u) t found n = subst (λ o. Named o t (λ k. found (λ p. Tree.Load at p k))) (sym (ap target_by (ap out-Ty n ∙ outs-Ptr t))) refl
@@ -122,27 +122,27 @@ module _ (program : Program) (sound : IsSound program) (side : Side) (result : T
         ap (λ t. member_type (without_funcs program) (Some t) f) n ∙ ap (λ l. field_of (without_funcs program) (struct_by l) f) (outs-Struct s) ∙ ap (option_map field_type) names
         in
         subst (λ o. Named o (elements x) (at_place (Lvalue.Member p f))) (sym there) same
-    member_by p f x None s field names same n = tested program sound side result K globals at here (λ v. v ≡ wire.Null) (λ v. v ≡ wire.Null) (at_place p) (λ a. member (known_of program) a f) (null_member f) n
+    member_by p f x None s field names same n = tested program sound side result K live globals at here (λ v. v ≡ wire.Null) (λ v. v ≡ wire.Null) (at_place p) (λ a. member (known_of program) a f) (null_member f) n
 
     index_by : (p : Lvalue) (e : Term) (x : Extent) (o : Option Ty) (t : Ty) (k : Kind) → x ≡ One t → Has program slots e (ty.Int k) → Named o t (at_place p) → Named o (elements x) (at_place (Lvalue.Index p e))
     index_by p e x (Some u) t k is h n = n ∙ sym (ap elements is)
     index_by p e x None t k is h n =
-        and_then program sound side result K globals at here (λ v. v ≡ wire.Null) (λ v. v ≡ wire.Null) (at_place p) (λ a k'. of_term e (λ m. given at (moved a (integer m)) k')) n
-        (λ a q. tested program sound side result K globals at here (Fits program K (ty.Int k)) (λ v. v ≡ wire.Null) (of_term e) (λ m. moved a (integer m)) (λ m r. null_moved a (integer m) q)
-        (value_fair program sound side result K globals at here slots held fit e (ty.Int k) h))
+        and_then program sound side result K live globals at here (λ v. v ≡ wire.Null) (λ v. v ≡ wire.Null) (at_place p) (λ a k'. of_term e (λ m. given at (moved a (integer m)) k')) n
+        (λ a q. tested program sound side result K live globals at here (Fits program K (ty.Int k)) (λ v. v ≡ wire.Null) (of_term e) (λ m. moved a (integer m)) (λ m r. null_moved a (integer m) q)
+        (value_fair program sound side result K live globals at here slots held fit e (ty.Int k) h))
 
     move_by : (back : Bool) (p i : Term) (o : Option Ty) (t u : Ty) (k : Kind) → u ≡ t → Has program slots i (ty.Int k) → Named o u (of_term p) → Named o t (of_term (Term.Move back p i))
     move_by back p i (Some w) t u k same h n = n ∙ same
     move_by back p i None t u k same h n =
-        and_then program sound side result K globals at here (λ v. v ≡ wire.Null) (λ v. v ≡ wire.Null) (of_term p) (λ a k'. of_term i (λ m. given at (moved a (steps back (integer m))) k')) n
-        (λ a q. tested program sound side result K globals at here (Fits program K (ty.Int k)) (λ v. v ≡ wire.Null) (of_term i) (λ m. moved a (steps back (integer m))) (λ m r. null_moved a (steps back (integer m)) q)
-        (value_fair program sound side result K globals at here slots held fit i (ty.Int k) h))
+        and_then program sound side result K live globals at here (λ v. v ≡ wire.Null) (λ v. v ≡ wire.Null) (of_term p) (λ a k'. of_term i (λ m. given at (moved a (steps back (integer m))) k')) n
+        (λ a q. tested program sound side result K live globals at here (Fits program K (ty.Int k)) (λ v. v ≡ wire.Null) (of_term i) (λ m. moved a (steps back (integer m))) (λ m r. null_moved a (steps back (integer m)) q)
+        (value_fair program sound side result K live globals at here slots held fit i (ty.Int k) h))
 
     same_type : (o : Option Ty) (t u : Ty) (found : (Wire → Tree) → Tree) → t ≡ u → Named o t found → Named o u found
     same_type o t u found e n = subst (λ x. Named o x found) e n
 
     literal_by : (v : Value) (t : Ty) → Has program slots (Term.Lit v) (ty.Ptr t) → Reaches (λ x. x ≡ wire.Null) (of_term (Term.Lit v))
-    literal_by value.Null t h = gives_fair program sound side result K globals at here (λ x. x ≡ wire.Null) wire.Null refl
+    literal_by value.Null t h = gives_fair program sound side result K live globals at here (λ x. x ≡ wire.Null) wire.Null refl
     literal_by (value.Int k n) t h = elim (pointer_not_int t k h.0) [ ]
     literal_by (value.Fn f) t h = elim (pointer_not_function t _ h.2) [ ]
     literal_by (value.Ptr p) t h = elim h [ ]
@@ -188,11 +188,11 @@ module _ (program : Program) (sound : IsSound program) (side : Side) (result : T
 
     -- ---- a call's value is stored
 
-    pub store_fair : (p : Lvalue) (o : Option Ty) (from to : Ty) → Designates program slots p (One to) → Named o to (at_place p) → Becomes from to → (v : Wire) → IsResult program K from v → (t : Tree) → Fair program side result K t
-        → Fair program side result K (given at (received (known_of program) o v) (λ x. at_place p (λ q. Tree.Store at q x t)))
+    pub store_fair : (p : Lvalue) (o : Option Ty) (from to : Ty) → Designates program slots p (One to) → Named o to (at_place p) → Becomes from to → (v : Wire) → IsResult program K from v → (t : Tree) → Fair program side result K live t
+        → Fair program side result K live (given at (received (known_of program) o v) (λ x. at_place p (λ q. Tree.Store at q x t)))
     store_fair p (Some u) from to d n b v h t f =
-        given_fair program sound side result K globals at here (Fits program K to) (received (known_of program) (Some u) v) (λ x. at_place p (λ q. Tree.Store at q x t)) (received_fits program K u from to n b v h)
-        (record { by = λ x fits. (place_fair program sound side result K globals at here slots held fit p (One to) d).by (λ q. Tree.Store at q x t) (record { by = λ q points. (here, (to, points, fits), f) }) })
+        given_fair program sound side result K live globals at here (Fits program K to) (received (known_of program) (Some u) v) (λ x. at_place p (λ q. Tree.Store at q x t)) (received_fits program K u from to n b v h)
+        (record { by = λ x fits. (place_fair program sound side result K live globals at here slots held fit p (One to) d).by (λ q. Tree.Store at q x t) (record { by = λ q points. (here, (to, points, fits), f) }) })
     store_fair p None from to d n b v h t f =
-        given_fair program sound side result K globals at here (Fits program K from) (received (known_of program) None v) (λ x. at_place p (λ q. Tree.Store at q x t)) (received_as_is program K from v h)
-        (record { by = λ x fits. n.by (λ q. Tree.Store at q x t) (record { by = λ q e. subst (λ w. Fair program side result K (Tree.Store at w x t)) (sym e) (here, (from, tt, fits), f) }) })
+        given_fair program sound side result K live globals at here (Fits program K from) (received (known_of program) None v) (λ x. at_place p (λ q. Tree.Store at q x t)) (received_as_is program K from v h)
+        (record { by = λ x fits. n.by (λ q. Tree.Store at q x t) (record { by = λ q e. subst (λ w. Fair program side result K live (Tree.Store at w x t)) (sym e) (here, (from, tt, fits), f) }) })

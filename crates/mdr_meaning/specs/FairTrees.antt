@@ -1,5 +1,5 @@
 -- The trees of a sound program's functions are fair: whatever they are answered, they name nothing unknown, pass on values that fit, and stop for code's own reasons.
-use Rattle.std.specs.Prelude.{◌≡◌, ℕ, ◌<◌, Bool, List, map, Some, slice_get}
+use Rattle.std.specs.Prelude.{◌≡◌, ℕ, ◌<◌, Bool, List, [], map, Some, slice_get}
 use Rattle.mdr_core.specs.declared.program.Program.{Program}
 use Rattle.mdr_core.specs.declared.program.Func.{Func}
 use Rattle.mdr_core.specs.declared.program.Param.{Param}
@@ -28,7 +28,7 @@ pub record IsStart (program : Program) (side : Side) (K : Knowledge) (f : ℕ) (
 abbrev pub TreesAreFair : Type 0
 TreesAreFair =
     (program : Program) → IsSound program → (side : Side) → IsSideOf program side → (n f : ℕ) (func : Func) (K : Knowledge) (args : List Wire) (depth : ℕ) → IsStart program side K f func args depth
-    → (below : Tree) → Fair program side func.result K (started side n f args depth below)
+    → (below : Tree) → Fair program side func.result K [] (started side n f args depth below)
 
 -- the three sides of a program are such sides
 abbrev pub SidesAreOfPrograms : Type 0
