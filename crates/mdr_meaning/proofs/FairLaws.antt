@@ -45,6 +45,7 @@ use Rattle.mdr_meaning.specs.Slots.{SlotsFit}
 use Rattle.mdr_meaning.specs.Statements.{around, characters, declared, declared_by, element, kind_by, leaves, on_ends, returns, stmt, stmts, texts, turn}
 use Rattle.mdr_meaning.specs.Tree.{Tree}
 use Rattle.mdr_meaning.specs.Values.{first_of, is_true, natural, natural_of, rest_of, wire_of}
+use Rattle.mdr_meaning.specs.Within.{CalleeWithin, CodeWithin, CodesWithin, FormWithin, GoalWithin, LvalueWithin, OptionWithin, TermWithin, TermsWithin, Uses}
 use Rattle.mdr_meaning.proofs.ExpressionLaws.{given_fair, named_slot, place_fair, value_fair}
 use Rattle.mdr_meaning.proofs.FitLaws.{literal_fits, of_integer, of_pointer, to_integer, to_pointer}
 use Rattle.mdr_meaning.proofs.GrowthLaws.{all_grow, are_grow, data_known, fits_result, globals_grow, grows_on, grows_same, known_append, result_grows}
@@ -81,7 +82,7 @@ code_in : (program : Program) → IsSound program → (f : ℕ) (func : Func) (b
 unfolding body_of
 code_in program sound f func body names e = code_by program func func.body body (sound.funcs f func names).body (sym (ap body_from names) ∙ e)
 
-module _ (program : Program) (sound : IsSound program) (own : ℕ → Option Body) (asking : Bool) (bodies : (f : ℕ) (body : Body) → own f ≡ Some body → body_of program f ≡ Some body) (top : Ty) where
+module _ (program : Program) (sound : IsSound program) (own : ℕ → Option Body) (asking : Bool) (bodies : (f : ℕ) (body : Body) → own f ≡ Some body → body_of program f ≡ Some body) (uses : Uses) (within : (f : ℕ) (body : Body) → own f ≡ Some body → CodesWithin program uses body.slots f body.code) (top : Ty) where
   abbrev side : Side
   side = record { known = known_of program; own = own; asks = asking }
 
@@ -90,9 +91,17 @@ module _ (program : Program) (sound : IsSound program) (own : ℕ → Option Bod
 
   -- ---- what stands where code goes on
 
+  -- the globals are known, and what the side's code does with functions
+  record Knows (K : Knowledge) : Type 0 where
+    globals : KnowsGlobals program K
+    uses_are : K.uses ≡ uses
+
+  knows_grow : (K K' : Knowledge) → Grows K K' → Knows K → Knows K'
+  knows_grow K K' g h = record { globals = globals_grow program K K' g h.globals; uses_are = g.same ∙ h.uses_are }
+
   -- the globals are known, slots hold what they shall, the objects of the block are known, and these live behind those around it
   record Stands (K : Knowledge) (slots : List Slot) (live base : List Wire) (l : Locals) : Type 0 where
-    globals : KnowsGlobals program K
+    globals : Knows K
     each : (i : ℕ) (s : Slot) → slice_get slots i ≡ Some s → Holds program K s (slot_of l.slots i)
     born : AreKnown program K l.born
     lives : live ≡ base ++ l.born
@@ -119,7 +128,7 @@ module _ (program : Program) (sound : IsSound program) (own : ℕ → Option Bod
 
   stands_grow : (K K' : Knowledge) → Grows K K' → (slots : List Slot) (live base : List Wire) (l : Locals) → Stands K slots live base l → Stands K' slots live base l
   stands_grow K K' g slots live base l h = record {
-    globals = globals_grow program K K' g h.globals;
+    globals = knows_grow K K' g h.globals;
     each = λ i s e. holds_grows program K K' g s (slot_of l.slots i) (h.each i s e);
     born = are_grow program K K' g l.born h.born;
     lives = h.lives;
@@ -144,17 +153,18 @@ module _ (program : Program) (sound : IsSound program) (own : ℕ → Option Bod
 
   -- ---- expressions
 
-  value_goes : (at : At) → IsPlace side at → (K : Knowledge) (slots : List Slot) (live base : List Wire) (l : Locals) → Stands K slots live base l → (e : Term) (t : Ty) → Has program slots e t → (k : Wire → Tree)
+  value_goes : (at : At) → IsPlace side at → (K : Knowledge) (slots : List Slot) (live base : List Wire) (l : Locals) → Stands K slots live base l → (e : Term) (t : Ty) → Has program slots e t → TermWithin uses.taken e → (k : Wire → Tree)
       → ((v : Wire) → Fits program K t v → F K live (k v)) → F K live (value (known_of program) at l.slots e k)
-  value_goes at w K slots live base l h e t typed k n = (value_fair program sound side top K live h.globals at w slots l.slots (slots_fit K slots live base l h) e t typed).by k (record { by = n })
+  value_goes at w K slots live base l h e t typed c k n =
+      (value_fair program sound side top K live h.globals.globals at w slots l.slots (slots_fit K slots live base l h) e t typed (subst (λ (u : Uses). TermWithin u.taken e) (sym h.globals.uses_are) c)).by k (record { by = n })
 
-  values_go : (at : At) → IsPlace side at → (K : Knowledge) (slots : List Slot) (live base : List Wire) (l : Locals) → Stands K slots live base l → (es : List Term) (ts : List Ty) → HaveAll program slots es ts → (k : List Wire → Tree)
+  values_go : (at : At) → IsPlace side at → (K : Knowledge) (slots : List Slot) (live base : List Wire) (l : Locals) → Stands K slots live base l → (es : List Term) (ts : List Ty) → HaveAll program slots es ts → TermsWithin uses.taken es → (k : List Wire → Tree)
       → ((vs : List Wire) → AllFit program K vs ts → F K live (k vs)) → F K live (values (known_of program) at l.slots es k)
-  values_go at w K slots live base l h [] [] typed k n = n [] tt
-  values_go at w K slots live base l h [] (t ∷ ts) typed k n = elim typed [ ]
-  values_go at w K slots live base l h (e ∷ es) [] typed k n = elim typed [ ]
-  values_go at w K slots live base l h (e ∷ es) (t ∷ ts) typed k n =
-      value_goes at w K slots live base l h e t typed.0 _ (λ v fits. values_go at w K slots live base l h es ts typed.1 (λ vs. k (v ∷ vs)) (λ vs all. n (v ∷ vs) (fits, all)))
+  values_go at w K slots live base l h [] [] typed c k n = n [] tt
+  values_go at w K slots live base l h [] (t ∷ ts) typed c k n = elim typed [ ]
+  values_go at w K slots live base l h (e ∷ es) [] typed c k n = elim typed [ ]
+  values_go at w K slots live base l h (e ∷ es) (t ∷ ts) typed c k n =
+      value_goes at w K slots live base l h e t typed.0 c.0 _ (λ v fits. values_go at w K slots live base l h es ts typed.1 c.1 (λ vs. k (v ∷ vs)) (λ vs all. n (v ∷ vs) (fits, all)))
 
   -- ---- births and deaths
 
@@ -184,7 +194,7 @@ module _ (program : Program) (sound : IsSound program) (own : ℕ → Option Bod
       (known_append program K l.born (p ∷ []) h.born (data_known program K (λ n. n ≡ (known_of program).number s.ty) p points, tt)) (ap (λ xs. xs ++ (p ∷ [])) h.lives ∙ append_assoc base l.born (p ∷ []))
 
   -- object parameters take their arguments
-  fills_fair : (at : At) → IsPlace side at → (K : Knowledge) (slots : List Slot) → AreSoundSlots program slots → KnowsGlobals program K → (live base : List Wire) (i : ℕ) (rest : List Slot) (ps : List Wire) (l : Locals) → Filling program K slots i rest l.slots
+  fills_fair : (at : At) → IsPlace side at → (K : Knowledge) (slots : List Slot) → AreSoundSlots program slots → Knows K → (live base : List Wire) (i : ℕ) (rest : List Slot) (ps : List Wire) (l : Locals) → Filling program K slots i rest l.slots
       → AreKnown program K l.born → live ≡ base ++ (l.born ++ ps) → AreBorn program K (param_shapes (known_of program) rest) ps → (go : Locals → Tree) → ((l' : Locals) → Stands K slots live base l' → F K live (go l'))
       → F K live (fills at (object_params i rest) ps l go)
   fills_fair at w K slots rules globals live base i [] [] l f born e a go n =
@@ -274,45 +284,48 @@ module _ (program : Program) (sound : IsSound program) (own : ℕ → Option Bod
   jumps K t Way.Breaks = tt
   jumps K t Way.Continues = tt
 
+  lvalue_within : (K : Knowledge) → Knows K → (p : Lvalue) → LvalueWithin uses.taken p → LvalueWithin K.uses.taken p
+  lvalue_within K h p c = subst (λ (u : Uses). LvalueWithin u.taken p) (sym h.uses_are) c
+
   -- ---- where values go
 
   -- 6.5.16.1
-  put_fair : (at : At) → IsPlace side at → (K : Knowledge) (slots : List Slot) (live base : List Wire) (l : Locals) → Stands K slots live base l → (p : Lvalue) (t : Ty) → Designates program slots p (One t) → (v : Wire) → Fits program K t v
+  put_fair : (at : At) → IsPlace side at → (K : Knowledge) (slots : List Slot) (live base : List Wire) (l : Locals) → Stands K slots live base l → (p : Lvalue) (t : Ty) → Designates program slots p (One t) → LvalueWithin uses.taken p → (v : Wire) → Fits program K t v
       → (go : Locals → Tree) → ((l' : Locals) → Stands K slots live base l' → F K live (go l')) → F K live (put (known_of program) at p v l go)
-  put_fair at w K slots live base l st p t d v fits go n = by_form p d where
-    stored : (q : Lvalue) → Designates program slots q (One t) → F K live (place (known_of program) at l.slots q (λ a. Tree.Store at a v (go l)))
-    stored q d = (place_fair program sound side top K live st.globals at w slots l.slots (slots_fit K slots live base l st) q (One t) d).by (λ a. Tree.Store at a v (go l)) (record { by = λ a points. (w, (t, points, fits), n l st) })
+  put_fair at w K slots live base l st p t d c v fits go n = by_form p d c where
+    stored : (q : Lvalue) → Designates program slots q (One t) → LvalueWithin uses.taken q → F K live (place (known_of program) at l.slots q (λ a. Tree.Store at a v (go l)))
+    stored q d c = (place_fair program sound side top K live st.globals.globals at w slots l.slots (slots_fit K slots live base l st) q (One t) d (lvalue_within K st.globals q c)).by (λ a. Tree.Store at a v (go l)) (record { by = λ a points. (w, (t, points, fits), n l st) })
 
-    by_form : (q : Lvalue) → Designates program slots q (One t) → F K live (put (known_of program) at q v l go)
-    by_form (Lvalue.Slot i) d =
+    by_form : (q : Lvalue) → Designates program slots q (One t) → LvalueWithin uses.taken q → F K live (put (known_of program) at q v l go)
+    by_form (Lvalue.Slot i) d c =
         n (record { slots = slice_set l.slots i v; born = l.born })
         (with_slot K slots live base l i d.slot v d.names (plain_holds program K d.slot v d.kept (subst (λ u. Fits program K u v) (sym (named_slot d.slot.array t d.slot.ty d.slot.count d.is)) fits)) st)
-    by_form (Lvalue.Object i) d = stored (Lvalue.Object i) d
-    by_form (Lvalue.Global g) d = stored (Lvalue.Global g) d
-    by_form (Lvalue.Deref e) d = stored (Lvalue.Deref e) d
-    by_form (Lvalue.Member q f) d = stored (Lvalue.Member q f) d
-    by_form (Lvalue.Index q e) d = stored (Lvalue.Index q e) d
+    by_form (Lvalue.Object i) d c = stored (Lvalue.Object i) d c
+    by_form (Lvalue.Global g) d c = stored (Lvalue.Global g) d c
+    by_form (Lvalue.Deref e) d c = stored (Lvalue.Deref e) d c
+    by_form (Lvalue.Member q f) d c = stored (Lvalue.Member q f) d c
+    by_form (Lvalue.Index q e) d c = stored (Lvalue.Index q e) d c
 
   -- a call's value converts as by assignment
-  into_fair : (at : At) → IsPlace side at → (K : Knowledge) (slots : List Slot) (live base : List Wire) (l : Locals) → Stands K slots live base l → (p : Lvalue) (from to : Ty) → Designates program slots p (One to) → Becomes from to → (v : Wire) → IsResult program K from v
+  into_fair : (at : At) → IsPlace side at → (K : Knowledge) (slots : List Slot) (live base : List Wire) (l : Locals) → Stands K slots live base l → (p : Lvalue) (from to : Ty) → Designates program slots p (One to) → LvalueWithin uses.taken p → Becomes from to → (v : Wire) → IsResult program K from v
       → (go : Locals → Tree) → ((l' : Locals) → Stands K slots live base l' → F K live (go l')) → F K live (given at (received (known_of program) (named_type (without_funcs program) slots p) v) (λ x. put (known_of program) at p x l go))
-  into_fair at w K slots live base l st p from to d b v r go n = by_form p d where
-    stored : (q : Lvalue) → Designates program slots q (One to) → F K live (given at (received (known_of program) (named_type (without_funcs program) slots q) v) (λ x. place (known_of program) at l.slots q (λ a. Tree.Store at a x (go l))))
-    stored q d =
-        store_fair program sound side top K live st.globals at w slots l.slots (slots_fit K slots live base l st) q (named_type (without_funcs program) slots q) from to d
-        (named program sound side top K live st.globals at w slots l.slots (slots_fit K slots live base l st) q (One to) d) b v r (go l) (n l st)
+  into_fair at w K slots live base l st p from to d c b v r go n = by_form p d c where
+    stored : (q : Lvalue) → Designates program slots q (One to) → LvalueWithin uses.taken q → F K live (given at (received (known_of program) (named_type (without_funcs program) slots q) v) (λ x. place (known_of program) at l.slots q (λ a. Tree.Store at a x (go l))))
+    stored q d c =
+        store_fair program sound side top K live st.globals.globals at w slots l.slots (slots_fit K slots live base l st) q (named_type (without_funcs program) slots q) from to d
+        (lvalue_within K st.globals q c) (named program sound side top K live st.globals.globals at w slots l.slots (slots_fit K slots live base l st) q (One to) d (lvalue_within K st.globals q c)) b v r (go l) (n l st)
 
-    by_form : (q : Lvalue) → Designates program slots q (One to) → F K live (given at (received (known_of program) (named_type (without_funcs program) slots q) v) (λ x. put (known_of program) at q x l go))
-    by_form (Lvalue.Slot i) d =
+    by_form : (q : Lvalue) → Designates program slots q (One to) → LvalueWithin uses.taken q → F K live (given at (received (known_of program) (named_type (without_funcs program) slots q) v) (λ x. put (known_of program) at q x l go))
+    by_form (Lvalue.Slot i) d c =
         let type : d.slot.ty ≡ to = named_slot d.slot.array to d.slot.ty d.slot.count d.is in
         subst (λ o. F K live (given at (received (known_of program) (option_map slot_type o) v) (λ x. put (known_of program) at (Lvalue.Slot i) x l go))) (sym d.names)
-        (given_fair program sound side top K live st.globals at w (Fits program K to) (received (known_of program) (Some d.slot.ty) v) (λ x. put (known_of program) at (Lvalue.Slot i) x l go) (received_fits program K d.slot.ty from to type b v r)
-        (record { by = λ x fits. put_fair at w K slots live base l st (Lvalue.Slot i) to d x fits go n }))
-    by_form (Lvalue.Object i) d = stored (Lvalue.Object i) d
-    by_form (Lvalue.Global g) d = stored (Lvalue.Global g) d
-    by_form (Lvalue.Deref e) d = stored (Lvalue.Deref e) d
-    by_form (Lvalue.Member q f) d = stored (Lvalue.Member q f) d
-    by_form (Lvalue.Index q e) d = stored (Lvalue.Index q e) d
+        (given_fair program sound side top K live st.globals.globals at w (Fits program K to) (received (known_of program) (Some d.slot.ty) v) (λ x. put (known_of program) at (Lvalue.Slot i) x l go) (received_fits program K d.slot.ty from to type b v r)
+        (record { by = λ x fits. put_fair at w K slots live base l st (Lvalue.Slot i) to d c x fits go n }))
+    by_form (Lvalue.Object i) d c = stored (Lvalue.Object i) d c
+    by_form (Lvalue.Global g) d c = stored (Lvalue.Global g) d c
+    by_form (Lvalue.Deref e) d c = stored (Lvalue.Deref e) d c
+    by_form (Lvalue.Member q f) d c = stored (Lvalue.Member q f) d c
+    by_form (Lvalue.Index q e) d c = stored (Lvalue.Index q e) d c
 
   -- ---- texts (6.7.8, paragraph 14)
 
@@ -400,12 +413,12 @@ module _ (program : Program) (sound : IsSound program) (own : ℕ → Option Bod
   }
 
   -- `request_irq` is asked with a function's name
-  abbrev Handles : Service → List Wire → Type 0
-  Handles RequestIrq vs = (f : ℕ) × (vs ≡ wire.Fn f ∷ [])
-  Handles s vs = Unit {0}
+  abbrev Handles : Knowledge → Service → List Wire → Type 0
+  Handles K RequestIrq vs = (f : ℕ) × (vs ≡ wire.Fn f ∷ []) × (K.uses.handles f ≡ true)
+  Handles K s vs = Unit {0}
 
   serves_fair : (at : At) → IsPlace side at → (K : Knowledge) (live : List Wire) (m : ℕ) (callee : Called) (args : List Term) (shape : Option Ty) (format : Option (List ℕ)) (vs : List Wire) (s : Service) (signature : Signature)
-      → service_numbered m ≡ Some s → offered s shape format ≡ Some signature → NamesObject program shape → AllFit program K vs signature.params → Handles s vs → (k : Wire → Tree) → ValueFair K live signature.result k
+      → service_numbered m ≡ Some s → offered s shape format ≡ Some signature → NamesObject program shape → AllFit program K vs signature.params → Handles K s vs → (k : Wire → Tree) → ValueFair K live signature.result k
       → F K live (serves_by (known_of program) m at (record { callee = callee; args = args; shape = shape; format = format }) vs (Some s) k)
   serves_fair at w K live m callee args (Some t) None vs Kzalloc signature names e o a h k n =
       asks_fair at w K live m Kzalloc [] (allocated (known_of program) (Some t) 1) [] k names (takes_shape at m 1 t (λ n. n ≡ 1) o.in_table refl) refl (λ rs. refl) (object_served K live t 1 k o.in_table (gives_type K live _ signature k e n))
@@ -424,7 +437,7 @@ module _ (program : Program) (sound : IsSound program) (own : ℕ → Option Bod
   serves_fair at w K live m callee args shape format vs Printk signature names e o a h k n =
       plain_fair at w K live m Printk [] (print_text (unwrap_or format []) vs) signature.result k names (record { few = text_few (unwrap_or format []) vs; no_args = refl; no_shapes = refl }) refl (λ rs. refl) (λ K' rs h. h) n
   serves_fair at w K live m callee args None None vs RequestIrq signature names e o a h k n =
-      asks_fair at w K live m RequestIrq vs [] [] k names (record { takes = takes_args K at m vs _ signature e a; func = h.0; is = h.1 }) refl (λ rs. refl) (integer_served K live S32 k (gives_type K live _ signature k e n))
+      asks_fair at w K live m RequestIrq vs [] [] k names (record { takes = takes_args K at m vs _ signature e a; func = h.0; is = h.1; handles = h.2 }) refl (λ rs. refl) (integer_served K live S32 k (gives_type K live _ signature k e n))
   serves_fair at w K live m callee args shape format vs RequestIrq signature names e o a h k n = absurd cc
   serves_fair at w K live m callee args None None vs FreeIrq signature names e o a h k n = plain_fair at w K live m FreeIrq vs [] signature.result k names (takes_args K at m vs _ signature e a) refl (λ rs. refl) (λ K' rs h. h) n
   serves_fair at w K live m callee args shape format vs FreeIrq signature names e o a h k n = absurd cc
@@ -451,10 +464,10 @@ module _ (program : Program) (sound : IsSound program) (own : ℕ → Option Bod
     place : IsHere side here
     slots : AreSoundSlots program here.slots
 
-  module _ (low : Means) (later : (in_loop : Bool) (here : Here) → Runs here → (cs : Codes) → Inside side here cs → AreTyped program here.slots here.result in_loop cs → GoFair here (low here cs)) where
+  module _ (low : Means) (later : (in_loop : Bool) (here : Here) → Runs here → (cs : Codes) → Inside side here cs → AreTyped program here.slots here.result in_loop cs → CodesWithin program uses here.slots here.func cs → GoFair here (low here cs)) where
     -- a body is entered, with fewer than 256 functions active before
     made_fair : (caller : Here) → caller.depth < 256 → (f : ℕ) (func : Func) → slice_get program.funcs f ≡ Some func → (cs : Codes) → AreTyped program (slots_of func) func.result false cs → own f ≡ Some (made func cs)
-        → (K : Knowledge) (live : List Wire) → KnowsGlobals program K → (vs : List Wire) → AllFit program K vs (map (λ (p : Param). p.ty) func.params) → (k : Wire → Tree) → ValueFair K live func.result k
+        → (K : Knowledge) (live : List Wire) → Knows K → (vs : List Wire) → AllFit program K vs (map (λ (p : Param). p.ty) func.params) → (k : Wire → Tree) → ValueFair K live func.result k
         → F K live (enters side low caller (record { func = f; depth = suc caller.depth; slots = slots_of func; result = func.result }) (made func cs) vs k)
     made_fair caller d f func names cs typed is K live globals vs all k n =
         let inner : Here = record { func = f; depth = suc caller.depth; slots = slots_of func; result = func.result } in
@@ -463,59 +476,64 @@ module _ (program : Program) (sound : IsSound program) (own : ℕ → Option Bod
         let runs : Runs inner = record { place = record { whole = whole; some = omega arith; limited = omega (arith, d) }; slots = rules } in
         let inside : Inside side inner cs = record { each = λ m e. record { body = made func cs; own = is; stmt = inr e } } in
         births_fair inner whole K live (param_shapes (known_of program) (slots_of func)) (params_are_births program (slots_of func) rules) _ (λ K' g ps born.
-        fills_fair (in_here inner 0) whole K' (slots_of func) rules (globals_grow program K K' g globals) (live ++ ps) live 0 (slots_of func) ps (record { slots = framed (slots_of func) vs; born = [] })
+        fills_fair (in_here inner 0) whole K' (slots_of func) rules (knows_grow K K' g globals) (live ++ ps) live 0 (slots_of func) ps (record { slots = framed (slots_of func) vs; born = [] })
         (filling_begins program K' (slots_of func) (framed (slots_of func) vs) (framed_holds program K' func.params func.locals vs (all_grow program K K' g vs (map (λ (p : Param). p.ty) func.params) all) (sound.funcs f func names).locals)) tt refl born
-        (λ l. low inner cs l (closes side inner k)) (λ l st. (later false inner runs cs inside typed).by K' (live ++ ps) live l st (closes side inner k) (closes_fair inner whole K' live k (value_grows K K' g live func.result k n))))
+        (λ l. low inner cs l (closes side inner k)) (λ l st. (later false inner runs cs inside typed (within f (made func cs) is)).by K' (live ++ ps) live l st (closes side inner k) (closes_fair inner whole K' live k (value_grows K K' g live func.result k n))))
 
-    entered_fair : (caller : Here) → caller.depth < 256 → (f : ℕ) (func : Func) → slice_get program.funcs f ≡ Some func → (body : Body) → own f ≡ Some body → (K : Knowledge) (live : List Wire) → KnowsGlobals program K → (vs : List Wire) → AllFit program K vs (map (λ (p : Param). p.ty) func.params)
+    entered_fair : (caller : Here) → caller.depth < 256 → (f : ℕ) (func : Func) → slice_get program.funcs f ≡ Some func → (body : Body) → own f ≡ Some body → (K : Knowledge) (live : List Wire) → Knows K → (vs : List Wire) → AllFit program K vs (map (λ (p : Param). p.ty) func.params)
         → (k : Wire → Tree) → ValueFair K live func.result k → (at : At) → F K live (goes_to side low caller at f vs (Some body) k)
     entered_fair caller d f func names body is K live globals vs all k n at =
         let code = code_in program sound f func body names (bodies f body is) in
         subst (λ b. F K live (goes_to side low caller at f vs (Some b) k)) (sym code.is) (made_fair caller d f func names code.code code.typed (is ∙ ap Some code.is) K live globals vs all k n)
 
     module _ (here : Here) (h : Runs here) where
-      goes_to_fair : (at : At) → IsPlace side at → (K : Knowledge) (live : List Wire) → KnowsGlobals program K → (f : ℕ) (func : Func) → slice_get program.funcs f ≡ Some func → (vs : List Wire) → AllFit program K vs (map (λ (p : Param). p.ty) func.params)
-          → (body : Option Body) → own f ≡ body → here.depth < 256 → (k : Wire → Tree) → ValueFair K live func.result k → F K live (goes_to side low here at f vs body k)
-      goes_to_fair at w K live globals f func names vs all None is d k n = (w, (func, record { names = names; fit = all; some = h.place.some; limited = omega (arith, d) }, n.by))
-      goes_to_fair at w K live globals f func names vs all (Some body) is d k n = entered_fair here d f func names body is K live globals vs all k n at
+      goes_to_fair : (at : At) → IsPlace side at → (K : Knowledge) (live : List Wire) → Knows K → (f : ℕ) (func : Func) → slice_get program.funcs f ≡ Some func → (vs : List Wire) → AllFit program K vs (map (λ (p : Param). p.ty) func.params)
+          → (body : Option Body) → own f ≡ body → here.depth < 256 → uses.calls at.func f ≡ true → (k : Wire → Tree) → ValueFair K live func.result k → F K live (goes_to side low here at f vs body k)
+      goes_to_fair at w K live globals f func names vs all None is d c k n = (w, (func, record { calls = ap (λ (u : Uses). u.calls at.func f) globals.uses_are ∙ c; names = names; fit = all; some = h.place.some; limited = omega (arith, d) }, n.by))
+      goes_to_fair at w K live globals f func names vs all (Some body) is d c k n = entered_fair here d f func names body is K live globals vs all k n at
 
-      direct_fair : (at : At) → IsPlace side at → (K : Knowledge) (live : List Wire) → KnowsGlobals program K → (f : ℕ) (func : Func) → slice_get program.funcs f ≡ Some func → (vs : List Wire) → AllFit program K vs (map (λ (p : Param). p.ty) func.params)
-          → (k : Wire → Tree) → ValueFair K live func.result k → F K live (direct side low here at f vs k)
-      direct_fair at w K live globals f func names vs all k n = by_depth (nat_lt here.depth 256) refl where
+      direct_fair : (at : At) → IsPlace side at → (K : Knowledge) (live : List Wire) → Knows K → (f : ℕ) (func : Func) → slice_get program.funcs f ≡ Some func → (vs : List Wire) → AllFit program K vs (map (λ (p : Param). p.ty) func.params)
+          → uses.calls at.func f ≡ true → (k : Wire → Tree) → ValueFair K live func.result k → F K live (direct side low here at f vs k)
+      direct_fair at w K live globals f func names vs all c k n = by_depth (nat_lt here.depth 256) refl where
         by_depth : (b : Bool) → nat_lt here.depth 256 ≡ b → F K live (chosen b (goes_to side low here at f vs (own f)) (deep side low here at) k)
-        by_depth true q = goes_to_fair at w K live globals f func names vs all (own f) refl (ltb-true _ _ q) k n
+        by_depth true q = goes_to_fair at w K live globals f func names vs all (own f) refl (ltb-true _ _ q) c k n
         by_depth false q = (w, refl)
 
-      through_fair : (at : At) → IsPlace side at → (K : Knowledge) (live : List Wire) → KnowsGlobals program K → (result : Ty) (params : List Ty) (v : Wire) (vs : List Wire) → IsFunction program (result ∷ params) v → AllFit program K vs params
+      through_fair : (at : At) → IsPlace side at → (K : Knowledge) (live : List Wire) → Knows K → (result : Ty) (params : List Ty) (v : Wire) (vs : List Wire) → IsFunction program K (result ∷ params) v → AllFit program K vs params
+          → ((f : ℕ) (func : Func) → slice_get program.funcs f ≡ Some func → func.result ∷ map (λ (p : Param). p.ty) func.params ≡ result ∷ params → uses.taken f ≡ true → uses.calls at.func f ≡ true)
           → (k : Wire → Tree) → ValueFair K live result k → F K live (through side low here at v vs k)
-      through_fair at w K live globals result params wire.Null vs f all k n = (w, refl)
-      through_fair at w K live globals result params (wire.Fn i) vs f all k n =
-          direct_fair at w K live globals i f.0 f.1 vs (subst (λ ts. AllFit program K vs ts) (sym (rest_same f.2)) all) k (subst (λ t. ValueFair K live t k) (sym (first_same f.2)) n)
-      through_fair at w K live globals result params v vs f all k n = elim f [ ]
+      through_fair at w K live globals result params wire.Null vs f all c k n = (w, refl)
+      through_fair at w K live globals result params (wire.Fn i) vs f all c k n =
+          direct_fair at w K live globals i f.0 f.1 vs (subst (λ ts. AllFit program K vs ts) (sym (rest_same f.2)) all) (c i f.0 f.1 f.2 (ap (λ (u : Uses). u.taken i) (sym globals.uses_are) ∙ f.3)) k (subst (λ t. ValueFair K live t k) (sym (first_same f.2)) n)
+      through_fair at w K live globals result params v vs f all c k n = elim f [ ]
 
-      literal_all : (K : Knowledge) (f : ℕ) (ts : List Ty) → HaveAll program here.slots (Term.Lit (value.Fn f) ∷ []) ts → AllFit program K (wire.Fn f ∷ []) ts
-      literal_all K f [] h = elim h [ ]
-      literal_all K f (t ∷ []) h = (literal_fits program K (value.Fn f) t h.0, tt)
-      literal_all K f (t ∷ u ∷ ts) h = elim h.1 [ ]
+      literal_all : (K : Knowledge) (f : ℕ) (ts : List Ty) → HaveAll program here.slots (Term.Lit (value.Fn f) ∷ []) ts → K.uses.taken f ≡ true → AllFit program K (wire.Fn f ∷ []) ts
+      literal_all K f [] h c = elim h [ ]
+      literal_all K f (t ∷ []) h c = (literal_fits program K (value.Fn f) t h.0 c, tt)
+      literal_all K f (t ∷ u ∷ ts) h c = elim h.1 [ ]
 
       -- the arguments of a service: that of `request_irq` is a function's name
-      service_args : (at : At) → IsPlace side at → (K : Knowledge) (live base : List Wire) (l : Locals) → Stands K here.slots live base l → (es : List Term) (ts : List Ty) → HaveAll program here.slots es ts → (s : Service) → NamesHandler s es → (k : List Wire → Tree)
-          → ((vs : List Wire) → AllFit program K vs ts → Handles s vs → F K live (k vs)) → F K live (values (known_of program) at l.slots es k)
-      service_args at w K live base l st es ts typed RequestIrq h k n =
-          subst (λ xs. F K live (values (known_of program) at l.slots xs k)) (sym h.1) (n (wire.Fn h.0 ∷ []) (literal_all K h.0 ts (subst (λ xs. HaveAll program here.slots xs ts) h.1 typed)) (h.0, refl))
-      service_args at w K live base l st es ts typed s h k n = values_go at w K here.slots live base l st es ts typed k (λ vs all. n vs all tt)
+      service_args : (at : At) → IsPlace side at → (K : Knowledge) (live base : List Wire) (l : Locals) → Stands K here.slots live base l → (m : ℕ) (es : List Term) (ts : List Ty) → HaveAll program here.slots es ts → TermsWithin uses.taken es
+          → (s : Service) → service_numbered m ≡ Some s → NamesHandler s es → ((f : ℕ) → service_numbered m ≡ Some RequestIrq → es ≡ Term.Lit (value.Fn f) ∷ [] → uses.handles f ≡ true) → (k : List Wire → Tree)
+          → ((vs : List Wire) → AllFit program K vs ts → Handles K s vs → F K live (k vs)) → F K live (values (known_of program) at l.slots es k)
+      service_args at w K live base l st m es ts typed c RequestIrq names h handles k n =
+          let named : TermsWithin uses.taken (Term.Lit (value.Fn h.0) ∷ []) = subst (λ xs. TermsWithin uses.taken xs) h.1 c in
+          let taken : K.uses.taken h.0 ≡ true = ap (λ (u : Uses). u.taken h.0) st.globals.uses_are ∙ named.0 in
+          subst (λ xs. F K live (values (known_of program) at l.slots xs k)) (sym h.1)
+          (n (wire.Fn h.0 ∷ []) (literal_all K h.0 ts (subst (λ xs. HaveAll program here.slots xs ts) h.1 typed) taken) (h.0, refl, ap (λ (u : Uses). u.handles h.0) st.globals.uses_are ∙ handles h.0 names h.1))
+      service_args at w K live base l st m es ts typed c s names h handles k n = values_go at w K here.slots live base l st es ts typed c k (λ vs all. n vs all tt)
 
-      call_fair : (at : At) → IsPlace side at → (K : Knowledge) (live base : List Wire) (l : Locals) → Stands K here.slots live base l → (form : CallOf) (c : Called) (t : Ty) → gives_by c program here.slots form t → (k : Wire → Tree) → ValueFair K live t k → F K live (call_by side low here at l.slots form c k)
-      call_fair at w K live base l st form (Called.Direct f) t c k n =
-          values_go at w K here.slots live base l st form.args (map (λ (p : Param). p.ty) c.func.params) c.call_is.args (λ vs. direct side low here at f vs k) (λ vs all. direct_fair at w K live st.globals f c.func c.names vs all k (subst (λ u. ValueFair K live u k) c.is n))
-      call_fair at w K live base l st form (Called.Through e) t c k n =
-          value_goes at w K here.slots live base l st e (ty.Fun (t ∷ c.params)) c.pointer (λ v. values (known_of program) at l.slots form.args (λ vs. through side low here at v vs k))
-          (λ v fits. values_go at w K here.slots live base l st form.args c.params c.call_is.args (λ vs. through side low here at v vs k)
-          (λ vs all. through_fair at w K live st.globals t c.params v vs (subst (λ y. FitsLayer program K y v) (outs-Fun (t ∷ c.params)) fits) all k n))
-      call_fair at w K live base l st form (Called.Service m) t c k n =
-          service_args at w K live base l st form.args c.signature.params c.args c.service c.handler (λ vs. chosen (m == 15) (through side low here at (first_of vs) (rest_of vs)) (serves (known_of program) m at form vs) k) (λ vs all handles. by_number vs all handles (m == 15) refl)
+      call_fair : (at : At) → IsPlace side at → (K : Knowledge) (live base : List Wire) (l : Locals) → Stands K here.slots live base l → (form : CallOf) (c : Called) (t : Ty) → gives_by c program here.slots form t → CalleeWithin program uses here.slots at.func c form.args → TermsWithin uses.taken form.args → (k : Wire → Tree) → ValueFair K live t k → F K live (call_by side low here at l.slots form c k)
+      call_fair at w K live base l st form (Called.Direct f) t c x xs k n =
+          values_go at w K here.slots live base l st form.args (map (λ (p : Param). p.ty) c.func.params) c.call_is.args xs (λ vs. direct side low here at f vs k) (λ vs all. direct_fair at w K live st.globals f c.func c.names vs all x k (subst (λ u. ValueFair K live u k) c.is n))
+      call_fair at w K live base l st form (Called.Through e) t c x xs k n =
+          value_goes at w K here.slots live base l st e (ty.Fun (t ∷ c.params)) c.pointer x.0 (λ v. values (known_of program) at l.slots form.args (λ vs. through side low here at v vs k))
+          (λ v fits. values_go at w K here.slots live base l st form.args c.params c.call_is.args xs (λ vs. through side low here at v vs k)
+          (λ vs all. through_fair at w K live st.globals t c.params v vs (subst (λ y. FitsLayer program K y v) (outs-Fun (t ∷ c.params)) fits) all (x.1 (t ∷ c.params) c.pointer) k n))
+      call_fair at w K live base l st form (Called.Service m) t c x xs k n =
+          service_args at w K live base l st m form.args c.signature.params c.args xs c.service c.names c.handler x (λ vs. chosen (m == 15) (through side low here at (first_of vs) (rest_of vs)) (serves (known_of program) m at form vs) k) (λ vs all handles. by_number vs all handles (m == 15) refl)
         where
-          by_number : (vs : List Wire) → AllFit program K vs c.signature.params → Handles c.service vs → (b : Bool) → (m == 15) ≡ b
+          by_number : (vs : List Wire) → AllFit program K vs c.signature.params → Handles K c.service vs → (b : Bool) → (m == 15) ≡ b
               → F K live (chosen b (through side low here at (first_of vs) (rest_of vs)) (serves (known_of program) m at form vs) k)
           by_number vs all handles true q = let none : service_numbered 15 ≡ Some c.service = subst (λ i. service_numbered i ≡ Some c.service) (eqb-true _ _ q) c.names in absurd (not_served none)
           by_number vs all handles false q =
@@ -551,92 +569,92 @@ module _ (program : Program) (sound : IsSound program) (own : ℕ → Option Bod
           (texts_fair at w K live (kind_by (out-Ty d.slot.ty)) d.slot.ty (slot_of l.slots i) d.slot.count (λ b. text_fits K d.slot.ty b d.characters) held.0 held.1 0 bytes many (k Ends l) (n.by K (grows_same K) live Ends l st tt))
 
       -- a call, and where its value goes
-      goal_fair : (at : At) → IsPlace side at → (goal : Goal) (form : CallOf) → GoesTo program here.slots here.result goal form → (K : Knowledge) (live base : List Wire) (l : Locals) → Stands K here.slots live base l → (k : Next) → NextFair K here base k
+      goal_fair : (at : At) → IsPlace side at → (goal : Goal) (form : CallOf) → GoesTo program here.slots here.result goal form → GoalWithin uses.taken goal → FormWithin program uses here.slots at.func form → (K : Knowledge) (live base : List Wire) (l : Locals) → Stands K here.slots live base l → (k : Next) → NextFair K here base k
           → F K live (call side low here at l.slots form (λ v. keep (known_of program) here at goal v l k))
-      goal_fair at w Goal.Nowhere form d K live base l st k n =
-          call_fair at w K live base l st form form.callee d.0 d.1 (λ v. k Ends l) (record { by = λ K' g v r. n.by K' g live Ends l (stands_grow K K' g here.slots live base l st) tt })
-      goal_fair at w (Goal.Into p) form d K live base l st k n =
-          call_fair at w K live base l st form form.callee d.given d.call_gives (λ v. keep (known_of program) here at (Goal.Into p) v l k)
-          (record { by = λ K' g v r. into_fair at w K' here.slots live base l (stands_grow K K' g here.slots live base l st) p d.given d.type d.object d.becomes v r (k Ends) (λ l' st'. n.by K' g live Ends l' st' tt) })
-      goal_fair at w Goal.Back form d K live base l st k n =
-          call_fair at w K live base l st form form.callee d.given d.call_gives (λ v. keep (known_of program) here at Goal.Back v l k)
+      goal_fair at w Goal.Nowhere form d c x K live base l st k n =
+          call_fair at w K live base l st form form.callee d.0 d.1 x.0 x.1 (λ v. k Ends l) (record { by = λ K' g v r. n.by K' g live Ends l (stands_grow K K' g here.slots live base l st) tt })
+      goal_fair at w (Goal.Into p) form d c x K live base l st k n =
+          call_fair at w K live base l st form form.callee d.given d.call_gives x.0 x.1 (λ v. keep (known_of program) here at (Goal.Into p) v l k)
+          (record { by = λ K' g v r. into_fair at w K' here.slots live base l (stands_grow K K' g here.slots live base l st) p d.given d.type d.object c d.becomes v r (k Ends) (λ l' st'. n.by K' g live Ends l' st' tt) })
+      goal_fair at w Goal.Back form d c x K live base l st k n =
+          call_fair at w K live base l st form form.callee d.given d.call_gives x.0 x.1 (λ v. keep (known_of program) here at Goal.Back v l k)
           (record {
-            by = λ K' g v r. given_fair program sound side top K' live (stands_grow K K' g here.slots live base l st).globals at w (Fits program K' here.result) (received (known_of program) (Some here.result) v) (λ x. k (Gave x) l)
+            by = λ K' g v r. given_fair program sound side top K' live (stands_grow K K' g here.slots live base l st).globals.globals at w (Fits program K' here.result) (received (known_of program) (Some here.result) v) (λ x. k (Gave x) l)
                 (received_fits program K' here.result d.given here.result refl d.becomes v r) (record { by = λ x fits. n.by K' g live (Gave x) l (stands_grow K K' g here.slots live base l st) (fits_result program K' here.result x fits) });
           })
 
       -- 6.8.6.4
-      returns_fair : (at : At) → IsPlace side at → (e : Option Term) → Returns program here.slots here.result e → (K : Knowledge) (live base : List Wire) (l : Locals) → Stands K here.slots live base l → (k : Next) → NextFair K here base k → F K live (returns side low here at e l k)
-      returns_fair at w None d K live base l st k n = n.by K (grows_same K) live (Gave wire.NoValue) l st tt
-      returns_fair at w (Some e) d K live base l st k n = value_goes at w K here.slots live base l st e here.result d.1 (λ v. k (Gave v) l) (λ v fits. n.by K (grows_same K) live (Gave v) l st (fits_result program K here.result v fits))
+      returns_fair : (at : At) → IsPlace side at → (e : Option Term) → Returns program here.slots here.result e → OptionWithin uses.taken e → (K : Knowledge) (live base : List Wire) (l : Locals) → Stands K here.slots live base l → (k : Next) → NextFair K here base k → F K live (returns side low here at e l k)
+      returns_fair at w None d c K live base l st k n = n.by K (grows_same K) live (Gave wire.NoValue) l st tt
+      returns_fair at w (Some e) d c K live base l st k n = value_goes at w K here.slots live base l st e here.result d.1 c (λ v. k (Gave v) l) (λ v fits. n.by K (grows_same K) live (Gave v) l st (fits_result program K here.result v fits))
 
       turn_fair : (again step body : Go) → GoFair here again → GoFair here step → GoFair here body → GoFair here (turn side low here again step body)
       turn_fair again step body a b e = record { by = λ K live base l st k n. (block_fair here h.place.whole body e).by K live base l st (around again step k) (around_fair K here base again step k a b n) }
 
       mutual
-        stmt_fair : (in_loop : Bool) (code : Code) → IsTyped program here.slots here.result in_loop code → InsideCode side here code → GoFair here (stmt side low here code)
-        stmt_fair in_loop (Code.Declare n i) t p = let w = p.each n (eq-eqb n n refl) in record { by = λ K live base l st k q. (w, h.place.some, h.place.limited, declare_fair i t.right K live base l st k q) }
-        stmt_fair in_loop (Code.Text n i bytes) t p = let w = p.each n (eq-eqb n n refl) in record { by = λ K live base l st k q. (w, h.place.some, h.place.limited, text_fair (in_here here n) w i bytes t.right K live base l st k q) }
-        stmt_fair in_loop (Code.Assign n target e) t p =
+        stmt_fair : (in_loop : Bool) (code : Code) → IsTyped program here.slots here.result in_loop code → CodeWithin program uses here.slots here.func code → InsideCode side here code → GoFair here (stmt side low here code)
+        stmt_fair in_loop (Code.Declare n i) t c p = let w = p.each n (eq-eqb n n refl) in record { by = λ K live base l st k q. (w, h.place.some, h.place.limited, declare_fair i t.right K live base l st k q) }
+        stmt_fair in_loop (Code.Text n i bytes) t c p = let w = p.each n (eq-eqb n n refl) in record { by = λ K live base l st k q. (w, h.place.some, h.place.limited, text_fair (in_here here n) w i bytes t.right K live base l st k q) }
+        stmt_fair in_loop (Code.Assign n target e) t c p =
             let w = p.each n (eq-eqb n n refl) in
             record {
               by = λ K live base l st k q. (
                 w,
                 h.place.some,
                 h.place.limited,
-                value_goes (in_here here n) w K here.slots live base l st e t.right.type t.right.value (λ v. put (known_of program) (in_here here n) target v l (k Ends))
-                    (λ v fits. put_fair (in_here here n) w K here.slots live base l st target t.right.type t.right.object v fits (k Ends) (λ l' st'. q.by K (grows_same K) live Ends l' st' tt)),
+                value_goes (in_here here n) w K here.slots live base l st e t.right.type t.right.value c.1 (λ v. put (known_of program) (in_here here n) target v l (k Ends))
+                    (λ v fits. put_fair (in_here here n) w K here.slots live base l st target t.right.type t.right.object c.0 v fits (k Ends) (λ l' st'. q.by K (grows_same K) live Ends l' st' tt)),
               );
             }
-        stmt_fair in_loop (Code.Call n goal form) t p = let w = p.each n (eq-eqb n n refl) in record { by = λ K live base l st k q. (w, h.place.some, h.place.limited, goal_fair (in_here here n) w goal form t.right K live base l st k q) }
-        stmt_fair in_loop (Code.If n e one other) t p =
+        stmt_fair in_loop (Code.Call n goal form) t c p = let w = p.each n (eq-eqb n n refl) in record { by = λ K live base l st k q. (w, h.place.some, h.place.limited, goal_fair (in_here here n) w goal form t.right c.0 c.1 K live base l st k q) }
+        stmt_fair in_loop (Code.If n e one other) t c p =
             let w = p.each n (own_first n (stands n one || stands n other)) in
             let first : Inside side here one = record { each = λ m q. p.each m (or_right (m == n) _ (or_left (stands m one) (stands m other) q)) } in
             let second : Inside side here other = record { each = λ m q. p.each m (or_right (m == n) _ (or_right (stands m one) (stands m other) q)) } in
-            let branches = λ (v : Wire). pick_fair (is_true v) here (stmts side low here one) (stmts side low here other) (stmts_fair in_loop one t.first first) (stmts_fair in_loop other t.second second) in
+            let branches = λ (v : Wire). pick_fair (is_true v) here (stmts side low here one) (stmts side low here other) (stmts_fair in_loop one t.first c.1 first) (stmts_fair in_loop other t.second c.2 second) in
             record {
               by = λ K live base l st k q. (
                 w,
                 h.place.some,
                 h.place.limited,
-                value_goes (in_here here n) w K here.slots live base l st e t.condition.type t.condition.operand (λ v. in_block side here (chosen (is_true v) (stmts side low here one) (stmts side low here other)) l k)
+                value_goes (in_here here n) w K here.slots live base l st e t.condition.type t.condition.operand c.0 (λ v. in_block side here (chosen (is_true v) (stmts side low here one) (stmts side low here other)) l k)
                     (λ v fits. (block_fair here h.place.whole _ (branches v)).by K live base l st k q),
               );
             }
-        stmt_fair in_loop (Code.Loop n e step body) t p =
+        stmt_fair in_loop (Code.Loop n e step body) t c p =
             let w = p.each n (own_first n (stands n step || stands n body)) in
             let first : Inside side here step = record { each = λ m q. p.each m (or_right (m == n) _ (or_left (stands m step) (stands m body) q)) } in
             let second : Inside side here body = record { each = λ m q. p.each m (or_right (m == n) _ (or_right (stands m step) (stands m body) q)) } in
             let loop : Codes = Codes.Then (Code.Loop n e step body) Codes.End in
-            let again : GoFair here (low here loop) = later in_loop here h loop (only_inside side here (Code.Loop n e step body) p) (t, tt) in
-            let turned = turn_fair (low here loop) (stmts side low here step) (stmts side low here body) again (stmts_fair false step t.stepped first) (stmts_fair true body t.turn second) in
+            let again : GoFair here (low here loop) = later in_loop here h loop (only_inside side here (Code.Loop n e step body) p) (t, tt) (c, tt) in
+            let turned = turn_fair (low here loop) (stmts side low here step) (stmts side low here body) again (stmts_fair false step t.stepped c.1 first) (stmts_fair true body t.turn c.2 second) in
             record {
               by = λ K live base l st k q. (
                 w,
                 h.place.some,
                 h.place.limited,
-                value_goes (in_here here n) w K here.slots live base l st e t.condition.type t.condition.operand
+                value_goes (in_here here n) w K here.slots live base l st e t.condition.type t.condition.operand c.0
                     (λ v. chosen (is_true v) (turn side low here (low here loop) (stmts side low here step) (stmts side low here body)) leaves l k) (λ v fits. (pick_fair (is_true v) here _ leaves turned (leaves_fair here)).by K live base l st k q),
               );
             }
-        stmt_fair in_loop (Code.Block cs) t p = block_fair here h.place.whole (stmts side low here cs) (stmts_fair in_loop cs t (record { each = p.each }))
-        stmt_fair in_loop (Code.Return n e) t p = let w = p.each n (eq-eqb n n refl) in record { by = λ K live base l st k q. (w, h.place.some, h.place.limited, returns_fair (in_here here n) w e t.right K live base l st k q) }
-        stmt_fair in_loop (Code.Jump n way) t p = let w = p.each n (eq-eqb n n refl) in record { by = λ K live base l st k q. (w, h.place.some, h.place.limited, q.by K (grows_same K) live (flow_of way) l st (jumps K here.result way)) }
+        stmt_fair in_loop (Code.Block cs) t c p = block_fair here h.place.whole (stmts side low here cs) (stmts_fair in_loop cs t c (record { each = p.each }))
+        stmt_fair in_loop (Code.Return n e) t c p = let w = p.each n (eq-eqb n n refl) in record { by = λ K live base l st k q. (w, h.place.some, h.place.limited, returns_fair (in_here here n) w e t.right c K live base l st k q) }
+        stmt_fair in_loop (Code.Jump n way) t c p = let w = p.each n (eq-eqb n n refl) in record { by = λ K live base l st k q. (w, h.place.some, h.place.limited, q.by K (grows_same K) live (flow_of way) l st (jumps K here.result way)) }
 
-        stmts_fair : (in_loop : Bool) (cs : Codes) → AreTyped program here.slots here.result in_loop cs → Inside side here cs → GoFair here (stmts side low here cs)
-        stmts_fair in_loop Codes.End t p = leaves_fair here
-        stmts_fair in_loop (Codes.Then code cs) t p = record {
-          by = λ K live base l st k q. (stmt_fair in_loop code t.0 (first_inside side here code cs p)).by K live base l st (on_ends (stmts side low here cs) k)
-              (on_ends_fair K here base (stmts side low here cs) k (stmts_fair in_loop cs t.1 (rest_inside side here code cs p)) q);
+        stmts_fair : (in_loop : Bool) (cs : Codes) → AreTyped program here.slots here.result in_loop cs → CodesWithin program uses here.slots here.func cs → Inside side here cs → GoFair here (stmts side low here cs)
+        stmts_fair in_loop Codes.End t c p = leaves_fair here
+        stmts_fair in_loop (Codes.Then code cs) t c p = record {
+          by = λ K live base l st k q. (stmt_fair in_loop code t.0 c.0 (first_inside side here code cs p)).by K live base l st (on_ends (stmts side low here cs) k)
+              (on_ends_fair K here base (stmts side low here cs) k (stmts_fair in_loop cs t.1 c.1 (rest_inside side here code cs p)) q);
         }
 
-  means_fair : (n : ℕ) (in_loop : Bool) (here : Here) → Runs here → (cs : Codes) → Inside side here cs → AreTyped program here.slots here.result in_loop cs → GoFair here (means side n here cs)
+  means_fair : (n : ℕ) (in_loop : Bool) (here : Here) → Runs here → (cs : Codes) → Inside side here cs → AreTyped program here.slots here.result in_loop cs → CodesWithin program uses here.slots here.func cs → GoFair here (means side n here cs)
   unfolding means
-  means_fair zero in_loop here h cs p t = record { by = λ K live base l st k q. (h.place.whole, h.place.some, h.place.limited, (h.place.whole, refl)) }
-  means_fair (suc n) in_loop here h cs p t = record { by = (stmts_fair (means side n) (means_fair n) here h in_loop cs t p).by }
+  means_fair zero in_loop here h cs p t c = record { by = λ K live base l st k q. (h.place.whole, h.place.some, h.place.limited, (h.place.whole, refl)) }
+  means_fair (suc n) in_loop here h cs p t c = record { by = (stmts_fair (means side n) (means_fair n) here h in_loop cs t c p).by }
 
   -- a function that is started, where its result is that of the tree
-  body_fair : (n f : ℕ) (func : Func) → slice_get program.funcs f ≡ Some func → func.result ≡ top → (K : Knowledge) → KnowsGlobals program K → (vs : List Wire) → AllFit program K vs (map (λ (p : Param). p.ty) func.params) → (depth : ℕ) → depth < 256
+  body_fair : (n f : ℕ) (func : Func) → slice_get program.funcs f ≡ Some func → func.result ≡ top → (K : Knowledge) → Knows K → (vs : List Wire) → AllFit program K vs (map (λ (p : Param). p.ty) func.params) → (depth : ℕ) → depth < 256
       → (below : Tree) (o : Option Body) (body : Body) → own f ≡ o → o ≡ Some body
       → F K [] (goes_to side (means side n) (record { func = f; depth = depth; slots = []; result = ty.Void }) (record { func = f; stmt = 0 }) f vs o (λ v. Tree.Done v below))
   body_fair n f func names same K globals vs all depth d below None body is some = absurd cc
@@ -651,7 +669,7 @@ pub trees_are_fair : TreesAreFair
 unfolding started
 trees_are_fair program sound side h n f func K args depth start below =
     subst (λ (x : Side). Fair program x func.result K [] (started x n f args depth below)) (same_side program side h)
-    (body_fair program sound side.own side.asks h.bodies func.result n f func start.names refl K start.globals args start.fit depth start.limited below (side.own f) start.body refl start.own)
+    (body_fair program sound side.own side.asks h.bodies K.uses start.within.bodies func.result n f func start.names refl K (record { globals = start.globals; uses_are = refl }) args start.fit depth start.limited below (side.own f) start.body refl start.own)
 
 chosen_body : (b : Bool) (o : Option Body) (body : Body) → chosen b o None ≡ Some body → o ≡ Some body
 chosen_body true o body e = e

@@ -1,5 +1,5 @@
 -- What is known stays known as knowledge grows, and values that fit are known.
-use Rattle.std.proofs.Common.{◌≡◌, ℕ, Bool, true, false, List, [], ◌∷◌, ◌++◌, Some, slice_get, sym, subst}
+use Rattle.std.proofs.Common.{◌≡◌, ℕ, Bool, true, false, List, [], ◌∷◌, ◌++◌, Some, slice_get, refl, sym, ap, ◌∙◌, subst}
 use Rattle.mdr_core.specs.Kinds.{is_in_range}
 use Rattle.mdr_core.specs.declared.types.Ty.{Ty, out-Ty}
 use Rattle.mdr_core.specs.declared.types.Ty.TheOpen.{Ty-F}
@@ -8,14 +8,15 @@ use Rattle.mdr_meaning.specs.declared.wire.Wire.{Wire}
 use Rattle.mdr_meaning.specs.declared.wire.Wire.TheVariants as wire
 use Rattle.mdr_meaning.specs.declared.wire.WireView.{WireView}
 use Rattle.mdr_meaning.specs.Fair.{AllFit, AreKnown, IsKnown}
-use Rattle.mdr_meaning.specs.Fit.{Knowledge, Grows, KnowsGlobals, IsDataPointer, IsKnownView, Fits, FitsLayer, IsResult}
+use Rattle.mdr_meaning.specs.Fit.{Knowledge, Grows, KnowsGlobals, IsDataPointer, IsKnownView, Fits, FitsLayer, IsResult, IsFunction}
+use Rattle.mdr_meaning.specs.Within.{Uses}
 use Rattle.mdr_meaning.specs.Slots.{slot_fits}
 
 pub grows_same : (K : Knowledge) → Grows K K
-grows_same K = record { stays = λ serial shape h. h }
+grows_same K = record { stays = λ serial shape h. h; same = refl }
 
 pub grows_on : (K K' K2 : Knowledge) → Grows K K' → Grows K' K2 → Grows K K2
-grows_on K K' K2 g h = record { stays = λ serial shape e. h.stays serial shape (g.stays serial shape e) }
+grows_on K K' K2 g h = record { stays = λ serial shape e. h.stays serial shape (g.stays serial shape e); same = h.same ∙ g.same }
 
 module _ (program : Program) (K K' : Knowledge) (grows : Grows K K') where
   view_grows : (p : WireView) → IsKnownView program K p → IsKnownView program K' p
@@ -25,9 +26,17 @@ module _ (program : Program) (K K' : Knowledge) (grows : Grows K K') where
   data_grows Takes (wire.Ptr p) h = (h.0, view_grows p h.1)
   data_grows Takes v h = h
 
+  taken_grows : (f : ℕ) → K.uses.taken f ≡ true → K'.uses.taken f ≡ true
+  taken_grows f h = ap (λ (u : Uses). u.taken f) grows.same ∙ h
+
+  function_grows : (ts : List Ty) (v : Wire) → IsFunction program K ts v → IsFunction program K' ts v
+  function_grows ts (wire.Fn f) h = (h.0, h.1, h.2, taken_grows f h.3)
+  function_grows ts v h = h
+
   layer_grows : (l : Ty-F Ty) (v : Wire) → FitsLayer program K l v → FitsLayer program K' l v
   layer_grows (Ty-F.Ptr t) v h = data_grows (λ n. slice_get program.types n ≡ Some t) v h
   layer_grows Ty-F.VoidPtr v h = data_grows (λ n. Unit {0}) v h
+  layer_grows (Ty-F.Fun ts) v h = function_grows ts v h
   layer_grows l v h = h
 
   pub fits_grows : (t : Ty) (v : Wire) → Fits program K t v → Fits program K' t v
@@ -39,6 +48,7 @@ module _ (program : Program) (K K' : Knowledge) (grows : Grows K K') where
 
   is_grows : (v : Wire) → IsKnown program K v → IsKnown program K' v
   is_grows (wire.Ptr p) h = view_grows p h
+  is_grows (wire.Fn f) h = (h.0, h.1, taken_grows f h.2)
   is_grows v h = h
 
   pub are_grow : (vs : List Wire) → AreKnown program K vs → AreKnown program K' vs
@@ -81,7 +91,7 @@ module _ (program : Program) (K : Knowledge) where
   known_layer (Ty-F.Ptr t) v h = data_known (λ n. slice_get program.types n ≡ Some t) v h
   known_layer Ty-F.VoidPtr v h = data_known (λ n. Unit {0}) v h
   known_layer (Ty-F.Fun ts) wire.Null h = tt
-  known_layer (Ty-F.Fun ts) (wire.Fn f) h = (h.0, h.1)
+  known_layer (Ty-F.Fun ts) (wire.Fn f) h = (h.0, h.1, h.3)
   known_layer l v h = elim h [ ]
 
   pub all_known : (vs : List Wire) (ts : List Ty) → AllFit program K vs ts → AreKnown program K vs

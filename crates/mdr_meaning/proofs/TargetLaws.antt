@@ -30,6 +30,7 @@ use Rattle.mdr_meaning.specs.Sides.{Side}
 use Rattle.mdr_meaning.specs.Slots.{SlotsFit, elements}
 use Rattle.mdr_meaning.specs.Tree.{Tree}
 use Rattle.mdr_meaning.specs.Values.{integer}
+use Rattle.mdr_meaning.specs.Within.{LvalueWithin, TermWithin}
 use Rattle.mdr_meaning.proofs.ExpressionLaws.{Gives, and_then, elements_extent, given_fair, gives_fair, place_fair, tested, value_fair}
 use Rattle.mdr_meaning.proofs.FitLaws.{cast_fits, pointer_address}
 use Rattle.mdr_meaning.proofs.PointerLaws.{Yields}
@@ -124,19 +125,19 @@ module _ (program : Program) (sound : IsSound program) (side : Side) (result : T
         subst (λ o. Named o (elements x) (at_place (Lvalue.Member p f))) (sym there) same
     member_by p f x None s field names same n = tested program sound side result K live globals at here (λ v. v ≡ wire.Null) (λ v. v ≡ wire.Null) (at_place p) (λ a. member (known_of program) a f) (null_member f) n
 
-    index_by : (p : Lvalue) (e : Term) (x : Extent) (o : Option Ty) (t : Ty) (k : Kind) → x ≡ One t → Has program slots e (ty.Int k) → Named o t (at_place p) → Named o (elements x) (at_place (Lvalue.Index p e))
-    index_by p e x (Some u) t k is h n = n ∙ sym (ap elements is)
-    index_by p e x None t k is h n =
+    index_by : (p : Lvalue) (e : Term) (x : Extent) (o : Option Ty) (t : Ty) (k : Kind) → x ≡ One t → Has program slots e (ty.Int k) → TermWithin K.uses.taken e → Named o t (at_place p) → Named o (elements x) (at_place (Lvalue.Index p e))
+    index_by p e x (Some u) t k is h w n = n ∙ sym (ap elements is)
+    index_by p e x None t k is h w n =
         and_then program sound side result K live globals at here (λ v. v ≡ wire.Null) (λ v. v ≡ wire.Null) (at_place p) (λ a k'. of_term e (λ m. given at (moved a (integer m)) k')) n
         (λ a q. tested program sound side result K live globals at here (Fits program K (ty.Int k)) (λ v. v ≡ wire.Null) (of_term e) (λ m. moved a (integer m)) (λ m r. null_moved a (integer m) q)
-        (value_fair program sound side result K live globals at here slots held fit e (ty.Int k) h))
+        (value_fair program sound side result K live globals at here slots held fit e (ty.Int k) h w))
 
-    move_by : (back : Bool) (p i : Term) (o : Option Ty) (t u : Ty) (k : Kind) → u ≡ t → Has program slots i (ty.Int k) → Named o u (of_term p) → Named o t (of_term (Term.Move back p i))
-    move_by back p i (Some w) t u k same h n = n ∙ same
-    move_by back p i None t u k same h n =
+    move_by : (back : Bool) (p i : Term) (o : Option Ty) (t u : Ty) (k : Kind) → u ≡ t → Has program slots i (ty.Int k) → TermWithin K.uses.taken i → Named o u (of_term p) → Named o t (of_term (Term.Move back p i))
+    move_by back p i (Some v) t u k same h w n = n ∙ same
+    move_by back p i None t u k same h w n =
         and_then program sound side result K live globals at here (λ v. v ≡ wire.Null) (λ v. v ≡ wire.Null) (of_term p) (λ a k'. of_term i (λ m. given at (moved a (steps back (integer m))) k')) n
         (λ a q. tested program sound side result K live globals at here (Fits program K (ty.Int k)) (λ v. v ≡ wire.Null) (of_term i) (λ m. moved a (steps back (integer m))) (λ m r. null_moved a (steps back (integer m)) q)
-        (value_fair program sound side result K live globals at here slots held fit i (ty.Int k) h))
+        (value_fair program sound side result K live globals at here slots held fit i (ty.Int k) h w))
 
     same_type : (o : Option Ty) (t u : Ty) (found : (Wire → Tree) → Tree) → t ≡ u → Named o t found → Named o u found
     same_type o t u found e n = subst (λ x. Named o x found) e n
@@ -151,48 +152,48 @@ module _ (program : Program) (sound : IsSound program) (side : Side) (result : T
     literal_by value.NoValue t h = elim h [ ]
 
     mutual
-      pub named : (p : Lvalue) (x : Extent) → Designates program slots p x → Named (type_named p) (elements x) (at_place p)
-      named (Lvalue.Slot i) x h = subst (λ o. Named (option_map slot_type o) (elements x) (at_place (Lvalue.Slot i))) (sym h.names) (sym (ap elements h.is ∙ elements_extent h.slot.array h.slot.ty h.slot.count))
-      named (Lvalue.Object i) x h = subst (λ o. Named (option_map slot_type o) (elements x) (at_place (Lvalue.Object i))) (sym h.names) (sym (ap elements h.is ∙ elements_extent h.slot.array h.slot.ty h.slot.count))
-      named (Lvalue.Global g) x h = subst (λ o. Named (option_map global_type o) (elements x) (at_place (Lvalue.Global g))) (sym h.names) (sym (ap elements h.is ∙ elements_extent h.def.array h.def.ty h.def.count))
-      named (Lvalue.Deref e) x h = same_type (type_pointed e) h.type (elements x) (of_term e) (sym (ap elements h.is)) (pointed e h.type h.pointer)
-      named (Lvalue.Member p f) x h =
-          member_by p f x (type_named p) h.struct h.field h.names (sym (ap elements h.is ∙ elements_extent h.field.array h.field.ty h.field.count)) (named p (One (ty.Struct h.struct)) h.whole)
-      named (Lvalue.Index p e) x h = index_by p e x (type_named p) h.type h.kind h.is h.index (named p (Many h.type h.count) h.array)
+      pub named : (p : Lvalue) (x : Extent) → Designates program slots p x → LvalueWithin K.uses.taken p → Named (type_named p) (elements x) (at_place p)
+      named (Lvalue.Slot i) x h w = subst (λ o. Named (option_map slot_type o) (elements x) (at_place (Lvalue.Slot i))) (sym h.names) (sym (ap elements h.is ∙ elements_extent h.slot.array h.slot.ty h.slot.count))
+      named (Lvalue.Object i) x h w = subst (λ o. Named (option_map slot_type o) (elements x) (at_place (Lvalue.Object i))) (sym h.names) (sym (ap elements h.is ∙ elements_extent h.slot.array h.slot.ty h.slot.count))
+      named (Lvalue.Global g) x h w = subst (λ o. Named (option_map global_type o) (elements x) (at_place (Lvalue.Global g))) (sym h.names) (sym (ap elements h.is ∙ elements_extent h.def.array h.def.ty h.def.count))
+      named (Lvalue.Deref e) x h w = same_type (type_pointed e) h.type (elements x) (of_term e) (sym (ap elements h.is)) (pointed e h.type h.pointer w)
+      named (Lvalue.Member p f) x h w =
+          member_by p f x (type_named p) h.struct h.field h.names (sym (ap elements h.is ∙ elements_extent h.field.array h.field.ty h.field.count)) (named p (One (ty.Struct h.struct)) h.whole w)
+      named (Lvalue.Index p e) x h w = index_by p e x (type_named p) h.type h.kind h.is h.index w.1 (named p (Many h.type h.count) h.array w.0)
 
-      pub pointed : (e : Term) (t : Ty) → Has program slots e (ty.Ptr t) → Named (type_pointed e) t (of_term e)
-      pointed (Term.Lit v) t h = literal_by v t h
-      pointed (Term.Load (Lvalue.Slot i)) t h =
+      pub pointed : (e : Term) (t : Ty) → Has program slots e (ty.Ptr t) → TermWithin K.uses.taken e → Named (type_pointed e) t (of_term e)
+      pointed (Term.Lit v) t h w = literal_by v t h
+      pointed (Term.Load (Lvalue.Slot i)) t h w =
           let slot = h.object in
           let type : slot.slot.ty ≡ ty.Ptr t = sym (ap elements slot.is ∙ elements_extent slot.slot.array slot.slot.ty slot.slot.count) in
           subst (λ o. Named o t (of_term (Term.Load (Lvalue.Slot i)))) (sym (ap (λ o. target_of (option_map slot_type o)) slot.names ∙ ap target_by (ap out-Ty type ∙ outs-Ptr t))) refl
-      pointed (Term.Load (Lvalue.Object i)) t h = load_by (type_named (Lvalue.Object i)) t (at_place (Lvalue.Object i)) (named (Lvalue.Object i) (One (ty.Ptr t)) h.object)
-      pointed (Term.Load (Lvalue.Global g)) t h = load_by (type_named (Lvalue.Global g)) t (at_place (Lvalue.Global g)) (named (Lvalue.Global g) (One (ty.Ptr t)) h.object)
-      pointed (Term.Load (Lvalue.Deref e)) t h = load_by (type_named (Lvalue.Deref e)) t (at_place (Lvalue.Deref e)) (named (Lvalue.Deref e) (One (ty.Ptr t)) h.object)
-      pointed (Term.Load (Lvalue.Member p f)) t h = load_by (type_named (Lvalue.Member p f)) t (at_place (Lvalue.Member p f)) (named (Lvalue.Member p f) (One (ty.Ptr t)) h.object)
-      pointed (Term.Load (Lvalue.Index p e)) t h = load_by (type_named (Lvalue.Index p e)) t (at_place (Lvalue.Index p e)) (named (Lvalue.Index p e) (One (ty.Ptr t)) h.object)
-      pointed (Term.Addr p) t h = same_type (type_named p) h.type t (at_place p) (sym (pointed_same t h.type h.is)) (named p (One h.type) h.object)
-      pointed (Term.Decay p) t h = same_type (type_named p) h.type t (at_place p) (sym (pointed_same t h.type h.is)) (named p (Many h.type h.count) h.array)
-      pointed (Term.FromVoid u e) t h = sym (pointed_same t u h.is)
-      pointed (Term.Move back p i) t h = move_by back p i (type_pointed p) t h.type h.kind (sym (pointed_same t h.type h.is)) h.steps (pointed p h.type h.pointer)
-      pointed (Term.Neg k e) t h = elim (pointer_not_int t k h.is) [ ]
-      pointed (Term.Flip k e) t h = elim (pointer_not_int t k h.is) [ ]
-      pointed (Term.Not e) t h = elim (pointer_not_int t _ h.is) [ ]
-      pointed (Term.Bin op k a b) t h = elim (pointer_not_int t k h.is) [ ]
-      pointed (Term.Rel op a b) t h = elim (pointer_not_int t _ h.is) [ ]
-      pointed (Term.And a b) t h = elim (pointer_not_int t _ h.is) [ ]
-      pointed (Term.Or a b) t h = elim (pointer_not_int t _ h.is) [ ]
-      pointed (Term.Conv k e) t h = elim (pointer_not_int t k h.is) [ ]
-      pointed (Term.ToVoid e) t h = elim (pointer_not_void t h.is) [ ]
-      pointed (Term.Diff p q) t h = elim (pointer_not_int t _ h.is) [ ]
+      pointed (Term.Load (Lvalue.Object i)) t h w = load_by (type_named (Lvalue.Object i)) t (at_place (Lvalue.Object i)) (named (Lvalue.Object i) (One (ty.Ptr t)) h.object w)
+      pointed (Term.Load (Lvalue.Global g)) t h w = load_by (type_named (Lvalue.Global g)) t (at_place (Lvalue.Global g)) (named (Lvalue.Global g) (One (ty.Ptr t)) h.object w)
+      pointed (Term.Load (Lvalue.Deref e)) t h w = load_by (type_named (Lvalue.Deref e)) t (at_place (Lvalue.Deref e)) (named (Lvalue.Deref e) (One (ty.Ptr t)) h.object w)
+      pointed (Term.Load (Lvalue.Member p f)) t h w = load_by (type_named (Lvalue.Member p f)) t (at_place (Lvalue.Member p f)) (named (Lvalue.Member p f) (One (ty.Ptr t)) h.object w)
+      pointed (Term.Load (Lvalue.Index p e)) t h w = load_by (type_named (Lvalue.Index p e)) t (at_place (Lvalue.Index p e)) (named (Lvalue.Index p e) (One (ty.Ptr t)) h.object w)
+      pointed (Term.Addr p) t h w = same_type (type_named p) h.type t (at_place p) (sym (pointed_same t h.type h.is)) (named p (One h.type) h.object w)
+      pointed (Term.Decay p) t h w = same_type (type_named p) h.type t (at_place p) (sym (pointed_same t h.type h.is)) (named p (Many h.type h.count) h.array w)
+      pointed (Term.FromVoid u e) t h w = sym (pointed_same t u h.is)
+      pointed (Term.Move back p i) t h w = move_by back p i (type_pointed p) t h.type h.kind (sym (pointed_same t h.type h.is)) h.steps w.1 (pointed p h.type h.pointer w.0)
+      pointed (Term.Neg k e) t h w = elim (pointer_not_int t k h.is) [ ]
+      pointed (Term.Flip k e) t h w = elim (pointer_not_int t k h.is) [ ]
+      pointed (Term.Not e) t h w = elim (pointer_not_int t _ h.is) [ ]
+      pointed (Term.Bin op k a b) t h w = elim (pointer_not_int t k h.is) [ ]
+      pointed (Term.Rel op a b) t h w = elim (pointer_not_int t _ h.is) [ ]
+      pointed (Term.And a b) t h w = elim (pointer_not_int t _ h.is) [ ]
+      pointed (Term.Or a b) t h w = elim (pointer_not_int t _ h.is) [ ]
+      pointed (Term.Conv k e) t h w = elim (pointer_not_int t k h.is) [ ]
+      pointed (Term.ToVoid e) t h w = elim (pointer_not_void t h.is) [ ]
+      pointed (Term.Diff p q) t h w = elim (pointer_not_int t _ h.is) [ ]
 
     -- ---- a call's value is stored
 
-    pub store_fair : (p : Lvalue) (o : Option Ty) (from to : Ty) → Designates program slots p (One to) → Named o to (at_place p) → Becomes from to → (v : Wire) → IsResult program K from v → (t : Tree) → Fair program side result K live t
+    pub store_fair : (p : Lvalue) (o : Option Ty) (from to : Ty) → Designates program slots p (One to) → LvalueWithin K.uses.taken p → Named o to (at_place p) → Becomes from to → (v : Wire) → IsResult program K from v → (t : Tree) → Fair program side result K live t
         → Fair program side result K live (given at (received (known_of program) o v) (λ x. at_place p (λ q. Tree.Store at q x t)))
-    store_fair p (Some u) from to d n b v h t f =
+    store_fair p (Some u) from to d w n b v h t f =
         given_fair program sound side result K live globals at here (Fits program K to) (received (known_of program) (Some u) v) (λ x. at_place p (λ q. Tree.Store at q x t)) (received_fits program K u from to n b v h)
-        (record { by = λ x fits. (place_fair program sound side result K live globals at here slots held fit p (One to) d).by (λ q. Tree.Store at q x t) (record { by = λ q points. (here, (to, points, fits), f) }) })
-    store_fair p None from to d n b v h t f =
+        (record { by = λ x fits. (place_fair program sound side result K live globals at here slots held fit p (One to) d w).by (λ q. Tree.Store at q x t) (record { by = λ q points. (here, (to, points, fits), f) }) })
+    store_fair p None from to d w n b v h t f =
         given_fair program sound side result K live globals at here (Fits program K from) (received (known_of program) None v) (λ x. at_place p (λ q. Tree.Store at q x t)) (received_as_is program K from v h)
-        (record { by = λ x fits. n.by (λ q. Tree.Store at q x t) (record { by = λ q e. subst (λ w. Fair program side result K live (Tree.Store at w x t)) (sym e) (here, (from, tt, fits), f) }) })
+        (record { by = λ x fits. n.by (λ q. Tree.Store at q x t) (record { by = λ q e. subst (λ y. Fair program side result K live (Tree.Store at y x t)) (sym e) (here, (from, tt, fits), f) }) })

@@ -75,7 +75,7 @@ IsKnown program K (wire.Int k n) = is_in_range k n ≡ true
 IsKnown program K wire.Null = Unit {0}
 IsKnown program K (wire.Ptr p) = IsKnownView program K p
 IsKnown program K wire.Dead = Unit {0}
-IsKnown program K (wire.Fn f) = (func : Func) × (slice_get program.funcs f ≡ Some func)
+IsKnown program K (wire.Fn f) = (func : Func) × (slice_get program.funcs f ≡ Some func) × (K.uses.taken f ≡ true)
 IsKnown program K (wire.Lock s) = ⊥
 IsKnown program K wire.NoValue = ⊥
 
@@ -149,6 +149,7 @@ pub record TakesHandler (program : Program) (K : Knowledge) (a : Asked) : Type 0
   pub takes : TakesArgs program K a (handler_type ∷ [])
   pub func : ℕ
   pub is : a.args ≡ wire.Fn func ∷ []
+  pub handles : K.uses.handles func ≡ true
 
 pub record TakesBirths (program : Program) (a : Asked) : Type 0 where
   pub births : AreBirths program a.shapes
@@ -195,8 +196,9 @@ abbrev pub after : Service → (remains results : List Wire) → List Wire
 after Enter remains rs = remains ++ rs
 after s remains rs = remains
 
--- a call of a function of the other half
-pub record IsCall (program : Program) (K : Knowledge) (func : Func) (f : ℕ) (args : List Wire) (depth : ℕ) : Type 0 where
+-- a call of a function of the other half, by one that may call it
+pub record IsCall (program : Program) (K : Knowledge) (func : Func) (caller f : ℕ) (args : List Wire) (depth : ℕ) : Type 0 where
+  pub calls : K.uses.calls caller f ≡ true
   pub names : slice_get program.funcs f ≡ Some func
   pub fit : AllFit program K args (map (λ (p : Param). p.ty) func.params)
   pub some : 1 ≤ depth
@@ -228,5 +230,5 @@ Fair program side result K live (Tree.Ask a k) =
     × ((K' : Knowledge) → Grows K K' → (rs : List Wire) → IsServed program K' a s rs → Fair program side result K' (after s remains rs) (k rs))))
 Fair program side result K live (Tree.Cross at f args depth k) =
     IsPlace side at
-    × ((func : Func) × IsCall program K func f args depth
+    × ((func : Func) × IsCall program K func at.func f args depth
     × ((K' : Knowledge) → Grows K K' → (v : Wire) → IsResult program K' func.result v → Fair program side result K' live (k v)))

@@ -10,15 +10,17 @@ use Rattle.mdr_meaning.specs.Fair.{AllFit, Fair}
 use Rattle.mdr_meaning.specs.Fit.{Knowledge, KnowsGlobals}
 use Rattle.mdr_meaning.specs.Sides.{Body, Side}
 use Rattle.mdr_meaning.specs.Tree.{Tree}
+use Rattle.mdr_meaning.specs.Within.{IsWithin}
 
 -- the side enters bodies of the program alone, all of them or some
 pub record IsSideOf (program : Program) (side : Side) : Type 0 where
   pub known : side.known ≡ known_of program
   pub bodies : (f : ℕ) (body : Body) → side.own f ≡ Some body → body_of program f ≡ Some body
 
--- a function whose body the side enters is started, where the globals are known
+-- a function whose body the side enters is started, where the globals are known, and what the side's code does with functions
 pub record IsStart (program : Program) (side : Side) (K : Knowledge) (f : ℕ) (func : Func) (args : List Wire) (depth : ℕ) : Type 0 where
   pub globals : KnowsGlobals program K
+  pub within : IsWithin program side K.uses
   pub names : slice_get program.funcs f ≡ Some func
   pub body : Body
   pub own : side.own f ≡ Some body
