@@ -14,3 +14,4 @@ pub mod ExpressionLaws
 pub mod PlacedLaws
 pub mod TargetLaws
 pub mod FairLaws
+pub mod WithinLaws

@@ -97,3 +97,11 @@ abbrev mutual
 -- the bodies of a side keep to it
 pub record IsWithin (program : Program) (side : Side) (uses : Uses) : Type 0 where
   pub bodies : (f : ℕ) (body : Body) → side.own f ≡ Some body → CodesWithin program uses body.slots f body.code
+
+-- no bound at all
+abbrev pub all_uses : Uses
+all_uses = record { taken = λ f. true; calls = λ f g. true; handles = λ f. true }
+
+-- each side and each expression keeps to that
+abbrev pub AllKeepToIt : Type 0
+AllKeepToIt = ((program : Program) (side : Side) → IsWithin program side all_uses) × ((e : Term) → TermWithin all_uses.taken e)

@@ -8,6 +8,7 @@ ghost use Rattle.mdr_meaning.specs.Fuel.{FuelIsNoMatter, StartedFuelIsNoMatter, 
 ghost use Rattle.mdr_meaning.specs.Numbers.{ProgramsAreNumbered};
 ghost use Rattle.mdr_meaning.specs.Placed.{TreesArePlaced};
 ghost use Rattle.mdr_meaning.specs.Walk.{WalksCut, WalksGoOn};
+ghost use Rattle.mdr_meaning.specs.Within.{AllKeepToIt};
 
 /// Equality up to a number of ticks is a relation that each node keeps, and cutting twice is cutting once.
 pub fn equality_up_to_ticks_is_alike()
@@ -60,10 +61,12 @@ pub fn trees_are_placed()
     ensures { TreesArePlaced }
 {}
 
-/// The tree of a sound program's function, started with arguments that fit, names nothing unknown and passes on values
-/// that fit, whatever fitting values it is answered with; and it ends with a value of the function's result or with a
-/// stop that code comes to. This holds on each side of a program.
+/// The tree of a sound program's function, started with arguments that fit, is fair whatever fitting values it is
+/// answered with: it names known blocks alone, passes on values that fit, asks each service as it wants to be asked,
+/// calls only functions that its code may call, ends its objects of locals, and stops for its own reasons. This holds
+/// on each side of a program; and as a bound on what code does with functions, no bound will do.
 pub fn trees_are_fair()
     ensures fair { TreesAreFair }
     ensures sides { SidesAreOfPrograms }
+    ensures all { AllKeepToIt }
 {}
