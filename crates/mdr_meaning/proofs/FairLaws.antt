@@ -25,7 +25,7 @@ use Rattle.mdr_core.specs.Layout.{chosen, zero_value}
 use Rattle.mdr_core.specs.Services.{Service, Kzalloc, Kcalloc, Kfree, Readl, Writel, Printk, RequestIrq, FreeIrq, Deliver, Combolock, Combounlock, Bug, Enter, Leave, Signature, Plain, offered, service_numbered}
 use Rattle.mdr_core.specs.Sound.{IsSound, HasTypedBody}
 use Rattle.mdr_core.specs.Types.{Becomes, HasNumber}
-use Rattle.mdr_core.specs.Typing.{Slot, One, Has, Designates, HaveAll, GoesTo, gives_by, NamesHandler, NamesObject, IsLocal, TakesText, Returns, IsTyped, AreTyped, slots_of}
+use Rattle.mdr_core.specs.Typing.{Slot, One, Has, Designates, HaveAll, GoesTo, gives_by, NamesHandler, NamesObject, IsLocal, TakesText, Returns, IsTyped, AreTyped, slots_of, function_type}
 use Rattle.mdr_core.proofs.Conversions.{converted-in_range}
 use Rattle.mdr_core.proofs.Viewed.{some_same}
 use Rattle.mdr_meaning.specs.declared.shape.Shape64.{Shape64}
@@ -45,15 +45,15 @@ use Rattle.mdr_meaning.specs.Slots.{SlotsFit}
 use Rattle.mdr_meaning.specs.Statements.{around, characters, declared, declared_by, element, kind_by, leaves, on_ends, returns, stmt, stmts, texts, turn}
 use Rattle.mdr_meaning.specs.Tree.{Tree}
 use Rattle.mdr_meaning.specs.Values.{first_of, is_true, natural, natural_of, rest_of, wire_of}
-use Rattle.mdr_meaning.specs.Within.{CalleeWithin, CodeWithin, CodesWithin, FormWithin, GoalWithin, LvalueWithin, OptionWithin, TermWithin, TermsWithin, Uses}
-use Rattle.mdr_meaning.proofs.ExpressionLaws.{given_fair, named_slot, place_fair, value_fair}
+use Rattle.mdr_meaning.specs.Within.{CalleeWithin, CodeWithin, CodesWithin, FormWithin, GoalWithin, LvalueWithin, OptionWithin, TermWithin, TermsWithin, Uses, called_type}
+use Rattle.mdr_meaning.proofs.ExpressionLaws.{Gives, given_fair, named_slot, place_fair, value_fair}
 use Rattle.mdr_meaning.proofs.FitLaws.{literal_fits, of_integer, of_pointer, to_integer, to_pointer}
 use Rattle.mdr_meaning.proofs.GrowthLaws.{all_grow, are_grow, data_known, fits_result, globals_grow, grows_on, grows_same, known_append, result_grows}
 use Rattle.mdr_meaning.proofs.NumberLaws.{left_of, numbered_in}
 use Rattle.mdr_meaning.proofs.PlacedLaws.{IsHere, Inside, InsideCode, first_inside, only_inside, own_first, rest_inside}
 use Rattle.mdr_meaning.proofs.PointerLaws.{at_index_fits}
 use Rattle.mdr_meaning.proofs.SlotLaws.{AreSoundSlots, Filling, Holds, born_points, filling_begins, filling_ends, filling_fills, filling_names, filling_passes, filling_value, framed_holds, holds_grows, object_held, object_holds, params_are_births, plain_holds, set_keeps, sound_slots, zero_fits}
-use Rattle.mdr_meaning.proofs.TargetLaws.{named, received_fits, store_fair}
+use Rattle.mdr_meaning.proofs.TargetLaws.{callee, named, received_fits, store_fair}
 
 first_same : {A : Type 0} {x y : A} {xs ys : List A} → x ∷ xs ≡ y ∷ ys → x ≡ y
 first_same e = cc
@@ -500,11 +500,11 @@ module _ (program : Program) (sound : IsSound program) (own : ℕ → Option Bod
         by_depth false q = (w, refl)
 
       through_fair : (at : At) → IsPlace side at → (K : Knowledge) (live : List Wire) → Knows K → (result : Ty) (params : List Ty) (v : Wire) (vs : List Wire) → IsFunction program K (result ∷ params) v → AllFit program K vs params
-          → ((f : ℕ) (func : Func) → slice_get program.funcs f ≡ Some func → func.result ∷ map (λ (p : Param). p.ty) func.params ≡ result ∷ params → uses.taken f ≡ true → uses.calls at.func f ≡ true)
+          → ((f : ℕ) (func : Func) → slice_get program.funcs f ≡ Some func → function_type func ≡ ty.Fun (result ∷ params) → uses.taken f ≡ true → uses.calls at.func f ≡ true)
           → (k : Wire → Tree) → ValueFair K live result k → F K live (through side low here at v vs k)
       through_fair at w K live globals result params wire.Null vs f all c k n = (w, refl)
       through_fair at w K live globals result params (wire.Fn i) vs f all c k n =
-          direct_fair at w K live globals i f.0 f.1 vs (subst (λ ts. AllFit program K vs ts) (sym (rest_same f.2)) all) (c i f.0 f.1 f.2 (ap (λ (u : Uses). u.taken i) (sym globals.uses_are) ∙ f.3)) k (subst (λ t. ValueFair K live t k) (sym (first_same f.2)) n)
+          direct_fair at w K live globals i f.0 f.1 vs (subst (λ ts. AllFit program K vs ts) (sym (rest_same f.2)) all) (c i f.0 f.1 (ap ty.Fun f.2) (ap (λ (u : Uses). u.taken i) (sym globals.uses_are) ∙ f.3)) k (subst (λ t. ValueFair K live t k) (sym (first_same f.2)) n)
       through_fair at w K live globals result params v vs f all c k n = elim f [ ]
 
       literal_all : (K : Knowledge) (f : ℕ) (ts : List Ty) → HaveAll program here.slots (Term.Lit (value.Fn f) ∷ []) ts → K.uses.taken f ≡ true → AllFit program K (wire.Fn f ∷ []) ts
@@ -527,9 +527,22 @@ module _ (program : Program) (sound : IsSound program) (own : ℕ → Option Bod
       call_fair at w K live base l st form (Called.Direct f) t c x xs k n =
           values_go at w K here.slots live base l st form.args (map (λ (p : Param). p.ty) c.func.params) c.call_is.args xs (λ vs. direct side low here at f vs k) (λ vs all. direct_fair at w K live st.globals f c.func c.names vs all x k (subst (λ u. ValueFair K live u k) c.is n))
       call_fair at w K live base l st form (Called.Through e) t c x xs k n =
-          value_goes at w K here.slots live base l st e (ty.Fun (t ∷ c.params)) c.pointer x.0 (λ v. values (known_of program) at l.slots form.args (λ vs. through side low here at v vs k))
-          (λ v fits. values_go at w K here.slots live base l st form.args c.params c.call_is.args xs (λ vs. through side low here at v vs k)
-          (λ vs all. through_fair at w K live st.globals t c.params v vs (subst (λ y. FitsLayer program K y v) (outs-Fun (t ∷ c.params)) fits) all (x.1 (t ∷ c.params) c.pointer) k n))
+          by_type
+          (callee program sound side top K live st.globals.globals at w here.slots l.slots (slots_fit K here.slots live base l st) e (t ∷ c.params) c.pointer (subst (λ (u : Uses). TermWithin u.taken e) (sym st.globals.uses_are) x.0))
+        where
+          calls_on : Wire → Tree
+          calls_on v = values (known_of program) at l.slots form.args (λ vs. through side low here at v vs k)
+
+          by_type : (called_type program here.slots e ≡ Some (ty.Fun (t ∷ c.params))) ⊎ Gives program sound side top K live st.globals.globals at w (λ v. v ≡ wire.Null) (value (known_of program) at l.slots e)
+              → F K live (value (known_of program) at l.slots e calls_on)
+          by_type (inl q) =
+              value_goes at w K here.slots live base l st e (ty.Fun (t ∷ c.params)) c.pointer x.0 calls_on
+              (λ v fits. values_go at w K here.slots live base l st form.args c.params c.call_is.args xs (λ vs. through side low here at v vs k)
+              (λ vs all. through_fair at w K live st.globals t c.params v vs (subst (λ y. FitsLayer program K y v) (outs-Fun (t ∷ c.params)) fits) all (λ f func names same taken. x.1 f func names (q ∙ ap Some (sym same)) taken) k n))
+          by_type (inr r) =
+              r.by calls_on (record {
+                by = λ v q. values_go at w K here.slots live base l st form.args c.params c.call_is.args xs (λ vs. through side low here at v vs k) (λ vs all. subst (λ y. F K live (through side low here at y vs k)) (sym q) (w, refl));
+              })
       call_fair at w K live base l st form (Called.Service m) t c x xs k n =
           service_args at w K live base l st m form.args c.signature.params c.args xs c.service c.names c.handler x (λ vs. chosen (m == 15) (through side low here at (first_of vs) (rest_of vs)) (serves (known_of program) m at form vs) k) (λ vs all handles. by_number vs all handles (m == 15) refl)
         where

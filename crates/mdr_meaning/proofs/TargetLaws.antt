@@ -1,5 +1,5 @@
 -- A call's value that is stored: it converts to the type of what is named; and where an lvalue's type isn't known, its address is null.
-use Rattle.std.proofs.Common.{◌≡◌, ℕ, ℤ, Bool, List, Option, Some, None, slice_get, refl, sym, ap, ◌∙◌, subst}
+use Rattle.std.proofs.Common.{◌≡◌, ℕ, ℤ, Bool, List, Option, Some, None, slice_get, refl, sym, ap, ◌∙◌, subst, ◌⊎◌, inl, inr}
 use Rattle.std.specs.Option.{option_map}
 use Rattle.mdr_core.specs.declared.kind.Kind.{Kind}
 use Rattle.mdr_core.specs.declared.place.At.{At}
@@ -12,10 +12,10 @@ use Rattle.mdr_core.specs.declared.program.Field.{Field}
 use Rattle.mdr_core.specs.declared.value.Value.{Value}
 use Rattle.mdr_core.specs.declared.value.Value.TheVariants as value
 use Rattle.mdr_core.specs.Code.{Term, Lvalue}
-use Rattle.mdr_core.specs.Layout.{fields_of, struct_by}
+use Rattle.mdr_core.specs.Layout.{fields_of, struct_by, struct_of}
 use Rattle.mdr_core.specs.Sound.{IsSound}
 use Rattle.mdr_core.specs.Types.{Becomes, becomes_by}
-use Rattle.mdr_core.specs.Typing.{Slot, Extent, One, Many, Has, Designates}
+use Rattle.mdr_core.specs.Typing.{Slot, Extent, One, Many, Has, Designates, function_type}
 use Rattle.mdr_core.proofs.Conversions.{converted-in_range}
 use Rattle.mdr_meaning.specs.declared.wire.Wire.{Wire}
 use Rattle.mdr_meaning.specs.declared.wire.Wire.TheVariants as wire
@@ -30,7 +30,7 @@ use Rattle.mdr_meaning.specs.Sides.{Side}
 use Rattle.mdr_meaning.specs.Slots.{SlotsFit, elements}
 use Rattle.mdr_meaning.specs.Tree.{Tree}
 use Rattle.mdr_meaning.specs.Values.{integer}
-use Rattle.mdr_meaning.specs.Within.{LvalueWithin, TermWithin}
+use Rattle.mdr_meaning.specs.Within.{LvalueWithin, TermWithin, called_type}
 use Rattle.mdr_meaning.proofs.ExpressionLaws.{Gives, and_then, elements_extent, given_fair, gives_fair, place_fair, tested, value_fair}
 use Rattle.mdr_meaning.proofs.FitLaws.{cast_fits, pointer_address}
 use Rattle.mdr_meaning.proofs.PointerLaws.{Yields}
@@ -48,6 +48,39 @@ pointer_not_function t ts e = let layers : Ty-F.Ptr t ≡ Ty-F.Fun ts = sym (out
 
 pointed_same : (t u : Ty) → ty.Ptr t ≡ ty.Ptr u → t ≡ u
 pointed_same t u e = let layers : Ty-F.Ptr t ≡ Ty-F.Ptr u = sym (outs-Ptr t) ∙ ap out-Ty e ∙ outs-Ptr u in cc
+
+function_not_int : (ts : List Ty) (k : Kind) → ty.Fun ts ≡ ty.Int k → ⊥
+function_not_int ts k e = let layers : Ty-F.Fun ts ≡ Ty-F.Int k = sym (outs-Fun ts) ∙ ap out-Ty e ∙ outs-Int k in cc
+
+function_not_void : (ts : List Ty) → ty.Fun ts ≡ ty.VoidPtr → ⊥
+function_not_void ts e = let layers : Ty-F.Fun ts ≡ Ty-F.VoidPtr = sym (outs-Fun ts) ∙ ap out-Ty e ∙ outs-VoidPtr in cc
+
+-- ---- types of lvalues don't depend on functions
+
+field_same : (program : Program) (s : Option ℕ) (f : ℕ) → field_of (without_funcs program) s f ≡ field_of program s f
+field_same program None f = refl
+field_same program (Some s) f = refl
+
+member_same : (program : Program) (o : Option Ty) (f : ℕ) → member_type (without_funcs program) o f ≡ member_type program o f
+member_same program None f = refl
+member_same program (Some t) f = field_same program (struct_of t) f
+
+mutual
+  named_same : (program : Program) (slots : List Slot) (p : Lvalue) → named_type (without_funcs program) slots p ≡ named_type program slots p
+  named_same program slots (Lvalue.Slot i) = refl
+  named_same program slots (Lvalue.Object i) = refl
+  named_same program slots (Lvalue.Global g) = refl
+  named_same program slots (Lvalue.Deref e) = type_same program slots e
+  named_same program slots (Lvalue.Member p f) = ap (λ o. member_type (without_funcs program) o f) (named_same program slots p) ∙ member_same program (named_type program slots p) f
+  named_same program slots (Lvalue.Index p e) = named_same program slots p
+
+  type_same : (program : Program) (slots : List Slot) (e : Term) → pointed_type (without_funcs program) slots e ≡ pointed_type program slots e
+  type_same program slots (Term.Load p) = ap target_of (named_same program slots p)
+  type_same program slots (Term.Addr p) = named_same program slots p
+  type_same program slots (Term.Decay p) = named_same program slots p
+  type_same program slots (Term.FromVoid t e) = refl
+  type_same program slots (Term.Move back p i) = type_same program slots p
+  type_same program slots e = refl
 
 -- ---- conversion as by assignment
 
@@ -186,6 +219,49 @@ module _ (program : Program) (sound : IsSound program) (side : Side) (result : T
       pointed (Term.Conv k e) t h w = elim (pointer_not_int t k h.is) [ ]
       pointed (Term.ToVoid e) t h w = elim (pointer_not_void t h.is) [ ]
       pointed (Term.Diff p q) t h w = elim (pointer_not_int t _ h.is) [ ]
+
+    -- ---- what is called through a pointer
+
+    loaded_by : (o : Option Ty) (t : Ty) (found : (Wire → Tree) → Tree) → Named o t found → (o ≡ Some t) ⊎ Reaches (λ v. v ≡ wire.Null) (λ k. found (λ p. Tree.Load at p k))
+    loaded_by (Some u) t found n = inl (ap Some n)
+    loaded_by None t found n = inr (record { by = λ k g. n.by (λ p. Tree.Load at p k) (record { by = λ v q. null_load k v q }) })
+
+    held_by : (p : Lvalue) (ts : List Ty) → (type_named p ≡ Some (ty.Fun ts)) ⊎ Reaches (λ v. v ≡ wire.Null) (λ k. at_place p (λ q. Tree.Load at q k)) → (named_type program slots p ≡ Some (ty.Fun ts)) ⊎ Reaches (λ v. v ≡ wire.Null) (λ k. at_place p (λ q. Tree.Load at q k))
+    held_by p ts (inl e) = inl (sym (named_same program slots p) ∙ e)
+    held_by p ts (inr r) = inr r
+
+    -- the type of a pointer to a function is known, or it is null
+    pub callee : (e : Term) (ts : List Ty) → Has program slots e (ty.Fun ts) → TermWithin K.uses.taken e → (called_type program slots e ≡ Some (ty.Fun ts)) ⊎ Reaches (λ v. v ≡ wire.Null) (of_term e)
+    callee (Term.Lit value.Null) ts h w = inr (gives_fair program sound side result K live globals at here (λ x. x ≡ wire.Null) wire.Null refl)
+    callee (Term.Lit (value.Fn f)) ts h w = inl (ap (option_map function_type) h.1 ∙ ap Some (sym h.2))
+    callee (Term.Lit (value.Int k n)) ts h w = elim (function_not_int ts k h.0) [ ]
+    callee (Term.Lit (value.Ptr p)) ts h w = elim h [ ]
+    callee (Term.Lit value.Dead) ts h w = elim h [ ]
+    callee (Term.Lit (value.Lock s)) ts h w = elim h [ ]
+    callee (Term.Lit value.NoValue) ts h w = elim h [ ]
+    callee (Term.Load (Lvalue.Slot i)) ts h w =
+        let slot = h.object in
+        let type : slot.slot.ty ≡ ty.Fun ts = sym (ap elements slot.is ∙ elements_extent slot.slot.array slot.slot.ty slot.slot.count) in
+        inl (ap (option_map slot_type) slot.names ∙ ap Some type)
+    callee (Term.Load (Lvalue.Object i)) ts h w = held_by (Lvalue.Object i) ts (loaded_by (type_named (Lvalue.Object i)) (ty.Fun ts) (at_place (Lvalue.Object i)) (named (Lvalue.Object i) (One (ty.Fun ts)) h.object w))
+    callee (Term.Load (Lvalue.Global g)) ts h w = held_by (Lvalue.Global g) ts (loaded_by (type_named (Lvalue.Global g)) (ty.Fun ts) (at_place (Lvalue.Global g)) (named (Lvalue.Global g) (One (ty.Fun ts)) h.object w))
+    callee (Term.Load (Lvalue.Deref e)) ts h w = held_by (Lvalue.Deref e) ts (loaded_by (type_named (Lvalue.Deref e)) (ty.Fun ts) (at_place (Lvalue.Deref e)) (named (Lvalue.Deref e) (One (ty.Fun ts)) h.object w))
+    callee (Term.Load (Lvalue.Member p f)) ts h w = held_by (Lvalue.Member p f) ts (loaded_by (type_named (Lvalue.Member p f)) (ty.Fun ts) (at_place (Lvalue.Member p f)) (named (Lvalue.Member p f) (One (ty.Fun ts)) h.object w))
+    callee (Term.Load (Lvalue.Index p e)) ts h w = held_by (Lvalue.Index p e) ts (loaded_by (type_named (Lvalue.Index p e)) (ty.Fun ts) (at_place (Lvalue.Index p e)) (named (Lvalue.Index p e) (One (ty.Fun ts)) h.object w))
+    callee (Term.Addr p) ts h w = elim (pointer_not_function h.type ts (sym h.is)) [ ]
+    callee (Term.Decay p) ts h w = elim (pointer_not_function h.type ts (sym h.is)) [ ]
+    callee (Term.FromVoid u e) ts h w = elim (pointer_not_function u ts (sym h.is)) [ ]
+    callee (Term.Move back p i) ts h w = elim (pointer_not_function h.type ts (sym h.is)) [ ]
+    callee (Term.Neg k e) ts h w = elim (function_not_int ts k h.is) [ ]
+    callee (Term.Flip k e) ts h w = elim (function_not_int ts k h.is) [ ]
+    callee (Term.Not e) ts h w = elim (function_not_int ts _ h.is) [ ]
+    callee (Term.Bin op k a b) ts h w = elim (function_not_int ts k h.is) [ ]
+    callee (Term.Rel op a b) ts h w = elim (function_not_int ts _ h.is) [ ]
+    callee (Term.And a b) ts h w = elim (function_not_int ts _ h.is) [ ]
+    callee (Term.Or a b) ts h w = elim (function_not_int ts _ h.is) [ ]
+    callee (Term.Conv k e) ts h w = elim (function_not_int ts k h.is) [ ]
+    callee (Term.ToVoid e) ts h w = elim (function_not_void ts h.is) [ ]
+    callee (Term.Diff p q) ts h w = elim (function_not_int ts _ h.is) [ ]
 
     -- ---- a call's value is stored
 

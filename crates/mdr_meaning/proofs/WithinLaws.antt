@@ -54,7 +54,7 @@ all_option (Some e) = all_term e
 module _ (program : Program) (slots : List Slot) (caller : ℕ) where
   all_callee : (c : Called) (args : List Term) → CalleeWithin program all_uses slots caller c args
   all_callee (Called.Direct f) args = refl
-  all_callee (Called.Through e) args = (all_term e, λ types typed f func names same taken. refl)
+  all_callee (Called.Through e) args = (all_term e, λ f func names typed taken. refl)
   all_callee (Called.Service n) args = λ f names is. refl
 
   mutual

@@ -1,15 +1,15 @@
 -- Which functions code names: those whose addresses it takes, those that it may call, and those that handle interrupts.
-use Rattle.std.specs.Prelude.{◌≡◌, ℕ, Bool, true, List, [], ◌∷◌, map, Option, Some, None, slice_get}
+use Rattle.std.specs.Prelude.{◌≡◌, ℕ, Bool, true, List, [], ◌∷◌, Option, Some, None, slice_get}
+use Rattle.std.specs.Option.{option_map}
 use Rattle.mdr_core.specs.declared.types.Ty.{Ty}
-use Rattle.mdr_core.specs.declared.types.Ty.TheVariants as type
 use Rattle.mdr_core.specs.declared.value.Value.{Value}
 use Rattle.mdr_core.specs.declared.value.Value.TheVariants as value
 use Rattle.mdr_core.specs.declared.program.Program.{Program}
 use Rattle.mdr_core.specs.declared.program.Func.{Func}
-use Rattle.mdr_core.specs.declared.program.Param.{Param}
 use Rattle.mdr_core.specs.Code.{Term, Lvalue, Called, CallOf, Goal, Code, Codes}
 use Rattle.mdr_core.specs.Services.{RequestIrq, service_numbered}
-use Rattle.mdr_core.specs.Typing.{Slot, Has}
+use Rattle.mdr_core.specs.Typing.{Slot, function_type}
+use Rattle.mdr_meaning.specs.Named.{named_type}
 use Rattle.mdr_meaning.specs.Sides.{Body, Side}
 
 -- a bound on what code does with functions
@@ -57,12 +57,23 @@ abbrev pub TermsWithin : (ℕ → Bool) → List Term → Type 0
 TermsWithin taken [] = Unit {0}
 TermsWithin taken (e ∷ es) = TermWithin taken e × TermsWithin taken es
 
+-- the type of a function's address. A null constant points to no function
+abbrev pub value_type : Program → Value → Option Ty
+value_type program (value.Fn f) = option_map function_type (slice_get program.funcs f)
+value_type program v = None
+
+-- the type of a pointer to a function: a function's address, or what an object holds
+abbrev pub called_type : Program → List Slot → Term → Option Ty
+called_type program slots (Term.Lit v) = value_type program v
+called_type program slots (Term.Load p) = named_type program slots p
+called_type program slots _ = None
+
 -- a function is called by its name; through a pointer each of the pointer's type whose address is taken; and `request_irq` is given a handler
 abbrev pub CalleeWithin : Program → Uses → List Slot → (caller : ℕ) → Called → List Term → Type 0
 CalleeWithin program uses slots caller (Called.Direct f) args = uses.calls caller f ≡ true
 CalleeWithin program uses slots caller (Called.Through e) args =
     TermWithin uses.taken e
-    × ((types : List Ty) → Has program slots e (type.Fun types) → (f : ℕ) (func : Func) → slice_get program.funcs f ≡ Some func → func.result ∷ map (λ (p : Param). p.ty) func.params ≡ types → uses.taken f ≡ true → uses.calls caller f ≡ true)
+    × ((f : ℕ) (func : Func) → slice_get program.funcs f ≡ Some func → called_type program slots e ≡ Some (function_type func) → uses.taken f ≡ true → uses.calls caller f ≡ true)
 CalleeWithin program uses slots caller (Called.Service n) args = (f : ℕ) → service_numbered n ≡ Some RequestIrq → args ≡ Term.Lit (value.Fn f) ∷ [] → uses.handles f ≡ true
 
 abbrev pub FormWithin : Program → Uses → List Slot → (caller : ℕ) → CallOf → Type 0
