@@ -132,9 +132,12 @@ module _ (program : Program) (sound : IsSound program) (side : Side) (result : T
   null_load : (k : Wire → Tree) (v : Wire) → v ≡ wire.Null → Fair program side result K live (Tree.Load at v k)
   null_load k v q = subst (λ x. Fair program side result K live (Tree.Load at x k)) (sym q) (here, (ty.Void, tt, λ x bad. elim (subst (λ l. FitsLayer program K l x) outs-Void bad) [ ]))
 
+  null_found : (found : (Wire → Tree) → Tree) → Reaches (λ v. v ≡ wire.Null) found → Reaches (λ v. v ≡ wire.Null) (λ k. found (λ p. Tree.Load at p k))
+  null_found found n = record { by = λ k g. n.by (λ p. Tree.Load at p k) (record { by = λ v q. null_load k v q }) }
+
   load_by : (o : Option Ty) (t : Ty) (found : (Wire → Tree) → Tree) → Named o (ty.Ptr t) found → Named (target_of o) t (λ k. found (λ p. Tree.Load at p k))
   load_by (Some u) t found n = subst (λ o. Named o t (λ k. found (λ p. Tree.Load at p k))) (sym (ap target_by (ap out-Ty n ∙ outs-Ptr t))) refl
-  load_by None t found n = record { by = λ k g. n.by (λ p. Tree.Load at p k) (record { by = λ v q. null_load k v q }) }
+  load_by None t found n = null_found found n
 
   module _ (slots : List Slot) (held : List Wire) (fit : SlotsFit program K slots held) where
     abbrev at_place : Lvalue → (Wire → Tree) → Tree
@@ -224,7 +227,7 @@ module _ (program : Program) (sound : IsSound program) (side : Side) (result : T
 
     loaded_by : (o : Option Ty) (t : Ty) (found : (Wire → Tree) → Tree) → Named o t found → (o ≡ Some t) ⊎ Reaches (λ v. v ≡ wire.Null) (λ k. found (λ p. Tree.Load at p k))
     loaded_by (Some u) t found n = inl (ap Some n)
-    loaded_by None t found n = inr (record { by = λ k g. n.by (λ p. Tree.Load at p k) (record { by = λ v q. null_load k v q }) })
+    loaded_by None t found n = inr (null_found found n)
 
     held_by : (p : Lvalue) (ts : List Ty) → (type_named p ≡ Some (ty.Fun ts)) ⊎ Reaches (λ v. v ≡ wire.Null) (λ k. at_place p (λ q. Tree.Load at q k)) → (named_type program slots p ≡ Some (ty.Fun ts)) ⊎ Reaches (λ v. v ≡ wire.Null) (λ k. at_place p (λ q. Tree.Load at q k))
     held_by p ts (inl e) = inl (sym (named_same program slots p) ∙ e)
