@@ -7,7 +7,7 @@ use Rattle.mdr_core.specs.declared.stop.StopKind.TheVariants as stop
 use Rattle.mdr_core.specs.declared.types.Ty.TheVariants.{Void}
 use Rattle.mdr_core.specs.Code.{Term, Lvalue, Called, CallOf, Goal, Code, Codes}
 use Rattle.mdr_core.specs.Conversions.{converted}
-use Rattle.mdr_core.specs.Layout.{zero_value}
+use Rattle.mdr_core.specs.Layout.{chosen, zero_value}
 use Rattle.mdr_core.specs.Operators.{operated, negated, flipped}
 use Rattle.mdr_core.specs.Services.{Service, Kzalloc, Kcalloc, Kfree, Readl, Writel, Printk, RequestIrq, FreeIrq, Deliver, Combolock, Combounlock, Bug, Enter, Leave, service_numbered}
 use Rattle.mdr_core.specs.Typing.{Slot}
@@ -26,7 +26,7 @@ use Rattle.mdr_meaning.specs.Pointers.{cast, difference, global, member, moved, 
 use Rattle.mdr_meaning.specs.Sides.{Body, Side, Here, Locals, Flow, Ends, Breaks, Continues, Returns, Next, Go, Means, flow_of, framed, in_here}
 use Rattle.mdr_meaning.specs.Statements.{around, characters, declared, declared_by, element, leaves, on_ends, returns, stmt, stmts, texts, turn}
 use Rattle.mdr_meaning.specs.Tree.{Tree}
-use Rattle.mdr_meaning.specs.Values.{at_kind, first_of, integer, is_true, natural, pick, rest_of, truth, wire_of}
+use Rattle.mdr_meaning.specs.Values.{at_kind, first_of, integer, is_true, natural, rest_of, truth, wire_of}
 
 module _ (R : ℕ → Tree → Tree → Type 0) (c : IsCongruence R) where
   -- continuations that are alike at r ticks
@@ -53,7 +53,7 @@ module _ (R : ℕ → Tree → Tree → Type 0) (c : IsCongruence R) where
   keeps_read r at (wire.Lock s) = keeps_gives r (wire.Lock s)
   keeps_read r at wire.NoValue = keeps_gives r wire.NoValue
 
-  keeps_pick : (r : ℕ) (b : Bool) (f g : (Wire → Tree) → Tree) → Keeps r Wire f → Keeps r Wire g → Keeps r Wire (pick b f g)
+  keeps_pick : (r : ℕ) (b : Bool) (f g : (Wire → Tree) → Tree) → Keeps r Wire f → Keeps r Wire g → Keeps r Wire (chosen b f g)
   keeps_pick r true f g a b = a
   keeps_pick r false f g a b = b
 
@@ -97,12 +97,12 @@ module _ (R : ℕ → Tree → Tree → Type 0) (c : IsCongruence R) where
           keeps_then r Wire Wire (value known at s a) (λ x k. value known at s b (λ y. given at (related known.program op x y) k)) (keeps_value r at s a)
           (λ x. keeps_tested r at (value known at s b) (λ y. related known.program op x y) (keeps_value r at s b))
       keeps_value r at s (Term.And a b) =
-          keeps_then r Wire Wire (value known at s a) (λ x k. pick (is_true x) (value known at s b) (gives (truth false)) (λ y. k (truth (is_true y)))) (keeps_value r at s a)
-          (λ x. keeps_made r (pick (is_true x) (value known at s b) (gives (truth false))) (λ y. truth (is_true y))
+          keeps_then r Wire Wire (value known at s a) (λ x k. chosen (is_true x) (value known at s b) (gives (truth false)) (λ y. k (truth (is_true y)))) (keeps_value r at s a)
+          (λ x. keeps_made r (chosen (is_true x) (value known at s b) (gives (truth false))) (λ y. truth (is_true y))
           (keeps_pick r (is_true x) (value known at s b) (gives (truth false)) (keeps_value r at s b) (keeps_gives r (truth false))))
       keeps_value r at s (Term.Or a b) =
-          keeps_then r Wire Wire (value known at s a) (λ x k. pick (is_true x) (gives (truth true)) (value known at s b) (λ y. k (truth (is_true y)))) (keeps_value r at s a)
-          (λ x. keeps_made r (pick (is_true x) (gives (truth true)) (value known at s b)) (λ y. truth (is_true y))
+          keeps_then r Wire Wire (value known at s a) (λ x k. chosen (is_true x) (gives (truth true)) (value known at s b) (λ y. k (truth (is_true y)))) (keeps_value r at s a)
+          (λ x. keeps_made r (chosen (is_true x) (gives (truth true)) (value known at s b)) (λ y. truth (is_true y))
           (keeps_pick r (is_true x) (gives (truth true)) (value known at s b) (keeps_gives r (truth true)) (keeps_value r at s b)))
       keeps_value r at s (Term.Conv kind e) = keeps_made r (value known at s e) (λ x. wire.Int kind (converted kind (integer x))) (keeps_value r at s e)
       keeps_value r at s (Term.ToVoid e) = keeps_value r at s e
@@ -205,7 +205,7 @@ module _ (R : ℕ → Tree → Tree → Type 0) (c : IsCongruence R) where
   go_fewer : {r : ℕ} {go go' : Go} (q : ℕ) → q ≤ r → Go_alike r go go' → Go_alike q go go'
   go_fewer q fewer a = record { by = λ p h. a.by p (omega (arith, h, fewer)) }
 
-  pick_alike : (r : ℕ) (b : Bool) {f g f' g' : Go} → Go_alike r f f' → Go_alike r g g' → Go_alike r (pick b f g) (pick b f' g')
+  pick_alike : (r : ℕ) (b : Bool) {f g f' g' : Go} → Go_alike r f f' → Go_alike r g g' → Go_alike r (chosen b f g) (chosen b f' g')
   pick_alike r true a b = a
   pick_alike r false a b = b
 
@@ -307,7 +307,7 @@ module _ (R : ℕ → Tree → Tree → Type 0) (c : IsCongruence R) where
       direct_alike : (r : ℕ) → AreLater r low low' → (here : Here) (at : At) (f : ℕ) (vs : List Wire) {k k' : Wire → Tree} → Soon r k k'
           → R r (direct side low here at f vs k) (direct side low' here at f vs k')
       direct_alike r later here at f vs {k = k} {k' = k'} h = by_depth (nat_lt here.depth 256) where
-        by_depth : (b : Bool) → R r (pick b (goes_to side low here at f vs (side.own f)) (deep side low here at) k) (pick b (goes_to side low' here at f vs (side.own f)) (deep side low' here at) k')
+        by_depth : (b : Bool) → R r (chosen b (goes_to side low here at f vs (side.own f)) (deep side low here at) k) (chosen b (goes_to side low' here at f vs (side.own f)) (deep side low' here at) k')
         by_depth true = goes_to_alike r later here at f vs (side.own f) h
         by_depth false = c.stop r stop.Depth at
 
@@ -317,7 +317,7 @@ module _ (R : ℕ → Tree → Tree → Type 0) (c : IsCongruence R) where
 
       -- service 15, and the others
       service_alike : (r : ℕ) → AreLater r low low' → (here : Here) (n : ℕ) (at : At) (form : CallOf) (vs : List Wire) (b : Bool) {k k' : Wire → Tree} → Soon r k k'
-          → R r (pick b (through side low here at (first_of vs) (rest_of vs)) (serves side.known n at form vs) k) (pick b (through side low' here at (first_of vs) (rest_of vs)) (serves side.known n at form vs) k')
+          → R r (chosen b (through side low here at (first_of vs) (rest_of vs)) (serves side.known n at form vs) k) (chosen b (through side low' here at (first_of vs) (rest_of vs)) (serves side.known n at form vs) k')
       service_alike r later here n at form vs true h = through_alike r later here at (first_of vs) (rest_of vs) h
       service_alike r later here n at form vs false {k = k} {k' = k'} h = (keeps_serves side.known r n at form vs (service_numbered n)).by k k' (record { at = h.by r (le_refl r) })
 

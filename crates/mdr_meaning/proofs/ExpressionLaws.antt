@@ -14,7 +14,7 @@ use Rattle.mdr_core.specs.declared.code.BinOp.TheVariants.{Add, Sub, Mul, Div, R
 use Rattle.mdr_core.specs.Code.{Term, Lvalue}
 use Rattle.mdr_core.specs.Conversions.{converted}
 use Rattle.mdr_core.specs.Kinds.{is_in_range}
-use Rattle.mdr_core.specs.Layout.{fields_of, fields_or}
+use Rattle.mdr_core.specs.Layout.{chosen, fields_of, fields_or}
 use Rattle.mdr_core.specs.Operators.{operated, negated, flipped, is_right_operand}
 use Rattle.mdr_core.specs.Sound.{IsSound}
 use Rattle.mdr_core.specs.Types.{HasNumber}
@@ -32,7 +32,8 @@ use Rattle.mdr_meaning.specs.Pointers.{cast, difference, global, member, moved, 
 use Rattle.mdr_meaning.specs.Sides.{Side}
 use Rattle.mdr_meaning.specs.Slots.{slot_fits, SlotsFit, elements}
 use Rattle.mdr_meaning.specs.Tree.{Tree}
-use Rattle.mdr_meaning.specs.Values.{at_kind, integer, is_true, pick, truth, wire_of}
+use Rattle.mdr_meaning.specs.Values.{at_kind, integer, is_true, truth, wire_of}
+use Rattle.mdr_meaning.specs.Within.{LvalueWithin, TermWithin}
 use Rattle.mdr_meaning.proofs.FitLaws.{to_integer, of_integer, to_pointer, of_pointer, to_address, of_address, pointer_address, pointer_known, literal_fits, truth_fits, result_fits, related_fits, difference_fits, cast_fits}
 use Rattle.mdr_meaning.proofs.NumberLaws.{numbered_in}
 use Rattle.mdr_meaning.proofs.PointerLaws.{Yields, global_fits, member_fits, moved_fits}
@@ -62,23 +63,23 @@ field_numbered program sound s f x e = by_struct (slice_get program.structs s) r
   by_struct None q e = absurd cc
   by_struct (Some def) q e = ((sound.structs s def q).fields f x e).in_table
 
-elements_extent : (b : Bool) (t : Ty) (n : ℕ) → elements (extent b t n) ≡ t
+pub elements_extent : (b : Bool) (t : Ty) (n : ℕ) → elements (extent b t n) ≡ t
 elements_extent true t n = refl
 elements_extent false t n = refl
 
-named_slot : (b : Bool) (t u : Ty) (n : ℕ) → One t ≡ extent b u n → u ≡ t
+pub named_slot : (b : Bool) (t u : Ty) (n : ℕ) → One t ≡ extent b u n → u ≡ t
 named_slot true t u n e = absurd cc
 named_slot false t u n e = cc
 
-module _ (program : Program) (sound : IsSound program) (side : Side) (result : Ty) (K : Knowledge) (globals : KnowsGlobals program K) (at : At) (here : IsPlace side at) where
+module _ (program : Program) (sound : IsSound program) (side : Side) (result : Ty) (K : Knowledge) (live : List Wire) (globals : KnowsGlobals program K) (at : At) (here : IsPlace side at) where
   -- what goes on with a value that has P is fair
   pub record Goes (P : Wire → Type 0) (k : Wire → Tree) : Type 0 where
-    pub by : (v : Wire) → P v → Fair program side result K (k v)
+    pub by : (v : Wire) → P v → Fair program side result K live (k v)
 
   pub record Gives (P : Wire → Type 0) (f : (Wire → Tree) → Tree) : Type 0 where
-    pub by : (k : Wire → Tree) → Goes P k → Fair program side result K (f k)
+    pub by : (k : Wire → Tree) → Goes P k → Fair program side result K live (f k)
 
-  pub given_fair : (P : Wire → Type 0) (r : Result Wire StopKind) (k : Wire → Tree) → Yields P r → Goes P k → Fair program side result K (given at r k)
+  pub given_fair : (P : Wire → Type 0) (r : Result Wire StopKind) (k : Wire → Tree) → Yields P r → Goes P k → Fair program side result K live (given at r k)
   given_fair P (Ok v) k h g = g.by v h
   given_fair P (Err kind) k h g = (here, h)
 
@@ -90,16 +91,16 @@ module _ (program : Program) (sound : IsSound program) (side : Side) (result : T
   made : (P Q : Wire → Type 0) (f : (Wire → Tree) → Tree) (m : Wire → Wire) → ((v : Wire) → P v → Q (m v)) → Gives P f → Gives Q (λ k. f (λ x. k (m x)))
   made P Q f m w h = record { by = λ k g. h.by (λ x. k (m x)) (record { by = λ v p. g.by (m v) (w v p) }) }
 
-  tested : (P Q : Wire → Type 0) (f : (Wire → Tree) → Tree) (m : Wire → Result Wire StopKind) → ((v : Wire) → P v → Yields Q (m v)) → Gives P f → Gives Q (λ k. f (λ x. given at (m x) k))
+  pub tested : (P Q : Wire → Type 0) (f : (Wire → Tree) → Tree) (m : Wire → Result Wire StopKind) → ((v : Wire) → P v → Yields Q (m v)) → Gives P f → Gives Q (λ k. f (λ x. given at (m x) k))
   tested P Q f m w h = record { by = λ k g. h.by (λ x. given at (m x) k) (record { by = λ v p. given_fair Q (m v) k (w v p) g }) }
 
-  and_then : (P Q : Wire → Type 0) (f : (Wire → Tree) → Tree) (m : Wire → (Wire → Tree) → Tree) → Gives P f → ((v : Wire) → P v → Gives Q (m v)) → Gives Q (λ k. f (λ x. m x k))
+  pub and_then : (P Q : Wire → Type 0) (f : (Wire → Tree) → Tree) (m : Wire → (Wire → Tree) → Tree) → Gives P f → ((v : Wire) → P v → Gives Q (m v)) → Gives Q (λ k. f (λ x. m x k))
   and_then P Q f m h w = record { by = λ k g. h.by (λ x. m x k) (record { by = λ v p. (w v p).by k g }) }
 
-  gives_fair : (P : Wire → Type 0) (v : Wire) → P v → Gives P (gives v)
+  pub gives_fair : (P : Wire → Type 0) (v : Wire) → P v → Gives P (gives v)
   gives_fair P v p = record { by = λ k g. g.by v p }
 
-  pick_fair : (P : Wire → Type 0) (b : Bool) (f g : (Wire → Tree) → Tree) → Gives P f → Gives P g → Gives P (pick b f g)
+  pick_fair : (P : Wire → Type 0) (b : Bool) (f g : (Wire → Tree) → Tree) → Gives P f → Gives P g → Gives P (chosen b f g)
   pick_fair P true f g a b = a
   pick_fair P false f g a b = b
 
@@ -162,89 +163,89 @@ module _ (program : Program) (sound : IsSound program) (side : Side) (result : T
     loads_fair (Lvalue.Index p e) t found h a = load_fair t found a
 
     mutual
-      pub value_fair : (e : Term) (t : Ty) → Has program slots e t → Gives (Fits program K t) (value (known_of program) at held e)
-      value_fair (Term.Lit v) t h = gives_fair (Fits program K t) (wire_of v) (literal_fits program K v t h)
-      value_fair (Term.Load p) t h = loads_fair p t (place (known_of program) at held p) h.object (place_fair p (One t) h.object)
-      value_fair (Term.Addr p) t h = at_type _ t _ h.is (weaker _ _ _ (λ v q. of_pointer program K h.type v q) (place_fair p (One h.type) h.object))
-      value_fair (Term.Decay p) t h = at_type _ t _ h.is (weaker _ _ _ (λ v q. of_pointer program K h.type v q) (place_fair p (Many h.type h.count) h.array))
-      value_fair (Term.Neg k e) t h =
+      pub value_fair : (e : Term) (t : Ty) → Has program slots e t → TermWithin K.uses.taken e → Gives (Fits program K t) (value (known_of program) at held e)
+      value_fair (Term.Lit v) t h w = gives_fair (Fits program K t) (wire_of v) (literal_fits program K v t h w)
+      value_fair (Term.Load p) t h w = loads_fair p t (place (known_of program) at held p) h.object (place_fair p (One t) h.object w)
+      value_fair (Term.Addr p) t h w = at_type _ t _ h.is (weaker _ _ _ (λ v q. of_pointer program K h.type v q) (place_fair p (One h.type) h.object w))
+      value_fair (Term.Decay p) t h w = at_type _ t _ h.is (weaker _ _ _ (λ v q. of_pointer program K h.type v q) (place_fair p (Many h.type h.count) h.array w))
+      value_fair (Term.Neg k e) t h w =
           at_type _ t _ h.is (weaker _ _ _ (of_integer program K k)
-          (tested _ _ (value (known_of program) at held e) (λ x. at_kind k (negated k (integer x))) (λ v q. result_fits program K k (negated k (integer v)) (λ z r. negated_in_range k (integer v) z r)) (value_fair e (ty.Int k) h.operand)))
-      value_fair (Term.Flip k e) t h =
-          at_type _ t _ h.is (made _ _ (value (known_of program) at held e) (λ x. wire.Int k (flipped k (integer x))) (λ v q. of_integer program K k _ (refl, flipped_in_range k (integer v))) (value_fair e (ty.Int k) h.operand))
-      value_fair (Term.Not e) t h =
-          at_type _ t _ h.is (made _ _ (value (known_of program) at held e) (λ x. truth (not (is_true x))) (λ v q. bool_fits (not (is_true v))) (value_fair e h.operand.type h.operand.operand))
-      value_fair (Term.Bin op k a b) t h =
+          (tested _ _ (value (known_of program) at held e) (λ x. at_kind k (negated k (integer x))) (λ v q. result_fits program K k (negated k (integer v)) (λ z r. negated_in_range k (integer v) z r)) (value_fair e (ty.Int k) h.operand w)))
+      value_fair (Term.Flip k e) t h w =
+          at_type _ t _ h.is (made _ _ (value (known_of program) at held e) (λ x. wire.Int k (flipped k (integer x))) (λ v q. of_integer program K k _ (refl, flipped_in_range k (integer v))) (value_fair e (ty.Int k) h.operand w))
+      value_fair (Term.Not e) t h w =
+          at_type _ t _ h.is (made _ _ (value (known_of program) at held e) (λ x. truth (not (is_true x))) (λ v q. bool_fits (not (is_true v))) (value_fair e h.operand.type h.operand.operand w))
+      value_fair (Term.Bin op k a b) t h w =
           at_type _ t _ h.is
           (and_then (Fits program K (ty.Int k)) (Fits program K (ty.Int k)) (value (known_of program) at held a) (λ x k'. value (known_of program) at held b (λ y. given at (at_kind k (operated op k (integer x) (integer y))) k'))
-          (value_fair a (ty.Int k) h.left)
+          (value_fair a (ty.Int k) h.left w.0)
           (λ x left. weaker _ _ _ (of_integer program K k)
           (tested _ _ (value (known_of program) at held b) (λ y. at_kind k (operated op k (integer x) (integer y)))
           (λ y right. result_fits program K k (operated op k (integer x) (integer y)) (λ z r. result-in_range op k (integer x) (integer y) z (in_kind k x (to_integer program K k x left)) right r))
-          (right_fits op k (value (known_of program) at held b) (Has program slots b) (value_fair b) h.right))))
-      value_fair (Term.Rel op a b) t h =
+          (right_fits op k (value (known_of program) at held b) (Has program slots b) (λ u c. value_fair b u c w.1) h.right))))
+      value_fair (Term.Rel op a b) t h w =
           at_type _ t _ h.is
           (and_then (Fits program K h.type) (Fits program K (ty.Int S32)) (value (known_of program) at held a) (λ x k'. value (known_of program) at held b (λ y. given at (related (known_of program).program op x y) k'))
-          (value_fair a h.type h.left)
+          (value_fair a h.type h.left w.0)
           (λ x left. weaker _ _ _ (of_integer program K S32)
-          (tested _ _ (value (known_of program) at held b) (λ y. related (known_of program).program op x y) (λ y right. related_fits program K (known_of program).program op x y) (value_fair b h.type h.right))))
-      value_fair (Term.And a b) t h =
+          (tested _ _ (value (known_of program) at held b) (λ y. related (known_of program).program op x y) (λ y right. related_fits program K (known_of program).program op x y) (value_fair b h.type h.right w.1))))
+      value_fair (Term.And a b) t h w =
           at_type _ t _ h.is
-          (and_then (Fits program K h.left.type) (Fits program K (ty.Int S32)) (value (known_of program) at held a) (λ x k'. pick (is_true x) (value (known_of program) at held b) (gives (truth false)) (λ y. k' (truth (is_true y))))
-          (value_fair a h.left.type h.left.operand)
-          (λ x left. made (λ v. Unit {0}) _ (pick (is_true x) (value (known_of program) at held b) (gives (truth false))) (λ y. truth (is_true y)) (λ y q. bool_fits (is_true y))
-          (pick_fair (λ v. Unit {0}) (is_true x) (value (known_of program) at held b) (gives (truth false)) (weaker _ _ _ (λ v q. tt) (value_fair b h.right.type h.right.operand)) (gives_fair (λ v. Unit {0}) (truth false) tt))))
-      value_fair (Term.Or a b) t h =
+          (and_then (Fits program K h.left.type) (Fits program K (ty.Int S32)) (value (known_of program) at held a) (λ x k'. chosen (is_true x) (value (known_of program) at held b) (gives (truth false)) (λ y. k' (truth (is_true y))))
+          (value_fair a h.left.type h.left.operand w.0)
+          (λ x left. made (λ v. Unit {0}) _ (chosen (is_true x) (value (known_of program) at held b) (gives (truth false))) (λ y. truth (is_true y)) (λ y q. bool_fits (is_true y))
+          (pick_fair (λ v. Unit {0}) (is_true x) (value (known_of program) at held b) (gives (truth false)) (weaker _ _ _ (λ v q. tt) (value_fair b h.right.type h.right.operand w.1)) (gives_fair (λ v. Unit {0}) (truth false) tt))))
+      value_fair (Term.Or a b) t h w =
           at_type _ t _ h.is
-          (and_then (Fits program K h.left.type) (Fits program K (ty.Int S32)) (value (known_of program) at held a) (λ x k'. pick (is_true x) (gives (truth true)) (value (known_of program) at held b) (λ y. k' (truth (is_true y))))
-          (value_fair a h.left.type h.left.operand)
-          (λ x left. made (λ v. Unit {0}) _ (pick (is_true x) (gives (truth true)) (value (known_of program) at held b)) (λ y. truth (is_true y)) (λ y q. bool_fits (is_true y))
-          (pick_fair (λ v. Unit {0}) (is_true x) (gives (truth true)) (value (known_of program) at held b) (gives_fair (λ v. Unit {0}) (truth true) tt) (weaker _ _ _ (λ v q. tt) (value_fair b h.right.type h.right.operand)))))
-      value_fair (Term.Conv k e) t h =
-          at_type _ t _ h.is (made _ _ (value (known_of program) at held e) (λ x. wire.Int k (converted k (integer x))) (λ v q. of_integer program K k _ (refl, converted-in_range k (integer v))) (value_fair e (ty.Int h.from) h.operand))
-      value_fair (Term.ToVoid e) t h =
-          at_type _ t _ h.is (weaker _ _ _ (λ v q. of_address program K v (pointer_address program K h.type v (to_pointer program K h.type v q))) (value_fair e (ty.Ptr h.type) h.pointer))
-      value_fair (Term.FromVoid u e) t h =
-          at_type _ t _ h.is (weaker _ _ _ (of_pointer program K u) (tested _ _ (value (known_of program) at held e) (cast (known_of program) u) (λ v q. cast_fits program K u v (to_address program K v q)) (value_fair e ty.VoidPtr h.pointer)))
-      value_fair (Term.Move back p i) t h =
+          (and_then (Fits program K h.left.type) (Fits program K (ty.Int S32)) (value (known_of program) at held a) (λ x k'. chosen (is_true x) (gives (truth true)) (value (known_of program) at held b) (λ y. k' (truth (is_true y))))
+          (value_fair a h.left.type h.left.operand w.0)
+          (λ x left. made (λ v. Unit {0}) _ (chosen (is_true x) (gives (truth true)) (value (known_of program) at held b)) (λ y. truth (is_true y)) (λ y q. bool_fits (is_true y))
+          (pick_fair (λ v. Unit {0}) (is_true x) (gives (truth true)) (value (known_of program) at held b) (gives_fair (λ v. Unit {0}) (truth true) tt) (weaker _ _ _ (λ v q. tt) (value_fair b h.right.type h.right.operand w.1)))))
+      value_fair (Term.Conv k e) t h w =
+          at_type _ t _ h.is (made _ _ (value (known_of program) at held e) (λ x. wire.Int k (converted k (integer x))) (λ v q. of_integer program K k _ (refl, converted-in_range k (integer v))) (value_fair e (ty.Int h.from) h.operand w))
+      value_fair (Term.ToVoid e) t h w =
+          at_type _ t _ h.is (weaker _ _ _ (λ v q. of_address program K v (pointer_address program K h.type v (to_pointer program K h.type v q))) (value_fair e (ty.Ptr h.type) h.pointer w))
+      value_fair (Term.FromVoid u e) t h w =
+          at_type _ t _ h.is (weaker _ _ _ (of_pointer program K u) (tested _ _ (value (known_of program) at held e) (cast (known_of program) u) (λ v q. cast_fits program K u v (to_address program K v q)) (value_fair e ty.VoidPtr h.pointer w)))
+      value_fair (Term.Move back p i) t h w =
           at_type _ t _ h.is
           (and_then (Fits program K (ty.Ptr h.type)) (Fits program K (ty.Ptr h.type)) (value (known_of program) at held p) (λ x k'. value (known_of program) at held i (λ n. given at (moved x (steps back (integer n))) k'))
-          (value_fair p (ty.Ptr h.type) h.pointer)
+          (value_fair p (ty.Ptr h.type) h.pointer w.0)
           (λ x points. weaker _ _ _ (of_pointer program K h.type)
-          (tested _ _ (value (known_of program) at held i) (λ n. moved x (steps back (integer n))) (λ n q. moved_fits program sound K h.type x (steps back (integer n)) (to_pointer program K h.type x points)) (value_fair i (ty.Int h.kind) h.steps))))
-      value_fair (Term.Diff p q) t h =
+          (tested _ _ (value (known_of program) at held i) (λ n. moved x (steps back (integer n))) (λ n q. moved_fits program sound K h.type x (steps back (integer n)) (to_pointer program K h.type x points)) (value_fair i (ty.Int h.kind) h.steps w.1))))
+      value_fair (Term.Diff p q) t h w =
           at_type _ t _ h.is
           (and_then (Fits program K (ty.Ptr h.type)) (Fits program K (ty.Int S64)) (value (known_of program) at held p) (λ x k'. value (known_of program) at held q (λ y. given at (difference x y) k'))
-          (value_fair p (ty.Ptr h.type) h.left)
+          (value_fair p (ty.Ptr h.type) h.left w.0)
           (λ x left. weaker _ _ _ (of_integer program K S64)
-          (tested _ _ (value (known_of program) at held q) (difference x) (λ y right. difference_fits program K h.type x y (to_pointer program K h.type x left) (to_pointer program K h.type y right)) (value_fair q (ty.Ptr h.type) h.right))))
+          (tested _ _ (value (known_of program) at held q) (difference x) (λ y right. difference_fits program K h.type x y (to_pointer program K h.type x left) (to_pointer program K h.type y right)) (value_fair q (ty.Ptr h.type) h.right w.1))))
 
-      pub place_fair : (p : Lvalue) (x : Extent) → Designates program slots p x → Gives (PointsTo program K (elements x)) (place (known_of program) at held p)
-      place_fair (Lvalue.Slot i) x h = gives_fair (PointsTo program K (elements x)) wire.Null tt
-      place_fair (Lvalue.Object i) x h = gives_fair (PointsTo program K (elements x)) (slot_of held i) (slot_object i x h.slot h.names h.kept h.is)
-      place_fair (Lvalue.Global g) x h =
+      pub place_fair : (p : Lvalue) (x : Extent) → Designates program slots p x → LvalueWithin K.uses.taken p → Gives (PointsTo program K (elements x)) (place (known_of program) at held p)
+      place_fair (Lvalue.Slot i) x h w = gives_fair (PointsTo program K (elements x)) wire.Null tt
+      place_fair (Lvalue.Object i) x h w = gives_fair (PointsTo program K (elements x)) (slot_of held i) (slot_object i x h.slot h.names h.kept h.is)
+      place_fair (Lvalue.Global g) x h w =
           let table = (sound.globals g h.def h.names).in_table in
           let same : h.def.ty ≡ elements x = sym (ap elements h.is ∙ elements_extent h.def.array h.def.ty h.def.count) in
           gives_fair (PointsTo program K (elements x)) (global (known_of program) g)
           (subst (λ t. PointsTo program K t (global (known_of program) g)) same (global_fits program sound K globals g h.def h.names (numbered_in program.types h.def.ty table.number table.names)))
-      place_fair (Lvalue.Deref e) x h =
-          subst (λ y. Gives (PointsTo program K (elements y)) (value (known_of program) at held e)) (sym h.is) (weaker _ _ _ (λ v q. to_pointer program K h.type v q) (value_fair e (ty.Ptr h.type) h.pointer))
-      place_fair (Lvalue.Member p f) x h =
+      place_fair (Lvalue.Deref e) x h w =
+          subst (λ y. Gives (PointsTo program K (elements y)) (value (known_of program) at held e)) (sym h.is) (weaker _ _ _ (λ v q. to_pointer program K h.type v q) (value_fair e (ty.Ptr h.type) h.pointer w))
+      place_fair (Lvalue.Member p f) x h w =
           let table = field_numbered program sound h.struct f h.field h.names in
           let same : h.field.ty ≡ elements x = sym (ap elements h.is ∙ elements_extent h.field.array h.field.ty h.field.count) in
           tested (PointsTo program K (ty.Struct h.struct)) (PointsTo program K (elements x)) (place (known_of program) at held p) (λ a. member (known_of program) a f)
           (λ v q. subst (λ t. Yields (PointsTo program K t) (member (known_of program) v f)) same
-          (member_fits program sound K v h.struct f h.field h.names (numbered_in program.types h.field.ty table.number table.names) q)) (place_fair p (One (ty.Struct h.struct)) h.whole)
-      place_fair (Lvalue.Index p e) x h =
+          (member_fits program sound K v h.struct f h.field h.names (numbered_in program.types h.field.ty table.number table.names) q)) (place_fair p (One (ty.Struct h.struct)) h.whole w)
+      place_fair (Lvalue.Index p e) x h w =
           subst (λ y. Gives (PointsTo program K (elements y)) (place (known_of program) at held (Lvalue.Index p e))) (sym h.is)
           (and_then (PointsTo program K h.type) (PointsTo program K h.type) (place (known_of program) at held p) (λ a k'. value (known_of program) at held e (λ n. given at (moved a (integer n)) k'))
-          (place_fair p (Many h.type h.count) h.array)
-          (λ a points. tested _ _ (value (known_of program) at held e) (λ n. moved a (integer n)) (λ n q. moved_fits program sound K h.type a (integer n) points) (value_fair e (ty.Int h.kind) h.index)))
+          (place_fair p (Many h.type h.count) h.array w.0)
+          (λ a points. tested _ _ (value (known_of program) at held e) (λ n. moved a (integer n)) (λ n q. moved_fits program sound K h.type a (integer n) points) (value_fair e (ty.Int h.kind) h.index w.1)))
 
 pub expressions_are_fair : ExpressionsAreFair
-expressions_are_fair program side result K at slots held h e t typed k goes =
-    (value_fair program h.sound side result K h.globals at h.here slots held h.fit e t typed).by k (record { by = goes })
+expressions_are_fair program side result K live at slots held h e t typed w k goes =
+    (value_fair program h.sound side result K live h.globals at h.here slots held h.fit e t typed w).by k (record { by = goes })
 
 pub lvalues_are_fair : LvaluesAreFair
-lvalues_are_fair program side result K at slots held h p x typed k goes =
-    (place_fair program h.sound side result K h.globals at h.here slots held h.fit p x typed).by k (record { by = goes })
+lvalues_are_fair program side result K live at slots held h p x typed w k goes =
+    (place_fair program h.sound side result K live h.globals at h.here slots held h.fit p x typed w).by k (record { by = goes })

@@ -7,7 +7,7 @@ use Rattle.mdr_core.specs.declared.stop.StopKind.TheVariants as stop
 use Rattle.mdr_core.specs.declared.types.Ty.TheVariants.{Void}
 use Rattle.mdr_core.specs.Code.{Term, Lvalue, Called, CallOf, Goal, Code, Codes}
 use Rattle.mdr_core.specs.Conversions.{converted}
-use Rattle.mdr_core.specs.Layout.{zero_value}
+use Rattle.mdr_core.specs.Layout.{chosen, zero_value}
 use Rattle.mdr_core.specs.Operators.{operated, negated, flipped}
 use Rattle.mdr_core.specs.Services.{Service, Kzalloc, Kcalloc, Kfree, Readl, Writel, Printk, RequestIrq, FreeIrq, Deliver, Combolock, Combounlock, Bug, Enter, Leave, service_numbered}
 use Rattle.mdr_core.specs.Typing.{Slot}
@@ -26,7 +26,7 @@ use Rattle.mdr_meaning.specs.Pointers.{cast, difference, global, member, moved, 
 use Rattle.mdr_meaning.specs.Sides.{Body, Side, Here, Locals, Flow, Ends, Breaks, Continues, Returns, Next, Go, Means, flow_of, framed, in_here}
 use Rattle.mdr_meaning.specs.Statements.{around, characters, declared, declared_by, element, leaves, on_ends, returns, stmt, stmts, texts, turn}
 use Rattle.mdr_meaning.specs.Tree.{Tree}
-use Rattle.mdr_meaning.specs.Values.{at_kind, first_of, integer, is_true, natural, pick, rest_of, truth, wire_of}
+use Rattle.mdr_meaning.specs.Values.{at_kind, first_of, integer, is_true, natural, rest_of, truth, wire_of}
 
 -- ---- evaluations ask nothing
 
@@ -49,7 +49,7 @@ keeps_read c at (wire.Fn f) = keeps_gives c (wire.Fn f)
 keeps_read c at (wire.Lock s) = keeps_gives c (wire.Lock s)
 keeps_read c at wire.NoValue = keeps_gives c wire.NoValue
 
-keeps_pick : (c : ℕ) (b : Bool) (f g : (Wire → Tree) → Tree) → Keeps c Wire f → Keeps c Wire g → Keeps c Wire (pick b f g)
+keeps_pick : (c : ℕ) (b : Bool) (f g : (Wire → Tree) → Tree) → Keeps c Wire f → Keeps c Wire g → Keeps c Wire (chosen b f g)
 keeps_pick c true f g a b = a
 keeps_pick c false f g a b = b
 
@@ -91,12 +91,12 @@ module _ (known : Numbered) where
         keeps_then c Wire Wire (value known at s a) (λ x k. value known at s b (λ y. given at (related known.program op x y) k)) (keeps_value c at s a)
         (λ x. keeps_tested c at (value known at s b) (λ y. related known.program op x y) (keeps_value c at s b))
     keeps_value c at s (Term.And a b) =
-        keeps_then c Wire Wire (value known at s a) (λ x k. pick (is_true x) (value known at s b) (gives (truth false)) (λ y. k (truth (is_true y)))) (keeps_value c at s a)
-        (λ x. keeps_made c (pick (is_true x) (value known at s b) (gives (truth false))) (λ y. truth (is_true y))
+        keeps_then c Wire Wire (value known at s a) (λ x k. chosen (is_true x) (value known at s b) (gives (truth false)) (λ y. k (truth (is_true y)))) (keeps_value c at s a)
+        (λ x. keeps_made c (chosen (is_true x) (value known at s b) (gives (truth false))) (λ y. truth (is_true y))
         (keeps_pick c (is_true x) (value known at s b) (gives (truth false)) (keeps_value c at s b) (keeps_gives c (truth false))))
     keeps_value c at s (Term.Or a b) =
-        keeps_then c Wire Wire (value known at s a) (λ x k. pick (is_true x) (gives (truth true)) (value known at s b) (λ y. k (truth (is_true y)))) (keeps_value c at s a)
-        (λ x. keeps_made c (pick (is_true x) (gives (truth true)) (value known at s b)) (λ y. truth (is_true y))
+        keeps_then c Wire Wire (value known at s a) (λ x k. chosen (is_true x) (gives (truth true)) (value known at s b) (λ y. k (truth (is_true y)))) (keeps_value c at s a)
+        (λ x. keeps_made c (chosen (is_true x) (gives (truth true)) (value known at s b)) (λ y. truth (is_true y))
         (keeps_pick c (is_true x) (gives (truth true)) (value known at s b) (keeps_gives c (truth true)) (keeps_value c at s b)))
     keeps_value c at s (Term.Conv kind e) = keeps_made c (value known at s e) (λ x. wire.Int kind (converted kind (integer x))) (keeps_value c at s e)
     keeps_value c at s (Term.ToVoid e) = keeps_value c at s e
@@ -141,7 +141,7 @@ record NextFew (d : ℕ) (k : Next) : Type 0 where
 record GoFew (go : Go) : Type 0 where
   by : (d c : ℕ) (l : Locals) (k : Next) → d + owed l.born ≤ c → NextFew d k → Few c (go l k)
 
-pick_few : (b : Bool) {f g : Go} → GoFew f → GoFew g → GoFew (pick b f g)
+pick_few : (b : Bool) {f g : Go} → GoFew f → GoFew g → GoFew (chosen b f g)
 pick_few true a b = a
 pick_few false a b = b
 
@@ -278,14 +278,14 @@ module _ (side : Side) where
 
     direct_few : (d c : ℕ) (at : At) (f : ℕ) (vs : List Wire) (k : Wire → Tree) → d + 2 ≤ c → AfterFew d k → Few c (direct side low here at f vs k)
     direct_few d c at f vs k m h = by_depth (nat_lt here.depth 256) where
-      by_depth : (b : Bool) → Few c (pick b (goes_to side low here at f vs (side.own f)) (deep side low here at) k)
+      by_depth : (b : Bool) → Few c (chosen b (goes_to side low here at f vs (side.own f)) (deep side low here at) k)
       by_depth true = goes_to_few d c at f vs (side.own f) k m h
       by_depth false = few_stop c stop.Depth at
 
     through_few : (d c : ℕ) (at : At) (v : Wire) (vs : List Wire) (k : Wire → Tree) → d + 2 ≤ c → AfterFew d k → Few c (through side low here at v vs k)
     through_few d c at v vs k m h = (keeps_given c ℕ at (function_of v)).by _ (λ f. direct_few d c at f vs k m h)
 
-    service_few : (d c n : ℕ) (at : At) (form : CallOf) (vs : List Wire) (b : Bool) (k : Wire → Tree) → d + 2 ≤ c → AfterFew d k → Few c (pick b (through side low here at (first_of vs) (rest_of vs)) (serves side.known n at form vs) k)
+    service_few : (d c n : ℕ) (at : At) (form : CallOf) (vs : List Wire) (b : Bool) (k : Wire → Tree) → d + 2 ≤ c → AfterFew d k → Few c (chosen b (through side low here at (first_of vs) (rest_of vs)) (serves side.known n at form vs) k)
     service_few d c n at form vs true k m h = through_few d c at (first_of vs) (rest_of vs) k m h
     service_few d c n at form vs false k m h = serves_few side.known d c n at form vs (service_numbered n) k (omega (arith, m)) h
 

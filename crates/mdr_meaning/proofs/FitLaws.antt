@@ -32,6 +32,7 @@ use Rattle.mdr_meaning.specs.Fit.{Knowledge, IsKnownView, IsInteger, IsAddress, 
 use Rattle.mdr_meaning.specs.Numbers.{number_in}
 use Rattle.mdr_meaning.specs.Pointers.{by_order, cast, difference, is_equal, is_one_array, ordered, position, related}
 use Rattle.mdr_meaning.specs.Values.{at_kind, checked, stop_of, truth, wire_of}
+use Rattle.mdr_meaning.specs.Within.{ValueWithin}
 use Rattle.mdr_meaning.proofs.NumberLaws.{numbered_back}
 use Rattle.mdr_meaning.proofs.PointerLaws.{Yields}
 
@@ -89,15 +90,15 @@ module _ (program : Program) (K : Knowledge) where
   null_fits (Ty-F.Struct s) h = absurd cc
   null_fits Ty-F.Void h = absurd cc
 
-  pub literal_fits : (v : Value) (t : Ty) → Literal program v t → Fits program K t (wire_of v)
-  literal_fits (value.Int k n) t h = subst (λ t. Fits program K t (wire.Int k n)) (sym h.0) (of_integer k (wire.Int k n) (refl, h.1))
-  literal_fits value.Null t h = null_fits (out-Ty t) h
-  literal_fits (value.Fn f) t h =
-      subst (λ t. Fits program K t (wire.Fn f)) (sym h.2) (subst (λ l. FitsLayer program K l (wire.Fn f)) (sym (outs-Fun _)) (h.0, h.1, refl))
-  literal_fits (value.Ptr p) t h = elim h [ ]
-  literal_fits value.Dead t h = elim h [ ]
-  literal_fits (value.Lock s) t h = elim h [ ]
-  literal_fits value.NoValue t h = elim h [ ]
+  pub literal_fits : (v : Value) (t : Ty) → Literal program v t → ValueWithin K.uses.taken v → Fits program K t (wire_of v)
+  literal_fits (value.Int k n) t h w = subst (λ t. Fits program K t (wire.Int k n)) (sym h.0) (of_integer k (wire.Int k n) (refl, h.1))
+  literal_fits value.Null t h w = null_fits (out-Ty t) h
+  literal_fits (value.Fn f) t h w =
+      subst (λ t. Fits program K t (wire.Fn f)) (sym h.2) (subst (λ l. FitsLayer program K l (wire.Fn f)) (sym (outs-Fun _)) (h.0, h.1, refl, w))
+  literal_fits (value.Ptr p) t h w = elim h [ ]
+  literal_fits value.Dead t h w = elim h [ ]
+  literal_fits (value.Lock s) t h w = elim h [ ]
+  literal_fits value.NoValue t h w = elim h [ ]
 
   -- ---- operators
 

@@ -2,11 +2,11 @@
 use Rattle.std.proofs.Common.{◌≡◌, ℕ, Bool, true, false, None, refl, ap, le_refl}
 use mathlib.Core.Path.{fun_ext}
 use Rattle.mdr_core.specs.declared.program.Program.{Program}
+use Rattle.mdr_core.specs.Layout.{chosen}
 use Rattle.mdr_meaning.specs.Bodies.{body_of, known_of, started, user_side}
 use Rattle.mdr_meaning.specs.Cut.{SameCut}
 use Rattle.mdr_meaning.specs.Fuel.{FuelIsNoMatter, StartedFuelIsNoMatter, IsUserPart, UserTreesAreEqual}
 use Rattle.mdr_meaning.specs.Sides.{Side}
-use Rattle.mdr_meaning.specs.Values.{pick}
 use Rattle.mdr_meaning.proofs.AlikeLaws.{means_alike, started_alike}
 use Rattle.mdr_meaning.proofs.CutLaws.{cut_alike}
 
@@ -21,7 +21,7 @@ started_fuel_is_no_matter side n m r func less less' args depth below =
 known_equal : (program part : Program) → part.types ≡ program.types → part.structs ≡ program.structs → part.globals ≡ program.globals → known_of part ≡ known_of program
 known_equal program part p q r = λ i. known_of (record { types = p i; structs = q i; globals = r i; funcs = program.funcs })
 
-own_equal : (is_kernel : ℕ → Bool) (program part : Program) (f : ℕ) (b : Bool) → (b ≡ false → body_of part f ≡ body_of program f) → pick b None (body_of part f) ≡ pick b None (body_of program f)
+own_equal : (is_kernel : ℕ → Bool) (program part : Program) (f : ℕ) (b : Bool) → (b ≡ false → body_of part f ≡ body_of program f) → chosen b None (body_of part f) ≡ chosen b None (body_of program f)
 own_equal is_kernel program part f true h = refl
 own_equal is_kernel program part f false h = h refl
 
@@ -29,7 +29,7 @@ side_equal : (is_kernel : ℕ → Bool) (program part : Program) → IsUserPart 
 unfolding user_side
 side_equal is_kernel program part h =
     let known : known_of part ≡ known_of program = known_equal program part h.types h.structs h.globals in
-    let own : (λ f. pick (is_kernel f) None (body_of part f)) ≡ (λ f. pick (is_kernel f) None (body_of program f)) =
+    let own : (λ f. chosen (is_kernel f) None (body_of part f)) ≡ (λ f. chosen (is_kernel f) None (body_of program f)) =
     fun_ext (λ f. own_equal is_kernel program part f (is_kernel f) (h.bodies f)) in
     λ i. record { known = known i; own = own i; asks = true }
 

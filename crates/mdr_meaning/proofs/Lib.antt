@@ -8,5 +8,10 @@ pub mod StopProofs
 pub mod NumberLaws
 pub mod PointerLaws
 pub mod FitLaws
+pub mod GrowthLaws
+pub mod SlotLaws
 pub mod ExpressionLaws
 pub mod PlacedLaws
+pub mod TargetLaws
+pub mod FairLaws
+pub mod WithinLaws

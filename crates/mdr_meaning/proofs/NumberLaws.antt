@@ -6,10 +6,10 @@ use Rattle.mdr_core.specs.declared.types.Ty.{Ty, out-Ty, roll-Ty, out-roll-Ty, r
 use Rattle.mdr_core.specs.declared.types.Ty.TheOpen.{Ty-F}
 use Rattle.mdr_core.specs.declared.types.Ty.TheFolds.{ind-Ty, map-Ty, fold-roll-Ty}
 use Rattle.mdr_core.specs.Kinds.{is_same_kind}
+use Rattle.mdr_core.specs.Layout.{chosen}
 use Rattle.mdr_meaning.specs.Numbers.{all_same, same_layers, is_same_type, number_in, ProgramsAreNumbered}
-use Rattle.mdr_meaning.specs.Values.{pick}
 
-left_of : (x y : Bool) → (x && y) ≡ true → x ≡ true
+pub left_of : (x y : Bool) → (x && y) ≡ true → x ≡ true
 left_of true y h = refl
 left_of false y h = h
 
@@ -20,7 +20,7 @@ right_of false y h = absurd cc
 some_same : {A : Type 0} {x y : A} → Some x ≡ Some y → x ≡ y
 some_same e = cc
 
-not_both : {b : Bool} → b ≡ true → b ≡ false → ⊥
+pub not_both : {b : Bool} → b ≡ true → b ≡ false → ⊥
 not_both p q = cc
 
 kinds_exact : (k l : Kind) → is_same_kind k l ≡ true → k ≡ l
@@ -118,7 +118,7 @@ type_same t = (equal t).is
 -- ---- numbers
 
 number_step : (b : Bool) (t ty : Ty) (ts : List Ty) → is_same_type t ty ≡ b
-    → (b ≡ false → slice_get ts (number_in ts ty) ≡ Some ty) → slice_get (t ∷ ts) (pick b 0 (suc (number_in ts ty))) ≡ Some ty
+    → (b ≡ false → slice_get ts (number_in ts ty) ≡ Some ty) → slice_get (t ∷ ts) (chosen b 0 (suc (number_in ts ty))) ≡ Some ty
 number_step true t ty ts q h = ap Some (types_exact t ty q)
 number_step false t ty ts q h = h refl
 
@@ -136,7 +136,7 @@ numbered_in [] ty i e = absurd cc
 numbered_in (t ∷ ts) ty i e = number_step (is_same_type t ty) t ty ts refl (λ q. let there = other_place t ty ts i e q in numbered_in ts ty there.0 there.1)
 
 -- and no other type has it
-back_step : (b : Bool) (t ty u : Ty) (ts : List Ty) → is_same_type t ty ≡ b → (slice_get ts (number_in ts ty) ≡ Some u → u ≡ ty) → slice_get (t ∷ ts) (pick b 0 (suc (number_in ts ty))) ≡ Some u → u ≡ ty
+back_step : (b : Bool) (t ty u : Ty) (ts : List Ty) → is_same_type t ty ≡ b → (slice_get ts (number_in ts ty) ≡ Some u → u ≡ ty) → slice_get (t ∷ ts) (chosen b 0 (suc (number_in ts ty))) ≡ Some u → u ≡ ty
 back_step true t ty u ts q h e = sym (some_same e) ∙ types_exact t ty q
 back_step false t ty u ts q h e = h e
 

@@ -8,7 +8,7 @@ use Rattle.mdr_core.specs.declared.stop.StopKind.TheVariants as stop
 use Rattle.mdr_core.specs.declared.types.Ty.TheVariants.{Void}
 use Rattle.mdr_core.specs.Code.{Term, Lvalue, Called, CallOf, Goal, Code, Codes}
 use Rattle.mdr_core.specs.Conversions.{converted}
-use Rattle.mdr_core.specs.Layout.{zero_value}
+use Rattle.mdr_core.specs.Layout.{chosen, zero_value}
 use Rattle.mdr_core.specs.Operators.{operated, negated, flipped}
 use Rattle.mdr_core.specs.Services.{Service, Deliver, service_numbered}
 use Rattle.mdr_core.specs.Typing.{Slot}
@@ -28,7 +28,7 @@ use Rattle.mdr_meaning.specs.Pointers.{cast, difference, global, member, moved, 
 use Rattle.mdr_meaning.specs.Sides.{Body, Side, Here, Locals, Flow, Ends, Breaks, Continues, Returns, Next, Go, Means, flow_of, framed, in_here}
 use Rattle.mdr_meaning.specs.Statements.{around, characters, declared, declared_by, leaves, on_ends, returns, stmt, stmts, texts, turn}
 use Rattle.mdr_meaning.specs.Tree.{Tree}
-use Rattle.mdr_meaning.specs.Values.{at_kind, first_of, integer, is_true, pick, rest_of, truth, wire_of}
+use Rattle.mdr_meaning.specs.Values.{at_kind, first_of, integer, is_true, rest_of, truth, wire_of}
 use Rattle.mdr_core.specs.declared.types.Ty.{Ty, out-Ty}
 use Rattle.mdr_core.specs.declared.types.Ty.TheOpen.{Ty-F}
 use Rattle.mdr_core.specs.declared.undefined.Undefined.{Undefined}
@@ -94,7 +94,7 @@ field_goes : (known : Numbered) (v : WireView) (s : Option ℕ) (f : ℕ) → Go
 field_goes known v None f = refl
 field_goes known v (Some s) f = field_by_goes known v s f (slice_get (fields_of known.program.structs s) f)
 
-picked_goes : {A : Type 0} (b : Bool) (r s : Result A StopKind) → Goes r → Goes s → Goes (pick b r s)
+picked_goes : {A : Type 0} (b : Bool) (r s : Result A StopKind) → Goes r → Goes s → Goes (chosen b r s)
 picked_goes true r s h k = h
 picked_goes false r s h k = k
 
@@ -116,6 +116,13 @@ received_goes known (Some t) v = become_goes known (out-Ty t) v
 function_goes : (v : Wire) → Goes (function_of v)
 function_goes (wire.Fn f) = tt
 function_goes v = refl
+
+own : (n : ℕ) → (n == n) ≡ true
+own n = eq-eqb n n refl
+
+-- the statement's own number, before those of its parts
+pub own_first : (n : ℕ) (b : Bool) → (n == n || b) ≡ true
+own_first n b = or_left (n == n) b (own n)
 
 module _ (side : Side) where
   -- ---- evaluations, at a place of the side
@@ -140,7 +147,7 @@ module _ (side : Side) where
     keeps_read (wire.Lock s) = keeps_gives (wire.Lock s)
     keeps_read wire.NoValue = keeps_gives wire.NoValue
 
-    keeps_pick : (b : Bool) (f g : (Wire → Tree) → Tree) → Keeps Wire f → Keeps Wire g → Keeps Wire (pick b f g)
+    keeps_pick : (b : Bool) (f g : (Wire → Tree) → Tree) → Keeps Wire f → Keeps Wire g → Keeps Wire (chosen b f g)
     keeps_pick true f g a b = a
     keeps_pick false f g a b = b
 
@@ -181,12 +188,12 @@ module _ (side : Side) where
             keeps_then Wire Wire (value known at s a) (λ x k. value known at s b (λ y. given at (related known.program op x y) k)) (keeps_value s a)
             (λ x. keeps_tested (value known at s b) (λ y. related known.program op x y) (λ y. related_goes known.program op x y) (keeps_value s b))
         keeps_value s (Term.And a b) =
-            keeps_then Wire Wire (value known at s a) (λ x k. pick (is_true x) (value known at s b) (gives (truth false)) (λ y. k (truth (is_true y)))) (keeps_value s a)
-            (λ x. keeps_made (pick (is_true x) (value known at s b) (gives (truth false))) (λ y. truth (is_true y))
+            keeps_then Wire Wire (value known at s a) (λ x k. chosen (is_true x) (value known at s b) (gives (truth false)) (λ y. k (truth (is_true y)))) (keeps_value s a)
+            (λ x. keeps_made (chosen (is_true x) (value known at s b) (gives (truth false))) (λ y. truth (is_true y))
             (keeps_pick (is_true x) (value known at s b) (gives (truth false)) (keeps_value s b) (keeps_gives (truth false))))
         keeps_value s (Term.Or a b) =
-            keeps_then Wire Wire (value known at s a) (λ x k. pick (is_true x) (gives (truth true)) (value known at s b) (λ y. k (truth (is_true y)))) (keeps_value s a)
-            (λ x. keeps_made (pick (is_true x) (gives (truth true)) (value known at s b)) (λ y. truth (is_true y))
+            keeps_then Wire Wire (value known at s a) (λ x k. chosen (is_true x) (gives (truth true)) (value known at s b) (λ y. k (truth (is_true y)))) (keeps_value s a)
+            (λ x. keeps_made (chosen (is_true x) (gives (truth true)) (value known at s b)) (λ y. truth (is_true y))
             (keeps_pick (is_true x) (gives (truth true)) (value known at s b) (keeps_gives (truth true)) (keeps_value s b)))
         keeps_value s (Term.Conv kind e) = keeps_made (value known at s e) (λ x. wire.Int kind (converted kind (integer x))) (keeps_value s e)
         keeps_value s (Term.ToVoid e) = keeps_value s e
@@ -246,7 +253,7 @@ module _ (side : Side) where
   record GoPlaced (go : Go) : Type 0 where
     by : (l : Locals) (k : Next) → NextPlaced k → Placed side (go l k)
 
-  pick_placed : (b : Bool) {f g : Go} → GoPlaced f → GoPlaced g → GoPlaced (pick b f g)
+  pick_placed : (b : Bool) {f g : Go} → GoPlaced f → GoPlaced g → GoPlaced (chosen b f g)
   pick_placed true a b = a
   pick_placed false a b = b
 
@@ -271,28 +278,28 @@ module _ (side : Side) where
 
   -- ---- in a function of the side
 
-  record IsHere (here : Here) : Type 0 where
-    whole : IsPlace side (in_here here 0)
-    some : 1 ≤ here.depth
-    limited : here.depth ≤ 256
+  pub record IsHere (here : Here) : Type 0 where
+    pub whole : IsPlace side (in_here here 0)
+    pub some : 1 ≤ here.depth
+    pub limited : here.depth ≤ 256
 
-  record Inside (here : Here) (cs : Codes) : Type 0 where
-    each : (n : ℕ) → stands n cs ≡ true → IsPlace side (in_here here n)
+  pub record Inside (here : Here) (cs : Codes) : Type 0 where
+    pub each : (n : ℕ) → stands n cs ≡ true → IsPlace side (in_here here n)
 
-  record InsideCode (here : Here) (c : Code) : Type 0 where
-    each : (n : ℕ) → stands_in n c ≡ true → IsPlace side (in_here here n)
+  pub record InsideCode (here : Here) (c : Code) : Type 0 where
+    pub each : (n : ℕ) → stands_in n c ≡ true → IsPlace side (in_here here n)
 
-  first_inside : (here : Here) (c : Code) (cs : Codes) → Inside here (Codes.Then c cs) → InsideCode here c
+  pub first_inside : (here : Here) (c : Code) (cs : Codes) → Inside here (Codes.Then c cs) → InsideCode here c
   first_inside here c cs h = record { each = λ n e. h.each n (or_left (stands_in n c) (stands n cs) e) }
 
-  rest_inside : (here : Here) (c : Code) (cs : Codes) → Inside here (Codes.Then c cs) → Inside here cs
+  pub rest_inside : (here : Here) (c : Code) (cs : Codes) → Inside here (Codes.Then c cs) → Inside here cs
   rest_inside here c cs h = record { each = λ n e. h.each n (or_right (stands_in n c) (stands n cs) e) }
 
   or_none : (b : Bool) → (b || false) ≡ true → b ≡ true
   or_none true h = refl
   or_none false h = h
 
-  only_inside : (here : Here) (c : Code) → InsideCode here c → Inside here (Codes.Then c Codes.End)
+  pub only_inside : (here : Here) (c : Code) → InsideCode here c → Inside here (Codes.Then c Codes.End)
   only_inside here c h = record { each = λ n e. h.each n (or_none (stands_in n c) e) }
 
   births_placed : (here : Here) → IsPlace side (in_here here 0) → (shapes : List Shape64) (k : List Wire → Tree) → ((ps : List Wire) → Placed side (k ps)) → Placed side (births side here shapes k)
@@ -342,14 +349,14 @@ module _ (side : Side) where
 
     direct_placed : (at : At) → IsPlace side at → (f : ℕ) (vs : List Wire) (k : Wire → Tree) → ((v : Wire) → Placed side (k v)) → Placed side (direct side low here at f vs k)
     direct_placed at w f vs k n = by_depth (nat_lt here.depth 256) refl where
-      by_depth : (b : Bool) → nat_lt here.depth 256 ≡ b → Placed side (pick b (goes_to side low here at f vs (side.own f)) (deep side low here at) k)
+      by_depth : (b : Bool) → nat_lt here.depth 256 ≡ b → Placed side (chosen b (goes_to side low here at f vs (side.own f)) (deep side low here at) k)
       by_depth true q = goes_to_placed at w f vs (side.own f) refl (ltb-true _ _ q) k n
       by_depth false q = (w, refl)
 
     through_placed : (at : At) → IsPlace side at → (v : Wire) (vs : List Wire) (k : Wire → Tree) → ((v : Wire) → Placed side (k v)) → Placed side (through side low here at v vs k)
     through_placed at w v vs k n = (keeps_given at w ℕ (function_of v) (function_goes v)).by _ (λ f. direct_placed at w f vs k n)
 
-    service_placed : (at : At) → IsPlace side at → (m : ℕ) (form : CallOf) (vs : List Wire) (b : Bool) (k : Wire → Tree) → ((v : Wire) → Placed side (k v)) → Placed side (pick b (through side low here at (first_of vs) (rest_of vs)) (serves side.known m at form vs) k)
+    service_placed : (at : At) → IsPlace side at → (m : ℕ) (form : CallOf) (vs : List Wire) (b : Bool) (k : Wire → Tree) → ((v : Wire) → Placed side (k v)) → Placed side (chosen b (through side low here at (first_of vs) (rest_of vs)) (serves side.known m at form vs) k)
     service_placed at w m form vs true k n = through_placed at w (first_of vs) (rest_of vs) k n
     service_placed at w m form vs false k n = (keeps_serves at w side.known m form vs (service_numbered m)).by k n
 
@@ -378,13 +385,6 @@ module _ (side : Side) where
     returns_placed : (at : At) → IsPlace side at → (e : Option Term) (l : Locals) (k : Next) → NextPlaced k → Placed side (returns side low here at e l k)
     returns_placed at w None l k n = n.by (Returns wire.NoValue) l
     returns_placed at w (Some e) l k n = (keeps_value at w side.known l.slots e).by _ (λ v. n.by (Returns v) l)
-
-    own : (n : ℕ) → (n == n) ≡ true
-    own n = eq-eqb n n refl
-
-    -- the statement's own number, before those of its parts
-    own_first : (n : ℕ) (b : Bool) → (n == n || b) ≡ true
-    own_first n b = or_left (n == n) b (own n)
 
     mutual
       stmt_placed : (code : Code) → InsideCode here code → GoPlaced (stmt side low here code)

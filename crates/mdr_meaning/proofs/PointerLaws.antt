@@ -10,7 +10,7 @@ use Rattle.mdr_core.specs.declared.value.View.{View}
 use Rattle.mdr_core.specs.declared.program.Program.{Program}
 use Rattle.mdr_core.specs.declared.program.Field.{Field}
 use Rattle.mdr_core.specs.declared.program.GlobalDef.{GlobalDef}
-use Rattle.mdr_core.specs.Layout.{Alone, cells, cells_at, cells_or, fields_of, field_start, leaves, leaves_below, repeated, struct_by, struct_cells, struct_of}
+use Rattle.mdr_core.specs.Layout.{chosen, Alone, cells, cells_at, cells_or, fields_of, field_start, leaves, leaves_below, repeated, struct_by, struct_cells, struct_of}
 use Rattle.mdr_core.specs.Sound.{IsSound}
 use Rattle.mdr_core.specs.Views.{IsIn, Whole, Element, Inside}
 use Rattle.mdr_core.proofs.Laid.{laid_out, type_has_cells}
@@ -24,7 +24,7 @@ use Rattle.mdr_meaning.specs.Fair.{is_code_stop}
 use Rattle.mdr_meaning.specs.Fit.{Knowledge, KnowsGlobals, IsKnownView, PointsTo, view_of}
 use Rattle.mdr_meaning.specs.Numbers.{number_in}
 use Rattle.mdr_meaning.specs.Pointers.{at_index, global, global_by, field_in, field_view, indexed, member, moved, size, struct_numbered, struct_by as struct_named}
-use Rattle.mdr_meaning.specs.Values.{checked, pick}
+use Rattle.mdr_meaning.specs.Values.{checked}
 
 -- ---- parts of a block
 
@@ -158,13 +158,30 @@ module _ (program : Program) (sound : IsSound program) where
     named : struct_numbered program p.ty ≡ Some s
     named = ap struct_named h.0 ∙ ap struct_by (outs-Struct s)
 
-    by_range : (b : Bool) → nat_lt p.index p.count ≡ b → Yields (PointsTo program K x.ty) (pick b (field_in (known_of program) p (struct_numbered program p.ty) f) (Err stop.Bounds))
+    by_range : (b : Bool) → nat_lt p.index p.count ≡ b → Yields (PointsTo program K x.ty) (chosen b (field_in (known_of program) p (struct_numbered program p.ty) f) (Err stop.Bounds))
     by_range true q = rw (named, field) (known_field K p s f x h.0 field number (ltb-true _ _ q) h.1)
     by_range false q = refl
   member_fits K (wire.Int _ _) s f x field number h = elim h [ ]
   member_fits K (wire.Fn _) s f x field number h = elim h [ ]
   member_fits K (wire.Lock _) s f x field number h = elim h [ ]
   member_fits K wire.NoValue s f x field number h = elim h [ ]
+
+  -- another element of what is viewed, or the place behind it
+  pub at_index_fits : (K : Knowledge) (t : Ty) (p : WireView) (i : ℕ) → slice_get program.types p.ty ≡ Some t → IsKnownView program K p → i ≤ p.count → PointsTo program K t (wire.Ptr (at_index p i))
+  at_index_fits K t p i e h inside = (
+    e,
+    record {
+      shape = h.shape;
+      known = h.known;
+      view = record {
+        ty = h.view.ty;
+        names = h.view.names;
+        part = part_moved program (view_of p) _ 0 h.view.ty h.shape.count refl refl refl h.view.part;
+        inside = inside;
+      };
+      small = h.small;
+    },
+  )
 
   -- 6.5.6
   indexed_fits : (K : Knowledge) (t : Ty) (p : WireView) (i : ℤ) → slice_get program.types p.ty ≡ Some t → IsKnownView program K p → Yields (PointsTo program K t) (indexed p i)
@@ -174,20 +191,7 @@ module _ (program : Program) (sound : IsSound program) where
     inside (negsuc n) q = let low : pos 0 ≤ℤ negsuc n = at_least (negsuc n) (pos 0) (pos p.count) q in absurd (omega (arith, ints))
 
     by_range : (b : Bool) → (not (int_lt i (pos 0)) && not (int_lt (pos p.count) i)) ≡ b → Yields (PointsTo program K t) (checked b stop.Bounds (wire.Ptr (at_index p (unsigned_abs i))))
-    by_range true q = (
-      e,
-      record {
-        shape = h.shape;
-        known = h.known;
-        view = record {
-          ty = h.view.ty;
-          names = h.view.names;
-          part = part_moved program (view_of p) _ 0 h.view.ty h.shape.count refl refl refl h.view.part;
-          inside = inside i q;
-        };
-        small = h.small;
-      },
-    )
+    by_range true q = at_index_fits K t p (unsigned_abs i) e h (inside i q)
     by_range false q = refl
 
   pub moved_fits : (K : Knowledge) (t : Ty) (v : Wire) (n : ℤ) → PointsTo program K t v → Yields (PointsTo program K t) (moved v n)

@@ -9,7 +9,7 @@ use Rattle.mdr_core.specs.Operators.{operated, fitted, fitted_or, quotient}
 use Rattle.mdr_meaning.specs.Bodies.{means, started}
 use Rattle.mdr_meaning.specs.Expressions.{slot_of}
 use Rattle.mdr_meaning.specs.Pointers.{size}
-use Rattle.mdr_meaning.specs.Worked.{CountsDown, Overflows, Divides, Sums, Renews, FillsObject, AsksForObject, BreaksOut, ReturnsOut, Dangles, FillsText, Allocates, Calls, Narrows, Deepens, WalksRing, TakesNode, AddsFour, AddsFive}
+use Rattle.mdr_meaning.specs.Worked.{CountsDown, Overflows, Divides, Sums, Renews, FillsObject, AsksForObject, BreaksOut, ReturnsOut, Dangles, FillsText, Allocates, Calls, Narrows, Deepens, MakesRing, WalksRing, TakesNode, LosesNode, KeepsToken, AddsFour, AddsFive}
 
 pub counts_down : CountsDown
 unfolding means started slot_of operated fitted fitted_or quotient converted is_in_range size cells struct_cells leaves_below field_leaves field_start repeated leaves form.out-Ty denote.Hole.Carrier.out
@@ -86,3 +86,15 @@ fills_text = refl
 pub allocates : Allocates
 unfolding means started slot_of operated fitted fitted_or quotient converted is_in_range size cells struct_cells leaves_below field_leaves field_start repeated leaves form.out-Ty denote.Hole.Carrier.out
 allocates = refl
+
+pub makes_ring : MakesRing
+unfolding means started slot_of operated fitted fitted_or quotient converted is_in_range size cells struct_cells leaves_below field_leaves field_start repeated leaves form.out-Ty denote.Hole.Carrier.out
+makes_ring = refl
+
+pub loses_node : LosesNode
+unfolding means started slot_of operated fitted fitted_or quotient converted is_in_range size cells struct_cells leaves_below field_leaves field_start repeated leaves form.out-Ty denote.Hole.Carrier.out
+loses_node = refl
+
+pub keeps_token : KeepsToken
+unfolding means started slot_of operated fitted fitted_or quotient converted is_in_range size cells struct_cells leaves_below field_leaves field_start repeated leaves form.out-Ty denote.Hole.Carrier.out
+keeps_token = refl

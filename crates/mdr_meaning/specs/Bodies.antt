@@ -8,13 +8,13 @@ use Rattle.mdr_core.specs.declared.code.Stmt.{Stmt}
 use Rattle.mdr_core.specs.declared.types.Ty.TheVariants.{Void}
 use Rattle.mdr_core.specs.Folds.{codes_of}
 use Rattle.mdr_core.specs.Typing.{slots_of}
+use Rattle.mdr_core.specs.Layout.{chosen}
 use Rattle.mdr_meaning.specs.declared.wire.Wire.{Wire}
 use Rattle.mdr_meaning.specs.Calls.{goes_to}
 use Rattle.mdr_meaning.specs.Numbers.{Numbered, numbered}
 use Rattle.mdr_meaning.specs.Sides.{Body, Side, Means, in_here}
 use Rattle.mdr_meaning.specs.Statements.{stmts}
 use Rattle.mdr_meaning.specs.Tree.{Tree}
-use Rattle.mdr_meaning.specs.Values.{pick}
 
 -- ---- trees with fuel
 
@@ -55,7 +55,7 @@ whole_side program = record { known = known_of program; own = body_of program; a
 
 -- one half's bodies are entered: those of the kernel half, where objects are born, or those of the user half, where births and deaths are asked for
 unfoldable pub kernel_side : (is_kernel : ℕ → Bool) → Program → Side
-kernel_side is_kernel program = record { known = known_of program; own = λ f. pick (is_kernel f) (body_of program f) None; asks = false }
+kernel_side is_kernel program = record { known = known_of program; own = λ f. chosen (is_kernel f) (body_of program f) None; asks = false }
 
 unfoldable pub user_side : (is_kernel : ℕ → Bool) → Program → Side
-user_side is_kernel program = record { known = known_of program; own = λ f. pick (is_kernel f) None (body_of program f); asks = true }
+user_side is_kernel program = record { known = known_of program; own = λ f. chosen (is_kernel f) None (body_of program f); asks = true }

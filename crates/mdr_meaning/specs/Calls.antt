@@ -5,6 +5,7 @@ use Rattle.mdr_core.specs.declared.stop.StopKind.{StopKind}
 use Rattle.mdr_core.specs.declared.stop.StopKind.TheVariants as stop
 use Rattle.mdr_core.specs.declared.place.At.{At}
 use Rattle.mdr_core.specs.Code.{Lvalue, Called, CallOf, Goal}
+use Rattle.mdr_core.specs.Layout.{chosen}
 use Rattle.mdr_meaning.specs.declared.wire.Wire.{Wire}
 use Rattle.mdr_meaning.specs.declared.wire.Wire.TheVariants as wire
 use Rattle.mdr_meaning.specs.Asking.{serves}
@@ -15,7 +16,7 @@ use Rattle.mdr_meaning.specs.Numbers.{Numbered}
 use Rattle.mdr_meaning.specs.Pointers.{become}
 use Rattle.mdr_meaning.specs.Sides.{Body, Side, Here, Locals, Ends, Returns, Go, Means, framed, in_here}
 use Rattle.mdr_meaning.specs.Tree.{Tree}
-use Rattle.mdr_meaning.specs.Values.{first_of, pick, rest_of}
+use Rattle.mdr_meaning.specs.Values.{first_of, rest_of}
 
 -- ---- where a value goes
 
@@ -63,7 +64,7 @@ module _ (side : Side) (low : Means) (here : Here) where
 
   -- at most 256 functions are active
   abbrev pub direct : At → ℕ → List Wire → (Wire → Tree) → Tree
-  direct at f vs k = pick (nat_lt here.depth 256) (goes_to at f vs (side.own f)) (deep at) k
+  direct at f vs k = chosen (nat_lt here.depth 256) (goes_to at f vs (side.own f)) (deep at) k
 
   -- through a pointer, when the arguments have been evaluated
   abbrev pub through : At → Wire → List Wire → (Wire → Tree) → Tree
@@ -74,7 +75,7 @@ module _ (side : Side) (low : Means) (here : Here) where
   call_by at s form (Called.Direct f) k = values side.known at s form.args (λ vs. direct at f vs k)
   call_by at s form (Called.Through e) k = value side.known at s e (λ v. values side.known at s form.args (λ vs. through at v vs k))
   call_by at s form (Called.Service n) k =
-      values side.known at s form.args (λ vs. pick (n == 15) (through at (first_of vs) (rest_of vs)) (serves side.known n at form vs) k)
+      values side.known at s form.args (λ vs. chosen (n == 15) (through at (first_of vs) (rest_of vs)) (serves side.known n at form vs) k)
 
   abbrev pub call : At → List Wire → CallOf → (Wire → Tree) → Tree
   call at s form k = call_by at s form form.callee k

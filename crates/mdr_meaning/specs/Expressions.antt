@@ -5,12 +5,13 @@ use Rattle.mdr_core.specs.declared.place.At.{At}
 use Rattle.mdr_core.specs.Code.{Term, Lvalue}
 use Rattle.mdr_core.specs.Conversions.{converted}
 use Rattle.mdr_core.specs.Operators.{operated, negated, flipped}
+use Rattle.mdr_core.specs.Layout.{chosen}
 use Rattle.mdr_meaning.specs.declared.wire.Wire.{Wire}
 use Rattle.mdr_meaning.specs.declared.wire.Wire.TheVariants as wire
 use Rattle.mdr_meaning.specs.Numbers.{Numbered}
 use Rattle.mdr_meaning.specs.Pointers.{global, moved, steps, member, related, difference, cast}
 use Rattle.mdr_meaning.specs.Tree.{Tree}
-use Rattle.mdr_meaning.specs.Values.{at_kind, integer, is_true, pick, truth, wire_of}
+use Rattle.mdr_meaning.specs.Values.{at_kind, integer, is_true, truth, wire_of}
 
 -- what a slot holds; the slot of an object holds its address
 unfoldable pub slot_of : List Wire → ℕ → Wire
@@ -53,8 +54,8 @@ module _ (known : Numbered) (at : At) (slots : List Wire) where
     -- 6.5.8, 6.5.9
     value (Term.Rel op a b) k = value a (λ x. value b (λ y. given at (related known.program op x y) k))
     -- the right operand is evaluated only where the left doesn't decide (6.5.13, 6.5.14, paragraph 4)
-    value (Term.And a b) k = value a (λ x. pick (is_true x) (value b) (gives (truth false)) (λ y. k (truth (is_true y))))
-    value (Term.Or a b) k = value a (λ x. pick (is_true x) (gives (truth true)) (value b) (λ y. k (truth (is_true y))))
+    value (Term.And a b) k = value a (λ x. chosen (is_true x) (value b) (gives (truth false)) (λ y. k (truth (is_true y))))
+    value (Term.Or a b) k = value a (λ x. chosen (is_true x) (gives (truth true)) (value b) (λ y. k (truth (is_true y))))
     -- 6.3.1.3, 6.3.2.3
     value (Term.Conv kind e) k = value e (λ x. k (wire.Int kind (converted kind (integer x))))
     value (Term.ToVoid e) k = value e k

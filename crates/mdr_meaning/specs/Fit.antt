@@ -15,23 +15,26 @@ use Rattle.mdr_meaning.specs.declared.wire.Wire.{Wire}
 use Rattle.mdr_meaning.specs.declared.wire.Wire.TheVariants as wire
 use Rattle.mdr_meaning.specs.declared.wire.WireView.{WireView}
 use Rattle.mdr_meaning.specs.Numbers.{number_in}
+use Rattle.mdr_meaning.specs.Within.{Uses}
 
 -- ---- what is known
 
--- the blocks that were ever told of, by their serials: as what each was born
-abbrev pub Knowledge : Type 0
-Knowledge = ℕ → Option Shape
+-- the blocks that were ever told of, by their serials, as what each was born; and what code may do with functions
+pub record Knowledge : Type 0 where
+  pub blocks : ℕ → Option Shape
+  pub uses : Uses
 
 -- what was known stays known
 pub record Grows (K K' : Knowledge) : Type 0 where
-  pub stays : (serial : ℕ) (shape : Shape) → K serial ≡ Some shape → K' serial ≡ Some shape
+  pub stays : (serial : ℕ) (shape : Shape) → K.blocks serial ≡ Some shape → K'.blocks serial ≡ Some shape
+  pub same : K'.uses ≡ K.uses
 
 abbrev pub global_shape : Program → GlobalDef → Shape
 global_shape program def = record { ty = number_in program.types def.ty; count = def.count }
 
 -- the globals are known, whose serials are their numbers
 pub record KnowsGlobals (program : Program) (K : Knowledge) : Type 0 where
-  pub knows : (g : ℕ) (def : GlobalDef) → slice_get program.globals g ≡ Some def → K g ≡ Some (global_shape program def)
+  pub knows : (g : ℕ) (def : GlobalDef) → slice_get program.globals g ≡ Some def → K.blocks g ≡ Some (global_shape program def)
 
 -- ---- values
 
@@ -41,7 +44,7 @@ view_of p = record { block = record { slot = 0; serial = p.serial }; first = p.f
 -- the pointer views a part of a known block
 pub record IsKnownView (program : Program) (K : Knowledge) (p : WireView) : Type 0 where
   pub shape : Shape
-  pub known : K p.serial ≡ Some shape
+  pub known : K.blocks p.serial ≡ Some shape
   pub view : IsViewOf program shape (view_of p)
   pub small : p.count ≤ 65536
 
@@ -64,11 +67,11 @@ PointsTo program K ty v = IsDataPointer program K (λ n. slice_get program.types
 abbrev pub IsAddress : Program → Knowledge → Wire → Type 0
 IsAddress program K v = IsDataPointer program K (λ n. Unit {0}) v
 
--- null, or a function with this result and these parameters
-abbrev pub IsFunction : Program → List Ty → Wire → Type 0
-IsFunction program types wire.Null = Unit {0}
-IsFunction program types (wire.Fn f) = (func : Func) × (slice_get program.funcs f ≡ Some func) × (func.result ∷ map (λ (p : Param). p.ty) func.params ≡ types)
-IsFunction program types _ = ⊥
+-- null, or a function with this result and these parameters whose address is taken
+abbrev pub IsFunction : Program → Knowledge → List Ty → Wire → Type 0
+IsFunction program K types wire.Null = Unit {0}
+IsFunction program K types (wire.Fn f) = (func : Func) × (slice_get program.funcs f ≡ Some func) × (func.result ∷ map (λ (p : Param). p.ty) func.params ≡ types) × (K.uses.taken f ≡ true)
+IsFunction program K types _ = ⊥
 
 abbrev pub FitsLayer : Program → Knowledge → Ty-F Ty → Wire → Type 0
 FitsLayer program K (Ty-F.Int k) v = IsInteger k v
@@ -76,7 +79,7 @@ FitsLayer program K Ty-F.Lock v = ⊥
 FitsLayer program K (Ty-F.Struct s) v = ⊥
 FitsLayer program K (Ty-F.Ptr ty) v = PointsTo program K ty v
 FitsLayer program K Ty-F.VoidPtr v = IsAddress program K v
-FitsLayer program K (Ty-F.Fun types) v = IsFunction program types v
+FitsLayer program K (Ty-F.Fun types) v = IsFunction program K types v
 FitsLayer program K Ty-F.Void v = ⊥
 
 -- a value that an expression of the type may have

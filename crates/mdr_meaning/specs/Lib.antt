@@ -16,11 +16,13 @@ pub mod Statements
 pub mod Bodies
 pub mod Fuel
 pub mod Few
+pub mod Within
 pub mod Fit
 pub mod Fair
 pub mod Placed
 pub mod Slots
 pub mod FairExpressions
+pub mod FairTrees
 pub mod Small
 pub mod Worked
 pub mod WorkedStops

@@ -6,7 +6,7 @@ use Rattle.mdr_core.specs.declared.types.Ty.TheFolds.{fold-Ty}
 use Rattle.mdr_core.specs.declared.program.Program.{Program}
 use Rattle.mdr_core.specs.Kinds.{is_same_kind}
 use Rattle.mdr_core.specs.Types.{HasNumber}
-use Rattle.mdr_meaning.specs.Values.{pick}
+use Rattle.mdr_core.specs.Layout.{chosen}
 
 -- ---- whether two types are one (C99 6.2.7: what the profile has are equal types alone)
 
@@ -34,7 +34,7 @@ is_same_type = fold-Ty (Ty → Bool) (λ t u. same_layers t (out-Ty u))
 -- the first place of a type in a list; behind its end where it isn't there
 unfoldable pub number_in : List Ty → Ty → ℕ
 number_in [] ty = 0
-number_in (t ∷ ts) ty = pick (is_same_type t ty) 0 (suc (number_in ts ty))
+number_in (t ∷ ts) ty = chosen (is_same_type t ty) 0 (suc (number_in ts ty))
 
 -- a program with the numbers of types
 pub record Numbered : Type 0 where

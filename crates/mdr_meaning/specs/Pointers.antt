@@ -12,12 +12,12 @@ use Rattle.mdr_core.specs.declared.program.GlobalDef.{GlobalDef}
 use Rattle.mdr_core.specs.declared.code.RelOp.{RelOp}
 use Rattle.mdr_core.specs.declared.code.RelOp.TheVariants.{Eq, Ne, Lt, Le, Gt, Ge}
 use Rattle.mdr_core.specs.Conversions.{converted}
-use Rattle.mdr_core.specs.Layout.{cells_at, fields_of, field_start, struct_of}
+use Rattle.mdr_core.specs.Layout.{chosen, cells_at, fields_of, field_start, struct_of}
 use Rattle.mdr_meaning.specs.declared.wire.Wire.{Wire}
 use Rattle.mdr_meaning.specs.declared.wire.Wire.TheVariants as wire
 use Rattle.mdr_meaning.specs.declared.wire.WireView.{WireView}
 use Rattle.mdr_meaning.specs.Numbers.{Numbered}
-use Rattle.mdr_meaning.specs.Values.{checked, pick, truth}
+use Rattle.mdr_meaning.specs.Values.{checked, truth}
 
 -- ---- where a pointer points
 
@@ -84,7 +84,7 @@ field_in known v (Some s) f = field_by known v s f (slice_get (fields_of known.p
 
 -- a member of the struct that a pointer points to: there must be one (6.5.2.3)
 abbrev pub member : Numbered → Wire → (f : ℕ) → Result Wire StopKind
-member known (wire.Ptr v) f = pick (nat_lt v.index v.count) (field_in known v (struct_numbered known.program v.ty) f) (Err stop.Bounds)
+member known (wire.Ptr v) f = chosen (nat_lt v.index v.count) (field_in known v (struct_numbered known.program v.ty) f) (Err stop.Bounds)
 member known wire.Dead f = Err stop.Dead
 member known _ f = Err stop.Null
 

@@ -3,12 +3,13 @@ use Rattle.std.specs.Prelude.{ℕ, false, ◌==◌, List, [], ◌∷◌, ◌++�
 use Rattle.std.specs.Fmt.{decimal, digits, signed_decimal}
 use Rattle.std.specs.Int.{int_rem_euclid}
 use Rattle.mdr_core.specs.Services.{Reading, Plain, Percent, Long}
+use Rattle.mdr_core.specs.Layout.{chosen}
 use Rattle.mdr_meaning.specs.declared.wire.Wire.{Wire}
-use Rattle.mdr_meaning.specs.Values.{first_of, integer, natural_of, pick, rest_of}
+use Rattle.mdr_meaning.specs.Values.{first_of, integer, natural_of, rest_of}
 
 -- a number by its directive's letter: `d`, `c` (its low byte), `x`, else `u`
 abbrev pub shown : (letter : ℕ) → ℤ → List ℕ
-shown letter n = pick (letter == 100) (signed_decimal n) (pick (letter == 99) (unsigned_abs (int_rem_euclid n (pos 256)) ∷ []) (pick (letter == 120) (digits 16 false (natural_of n)) (decimal (natural_of n))))
+shown letter n = chosen (letter == 100) (signed_decimal n) (chosen (letter == 99) (unsigned_abs (int_rem_euclid n (pos 256)) ∷ []) (chosen (letter == 120) (digits 16 false (natural_of n)) (decimal (natural_of n))))
 
 -- what follows a text's byte
 abbrev pub behind : (List Wire → List ℕ) → ℕ → List Wire → List ℕ
@@ -23,8 +24,8 @@ unfoldable pub printed : Reading → List ℕ → List Wire → List ℕ
 printed Plain [] vs = []
 printed Percent [] vs = []
 printed Long [] vs = []
-printed Plain (b ∷ bs) vs = pick (b == 37) (printed Percent bs) (behind (printed Plain bs) b) vs
-printed Percent (b ∷ bs) vs = pick (b == 37) (behind (printed Plain bs) b) (pick (b == 108) (printed Long bs) (told (printed Plain bs) b)) vs
+printed Plain (b ∷ bs) vs = chosen (b == 37) (printed Percent bs) (behind (printed Plain bs) b) vs
+printed Percent (b ∷ bs) vs = chosen (b == 37) (behind (printed Plain bs) b) (chosen (b == 108) (printed Long bs) (told (printed Plain bs) b)) vs
 printed Long (b ∷ bs) vs = told (printed Plain bs) b vs
 
 -- what is longer than 4,096 bytes is cut there

@@ -7,13 +7,13 @@ use Rattle.mdr_core.specs.declared.types.Ty.{Ty, out-Ty}
 use Rattle.mdr_core.specs.declared.types.Ty.TheOpen.{Ty-F}
 use Rattle.mdr_core.specs.declared.program.Program.{Program}
 use Rattle.mdr_core.specs.Kinds.{kind_number}
-use Rattle.mdr_core.specs.Layout.{Leaf, cells_at, repeated, zero_value}
+use Rattle.mdr_core.specs.Layout.{chosen, Leaf, cells_at, repeated, zero_value}
 use Rattle.mdr_meaning.specs.declared.shape.Shape64.{Shape64}
 use Rattle.mdr_meaning.specs.declared.wire.Wire.{Wire}
 use Rattle.mdr_meaning.specs.declared.wire.Wire.TheVariants as wire
 use Rattle.mdr_meaning.specs.declared.wire.WireView.{WireView}
 use Rattle.mdr_meaning.specs.Tree.{Asked, Tree}
-use Rattle.mdr_meaning.specs.Values.{natural, pick, wire_of}
+use Rattle.mdr_meaning.specs.Values.{natural, wire_of}
 
 -- ---- a memory
 
@@ -58,7 +58,7 @@ reached m _ = Err stop.Null
 
 -- a dead pointer isn't loaded
 abbrev pub alive : Mem → Wire → Result Wire StopKind
-alive m (wire.Ptr v) = pick (is_dead v.serial m.deaths) (Err stop.Dead) (Ok (wire.Ptr v))
+alive m (wire.Ptr v) = chosen (is_dead v.serial m.deaths) (Err stop.Dead) (Ok (wire.Ptr v))
 alive m wire.Dead = Err stop.Dead
 alive m v = Ok v
 
@@ -124,7 +124,7 @@ on_value (Err kind) at m go = ran (Stopped kind at) m
 
 -- services 3 and 14 free objects, and any that has shapes makes some
 abbrev pub served : Program → Asked → Mem → Mem
-served program a m = pick (a.service == 3 || a.service == 14) (died a.args (noted a.service m)) (born program a.shapes (noted a.service m))
+served program a m = chosen (a.service == 3 || a.service == 14) (died a.args (noted a.service m)) (born program a.shapes (noted a.service m))
 
 abbrev pub run : Program → Tree → Mem → Ran
 run program Tree.Idle m = ran Nothing m

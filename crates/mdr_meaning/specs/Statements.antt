@@ -7,7 +7,7 @@ use Rattle.mdr_core.specs.declared.types.Ty.TheOpen.{Ty-F}
 use Rattle.mdr_core.specs.declared.place.At.{At}
 use Rattle.mdr_core.specs.Code.{Term, Code, Codes}
 use Rattle.mdr_core.specs.Conversions.{converted}
-use Rattle.mdr_core.specs.Layout.{zero_value}
+use Rattle.mdr_core.specs.Layout.{chosen, zero_value}
 use Rattle.mdr_core.specs.Typing.{Slot}
 use Rattle.mdr_meaning.specs.declared.wire.Wire.{Wire}
 use Rattle.mdr_meaning.specs.declared.wire.Wire.TheVariants as wire
@@ -17,7 +17,7 @@ use Rattle.mdr_meaning.specs.Lives.{births, in_block, shape_of, with_object}
 use Rattle.mdr_meaning.specs.Pointers.{at_index}
 use Rattle.mdr_meaning.specs.Sides.{Side, Here, Ends, Breaks, Returns, Next, Go, Means, flow_of, in_here}
 use Rattle.mdr_meaning.specs.Tree.{Tree}
-use Rattle.mdr_meaning.specs.Values.{first_of, is_true, pick, wire_of}
+use Rattle.mdr_meaning.specs.Values.{first_of, is_true, wire_of}
 
 -- ---- ways through statements
 
@@ -90,10 +90,10 @@ module _ (side : Side) (low : Means) (here : Here) where
     -- 6.8.3
     stmt (Code.Call n goal form) l k = tick n (λ at. call side low here at l.slots form (λ v. keep side.known here at goal v l k))
     -- 6.8.4.1; each branch is a block (6.8.4, paragraph 3)
-    stmt (Code.If n e one other) l k = tick n (λ at. value side.known at l.slots e (λ v. in_block side here (pick (is_true v) (stmts one) (stmts other)) l k))
+    stmt (Code.If n e one other) l k = tick n (λ at. value side.known at l.slots e (λ v. in_block side here (chosen (is_true v) (stmts one) (stmts other)) l k))
     -- 6.8.5
     stmt (Code.Loop n e step body) l k =
-        tick n (λ at. value side.known at l.slots e (λ v. pick (is_true v) (turn (low here (Codes.Then (Code.Loop n e step body) Codes.End)) (stmts step) (stmts body)) leaves l k))
+        tick n (λ at. value side.known at l.slots e (λ v. chosen (is_true v) (turn (low here (Codes.Then (Code.Loop n e step body) Codes.End)) (stmts step) (stmts body)) leaves l k))
     -- 6.8.2
     stmt (Code.Block body) l k = in_block side here (stmts body) l k
     -- 6.8.6.4

@@ -14,11 +14,6 @@ use Rattle.mdr_meaning.specs.declared.wire.Wire.{Wire}
 use Rattle.mdr_meaning.specs.declared.wire.Wire.TheVariants as wire
 use Rattle.mdr_meaning.specs.declared.wire.WireView.{WireView}
 
--- one of two; where they are functions, the other one is never applied
-abbrev pub pick : {A : Type 0} → Bool → A → A → A
-pick true a b = a
-pick false a b = b
-
 -- a value, where a condition holds, or a stop
 abbrev pub checked : {A : Type 0} → Bool → StopKind → A → Result A StopKind
 checked true kind x = Ok x

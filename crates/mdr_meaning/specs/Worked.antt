@@ -118,12 +118,19 @@ with_globals globals = record {
   funcs = [];
 }
 
+abbrev pub side_by : (Ty → ℕ) → Program → (ℕ → Option Body) → Bool → Side
+side_by number program own asks = record { known = record { program = program; number = number }; own = own; asks = asks }
+
 abbrev pub side : Program → (ℕ → Option Body) → Bool → Side
-side program own asks = record { known = record { program = program; number = small_number }; own = own; asks = asks }
+side program own asks = side_by small_number program own asks
 
 -- function f is called on a memory, with fuel for so many ticks
 abbrev pub called : Program → (ℕ → Option Body) → Bool → (fuel f : ℕ) → List Wire → Mem → Ran
 called program own asks n f args m = run program (started (side program own asks) n f args 0 Tree.Idle) m
+
+-- where a new node's pointer is assigned: what a pointer points to is hidden, so all types have the number of `struct node`
+abbrev pub called_on_nodes : Program → (ℕ → Option Body) → (fuel f : ℕ) → List Wire → Mem → Ran
+called_on_nodes program own n f args m = run program (started (side_by (λ t. 9) program own false) n f args 0 Tree.Idle) m
 
 abbrev pub w32 : ℕ → Wire
 w32 n = wire.Int U32 (pos n)
@@ -364,6 +371,36 @@ WalksRing =
     called ring_globals (only walk_ring) false 20 0 [] (mem (ring 1 2 3) [] 0 [])
     ≡ ran (Ended wire.NoValue) (mem (ring 11 112 13) [] 12 [])
 
+-- the ring is made: void make(void){struct node *a; struct node *b; struct node *c; a=kzalloc(struct node); b=..; c=..; a->v=1; b->v=2; c->v=3; a->next=b; b->next=c; c->next=a; head=a; mid=b;}
+abbrev pub new_node : (number slot : ℕ) → Code
+new_node n i = Code.Call n (Goal.Into (Lvalue.Slot i)) (record { callee = Called.Service 1; args = []; shape = Some (ty.Struct 0); format = None })
+
+abbrev pub frees : (number slot : ℕ) → Code
+frees n i = Code.Call n Goal.Nowhere (form (Called.Service 3) (Term.ToVoid (var i) ∷ []))
+
+abbrev pub make_ring : Body
+make_ring = body (local node_pointer ∷ local node_pointer ∷ local node_pointer ∷ []) ty.Void
+    (Code.Declare 1 0
+    ∷ Code.Declare 2 1
+    ∷ Code.Declare 3 2
+    ∷ new_node 4 0
+    ∷ new_node 5 1
+    ∷ new_node 6 2
+    ∷ Code.Assign 7 (behind 0 0) (number 1)
+    ∷ Code.Assign 8 (behind 1 0) (number 2)
+    ∷ Code.Assign 9 (behind 2 0) (number 3)
+    ∷ Code.Assign 10 (behind 0 1) (var 1)
+    ∷ Code.Assign 11 (behind 1 1) (var 2)
+    ∷ Code.Assign 12 (behind 2 1) (var 0)
+    ∷ Code.Assign 13 (Lvalue.Global 0) (var 0)
+    ∷ Code.Assign 14 (Lvalue.Global 1) (var 1)
+    ∷ [])
+
+abbrev pub MakesRing : Type 0
+MakesRing =
+    called_on_nodes ring_globals (only make_ring) 20 0 [] (mem ((wire.Null ∷ []) ∷ (wire.Null ∷ []) ∷ []) [] 0 [])
+    ≡ ran (Ended wire.NoValue) (mem (ring 1 2 3) [] 14 (1 ∷ 1 ∷ 1 ∷ []))
+
 -- a pointer that is kept while another takes its node from the list and changes it
 -- void pop(void){struct node *p; p=head; head=p->next; p->v=9;} void take(void){struct node *q; q=head; got=q->v; pop(); got=q->v; kfree(q);}
 abbrev pub pop : Body
@@ -381,13 +418,49 @@ take_node = body (local node_pointer ∷ []) ty.Void
     ∷ Code.Assign 3 (Lvalue.Global 1) (Term.Load (behind 0 0))
     ∷ calls 4 0 []
     ∷ Code.Assign 5 (Lvalue.Global 1) (Term.Load (behind 0 0))
-    ∷ Code.Call 6 Goal.Nowhere (form (Called.Service 3) (Term.ToVoid (var 0) ∷ []))
+    ∷ frees 6 0
     ∷ [])
 
 abbrev pub TakesNode : Type 0
 TakesNode =
     called (with_globals (global node_pointer ∷ global u32 ∷ [])) (either pop take_node) false 20 1 [] (mem ((node_at 2 ∷ []) ∷ (w32 0 ∷ []) ∷ (w32 5 ∷ wire.Null ∷ []) ∷ []) [] 0 [])
     ≡ ran (Ended wire.NoValue) (mem ((wire.Null ∷ []) ∷ (w32 9 ∷ []) ∷ (w32 9 ∷ wire.Null ∷ []) ∷ []) ((2 ∷ []) ∷ []) 10 (3 ∷ []))
+
+-- a pointer that is kept while another frees its node
+-- void drop(void){struct node *p; p=head; head=NULL; kfree(p);} void lose(void){struct node *q; q=head; drop(); got=q->v;}
+abbrev pub drop_node : Body
+drop_node = body (local node_pointer ∷ []) ty.Void
+    (Code.Declare 1 0 ∷ Code.Assign 2 (Lvalue.Slot 0) (glob 0) ∷ Code.Assign 3 (Lvalue.Global 0) (Term.Lit value.Null) ∷ frees 4 0 ∷ [])
+
+abbrev pub lose_node : Body
+lose_node = body (local node_pointer ∷ []) ty.Void
+    (Code.Declare 1 0 ∷ Code.Assign 2 (Lvalue.Slot 0) (glob 0) ∷ calls 3 0 [] ∷ Code.Assign 4 (Lvalue.Global 1) (Term.Load (behind 0 0)) ∷ [])
+
+abbrev pub LosesNode : Type 0
+LosesNode =
+    called (with_globals (global node_pointer ∷ global u32 ∷ [])) (either drop_node lose_node) false 20 1 [] (mem ((node_at 2 ∷ []) ∷ (w32 0 ∷ []) ∷ (w32 5 ∷ wire.Null ∷ []) ∷ []) [] 0 [])
+    ≡ ran (Stopped stop.Dead (at_stmt 1 4)) (mem ((wire.Null ∷ []) ∷ (w32 0 ∷ []) ∷ (w32 5 ∷ wire.Null ∷ []) ∷ []) ((2 ∷ []) ∷ []) 8 (3 ∷ []))
+
+-- a pointer to a freed node stands in a struct, and is no matter while nobody loads it
+-- struct node d; void setup(void){struct node *p; p=kzalloc(struct node); d.next=p; kfree(p);} void poke(void){if(d.v){d.next=NULL;} d.v=7;}
+abbrev pub of_token : ℕ → Lvalue
+of_token f = Lvalue.Member (Lvalue.Global 0) f
+
+abbrev pub keep_token : Body
+keep_token = body (local node_pointer ∷ []) ty.Void (Code.Declare 1 0 ∷ new_node 2 0 ∷ Code.Assign 3 (of_token 1) (var 0) ∷ frees 4 0 ∷ [])
+
+abbrev pub poke_token : Body
+poke_token = body [] ty.Void
+    (Code.If 1 (Term.Load (of_token 0)) (code (Code.Assign 2 (of_token 1) (Term.Lit value.Null) ∷ [])) Codes.End ∷ Code.Assign 3 (of_token 0) (number 7) ∷ [])
+
+-- one call after the other
+abbrev pub token_called : (f : ℕ) → Mem → Ran
+token_called f m = called_on_nodes (with_globals (global (ty.Struct 0) ∷ [])) (either keep_token poke_token) 20 f [] m
+
+abbrev pub KeepsToken : Type 0
+KeepsToken =
+    token_called 1 (token_called 0 (mem ((w32 0 ∷ wire.Null ∷ []) ∷ []) [] 0 [])).memory
+    ≡ ran (Ended wire.NoValue) (mem ((w32 7 ∷ node_at 1 ∷ []) ∷ (w32 0 ∷ wire.Null ∷ []) ∷ []) ((1 ∷ []) ∷ []) 6 (1 ∷ 3 ∷ []))
 
 -- ---- arrays: u32 n; u32 sum; u32 buf[4]; void f(void){u32 i; i=0; sum=0; while(i<n){sum+=buf[i]; i+=1;}}
 

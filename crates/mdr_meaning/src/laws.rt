@@ -2,11 +2,13 @@
 
 ghost use Rattle.mdr_meaning.specs.Cut.{CutIsAlike, CutsCut};
 ghost use Rattle.mdr_meaning.specs.FairExpressions.{ExpressionsAreFair, LvaluesAreFair};
+ghost use Rattle.mdr_meaning.specs.FairTrees.{SidesAreOfPrograms, TreesAreFair};
 ghost use Rattle.mdr_meaning.specs.Few.{QuestionsAreFew};
 ghost use Rattle.mdr_meaning.specs.Fuel.{FuelIsNoMatter, StartedFuelIsNoMatter, UserTreesAreEqual};
 ghost use Rattle.mdr_meaning.specs.Numbers.{ProgramsAreNumbered};
 ghost use Rattle.mdr_meaning.specs.Placed.{TreesArePlaced};
 ghost use Rattle.mdr_meaning.specs.Walk.{WalksCut, WalksGoOn};
+ghost use Rattle.mdr_meaning.specs.Within.{AllKeepToIt};
 
 /// Equality up to a number of ticks is a relation that each node keeps, and cutting twice is cutting once.
 pub fn equality_up_to_ticks_is_alike()
@@ -57,4 +59,14 @@ pub fn expressions_are_fair()
 /// code, sound or not.
 pub fn trees_are_placed()
     ensures { TreesArePlaced }
+{}
+
+/// The tree of a sound program's function, started with arguments that fit, is fair whatever fitting values it is
+/// answered with: it names known blocks alone, passes on values that fit, asks each service as it wants to be asked,
+/// calls only functions that its code may call, ends its objects of locals, and stops for its own reasons. This holds
+/// on each side of a program; and as a bound on what code does with functions, no bound will do.
+pub fn trees_are_fair()
+    ensures fair { TreesAreFair }
+    ensures sides { SidesAreOfPrograms }
+    ensures all { AllKeepToIt }
 {}

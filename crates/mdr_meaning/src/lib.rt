@@ -2,9 +2,8 @@
 //! service of a `Program`. Definitions and laws alone: nothing here runs.
 //!
 //! Proved of every program: fuel is no matter, each step stands where its side has code, and questions are few. Proved
-//! of sound programs: the values of expressions and the addresses of lvalues name nothing unknown and fit their types.
-//! Not proved yet: the same of the values that statements and calls pass on. Trees don't say what services do, nor the
-//! stops that come in them.
+//! of sound programs: their trees name nothing unknown, and each value that they pass on fits its type. Trees don't say
+//! what services do, nor the stops that come in them.
 #![tactic(auto)]
 
 mod laws;
@@ -14,7 +13,8 @@ mod worked;
 
 pub use laws::{
     equality_up_to_ticks_is_alike, expressions_are_fair, fuel_is_no_matter, programs_are_numbered,
-    questions_are_few, trees_are_placed, user_trees_are_equal, walks_go_on, walks_may_be_cut,
+    questions_are_few, trees_are_fair, trees_are_placed, user_trees_are_equal, walks_go_on,
+    walks_may_be_cut,
 };
 pub use shape::Shape64;
 pub use wire::{Wire, WireView};

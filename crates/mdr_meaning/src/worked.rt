@@ -1,6 +1,6 @@
 // Small bodies worked out, each as a function that does nothing.
 
-ghost use Rattle.mdr_meaning.specs.Worked.{CountsDown, Sums, Renews, Overflows, Divides, FillsObject, AsksForObject, BreaksOut, ReturnsOut, Dangles, FillsText, Allocates, Calls, Narrows, Deepens, WalksRing, TakesNode, AddsFour, AddsFive};
+ghost use Rattle.mdr_meaning.specs.Worked.{CountsDown, Sums, Renews, Overflows, Divides, FillsObject, AsksForObject, BreaksOut, ReturnsOut, Dangles, FillsText, Allocates, Calls, Narrows, Deepens, MakesRing, WalksRing, TakesNode, LosesNode, KeepsToken, AddsFour, AddsFive};
 ghost use Rattle.mdr_meaning.specs.WorkedStops.{StopsHavePlaces, PartsHaveAnOrder, ServicesAreAsked};
 
 /// Loops take a tick for each test, `continue` goes to the step, and a slot is zero each time it is declared.
@@ -34,10 +34,13 @@ pub fn calls_are_made()
     ensures deep { Deepens }
 {}
 
-/// Pointers lead to structs, and arrays end.
+/// Pointers lead to structs, arrays end, and a pointer to a freed object stops where it is read, not where it stands.
 pub fn pointers_are_followed()
+    ensures made { MakesRing }
     ensures ring { WalksRing }
     ensures alias { TakesNode }
+    ensures lost { LosesNode }
+    ensures kept { KeepsToken }
     ensures four { AddsFour }
     ensures five { AddsFive }
 {}
