@@ -16,7 +16,8 @@ use Rattle.mdr_core.specs.Types.{is_pointer}
 use Rattle.mdr_plan.specs.declared.line.Line.{Line}
 use Rattle.mdr_plan.specs.declared.line.Line.TheVariants as line
 use Rattle.mdr_plan.specs.declared.reader.Reader.{Reader}
-use Rattle.mdr_plan.specs.Front.{is_name_byte, strip, word_at}
+use Rattle.mdr_syntax.specs.Bytes.{is_name_byte}
+use Rattle.mdr_plan.specs.Front.{strip, word_at}
 use Rattle.mdr_plan.specs.TypeReading.{when, is_empty, pointer_of, type_at, more_at, typed_by, struct_number, behind}
 use Rattle.mdr_plan.specs.TypeReading.{struct_at as type_struct_at}
 use Rattle.mdr_plan.specs.Lines.{begins_name, is_name, is_new, first_text, half_text, root_text, key_text, IsSmall, numbered, line_text, IsNext, Reads}
@@ -77,7 +78,7 @@ place_breaks User is_root = record { none = refl }
 
 new_word : (names : List (List ℕ)) (name : List ℕ) → IsTrue (is_new names name) → IsWord name
 unfolding is_new is_name
-new_word names name h = record { whole = whole name (both (begins_name name) (list_all is_name_byte name) (both _ _ h).0).1 }
+new_word names name h = record { whole = whole name (both (begins_name name) (list_all is_name_byte name) (both _ _ (both _ _ h).0).0).1 }
   where
     whole : (ds : List ℕ) → list_all is_name_byte ds ≡ true → prefix_len is_name_byte ds ≡ length ds
     whole [] e = refl

@@ -1,7 +1,6 @@
 -- The lines that may come next, each with its text, where so much was read before. A line's newline isn't part of it.
 use Rattle.std.specs.Prelude.{◌≡◌, ℕ, ◌+◌, ◌-◌, ◌^◌, ◌<◌, Bool, true, false, ◌==◌, ◌&&◌, ◌||◌, not, nat_lt, nat_le, if◌then◌else◌, List, [], ◌∷◌, ◌++◌, length, take, drop, Option, Some, None, IsTrue, codes, decimal, slice_get}
 use Rattle.std.specs.List.{list_all, list_any}
-use Rattle.std.specs.Char.{is_ascii_alphabetic}
 use Rattle.mdr_core.specs.declared.plan.Half.{Half}
 use Rattle.mdr_core.specs.declared.plan.Half.TheVariants.{Kernel, User}
 use Rattle.mdr_core.specs.declared.plan.Key.{Key}
@@ -12,7 +11,8 @@ use Rattle.mdr_plan.specs.declared.line.Line.TheVariants as line
 use Rattle.mdr_plan.specs.declared.line.Stage.{Stage}
 use Rattle.mdr_plan.specs.declared.line.Stage.TheVariants as stage
 use Rattle.mdr_plan.specs.declared.reader.Reader.{Reader}
-use Rattle.mdr_plan.specs.Front.{is_name_byte}
+use Rattle.mdr_syntax.specs.Bytes.{is_letter, is_name_byte}
+use Rattle.mdr_syntax.specs.Words.{is_reserved}
 use Rattle.mdr_plan.specs.TypeTexts.{is_named, IsPointerText}
 
 -- ---- where a line may stand
@@ -54,16 +54,13 @@ ends _ = false
 
 -- ---- names
 
-abbrev pub is_letter : ℕ → Bool
-is_letter b = is_ascii_alphabetic b || b == 95
-
 abbrev pub begins_name : List ℕ → Bool
 begins_name [] = false
 begins_name (b ∷ bytes) = is_letter b
 
--- a letter or `_`, then letters, digits and `_`
+-- a letter or `_`, then letters, digits and `_`; no reserved word
 unfoldable pub is_name : List ℕ → Bool
-is_name name = begins_name name && list_all is_name_byte name
+is_name name = begins_name name && list_all is_name_byte name && not (is_reserved name)
 
 -- a name that none of these is
 unfoldable pub is_new : List (List ℕ) → List ℕ → Bool

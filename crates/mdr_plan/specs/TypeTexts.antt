@@ -9,7 +9,7 @@ use Rattle.mdr_core.specs.declared.types.Ty.TheVariants as type
 use Rattle.mdr_core.specs.declared.program.StructDef.{StructDef}
 use Rattle.mdr_core.specs.TypeText.{Text, kind_text, star, signature_text}
 use Rattle.mdr_core.specs.Types.{is_scalar, is_pointer}
-use Rattle.mdr_plan.specs.Front.{is_name_byte}
+use Rattle.mdr_syntax.specs.Bytes.{is_name_byte}
 
 abbrev pub is_void_by : Ty-F Ty → Bool
 is_void_by (Ty-F.Int k) = false

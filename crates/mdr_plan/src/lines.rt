@@ -3,7 +3,8 @@
 ghost use Rattle.std.specs.Prelude.{◌≡◌, ◌≤◌, ◌-◌, ◌+◌, ◌==◌, ◌&&◌, nat_lt, nat_le, decimal, take, drop, length, slice_get};
 ghost use Rattle.std.specs.List.{list_all, list_any};
 ghost use Rattle.std.specs.Option.{option_map};
-ghost use Rattle.mdr_plan.specs.Front.{is_name_byte, strip};
+ghost use Rattle.mdr_syntax.specs.Bytes.{is_name_byte};
+ghost use Rattle.mdr_plan.specs.Front.{strip};
 ghost use Rattle.mdr_plan.specs.Gives.{Gives, Finds};
 ghost use Rattle.mdr_plan.specs.Lines.{begins, takes_types, takes_functions, takes_downs, takes_ups, takes_keys, ends, begins_name, is_name, is_new, first_text, is_kernel, is_user_half, is_next_user, is_after, is_there, Reads};
 ghost use Rattle.mdr_plan.specs.LineReading.{behind_number, or_else, place_of, heading_at, end_at, first_at, struct_at, pointer_at, type_line_at, function_line_at, down_line_at, up_line_at, key_line_at, stub_at, line_at};
@@ -18,6 +19,7 @@ use crate::reader::Reader;
 use crate::types::pointer_type;
 use crate::unread::Unread;
 use mdr_core::{Half, Items, Key, Name};
+use mdr_syntax::is_reserved;
 use std::alloc::Global;
 
 fn begins(stage: Stage) -> bool
@@ -102,7 +104,7 @@ fn are_name_bytes(name: &[u8]) -> bool
 fn is_name(name: &[u8]) -> bool
     ensures { result ≡ is_name name.now }
 {
-    begins_name(name) && are_name_bytes(name)
+    begins_name(name) && are_name_bytes(name) && !is_reserved(name)
 }
 
 fn has_name(names: &[Name], name: &[u8]) -> bool
