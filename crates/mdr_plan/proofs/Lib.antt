@@ -11,3 +11,5 @@ pub mod Going
 pub mod Passing
 pub mod Keyed
 pub mod Once
+pub mod Forms
+pub mod Standings
