@@ -53,13 +53,14 @@ small_is o s e =
     let w = when_ok (nat_lt b.0 (2 ^ 32)) (Some b.0) s b.2 in
     b.1 ∙ w.1
 
-struct_name : (names : List (List ℕ)) (name : List ℕ) (s : ℕ) → struct_number names name ≡ Some s → name_or (slice_get (structs_named names) s) ≡ name
+pub struct_place : (names : List (List ℕ)) (name : List ℕ) (s : ℕ) → struct_number names name ≡ Some s → slice_get names s ≡ Some name
 unfolding struct_number
-struct_name names name s e =
+struct_place names name s e =
     let h = position-Some (is_named name) names s [] (small_is (position (is_named name) names) s e) in
-    let got : slice_get names s ≡ Some (get_or names s []) = slice_get-get_or names s [] h.0 in
-    let same : get_or names s [] ≡ name = (bytes_eq-Decides (get_or names s []) name).0 h.1 in
-    ap name_or (slice_get-map struct_named names s ∙ ap (option_map struct_named) got) ∙ same
+    slice_get-get_or names s [] h.0 ∙ ap (λ n. Some n) ((bytes_eq-Decides (get_or names s []) name).0 h.1)
+
+struct_name : (names : List (List ℕ)) (name : List ℕ) (s : ℕ) → struct_number names name ≡ Some s → name_or (slice_get (structs_named names) s) ≡ name
+struct_name names name s e = ap name_or (slice_get-map struct_named names s ∙ ap (option_map struct_named) (struct_place names name s e))
 
 -- the structs are named so
 pub record Named (structs : List StructDef) (names : Naming) : Type 0 where
