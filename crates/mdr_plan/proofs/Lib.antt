@@ -13,3 +13,5 @@ pub mod Keyed
 pub mod Once
 pub mod Forms
 pub mod Standings
+pub mod Newlines
+pub mod Running

@@ -20,7 +20,10 @@ mod types;
 mod unread;
 mod words;
 
-pub use laws::{a_text_is_one_line, pointer_types_have_their_texts};
+pub use laws::{
+    a_plans_text_has_no_fault, a_text_has_one_fault, a_text_is_of_one_plan, a_text_is_one_line,
+    no_plans_text_has_a_refused_line, pointer_types_have_their_texts,
+};
 pub use line::{Line, Stage};
 pub use lines::line_of;
 pub use plan_error::{PlanError, PlanKind};
