@@ -15,3 +15,4 @@ pub mod Forms
 pub mod Standings
 pub mod Newlines
 pub mod Running
+pub mod Closing

@@ -34,17 +34,17 @@ use Rattle.mdr_plan.specs.Standing.{global_follows, field_follows, elem_follows,
 use Rattle.mdr_plan.proofs.TypesRead.{both}
 use Rattle.mdr_plan.proofs.Forms.{shape_is, shape_none}
 
-both_true : (a b : Bool) → IsTrue a → IsTrue b → IsTrue (a && b)
+pub both_true : (a b : Bool) → IsTrue a → IsTrue b → IsTrue (a && b)
 both_true true b h k = k
 both_true false b h k = h
 
-less : (a b : ℕ) → IsTrue (nat_lt a b) → a < b
+pub less : (a b : ℕ) → IsTrue (nat_lt a b) → a < b
 less a b h = (Decides-ltb a b).0 h
 
-is_less : (a b : ℕ) → a < b → IsTrue (nat_lt a b)
+pub is_less : (a b : ℕ) → a < b → IsTrue (nat_lt a b)
 is_less a b h = lt-ltb a b h
 
-no : {A : Type 0} → IsTrue false → A
+pub no : {A : Type 0} → IsTrue false → A
 no h = let q : false ≡ true = h in absurd (Prim.cc)
 
 -- ---- a line that may come next is of a form that may
@@ -329,17 +329,30 @@ drop_inside [] (suc ups) j lt = absurd (omega (arith, lt))
 drop_inside (x ∷ hs) zero j lt = omega (arith, lt)
 drop_inside (x ∷ hs) (suc ups) j lt = let h = drop_inside hs ups j lt in omega (arith, h)
 
-pub up_stands : (r : Reader) → length r.plan.halves < 2 ^ 64 → may_stand r shape.Up ≡ true → Stands r shape.Up
-unfolding may_stand is_next_user
-up_stands r small h =
-    let b = both (takes_ups r.stage) (not (list_all is_kernel (drop r.ups r.plan.halves))) h in
-    let f = first_user (drop r.ups r.plan.halves) (negated (list_all is_kernel (drop r.ups r.plan.halves)) b.1) in
+-- an `up` line that may come next
+pub record NextUp (r : Reader) : Type 0 where
+  pub k : ℕ
+  pub le : r.ups ≤ k
+  pub inside : k < length r.plan.halves
+  pub next : IsNext r (line.Up k)
+
+pub next_up : (r : Reader) → length r.plan.halves < 2 ^ 64 → IsTrue (takes_ups r.stage) → list_all is_kernel (drop r.ups r.plan.halves) ≡ false → NextUp r
+unfolding is_next_user
+next_up r small t some =
+    let f = first_user (drop r.ups r.plan.halves) some in
     let lt = drop_inside r.plan.halves r.ups f.place f.inside in
     let le : leb r.ups (r.ups + f.place) ≡ true = let q : r.ups ≤ r.ups + f.place = omega arith in grind (arith, q) in
     let user : IsTrue (is_user_half (slice_get r.plan.halves (r.ups + f.place))) = subst (λ o. IsTrue (is_user_half o)) (sym (get_behind r.plan.halves r.ups f.place)) f.user in
     let cut : r.ups + f.place - r.ups ≡ f.place = omega arith in
     let before : IsTrue (list_all is_kernel (take (r.ups + f.place - r.ups) (drop r.ups r.plan.halves))) = subst (λ n. IsTrue (list_all is_kernel (take n (drop r.ups r.plan.halves)))) (sym cut) f.before in
-    record { line = line.Up (r.ups + f.place); next = (both_true _ _ b.0 (both_true _ _ (both_true _ _ le user) before), omega (arith, lt, small)); shaped = refl }
+    record { k = r.ups + f.place; le = omega arith; inside = lt; next = (both_true _ _ t (both_true _ _ (both_true _ _ le user) before), omega (arith, lt, small)) }
+
+up_stands : (r : Reader) → length r.plan.halves < 2 ^ 64 → may_stand r shape.Up ≡ true → Stands r shape.Up
+unfolding may_stand
+up_stands r small h =
+    let b = both (takes_ups r.stage) (not (list_all is_kernel (drop r.ups r.plan.halves))) h in
+    let u = next_up r small b.0 (negated (list_all is_kernel (drop r.ups r.plan.halves)) b.1) in
+    record { line = line.Up u.k; next = u.next; shaped = refl }
   where
     negated : (b : Bool) → IsTrue (not b) → b ≡ false
     negated true h = no h

@@ -66,3 +66,9 @@ Plans bytes (Err e) = Fails e bytes
 abbrev pub Ends : Reader → ℕ → Result Plan PlanError → Type 0
 Ends r number (Ok plan) = (is_done r.stage ≡ true) × (plan ≡ r.plan)
 Ends r number (Err e) = (is_done r.stage ≡ false) × (e ≡ Line number Form)
+
+-- the bytes are the beginning of a plan's text
+pub record GoesOn (bytes : List ℕ) : Type 0 where
+  pub rest : List ℕ
+  pub plan : Plan
+  pub is : IsPlanText (bytes ++ rest) plan

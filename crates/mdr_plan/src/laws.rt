@@ -1,10 +1,10 @@
 // What holds of lines and their texts.
 
-ghost use Rattle.std.specs.Prelude.{◌≡◌, ℕ, List, ◌∷◌, ◌++◌};
+ghost use Rattle.std.specs.Prelude.{◌≡◌, ◌<◌, ◌^◌, ℕ, false, length, List, ◌∷◌, ◌++◌};
 ghost use Rattle.mdr_core.specs.declared.plan.Plan.{Plan};
 ghost use Rattle.mdr_plan.specs.declared.plan_error.PlanKind.{PlanKind};
 ghost use Rattle.mdr_plan.specs.Steps.{Reached, IsRefused};
-ghost use Rattle.mdr_plan.specs.Texts.{IsOneLine, IsPlanText, IsFault};
+ghost use Rattle.mdr_plan.specs.Texts.{IsOneLine, IsPlanText, IsFault, GoesOn, is_done};
 ghost use Rattle.mdr_core.specs.declared.types.Ty.{Ty};
 ghost use Rattle.mdr_core.specs.TypeText.{text_of};
 ghost use Rattle.mdr_plan.specs.declared.line.Line.{Line};
@@ -41,4 +41,9 @@ pub fn a_text_has_one_fault()
 /// No plan's text goes on with a line that is refused.
 pub fn no_plans_text_has_a_refused_line()
     ensures { (text : List ℕ) (n : ℕ) (r : Reader) (line more : List ℕ) (plan : Plan) → Reached text n r → IsOneLine line → IsRefused r line → IsPlanText (text ++ (line ++ 10 ∷ more)) plan → ⊥ }
+{}
+
+/// What was read without a fault goes on to a plan's text.
+pub fn what_was_read_goes_on_to_a_plan()
+    ensures { (text : List ℕ) (n : ℕ) (r : Reader) → Reached text n r → length text < 2 ^ 64 → is_done r.stage ≡ false → GoesOn text }
 {}

@@ -23,6 +23,7 @@ mod words;
 pub use laws::{
     a_plans_text_has_no_fault, a_text_has_one_fault, a_text_is_of_one_plan, a_text_is_one_line,
     no_plans_text_has_a_refused_line, pointer_types_have_their_texts,
+    what_was_read_goes_on_to_a_plan,
 };
 pub use line::{Line, Stage};
 pub use lines::line_of;
