@@ -4,7 +4,8 @@ use Rattle.std.specs.List.{prefix_len}
 use Rattle.std.proofs.lemmas.Bool.Decides.{Decides-eqb}
 use Rattle.std.proofs.lemmas.List.{take_at, drop_at, take-append-drop}
 use Rattle.std.proofs.lemmas.List.Folds.{prefix_len-append, length-prefix_len}
-use Rattle.mdr_plan.specs.Front.{is_name_byte, strip, word_at}
+use Rattle.mdr_syntax.specs.Bytes.{is_name_byte}
+use Rattle.mdr_plan.specs.Front.{strip, word_at}
 
 same_byte : (b : ℕ) → (b == b) ≡ true
 same_byte b = (Decides-eqb b b).1 refl

@@ -1,5 +1,5 @@
 -- Going from line to line.
-use Rattle.std.proofs.Common.{◌≡◌, ℕ, suc, Bool, true, false, ◌==◌, ◌+◌, ◌≤◌, ◌<◌, List, [], ◌∷◌, ◌++◌, length, get_or, take, drop, Result, Ok, Err, refl, sym, ap, subst, ◌∙◌, arith, append_assoc, length-append, drop-cons}
+use Rattle.std.proofs.Common.{◌≡◌, ℕ, suc, Bool, true, false, ◌==◌, ◌+◌, ◌≤◌, ◌<◌, ◌^◌, List, [], ◌∷◌, ◌++◌, length, get_or, take, drop, Result, Ok, Err, refl, sym, ap, subst, ◌∙◌, arith, append_assoc, length-append, drop-cons}
 use Rattle.std.specs.List.{prefix_len}
 use Rattle.std.proofs.lemmas.Bool.Decides.{Decides-eqb}
 use Rattle.std.proofs.lemmas.List.{append-nil, take-append-drop}
@@ -11,8 +11,13 @@ use Rattle.mdr_plan.specs.declared.plan_error.PlanError.{PlanError}
 use Rattle.mdr_plan.specs.declared.plan_error.PlanError.TheVariants.{Line, OutOfMemory}
 use Rattle.mdr_plan.specs.Steps.{Reached, IsRefused, Stepped, start}
 use Rattle.mdr_plan.specs.Steps.Reached.{Begun, Then}
-use Rattle.mdr_plan.specs.Texts.{in_line, IsOneLine, Progress, IsFault, Plans, Ends}
+use Rattle.mdr_plan.specs.declared.plan_error.PlanKind.{PlanKind}
+use Rattle.mdr_plan.specs.declared.plan_error.PlanKind.TheVariants.{Form}
+use Rattle.mdr_plan.specs.Shapes.{IsKind}
+use Rattle.mdr_plan.specs.Standing.{IsRefusal}
+use Rattle.mdr_plan.specs.Texts.{in_line, IsOneLine, Progress, IsStuck, IsFault, Fails, Plans, Ends}
 use Rattle.mdr_plan.specs.Texts.IsStuck.{Over, Open, Refused}
+use Rattle.mdr_plan.proofs.Standings.{kind_is}
 
 -- the first line, and what stands behind its newline
 pub record IsSplit (bytes line rest : List ℕ) : Type 0 where
@@ -58,15 +63,15 @@ goes bytes rest line more number old new p s h = record {
   count = ap (λ n. n + 1) p.count;
 }
 
-pub refused : (bytes rest line more : List ℕ) (number : ℕ) (r : Reader) → Progress bytes rest number r → IsSplit rest line more → IsRefused r line → IsFault bytes number
-refused bytes rest line more number r p s h = record { rest = rest; reader = r; progress = p; stuck = Refused line more s.whole s.one h }
+pub refused : (bytes rest line more : List ℕ) (number : ℕ) (kind : PlanKind) (r : Reader) → Progress bytes rest number r → IsSplit rest line more → IsRefused r line → IsKind r line kind → IsFault bytes number kind
+refused bytes rest line more number kind r p s h k = record { rest = rest; reader = r; progress = p; stuck = Refused line more kind s.whole s.one h k }
 
-pub open_line : (bytes rest : List ℕ) (number : ℕ) (r : Reader) → Progress bytes rest number r → IsOneLine rest → (rest ≡ [] → ⊥) → IsFault bytes number
+pub open_line : (bytes rest : List ℕ) (number : ℕ) (r : Reader) → Progress bytes rest number r → IsOneLine rest → (rest ≡ [] → ⊥) → IsFault bytes number Form
 open_line bytes rest number r p one some = record { rest = rest; reader = r; progress = p; stuck = Open one some }
 
 pub finished : (bytes rest : List ℕ) (number : ℕ) (r : Reader) (result : Result Plan PlanError) → Progress bytes rest number r → rest ≡ [] → Ends r number result → Plans bytes result
 finished bytes rest number r (Ok plan) p e h = record { lines = p.lines; reader = r; reached = subst (λ bs. Reached bs p.lines r) (sym (p.split ∙ ap (λ bs. p.before ++ bs) e ∙ append-nil p.before)) p.reached; done = h.0; same = sym h.1 }
-finished bytes rest number r (Err (Line n)) p e h = let q : n ≡ number = cc in record { rest = rest; reader = r; progress = subst (λ m. Progress bytes rest m r) (sym q) p; stuck = Over e h.0 }
+finished bytes rest number r (Err (Line n kind)) p e h = let q : n ≡ number = cc in let k : kind ≡ Form = cc in record { rest = rest; reader = r; progress = subst (λ m. Progress bytes rest m r) (sym q) p; stuck = subst (IsStuck r rest) (sym k) (Over e h.0) }
 finished bytes rest number r (Err OutOfMemory) p e h = tt
 
 -- ---- as the code splits lines
@@ -84,8 +89,12 @@ split_of rest line more c =
 pub goes_by : (bytes rest line more : List ℕ) (number : ℕ) (old new : Reader) → Progress bytes rest number old → IsCut rest line more → Stepped old line new → Progress bytes more (number + 1) new
 goes_by bytes rest line more number old new p c h = goes bytes rest line more number old new p (split_of rest line more c) h
 
-pub refused_by : (bytes rest line more : List ℕ) (number : ℕ) (r : Reader) → Progress bytes rest number r → IsCut rest line more → IsRefused r line → IsFault bytes number
-refused_by bytes rest line more number r p c h = refused bytes rest line more number r p (split_of rest line more c) h
+pub refused_by : (bytes rest line more : List ℕ) (number : ℕ) (r : Reader) (e : PlanError) → Progress bytes rest number r → number < 2 ^ 64 → IsCut rest line more → IsRefused r line → IsRefusal r line number e → Fails e bytes
+refused_by bytes rest line more number r (Line n kind) p lt c h e =
+    let small : p.lines < 2 ^ 64 = let q = p.count in omega (arith, q, lt) in
+    let is : IsKind r line kind = subst (IsKind r line) (sym e.1) (kind_is p.before line p.lines r p.reached small) in
+    subst (λ m. IsFault bytes m kind) (sym e.0) (refused bytes rest line more number kind r p (split_of rest line more c) h is)
+refused_by bytes rest line more number r OutOfMemory p lt c h e = tt
 
 pub few_by : (rest line more : List ℕ) (number total : ℕ) → IsCut rest line more → number + length rest ≤ total → number + 1 + length more ≤ total
 few_by rest line more number total c le =
@@ -93,3 +102,7 @@ few_by rest line more number total c le =
     let e : length rest ≡ length line + length (10 ∷ more) = ap length s.whole ∙ length-append line (10 ∷ more) in
     let f : length (10 ∷ more) ≡ 1 + length more = omega arith in
     omega (arith, e, f, le)
+
+pub none_left : (rest : List ℕ) (b : Bool) → b ≡ (length rest == 0) → b ≡ true → rest ≡ []
+none_left [] b e q = refl
+none_left (x ∷ rest) b e q = let n : length (x ∷ rest) ≡ 0 = (Decides-eqb (length (x ∷ rest)) 0).0 (sym e ∙ q) in absurd (omega (arith, n))

@@ -11,3 +11,8 @@ pub mod Going
 pub mod Passing
 pub mod Keyed
 pub mod Once
+pub mod Forms
+pub mod Standings
+pub mod Newlines
+pub mod Running
+pub mod Closing

@@ -16,10 +16,12 @@ use Rattle.mdr_core.specs.Types.{is_pointer}
 use Rattle.mdr_plan.specs.declared.line.Line.{Line}
 use Rattle.mdr_plan.specs.declared.line.Line.TheVariants as line
 use Rattle.mdr_plan.specs.declared.reader.Reader.{Reader}
-use Rattle.mdr_plan.specs.Front.{is_name_byte, strip, word_at}
-use Rattle.mdr_plan.specs.TypeReading.{when, is_empty, pointer_of, type_at, more_at, typed_by, struct_number, behind}
+use Rattle.mdr_syntax.specs.Bytes.{is_name_byte}
+use Rattle.mdr_plan.specs.Front.{strip, word_at}
+use Rattle.mdr_plan.specs.TypeReading.{when, is_empty, pointer_of, type_at, more_at, typed_by, behind}
 use Rattle.mdr_plan.specs.TypeReading.{struct_at as type_struct_at}
-use Rattle.mdr_plan.specs.Lines.{begins_name, is_name, is_new, first_text, half_text, root_text, key_text, IsSmall, numbered, line_text, IsNext, Reads}
+use Rattle.mdr_plan.specs.Naming.{begins_name, is_name, is_new, Naming, struct_number}
+use Rattle.mdr_plan.specs.Lines.{first_text, half_text, root_text, key_text, IsSmall, numbered, line_text, IsNext, Reads}
 use Rattle.mdr_plan.specs.LineReading.{or_else, behind_number, small_number_of, global_of, field_of, elem_of, key_of, place_of, heading_at, end_at, first_at, struct_at, pointer_at, type_line_at, function_line_at, down_line_at, up_line_at, key_line_at, stub_at, line_at}
 use Rattle.mdr_plan.proofs.Fronts.{IsWord, IsBreak, strip_again, strip_is, word_again}
 use Rattle.mdr_plan.proofs.Worth.{number_again, all_digits}
@@ -42,7 +44,7 @@ digit_name b e = on (is_ascii_alphabetic b || b == 95) (is_ascii_digit b) e
     on true w q = refl
     on false w q = q
 
-digits_word : (ds : List ℕ) → list_all is_ascii_digit ds ≡ true → prefix_len is_name_byte ds ≡ length ds
+pub digits_word : (ds : List ℕ) → list_all is_ascii_digit ds ≡ true → prefix_len is_name_byte ds ≡ length ds
 digits_word [] e = refl
 digits_word (d ∷ ds) e =
     let b = both (is_ascii_digit d) (list_all is_ascii_digit ds) e in
@@ -64,24 +66,28 @@ key_again (Global g) h = rw (small_again g h) refl
 key_again (Field s f) h = ap (λ o. or_else o (elem_of (codes " field " ++ (decimal s ++ (codes " " ++ decimal f))))) (field_again s f h.0 h.1)
 key_again (Elem t) h = rw (small_again t h) refl
 
-place_again : (half : Half) (is_root : Bool) → place_of (half_text half ++ root_text is_root) ≡ Some (half, is_root)
+pub place_again : (half : Half) (is_root : Bool) → place_of (half_text half ++ root_text is_root) ≡ Some (half, is_root)
 unfolding place_of
 place_again Kernel true = refl
 place_again Kernel false = refl
 place_again User true = refl
 place_again User false = refl
 
-place_breaks : (half : Half) (is_root : Bool) → IsBreak (half_text half ++ root_text is_root)
+pub place_breaks : (half : Half) (is_root : Bool) → IsBreak (half_text half ++ root_text is_root)
 place_breaks Kernel is_root = record { none = refl }
 place_breaks User is_root = record { none = refl }
 
-new_word : (names : List (List ℕ)) (name : List ℕ) → IsTrue (is_new names name) → IsWord name
-unfolding is_new is_name
-new_word names name h = record { whole = whole name (both (begins_name name) (list_all is_name_byte name) (both _ _ h).0).1 }
+pub name_word : (name : List ℕ) → IsTrue (is_name name) → IsWord name
+unfolding is_name
+name_word name h = record { whole = whole name (both (begins_name name) (list_all is_name_byte name) (both _ _ h).0).1 }
   where
     whole : (ds : List ℕ) → list_all is_name_byte ds ≡ true → prefix_len is_name_byte ds ≡ length ds
     whole [] e = refl
     whole (d ∷ ds) e = let b = both (is_name_byte d) (list_all is_name_byte ds) e in let n : is_name_byte d ≡ true = b.0 in let k : prefix_len is_name_byte ds ≡ length ds = whole ds b.1 in rw (n, k) (omega arith)
+
+new_word : (names : List (List ℕ)) (name : List ℕ) → IsTrue (is_new names name) → IsWord name
+unfolding is_new
+new_word names name h = name_word name (both _ _ h).0
 
 when_is : {A : Type 0} (b : Bool) (x : A) → IsTrue b → when b (Some x) ≡ Some x
 when_is true x h = refl
@@ -118,19 +124,19 @@ function_again r name half is_root h =
 -- ---- lines of types
 
 -- a struct's text is no pointer's
-struct_by : (n : ℕ) (names : List (List ℕ)) (name : List ℕ) (t : Ty) (rest : List ℕ) → IsWord name → type_at n names (codes "struct" ++ (32 ∷ (name ++ []))) ≡ Some (t, rest) → IsTrue (is_pointer t) → ⊥
+struct_by : (n : ℕ) (names : Naming) (name : List ℕ) (t : Ty) (rest : List ℕ) → IsWord name → type_at n names (codes "struct" ++ (32 ∷ (name ++ []))) ≡ Some (t, rest) → IsTrue (is_pointer t) → ⊥
 unfolding typed_by type_struct_at behind
 struct_by zero names name t rest w e h = none_some (t, rest) e
 struct_by (suc m) names name t rest w e h =
     let typed : typed_by (λ bs. type_at m names bs) (λ ts bs. more_at m names ts bs) names (codes "struct") (32 ∷ (name ++ [])) ≡ Some (t, rest) = sym (type_step m names (codes "struct") (32 ∷ (name ++ [])) (record { whole = refl }) (record { none = refl })) ∙ e in
-    let s = bind_ok (struct_number names (word_at (name ++ [])).0) (λ s. Some (behind (type.Struct s) (type.Ptr (type.Struct s)) (word_at (name ++ [])).1)) (t, rest) typed in
+    let s = bind_ok (names (word_at (name ++ [])).0) (λ s. Some (behind (type.Struct s) (type.Ptr (type.Struct s)) (word_at (name ++ [])).1)) (t, rest) typed in
     let same : (type.Struct s.0, []) ≡ (t, rest) = some_same _ _ (ap (λ (q : List ℕ × List ℕ). Some (behind (type.Struct s.0) (type.Ptr (type.Struct s.0)) q.1)) (sym (word_again name [] w (record { none = refl }))) ∙ s.2) in
     no_struct s.0 (subst (λ u. IsTrue (is_pointer u)) (sym (ap (λ (q : Ty × List ℕ). q.0) same)) h)
   where
     no_struct : (s : ℕ) → IsTrue (is_pointer (type.Struct s)) → ⊥
     no_struct s h = let q : false ≡ true = rw (type.outs-Struct s) at h in Prim.cc
 
-no_pointer : (names : List (List ℕ)) (name : List ℕ) (t : Ty) → IsWord name → pointer_of names (codes "struct " ++ name) ≡ Some t → ⊥
+no_pointer : (names : Naming) (name : List ℕ) (t : Ty) → IsWord name → pointer_of names (codes "struct " ++ name) ≡ Some t → ⊥
 unfolding pointer_of
 no_pointer names name t w e =
     let a = bind_ok (type_at (length (codes "struct " ++ name)) names (codes "struct " ++ name)) _ t e in
@@ -165,18 +171,18 @@ struct_long r name h =
     let e : length r.plan.types ≡ 9 + length r.structs = (Decides-eqb (length r.plan.types) (9 + length r.structs)).0 c.1 in
     omega (arith, e)
 
-no_struct_by : (r : Reader) (ty : Ty) (text : List ℕ) → pointer_of r.structs text ≡ Some ty → (o : Option Line) → struct_at r text ≡ o → struct_at r text ≡ None
+no_struct_by : (r : Reader) (ty : Ty) (text : List ℕ) → pointer_of (struct_number r.structs) text ≡ Some ty → (o : Option Line) → struct_at r text ≡ o → struct_at r text ≡ None
 unfolding struct_at
 no_struct_by r ty text p None e = e
 no_struct_by r ty text p (Some l) e =
     let a = bind_ok (strip (codes "struct ") text) _ l e in
     let w = when_ok _ (Some (line.Struct a.0)) l a.2 in
-    absurd (no_pointer r.structs a.0 ty (new_word r.structs a.0 (both _ (is_new r.structs a.0) w.0).1) (ap (pointer_of r.structs) (sym (strip_is (codes "struct ") text a.0 a.1)) ∙ p))
+    absurd (no_pointer (struct_number r.structs) a.0 ty (new_word r.structs a.0 (both _ (is_new r.structs a.0) w.0).1) (ap (pointer_of (struct_number r.structs)) (sym (strip_is (codes "struct ") text a.0 a.1)) ∙ p))
 
 pointer_piece : (r : Reader) (ty : Ty) (text : List ℕ) → IsNext r (line.Type ty text) → pointer_at r text ≡ Some (line.Type ty text)
 unfolding pointer_at
 pointer_piece r ty text h =
-    rw (pointer_again r.structs text ty h.1)
+    rw (pointer_again (struct_number r.structs) text ty h.1)
     (when_is _ (line.Type ty text) (both_true _ _ h.0 h.2))
 
 type_long : (r : Reader) (ty : Ty) (text : List ℕ) → IsNext r (line.Type ty text) → 9 ≤ length r.plan.types
@@ -201,7 +207,7 @@ pointer_line_again : (r : Reader) (ty : Ty) (text : List ℕ) → IsNext r (line
 pointer_line_again r ty text h =
     type_line_again r text (line.Type ty text)
     (ap (λ o. or_else o (or_else (struct_at r text) (pointer_at r text))) (no_first r text (type_long r ty text h))
-    ∙ ap (λ o. or_else o (pointer_at r text)) (no_struct_by r ty text (pointer_again r.structs text ty h.1) (struct_at r text) refl)
+    ∙ ap (λ o. or_else o (pointer_at r text)) (no_struct_by r ty text (pointer_again (struct_number r.structs) text ty h.1) (struct_at r text) refl)
     ∙ pointer_piece r ty text h)
 
 -- ---- which word begins the line

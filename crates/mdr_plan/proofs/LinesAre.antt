@@ -12,7 +12,8 @@ use Rattle.mdr_plan.specs.declared.line.Line.TheVariants as line
 use Rattle.mdr_plan.specs.declared.reader.Reader.{Reader}
 use Rattle.mdr_plan.specs.Front.{strip, word_at}
 use Rattle.mdr_plan.specs.Numbers.{number_of}
-use Rattle.mdr_plan.specs.TypeReading.{small, pointer_of}
+use Rattle.mdr_plan.specs.Naming.{small, struct_number}
+use Rattle.mdr_plan.specs.TypeReading.{pointer_of}
 use Rattle.mdr_plan.specs.Lines.{begins, first_text, half_text, root_text, key_text, IsSmall, numbered, Reads}
 use Rattle.mdr_plan.specs.LineReading.{or_else, behind_number, small_number_of, global_of, field_of, elem_of, key_of, place_of, heading_at, end_at, first_at, struct_at, pointer_at, type_line_at, function_line_at, down_line_at, up_line_at, key_line_at, stub_at, line_at}
 use Rattle.mdr_plan.proofs.Fronts.{strip_is, word_is}
@@ -21,7 +22,7 @@ use Rattle.mdr_plan.proofs.TypesRead.{both, pointer_is}
 use Rattle.mdr_plan.proofs.Worth.{number_is}
 
 -- what is read one way or another
-or_by : {A : Type 0} (a b : Option A) (y : A) (P : Type 0) → (a ≡ Some y → P) → (b ≡ Some y → P) → or_else a b ≡ Some y → P
+pub or_by : {A : Type 0} (a b : Option A) (y : A) (P : Type 0) → (a ≡ Some y → P) → (b ≡ Some y → P) → or_else a b ≡ Some y → P
 or_by (Some x) b y P f g e = f e
 or_by None b y P f g e = g e
 
@@ -84,7 +85,7 @@ field_is bytes key e =
 key_is : (bytes : List ℕ) (key : Key) → key_of bytes ≡ Some key → IsKey bytes key
 key_is bytes key e = or_by (global_of bytes) (or_else (field_of bytes) (elem_of bytes)) key (IsKey bytes key) (global_is bytes key) (or_by (field_of bytes) (elem_of bytes) key (IsKey bytes key) (field_is bytes key) (elem_is bytes key)) e
 
-place_is : (bytes : List ℕ) (place : Half × Bool) → place_of bytes ≡ Some place → bytes ≡ half_text place.0 ++ root_text place.1
+pub place_is : (bytes : List ℕ) (place : Half × Bool) → place_of bytes ≡ Some place → bytes ≡ half_text place.0 ++ root_text place.1
 unfolding place_of
 place_is bytes place =
     let P : Half × Bool → Type 0 = λ q. bytes ≡ half_text q.0 ++ root_text q.1 in
@@ -172,10 +173,10 @@ struct_line_is r text l e =
 pointer_line_is : (r : Reader) (text : List ℕ) (l : Line) → pointer_at r text ≡ Some l → ReadsType r text l
 unfolding pointer_at
 pointer_line_is r text l e =
-    let a = bind_ok (pointer_of r.structs text) _ l e in
+    let a = bind_ok (pointer_of (struct_number r.structs) text) _ l e in
     let w = when_ok _ (Some (line.Type a.0 text)) l a.2 in
     let b = both _ (is_before r.last text) w.0 in
-    subst (ReadsType r text) (some_same (line.Type a.0 text) l w.1) (record { next = (b.0, pointer_is r.structs text a.0 a.1, b.1); same = refl })
+    subst (ReadsType r text) (some_same (line.Type a.0 text) l w.1) (record { next = (b.0, pointer_is (struct_number r.structs) text a.0 a.1, b.1); same = refl })
 
 type_line_is : (r : Reader) (bytes : List ℕ) (l : Line) → type_line_at r bytes ≡ Some l → Reads r bytes l
 unfolding type_line_at

@@ -8,7 +8,7 @@ use Rattle.std.proofs.lemmas.Bool.Decides.{Decides-eqb, Decides-ltb}
 use Rattle.std.proofs.lemmas.List.{drop_all}
 use Rattle.std.proofs.lemmas.Str.Parse.{IsNumeralModel, numerals_by_fold, tells_all_ascii_digits}
 use Rattle.std.proofs.lemmas.Fmt.{digits_decimal, digits_value-decimal, decimal-digits_value, decimal_digit, first_decimal}
-use Rattle.mdr_plan.specs.Numbers.{worth_after, value_of, is_canonical, number_of}
+use Rattle.mdr_plan.specs.Numbers.{worth_after, value_of, is_canonical, is_number, number_of}
 
 pub worth_after-front : (front : ℕ) (bs : List ℕ) → front ≤ worth_after front bs
 worth_after-front front [] = omega arith
@@ -70,7 +70,7 @@ value_is ds n = on (ltb (worth_after 0 ds) (2 ^ 64)) refl
 
 -- the number is the one that these digits write
 pub number_is : (bytes : List ℕ) (n : ℕ) → number_of bytes ≡ Some n → (n < 2 ^ 64) × (decimal n ≡ bytes)
-unfolding number_of
+unfolding number_of is_number
 number_is bytes n = on (list_all is_ascii_digit bytes) (is_canonical bytes) refl refl
   where
     on : (v w : Bool) → list_all is_ascii_digit bytes ≡ v → is_canonical bytes ≡ w → cond (v && w) (value_of bytes) None ≡ Some n → (n < 2 ^ 64) × (decimal n ≡ bytes)
@@ -91,7 +91,7 @@ canonical_decimal zero lt = ap is_canonical (decimal_digit 0 (omega arith))
 canonical_decimal (suc n) lt = first_canonical (decimal (suc n)) (first_decimal (suc n) (omega arith) lt)
 
 pub number_again : (n : ℕ) → n < 2 ^ 64 → number_of (decimal n) ≡ Some n
-unfolding number_of
+unfolding number_of is_number
 number_again n lt =
     let a : list_all is_ascii_digit (decimal n) ≡ true = all_is (decimal n) ∙ digits_decimal own n lt in
     let b : is_canonical (decimal n) ≡ true = canonical_decimal n lt in

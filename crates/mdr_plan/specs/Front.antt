@@ -1,17 +1,13 @@
 -- What stands at the front of a text.
-use Rattle.std.specs.Prelude.{ℕ, Bool, ◌==◌, ◌||◌, if◌then◌else◌, List, [], ◌∷◌, take, drop, Option, Some, None}
+use Rattle.std.specs.Prelude.{ℕ, ◌==◌, if◌then◌else◌, List, [], ◌∷◌, take, drop, Option, Some, None}
 use Rattle.std.specs.List.{prefix_len}
-use Rattle.std.specs.Char.{is_ascii_alphabetic, is_ascii_digit}
+use Rattle.mdr_syntax.specs.Bytes.{is_name_byte}
 
 -- what stands behind these bytes, where the text begins with them
 abbrev pub strip : (front : List ℕ) → List ℕ → Option (List ℕ)
 strip [] bytes = Some bytes
 strip (f ∷ front) [] = None
 strip (f ∷ front) (b ∷ bytes) = if f == b then strip front bytes else None
-
--- a letter, `_` or a digit
-abbrev pub is_name_byte : ℕ → Bool
-is_name_byte b = is_ascii_alphabetic b || b == 95 || is_ascii_digit b
 
 -- the word at the front, which may be empty, and what stands behind it
 unfoldable pub word_at : List ℕ → List ℕ × List ℕ

@@ -1,9 +1,13 @@
 pub mod Front
 pub mod Gives
+pub mod Naming
 pub mod TypeTexts
 pub mod TypeReading
 pub mod Numbers
 pub mod Lines
 pub mod LineReading
+pub mod Shapes
+pub mod ShapeReading
+pub mod Standing
 pub mod Steps
 pub mod Texts

@@ -13,8 +13,9 @@ use Rattle.mdr_plan.specs.declared.reader.Reader.{Reader}
 use Rattle.mdr_plan.specs.Front.{strip, word_at}
 use Rattle.mdr_plan.specs.Gives.{◌>>=◌}
 use Rattle.mdr_plan.specs.Numbers.{number_of}
-use Rattle.mdr_plan.specs.TypeReading.{when, small, pointer_of}
-use Rattle.mdr_plan.specs.Lines.{begins, takes_types, takes_functions, takes_downs, takes_ups, takes_keys, ends, is_new, first_text, is_kernel, is_next_user, is_after, is_there}
+use Rattle.mdr_plan.specs.Naming.{small, is_new, struct_number}
+use Rattle.mdr_plan.specs.TypeReading.{when, pointer_of}
+use Rattle.mdr_plan.specs.Lines.{begins, takes_types, takes_functions, takes_downs, takes_ups, takes_keys, ends, first_text, is_kernel, is_next_user, is_after, is_there}
 
 abbrev pub or_else : {A : Type 0} → Option A → Option A → Option A
 or_else (Some x) o = Some x
@@ -78,7 +79,7 @@ struct_at r text = do
 
 unfoldable pub pointer_at : Reader → List ℕ → Option Line
 pointer_at r text = do
-  ty ← pointer_of r.structs text
+  ty ← pointer_of (struct_number r.structs) text
   when (takes_types r.stage && nat_lt 8 (length r.plan.types) && is_before r.last text) (Some (line.Type ty text))
 
 unfoldable pub type_line_at : Reader → List ℕ → Option Line

@@ -1,7 +1,6 @@
 -- The lines that may come next, each with its text, where so much was read before. A line's newline isn't part of it.
-use Rattle.std.specs.Prelude.{◌≡◌, ℕ, ◌+◌, ◌-◌, ◌^◌, ◌<◌, Bool, true, false, ◌==◌, ◌&&◌, ◌||◌, not, nat_lt, nat_le, if◌then◌else◌, List, [], ◌∷◌, ◌++◌, length, take, drop, Option, Some, None, IsTrue, codes, decimal, slice_get}
-use Rattle.std.specs.List.{list_all, list_any}
-use Rattle.std.specs.Char.{is_ascii_alphabetic}
+use Rattle.std.specs.Prelude.{◌≡◌, ℕ, ◌+◌, ◌-◌, ◌^◌, ◌<◌, Bool, true, false, ◌==◌, ◌&&◌, ◌||◌, nat_lt, nat_le, if◌then◌else◌, List, [], ◌++◌, length, take, drop, Option, Some, None, IsTrue, codes, decimal, slice_get}
+use Rattle.std.specs.List.{list_all}
 use Rattle.mdr_core.specs.declared.plan.Half.{Half}
 use Rattle.mdr_core.specs.declared.plan.Half.TheVariants.{Kernel, User}
 use Rattle.mdr_core.specs.declared.plan.Key.{Key}
@@ -12,8 +11,8 @@ use Rattle.mdr_plan.specs.declared.line.Line.TheVariants as line
 use Rattle.mdr_plan.specs.declared.line.Stage.{Stage}
 use Rattle.mdr_plan.specs.declared.line.Stage.TheVariants as stage
 use Rattle.mdr_plan.specs.declared.reader.Reader.{Reader}
-use Rattle.mdr_plan.specs.Front.{is_name_byte}
-use Rattle.mdr_plan.specs.TypeTexts.{is_named, IsPointerText}
+use Rattle.mdr_plan.specs.Naming.{is_new, struct_number}
+use Rattle.mdr_plan.specs.TypeTexts.{IsPointerText}
 
 -- ---- where a line may stand
 
@@ -51,23 +50,6 @@ ends stage.Functions = true
 ends stage.Downs = true
 ends stage.Ups = true
 ends _ = false
-
--- ---- names
-
-abbrev pub is_letter : ℕ → Bool
-is_letter b = is_ascii_alphabetic b || b == 95
-
-abbrev pub begins_name : List ℕ → Bool
-begins_name [] = false
-begins_name (b ∷ bytes) = is_letter b
-
--- a letter or `_`, then letters, digits and `_`
-unfoldable pub is_name : List ℕ → Bool
-is_name name = begins_name name && list_all is_name_byte name
-
--- a name that none of these is
-unfoldable pub is_new : List (List ℕ) → List ℕ → Bool
-is_new names name = is_name name && not (list_any (is_named name) names)
 
 -- ---- types
 
@@ -159,7 +141,7 @@ abbrev pub IsNext : Reader → Line → Type 0
 IsNext r line.Heading = IsTrue (begins r.stage)
 IsNext r line.First = IsTrue (takes_types r.stage && nat_lt (length r.plan.types) 9)
 IsNext r (line.Struct name) = IsTrue (takes_types r.stage && (length r.plan.types == 9 + length r.structs) && nat_lt (length r.structs) (2 ^ 32) && is_new r.structs name)
-IsNext r (line.Type ty text) = IsTrue (takes_types r.stage && nat_lt 8 (length r.plan.types)) × IsPointerText r.structs ty text × IsTrue (is_before r.last text)
+IsNext r (line.Type ty text) = IsTrue (takes_types r.stage && nat_lt 8 (length r.plan.types)) × IsPointerText (struct_number r.structs) ty text × IsTrue (is_before r.last text)
 IsNext r (line.Function name half is_root) = IsTrue (takes_functions r.stage && nat_lt 8 (length r.plan.types) && is_new r.plan.names name)
 IsNext r (line.Down k) = IsTrue (takes_downs r.stage && nat_le r.low k && nat_lt k (length r.plan.down)) × (k < 2 ^ 64)
 IsNext r (line.Up k) = IsTrue (takes_ups r.stage && is_next_user r k) × (k < 2 ^ 64)

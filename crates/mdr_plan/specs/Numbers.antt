@@ -16,5 +16,9 @@ is_canonical [] = false
 is_canonical (a ∷ []) = true
 is_canonical (a ∷ b ∷ bytes) = not (a == 48)
 
+-- digits without a leading zero
+unfoldable pub is_number : List ℕ → Bool
+is_number bytes = list_all is_ascii_digit bytes && is_canonical bytes
+
 unfoldable pub number_of : List ℕ → Option ℕ
-number_of bytes = if list_all is_ascii_digit bytes && is_canonical bytes then value_of bytes else None
+number_of bytes = if is_number bytes then value_of bytes else None

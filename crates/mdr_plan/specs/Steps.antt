@@ -62,16 +62,17 @@ pub data Reached : List ℕ → ℕ → Reader → Type 0 where
 abbrev pub IsRefused : Reader → List ℕ → Type 0
 IsRefused r bytes = (l : Line) → Reads r bytes l → ⊥
 
--- what one line did, unless memory ran out
-abbrev pub StepFails : Unread → Reader → List ℕ → Type 0
-StepFails Refused r bytes = IsRefused r bytes
-StepFails OutOfMemory r bytes = Unit {0}
+-- a line that is refused leaves what was read
+abbrev pub StepFails : Unread → Reader → List ℕ → Reader → Type 0
+StepFails Refused old bytes new = IsRefused old bytes × (new ≡ old)
+StepFails OutOfMemory old bytes new = Unit {0}
 
 pub record Stepped (old : Reader) (bytes : List ℕ) (new : Reader) : Type 0 where
   pub line : Line
   pub reads : Reads old bytes line
   pub same : new ≡ after old line
 
+-- what one line did, unless memory ran out
 abbrev pub Steps : {A : Type 0} → Reader → List ℕ → Result A Unread → Reader → Type 0
 Steps old bytes (Ok x) new = Stepped old bytes new
-Steps old bytes (Err e) new = StepFails e old bytes
+Steps old bytes (Err e) new = StepFails e old bytes new

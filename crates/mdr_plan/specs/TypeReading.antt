@@ -1,6 +1,5 @@
 -- Reading the text of a type.
-use Rattle.std.specs.Prelude.{ℕ, zero, suc, ◌==◌, ◌^◌, Bool, true, false, ◌&&◌, nat_lt, if◌then◌else◌, List, [], ◌∷◌, ◌++◌, length, Option, Some, None, codes}
-use Rattle.std.specs.List.{position}
+use Rattle.std.specs.Prelude.{ℕ, zero, suc, ◌==◌, Bool, true, false, ◌&&◌, if◌then◌else◌, List, [], ◌∷◌, ◌++◌, length, Option, Some, None, codes}
 use Rattle.std.specs.Option.{option_map}
 use Rattle.std.specs.Str.{bytes_eq}
 use Rattle.mdr_core.specs.declared.kind.Kind.{Kind}
@@ -10,7 +9,8 @@ use Rattle.mdr_core.specs.declared.types.Ty.TheVariants as type
 use Rattle.mdr_core.specs.Types.{is_scalar, is_pointer}
 use Rattle.mdr_plan.specs.Front.{strip, word_at}
 use Rattle.mdr_plan.specs.Gives.{◌>>=◌}
-use Rattle.mdr_plan.specs.TypeTexts.{is_named, is_result}
+use Rattle.mdr_plan.specs.Naming.{Naming}
+use Rattle.mdr_plan.specs.TypeTexts.{is_result}
 
 -- what is read at the front, and what stands behind it
 abbrev pub Read : Type 0 → Type 0
@@ -31,12 +31,6 @@ kind_of word =
 unfoldable pub plain_of : List ℕ → Option Ty
 plain_of word = if bytes_eq word (codes "combolock_t") then Some type.Lock else option_map type.Int (kind_of word)
 
-abbrev pub small : ℕ → Option ℕ
-small n = if nat_lt n (2 ^ 32) then Some n else None
-
-unfoldable pub struct_number : List (List ℕ) → List ℕ → Option ℕ
-struct_number names name = position (is_named name) names >>= small
-
 -- the type with the stars at the front
 abbrev pub stars : Ty → List ℕ → Ty × List ℕ
 stars t [] = (t, [])
@@ -55,10 +49,10 @@ plain_at word bytes = do
   t ← plain_of word
   Some (behind t (type.Ptr t) bytes)
 
-unfoldable pub struct_at : List (List ℕ) → List ℕ → Read Ty
+unfoldable pub struct_at : Naming → List ℕ → Read Ty
 struct_at names bytes = do
   rest ← strip (codes " ") bytes
-  s ← struct_number names (word_at rest).0
+  s ← names (word_at rest).0
   Some (behind (type.Struct s) (type.Ptr (type.Struct s)) (word_at rest).1)
 
 abbrev pub when : {A : Type 0} → Bool → Option A → Option A
@@ -96,7 +90,7 @@ fun_by one more bytes = do
   ts ← signature_by one more inner
   Some (behind (type.Fun ts.0) (type.Ptr (type.Fun ts.0)) ts.1)
 
-unfoldable pub typed_by : (List ℕ → Read Ty) → (List Ty → List ℕ → Read (List Ty)) → List (List ℕ) → List ℕ → List ℕ → Read Ty
+unfoldable pub typed_by : (List ℕ → Read Ty) → (List Ty → List ℕ → Read (List Ty)) → Naming → List ℕ → List ℕ → Read Ty
 typed_by one more names word bytes =
     if bytes_eq word (codes "fn") then fun_by one more bytes
     else (if bytes_eq word (codes "struct") then struct_at names bytes
@@ -105,11 +99,11 @@ typed_by one more names word bytes =
 
 -- where at most so many types stand inside one another
 abbrev mutual
-  pub type_at : ℕ → List (List ℕ) → List ℕ → Read Ty
+  pub type_at : ℕ → Naming → List ℕ → Read Ty
   type_at zero names bytes = None
   type_at (suc n) names bytes = typed_by (λ bs. type_at n names bs) (λ ts bs. more_at n names ts bs) names (word_at bytes).0 (word_at bytes).1
 
-  pub more_at : ℕ → List (List ℕ) → List Ty → List ℕ → Read (List Ty)
+  pub more_at : ℕ → Naming → List Ty → List ℕ → Read (List Ty)
   more_at zero names ts bytes = None
   more_at (suc n) names ts bytes = more_by (λ bs. type_at n names bs) (λ us bs. more_at n names us bs) ts bytes
 
@@ -117,8 +111,14 @@ abbrev pub is_empty : List ℕ → Bool
 is_empty [] = true
 is_empty (b ∷ bytes) = false
 
+-- a type, all of the bytes
+unfoldable pub type_of : Naming → List ℕ → Option Ty
+type_of names bytes = do
+  t ← type_at (length bytes) names bytes
+  when (is_empty t.1) (Some t.0)
+
 -- a pointer type, all of the bytes
-unfoldable pub pointer_of : List (List ℕ) → List ℕ → Option Ty
+unfoldable pub pointer_of : Naming → List ℕ → Option Ty
 pointer_of names bytes = do
   t ← type_at (length bytes) names bytes
   when (is_pointer t.0 && is_empty t.1) (Some t.0)

@@ -1,7 +1,6 @@
 -- The types that a plan's text may name, each with its text.
-use Rattle.std.specs.Prelude.{◌≡◌, ℕ, ◌<◌, ◌^◌, Bool, true, false, ◌||◌, List, [], ◌∷◌, ◌++◌, length, map, Some, IsTrue, codes}
-use Rattle.std.specs.List.{prefix_len, position}
-use Rattle.std.specs.Str.{bytes_eq}
+use Rattle.std.specs.Prelude.{◌≡◌, ℕ, Bool, true, false, ◌||◌, List, [], ◌∷◌, ◌++◌, length, map, Some, IsTrue, codes}
+use Rattle.std.specs.List.{prefix_len}
 use Rattle.mdr_core.specs.declared.kind.Kind.{Kind}
 use Rattle.mdr_core.specs.declared.types.Ty.{Ty, out-Ty}
 use Rattle.mdr_core.specs.declared.types.Ty.TheOpen.{Ty-F}
@@ -9,7 +8,8 @@ use Rattle.mdr_core.specs.declared.types.Ty.TheVariants as type
 use Rattle.mdr_core.specs.declared.program.StructDef.{StructDef}
 use Rattle.mdr_core.specs.TypeText.{Text, kind_text, star, signature_text}
 use Rattle.mdr_core.specs.Types.{is_scalar, is_pointer}
-use Rattle.mdr_plan.specs.Front.{is_name_byte}
+use Rattle.mdr_syntax.specs.Bytes.{is_name_byte}
+use Rattle.mdr_plan.specs.Naming.{Naming}
 
 abbrev pub is_void_by : Ty-F Ty → Bool
 is_void_by (Ty-F.Int k) = false
@@ -24,25 +24,21 @@ is_void_by Ty-F.Void = true
 abbrev pub is_result : Ty → Bool
 is_result ty = is_void_by (out-Ty ty) || is_scalar ty
 
--- the first struct of the name has this number
-abbrev pub is_named : List ℕ → List ℕ → Bool
-is_named name other = bytes_eq other name
-
 abbrev pub text : List ℕ → Bool → Text
 text bytes starred = record { bytes = bytes; starred = starred }
 
 mutual
-  -- the type, the type of a pointer to it, and its text, where the structs have these names
-  pub data Written (names : List (List ℕ)) : Ty → Ty → Text → Type 0 where
+  -- the type, the type of a pointer to it, and its text, where names name structs so
+  pub data Written (names : Naming) : Ty → Ty → Text → Type 0 where
     OfInt : (k : Kind) → Written names (type.Int k) (type.Ptr (type.Int k)) (text (kind_text k) false)
     OfLock : Written names type.Lock (type.Ptr type.Lock) (text (codes "combolock_t") false)
-    OfStruct : (s : ℕ) (name : List ℕ) → position (is_named name) names ≡ Some s → s < 2 ^ 32 → prefix_len is_name_byte name ≡ length name → Written names (type.Struct s) (type.Ptr (type.Struct s)) (text (codes "struct " ++ name) false)
+    OfStruct : (s : ℕ) (name : List ℕ) → names name ≡ Some s → prefix_len is_name_byte name ≡ length name → Written names (type.Struct s) (type.Ptr (type.Struct s)) (text (codes "struct " ++ name) false)
     OfVoid : Written names type.Void type.VoidPtr (text (codes "void") false)
     OfPtr : (t p : Ty) (x : Text) → Written names t p x → Written names p (type.Ptr p) (text (x.bytes ++ star x.starred) true)
     OfFun : (r p : Ty) (ts : List Ty) (x : Text) (xs : List Text) → Written names r p x → IsTrue (is_result r) → AreParams names ts xs → Written names (type.Fun (r ∷ ts)) (type.Ptr (type.Fun (r ∷ ts))) (text (codes "fn(" ++ (signature_text (x ∷ xs) ++ codes ")")) false)
 
   -- parameters are scalars
-  pub data AreParams (names : List (List ℕ)) : List Ty → List Text → Type 0 where
+  pub data AreParams (names : Naming) : List Ty → List Text → Type 0 where
     NoParams : AreParams names [] []
     Param : (t p : Ty) (ts : List Ty) (x : Text) (xs : List Text) → Written names t p x → IsTrue (is_scalar t) → AreParams names ts xs → AreParams names (t ∷ ts) (x ∷ xs)
 
@@ -54,7 +50,7 @@ abbrev pub structs_named : List (List ℕ) → List StructDef
 structs_named names = map struct_named names
 
 -- a pointer type whose parts are there, and its text
-pub record IsPointerText (names : List (List ℕ)) (ty : Ty) (bytes : List ℕ) : Type 0 where
+pub record IsPointerText (names : Naming) (ty : Ty) (bytes : List ℕ) : Type 0 where
   pub pointer : Ty
   pub whole : Text
   pub written : Written names ty pointer whole

@@ -3,7 +3,8 @@
 ghost use Rattle.std.specs.Prelude.{◌≡◌, ◌≤◌, length, take, drop};
 ghost use Rattle.std.specs.List.{prefix_len};
 ghost use Rattle.std.specs.Option.{option_map};
-ghost use Rattle.mdr_plan.specs.Front.{is_name_byte, strip, word_at};
+ghost use Rattle.mdr_syntax.specs.Bytes.{is_name_byte};
+ghost use Rattle.mdr_plan.specs.Front.{strip, word_at};
 ghost use Rattle.mdr_plan.specs.Gives.{Gives};
 
 use crate::unread::Unread;

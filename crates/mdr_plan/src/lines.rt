@@ -1,18 +1,19 @@
 // Reading a line.
 
 ghost use Rattle.std.specs.Prelude.{◌≡◌, ◌≤◌, ◌-◌, ◌+◌, ◌==◌, ◌&&◌, nat_lt, nat_le, decimal, take, drop, length, slice_get};
-ghost use Rattle.std.specs.List.{list_all, list_any};
+ghost use Rattle.std.specs.List.{list_all};
 ghost use Rattle.std.specs.Option.{option_map};
-ghost use Rattle.mdr_plan.specs.Front.{is_name_byte, strip};
+ghost use Rattle.mdr_plan.specs.Front.{strip};
 ghost use Rattle.mdr_plan.specs.Gives.{Gives, Finds};
-ghost use Rattle.mdr_plan.specs.Lines.{begins, takes_types, takes_functions, takes_downs, takes_ups, takes_keys, ends, begins_name, is_name, is_new, first_text, is_kernel, is_user_half, is_next_user, is_after, is_there, Reads};
+ghost use Rattle.mdr_plan.specs.Lines.{begins, takes_types, takes_functions, takes_downs, takes_ups, takes_keys, ends, first_text, is_kernel, is_user_half, is_next_user, is_after, is_there, Reads};
 ghost use Rattle.mdr_plan.specs.LineReading.{behind_number, or_else, place_of, heading_at, end_at, first_at, struct_at, pointer_at, type_line_at, function_line_at, down_line_at, up_line_at, key_line_at, stub_at, line_at};
-ghost use Rattle.mdr_plan.specs.TypeTexts.{is_named};
+ghost use Rattle.mdr_plan.specs.Naming.{is_new, struct_number};
 ghost use Rattle.mdr_core.specs.TypeText.{is_before};
 
-use crate::front::{expect, is_name_byte, strip, word_at};
+use crate::front::{expect, strip, word_at};
 use crate::keys::{is_after, is_there, key_of};
 use crate::line::{Line, Stage};
+use crate::names::is_new;
 use crate::number::number_of;
 use crate::reader::Reader;
 use crate::types::pointer_type;
@@ -20,7 +21,7 @@ use crate::unread::Unread;
 use mdr_core::{Half, Items, Key, Name};
 use std::alloc::Global;
 
-fn begins(stage: Stage) -> bool
+pub fn begins(stage: Stage) -> bool
     ensures { result ≡ begins stage }
 {
     match stage {
@@ -29,7 +30,7 @@ fn begins(stage: Stage) -> bool
     }
 }
 
-fn takes_types(stage: Stage) -> bool
+pub fn takes_types(stage: Stage) -> bool
     ensures { result ≡ takes_types stage }
 {
     match stage {
@@ -38,7 +39,7 @@ fn takes_types(stage: Stage) -> bool
     }
 }
 
-fn takes_functions(stage: Stage) -> bool
+pub fn takes_functions(stage: Stage) -> bool
     ensures { result ≡ takes_functions stage }
 {
     match stage {
@@ -47,7 +48,7 @@ fn takes_functions(stage: Stage) -> bool
     }
 }
 
-fn takes_downs(stage: Stage) -> bool
+pub fn takes_downs(stage: Stage) -> bool
     ensures { result ≡ takes_downs stage }
 {
     match stage {
@@ -56,7 +57,7 @@ fn takes_downs(stage: Stage) -> bool
     }
 }
 
-fn takes_ups(stage: Stage) -> bool
+pub fn takes_ups(stage: Stage) -> bool
     ensures { result ≡ takes_ups stage }
 {
     match stage {
@@ -65,7 +66,7 @@ fn takes_ups(stage: Stage) -> bool
     }
 }
 
-fn takes_keys(stage: Stage) -> bool
+pub fn takes_keys(stage: Stage) -> bool
     ensures { result ≡ takes_keys stage }
 {
     match stage {
@@ -81,41 +82,6 @@ fn ends(stage: Stage) -> bool
         Stage::Types | Stage::Functions | Stage::Downs | Stage::Ups => true,
         Stage::Start | Stage::Done => false,
     }
-}
-
-fn begins_name(name: &[u8]) -> bool
-    ensures { result ≡ begins_name name.now }
-{
-    match name {
-        [first, ..] => first.is_ascii_alphabetic() || *first == b'_',
-        [] => false,
-    }
-}
-
-fn are_name_bytes(name: &[u8]) -> bool
-    ensures { result ≡ list_all is_name_byte name.now }
-{
-    name.iter().all(|b| is_name_byte(*b))
-}
-
-#[tactic(auto, unfolding(crate::specs::Lines::is_name))]
-fn is_name(name: &[u8]) -> bool
-    ensures { result ≡ is_name name.now }
-{
-    begins_name(name) && are_name_bytes(name)
-}
-
-fn has_name(names: &[Name], name: &[u8]) -> bool
-    ensures { result ≡ list_any (is_named name.now) names.now }
-{
-    names.iter().any(|other| other.as_slice() == name)
-}
-
-#[tactic(auto, unfolding(crate::specs::Lines::is_new))]
-fn is_new(names: &[Name], name: &[u8]) -> bool
-    ensures { result ≡ is_new names.now name.now }
-{
-    is_name(name) && !has_name(names, name)
 }
 
 fn is_before(a: &[u8], b: &[u8]) -> bool
@@ -268,7 +234,7 @@ fn type_line_at(alloc: Global, reader: &Reader, bytes: &[u8]) -> Result<Line, Un
 }
 
 #[tactic(auto, unfolding(crate::specs::LineReading::place_of))]
-fn place_of(bytes: &[u8]) -> Option<(Half, bool)>
+pub fn place_of(bytes: &[u8]) -> Option<(Half, bool)>
     ensures { result ≡ place_of bytes.now }
 {
     if bytes == b" kernel".as_slice() {
@@ -360,7 +326,7 @@ fn are_kernel_between(halves: &[Half], from: usize, to: usize) -> bool
 }
 
 /// Whether each function from one on is.
-fn are_kernel_from(halves: &[Half], from: usize) -> bool
+pub fn are_kernel_from(halves: &[Half], from: usize) -> bool
     ensures { result ≡ list_all is_kernel (drop from halves.now) }
 {
     halves.iter().skip(from).all(|half| is_kernel(*half))
@@ -413,7 +379,7 @@ fn key_line_at(alloc: Global, reader: &Reader, bytes: &[u8]) -> Result<Line, Unr
     }
 }
 
-fn may_end(reader: &Reader) -> bool
+pub fn may_end(reader: &Reader) -> bool
     ensures { result ≡ (ends reader.now.stage && nat_lt 8 (length reader.now.plan.types) && list_all is_kernel (drop reader.now.ups reader.now.plan.halves)) }
 {
     ends(reader.stage)

@@ -3,7 +3,7 @@
 ghost use Rattle.std.specs.Prelude.{◌≡◌, ◌≤◌, ◌<◌, ◌+◌, ◌*◌, ◌-◌, ◌^◌, length, None, Some, IfSome};
 ghost use Rattle.std.specs.List.{list_all};
 ghost use Rattle.std.specs.Char.{is_ascii_digit};
-ghost use Rattle.mdr_plan.specs.Numbers.{is_canonical, value_of, number_of};
+ghost use Rattle.mdr_plan.specs.Numbers.{is_canonical, value_of, is_number, number_of};
 
 /// A digit more, where the number still fits.
 fn next_value(value: u64, digit: u8) -> Option<u64>
@@ -41,12 +41,20 @@ fn is_canonical(bytes: &[u8]) -> bool
     }
 }
 
+/// Whether these are digits without a leading zero.
+#[tactic(auto, unfolding(crate::specs::Numbers::is_number))]
+pub fn is_number(bytes: &[u8]) -> bool
+    ensures { result ≡ is_number bytes.now }
+{
+    are_digits(bytes) && is_canonical(bytes)
+}
+
 /// The number that these digits are, without a leading zero. One past 64 bits is none.
 #[tactic(auto, unfolding(crate::specs::Numbers::number_of))]
 pub fn number_of(bytes: &[u8]) -> Option<u64>
     ensures { result ≡ number_of bytes.now }
 {
-    if are_digits(bytes) && is_canonical(bytes) {
+    if is_number(bytes) {
         value_of(bytes)
     } else {
         None

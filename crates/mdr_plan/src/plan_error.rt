@@ -5,11 +5,22 @@ ghost use Rattle.mdr_plan.specs.declared.plan_error.PlanError.TheVariants.{OutOf
 
 use std::alloc::{AllocError, AllocFailed};
 
+/// Why a line is refused.
+#[derive(Clone, Copy, Debug, PartialEq, Eq)]
+pub enum PlanKind {
+    /// It has the form of no line of a plan, or the text ended.
+    Form,
+    /// No line of its form may stand there, whatever its numbers, names and types are.
+    Order,
+    /// Another line of its form may stand there.
+    Range,
+}
+
 /// Why bytes are no plan's text.
 #[derive(Clone, Copy, Debug, PartialEq, Eq)]
 pub enum PlanError {
-    /// The first line, counted from 1, that no line of a plan's text goes on with, or the text's end before its last line.
-    Line(u64),
+    /// The first line, counted from 1, that no plan's text goes on with, or the text's end before its last line.
+    Line(u32, PlanKind),
     OutOfMemory,
 }
 

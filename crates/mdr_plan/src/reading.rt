@@ -6,8 +6,9 @@ ghost use Rattle.mdr_plan.specs.Texts.{in_line, IsOneLine, Plans, Progress, Ends
 ghost use Rattle.mdr_plan.specs.declared.plan_error.PlanError.TheVariants.{Line as at_line};
 
 use crate::line::Stage;
-use crate::plan_error::PlanError;
+use crate::plan_error::{PlanError, PlanKind};
 use crate::reader::Reader;
+use crate::standing::refusal;
 use crate::unread::Unread;
 use mdr_core::Plan;
 use std::alloc::Global;
@@ -40,34 +41,46 @@ fn is_done(stage: Stage) -> bool
 }
 
 /// The plan, where its last line was read.
-fn finish(reader: Reader, number: u64) -> Result<Plan, PlanError>
+fn finish(reader: Reader, number: u32) -> Result<Plan, PlanError>
     ensures { Ends reader number result }
 {
     if is_done(reader.stage) {
         Ok(reader.plan)
     } else {
-        Err(PlanError::Line(number))
+        Err(PlanError::Line(number, PlanKind::Form))
     }
 }
 
-/// The plan of a text, or the number of the first line that may not stand there.
-pub fn read_plan(alloc: Global, bytes: &[u8]) -> Result<Plan, PlanError>
+fn read_lines(alloc: Global, bytes: &[u8]) -> Result<Plan, PlanError>
+    requires { length bytes.now < 4294967295 }
     ensures { Plans bytes.now result }
 {
     let mut reader = Reader::new(alloc);
-    let mut number = 1u64;
+    let mut number = 1u32;
     let mut rest = bytes;
     while !rest.is_empty() {
         let Some((line, after)) = split_line(rest) else {
-            return Err(PlanError::Line(number));
+            return Err(PlanError::Line(number, PlanKind::Form));
         };
         match reader.step(alloc, line) {
             Ok(()) => {}
-            Err(Unread::Refused) => return Err(PlanError::Line(number)),
+            Err(Unread::Refused) => return Err(refusal(alloc, &reader, number, line)),
             Err(Unread::OutOfMemory) => return Err(PlanError::OutOfMemory),
         }
         number += 1;
         rest = after;
     }
     finish(reader, number)
+}
+
+/// The plan of a text, or the number of the first line that may not stand there, and why. A text of 2^32 - 1 bytes or
+/// more is too large: `OutOfMemory`.
+pub fn read_plan(alloc: Global, bytes: &[u8]) -> Result<Plan, PlanError>
+    ensures { Plans bytes.now result }
+{
+    if bytes.len() < u32::MAX as usize {
+        read_lines(alloc, bytes)
+    } else {
+        Err(PlanError::OutOfMemory)
+    }
 }

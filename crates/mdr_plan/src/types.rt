@@ -3,11 +3,14 @@
 ghost use Rattle.std.specs.Prelude.{◌≡◌, ◌++◌, ◌∷◌, [], IfOk, length, Some, None, codes};
 ghost use Rattle.mdr_core.specs.declared.types.Ty.TheVariants as ty_is;
 ghost use Rattle.mdr_plan.specs.Gives.{Gives};
-ghost use Rattle.mdr_plan.specs.TypeReading.{behind, stars, plain_at, struct_at, typed_by, fun_by, signature_by, params_by, others_by, more_by, type_at, more_at, pointer_of, when, is_empty};
+ghost use Rattle.mdr_plan.specs.TypeTexts.{is_result};
+ghost use Rattle.mdr_plan.specs.Naming.{any_struct, struct_number, naming};
+ghost use Rattle.mdr_plan.specs.TypeReading.{behind, stars, plain_at, struct_at, typed_by, fun_by, signature_by, params_by, others_by, more_by, type_at, more_at, type_of, pointer_of, when, is_empty};
 
 use crate::front::{expect, strip, word_at};
+use crate::names::number_of_struct;
 use crate::unread::Unread;
-use crate::words::{is_pointer, is_result, is_scalar, plain_of, struct_number};
+use crate::words::{is_pointer, is_result, is_scalar, plain_of};
 use mdr_core::{Boxed, Items, Name, Ty};
 use std::alloc::{AllocError, Global};
 
@@ -54,12 +57,17 @@ fn plain_at<'a>(alloc: Global, word: &[u8], bytes: &'a [u8]) -> Result<(Ty, &'a 
 }
 
 #[tactic(auto, unfolding(crate::specs::TypeReading::struct_at))]
-fn struct_at<'a>(alloc: Global, names: &[Name], bytes: &'a [u8]) -> Result<(Ty, &'a [u8]), Unread>
-    ensures { Gives (λ x. (x.0, x.1.now)) result (struct_at names.now bytes.now) }
+fn struct_at<'a>(
+    alloc: Global,
+    any: bool,
+    names: &[Name],
+    bytes: &'a [u8],
+) -> Result<(Ty, &'a [u8]), Unread>
+    ensures { Gives (λ x. (x.0, x.1.now)) result (struct_at (naming any names.now) bytes.now) }
 {
     let rest = expect(bytes, b" ")?;
     let (name, rest) = word_at(rest);
-    match struct_number(names, name) {
+    match number_of_struct(any, names, name) {
         Some(s) => Ok(behind(alloc, Ty::Struct(s), rest)?),
         None => Err(Unread::Refused),
     }
@@ -70,16 +78,17 @@ fn struct_at<'a>(alloc: Global, names: &[Name], bytes: &'a [u8]) -> Result<(Ty, 
 #[tactic(auto, unfolding(crate::specs::TypeReading::params_by))]
 fn params_at<'a>(
     alloc: Global,
+    any: bool,
     names: &[Name],
     types: Items<Ty>,
     bytes: &'a [u8],
     depth: usize,
 ) -> Result<(Items<Ty>, &'a [u8]), Unread>
-    ensures { Gives (λ x. (x.0, x.1.now)) result (params_by (λ ts bs. more_at depth names.now ts bs) types bytes.now) }
+    ensures { Gives (λ x. (x.0, x.1.now)) result (params_by (λ ts bs. more_at depth (naming any names.now) ts bs) types bytes.now) }
 {
     match strip(bytes, b")") {
         Some(rest) => Ok((types, rest)),
-        None => more_at(alloc, names, types, bytes, depth),
+        None => more_at(alloc, any, names, types, bytes, depth),
     }
 }
 
@@ -88,16 +97,17 @@ fn params_at<'a>(
 #[tactic(auto, unfolding(crate::specs::TypeReading::others_by))]
 fn others_at<'a>(
     alloc: Global,
+    any: bool,
     names: &[Name],
     types: Items<Ty>,
     bytes: &'a [u8],
     depth: usize,
 ) -> Result<(Items<Ty>, &'a [u8]), Unread>
-    ensures { Gives (λ x. (x.0, x.1.now)) result (others_by (λ ts bs. more_at depth names.now ts bs) types bytes.now) }
+    ensures { Gives (λ x. (x.0, x.1.now)) result (others_by (λ ts bs. more_at depth (naming any names.now) ts bs) types bytes.now) }
 {
     match strip(bytes, b")") {
         Some(rest) => Ok((types, rest)),
-        None => more_at(alloc, names, types, expect(bytes, b",")?, depth),
+        None => more_at(alloc, any, names, types, expect(bytes, b",")?, depth),
     }
 }
 
@@ -106,36 +116,58 @@ fn others_at<'a>(
 #[tactic(auto, unfolding(crate::specs::TypeReading::more_by))]
 fn param_at<'a>(
     alloc: Global,
+    any: bool,
     names: &[Name],
     mut types: Items<Ty>,
     bytes: &'a [u8],
     depth: usize,
 ) -> Result<(Items<Ty>, &'a [u8]), Unread>
-    ensures { Gives (λ x. (x.0, x.1.now)) result (more_by (λ bs. type_at depth names.now bs) (λ ts bs. more_at depth names.now ts bs) types bytes.now) }
+    ensures { Gives (λ x. (x.0, x.1.now)) result (more_by (λ bs. type_at depth (naming any names.now) bs) (λ ts bs. more_at depth (naming any names.now) ts bs) types bytes.now) }
 {
-    let (ty, rest) = type_at(alloc, names, bytes, depth)?;
+    let (ty, rest) = type_at(alloc, any, names, bytes, depth)?;
     if !is_scalar(&ty) {
         return Err(Unread::Refused);
     }
     types.push(ty)?;
-    others_at(alloc, names, types, rest, depth)
+    others_at(alloc, any, names, types, rest, depth)
 }
 
 /// Parameters, where at most so many types stand inside one another or in a row.
 #[cycle(types)]
 fn more_at<'a>(
     alloc: Global,
+    any: bool,
     names: &[Name],
     types: Items<Ty>,
     bytes: &'a [u8],
     depth: usize,
 ) -> Result<(Items<Ty>, &'a [u8]), Unread>
-    ensures { Gives (λ x. (x.0, x.1.now)) result (more_at depth names.now types bytes.now) }
+    ensures { Gives (λ x. (x.0, x.1.now)) result (more_at depth (naming any names.now) types bytes.now) }
 {
     if depth == 0 {
         return Err(Unread::Refused);
     }
-    param_at(alloc, names, types, bytes, depth - 1)
+    param_at(alloc, any, names, types, bytes, depth - 1)
+}
+
+/// The types of a function's signature, behind its result and the semicolon.
+#[cycle(types)]
+fn behind_result<'a>(
+    alloc: Global,
+    any: bool,
+    names: &[Name],
+    ty: Ty,
+    bytes: &'a [u8],
+    depth: usize,
+) -> Result<(Items<Ty>, &'a [u8]), Unread>
+    ensures { Gives (λ x. (x.0, x.1.now)) result (when (is_result ty) (params_by (λ ts bs. more_at depth (naming any names.now) ts bs) (ty ∷ []) bytes.now)) }
+{
+    if !is_result(&ty) {
+        return Err(Unread::Refused);
+    }
+    let mut types = Items::new(alloc);
+    types.push(ty)?;
+    params_at(alloc, any, names, types, bytes, depth)
 }
 
 /// The types of a function's signature, behind its parenthesis.
@@ -143,34 +175,30 @@ fn more_at<'a>(
 #[tactic(auto, unfolding(crate::specs::TypeReading::signature_by))]
 fn signature_at<'a>(
     alloc: Global,
+    any: bool,
     names: &[Name],
     bytes: &'a [u8],
     depth: usize,
 ) -> Result<(Items<Ty>, &'a [u8]), Unread>
-    ensures { Gives (λ x. (x.0, x.1.now)) result (signature_by (λ bs. type_at depth names.now bs) (λ ts bs. more_at depth names.now ts bs) bytes.now) }
+    ensures { Gives (λ x. (x.0, x.1.now)) result (signature_by (λ bs. type_at depth (naming any names.now) bs) (λ ts bs. more_at depth (naming any names.now) ts bs) bytes.now) }
 {
-    let (ty, rest) = type_at(alloc, names, bytes, depth)?;
-    let rest = expect(rest, b";")?;
-    if !is_result(&ty) {
-        return Err(Unread::Refused);
-    }
-    let mut types = Items::new(alloc);
-    types.push(ty)?;
-    params_at(alloc, names, types, rest, depth)
+    let (ty, rest) = type_at(alloc, any, names, bytes, depth)?;
+    behind_result(alloc, any, names, ty, expect(rest, b";")?, depth)
 }
 
 #[cycle(types)]
 #[tactic(auto, unfolding(crate::specs::TypeReading::fun_by))]
 fn fun_at<'a>(
     alloc: Global,
+    any: bool,
     names: &[Name],
     bytes: &'a [u8],
     depth: usize,
 ) -> Result<(Ty, &'a [u8]), Unread>
-    ensures { Gives (λ x. (x.0, x.1.now)) result (fun_by (λ bs. type_at depth names.now bs) (λ ts bs. more_at depth names.now ts bs) bytes.now) }
+    ensures { Gives (λ x. (x.0, x.1.now)) result (fun_by (λ bs. type_at depth (naming any names.now) bs) (λ ts bs. more_at depth (naming any names.now) ts bs) bytes.now) }
 {
     let rest = expect(bytes, b"(")?;
-    let (types, rest) = signature_at(alloc, names, rest, depth)?;
+    let (types, rest) = signature_at(alloc, any, names, rest, depth)?;
     Ok(behind(alloc, Ty::Fun(types), rest)?)
 }
 
@@ -179,17 +207,18 @@ fn fun_at<'a>(
 #[tactic(auto, unfolding(crate::specs::TypeReading::typed_by))]
 fn typed<'a>(
     alloc: Global,
+    any: bool,
     names: &[Name],
     word: &[u8],
     bytes: &'a [u8],
     depth: usize,
 ) -> Result<(Ty, &'a [u8]), Unread>
-    ensures { Gives (λ x. (x.0, x.1.now)) result (typed_by (λ bs. type_at depth names.now bs) (λ ts bs. more_at depth names.now ts bs) names.now word.now bytes.now) }
+    ensures { Gives (λ x. (x.0, x.1.now)) result (typed_by (λ bs. type_at depth (naming any names.now) bs) (λ ts bs. more_at depth (naming any names.now) ts bs) (naming any names.now) word.now bytes.now) }
 {
     if word == b"fn".as_slice() {
-        fun_at(alloc, names, bytes, depth)
+        fun_at(alloc, any, names, bytes, depth)
     } else if word == b"struct".as_slice() {
-        struct_at(alloc, names, bytes)
+        struct_at(alloc, any, names, bytes)
     } else if word == b"void".as_slice() {
         Ok(void_behind(alloc, bytes)?)
     } else {
@@ -201,25 +230,39 @@ fn typed<'a>(
 #[cycle(types)]
 fn type_at<'a>(
     alloc: Global,
+    any: bool,
     names: &[Name],
     bytes: &'a [u8],
     depth: usize,
 ) -> Result<(Ty, &'a [u8]), Unread>
-    ensures { Gives (λ x. (x.0, x.1.now)) result (type_at depth names.now bytes.now) }
+    ensures { Gives (λ x. (x.0, x.1.now)) result (type_at depth (naming any names.now) bytes.now) }
 {
     if depth == 0 {
         return Err(Unread::Refused);
     }
     let (word, rest) = word_at(bytes);
-    typed(alloc, names, word, rest, depth - 1)
+    typed(alloc, any, names, word, rest, depth - 1)
+}
+
+/// The type that all of the bytes name, where structs have any names.
+#[tactic(auto, unfolding(crate::specs::TypeReading::type_of, crate::specs::Naming::naming))]
+pub fn type_of_any(alloc: Global, bytes: &[u8]) -> Result<Ty, Unread>
+    ensures { Gives (λ t. t) result (type_of any_struct bytes.now) }
+{
+    let (ty, rest) = type_at(alloc, true, &[], bytes, bytes.len())?;
+    if rest.is_empty() {
+        Ok(ty)
+    } else {
+        Err(Unread::Refused)
+    }
 }
 
 /// The pointer type that all of the bytes name, where the structs have these names.
-#[tactic(auto, unfolding(crate::specs::TypeReading::pointer_of))]
+#[tactic(auto, unfolding(crate::specs::TypeReading::pointer_of, crate::specs::Naming::naming))]
 pub fn pointer_type(alloc: Global, names: &[Name], bytes: &[u8]) -> Result<Ty, Unread>
-    ensures { Gives (λ t. t) result (pointer_of names.now bytes.now) }
+    ensures { Gives (λ t. t) result (pointer_of (struct_number names.now) bytes.now) }
 {
-    let (ty, rest) = type_at(alloc, names, bytes, bytes.len())?;
+    let (ty, rest) = type_at(alloc, false, names, bytes, bytes.len())?;
     if is_pointer(&ty) && rest.is_empty() {
         Ok(ty)
     } else {

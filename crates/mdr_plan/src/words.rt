@@ -2,12 +2,11 @@
 
 ghost use Rattle.std.specs.Prelude.{◌≡◌};
 ghost use Rattle.mdr_core.specs.Types.{is_scalar, is_pointer};
-ghost use Rattle.mdr_plan.specs.TypeTexts.{is_named, is_result, is_void_by};
-ghost use Rattle.mdr_plan.specs.TypeReading.{kind_of, plain_of, struct_number, small};
-ghost use Rattle.std.specs.List.{position};
+ghost use Rattle.mdr_plan.specs.TypeTexts.{is_result, is_void_by};
+ghost use Rattle.mdr_plan.specs.TypeReading.{kind_of, plain_of};
 ghost use Rattle.mdr_core.specs.declared.types.Ty.{out-Ty};
 
-use mdr_core::{Kind, Name, Ty};
+use mdr_core::{Kind, Ty};
 
 #[tactic(auto, unfolding(crate::specs::TypeReading::kind_of))]
 fn kind_of(word: &[u8]) -> Option<Kind>
@@ -44,29 +43,6 @@ pub fn plain_of(word: &[u8]) -> Option<Ty>
     }
     match kind_of(word) {
         Some(kind) => Some(Ty::Int(kind)),
-        None => None,
-    }
-}
-
-fn name_position(names: &[Name], name: &[u8]) -> Option<usize>
-    ensures { result ≡ position (is_named name.now) names.now }
-{
-    names.iter().position(|other| other.as_slice() == name)
-}
-
-fn small(n: usize) -> Option<u32>
-    ensures { result ≡ small n }
-{
-    if n < 1 << 32 { Some(n as u32) } else { None }
-}
-
-/// The number of the struct of this name.
-#[tactic(auto, unfolding(crate::specs::TypeReading::struct_number))]
-pub fn struct_number(names: &[Name], name: &[u8]) -> Option<u32>
-    ensures { result ≡ struct_number names.now name.now }
-{
-    match name_position(names, name) {
-        Some(n) => small(n),
         None => None,
     }
 }

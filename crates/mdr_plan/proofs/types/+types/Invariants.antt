@@ -14,14 +14,17 @@ decreases-param_at l = 8 * l.depth + 2
 abbrev pub decreases-more_at : goal.decreases-more_at
 decreases-more_at l = 8 * l.depth
 
+abbrev pub decreases-behind_result : goal.decreases-behind_result
+decreases-behind_result l = 8 * l.depth + 2
+
 abbrev pub decreases-signature_at : goal.decreases-signature_at
-decreases-signature_at l = 8 * l.depth + 2
+decreases-signature_at l = 8 * l.depth + 3
 
 abbrev pub decreases-fun_at : goal.decreases-fun_at
-decreases-fun_at l = 8 * l.depth + 3
+decreases-fun_at l = 8 * l.depth + 4
 
 abbrev pub decreases-typed : goal.decreases-typed
-decreases-typed l = 8 * l.depth + 4
+decreases-typed l = 8 * l.depth + 5
 
 abbrev pub decreases-type_at : goal.decreases-type_at
 decreases-type_at l = 8 * l.depth

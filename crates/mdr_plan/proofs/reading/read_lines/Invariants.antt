@@ -1,6 +1,6 @@
 use Rattle.std.proofs.Common.{◌≤◌, ◌+◌, length}
 use Rattle.mdr_plan.specs.Texts.{Progress}
-use Rattle.mdr_plan.proofs.reading.read_plan.Given as goal
+use Rattle.mdr_plan.proofs.reading.read_lines.Given as goal
 
 abbrev pub invariant-loop-rest : goal.invariant-loop-rest
 invariant-loop-rest l = record {

@@ -1,0 +1,11 @@
+// What holds of the texts of plans.
+
+ghost use Rattle.std.specs.Prelude.{ℕ, List};
+ghost use Rattle.mdr_core.specs.declared.plan.Plan.{Plan};
+ghost use Rattle.mdr_plan.specs.Texts.{IsPlanText};
+ghost use Rattle.mdr_texts.specs.PlanTexts.{IsTextOf};
+
+/// The bytes that are read as a plan are its text, in each program with structs of the names that they give.
+pub fn a_text_that_is_read_is_its_plans()
+    ensures { (bytes : List ℕ) (plan : Plan) → IsPlanText bytes plan → IsTextOf bytes plan }
+{}
