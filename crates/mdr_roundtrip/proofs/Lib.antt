@@ -1,0 +1,14 @@
+pub mod Bools
+pub mod Lexemes
+pub mod Judged
+pub mod Sorted
+pub mod Steps
+pub mod FormTests
+pub mod SoundForms
+pub mod DeclTests
+pub mod SoundDeclarations
+pub mod NodeTests
+pub mod SoundStatements
+pub mod SoundItems
+pub mod SoundRules
+pub mod Printing
