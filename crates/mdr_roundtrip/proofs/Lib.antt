@@ -12,3 +12,9 @@ pub mod SoundStatements
 pub mod SoundItems
 pub mod SoundRules
 pub mod Printing
+pub mod Following
+pub mod Signs
+pub mod Heights
+pub mod Rereading
+pub mod RereadForms
+pub mod RereadExpressions

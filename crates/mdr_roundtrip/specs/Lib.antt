@@ -1,1 +1,3 @@
 pub mod Lexed
+pub mod Unplaced
+pub mod Shaped

@@ -1,14 +1,22 @@
 // Laws of sources that are read and printed, each the contract of a function that does nothing.
 
-ghost use Rattle.std.specs.Prelude.{◌≡◌, ℕ, Bool, true, List, Ok};
+ghost use Rattle.std.specs.Prelude.{◌≡◌, ◌≤◌, ◌+◌, ℕ, Bool, true, List, Ok};
 ghost use Rattle.mdr_syntax.specs.declared.token.Token.{Token};
+ghost use Rattle.mdr_syntax.specs.declared.tree.Form.{Form as Expression};
 ghost use Rattle.mdr_syntax.specs.declared.tree.Tree.{Tree as SourceTree};
 ghost use Rattle.mdr_syntax.specs.Tokens.{tokens_of};
+ghost use Rattle.mdr_print.specs.Forms.{form};
 ghost use Rattle.mdr_print.specs.Items.{printed};
-ghost use Rattle.mdr_print.specs.Spelled.{GivesLexemes, spelled};
+ghost use Rattle.mdr_print.specs.Marks.{Mark};
+ghost use Rattle.mdr_print.specs.Spelled.{GivesLexemes, lexemes, spelled};
 ghost use Rattle.mdr_reread.specs.Whole.{is_printable};
-ghost use Rattle.mdr_grammar.specs.Grammar.{Reads};
+ghost use Rattle.mdr_grammar.specs.Expressions.{height};
+ghost use Rattle.mdr_grammar.specs.Forms.Nonterminal.{part};
+ghost use Rattle.mdr_grammar.specs.Forms.Part.{expression};
+ghost use Rattle.mdr_grammar.specs.Grammar.{Gets, Reads};
 ghost use Rattle.mdr_roundtrip.specs.Lexed.{are_lexed};
+ghost use Rattle.mdr_roundtrip.specs.Shaped.{shape_of};
+ghost use Rattle.mdr_roundtrip.specs.Unplaced.{all_at, unplaced_form};
 
 /// The words, numbers, texts, punctuation and `#define` lines that the lexer gives are such as it reads again.
 pub fn tokens_are_lexed()
@@ -23,4 +31,11 @@ pub fn sources_are_printable()
 /// Reading what is printed of a source's tree gives the tokens that the tree is spelled by, and the end.
 pub fn printed_sources_are_read()
     ensures { (bytes : List ℕ) (tokens : List Token) (halves : Bool) (tree : SourceTree) → tokens_of bytes ≡ Ok tokens → Reads halves tokens tree → GivesLexemes (tokens_of (printed tree)) (spelled tree) }
+{}
+
+/// The tokens of a printed expression, all set to one place, are read as the expression with its places set to
+/// that one, whatever stands behind: the parentheses that are printed meet no bound, since each level opens one at
+/// most.
+pub fn printed_expressions_are_expressions()
+    ensures { (halves : Bool) (f : Expression) (l d : ℕ) (rest : List Mark) → (shape_of f).expression ≡ true → l + height f ≤ 256 → d + height f ≤ 512 → Gets halves (part (expression l d)) (all_at (lexemes (form f rest))) (all_at (lexemes rest)) (unplaced_form f) }
 {}

@@ -5,4 +5,7 @@
 
 mod laws;
 
-pub use laws::{printed_sources_are_read, sources_are_printable, tokens_are_lexed};
+pub use laws::{
+    printed_expressions_are_expressions, printed_sources_are_read, sources_are_printable,
+    tokens_are_lexed,
+};
