@@ -1,6 +1,7 @@
 -- How many levels expressions have.
 use Rattle.std.proofs.Common.{◌≡◌, refl, sym, ap, subst, ◌∙◌, ℕ, suc, max, List, [], ◌∷◌, map}
 use Rattle.std.specs.Prelude.{Bool}
+use Rattle.mdr_core.specs.declared.kind.Kind.{Kind}
 use Rattle.mdr_core.specs.declared.place.Place.{Place}
 use Rattle.mdr_syntax.specs.declared.tree.Base.{Base}
 use Rattle.mdr_syntax.specs.declared.tree.Form.{Form}
@@ -21,6 +22,21 @@ unfolding height what_height
 made place l w e =
     fold_out-Form ℕ ℕ height_at form_height (record { place = place; what = w }) ∙ ap (fold-FormWhat ℕ ℕ height_at form_height) (sym e)
     ∙ fold-roll-FormWhat ℕ ℕ height_at form_height l
+
+pub number_height : (place : Place) (n : ℕ) (k : Kind) → height (form_at place (FormWhat.Number n k)) ≡ 0
+number_height place n k = made place (FormWhat-F.Number n k) (FormWhat.Number n k) (rolls-Number n k)
+
+pub null_height : (place : Place) → height (form_at place FormWhat.Null) ≡ 0
+null_height place = made place FormWhat-F.Null FormWhat.Null rolls-Null
+
+pub name_height : (place : Place) (name : List ℕ) → height (form_at place (FormWhat.Name name)) ≡ 0
+name_height place name = made place (FormWhat-F.Name name) (FormWhat.Name name) (rolls-Name name)
+
+pub text_height : (place : Place) (bytes : List ℕ) → height (form_at place (FormWhat.Text bytes)) ≡ 0
+text_height place bytes = made place (FormWhat-F.Text bytes) (FormWhat.Text bytes) (rolls-Text bytes)
+
+pub base_height : (place : Place) (b : Base) (n : ℕ) → height (form_at place (FormWhat.Base b n)) ≡ 0
+base_height place b n = made place (FormWhat-F.Base b n) (FormWhat.Base b n) (rolls-Base b n)
 
 pub prefix_height : (place : Place) (op : List ℕ) (a : Form) → height (form_at place (FormWhat.Prefix op a)) ≡ suc (height a)
 prefix_height place op a = made place (FormWhat-F.Prefix op a) (FormWhat.Prefix op a) (rolls-Prefix op a)
@@ -62,9 +78,9 @@ heights_are of good [] = refl
 heights_are of good (x ∷ xs) = ap (λ n. n ∷ map height (map unplaced_form (map of xs))) (good x).by ∙ ap (λ ns. height (of x) ∷ ns) (heights_are of good xs)
 
 layer_is : {X Y : Type 0} (what : X → FormWhat) (of : Y → Form) → ((y : Y) → GoodForm (of y)) → (l : FormWhat-F X Y) → Layer (map-FormWhat X Y FormWhat Form what of l)
-layer_is what of good (FormWhat-F.Number n k) = made nowhere (FormWhat-F.Number n k) (FormWhat.Number n k) (rolls-Number n k)
-layer_is what of good FormWhat-F.Null = made nowhere FormWhat-F.Null FormWhat.Null rolls-Null
-layer_is what of good (FormWhat-F.Name name) = made nowhere (FormWhat-F.Name name) (FormWhat.Name name) (rolls-Name name)
+layer_is what of good (FormWhat-F.Number n k) = number_height nowhere n k
+layer_is what of good FormWhat-F.Null = null_height nowhere
+layer_is what of good (FormWhat-F.Name name) = name_height nowhere name
 layer_is what of good (FormWhat-F.Prefix op a) = prefix_height nowhere op (unplaced_form (of a)) ∙ ap suc (good a).by
 layer_is what of good (FormWhat-F.Post op a) = post_height nowhere op (unplaced_form (of a)) ∙ ap suc (good a).by
 layer_is what of good (FormWhat-F.Cast b n a) = cast_height nowhere (unplaced_base b) n (unplaced_form (of a)) ∙ ap suc (good a).by
@@ -75,8 +91,8 @@ layer_is what of good (FormWhat-F.Choice c a b) =
 layer_is what of good (FormWhat-F.Subscript a i) = subscript_height nowhere (unplaced_form (of a)) (unplaced_form (of i)) ∙ ap (λ n. suc (max n (height (unplaced_form (of i))))) (good a).by ∙ ap (λ n. suc (max (height (of a)) n)) (good i).by
 layer_is what of good (FormWhat-F.Member a is_arrow place name) = member_height nowhere (unplaced_form (of a)) is_arrow nowhere name ∙ ap suc (good a).by
 layer_is what of good (FormWhat-F.Call f args) = call_height nowhere (unplaced_form (of f)) (map unplaced_form (map of args)) ∙ ap (λ n. max (suc n) (highest (map height (map unplaced_form (map of args))))) (good f).by ∙ ap (λ ns. max (suc (height (of f))) (highest ns)) (heights_are of good args)
-layer_is what of good (FormWhat-F.Text bytes) = made nowhere (FormWhat-F.Text bytes) (FormWhat.Text bytes) (rolls-Text bytes)
-layer_is what of good (FormWhat-F.Base b n) = made nowhere (FormWhat-F.Base (unplaced_base b) n) (FormWhat.Base (unplaced_base b) n) (rolls-Base (unplaced_base b) n)
+layer_is what of good (FormWhat-F.Text bytes) = text_height nowhere bytes
+layer_is what of good (FormWhat-F.Base b n) = base_height nowhere (unplaced_base b) n
 
 form_height_is : (place : Place) (w : FormWhat) → height (form_at place w) ≡ what_height w
 unfolding height what_height

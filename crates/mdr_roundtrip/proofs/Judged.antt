@@ -1,8 +1,7 @@
 -- What is known of tokens by their sorts, and of the values that nonterminals give.
-use Rattle.std.specs.Prelude.{◌≡◌, Bool, true, ◌&&◌, nat_lt, List}
+use Rattle.std.specs.Prelude.{Bool, true, ◌&&◌, nat_lt, List}
 use Rattle.std.specs.List.{list_all}
 use Rattle.mdr_syntax.specs.declared.token.Lexeme.{Lexeme}
-use Rattle.mdr_syntax.specs.declared.token.Token.{Token}
 use Rattle.mdr_syntax.specs.declared.tree.Decl.{Decl}
 use Rattle.mdr_syntax.specs.declared.tree.Item.{Item}
 use Rattle.mdr_syntax.specs.declared.tree.Node.{Node}
@@ -12,13 +11,12 @@ use Rattle.mdr_reread.specs.Declared.{maybe, is_constant, is_annotation, is_prin
 use Rattle.mdr_reread.specs.Stated.{is_label, is_printable_node, is_printable_clause}
 use Rattle.mdr_reread.specs.Whole.{is_printable_head, is_printable_enumerator, is_defined, is_printable_line}
 use Rattle.mdr_grammar.specs.declared.sort.Sort.{Sort}
-use Rattle.mdr_grammar.specs.Forms.{Part, PartValue, repeated, separated, enclosed, Nonterminal, Value, Right, Rule, Empty}
+use Rattle.mdr_grammar.specs.Forms.{Part, PartValue, repeated, separated, enclosed, Nonterminal, Value, Right, Rule}
 use Rattle.mdr_grammar.specs.Forms.Part.{operand, expression, argument, statement, body, plain, simple, block_item, opening, local, right, right_side, label, clause, base, specifiers, size, annotation, constant, value, declarator, parameter, field, field_group, enumerator, initial, initialiser, element, global, item}
 use Rattle.mdr_grammar.specs.Forms.Nonterminal.{part, option, many, commas, commas_open, after_comma, postfix, operators, choice, opened, arguments, stars, text_behind, text_after, unsigned_word, assignment, otherwise, parameters, after_void, parameter_name, parameter_declarator, qualified, outer, remote, critical, function, function_end, fields}
-use Rattle.mdr_grammar.specs.Forms.Right.{gives, takes, then}
 use Rattle.mdr_grammar.specs.Forms.Rule.{never, given}
-use Rattle.mdr_grammar.specs.Forms.Empty.{cannot, may}
 use Rattle.mdr_grammar.specs.Expressions.{text_of, number_in, kind_in}
+use Rattle.mdr_roundtrip.proofs.Judges.{Judge, SoundBy}
 
 -- ---- tokens
 
@@ -157,16 +155,13 @@ fits _ = true
 
 -- ---- productions
 
--- what a right side gives is such, whatever its parts give
-abbrev pub Sound : {A : Type 0} → Right A → (A → Bool) → Type 0
-Sound (gives v) p = p v ≡ true
-Sound (takes s r) p = (t : Token) → told s t.what ≡ true → Sound (r t) p
-Sound (then n k) p = (fits n ≡ true) × ((v : Value n) → good n v ≡ true → Sound (k v) p)
+abbrev pub printable : Judge
+printable = record { told = told; good = good; fits = fits }
 
+abbrev pub Sound : {A : Type 0} → Right A → (A → Bool) → Type 0
+Sound r p = SoundBy printable r p
+
+-- whether its test holds or not
 abbrev pub SoundRule : {A : Type 0} → Rule A → (A → Bool) → Type 0
 SoundRule never p = Unit {0}
 SoundRule (given allowed r) p = Sound r p
-
-abbrev pub SoundEmpty : {A : Type 0} → Empty A → (A → Bool) → Type 0
-SoundEmpty cannot p = Unit {0}
-SoundEmpty (may allowed v) p = p v ≡ true

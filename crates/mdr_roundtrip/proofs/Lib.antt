@@ -1,5 +1,6 @@
 pub mod Bools
 pub mod Lexemes
+pub mod Judges
 pub mod Judged
 pub mod Sorted
 pub mod Steps
@@ -18,3 +19,7 @@ pub mod Heights
 pub mod Rereading
 pub mod RereadForms
 pub mod RereadExpressions
+pub mod Shaping
+pub mod ShapeTests
+pub mod ShapingForms
+pub mod ReadAgain

@@ -40,7 +40,7 @@ is_of_words Sort.Not = false
 is_of_words Sort.Step = false
 is_of_words _ = true
 
-no : {P : Type 0} → false ≡ true → P
+pub no : {P : Type 0} → false ≡ true → P
 no e = absurd (false≢true e)
 
 word_meets : (s : Sort) (text : List ℕ) → is_of_words s ≡ true → is_word text ≡ true → meets s (lexeme.Word text) ≡ true
@@ -69,7 +69,7 @@ word_meets Sort.Step text a w = no a
 word_meets _ text a w = refl
 
 -- what holds of all listed words with their sorts, and of any other text with the other sort
-listed : (P : Sort → List ℕ → Bool) (ws : List Word) (text : List ℕ) (left : Sort) → list_all (λ w. P w.sort w.text) ws ≡ true → P left text ≡ true → P (sort_in ws text left) text ≡ true
+pub listed : (P : Sort → List ℕ → Bool) (ws : List Word) (text : List ℕ) (left : Sort) → list_all (λ w. P w.sort w.text) ws ≡ true → P left text ≡ true → P (sort_in ws text left) text ≡ true
 listed P [] text left a h = h
 listed P (w ∷ ws) text left a h = on (bytes_eq w.text text) refl (listed P ws text left k.1 h)
   where

@@ -15,7 +15,8 @@ use Rattle.mdr_grammar.specs.Forms.Right.{gives}
 use Rattle.mdr_grammar.specs.Expressions.{text_of}
 use Rattle.mdr_grammar.specs.Grammar.{rule, empty, part_rule}
 use Rattle.mdr_roundtrip.proofs.Bools.{also, all_more}
-use Rattle.mdr_roundtrip.proofs.Judged.{meets, good_part, good, fits_part, fits, SoundRule, SoundEmpty}
+use Rattle.mdr_roundtrip.proofs.Judged.{meets, good_part, good, fits_part, fits, SoundRule}
+use Rattle.mdr_roundtrip.proofs.Judges.{SoundEmpty}
 use Rattle.mdr_roundtrip.proofs.Steps.{sound_and, sound_where}
 use Rattle.mdr_roundtrip.proofs.DeclTests.{unnamed_is}
 use Rattle.mdr_roundtrip.proofs.NodeTests.{plain_is}

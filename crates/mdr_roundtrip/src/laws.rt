@@ -39,3 +39,10 @@ pub fn printed_sources_are_read()
 pub fn printed_expressions_are_expressions()
     ensures { (halves : Bool) (f : Expression) (l d : ℕ) (rest : List Mark) → (shape_of f).expression ≡ true → l + height f ≤ 256 → d + height f ≤ 512 → Gets halves (part (expression l d)) (all_at (lexemes (form f rest))) (all_at (lexemes rest)) (unplaced_form f) }
 {}
+
+/// An expression that was read of the lexer's tokens is read again, its places set to one, from what is printed of
+/// it, whatever stands behind and inside at most 256 open parentheses.
+pub fn expressions_are_read_again()
+    ensures shaped { (halves : Bool) (l d : ℕ) (tokens rest : List Token) (f : Expression) → l ≤ 256 → are_lexed tokens ≡ true → Gets halves (part (expression l d)) tokens rest f → ((shape_of f).expression ≡ true) × (l + height f ≤ 256) }
+    ensures again { (halves : Bool) (l d e : ℕ) (tokens rest : List Token) (f : Expression) (behind : List Mark) → l ≤ 256 → e ≤ 256 → are_lexed tokens ≡ true → Gets halves (part (expression l d)) tokens rest f → Gets halves (part (expression l e)) (all_at (lexemes (form f behind))) (all_at (lexemes behind)) (unplaced_form f) }
+{}

@@ -1,11 +1,12 @@
 //! Sources that are read and printed: laws alone, nothing here runs.
 //!
-//! Proved: the tree of any source can be printed so that its text is read as the tokens that spell it.
+//! Proved: the text of any source's tree is read as the tokens that spell it; and expressions are read again as they
+//! were, places aside. Not proved yet: the same of declarations, statements and whole trees.
 #![tactic(auto)]
 
 mod laws;
 
 pub use laws::{
-    printed_expressions_are_expressions, printed_sources_are_read, sources_are_printable,
-    tokens_are_lexed,
+    expressions_are_read_again, printed_expressions_are_expressions, printed_sources_are_read,
+    sources_are_printable, tokens_are_lexed,
 };
