@@ -23,3 +23,4 @@ pub mod Shaping
 pub mod ShapeTests
 pub mod ShapingForms
 pub mod ReadAgain
+pub mod RereadInits

@@ -38,7 +38,7 @@ use Rattle.mdr_roundtrip.proofs.Heights.{prefix_height, post_height, cast_height
 use Rattle.mdr_roundtrip.proofs.Rereading.{tokens_of, IsReread, behind, expression_from, argument_from, wrapped, as_operand, no_rule}
 
 -- a rule whose test holds
-allowed : {A : Type 0} {x : Rule A} {b : Bool} {r : Right A} → x ≡ given b r → b ≡ true → x ≡ given true r
+pub allowed : {A : Type 0} {x : Rule A} {b : Bool} {r : Right A} → x ≡ given b r → b ≡ true → x ≡ given true r
 allowed {r = r} e h = e ∙ ap (λ b. given b r) h
 
 up_to : (l top : ℕ) {m n : ℕ} → m ≡ n → l + m ≤ top → l + n ≤ top

@@ -3,8 +3,10 @@
 ghost use Rattle.std.specs.Prelude.{◌≡◌, ◌≤◌, ◌+◌, ℕ, Bool, true, List, Ok};
 ghost use Rattle.mdr_syntax.specs.declared.token.Token.{Token};
 ghost use Rattle.mdr_syntax.specs.declared.tree.Form.{Form as Expression};
+ghost use Rattle.mdr_syntax.specs.declared.tree.Init.{Init as Initialiser};
 ghost use Rattle.mdr_syntax.specs.declared.tree.Tree.{Tree as SourceTree};
 ghost use Rattle.mdr_syntax.specs.Tokens.{tokens_of};
+ghost use Rattle.mdr_print.specs.Declarations.{init};
 ghost use Rattle.mdr_print.specs.Forms.{form};
 ghost use Rattle.mdr_print.specs.Items.{printed};
 ghost use Rattle.mdr_print.specs.Marks.{Mark};
@@ -12,8 +14,9 @@ ghost use Rattle.mdr_print.specs.Spelled.{GivesLexemes, lexemes, spelled};
 ghost use Rattle.mdr_reread.specs.Whole.{is_printable};
 ghost use Rattle.mdr_grammar.specs.Expressions.{height};
 ghost use Rattle.mdr_grammar.specs.Forms.Nonterminal.{part};
-ghost use Rattle.mdr_grammar.specs.Forms.Part.{expression};
+ghost use Rattle.mdr_grammar.specs.Forms.Part.{expression, initialiser};
 ghost use Rattle.mdr_grammar.specs.Grammar.{Gets, Reads};
+ghost use Rattle.mdr_roundtrip.specs.Initialised.{is_shaped_init, unplaced_init};
 ghost use Rattle.mdr_roundtrip.specs.Lexed.{are_lexed};
 ghost use Rattle.mdr_roundtrip.specs.Shaped.{shape_of};
 ghost use Rattle.mdr_roundtrip.specs.Unplaced.{all_at, unplaced_form};
@@ -45,4 +48,10 @@ pub fn printed_expressions_are_expressions()
 pub fn expressions_are_read_again()
     ensures shaped { (halves : Bool) (l d : ℕ) (tokens rest : List Token) (f : Expression) → l ≤ 256 → are_lexed tokens ≡ true → Gets halves (part (expression l d)) tokens rest f → ((shape_of f).expression ≡ true) × (l + height f ≤ 256) }
     ensures again { (halves : Bool) (l d e : ℕ) (tokens rest : List Token) (f : Expression) (behind : List Mark) → l ≤ 256 → e ≤ 256 → are_lexed tokens ≡ true → Gets halves (part (expression l d)) tokens rest f → Gets halves (part (expression l e)) (all_at (lexemes (form f behind))) (all_at (lexemes behind)) (unplaced_form f) }
+{}
+
+/// The tokens of a printed initialiser, all set to one place, are read as the initialiser with its places set to
+/// that one, inside so many braces as it may stand in, whatever stands behind.
+pub fn printed_initialisers_are_initialisers()
+    ensures { (halves : Bool) (i : Initialiser) (braces : ℕ) (rest : List Mark) → is_shaped_init i braces ≡ true → Gets halves (part (initialiser braces)) (all_at (lexemes (init i rest))) (all_at (lexemes rest)) (unplaced_init i) }
 {}
