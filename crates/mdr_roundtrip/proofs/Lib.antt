@@ -22,5 +22,6 @@ pub mod RereadExpressions
 pub mod Shaping
 pub mod ShapeTests
 pub mod ShapingForms
-pub mod ReadAgain
 pub mod RereadInits
+pub mod ShapingInits
+pub mod ReadAgain

@@ -55,3 +55,10 @@ pub fn expressions_are_read_again()
 pub fn printed_initialisers_are_initialisers()
     ensures { (halves : Bool) (i : Initialiser) (braces : ℕ) (rest : List Mark) → is_shaped_init i braces ≡ true → Gets halves (part (initialiser braces)) (all_at (lexemes (init i rest))) (all_at (lexemes rest)) (unplaced_init i) }
 {}
+
+/// An initialiser that was read of the lexer's tokens is read again, its places set to one, from what is printed of
+/// it, whatever stands behind.
+pub fn initialisers_are_read_again()
+    ensures shaped { (halves : Bool) (braces : ℕ) (tokens rest : List Token) (i : Initialiser) → are_lexed tokens ≡ true → Gets halves (part (initialiser braces)) tokens rest i → is_shaped_init i braces ≡ true }
+    ensures again { (halves : Bool) (braces : ℕ) (tokens rest : List Token) (i : Initialiser) (behind : List Mark) → are_lexed tokens ≡ true → Gets halves (part (initialiser braces)) tokens rest i → Gets halves (part (initialiser braces)) (all_at (lexemes (init i behind))) (all_at (lexemes behind)) (unplaced_init i) }
+{}
