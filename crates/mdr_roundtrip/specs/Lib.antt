@@ -1,0 +1,4 @@
+pub mod Lexed
+pub mod Unplaced
+pub mod Shaped
+pub mod Initialised
