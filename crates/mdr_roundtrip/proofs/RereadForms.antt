@@ -32,6 +32,7 @@ use Rattle.mdr_print.specs.Spelled.{lexemes}
 use Rattle.mdr_syntax.specs.declared.token.Lexeme.{Lexeme}
 use Rattle.mdr_roundtrip.specs.Unplaced.{nowhere, at, all_at, unplaced_base}
 use Rattle.mdr_roundtrip.specs.Shaped.{is_name, services, binaries, is_named_base, are_stars}
+use Rattle.mdr_roundtrip.proofs.Bools.{also}
 use Rattle.mdr_roundtrip.proofs.Following.{through, through_first, free, opens_there, no_more, at_operator}
 use Rattle.mdr_roundtrip.proofs.Signs.{open_sort, close_sort, bracket_sort, unbracket_sort, comma_sort, dot_sort, arrow_sort, star_sort, question_sort, colon_sort, struct_sort, void_sort, lock_sort, null_sort, kind_sort, name_sort, service_sort, between, before, step_after}
 use Rattle.mdr_roundtrip.proofs.Heights.{prefix_height, post_height, cast_height, binary_height, choice_height, subscript_height, member_height, call_height}
@@ -277,22 +278,18 @@ arguments_reread halves l d (s ∷ ss) (f ∷ fs) rest h a b =
 pub record IsCalled (halves : Bool) (s : Shown) (f : Form) : Type 0 where
   pub read : (casts : Bool) (l d : ℕ) (inner rest : List Mark) (args : List Form) (end : List Token) (v : Operand) → l + suc (height f) ≤ 256 → d + suc (height f) ≤ 512 → Gets halves (arguments (l + 1) (d + 1)) (tokens_of inner) (at (Punct (codes ")")) ∷ tokens_of rest) args → Gets halves (postfix l d nowhere (form_at nowhere (FormWhat.Call f args)) true) (tokens_of rest) end v → Gets halves (part (operand casts l d)) (tokens_of (printed_operand s (Is (Punct (codes "(")) ∷ inner))) end v
 
-also_true : (a b : Bool) → a ≡ true → b ≡ true → (a && b) ≡ true
-also_true true b p q = q
-also_true false b p q = absurd (false≢true p)
-
 pub expression_called : (halves : Bool) (s : Shown) (f : Form) → IsReread halves s f → IsCalled halves s f
 expression_called halves s f g = record {
   read = λ casts l d inner rest args end v a b x t.
       wrapped halves casts l d s f g s.is_operator (λ e. e) (Is (Punct (codes "(")) ∷ inner) end v (omega (arith, a)) b
-      (λ alone. present (allowed (ap (λ s. postfix_rule l d nowhere f s (at (Punct (codes "(")))) (open_sort halves)) (also_true (may_sink l f) (may_open (d + 1)) (sinks l f a) (opens_there (d + 1) (omega (arith, b)))))
+      (λ alone. present (allowed (ap (λ s. postfix_rule l d nowhere f s (at (Punct (codes "(")))) (open_sort halves)) (also (may_sink l f) (may_open (d + 1)) (sinks l f a) (opens_there (d + 1) (omega (arith, b)))))
       (both x (word {s = Sort.Close} (ap (λ s. is Sort.Close s) (close_sort halves)) (both t done))));
 }
 
 pub service_called : (halves : Bool) (name : List ℕ) → is_among services name ≡ true → IsCalled halves (plain (printed_word name)) (form_at nowhere (FormWhat.Name name))
 service_called halves name h = record {
   read = λ casts l d inner rest args end v a b x t.
-      present (allowed (ap (λ s. operand_rule casts l d s (at (Word name))) (service_sort halves name h)) (also_true (is_level_free (l + 1)) (may_open (d + 1)) (free (l + 1) (omega (arith, a))) (opens_there (d + 1) (omega (arith, b)))))
+      present (allowed (ap (λ s. operand_rule casts l d s (at (Word name))) (service_sort halves name h)) (also (is_level_free (l + 1)) (may_open (d + 1)) (free (l + 1) (omega (arith, a))) (opens_there (d + 1) (omega (arith, b)))))
       (word {s = Sort.Open} (ap (λ s. is Sort.Open s) (open_sort halves)) (both x (word {s = Sort.Close} (ap (λ s. is Sort.Close s) (close_sort halves)) (both t done))));
 }
 
