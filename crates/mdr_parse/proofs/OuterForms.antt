@@ -5,28 +5,30 @@ use Rattle.mdr_syntax.specs.declared.token.Token.{Token}
 use Rattle.mdr_syntax.specs.declared.tree.Head.{Head}
 use Rattle.mdr_syntax.specs.declared.tree.Item.{Item}
 use Rattle.mdr_syntax.specs.declared.tree.ItemWhat.TheVariants as item_is
-use Rattle.mdr_parse.specs.declared.error.Failure.{Failure}
-use Rattle.mdr_parse.specs.Sorts.{Sort, is, sort_of}
-use Rattle.mdr_parse.specs.Forms.{Specifier, Right, ◌>>=◌, take, form, Rule, and_then}
-use Rattle.mdr_parse.specs.Forms.Part.{base, item}
-use Rattle.mdr_parse.specs.Forms.Repeated.{field_groups}
-use Rattle.mdr_parse.specs.Forms.Nonterminal.{part, many, stars, outer, remote, critical, function, function_end, fields, qualified}
-use Rattle.mdr_parse.specs.Forms.Right.{gives, takes}
-use Rattle.mdr_parse.specs.Forms.Empty.{cannot}
-use Rattle.mdr_parse.specs.Expressions.{text_of}
-use Rattle.mdr_parse.specs.Declarations.{declarator_rule}
-use Rattle.mdr_parse.specs.Statements.{joined, item_at, are_named, function_with, function_head, function_there, function_end_rule, named_global, more_globals, globals_with, outer_rule, remote_rule, critical_rule, qualified_rule, item_rule, struct_or_outer}
+use Rattle.mdr_reader.specs.declared.failure.Failure.{Failure}
+use Rattle.mdr_grammar.specs.declared.sort.Sort.{Sort}
+use Rattle.mdr_grammar.specs.Sorts.{is, sort_of}
+use Rattle.mdr_grammar.specs.declared.parts.Specifier.{Specifier}
+use Rattle.mdr_grammar.specs.Forms.{Right, ◌>>=◌, take, form, Rule, and_then}
+use Rattle.mdr_grammar.specs.Forms.Part.{base, item}
+use Rattle.mdr_grammar.specs.Forms.Repeated.{field_groups}
+use Rattle.mdr_grammar.specs.Forms.Nonterminal.{part, many, stars, outer, remote, critical, function, function_end, fields, qualified}
+use Rattle.mdr_grammar.specs.Forms.Right.{gives, takes}
+use Rattle.mdr_grammar.specs.Forms.Empty.{cannot}
+use Rattle.mdr_grammar.specs.Expressions.{text_of}
+use Rattle.mdr_grammar.specs.Declarations.{declarator_rule}
+use Rattle.mdr_grammar.specs.Statements.{joined, item_at, are_named, function_with, function_head, function_there, function_end_rule, named_global, more_globals, globals_with, outer_rule, remote_rule, critical_rule, qualified_rule, item_rule, struct_or_outer}
 use Rattle.mdr_parse.specs.Outside.{global_named, named_in, unqualified_rule, field_lists, struct_end, struct_specifier, struct_behind}
-use Rattle.mdr_parse.specs.Grammar.{rule, part_rule}
-use Rattle.mdr_parse.specs.Front.{and_read, word_at, begun_at, first as first_read, front}
-use Rattle.mdr_parse.specs.Gives.{Gives, read_by, after_stars}
-use Rattle.mdr_parse.proofs.Hungry.{opens}
-use Rattle.mdr_parse.proofs.Fronts.{first_of}
-use Rattle.mdr_parse.proofs.Arms.{arm, refused, past, not_past, read_again}
-use Rattle.mdr_parse.proofs.Through.{and_same}
-use Rattle.mdr_parse.proofs.Alike.{alike}
-use Rattle.mdr_parse.proofs.Going.{front_bind, first_from, read_then}
-use Rattle.mdr_parse.proofs.BehindStars.{through_stars}
+use Rattle.mdr_grammar.specs.Grammar.{rule, part_rule}
+use Rattle.mdr_grammar.specs.Front.{and_read, word_at, begun_at, first as first_read, front}
+use Rattle.mdr_reader.specs.Gives.{Gives, read_by, after_stars}
+use Rattle.mdr_grammar.proofs.Hungry.{opens}
+use Rattle.mdr_grammar.proofs.Fronts.{first_of}
+use Rattle.mdr_reader.proofs.Arms.{arm, refused, past, not_past, read_again}
+use Rattle.mdr_reader.proofs.Through.{and_same}
+use Rattle.mdr_declaration.proofs.Alike.{alike}
+use Rattle.mdr_reader.proofs.Going.{front_bind, first_from, read_then}
+use Rattle.mdr_declaration.proofs.BehindStars.{through_stars}
 
 -- ---- one behind the other
 

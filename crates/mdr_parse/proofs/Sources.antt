@@ -1,25 +1,24 @@
 -- Reading items up to the end is reading a source token by token.
-use Rattle.std.proofs.Common.{◌≡◌, refl, sym, subst, ap, ◌∙◌, ◌+◌, ◌-◌, arith, ℕ, suc, Bool, true, false, List, [], ◌∷◌, length, drop, inl, inr, Ok, Err, slice_get}
-use Rattle.std.proofs.lemmas.List.{take-append-drop}
-use Rattle.std.proofs.Math.Nat.{eq-or-lt_of_le}
+use Rattle.std.proofs.Common.{◌≡◌, refl, sym, subst, ap, ◌∙◌, ◌+◌, ◌-◌, arith, ℕ, suc, Bool, true, false, List, [], ◌∷◌, length, Ok, Err, slice_get}
 use Rattle.mdr_syntax.specs.declared.token.Token.{Token}
 use Rattle.mdr_syntax.specs.declared.tree.Item.{Item}
 use Rattle.mdr_syntax.specs.declared.tree.Tree.{Tree}
 use Rattle.mdr_parse.specs.declared.error.ParseError.{ParseError}
 use Rattle.mdr_parse.specs.declared.error.ParseError.TheVariants.{NotInProfile, Expected, OutOfMemory}
-use Rattle.mdr_parse.specs.Sorts.{Sort, is, sort_of}
-use Rattle.mdr_parse.specs.Forms.Repeated.{items}
-use Rattle.mdr_parse.specs.Forms.Nonterminal.{many}
-use Rattle.mdr_parse.specs.Forms.Right.{gives, takes}
-use Rattle.mdr_parse.specs.Statements.{joined, tree_of, source}
+use Rattle.mdr_grammar.specs.declared.sort.Sort.{Sort}
+use Rattle.mdr_grammar.specs.Sorts.{is, sort_of}
+use Rattle.mdr_grammar.specs.Forms.Repeated.{items}
+use Rattle.mdr_grammar.specs.Forms.Nonterminal.{many}
+use Rattle.mdr_grammar.specs.Forms.Right.{gives, takes}
+use Rattle.mdr_grammar.specs.Statements.{joined, tree_of, source}
 use Rattle.mdr_parse.specs.Outside.{source_end, source_items}
-use Rattle.mdr_parse.specs.Grammar.{Reads}
-use Rattle.mdr_parse.specs.Front.{Read, and_read, found, word_at, first as first_read, front}
-use Rattle.mdr_parse.specs.Running.{taken, stepped, run, Tells, FirstFault}
+use Rattle.mdr_grammar.specs.Grammar.{Reads}
+use Rattle.mdr_grammar.specs.Front.{Read, and_read, found, word_at, first as first_read, front}
+use Rattle.mdr_grammar.specs.Running.{taken, stepped, run, Tells, FirstFault}
 use Rattle.mdr_parse.specs.Ending.{closed}
 use Rattle.mdr_parse.specs.Parsing.{error_in, end_place, Parses}
-use Rattle.mdr_parse.proofs.Fronts.{run_first}
-use Rattle.mdr_parse.proofs.Exact.{tells}
+use Rattle.mdr_grammar.proofs.Fronts.{run_first}
+use Rattle.mdr_grammar.proofs.Exact.{tells}
 
 -- behind all items
 end_read : (halves : Bool) (xs : List Item) (us : List Token) → run halves (takes Sort.End (λ e. gives (record { items = xs }))) us ≡ closed (front halves (source_end xs) us)
@@ -56,7 +55,3 @@ pub fault_told : (halves : Bool) (ts : List Token) (left : ℕ) (e : ParseError)
 fault_told halves ts left e r q =
     let t = subst (λ o. Tells halves ts o) r (tells halves ts) in
     error_told halves ts t.0 e t.2 (q ∙ ap (λ n. error_in (end_place ts) (slice_get ts n)) (left_of left t.0 (length ts) t.1))
-
--- tokens with a fault have no tree
-pub no_tree : (halves : Bool) (ts : List Token) (n : ℕ) (tree : Tree) → FirstFault halves ts n → Reads halves ts tree → ⊥
-no_tree halves ts n tree f d = elim (eq-or-lt_of_le f.inside) [ inl h ↦ f.unfinished h tree d | inr h ↦ f.refused h (drop (suc n) ts) tree (subst (λ l. Reads halves l tree) (sym (take-append-drop (suc n) ts)) d) ]

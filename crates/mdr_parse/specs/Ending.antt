@@ -2,9 +2,9 @@
 use Rattle.std.specs.Prelude.{ℕ, suc, ◌≡◌, List, [], ◌∷◌, length, Result, Ok, Err}
 use Rattle.mdr_syntax.specs.declared.tree.Item.{Item}
 use Rattle.mdr_syntax.specs.declared.tree.Tree.{Tree}
-use Rattle.mdr_parse.specs.declared.error.Failure.{Failure}
-use Rattle.mdr_parse.specs.declared.error.Failure.TheVariants.{Memory, Fault}
-use Rattle.mdr_parse.specs.Front.{Read}
+use Rattle.mdr_reader.specs.declared.failure.Failure.{Failure}
+use Rattle.mdr_reader.specs.declared.failure.Failure.TheVariants.{Memory, Fault}
+use Rattle.mdr_grammar.specs.Front.{Read}
 
 -- a tree, where no token is left
 abbrev pub closed : Read (List Item) → Result Tree ℕ

@@ -1,15 +1,3 @@
-pub mod Sorts
-pub mod Forms
-pub mod Expressions
-pub mod Declarations
-pub mod Statements
-pub mod Grammar
-pub mod Running
-pub mod Front
-pub mod Gives
-pub mod Tails
 pub mod Outside
 pub mod Ending
 pub mod Parsing
-pub mod Behind
-pub mod Others

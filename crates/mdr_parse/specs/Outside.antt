@@ -10,13 +10,14 @@ use Rattle.mdr_syntax.specs.declared.tree.Head.{Head}
 use Rattle.mdr_syntax.specs.declared.tree.Item.{Item}
 use Rattle.mdr_syntax.specs.declared.tree.ItemWhat.TheVariants as item_is
 use Rattle.mdr_syntax.specs.declared.tree.Node.{Node}
-use Rattle.mdr_parse.specs.Sorts.{Sort}
-use Rattle.mdr_parse.specs.Forms.{Part, Specifier, Right, ◌>>=◌, take, form, one, Rule}
-use Rattle.mdr_parse.specs.Forms.Nonterminal.{option, many, function, fields, outer, remote, critical}
-use Rattle.mdr_parse.specs.Forms.Repeated.{field_groups, items}
-use Rattle.mdr_parse.specs.Forms.Right.{gives}
-use Rattle.mdr_parse.specs.Expressions.{text_of, struct_of}
-use Rattle.mdr_parse.specs.Statements.{joined, item_at, function_with, named_global, struct_or_outer, qualified_rule, typed_item}
+use Rattle.mdr_grammar.specs.declared.sort.Sort.{Sort}
+use Rattle.mdr_grammar.specs.declared.parts.Specifier.{Specifier}
+use Rattle.mdr_grammar.specs.Forms.{Part, Right, ◌>>=◌, take, form, one, Rule}
+use Rattle.mdr_grammar.specs.Forms.Nonterminal.{option, many, function, fields, outer, remote, critical}
+use Rattle.mdr_grammar.specs.Forms.Repeated.{field_groups, items}
+use Rattle.mdr_grammar.specs.Forms.Right.{gives}
+use Rattle.mdr_grammar.specs.Expressions.{text_of, struct_of}
+use Rattle.mdr_grammar.specs.Statements.{joined, item_at, function_with, named_global, struct_or_outer, qualified_rule, typed_item}
 
 -- ---- functions
 

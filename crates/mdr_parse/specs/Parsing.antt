@@ -9,9 +9,9 @@ use Rattle.mdr_syntax.specs.declared.token.Token.{Token}
 use Rattle.mdr_syntax.specs.declared.tree.Tree.{Tree}
 use Rattle.mdr_parse.specs.declared.error.ParseError.{ParseError}
 use Rattle.mdr_parse.specs.declared.error.ParseError.TheVariants.{NotInProfile, Expected, OutOfMemory}
-use Rattle.mdr_parse.specs.Expressions.{text_of}
-use Rattle.mdr_parse.specs.Grammar.{Reads}
-use Rattle.mdr_parse.specs.Running.{FirstFault}
+use Rattle.mdr_grammar.specs.Expressions.{text_of}
+use Rattle.mdr_grammar.specs.Grammar.{Reads}
+use Rattle.mdr_grammar.specs.Running.{FirstFault}
 
 -- the words of C99 that sources do without
 unfoldable pub left_out : List (List ℕ)

@@ -7,8 +7,8 @@ ghost use Rattle.std.specs.Option.{option_copied};
 ghost use Rattle.mdr_parse.specs.Parsing.{left_out as listed_words, is_left_out as is_listed, error_at as fault_at, error_in as fault_in, end_place as place_of_end};
 
 use crate::error::ParseError;
-use crate::look::{copied, text_of};
 use mdr_core::Place;
+use mdr_reader::look::{copied, text_of};
 use mdr_syntax::{Lexeme, Token};
 use std::alloc::{AllocError, Global};
 

@@ -2,21 +2,21 @@
 
 ghost use Rattle.std.specs.Prelude.{◌≡◌, ◌<◌, ◌≤◌, length, IfOk, IfErr, Err, true, false};
 ghost use Rattle.mdr_syntax.specs.declared.tree.ItemWhat.TheVariants as item_is;
-ghost use Rattle.mdr_parse.specs.Forms.Nonterminal.{function_end as an_end};
-ghost use Rattle.mdr_parse.specs.Front.{and_read, first, front};
-ghost use Rattle.mdr_parse.specs.Statements.{item_at, items_in, function_body as body_in, function_head as head_in, function_with as with_body, are_named as all_named, critical_there as there_critical};
+ghost use Rattle.mdr_grammar.specs.Forms.Nonterminal.{function_end as an_end};
+ghost use Rattle.mdr_grammar.specs.Front.{and_read, first, front};
+ghost use Rattle.mdr_grammar.specs.Statements.{item_at, items_in, function_body as body_in, function_head as head_in, function_with as with_body, are_named as all_named, critical_there as there_critical};
 ghost use Rattle.mdr_parse.specs.Outside.{body_end, function_item, critical_end};
-ghost use Rattle.mdr_parse.specs.Gives.{Gives};
-ghost use Rattle.mdr_parse.specs.declared.error.Failure.TheVariants.{Memory};
+ghost use Rattle.mdr_reader.specs.Gives.{Gives};
+ghost use Rattle.mdr_reader.specs.declared.failure.Failure.TheVariants.{Memory};
 
-use crate::blocks::block_items;
-use crate::error::Failure;
-use crate::globals::one_of;
 use crate::heads::{function_head, prototype};
-use crate::look::{Reader, split, take};
-use crate::parts::Specifier;
-use crate::sort::Sort;
 use mdr_core::{Items, Place};
+use mdr_declaration::globals::one_of;
+use mdr_grammar::parts::Specifier;
+use mdr_grammar::sort::Sort;
+use mdr_reader::failure::Failure;
+use mdr_reader::look::{Reader, split, take};
+use mdr_statement::blocks::block_items;
 use mdr_syntax::{Decl, Head, Item, ItemWhat, Node, Token};
 
 /// What stands in a function's body, and its `}`.

@@ -2,21 +2,21 @@
 
 ghost use Rattle.std.specs.Prelude.{◌≡◌, ◌<◌, ◌≤◌, length, IfOk, IfErr, true, false};
 ghost use Rattle.mdr_syntax.specs.declared.tree.ItemWhat.TheVariants as item_is;
-ghost use Rattle.mdr_parse.specs.Forms.Nonterminal.{remote as a_remote};
-ghost use Rattle.mdr_parse.specs.Front.{and_read, first, front};
-ghost use Rattle.mdr_parse.specs.Statements.{head_of as head_with, function_head as head_in, item_at, remote_rule, remote_there as there_remote};
+ghost use Rattle.mdr_grammar.specs.Forms.Nonterminal.{remote as a_remote};
+ghost use Rattle.mdr_grammar.specs.Front.{and_read, first, front};
+ghost use Rattle.mdr_grammar.specs.Statements.{head_of as head_with, function_head as head_in, item_at, remote_rule, remote_there as there_remote};
 ghost use Rattle.mdr_parse.specs.Outside.{remote_end};
-ghost use Rattle.mdr_parse.specs.Gives.{Gives, read_by, after_stars};
-ghost use Rattle.mdr_parse.specs.declared.error.Failure.TheVariants.{Memory};
+ghost use Rattle.mdr_reader.specs.Gives.{Gives, read_by, after_stars};
+ghost use Rattle.mdr_reader.specs.declared.failure.Failure.TheVariants.{Memory};
 
-use crate::constants::{annotation_option, stars};
-use crate::declarators::{parameters, same_base};
-use crate::error::Failure;
-use crate::globals::one_of;
-use crate::look::{Reader, copied, split, take, text_of};
-use crate::parts::Specifier;
-use crate::sort::Sort;
 use mdr_core::{Items, Place};
+use mdr_declaration::declarators::{parameters, same_base};
+use mdr_declaration::globals::one_of;
+use mdr_grammar::parts::Specifier;
+use mdr_grammar::sort::Sort;
+use mdr_reader::constants::{annotation_option, stars};
+use mdr_reader::failure::Failure;
+use mdr_reader::look::{Reader, copied, split, take, text_of};
 use mdr_syntax::{AnnText, Decl, Head, Item, ItemWhat, Token};
 
 /// The head of a function with its parts.

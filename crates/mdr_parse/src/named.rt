@@ -1,21 +1,21 @@
 // Globals behind the name of the first, and globals of which the first is a pointer to functions.
 
 ghost use Rattle.std.specs.Prelude.{◌≡◌, ◌<◌, ◌≤◌, length, IfOk, IfErr};
-ghost use Rattle.mdr_parse.specs.Front.{and_read, front};
-ghost use Rattle.mdr_parse.specs.Declarations.{declarator_rule};
-ghost use Rattle.mdr_parse.specs.Statements.{global_with, globals_with, more_globals};
+ghost use Rattle.mdr_grammar.specs.Front.{and_read, front};
+ghost use Rattle.mdr_grammar.specs.Declarations.{declarator_rule};
+ghost use Rattle.mdr_grammar.specs.Statements.{global_with, globals_with, more_globals};
 ghost use Rattle.mdr_parse.specs.Outside.{named_decl as decl_with, global_named};
-ghost use Rattle.mdr_parse.specs.Gives.{Gives, read_by, after_stars};
-ghost use Rattle.mdr_parse.specs.declared.error.Failure.TheVariants.{Memory};
+ghost use Rattle.mdr_reader.specs.Gives.{Gives, read_by, after_stars};
+ghost use Rattle.mdr_reader.specs.declared.failure.Failure.TheVariants.{Memory};
 
-use crate::constants::{annotation_option, size};
-use crate::declarators::{behind_stars, same_base};
-use crate::error::Failure;
-use crate::globals::{ended_globals, global_behind};
-use crate::initialisers::initial_option;
-use crate::look::{Reader, copied, text_of};
-use crate::parts::Specifier;
 use mdr_core::{Items, Place};
+use mdr_declaration::declarators::{behind_stars, same_base};
+use mdr_declaration::globals::{ended_globals, global_behind};
+use mdr_declaration::initialisers::initial_option;
+use mdr_grammar::parts::Specifier;
+use mdr_reader::constants::{annotation_option, size};
+use mdr_reader::failure::Failure;
+use mdr_reader::look::{Reader, copied, text_of};
 use mdr_syntax::{AnnText, Const, Decl, Item, ItemWhat, Token};
 
 /// The declarator of a global with its parts.

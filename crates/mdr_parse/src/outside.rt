@@ -1,20 +1,20 @@
 // What a type begins outside functions: globals, prototypes and functions (C99 6.9).
 
 ghost use Rattle.std.specs.Prelude.{◌<◌, ◌≤◌, length, IfOk};
-ghost use Rattle.mdr_parse.specs.Forms.Nonterminal.{outer as an_outer, critical as a_critical};
-ghost use Rattle.mdr_parse.specs.Front.{first, front};
-ghost use Rattle.mdr_parse.specs.Statements.{outer_rule, critical_rule};
+ghost use Rattle.mdr_grammar.specs.Forms.Nonterminal.{outer as an_outer, critical as a_critical};
+ghost use Rattle.mdr_grammar.specs.Front.{first, front};
+ghost use Rattle.mdr_grammar.specs.Statements.{outer_rule, critical_rule};
 ghost use Rattle.mdr_parse.specs.Outside.{named_in};
-ghost use Rattle.mdr_parse.specs.Gives.{Gives, read_by, after_stars};
+ghost use Rattle.mdr_reader.specs.Gives.{Gives, read_by, after_stars};
 
-use crate::constants::stars;
-use crate::error::Failure;
 use crate::functions::{critical_there, function};
-use crate::look::{Reader, past, split};
 use crate::named::{named_globals, pointer_globals};
-use crate::parts::Specifier;
-use crate::sort::Sort;
 use mdr_core::{Items, Place};
+use mdr_grammar::parts::Specifier;
+use mdr_grammar::sort::Sort;
+use mdr_reader::constants::stars;
+use mdr_reader::failure::Failure;
+use mdr_reader::look::{Reader, past, split};
 use mdr_syntax::{Item, Token};
 
 /// What stands behind the name of a global or function.

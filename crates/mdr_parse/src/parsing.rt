@@ -2,10 +2,11 @@
 
 ghost use Rattle.mdr_parse.specs.Parsing.{Parses};
 
-use crate::error::{Failure, ParseError};
+use crate::error::ParseError;
 use crate::faults::first_error;
-use crate::look::Reader;
 use crate::toplevel::source;
+use mdr_reader::failure::Failure;
+use mdr_reader::look::Reader;
 use mdr_syntax::{Token, Tree};
 use std::alloc::Global;
 

@@ -2,24 +2,24 @@
 
 ghost use Rattle.std.specs.Prelude.{◌≡◌, ◌<◌, ◌≤◌, length, IfOk, IfErr, IfSome, true, [], ◌∷◌};
 ghost use Rattle.mdr_syntax.specs.declared.tree.ItemWhat.TheVariants as item_is;
-ghost use Rattle.mdr_parse.specs.Expressions.{text_of as text_in, number_in as number_of, kind_in as kind_of};
-ghost use Rattle.mdr_parse.specs.Forms.Part.{field_group as a_field_group};
-ghost use Rattle.mdr_parse.specs.Forms.Nonterminal.{option};
-ghost use Rattle.mdr_parse.specs.Front.{and_read, first, front};
-ghost use Rattle.mdr_parse.specs.Statements.{item_at, item_rule, is_negative as has_minus};
+ghost use Rattle.mdr_grammar.specs.Expressions.{text_of as text_in, number_in as number_of, kind_in as kind_of};
+ghost use Rattle.mdr_grammar.specs.Forms.Part.{field_group as a_field_group};
+ghost use Rattle.mdr_grammar.specs.Forms.Nonterminal.{option};
+ghost use Rattle.mdr_grammar.specs.Front.{and_read, first, front};
+ghost use Rattle.mdr_grammar.specs.Statements.{item_at, item_rule, is_negative as has_minus};
 ghost use Rattle.mdr_parse.specs.Outside.{field_lists as in_field_lists, struct_end};
-ghost use Rattle.mdr_parse.specs.Gives.{Gives, Behind};
-ghost use Rattle.mdr_parse.specs.declared.error.Failure.TheVariants.{Memory};
-ghost use Rattle.mdr_parse.specs.declared.sort.Sort.TheVariants as sort_is;
+ghost use Rattle.mdr_reader.specs.Gives.{Gives, Behind};
+ghost use Rattle.mdr_reader.specs.declared.failure.Failure.TheVariants.{Memory};
+ghost use Rattle.mdr_grammar.specs.declared.sort.Sort.TheVariants as sort_is;
 
-use crate::error::Failure;
-use crate::fields::{enumerator, field_group, more_enumerators};
-use crate::globals::one_of;
-use crate::lists::followed;
-use crate::look::{Reader, copied, kind_in, number_in, take, text_of};
-use crate::openings::perhaps;
-use crate::sort::Sort;
 use mdr_core::{Items, Place};
+use mdr_declaration::fields::{enumerator, field_group, more_enumerators};
+use mdr_declaration::globals::one_of;
+use mdr_grammar::sort::Sort;
+use mdr_reader::failure::Failure;
+use mdr_reader::lists::followed;
+use mdr_reader::look::{Reader, copied, kind_in, number_in, take, text_of};
+use mdr_reader::openings::perhaps;
 use mdr_syntax::{Decl, Enumerator, Item, ItemWhat, Lexeme, Token};
 
 /// Whether a `-` stands before a `#define`'s number.

@@ -1,28 +1,28 @@
 // Items, and all of a source (C99 6.9).
 
 ghost use Rattle.std.specs.Prelude.{◌≡◌, ◌<◌, ◌≤◌, length, IfOk, IfErr, IfSome, true};
-ghost use Rattle.mdr_parse.specs.Forms.Part.{item as an_item};
-ghost use Rattle.mdr_parse.specs.Forms.Nonterminal.{part, option, qualified as a_qualified, outer as an_outer};
-ghost use Rattle.mdr_parse.specs.Front.{and_read, first, front};
-ghost use Rattle.mdr_parse.specs.Statements.{item_rule, source as all_source};
+ghost use Rattle.mdr_grammar.specs.Forms.Part.{item as an_item};
+ghost use Rattle.mdr_grammar.specs.Forms.Nonterminal.{part, option, qualified as a_qualified, outer as an_outer};
+ghost use Rattle.mdr_grammar.specs.Front.{and_read, first, front};
+ghost use Rattle.mdr_grammar.specs.Statements.{item_rule, source as all_source};
 ghost use Rattle.mdr_parse.specs.Outside.{remote_typed as in_remote, critical_typed as in_critical, outer_typed as in_outer, unqualified_rule, struct_specifier, struct_behind as in_struct, item_lists as in_item_lists, source_end, source_items as in_source};
 ghost use Rattle.mdr_parse.specs.Ending.{closed, Ends};
-ghost use Rattle.mdr_parse.specs.Running.{run};
-ghost use Rattle.mdr_parse.specs.Gives.{Gives, Behind, read_by};
-ghost use Rattle.mdr_parse.specs.declared.error.Failure.TheVariants.{Memory};
-ghost use Rattle.mdr_parse.specs.declared.sort.Sort.TheVariants as sort_is;
+ghost use Rattle.mdr_grammar.specs.Running.{run};
+ghost use Rattle.mdr_reader.specs.Gives.{Gives, Behind, read_by};
+ghost use Rattle.mdr_reader.specs.declared.failure.Failure.TheVariants.{Memory};
+ghost use Rattle.mdr_grammar.specs.declared.sort.Sort.TheVariants as sort_is;
 
-use crate::error::Failure;
 use crate::heads::remote;
-use crate::lists::followed;
-use crate::look::{Reader, past, split, take};
-use crate::openings::perhaps;
 use crate::outside::{critical, outer};
-use crate::parts::Specifier;
-use crate::sort::Sort;
 use crate::structs::{define, enum_behind, fields};
-use crate::types::{base, struct_named};
 use mdr_core::{Items, Place};
+use mdr_grammar::parts::Specifier;
+use mdr_grammar::sort::Sort;
+use mdr_reader::failure::Failure;
+use mdr_reader::lists::followed;
+use mdr_reader::look::{Reader, past, split, take};
+use mdr_reader::openings::perhaps;
+use mdr_reader::types::{base, struct_named};
 use mdr_syntax::{Item, Token, Tree};
 
 /// A type and what stands behind it outside functions.

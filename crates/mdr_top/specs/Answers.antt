@@ -17,9 +17,9 @@ use Rattle.mdr_syntax.specs.declared.tree.Tree.{Tree}
 use Rattle.mdr_syntax.specs.Reading.{whats}
 use Rattle.mdr_syntax.specs.Tokens.{tokens_of}
 use Rattle.mdr_syntax.specs.Sources.{program_of}
-use Rattle.mdr_parse.specs.Grammar.{Reads}
+use Rattle.mdr_grammar.specs.Grammar.{Reads}
 use Rattle.mdr_parse.specs.Parsing.{end_place, error_in}
-use Rattle.mdr_parse.specs.Running.{FirstFault}
+use Rattle.mdr_grammar.specs.Running.{FirstFault}
 use Rattle.mdr_model.specs.declared.command.Command.{Command}
 use Rattle.mdr_top.specs.Commands.{commands_of}
 use Rattle.mdr_outside.specs.declared.shelf.ReadAnswer.TheVariants as reads

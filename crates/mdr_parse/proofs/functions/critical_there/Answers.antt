@@ -1,7 +1,7 @@
 use Rattle.std.proofs.Common.{true}
-use Rattle.mdr_parse.specs.Sorts.{Sort}
-use Rattle.mdr_parse.specs.Forms.{◌>>=◌}
-use Rattle.mdr_parse.specs.Statements.{function_head}
+use Rattle.mdr_grammar.specs.declared.sort.Sort.{Sort}
+use Rattle.mdr_grammar.specs.Forms.{◌>>=◌}
+use Rattle.mdr_grammar.specs.Statements.{function_head}
 use Rattle.mdr_parse.specs.Outside.{critical_end}
 use Rattle.mdr_parse.proofs.OuterForms.{bound, behind_word}
 use Rattle.mdr_parse.proofs.functions.critical_there.Goals as goal

@@ -1,4 +1,4 @@
-use Rattle.mdr_parse.specs.Statements.{items_in}
+use Rattle.mdr_grammar.specs.Statements.{items_in}
 use Rattle.mdr_parse.specs.Outside.{body_end}
 use Rattle.mdr_parse.proofs.OuterForms.{bound}
 use Rattle.mdr_parse.proofs.functions.function_body.Goals as goal

@@ -1,9 +1,9 @@
 use Rattle.std.proofs.Common.{◌≡◌, refl, sym, ap, subst, ◌∙◌, true, false, Ok}
-use Rattle.mdr_parse.specs.Sorts.{Sort}
-use Rattle.mdr_parse.specs.Forms.Nonterminal.{function_end}
-use Rattle.mdr_parse.specs.Statements.{are_named}
-use Rattle.mdr_parse.specs.Gives.{Gives}
-use Rattle.mdr_parse.proofs.Arms.{goes, none, at_end}
+use Rattle.mdr_grammar.specs.declared.sort.Sort.{Sort}
+use Rattle.mdr_grammar.specs.Forms.Nonterminal.{function_end}
+use Rattle.mdr_grammar.specs.Statements.{are_named}
+use Rattle.mdr_reader.specs.Gives.{Gives}
+use Rattle.mdr_reader.proofs.Arms.{goes, none, at_end}
 use Rattle.mdr_parse.proofs.OuterForms.{no_end, body_named, body_unnamed}
 use Rattle.mdr_parse.proofs.functions.function_end.Goals as goal
 

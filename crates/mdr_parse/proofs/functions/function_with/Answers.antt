@@ -1,4 +1,4 @@
-use Rattle.mdr_parse.specs.Statements.{function_body}
+use Rattle.mdr_grammar.specs.Statements.{function_body}
 use Rattle.mdr_parse.specs.Outside.{function_item}
 use Rattle.mdr_parse.proofs.OuterForms.{bound}
 use Rattle.mdr_parse.proofs.functions.function_with.Goals as goal

@@ -1,4 +1,4 @@
-use Rattle.mdr_parse.specs.Statements.{global_with, more_globals}
+use Rattle.mdr_grammar.specs.Statements.{global_with, more_globals}
 use Rattle.mdr_parse.proofs.OuterForms.{bound}
 use Rattle.mdr_parse.proofs.named.other_globals.Goals as goal
 

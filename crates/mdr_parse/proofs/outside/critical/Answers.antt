@@ -1,5 +1,5 @@
 use Rattle.std.proofs.Common.{sym, subst}
-use Rattle.mdr_parse.specs.Gives.{Gives}
+use Rattle.mdr_reader.specs.Gives.{Gives}
 use Rattle.mdr_parse.proofs.OuterForms.{critical_stars}
 use Rattle.mdr_parse.proofs.outside.critical.Goals as goal
 

@@ -1,5 +1,5 @@
 use Rattle.std.proofs.Common.{sym, subst}
-use Rattle.mdr_parse.specs.Gives.{Gives}
+use Rattle.mdr_reader.specs.Gives.{Gives}
 use Rattle.mdr_parse.proofs.OuterForms.{function_named, globals_named}
 use Rattle.mdr_parse.proofs.outside.named.Goals as goal
 

@@ -1,6 +1,6 @@
 use Rattle.std.proofs.Common.{subst, Err}
-use Rattle.mdr_parse.specs.Statements.{source}
-use Rattle.mdr_parse.specs.Running.{run}
+use Rattle.mdr_grammar.specs.Statements.{source}
+use Rattle.mdr_grammar.specs.Running.{run}
 use Rattle.mdr_parse.specs.Ending.{Ends}
 use Rattle.mdr_parse.proofs.Sources.{tree_told, fault_told}
 use Rattle.mdr_parse.proofs.parsing.parse.Goals as goal

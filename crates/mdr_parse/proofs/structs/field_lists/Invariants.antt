@@ -1,9 +1,9 @@
 use Rattle.std.proofs.Common.{◌≡◌, ◌≤◌, length, List, [], true}
 use Rattle.mdr_syntax.specs.declared.tree.Decl.{Decl}
-use Rattle.mdr_parse.specs.Forms.Repeated.{field_groups}
-use Rattle.mdr_parse.specs.Forms.Nonterminal.{many}
-use Rattle.mdr_parse.specs.Statements.{joined}
-use Rattle.mdr_parse.specs.Front.{first}
+use Rattle.mdr_grammar.specs.Forms.Repeated.{field_groups}
+use Rattle.mdr_grammar.specs.Forms.Nonterminal.{many}
+use Rattle.mdr_grammar.specs.Statements.{joined}
+use Rattle.mdr_grammar.specs.Front.{first}
 use Rattle.mdr_parse.proofs.structs.field_lists.Given as goal
 
 abbrev pub invariant-more : goal.invariant-more

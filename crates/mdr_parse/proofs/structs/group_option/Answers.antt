@@ -1,5 +1,5 @@
-use Rattle.mdr_parse.specs.Forms.Part.{field_group}
-use Rattle.mdr_parse.proofs.Turns.{optional}
+use Rattle.mdr_grammar.specs.Forms.Part.{field_group}
+use Rattle.mdr_reader.proofs.Turns.{optional}
 use Rattle.mdr_parse.proofs.structs.group_option.Goals as goal
 
 pub returns-clause-reads : goal.returns-clause-reads

@@ -1,9 +1,9 @@
 use Rattle.std.proofs.Common.{refl, sym, ap, subst, ◌∙◌, Ok}
-use Rattle.mdr_parse.specs.Sorts.{Sort}
-use Rattle.mdr_parse.specs.Forms.Part.{item}
-use Rattle.mdr_parse.specs.Forms.Nonterminal.{part}
-use Rattle.mdr_parse.specs.Gives.{Gives}
-use Rattle.mdr_parse.proofs.Arms.{goes, arm, at_end}
+use Rattle.mdr_grammar.specs.declared.sort.Sort.{Sort}
+use Rattle.mdr_grammar.specs.Forms.Part.{item}
+use Rattle.mdr_grammar.specs.Forms.Nonterminal.{part}
+use Rattle.mdr_reader.specs.Gives.{Gives}
+use Rattle.mdr_reader.proofs.Arms.{goes, arm, at_end}
 use Rattle.mdr_parse.proofs.OuterForms.{only_qualified}
 use Rattle.mdr_parse.proofs.toplevel.item.Goals as goal
 

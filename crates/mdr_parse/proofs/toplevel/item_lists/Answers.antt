@@ -1,9 +1,9 @@
 use Rattle.std.proofs.Common.{sym, ap, ◌∙◌, arith, ◌++◌, [], ◌∷◌, Ok}
 use Rattle.std.proofs.lemmas.Result.{err_from_is_err_and}
-use Rattle.mdr_parse.specs.Forms.Repeated.{items}
-use Rattle.mdr_parse.specs.Statements.{joined}
-use Rattle.mdr_parse.specs.Front.{and_read}
-use Rattle.mdr_parse.proofs.Turns.{many_more, many_end, many_fails, fails_by, fails_and}
+use Rattle.mdr_grammar.specs.Forms.Repeated.{items}
+use Rattle.mdr_grammar.specs.Statements.{joined}
+use Rattle.mdr_grammar.specs.Front.{and_read}
+use Rattle.mdr_reader.proofs.Turns.{many_more, many_end, many_fails, fails_by, fails_and}
 use Rattle.mdr_parse.proofs.OuterForms.{lists_more}
 use Rattle.mdr_parse.proofs.toplevel.item_lists.Goals as goal
 

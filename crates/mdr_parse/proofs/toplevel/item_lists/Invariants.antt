@@ -1,9 +1,9 @@
 use Rattle.std.proofs.Common.{◌≡◌, ◌≤◌, length, List, [], true}
 use Rattle.mdr_syntax.specs.declared.tree.Item.{Item}
-use Rattle.mdr_parse.specs.Forms.Repeated.{items}
-use Rattle.mdr_parse.specs.Forms.Nonterminal.{many}
-use Rattle.mdr_parse.specs.Statements.{joined}
-use Rattle.mdr_parse.specs.Front.{first}
+use Rattle.mdr_grammar.specs.Forms.Repeated.{items}
+use Rattle.mdr_grammar.specs.Forms.Nonterminal.{many}
+use Rattle.mdr_grammar.specs.Statements.{joined}
+use Rattle.mdr_grammar.specs.Front.{first}
 use Rattle.mdr_parse.proofs.toplevel.item_lists.Given as goal
 
 abbrev pub invariant-more : goal.invariant-more

@@ -1,5 +1,5 @@
-use Rattle.mdr_parse.specs.Forms.Part.{item}
-use Rattle.mdr_parse.proofs.Turns.{optional}
+use Rattle.mdr_grammar.specs.Forms.Part.{item}
+use Rattle.mdr_reader.proofs.Turns.{optional}
 use Rattle.mdr_parse.proofs.toplevel.item_option.Goals as goal
 
 pub returns-clause-reads : goal.returns-clause-reads

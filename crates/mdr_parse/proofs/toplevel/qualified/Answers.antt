@@ -1,8 +1,8 @@
 use Rattle.std.proofs.Common.{refl, sym, subst, ◌∙◌, arith}
-use Rattle.mdr_parse.specs.Sorts.{Sort}
-use Rattle.mdr_parse.specs.Forms.Nonterminal.{qualified}
-use Rattle.mdr_parse.specs.Gives.{Gives}
-use Rattle.mdr_parse.proofs.Arms.{past, read_again}
+use Rattle.mdr_grammar.specs.declared.sort.Sort.{Sort}
+use Rattle.mdr_grammar.specs.Forms.Nonterminal.{qualified}
+use Rattle.mdr_reader.specs.Gives.{Gives}
+use Rattle.mdr_reader.proofs.Arms.{past, read_again}
 use Rattle.mdr_parse.proofs.OuterForms.{only_unqualified}
 use Rattle.mdr_parse.proofs.toplevel.qualified.Goals as goal
 

@@ -1,6 +1,6 @@
 use Rattle.std.proofs.Common.{◌≡◌, ◌≤◌, length}
-use Rattle.mdr_parse.specs.Forms.Nonterminal.{qualified}
-use Rattle.mdr_parse.specs.Front.{first}
+use Rattle.mdr_grammar.specs.Forms.Nonterminal.{qualified}
+use Rattle.mdr_grammar.specs.Front.{first}
 use Rattle.mdr_parse.proofs.toplevel.qualified.Given as goal
 
 abbrev pub invariant-qualifiers : goal.invariant-qualifiers

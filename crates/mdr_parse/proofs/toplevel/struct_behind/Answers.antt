@@ -1,5 +1,5 @@
 use Rattle.std.proofs.Common.{sym, subst}
-use Rattle.mdr_parse.specs.Gives.{Gives}
+use Rattle.mdr_reader.specs.Gives.{Gives}
 use Rattle.mdr_parse.proofs.OuterForms.{struct_fields, struct_alone}
 use Rattle.mdr_parse.proofs.toplevel.struct_behind.Goals as goal
 

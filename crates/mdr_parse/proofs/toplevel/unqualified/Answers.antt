@@ -1,8 +1,8 @@
-use Rattle.mdr_parse.specs.Forms.{form}
-use Rattle.mdr_parse.specs.Forms.Part.{base}
-use Rattle.mdr_parse.specs.Forms.Nonterminal.{outer}
+use Rattle.mdr_grammar.specs.Forms.{form}
+use Rattle.mdr_grammar.specs.Forms.Part.{base}
+use Rattle.mdr_grammar.specs.Forms.Nonterminal.{outer}
 use Rattle.mdr_parse.specs.Outside.{unqualified_rule}
-use Rattle.mdr_parse.proofs.Going.{through_by}
+use Rattle.mdr_reader.proofs.Going.{through_by}
 use Rattle.mdr_parse.proofs.OuterForms.{typed}
 use Rattle.mdr_parse.proofs.toplevel.unqualified.Goals as goal
 

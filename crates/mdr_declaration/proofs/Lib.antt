@@ -1,0 +1,4 @@
+pub mod BehindStars
+pub mod Alike
+mod Starred
+pub mod Voids

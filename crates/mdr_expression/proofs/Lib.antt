@@ -1,0 +1,5 @@
+mod Operating
+mod Extending
+mod Wording
+mod Casting
+pub mod Expressing

@@ -1,0 +1,20 @@
+// What is read besides the tree itself.
+
+use mdr_core::Items;
+use mdr_syntax::Form;
+
+/// An operand; whether it is a call, or a form with `++` or `--`, which may be a statement; and how many levels
+/// are below its own.
+#[derive(Debug, Drop)]
+pub struct Part {
+    pub form: Form,
+    pub alone: bool,
+    pub height: u32,
+}
+
+/// Arguments, and how many levels they add to their call.
+#[derive(Debug, Drop)]
+pub struct Arguments {
+    pub forms: Items<Form>,
+    pub highest: u32,
+}

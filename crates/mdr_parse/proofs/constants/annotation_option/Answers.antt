@@ -1,6 +1,0 @@
-use Rattle.mdr_parse.specs.Forms.Part.{annotation}
-use Rattle.mdr_parse.proofs.Turns.{optional}
-use Rattle.mdr_parse.proofs.constants.annotation_option.Goals as goal
-
-pub returns-clause-reads : goal.returns-clause-reads
-returns-clause-reads c = optional c.args.reader.halves (annotation c.args.depth) (λ x. x.0) (λ x. x.1.now) c.perhaps.result c.args.tokens.now (c.perhaps.ensures.reads _ c.annotation.ensures.reads)

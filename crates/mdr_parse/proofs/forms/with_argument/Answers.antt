@@ -1,5 +1,0 @@
-use Rattle.mdr_parse.proofs.Expressing.{one_higher}
-use Rattle.mdr_parse.proofs.forms.with_argument.Goals as goal
-
-pub returns-clause-measured : goal.returns-clause-measured
-returns-clause-measured c = λ a b. one_higher c.args.arguments.forms c.push.new.self c.args.part.form c.args.arguments.highest c.args.part.height c.max-highest.result c.in_ok-push.ensures.ok a b c.max-highest.ensures

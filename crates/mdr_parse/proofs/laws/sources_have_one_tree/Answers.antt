@@ -1,5 +1,0 @@
-use Rattle.mdr_parse.proofs.Exact.{one_tree}
-use Rattle.mdr_parse.proofs.laws.sources_have_one_tree.Goals as goal
-
-pub returns : goal.returns
-returns c = one_tree

@@ -1,0 +1,13 @@
+use Rattle.std.proofs.Common.{refl, true}
+use Rattle.mdr_grammar.specs.declared.sort.Sort.{Sort}
+use Rattle.mdr_grammar.specs.Forms.Part.{size as a_size}
+use Rattle.mdr_grammar.specs.Forms.Nonterminal.{option}
+use Rattle.mdr_reader.proofs.Arms.{past_arm, not_past}
+use Rattle.mdr_reader.proofs.Nones.{no_size}
+use Rattle.mdr_reader.proofs.constants.size.Goals as goal
+
+pub returns-in-Some-clause-reads : goal.returns-in-Some-clause-reads
+returns-in-Some-clause-reads c = past_arm c.args.reader.halves (option true a_size) (λ x. x.0) (λ x. x.1.now) c.bracketed.result Sort.OpenBracket c.args.tokens.now c.in-Some.ensures.found refl refl c.bracketed.ensures.reads
+
+pub returns-in-None-clause-reads : goal.returns-in-None-clause-reads
+returns-in-None-clause-reads c = not_past c.args.reader.halves (option true a_size) Sort.OpenBracket c.args.tokens.now c.in-None.ensures.found no_size
