@@ -26,7 +26,7 @@ module _ {M : Type 0} (a : Accesses M) (m : M) (at : At) where
   passes_gives : (v : Wire) → Evaluates a m at Wire (gives v) (Ok v)
   passes_gives v = record { by = λ n r k. refl }
 
-  joined : {A B : Type 0} (x : Result A StopKind) (y : A → Result B StopKind) (n : ℕ) (go : A → Walked M) (k : B → Walked M)
+  pub joined : {A B : Type 0} (x : Result A StopKind) (y : A → Result B StopKind) (n : ℕ) (go : A → Walked M) (k : B → Walked M)
       → ((v : A) → go v ≡ on_access (y v) at m n k) → on_access x at m n go ≡ on_access (after_value x y) at m n k
   joined (Ok v) y n go k h = h v
   joined (Err kind) y n go k h = refl

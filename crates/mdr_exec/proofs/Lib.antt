@@ -1,1 +1,4 @@
 pub mod EvaluationLaws
+pub mod EffectLaws
+pub mod CallingLaws
+pub mod StepLaws
