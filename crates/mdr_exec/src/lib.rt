@@ -1,6 +1,16 @@
-//! The machine that runs code and can be stopped and resumed: definitions and laws alone, nothing here runs yet.
+//! The machine that runs a driver's code and can be stopped and resumed: so far its definitions and their laws, and
+//! nothing here runs.
+//!
+//! Work that is held (the function that runs, what follows in its blocks, the loops, calls and started functions around)
+//! is plain data, and has a tree of `mdr_meaning`. Proved, for every memory and for every number of ticks: what a walk of
+//! that tree comes to at each statement and where a block, a loop or a function is left, and the held work whose tree is
+//! left then; that a run of steps is a run; what `start` and `resume` make of held work; what expressions, assignments
+//! and calls come to. Not there yet: the machine itself.
 #![tactic(auto)]
 
 mod laws;
 
-pub use laws::evaluation_is_walked;
+pub use laws::{
+    each_run_is_made, each_statement_steps, evaluation_is_walked, functions_are_started,
+    held_work_goes_on, questions_are_answered, statements_want_ticks,
+};
