@@ -5,3 +5,4 @@ pub mod AgainLaws
 pub mod StepLaws
 pub mod UnwindingLaws
 pub mod RunningLaws
+pub mod PlaceLaws

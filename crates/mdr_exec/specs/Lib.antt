@@ -6,3 +6,6 @@ pub mod Steps
 pub mod StatementSteps
 pub mod Unwinding
 pub mod Running
+pub mod Places
+pub mod Found
+pub mod Holding

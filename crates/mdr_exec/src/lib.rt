@@ -8,7 +8,9 @@
 //! and calls come to. Not there yet: the machine itself.
 #![tactic(auto)]
 
+mod frame;
 mod laws;
+mod places;
 
 pub use laws::{
     each_run_is_made, each_statement_steps, evaluation_is_walked, functions_are_started,
