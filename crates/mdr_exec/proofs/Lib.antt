@@ -6,3 +6,4 @@ pub mod StepLaws
 pub mod UnwindingLaws
 pub mod RunningLaws
 pub mod PlaceLaws
+pub mod MachineLaws

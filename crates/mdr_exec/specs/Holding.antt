@@ -1,5 +1,5 @@
 -- The work that a machine holds.
-use Rattle.std.specs.Prelude.{ℕ, List, [], ◌∷◌, ◌++◌, map, reverse, Option, Some, None, slice_get}
+use Rattle.std.specs.Prelude.{ℕ, List, [], ◌∷◌, ◌++◌, map, reverse, Option, Some, None, slice_get, Bool, true, false, length, ◌≡◌}
 use Rattle.mdr_core.specs.declared.program.Program.{Program}
 use Rattle.mdr_core.specs.declared.program.Func.{Func}
 use Rattle.mdr_core.specs.declared.types.Ty.{Ty}
@@ -101,7 +101,7 @@ module _ (program : Program) where
   front_in f (front.Fills ps) = Fills (object_params 0 (slots_by (slice_get program.funcs f.func))) (wires_of ps)
   front_in f (front.Born i p) = Born i (wire_of p)
   front_in f front.WaitsValue = WaitsValue (number_at (code_of_frame f)) (goal_at (code_of_frame f))
-  front_in f front.WaitsParams = WaitsParams
+  front_in f (front.WaitsParams room) = WaitsParams
   front_in f (front.WaitsObject i) = WaitsObject i
   front_in f (front.WaitsDeath flow) = WaitsDeath (flow_as flow)
 
@@ -120,3 +120,17 @@ module _ (program : Program) where
     front = front_in m.top m.front;
     items = around m.top.path (body_codes program m.top.func) (below_of (reverse m.below));
   }
+
+-- ---- a machine that waits
+
+abbrev pub waits : Before → Bool
+waits front.WaitsValue = true
+waits (front.WaitsParams room) = true
+waits (front.WaitsObject i) = true
+waits (front.WaitsDeath flow) = true
+waits _ = false
+
+-- the answers fit the question: a pointer for each object that is born
+abbrev pub FitQuestion : Before → List Value → Type 0
+FitQuestion (front.WaitsParams room) results = length results ≡ length room.items
+FitQuestion _ results = Unit {0}

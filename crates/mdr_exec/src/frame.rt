@@ -51,7 +51,8 @@ pub enum Front {
     Born(u32, Value),
     /// A question is open, and its answer is a call's value, the parameters' pointers, a local's pointer, or nothing.
     WaitsValue,
-    WaitsParams,
+    /// With room for the pointers.
+    WaitsParams(Vec<Value>),
     WaitsObject(u32),
     WaitsDeath(Flow),
 }
