@@ -7,3 +7,4 @@ pub mod UnwindingLaws
 pub mod RunningLaws
 pub mod PlaceLaws
 pub mod MachineLaws
+pub mod StartLaws

@@ -9,3 +9,4 @@ pub mod Running
 pub mod Places
 pub mod Found
 pub mod Holding
+pub mod Starting

@@ -12,6 +12,7 @@ mod frame;
 mod laws;
 mod places;
 mod run;
+mod start;
 
 pub use laws::{
     each_run_is_made, each_statement_steps, evaluation_is_walked, functions_are_started,
