@@ -8,3 +8,4 @@ pub mod RunningLaws
 pub mod PlaceLaws
 pub mod MachineLaws
 pub mod StartLaws
+pub mod StartedLaws

@@ -1,11 +1,13 @@
-//! The machine that runs a driver's code and can be stopped and resumed: so far its definitions and their laws, and
-//! nothing here runs.
+//! The machine that runs a driver's code and can be stopped and resumed.
 //!
 //! Work that is held (the function that runs, what follows in its blocks, the loops, calls and started functions around)
 //! is plain data, and has a tree of `mdr_meaning`. Proved, for every memory and for every number of ticks: what a walk of
 //! that tree comes to at each statement and where a block, a loop or a function is left, and the held work whose tree is
-//! left then; that a run of steps is a run; what `start` and `resume` make of held work; what expressions, assignments
-//! and calls come to. Not there yet: the machine itself.
+//! left then; that a run of steps is a run; what starting a function and answering a question make of held work; what
+//! expressions, assignments and calls come to.
+//!
+//! Of the `Machine` there are `new`, `start`, `resume` and `active`, with contracts about the tree of the work that it
+//! holds, and the search for the code at a place. Not there yet: `go`, which runs it.
 #![tactic(auto)]
 
 mod frame;
@@ -14,7 +16,9 @@ mod places;
 mod run;
 mod start;
 
+pub use frame::{Flow, Frame, Front, Machine, Side, Suspended, Until};
 pub use laws::{
     each_run_is_made, each_statement_steps, evaluation_is_walked, functions_are_started,
     held_work_goes_on, questions_are_answered, statements_want_ticks,
 };
+pub use places::{Part, Position};
