@@ -9,3 +9,4 @@ pub mod PlaceLaws
 pub mod MachineLaws
 pub mod StartLaws
 pub mod StartedLaws
+pub mod PathLaws
