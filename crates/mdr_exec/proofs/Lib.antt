@@ -10,3 +10,4 @@ pub mod MachineLaws
 pub mod StartLaws
 pub mod StartedLaws
 pub mod PathLaws
+pub mod EnterLaws

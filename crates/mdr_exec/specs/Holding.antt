@@ -1,5 +1,5 @@
 -- The work that a machine holds.
-use Rattle.std.specs.Prelude.{ℕ, List, [], ◌∷◌, ◌++◌, map, reverse, Option, Some, None, slice_get, Bool, true, false, length, ◌≡◌}
+use Rattle.std.specs.Prelude.{suc, ℕ, List, [], ◌∷◌, ◌++◌, map, reverse, Option, Some, None, slice_get, Bool, true, false, length, ◌≡◌}
 use Rattle.mdr_core.specs.declared.program.Program.{Program}
 use Rattle.mdr_core.specs.declared.program.Func.{Func}
 use Rattle.mdr_core.specs.declared.types.Ty.{Ty}
@@ -26,7 +26,7 @@ use Rattle.mdr_exec.specs.declared.places.Part.TheVariants as part
 use Rattle.mdr_exec.specs.declared.places.Position.{Position}
 use Rattle.mdr_exec.specs.Found.{body_codes}
 use Rattle.mdr_exec.specs.Held.{Frame, Front, Runs, Unwinds, Comes, Enters, Fills, Born, WaitsValue, WaitsParams, WaitsObject, WaitsDeath, Item, Rest, Scope, Around, Caller, Base, Held, loop_again}
-use Rattle.mdr_exec.specs.Places.{behind, code_before, inner, part_of}
+use Rattle.mdr_exec.specs.Places.{behind, code_at, code_before, inner, part_of}
 use Rattle.mdr_exec.specs.Running.{number_of}
 
 -- ---- values and ways
@@ -134,3 +134,23 @@ waits _ = false
 abbrev pub FitQuestion : Before → List Value → Type 0
 FitQuestion (front.WaitsParams room) results = length results ≡ length room.items
 FitQuestion _ results = Unit {0}
+
+-- ---- a list of the statement that comes next is entered
+
+abbrev pub list_entered : Program → Machine → Part → Held
+list_entered program m part = record {
+  frame = record {
+    here = here_of program m.top.func m.top.depth;
+    locals = record { slots = wires_of m.top.slots; born = [] };
+    ahead = part_of part (code_at (block_of program m.top) m.top.next);
+  };
+  front = Runs;
+  items =
+      ends_with part (wires_of m.top.born) (code_at (block_of program m.top) m.top.next)
+      ++ Rest (behind (block_of program m.top) (suc m.top.next)) ∷ (held_of program m).items;
+}
+
+-- nothing comes before the statement that comes next
+abbrev pub is_running : Before → Bool
+is_running front.Runs = true
+is_running _ = false

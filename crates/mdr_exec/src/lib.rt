@@ -7,7 +7,7 @@
 //! expressions, assignments and calls come to.
 //!
 //! Of the `Machine` there are `new`, `start`, `resume` and `active`, with contracts about the tree of the work that it
-//! holds, and the search for the code at a place. Not there yet: `go`, which runs it.
+//! holds, the search for the code at a place, and the way into a list of a statement. Not there yet: `go`, which runs it.
 #![tactic(auto)]
 
 mod frame;
@@ -15,6 +15,7 @@ mod laws;
 mod places;
 mod run;
 mod start;
+mod step;
 
 pub use frame::{Flow, Frame, Front, Machine, Side, Suspended, Until};
 pub use laws::{
