@@ -1,0 +1,13 @@
+pub mod EvaluationLaws
+pub mod EffectLaws
+pub mod CallingLaws
+pub mod AgainLaws
+pub mod StepLaws
+pub mod UnwindingLaws
+pub mod RunningLaws
+pub mod PlaceLaws
+pub mod MachineLaws
+pub mod StartLaws
+pub mod StartedLaws
+pub mod PathLaws
+pub mod EnterLaws

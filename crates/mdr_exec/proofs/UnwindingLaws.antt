@@ -1,0 +1,114 @@
+-- Blocks, loops and functions are left one step at a time, and values, parameters and objects come one step at a time.
+use Rattle.std.proofs.Common.{◌≡◌, ℕ, suc, Bool, true, false, List, [], ◌∷◌, Result, Ok, Err, refl, ap, ◌∙◌}
+use Rattle.mdr_core.specs.declared.stop.StopKind.{StopKind}
+use Rattle.mdr_core.specs.Code.{Goal, Codes}
+use Rattle.mdr_meaning.specs.declared.wire.Wire.{Wire}
+use Rattle.mdr_meaning.specs.declared.shape.Shape64.{Shape64}
+use Rattle.mdr_meaning.specs.Bodies.{means}
+use Rattle.mdr_meaning.specs.Cut.{cut}
+use Rattle.mdr_meaning.specs.Lives.{births, births_by, deaths, deaths_by, fills, object_params, param_shapes}
+use Rattle.mdr_meaning.specs.Sides.{Side, Here, Locals, Flow, Ends, Breaks, Continues, Returns, in_here}
+use Rattle.mdr_meaning.specs.Tree.{Tree}
+use Rattle.mdr_meaning.specs.Walk.{Accesses, on_access, walk}
+use Rattle.mdr_exec.specs.Effects.{keep_of, fills_of}
+use Rattle.mdr_exec.specs.Held.{Unwinds, Comes, Enters, Fills, Item, Rest, Scope, Around, Caller, Base, Held, carry, bare, tree}
+use Rattle.mdr_exec.specs.Steps.{holds, front_after, came_by, held_after, after, IsSame, Steps}
+use Rattle.mdr_exec.specs.Unwinding.{is_return, dying_came, dying_front, dying_memory, entering_came, entering_front, entering_memory, filled_after, IsEnd, WorkGoesOn}
+use Rattle.mdr_exec.proofs.EffectLaws.{does_fills, does_keep}
+use Rattle.mdr_exec.proofs.StepLaws.{finishes, next_of}
+
+module _ {M : Type 0} (a : Accesses M) (side : Side) (here : Here) (l : Locals) (ahead : Codes) (items : List Item) (m : M) where
+  rest_same : (flow : Flow) (codes : Codes) → IsSame side (holds (Unwinds flow) here l ahead (Rest codes ∷ items)) (holds (front_after flow) here l codes items)
+  unfolding bare tree carry
+  rest_same Ends codes = record { by = λ f r. refl }
+  rest_same Breaks codes = record { by = λ f r. refl }
+  rest_same Continues codes = record { by = λ f r. refl }
+  rest_same (Returns v) codes = record { by = λ f r. refl }
+
+  -- objects die, and then the work goes on as when none had to
+  dies : (h : Held) (flow : Flow) (x : Locals) (around : List Item) (ps : List Wire) (asks : Bool) → side.asks ≡ asks
+      → ((f : ℕ) → bare side f h ≡ deaths side here ps (carry side (means side (suc f)) here around flow x))
+      → Steps a side h m (dying_came asks (in_here here 0) ps) (holds (dying_front asks ps flow) here x ahead around) (dying_memory a asks ps m)
+  unfolding bare tree cut walk
+  dies h flow x around [] asks e is = record { by = λ f n r fewer. ap (λ t. walk a n (cut r t) m) (is f) }
+  dies h flow x around (p ∷ ps) false e is = record {
+    by = λ f n r fewer.
+        ap (λ t. walk a n (cut r t) m) (is f) ∙ ap (λ b. walk a n (cut r (deaths_by b (in_here here 0) (p ∷ ps) (carry side (means side (suc f)) here around flow x))) m) e;
+  }
+  dies h flow x around (p ∷ ps) true e is = record {
+    by = λ f n r fewer.
+        ap (λ t. walk a n (cut r t) m) (is f) ∙ ap (λ b. walk a n (cut r (deaths_by b (in_here here 0) (p ∷ ps) (carry side (means side (suc f)) here around flow x))) m) e;
+  }
+
+  scope_is : (flow : Flow) (outer : List Wire) → is_return flow ≡ false → (f : ℕ)
+      → bare side f (holds (Unwinds flow) here l ahead (Scope outer ∷ items)) ≡ deaths side here l.born (carry side (means side (suc f)) here items flow (record { slots = l.slots; born = outer }))
+  unfolding bare carry
+  scope_is Ends outer h f = refl
+  scope_is Breaks outer h f = refl
+  scope_is Continues outer h f = refl
+  scope_is (Returns v) outer h f = absurd (cc h)
+
+  end_is : (flow : Flow) (end : Item) → IsEnd end → (f : ℕ)
+      → bare side f (holds (Unwinds flow) here l ahead (end ∷ items)) ≡ deaths side here l.born (carry side (means side (suc f)) here (end ∷ items) flow (record { slots = l.slots; born = [] }))
+  unfolding bare carry
+  end_is flow (Caller outer n goal) h f = refl
+  end_is flow (Base outer front) h f = refl
+  end_is flow (Rest codes) h f = absurd h
+  end_is flow (Scope outer) h f = absurd h
+  end_is flow (Around n e step body) h f = absurd h
+
+  comes : (n : ℕ) (goal : Goal) (v : Wire)
+      → Steps a side (holds (Comes n goal v) here l ahead items) m (came_by (in_here here n) (keep_of a side.known here goal v l m).result)
+      (held_after (keep_of a side.known here goal v l m).result here ahead items) (keep_of a side.known here goal v l m).memory
+  unfolding bare tree
+  comes n goal v = record {
+    by = λ f q r fewer.
+        (does_keep a (in_here here n) side.known here goal v l m).by q r (λ x. next_of a side f here ahead items x.flow x.locals)
+        ∙ finishes a side (in_here here n) here ahead items (keep_of a side.known here goal v l m) f q r;
+  }
+
+  begins_by : (shapes : List Shape64) (asks : Bool) → param_shapes side.known here.slots ≡ shapes → side.asks ≡ asks
+      → Steps a side (holds Enters here l ahead items) m (entering_came asks (in_here here 0) shapes) (holds (entering_front a asks shapes (object_params 0 here.slots) m) here l ahead items) (entering_memory a asks shapes m)
+  unfolding bare tree cut walk
+  begins_by shapes asks is e = record { by = λ f n r fewer. ap (λ xs. walk a n (cut r (births_in f xs)) m) is ∙ by_shapes f n r shapes asks e } where
+    births_in : ℕ → List Shape64 → Tree
+    births_in f xs = births side here xs (λ ps. fills (in_here here 0) (object_params 0 here.slots) ps l (λ x. means side (suc f) here ahead x (carry side (means side (suc f)) here items)))
+
+    by_shapes : (f n r : ℕ) (xs : List Shape64) (b : Bool) → side.asks ≡ b
+        → walk a n (cut r (births_in f xs)) m ≡ after a side f (entering_came b (in_here here 0) xs) (holds (entering_front a b xs (object_params 0 here.slots) m) here l ahead items) (entering_memory a b xs m) n r
+    by_shapes f n r [] b e = refl
+    by_shapes f n r (s ∷ xs) false e = ap (λ b. walk a n (cut r (births_by b (in_here here 0) (s ∷ xs) (λ ps. fills (in_here here 0) (object_params 0 here.slots) ps l (λ x. means side (suc f) here ahead x (carry side (means side (suc f)) here items))))) m) e
+    by_shapes f n r (s ∷ xs) true e = ap (λ b. walk a n (cut r (births_by b (in_here here 0) (s ∷ xs) (λ ps. fills (in_here here 0) (object_params 0 here.slots) ps l (λ x. means side (suc f) here ahead x (carry side (means side (suc f)) here items))))) m) e
+
+  filled : (is : List ℕ) (ps : List Wire)
+      → Steps a side (holds (Fills is ps) here l ahead items) m (came_by (in_here here 0) (fills_of a is ps l m).result) (filled_after here ahead items (fills_of a is ps l m).result) (fills_of a is ps l m).memory
+  unfolding bare tree
+  filled is ps = record {
+    by = λ f n r fewer.
+        (does_fills a (in_here here 0) is ps l m).by n r (λ x. means side (suc f) here ahead x (carry side (means side (suc f)) here items)) ∙ by_result f n r (fills_of a is ps l m).memory (fills_of a is ps l m).result;
+  } where
+    by_result : (f n r : ℕ) (m' : M) (x : Result Locals StopKind)
+        → on_access x (in_here here 0) m' n (λ x. walk a n (cut r (means side (suc f) here ahead x (carry side (means side (suc f)) here items))) m')
+        ≡ after a side f (came_by (in_here here 0) x) (filled_after here ahead items x) m' n r
+    by_result f n r m' (Ok x) = refl
+    by_result f n r m' (Err kind) = refl
+
+  pub work_goes_on : WorkGoesOn a side here l ahead items m
+  unfolding bare tree carry means cut walk
+  work_goes_on = record {
+    runs_out = record { by = λ f r. refl };
+    rest = rest_same;
+    scope_returned = λ v outer. record { by = λ f r. refl };
+    scope_left = λ flow outer h. dies (holds (Unwinds flow) here l ahead (Scope outer ∷ items)) flow (record { slots = l.slots; born = outer }) items l.born side.asks refl (scope_is flow outer h);
+    loop_goes_on = λ n e step body. record { by = λ f r. refl };
+    loop_continued = λ n e step body. record { by = λ f r. refl };
+    loop_broken = λ n e step body. record { by = λ f r. refl };
+    loop_returned = λ n e step body v. record { by = λ f r. refl };
+    function_dies = λ flow end h. dies (holds (Unwinds flow) here l ahead (end ∷ items)) flow (record { slots = l.slots; born = [] }) (end ∷ items) l.born side.asks refl (end_is flow end h);
+    call_left = λ flow outer n goal. record { by = λ f r. refl };
+    start_left = λ flow outer front. record { by = λ f n r fewer. refl };
+    comes = comes;
+    begins = begins_by (param_shapes side.known here.slots) side.asks refl refl;
+    fills = filled;
+    born = λ i p. record { by = λ f r. refl };
+  }

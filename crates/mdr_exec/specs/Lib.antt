@@ -1,0 +1,12 @@
+pub mod Held
+pub mod Evaluation
+pub mod Effects
+pub mod Calling
+pub mod Steps
+pub mod StatementSteps
+pub mod Unwinding
+pub mod Running
+pub mod Places
+pub mod Found
+pub mod Holding
+pub mod Starting

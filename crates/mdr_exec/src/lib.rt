@@ -1,0 +1,25 @@
+//! The machine that runs a driver's code and can be stopped and resumed.
+//!
+//! Work that is held (the function that runs, what follows in its blocks, the loops, calls and started functions around)
+//! is plain data, and has a tree of `mdr_meaning`. Proved, for every memory and for every number of ticks: what a walk of
+//! that tree comes to at each statement and where a block, a loop or a function is left, and the held work whose tree is
+//! left then; that a run of steps is a run; what starting a function and answering a question make of held work; what
+//! expressions, assignments and calls come to.
+//!
+//! Of the `Machine` there are `new`, `start`, `resume` and `active`, with contracts about the tree of the work that it
+//! holds, the search for the code at a place, and the way into a list of a statement. Not there yet: `go`, which runs it.
+#![tactic(auto)]
+
+mod frame;
+mod laws;
+mod places;
+mod run;
+mod start;
+mod step;
+
+pub use frame::{Flow, Frame, Front, Machine, Side, Suspended, Until};
+pub use laws::{
+    each_run_is_made, each_statement_steps, evaluation_is_walked, functions_are_started,
+    held_work_goes_on, questions_are_answered, statements_want_ticks,
+};
+pub use places::{Part, Position};
