@@ -13,7 +13,7 @@ use Rattle.mdr_meaning.specs.Cut.{cut}
 use Rattle.mdr_meaning.specs.Expressions.{given, value, values}
 use Rattle.mdr_meaning.specs.Sides.{Body, Side, Here, Means}
 use Rattle.mdr_meaning.specs.Tree.{Tree}
-use Rattle.mdr_meaning.specs.Values.{first_of, natural, pick as switch, rest_of}
+use Rattle.mdr_meaning.specs.Values.{first_of, natural, rest_of}
 use Rattle.mdr_meaning.specs.Walk.{Accesses, walk}
 use Rattle.mdr_exec.specs.Evaluation.{after_value, value_of, values_of, Evaluates}
 use Rattle.mdr_exec.specs.Calling.{Calling, goes_by, direct_of, through_of, served_by, called_of, calling_tree, ComesToCall}
@@ -31,7 +31,7 @@ module _ {M : Type 0} (a : Accesses M) (side : Side) (low : Means) (here : Here)
   unfolding walk cut
   calls_direct f vs = by_depth (nat_lt here.depth 256) (side.own f) where
     by_depth : (b : Bool) (own : Option Body)
-        → ComesToCall a side low here m at (switch b (goes_to side low here at f vs own) (deep side low here at)) (chosen b (Ok (goes_by f vs own)) (Err stop.Depth))
+        → ComesToCall a side low here m at (chosen b (goes_to side low here at f vs own) (deep side low here at)) (chosen b (Ok (goes_by f vs own)) (Err stop.Depth))
     by_depth true None = record { by = λ n r k. refl }
     by_depth true (Some body) = record { by = λ n r k. refl }
     by_depth false own = record { by = λ n r k. refl }
@@ -63,7 +63,7 @@ module _ {M : Type 0} (a : Accesses M) (side : Side) (low : Means) (here : Here)
   calls_service form n vs (Some Leave) = record { by = λ q r k. refl }
 
   calls_asked : (form : CallOf) (n : ℕ) (vs : List Wire) (b : Bool)
-      → ComesToCall a side low here m at (switch b (through side low here at (first_of vs) (rest_of vs)) (serves side.known n at form vs)) (chosen b (through_of a side here m (first_of vs) (rest_of vs)) (served_by a side here m at form n vs (service_numbered n)))
+      → ComesToCall a side low here m at (chosen b (through side low here at (first_of vs) (rest_of vs)) (serves side.known n at form vs)) (chosen b (through_of a side here m (first_of vs) (rest_of vs)) (served_by a side here m at form n vs (service_numbered n)))
   calls_asked form n vs true = calls_through (first_of vs) (rest_of vs)
   calls_asked form n vs false = calls_service form n vs (service_numbered n)
 
@@ -78,5 +78,5 @@ module _ {M : Type 0} (a : Accesses M) (side : Side) (low : Means) (here : Here)
       (passes_values a m at side.known s form.args) (λ vs. calls_through v vs))
   comes_to_call s form (Called.Service n) =
       calls_then (List Wire) (values side.known at s form.args)
-      (λ vs. switch (n == 15) (through side low here at (first_of vs) (rest_of vs)) (serves side.known n at form vs)) (values_of a m side.known s form.args) _
+      (λ vs. chosen (n == 15) (through side low here at (first_of vs) (rest_of vs)) (serves side.known n at form vs)) (values_of a m side.known s form.args) _
       (passes_values a m at side.known s form.args) (λ vs. calls_asked form n vs (n == 15))

@@ -15,7 +15,7 @@ use Rattle.mdr_meaning.specs.Lives.{asked_for, births_by, closes, in_block, obje
 use Rattle.mdr_meaning.specs.Sides.{Side, Here, Locals, Flow, Ends, Breaks, Continues, Returns, Next, Means, flow_of, framed, in_here}
 use Rattle.mdr_meaning.specs.Statements.{characters, declared, declared_by, leaves, on_ends, stmts, texts, turn}
 use Rattle.mdr_meaning.specs.Tree.{Tree}
-use Rattle.mdr_meaning.specs.Values.{first_of, is_true, pick as switch}
+use Rattle.mdr_meaning.specs.Values.{first_of, is_true}
 use Rattle.mdr_meaning.specs.Walk.{Accesses, on_access, walk}
 use Rattle.mdr_exec.specs.Calling.{Calling, Entering, Crossing, Asking, called_of, calling_tree, entered}
 use Rattle.mdr_exec.specs.Effects.{Did, Left, ended, assigned, returned_by, texts_of, Does}
@@ -148,7 +148,7 @@ module _ {M : Type 0} (a : Accesses M) (side : Side) where
     enters body = record { by = λ f r. refl }
 
     branch_is : (f r : ℕ) (one other : Codes) (b : Bool)
-        → cut r (in_block side here (switch b (stmts side (means side f) here one) (stmts side (means side f) here other)) l (next_of f here more items))
+        → cut r (in_block side here (chosen b (stmts side (means side f) here one) (stmts side (means side f) here other)) l (next_of f here more items))
         ≡ tree side f (holds_block here l more items (chosen b one other)) r
     unfolding bare means tree carry
     branch_is f r one other true = refl
@@ -159,11 +159,11 @@ module _ {M : Type 0} (a : Accesses M) (side : Side) where
     unfolding bare means
     branches e one other =
         value_ticks here l (Code.If n e one other) n more items m e
-        (λ f v. in_block side here (switch (is_true v) (stmts side (means side f) here one) (stmts side (means side f) here other)) l (next_of f here more items))
+        (λ f v. in_block side here (chosen (is_true v) (stmts side (means side f) here one) (stmts side (means side f) here other)) l (next_of f here more items))
         (branched here l more items one other) (λ f. refl) (λ f r fewer v. branch_is f r one other (is_true v))
 
     turn_is : (f r : ℕ) → suc r ≤ f → (e : Term) (step body : Codes) (b : Bool)
-        → cut r (switch b (turn side (means side f) here (means side f here (loop_again n e step body)) (stmts side (means side f) here step) (stmts side (means side f) here body)) leaves l (next_of f here more items))
+        → cut r (chosen b (turn side (means side f) here (means side f here (loop_again n e step body)) (stmts side (means side f) here step) (stmts side (means side f) here body)) leaves l (next_of f here more items))
         ≡ tree side f (chosen b (holds_turn here l more items n e step body) (holds Runs here l more items)) r
     unfolding bare means tree carry
     turn_is f r fewer e step body true = turns_again side f here n e step body (next_of f here more items) r fewer (record { slots = l.slots; born = [] }) l.born
@@ -174,7 +174,7 @@ module _ {M : Type 0} (a : Accesses M) (side : Side) where
     unfolding bare means
     turns e step body =
         value_ticks here l (Code.Loop n e step body) n more items m e
-        (λ f v. switch (is_true v) (turn side (means side f) here (means side f here (loop_again n e step body)) (stmts side (means side f) here step) (stmts side (means side f) here body)) leaves l (next_of f here more items))
+        (λ f v. chosen (is_true v) (turn side (means side f) here (means side f here (loop_again n e step body)) (stmts side (means side f) here step) (stmts side (means side f) here body)) leaves l (next_of f here more items))
         (turned here l more items n e step body) (λ f. refl) (λ f r fewer v. turn_is f r fewer e step body (is_true v))
 
     -- what the statement that called goes on with
