@@ -90,12 +90,7 @@ fn put_down(
 }
 
 #[tactic(auto, unfolding(mdr_model::specs::Text::text))]
-fn put_back(
-    rest: u64,
-    value: Wire,
-    told: &Told,
-    out: &mut Vec<u8>,
-) -> Result<(), OutOfMemory>
+fn put_back(rest: u64, value: Wire, told: &Told, out: &mut Vec<u8>) -> Result<(), OutOfMemory>
     requires { CanEncode (Back rest value told.now) }
     ensures written { OnOk result (out.new.items ≡ out.old.items ++ text (Back rest value told.now)) }
     ensures spelled { OnOk result (IsMessage (Back rest value told.now)) }
