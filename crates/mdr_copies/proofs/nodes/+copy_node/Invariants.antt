@@ -1,5 +1,5 @@
 use Rattle.std.proofs.Common.{◌≡◌, ◌++◌, drop}
-use Rattle.mdr_half.proofs.copy.+copy_node.Given as goal
+use Rattle.mdr_copies.proofs.nodes.+copy_node.Given as goal
 
 abbrev pub invariant-copy_nodes-loop-s : goal.invariant-copy_nodes-loop-s
 invariant-copy_nodes-loop-s l = l.copies ++ drop l.s-index l.body ≡ l.body
