@@ -13,7 +13,7 @@ use Rattle.mdr_syntax.specs.declared.tree.Form.{Form}
 use Rattle.mdr_syntax.specs.declared.tree.FormWhat
 use Rattle.mdr_print.specs.Marks.{Mark, Is, word as printed_word, sign, number, quoted, blank_unless, spaced, in_parentheses as parentheses_around, in_brackets, separated, comma_list, ◌▸◌}
 use Rattle.mdr_print.specs.Types.{kind_name, base_name, stars as printed_stars, type_name}
-use Rattle.mdr_print.specs.Forms.{Shown, marks_of, plain, literal, operator, operand as printed_operand, is_apart, owner, member_sign}
+use Rattle.mdr_print.specs.Forms.{Shown, marks_of, plain, literal, operator, prefixed, operand as printed_operand, is_apart, owner, member_sign}
 use Rattle.mdr_reread.specs.Words.{is_among, is_prefix, is_step}
 use Rattle.mdr_grammar.specs.declared.parts.Specifier.{Specifier}
 use Rattle.mdr_grammar.specs.declared.sort.Sort.{Sort}
@@ -127,7 +127,7 @@ as_prefix halves op s f h g =
           present (allowed (b.begins casts l d) (free (l + 1) (omega (arith, low)))) (both x.read done);
     }
 
-pub prefix_reread : (halves : Bool) (op : List ℕ) (s : Shown) (f : Form) → is_prefix op ≡ true → IsReread halves s f → IsReread halves (operator (sign op ▸ printed_operand s)) (form_at nowhere (FormWhat.Prefix op f))
+pub prefix_reread : (halves : Bool) (op : List ℕ) (s : Shown) (f : Form) → is_prefix op ≡ true → IsReread halves s f → IsReread halves (prefixed (sign op ▸ printed_operand s)) (form_at nowhere (FormWhat.Prefix op f))
 prefix_reread halves op s f h g =
     let p = as_prefix halves op s f h g in
     record {
