@@ -23,5 +23,7 @@ pub mod Shaping
 pub mod ShapeTests
 pub mod ShapingForms
 pub mod RereadInits
+pub mod RereadParts
+pub mod RereadDecls
 pub mod ShapingInits
 pub mod ReadAgain

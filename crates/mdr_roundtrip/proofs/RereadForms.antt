@@ -190,7 +190,7 @@ pub stars_reread : (halves : Bool) (k n m : ℕ) (rest : List Mark) → k + n �
 stars_reread halves k zero m rest e h = let same : k ≡ m = omega (arith, e) in subst (λ (j : ℕ). Gets halves (stars k) (tokens_of rest) (tokens_of rest) j) same (absent refl)
 stars_reread halves k (suc n) m rest e h = present (allowed (ap (λ s. stars_rule k s (at (Punct (codes "*")))) (star_sort halves)) (le-leb (k + 1) 4294967295 (omega (arith, e, h)))) (both (stars_reread halves (k + 1) n m rest (omega (arith, e)) h) done)
 
-blank_gone : (b : Bool) (rest : List Mark) → tokens_of (blank_unless b rest) ≡ tokens_of rest
+pub blank_gone : (b : Bool) (rest : List Mark) → tokens_of (blank_unless b rest) ≡ tokens_of rest
 blank_gone true rest = refl
 blank_gone false rest = refl
 

@@ -2,3 +2,4 @@ pub mod Lexed
 pub mod Unplaced
 pub mod Shaped
 pub mod Initialised
+pub mod Declarations
