@@ -25,5 +25,6 @@ pub mod ShapingForms
 pub mod RereadInits
 pub mod RereadParts
 pub mod RereadDecls
+pub mod RereadLefts
 pub mod ShapingInits
 pub mod ReadAgain

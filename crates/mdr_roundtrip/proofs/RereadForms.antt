@@ -42,10 +42,10 @@ use Rattle.mdr_roundtrip.proofs.Rereading.{tokens_of, IsReread, behind, expressi
 pub allowed : {A : Type 0} {x : Rule A} {b : Bool} {r : Right A} → x ≡ given b r → b ≡ true → x ≡ given true r
 allowed {r = r} e h = e ∙ ap (λ b. given b r) h
 
-up_to : (l top : ℕ) {m n : ℕ} → m ≡ n → l + m ≤ top → l + n ≤ top
+pub up_to : (l top : ℕ) {m n : ℕ} → m ≡ n → l + m ≤ top → l + n ≤ top
 up_to l top e h = subst (λ (n : ℕ). l + n ≤ top) e h
 
-sinks : (l : ℕ) (f : Form) → l + suc (height f) ≤ 256 → may_sink l f ≡ true
+pub sinks : (l : ℕ) (f : Form) → l + suc (height f) ≤ 256 → may_sink l f ≡ true
 sinks l f h = free (l + suc (height f)) h
 
 chained : (halves : Bool) (s : Shown) (f : Form) (alone : Bool) → ((casts : Bool) (l d : ℕ) (rest : List Mark) (end : List Token) (v : Operand) → l + height f ≤ 256 → d + height f ≤ 512 → Gets halves (postfix l d nowhere f alone) (tokens_of rest) end v → Gets halves (part (operand casts l d)) (tokens_of (s.marks rest)) end v) → IsReread halves s f
@@ -265,7 +265,7 @@ commas_reread halves l d (s ∷ ss) (f ∷ fs) so_far rest h a b =
     subst (λ (gs : List Form). Gets halves (commas (arguments_at (l + 1) (d + 1)) so_far) (tokens_of (separated false (map marks_of (s ∷ ss)) rest)) (tokens_of rest) gs) (append_assoc so_far (f ∷ []) fs)
     (present (ap (λ s. rule (commas (arguments_at (l + 1) (d + 1)) so_far) s (at (Punct (codes ",")))) (comma_sort halves)) (both here (both later done)))
 
-arguments_reread : (halves : Bool) (l d : ℕ) (ss : List Shown) (fs : List Form) (rest : List Mark) → AreArguments halves ss fs → l + highest (map height fs) ≤ 256 → d + highest (map height fs) ≤ 512 → Gets halves (arguments (l + 1) (d + 1)) (tokens_of (comma_list (map marks_of ss) rest)) (tokens_of rest) fs
+pub arguments_reread : (halves : Bool) (l d : ℕ) (ss : List Shown) (fs : List Form) (rest : List Mark) → AreArguments halves ss fs → l + highest (map height fs) ≤ 256 → d + highest (map height fs) ≤ 512 → Gets halves (arguments (l + 1) (d + 1)) (tokens_of (comma_list (map marks_of ss) rest)) (tokens_of rest) fs
 arguments_reread halves l d [] [] rest h a b = absent refl
 arguments_reread halves l d [] (f ∷ fs) rest h a b = absurd h
 arguments_reread halves l d (s ∷ ss) [] rest h a b = absurd h

@@ -3,3 +3,4 @@ pub mod Unplaced
 pub mod Shaped
 pub mod Initialised
 pub mod Declarations
+pub mod Alone
