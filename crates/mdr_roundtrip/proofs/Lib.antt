@@ -26,5 +26,6 @@ pub mod RereadInits
 pub mod RereadParts
 pub mod RereadDecls
 pub mod RereadLefts
+pub mod RereadSimple
 pub mod ShapingInits
 pub mod ReadAgain

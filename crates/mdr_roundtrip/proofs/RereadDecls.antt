@@ -93,12 +93,12 @@ specifiers_are : (s : Sort) (t : Token) (r : Right Specifier) → base_rule s t 
 specifiers_are Sort.Qualifier t r e = no_rule e
 specifiers_are s t r e = e
 
-right_gives : {A : Type 0} (r : Right A) → (r >>= gives) ≡ r
+pub right_gives : {A : Type 0} (r : Right A) → (r >>= gives) ≡ r
 right_gives (Right.gives x) = refl
 right_gives (Right.takes s k) = ap (λ f. Right.takes s f) (λ i t. right_gives (k t) i)
 right_gives (Right.then n k) = ap (λ f. Right.then n f) (λ i v. right_gives (k v) i)
 
-specifiers_reread : (halves : Bool) (b : Base) (rest : List Mark) → is_named_base b ≡ true → Gets halves (part specifiers) (tokens_of (base_name b rest)) (tokens_of rest) (nowhere_based (unplaced_base b))
+pub specifiers_reread : (halves : Bool) (b : Base) (rest : List Mark) → is_named_base b ≡ true → Gets halves (part specifiers) (tokens_of (base_name b rest)) (tokens_of rest) (nowhere_based (unplaced_base b))
 specifiers_reread halves b rest h = through halves (λ x. gives x) refl (λ s t r e. specifiers_are s t r e ∙ ap (λ x. given true x) (sym (right_gives r))) (base_reread halves b rest h) done
 
 abbrev whole_marks : Base → (n : ℕ) → Option (List ℕ) → Option (List Declared) → Option AnnText → Marks
@@ -258,18 +258,17 @@ is_parameter halves named d b n name fun us a alone p = record {
 -- ---- declarations, with what they are made of
 
 -- a declaration by itself, its annotation apart
-pub record IsAlone (halves : Bool) (d : ℕ) (m : Declared) (u : Decl) : Type 0 where
-  pub base : Base
+pub record IsAlone (halves : Bool) (d : ℕ) (base : Base) (annotation : Option AnnText) (m : Declared) (u : Decl) : Type 0 where
   pub plain : Decl
-  pub annotation : Option AnnText
   pub base_is : is_named_base base ≡ true
   pub whole : (rest : List Mark) → tokens_of (m.whole rest) ≡ tokens_of (base_name base (m.alone rest))
   pub read : (rest : List Mark) → Gets halves (part (declarator d (nowhere_based (unplaced_base base)) 0)) (tokens_of (m.alone rest)) (tokens_of (annotated annotation rest)) plain
   pub annotation_is : maybe (is_annotation_at d) annotation ≡ true
+  pub plain_has_none : (out-Decl plain).ann ≡ None
   pub with : with_annotation plain (option_map unplaced_annotation annotation) ≡ u
 
 pub record GoodDecl (halves : Bool) (x : Decl) : Type 0 where
-  pub alone : (d : ℕ) → is_shaped_decl x Standing.Alone d ≡ true → IsAlone halves d (shown_decl x) (unplaced_decl x)
+  pub alone : (d : ℕ) → is_shaped_decl x Standing.Alone d ≡ true → IsAlone halves d (out-Decl x).base (out-Decl x).ann (shown_decl x) (unplaced_decl x)
   pub as_one : (named : Bool) (d : ℕ) → is_shaped_decl x (Standing.Parameter named) d ≡ true → IsParameter halves named d (shown_decl x) (unplaced_decl x)
 
 -- what is known of the parts of a layer
@@ -309,16 +308,15 @@ no_blank base_type.Void t rest = ap (λ ts. at (Word (codes "void")) ∷ ts) (bl
 no_blank base_type.Lock t rest = ap (λ ts. at (Word (codes "combolock_t")) ∷ ts) (blank_gone t rest)
 
 alone_parts : (halves : Bool) (d : ℕ) (b : Base) (n : ℕ) (name : Option (List ℕ)) (size : Option Const) (fun : Option (List Declared)) (us : Option (List Decl)) (a : Option AnnText) → is_named_base b ≡ true → n ≤ 4294967295 → may_be_named Standing.Alone name ≡ true → maybe is_shaped_const size ≡ true → ArePointed halves d fun us → maybe (is_annotation_at d) a ≡ true
-    → IsAlone halves d (shown_parts b n name size fun a) (read_parts b n name size us a)
+    → IsAlone halves d b a (shown_parts b n name size fun a) (read_parts b n name size us a)
 alone_parts halves d b n None size fun us a g low h s p q = absurd (false≢true h)
 alone_parts halves d b n (Some name) size fun us a g low h s p q = record {
-  base = b;
   plain = bare (nowhere_based (unplaced_base b)) n (Some name) (option_map unplaced_const size) us;
-  annotation = a;
   base_is = g;
   whole = λ rest. no_blank b (is_bare n (Some name) fun) (alone_shown (record { place = nowhere; name = Some name; base = b; stars = n; size = size; fun = fun; ann = a }) rest);
   read = λ rest. declarator_reread halves d 0 n n (nowhere_based (unplaced_base b)) name size fun us (annotated a rest) (omega arith) low h s p;
   annotation_is = q;
+  plain_has_none = ap (λ (l : Decl-F Decl). l.ann) (out-roll-Decl (record { place = nowhere; name = Some name; base = unplaced_base b; stars = n; size = option_map unplaced_const size; fun = us; ann = None }));
   with = with_is (record { place = nowhere; name = Some name; base = unplaced_base b; stars = n; size = option_map unplaced_const size; fun = us; ann = None }) (option_map unplaced_annotation a);
 }
 
@@ -345,7 +343,7 @@ are_pointed halves d of good (Some xs) h =
     (k.0, λ rest. list_reread halves false (d + 1) (map shown_decl (map of xs)) (map unplaced_decl (map of xs)) rest listed)
 
 abbrev LayerAlone : Bool → Decl-F Decl → Type 0
-LayerAlone halves l = (d : ℕ) → decl_shaped (map-Decl Decl (Standing → ℕ → Bool) is_shaped_decl l) Standing.Alone d ≡ true → IsAlone halves d (decl_shown (map-Decl Decl Declared shown_decl l)) (decl_unplaced (map-Decl Decl Decl unplaced_decl l))
+LayerAlone halves l = (d : ℕ) → decl_shaped (map-Decl Decl (Standing → ℕ → Bool) is_shaped_decl l) Standing.Alone d ≡ true → IsAlone halves d l.base l.ann (decl_shown (map-Decl Decl Declared shown_decl l)) (decl_unplaced (map-Decl Decl Decl unplaced_decl l))
 
 abbrev LayerOne : Bool → Decl-F Decl → Type 0
 LayerOne halves l = (named : Bool) (d : ℕ) → decl_shaped (map-Decl Decl (Standing → ℕ → Bool) is_shaped_decl l) (Standing.Parameter named) d ≡ true → IsParameter halves named d (decl_shown (map-Decl Decl Declared shown_decl l)) (decl_unplaced (map-Decl Decl Decl unplaced_decl l))
@@ -372,9 +370,10 @@ layer_one halves {X} of good l named d h =
 pub good_decls : (halves : Bool) (x : Decl) → GoodDecl halves x
 good_decls halves = ind-Decl (GoodDecl halves) (λ x y is. record {
   alone = λ d q.
-      subst (λ (m : Declared). IsAlone halves d m (unplaced_decl (roll-Decl x))) (sym (fold-roll-Decl Declared decl_shown x))
-      (subst (λ (u : Decl). IsAlone halves d (decl_shown (map-Decl Decl Declared shown_decl x)) u) (sym (fold-roll-Decl Decl decl_unplaced x))
-      (subst (LayerAlone halves) is (layer_alone halves (λ e. e.0) (λ e. e.1) y) d (ap (λ f. f Standing.Alone d) (sym (fold-roll-Decl (Standing → ℕ → Bool) decl_shaped x)) ∙ q)));
+      subst (λ (l : Decl-F Decl). IsAlone halves d l.base l.ann (shown_decl (roll-Decl x)) (unplaced_decl (roll-Decl x))) (sym (out-roll-Decl x))
+      (subst (λ (m : Declared). IsAlone halves d x.base x.ann m (unplaced_decl (roll-Decl x))) (sym (fold-roll-Decl Declared decl_shown x))
+      (subst (λ (u : Decl). IsAlone halves d x.base x.ann (decl_shown (map-Decl Decl Declared shown_decl x)) u) (sym (fold-roll-Decl Decl decl_unplaced x))
+      (subst (LayerAlone halves) is (layer_alone halves (λ e. e.0) (λ e. e.1) y) d (ap (λ f. f Standing.Alone d) (sym (fold-roll-Decl (Standing → ℕ → Bool) decl_shaped x)) ∙ q))));
   as_one = λ named d q.
       subst (λ (m : Declared). IsParameter halves named d m (unplaced_decl (roll-Decl x))) (sym (fold-roll-Decl Declared decl_shown x))
       (subst (λ (u : Decl). IsParameter halves named d (decl_shown (map-Decl Decl Declared shown_decl x)) u) (sym (fold-roll-Decl Decl decl_unplaced x))
@@ -403,10 +402,11 @@ pub record IsFieldRead (halves : Bool) (x : Decl) (rest : List Mark) : Type 0 wh
 pub fields_reread : (halves : Bool) (x : Decl) (rest : List Mark) → is_shaped_decl x Standing.Alone 0 ≡ true → IsFieldRead halves x rest
 fields_reread halves x rest h =
     let a = (good_decls halves x).alone 0 h in
+    let base : Base = (out-Decl x).base in
     record {
-      behind = nowhere_based (unplaced_base a.base);
-      of_base = subst (λ (ts : List Token). Gets halves (part specifiers) ts (tokens_of (declarator_marks_of x rest)) (nowhere_based (unplaced_base a.base))) (sym (a.whole rest)) (specifiers_reread halves a.base (declarator_marks_of x rest) a.base_is);
+      behind = nowhere_based (unplaced_base base);
+      of_base = subst (λ (ts : List Token). Gets halves (part specifiers) ts (tokens_of (declarator_marks_of x rest)) (nowhere_based (unplaced_base base))) (sym (a.whole rest)) (specifiers_reread halves base (declarator_marks_of x rest) a.base_is);
       of_field = through halves (λ y. annotated_parameter 0 y) refl (λ s t r e. ap (λ o. and_then o (λ y. annotated_parameter 0 y)) e) (a.read rest)
-          (parts (annotated_reread halves 0 a.annotation rest a.annotation_is)
-          (subst (λ (y : Decl). Follows halves (part (field (nowhere_based (unplaced_base a.base)))) (gives y) (tokens_of rest) (tokens_of rest) (unplaced_decl x)) (sym a.with) done));
+          (parts (annotated_reread halves 0 (out-Decl x).ann rest a.annotation_is)
+          (subst (λ (y : Decl). Follows halves (part (field (nowhere_based (unplaced_base base)))) (gives y) (tokens_of rest) (tokens_of rest) (unplaced_decl x)) (sym a.with) done));
     }

@@ -238,7 +238,7 @@ type_is l d Sort.Text t r e = no_rule e
 type_is l d Sort.Name t r e = no_rule e
 type_is l d s t r e = ap (λ o. or_else (and_then o (λ b. form (stars 0) >>= λ k. gives (form_at t.place (FormWhat.Base b.base k)))) (expression_rule l d s t)) e
 
-placed_first : (xs : List Lexeme) {t : Token} {us : List Token} → all_at xs ≡ t ∷ us → t.place ≡ nowhere
+pub placed_first : (xs : List Lexeme) {t : Token} {us : List Token} → all_at xs ≡ t ∷ us → t.place ≡ nowhere
 placed_first [] e = absurd (Prim.cc)
 placed_first (x ∷ xs) {t = t} e = let same : at x ≡ t = Prim.cc in sym (ap (λ (t : Token). t.place) same)
 

@@ -4,3 +4,4 @@ pub mod Shaped
 pub mod Initialised
 pub mod Declarations
 pub mod Alone
+pub mod Stated
