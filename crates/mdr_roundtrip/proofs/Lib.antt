@@ -27,5 +27,7 @@ pub mod RereadParts
 pub mod RereadDecls
 pub mod RereadLefts
 pub mod RereadSimple
+pub mod RereadLists
+pub mod RereadStatements
 pub mod ShapingInits
 pub mod ReadAgain

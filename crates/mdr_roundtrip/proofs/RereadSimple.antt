@@ -15,8 +15,8 @@ use Rattle.mdr_syntax.specs.declared.tree.FormWhat
 use Rattle.mdr_syntax.specs.declared.tree.FormWhat.{FormWhat}
 use Rattle.mdr_syntax.specs.declared.tree.FormWhat.TheOpen.{FormWhat-F}
 use Rattle.mdr_syntax.specs.declared.tree.FormWhat.TheFolds.{ind-Form, map-FormWhat, fold-roll-FormWhat, fold_out-Form, fold-FormWhat}
+use Rattle.mdr_syntax.specs.declared.tree.Node.{Node}
 use Rattle.mdr_syntax.specs.declared.tree.NodeWhat
-use Rattle.mdr_syntax.specs.declared.tree.NodeWhat.{NodeWhat}
 use Rattle.mdr_print.specs.Marks.{Mark, Marks, spaced}
 use Rattle.mdr_print.specs.Types.{base_name}
 use Rattle.mdr_print.specs.Forms.{Shown, what_shown, form_shown, shown_form, shown_what, form, left_side}
@@ -58,7 +58,7 @@ equals_sort halves = refl
 
 -- ---- expressions inside statements
 
-low_of : (l : ℕ) (f : Form) → is_expression_at l f ≡ true → l + height f ≤ 256
+pub low_of : (l : ℕ) (f : Form) → is_expression_at l f ≡ true → l + height f ≤ 256
 low_of l f h = leb-true (l + height f) 256 (both (shape_of f).expression (is_level_free (l + height f)) h).1
 
 pub expression_reread : (halves : Bool) (f : Form) (l d : ℕ) (rest : List Mark) → is_expression_at l f ≡ true → d ≤ 1 → Gets halves (part (expression l d)) (tokens_of (form f rest)) (tokens_of rest) (unplaced_form f)
@@ -166,10 +166,10 @@ value_reread halves (Some f) l d rest h few =
 -- ---- locals
 
 -- a local behind its base, and as a whole
-pub record IsLocal (halves : Bool) (l d : ℕ) (base : Base) (first further : Marks) (n : NodeWhat) : Type 0 where
+pub record IsLocal (halves : Bool) (l d : ℕ) (base : Base) (first further : Marks) (n : Node) : Type 0 where
   pub base_is : is_named_base base ≡ true
   pub whole : (rest : List Mark) → tokens_of (first rest) ≡ tokens_of (base_name base (further rest))
-  pub read : (rest : List Mark) → Gets halves (part (local nowhere (nowhere_based (unplaced_base base)) l d)) (tokens_of (further rest)) (tokens_of rest) (node_at nowhere n)
+  pub read : (rest : List Mark) → Gets halves (part (local nowhere (nowhere_based (unplaced_base base)) l d)) (tokens_of (further rest)) (tokens_of rest) n
 
 plain_is : (a : Option AnnText) → is_none a ≡ true → a ≡ None
 plain_is None h = refl
@@ -183,7 +183,7 @@ unannotated halves d b None m u x e rest = subst (λ (y : Decl). Gets halves (pa
     same : (out-Decl x.plain).ann ≡ None → x.plain ≡ with_annotation x.plain None
     same q = sym (ap (λ (a : Option AnnText). roll-Decl (record (out-Decl x.plain) { ann = a })) (sym q) ∙ roll-out-Decl x.plain)
 
-pub local_reread : (halves : Bool) (x : Decl) (o : Option Form) (l d : ℕ) → local_at x o l d ≡ true → d ≤ 1 → IsLocal halves l d (out-Decl x).base (λ rest. declaration x (printed_value o rest)) (λ rest. declarator_of x (printed_value o rest)) (NodeWhat.Local (unplaced_decl x) (option_map unplaced_form o))
+pub local_reread : (halves : Bool) (x : Decl) (o : Option Form) (l d : ℕ) → local_at x o l d ≡ true → d ≤ 1 → IsLocal halves l d (out-Decl x).base (λ rest. declaration x (printed_value o rest)) (λ rest. declarator_of x (printed_value o rest)) (node_at nowhere (NodeWhat.Local (unplaced_decl x) (option_map unplaced_form o)))
 local_reread halves x o l d h few =
     let k = both (is_shaped_decl x Standing.Alone d) (is_none (out-Decl x).ann && maybe (is_right_at (l + 1)) o) h in
     let j = both (is_none (out-Decl x).ann) (maybe (is_right_at (l + 1)) o) k.1 in
