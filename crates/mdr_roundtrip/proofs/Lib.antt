@@ -29,5 +29,6 @@ pub mod RereadLefts
 pub mod RereadSimple
 pub mod RereadLists
 pub mod RereadStatements
+pub mod RereadLoops
 pub mod ShapingInits
 pub mod ReadAgain

@@ -186,7 +186,7 @@ AreNodes halves [] [] [] = Unit {0}
 AreNodes halves (s ∷ ss) (w ∷ ws) (n ∷ ns) = GoodNode halves s w n × AreNodes halves ss ws ns
 AreNodes halves _ _ _ = ⊥
 
-items_reread : (halves : Bool) (l depth : ℕ) (ss : List Stated) (ws : List Written) (ns : List Node) → AreNodes halves ss ws ns → all (map (item_at l) ss) ≡ true → AllRead halves (block_items l) (map (line_of depth) ws) (map alone ns)
+pub items_reread : (halves : Bool) (l depth : ℕ) (ss : List Stated) (ws : List Written) (ns : List Node) → AreNodes halves ss ws ns → all (map (item_at l) ss) ≡ true → AllRead halves (block_items l) (map (line_of depth) ws) (map alone ns)
 items_reread halves l depth [] [] [] g h = tt
 items_reread halves l depth (s ∷ ss) (w ∷ ws) (n ∷ ns) g h =
     let k = both (item_at l s) (all (map (item_at l) ss)) h in
@@ -218,29 +218,29 @@ block_ends halves m same k depth ns rest q =
     (subst (λ (r : Right (Value m)). Follows halves m r (tokens_of rest) (tokens_of rest) (same (record { node = block_of ns; closed = true }))) (sym (q (record { node = block_of (joined (map alone ns)); closed = true })))
     (subst (λ (us : List Node). Follows halves m (gives (same (record { node = block_of us; closed = true }))) (tokens_of rest) (tokens_of rest) (same (record { node = block_of ns; closed = true }))) (sym (joined_alone ns)) done)))
 
-block_statement : (halves : Bool) (l depth : ℕ) (ss : List Stated) (ws : List Written) (ns : List Node) (rest : List Mark) → AreNodes halves ss ws ns → block_at ss l ≡ true → Gets halves (part (statement l)) (tokens_of (braced depth (λ inside. lines inside ws) rest)) (tokens_of rest) (record { node = block_of ns; closed = true })
+pub block_statement : (halves : Bool) (l depth : ℕ) (ss : List Stated) (ws : List Written) (ns : List Node) (rest : List Mark) → AreNodes halves ss ws ns → block_at ss l ≡ true → Gets halves (part (statement l)) (tokens_of (braced depth (λ inside. lines inside ws) rest)) (tokens_of rest) (record { node = block_of ns; closed = true })
 block_statement halves l depth ss ws ns rest g h =
     present (ap (λ s. statement_rule l s (at (Punct (codes "{")))) (brace_sort halves))
     (parts (inside_block halves l (suc depth) ss ws ns (closed depth rest) g h) (block_ends halves (part (statement l)) (λ e. e) gives depth ns rest (λ e. refl)))
 
-block_body : (halves : Bool) (l depth : ℕ) (ss : List Stated) (ws : List Written) (ns : List Node) (rest : List Mark) → AreNodes halves ss ws ns → block_at ss l ≡ true → Gets halves (part (body l)) (tokens_of (braced depth (λ inside. lines inside ws) rest)) (tokens_of rest) (record { node = block_of ns; closed = true })
+pub block_body : (halves : Bool) (l depth : ℕ) (ss : List Stated) (ws : List Written) (ns : List Node) (rest : List Mark) → AreNodes halves ss ws ns → block_at ss l ≡ true → Gets halves (part (body l)) (tokens_of (braced depth (λ inside. lines inside ws) rest)) (tokens_of rest) (record { node = block_of ns; closed = true })
 block_body halves l depth ss ws ns rest g h =
     present (ap (λ s. body_rule l s (at (Punct (codes "{")))) (brace_sort halves))
     (parts (inside_block halves l (suc depth) ss ws ns (closed depth rest) g h) (block_ends halves (part (body l)) (λ e. e) gives depth ns rest (λ e. refl)))
 
 -- ---- statements with conditions
 
-free_at : (l : ℕ) (f : Form) → is_expression_at l f ≡ true → is_level_free l ≡ true
+pub free_at : (l : ℕ) (f : Form) → is_expression_at l f ≡ true → is_level_free l ≡ true
 free_at l f h = free l (let low = low_of l f h in omega (arith, low))
 
-condition_then : (halves : Bool) (m : Nonterminal) (l : ℕ) (c : Form) (k : Form → Right (Value m)) (rest : List Mark) {end : List Token} {v : Value m} → is_expression_at (l + 1) c ≡ true → Follows halves m (k (unplaced_form c)) (tokens_of rest) end v → Follows halves m (condition l >>= k) (tokens_of (in_parentheses (form c) rest)) end v
+pub condition_then : (halves : Bool) (m : Nonterminal) (l : ℕ) (c : Form) (k : Form → Right (Value m)) (rest : List Mark) {end : List Token} {v : Value m} → is_expression_at (l + 1) c ≡ true → Follows halves m (k (unplaced_form c)) (tokens_of rest) end v → Follows halves m (condition l >>= k) (tokens_of (in_parentheses (form c) rest)) end v
 condition_then halves m l c k rest h f = opens halves (parts (expression_reread halves c (l + 1) 1 (Is (Punct (codes ")")) ∷ rest) h (omega arith)) (closes halves f))
 
 -- a body that is printed between braces
-abbrev IsBody : Bool → ℕ → Written → Node → Type 0
+abbrev pub IsBody : Bool → ℕ → Written → Node → Type 0
 IsBody halves l w n = (depth : ℕ) (rest : List Mark) → Gets halves (part (body l)) (tokens_of (braced depth w.body rest)) (tokens_of rest) (record { node = n; closed = true })
 
-abbrev MaybeBody : Bool → ℕ → Option Written → Option Node → Type 0
+abbrev pub MaybeBody : Bool → ℕ → Option Written → Option Node → Type 0
 MaybeBody halves l None None = Unit {0}
 MaybeBody halves l (Some w) (Some n) = IsBody halves l w n
 MaybeBody halves l None (Some n) = ⊥
@@ -293,7 +293,7 @@ do_reread halves l depth c w n rest h g = record {
 
 -- ---- statements of a word
 
-optional_expression : (halves : Bool) (b : Bool) (l d : ℕ) (o : Option Form) (rest : List Mark) → b ≡ true → maybe (is_expression_at l) o ≡ true → d ≤ 1 → Gets halves (option b (expression l d)) (tokens_of (optional o rest)) (tokens_of rest) (option_map unplaced_form o)
+pub optional_expression : (halves : Bool) (b : Bool) (l d : ℕ) (o : Option Form) (rest : List Mark) → b ≡ true → maybe (is_expression_at l) o ≡ true → d ≤ 1 → Gets halves (option b (expression l d)) (tokens_of (optional o rest)) (tokens_of rest) (option_map unplaced_form o)
 optional_expression halves b l d None rest a h few = absent refl
 optional_expression halves b l d (Some c) rest a h few =
     through halves (λ x. gives (Some x)) refl (λ s t r e. ap (λ o. where_allowed b (and_then o (λ v. gives (Some v)))) e ∙ ap (λ x. given (x && true) (r >>= λ v. gives (Some v))) a) (expression_reread halves c l d rest h few) done
