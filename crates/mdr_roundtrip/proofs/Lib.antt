@@ -30,5 +30,6 @@ pub mod RereadSimple
 pub mod RereadLists
 pub mod RereadStatements
 pub mod RereadLoops
+pub mod RereadItems
 pub mod ShapingInits
 pub mod ReadAgain

@@ -56,7 +56,7 @@ const_sort halves = refl
 abbrev made : Base → (stars : ℕ) → Option (List ℕ) → Option (List Decl) → Option AnnText → Decl
 made b n name us a = roll-Decl (record { place = nowhere; name = name; base = b; stars = n; size = None; fun = us; ann = a })
 
-with_is : (l : Decl-F Decl) (a : Option AnnText) → with_annotation (roll-Decl l) a ≡ roll-Decl (record l { ann = a })
+pub with_is : (l : Decl-F Decl) (a : Option AnnText) → with_annotation (roll-Decl l) a ≡ roll-Decl (record l { ann = a })
 with_is l a = ap (λ (z : Decl-F Decl). roll-Decl (record z { ann = a })) (out-roll-Decl l)
 
 -- what is known of its parts
@@ -257,6 +257,20 @@ is_parameter halves named d b n name fun us a alone p = record {
 
 -- ---- declarations, with what they are made of
 
+-- a declaration by itself, part by part
+pub record Apart (halves : Bool) (d : ℕ) (base : Base) (annotation : Option AnnText) (m : Declared) (u : Decl) : Type 0 where
+  pub stars : ℕ
+  pub name : List ℕ
+  pub size : Option Const
+  pub fun : Option (List Declared)
+  pub read : Option (List Decl)
+  pub few : stars ≤ 4294967295
+  pub name_is : is_name name ≡ true
+  pub size_is : maybe is_shaped_const size ≡ true
+  pub pointed : ArePointed halves d fun read
+  pub printed : (rest : List Mark) → m.alone rest ≡ printed_stars stars (core (sized_name (Some name) size) fun (annotated annotation rest))
+  pub made_is : roll-Decl (record { place = nowhere; name = Some name; base = unplaced_base base; stars = stars; size = option_map unplaced_const size; fun = read; ann = option_map unplaced_annotation annotation }) ≡ u
+
 -- a declaration by itself, its annotation apart
 pub record IsAlone (halves : Bool) (d : ℕ) (base : Base) (annotation : Option AnnText) (m : Declared) (u : Decl) : Type 0 where
   pub plain : Decl
@@ -265,6 +279,7 @@ pub record IsAlone (halves : Bool) (d : ℕ) (base : Base) (annotation : Option 
   pub read : (rest : List Mark) → Gets halves (part (declarator d (nowhere_based (unplaced_base base)) 0)) (tokens_of (m.alone rest)) (tokens_of (annotated annotation rest)) plain
   pub annotation_is : maybe (is_annotation_at d) annotation ≡ true
   pub plain_has_none : (out-Decl plain).ann ≡ None
+  pub parts_are : Apart halves d base annotation m u
   pub with : with_annotation plain (option_map unplaced_annotation annotation) ≡ u
 
 pub record GoodDecl (halves : Bool) (x : Decl) : Type 0 where
@@ -316,6 +331,7 @@ alone_parts halves d b n (Some name) size fun us a g low h s p q = record {
   whole = λ rest. no_blank b (is_bare n (Some name) fun) (alone_shown (record { place = nowhere; name = Some name; base = b; stars = n; size = size; fun = fun; ann = a }) rest);
   read = λ rest. declarator_reread halves d 0 n n (nowhere_based (unplaced_base b)) name size fun us (annotated a rest) (omega arith) low h s p;
   annotation_is = q;
+  parts_are = record { stars = n; name = name; size = size; fun = fun; read = us; few = low; name_is = h; size_is = s; pointed = p; printed = λ rest. refl; made_is = refl };
   plain_has_none = ap (λ (l : Decl-F Decl). l.ann) (out-roll-Decl (record { place = nowhere; name = Some name; base = unplaced_base b; stars = n; size = option_map unplaced_const size; fun = us; ann = None }));
   with = with_is (record { place = nowhere; name = Some name; base = unplaced_base b; stars = n; size = option_map unplaced_const size; fun = us; ann = None }) (option_map unplaced_annotation a);
 }

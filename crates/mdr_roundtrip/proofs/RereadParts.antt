@@ -102,7 +102,7 @@ ArePointed halves d (Some ds) (Some us) = (may_open (d + 1) ≡ true) × ((rest 
 abbrev pub bare : Specifier → (stars : ℕ) → Option (List ℕ) → Option Const → Option (List Decl) → Decl
 bare b k name z us = roll-Decl (record { place = nowhere; name = name; base = b.base; stars = k; size = z; fun = us; ann = None })
 
-named_reread : (halves : Bool) (d k : ℕ) (b : Specifier) (name : List ℕ) (z : Option Const) (fun : Option (List Declared)) (us : Option (List Decl)) (rest : List Mark) → is_name name ≡ true → maybe is_shaped_const z ≡ true → ArePointed halves d fun us
+pub named_reread : (halves : Bool) (d k : ℕ) (b : Specifier) (name : List ℕ) (z : Option Const) (fun : Option (List Declared)) (us : Option (List Decl)) (rest : List Mark) → is_name name ≡ true → maybe is_shaped_const z ≡ true → ArePointed halves d fun us
     → Gets halves (part (declarator d b k)) (tokens_of (core (sized_name (Some name) z) fun rest)) (tokens_of rest) (bare b k (Some name) (option_map unplaced_const z) us)
 named_reread halves d k b name z None None rest n s p =
     present (ap (λ s. declarator_rule d b k s (at (Word name))) (name_sort halves name n)) (parts (size_reread halves z rest s) done)

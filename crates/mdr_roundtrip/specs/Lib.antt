@@ -5,3 +5,4 @@ pub mod Initialised
 pub mod Declarations
 pub mod Alone
 pub mod Stated
+pub mod Itemised
