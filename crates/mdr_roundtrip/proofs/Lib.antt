@@ -33,3 +33,6 @@ pub mod RereadLoops
 pub mod RereadItems
 pub mod ShapingInits
 pub mod ReadAgain
+pub mod Sourcing
+pub mod ShapedDecls
+pub mod ShapingDecls

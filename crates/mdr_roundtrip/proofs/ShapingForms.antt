@@ -71,7 +71,7 @@ as_argument l f h = let k = both (shape_of f).expression (is_level_free (l + hei
 
 -- ---- types
 
-abbrev is_good_base : Specifier → Bool
+abbrev pub is_good_base : Specifier → Bool
 is_good_base b = is_named_base b.base
 
 -- an operand that isn't said to be a statement
@@ -103,7 +103,7 @@ of_unsigned Sort.Int t = λ a. refl
 of_unsigned Sort.Long t = λ a. refl
 of_unsigned _ t = tt
 
-of_base : (s : Sort) (t : Token) → SoundRuleBy shaping (base_rule s t) is_good_base
+pub of_base : (s : Sort) (t : Token) → SoundRuleBy shaping (base_rule s t) is_good_base
 of_base (Sort.Integer k) t = λ a. refl
 of_base Sort.Char t = λ a. refl
 of_base Sort.Short t = λ a. refl

@@ -37,7 +37,7 @@ use Rattle.mdr_roundtrip.proofs.Shaping.{knows, sort_knows, told_of as name_told
 
 -- ---- what is known
 
-abbrev told : Sort → Lexeme → Bool
+abbrev pub told : Sort → Lexeme → Bool
 told Sort.Name x = is_name (text_of x)
 told Sort.Number x = is_written (number_in x) (kind_in x)
 told _ x = true
@@ -59,34 +59,34 @@ told_of Sort.Name s' x e m = name_told Sort.Name s' x e m
 told_of Sort.Number s' x e m = number_of s' x e m
 told_of _ s' x e m = refl
 
-abbrev good_part : (x : Part) → PartValue x → Bool
+abbrev pub good_part : (x : Part) → PartValue x → Bool
 good_part constant v = is_shaped_const v
 good_part (initialiser n) v = is_shaped_init v n
 good_part (element n) v = is_shaped_elem v n
 good_part _ v = true
 
-abbrev good : (n : Nonterminal) → Value n → Bool
+abbrev pub good : (n : Nonterminal) → Value n → Bool
 good (part x) v = good_part x v
 good (commas_open x so_far) v = list_all (good_part (enclosed x)) v && are_some v
 good (after_comma x so_far) v = list_all (good_part (enclosed x)) v && are_some v
 good _ v = true
 
-abbrev fits_part : Part → Bool
+abbrev pub fits_part : Part → Bool
 fits_part constant = true
 fits_part (initialiser n) = true
 fits_part (element n) = true
 fits_part _ = false
 
-abbrev listed : (x : Enclosed) → List (PartValue (enclosed x)) → Bool
+abbrev pub listed : (x : Enclosed) → List (PartValue (enclosed x)) → Bool
 listed x so_far = fits_part (enclosed x) && (list_all (good_part (enclosed x)) so_far && are_some so_far)
 
-abbrev fits : Nonterminal → Bool
+abbrev pub fits : Nonterminal → Bool
 fits (part x) = fits_part x
 fits (commas_open x so_far) = listed x so_far
 fits (after_comma x so_far) = listed x so_far
 fits _ = false
 
-abbrev initialising : Judge
+abbrev pub initialising : Judge
 initialising = record { told = told; good = good; fits = fits }
 
 -- ---- initialisers, one by one
@@ -127,7 +127,7 @@ elem_made field i n f h = ap (λ (g : ℕ → Bool). g n) (fold_out-Elem (ℕ �
 
 -- ---- rules
 
-of_constant : (s : Sort) (t : Token) → knows s t.what ≡ true → SoundRuleBy initialising (constant_rule s t) is_shaped_const
+pub of_constant : (s : Sort) (t : Token) → knows s t.what ≡ true → SoundRuleBy initialising (constant_rule s t) is_shaped_const
 of_constant Sort.Minus t m = λ a. λ n h. h
 of_constant Sort.Number t m = λ a. m
 of_constant Sort.Name t m = λ a. m
