@@ -36,3 +36,5 @@ pub mod ReadAgain
 pub mod Sourcing
 pub mod ShapedDecls
 pub mod ShapingDecls
+pub mod ShapedNodes
+pub mod ShapingStatements

@@ -129,7 +129,7 @@ of_parentheses false l d t f = λ a. (f, λ g hg. λ c q. (part_only l g hg, λ 
 of_service : (l : ℕ) (t : Token) → is_level_free (l + 1) ≡ true → l + suc (height (name_form t)) ≤ 256
 of_service l t h = let q = level (l + 1) h in let z = name_height t.place (text_of t.what) in omega (arith, q, z)
 
-of_operand : (casts : Bool) (l d : ℕ) (s : Sort) (t : Token) → is_level_free l ≡ true → knows s t.what ≡ true → SoundRuleBy shaping (operand_rule casts l d s t) (is_operand l)
+pub of_operand : (casts : Bool) (l d : ℕ) (s : Sort) (t : Token) → is_level_free l ≡ true → knows s t.what ≡ true → SoundRuleBy shaping (operand_rule casts l d s t) (is_operand l)
 of_operand casts l d Sort.Name t f m = λ a. (part_only l _ (name_formed l t.place (text_of t.what) (level l f) m), λ x h. h)
 of_operand casts l d Sort.Number t f m = λ a. (part_only l _ (number_formed l t.place (number_in t.what) (kind_in t.what) (level l f) m), λ x h. h)
 of_operand casts l d Sort.Null t f m = λ a. (part_only l _ (null_formed l t.place (level l f)), λ x h. h)
@@ -226,7 +226,7 @@ of_choice l d f _ t g = tt
 of_behind : (l d : ℕ) (x : Operand) → is_operand l x ≡ true → SoundBy shaping (behind_operand l d x) (is_expression l)
 of_behind l d x hx = then_by shaping (operators_from 10 2 l d x.form) (λ f. form (choice l d f)) (is_expression l) (is_expression l) (of_from 10 2 l d x.form refl (formed l x.form x.alone hx)) (λ f hf. (hf, λ v h. h))
 
-of_expression : (l d : ℕ) (s : Sort) (t : Token) → is_level_free l ≡ true → knows s t.what ≡ true → SoundRuleBy shaping (expression_rule l d s t) (is_expression l)
+pub of_expression : (l d : ℕ) (s : Sort) (t : Token) → is_level_free l ≡ true → knows s t.what ≡ true → SoundRuleBy shaping (expression_rule l d s t) (is_expression l)
 of_expression l d s t f m = and_by shaping (operand_rule true l d s t) (λ x. behind_operand l d x) (is_operand l) (is_expression l) (of_operand true l d s t f m) (λ x hx. of_behind l d x hx)
 
 -- ---- behind a `(`, and arguments
@@ -296,16 +296,16 @@ of_rule _ s t f m = no f
 
 of_nothing : (n : Nonterminal) → fits n ≡ true → SoundEmpty (empty n) (good n)
 of_nothing (part x) f = tt
-of_nothing (commas x so_far) f = (both (fits_part (separated x)) (list_all (good_part (separated x)) so_far) f).1
-of_nothing (postfix l d first g alone) f = f
-of_nothing (operators precedence l d g) f = (both (nat_lt 1 precedence) (is_expression l g) f).1
-of_nothing (choice l d g) f = f
+of_nothing (commas x so_far) f = λ a. (both (fits_part (separated x)) (list_all (good_part (separated x)) so_far) f).1
+of_nothing (postfix l d first g alone) f = λ a. f
+of_nothing (operators precedence l d g) f = λ a. (both (nat_lt 1 precedence) (is_expression l g) f).1
+of_nothing (choice l d g) f = λ a. f
 of_nothing (opened l d first) f = tt
-of_nothing (arguments l d) f = refl
-of_nothing (stars k) f = f
-of_nothing text_behind f = refl
+of_nothing (arguments l d) f = λ a. refl
+of_nothing (stars k) f = λ a. f
+of_nothing text_behind f = λ a. refl
 of_nothing text_after f = tt
-of_nothing unsigned_word f = refl
+of_nothing unsigned_word f = λ a. refl
 of_nothing _ f = no f
 
 pub shaping_judge : (halves : Bool) → IsJudge shaping halves

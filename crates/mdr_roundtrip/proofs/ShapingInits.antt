@@ -182,8 +182,8 @@ of_rule _ s t f m = no f
 
 of_nothing : (n : Nonterminal) → fits n ≡ true → SoundEmpty (empty n) (good n)
 of_nothing (part x) f = tt
-of_nothing (commas_open x so_far) f = (both (fits_part (enclosed x)) (list_all (good_part (enclosed x)) so_far && are_some so_far) f).1
-of_nothing (after_comma x so_far) f = (both (fits_part (enclosed x)) (list_all (good_part (enclosed x)) so_far && are_some so_far) f).1
+of_nothing (commas_open x so_far) f = λ a. (both (fits_part (enclosed x)) (list_all (good_part (enclosed x)) so_far && are_some so_far) f).1
+of_nothing (after_comma x so_far) f = λ a. (both (fits_part (enclosed x)) (list_all (good_part (enclosed x)) so_far && are_some so_far) f).1
 of_nothing _ f = no f
 
 initialising_judge : (halves : Bool) → IsJudge initialising halves
