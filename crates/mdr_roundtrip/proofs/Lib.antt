@@ -38,3 +38,5 @@ pub mod ShapedDecls
 pub mod ShapingDecls
 pub mod ShapedNodes
 pub mod ShapingStatements
+pub mod ShapingItems
+pub mod ShapingSources

@@ -64,7 +64,7 @@ plain_is place l f a h = ap (λ (s : Stated). s.simple l) (made place (NodeWhat-
 
 -- ---- blocks and locals
 
-all_in : (l : ℕ) (ns : List Node) → list_all (item_in l) ns ≡ true → all (map (item_at l) (map stated ns)) ≡ true
+pub all_in : (l : ℕ) (ns : List Node) → list_all (item_in l) ns ≡ true → all (map (item_at l) (map stated ns)) ≡ true
 all_in l [] h = refl
 all_in l (n ∷ ns) h =
     let k = both (item_in l n) (list_all (item_in l) ns) h in

@@ -280,7 +280,7 @@ of_part (argument l d) s t f m = of_argument l d s t f m
 of_part base s t f m = of_base s t
 of_part _ s t f m = no f
 
-of_rule : (n : Nonterminal) (s : Sort) (t : Token) → fits n ≡ true → knows s t.what ≡ true → SoundRuleBy shaping (rule n s t) (good n)
+pub of_rule : (n : Nonterminal) (s : Sort) (t : Token) → fits n ≡ true → knows s t.what ≡ true → SoundRuleBy shaping (rule n s t) (good n)
 of_rule (part x) s t f m = of_part x s t f m
 of_rule (commas x so_far) s t f m = of_commas x so_far s t f
 of_rule (postfix l d first g alone) s t f m = of_postfix l d first g s t (formed l g alone f) m
@@ -294,7 +294,7 @@ of_rule text_after s t f m = of_text_after s t m
 of_rule unsigned_word s t f m = of_unsigned s t
 of_rule _ s t f m = no f
 
-of_nothing : (n : Nonterminal) → fits n ≡ true → SoundEmpty (empty n) (good n)
+pub of_nothing : (n : Nonterminal) → fits n ≡ true → SoundEmpty (empty n) (good n)
 of_nothing (part x) f = tt
 of_nothing (commas x so_far) f = λ a. (both (fits_part (separated x)) (list_all (good_part (separated x)) so_far) f).1
 of_nothing (postfix l d first g alone) f = λ a. f

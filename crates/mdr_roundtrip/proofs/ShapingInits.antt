@@ -54,7 +54,7 @@ number_of (Sort.Integer S32) x e m = no e
 number_of (Sort.Integer S64) x e m = no e
 number_of _ x e m = no e
 
-told_of : (s s' : Sort) (x : Lexeme) → is s s' ≡ true → knows s' x ≡ true → told s x ≡ true
+pub told_of : (s s' : Sort) (x : Lexeme) → is s s' ≡ true → knows s' x ≡ true → told s x ≡ true
 told_of Sort.Name s' x e m = name_told Sort.Name s' x e m
 told_of Sort.Number s' x e m = number_of s' x e m
 told_of _ s' x e m = refl
@@ -153,7 +153,7 @@ of_element : (n : ℕ) (s : Sort) (t : Token) → knows s t.what ≡ true → So
 of_element n Sort.Dot t m = λ a. λ x hx. λ e q. (refl, λ i hi. elem_made (Some (record { place = x.place; name = text_of x.what })) i n hx hi)
 of_element n s t m = of_bare n s t m
 
-of_part : (x : Part) (s : Sort) (t : Token) → fits_part x ≡ true → knows s t.what ≡ true → SoundRuleBy initialising (part_rule x s t) (good_part x)
+pub of_part : (x : Part) (s : Sort) (t : Token) → fits_part x ≡ true → knows s t.what ≡ true → SoundRuleBy initialising (part_rule x s t) (good_part x)
 of_part constant s t f m = of_constant s t m
 of_part (initialiser n) s t f m = of_initialiser n s t m
 of_part (element n) s t f m = of_element n s t m

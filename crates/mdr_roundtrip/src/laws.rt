@@ -69,3 +69,9 @@ pub fn initialisers_are_read_again()
 pub fn printed_trees_are_trees()
     ensures { (halves : Bool) (tree : SourceTree) → is_shaped_tree halves tree ≡ true → Reads halves (all_at (spelled tree)) (unplaced_tree tree) }
 {}
+
+/// The tree of the lexer's tokens is read again, its places set to one, from the tokens that it is printed by.
+pub fn sources_are_read_again()
+    ensures shaped { (halves : Bool) (tokens : List Token) (tree : SourceTree) → are_lexed tokens ≡ true → Reads halves tokens tree → is_shaped_tree halves tree ≡ true }
+    ensures again { (halves : Bool) (tokens : List Token) (tree : SourceTree) → are_lexed tokens ≡ true → Reads halves tokens tree → Reads halves (all_at (spelled tree)) (unplaced_tree tree) }
+{}
