@@ -3,7 +3,7 @@
 ghost use Rattle.std.specs.Prelude.{◌≡◌, IfOk, pos};
 ghost use Rattle.std.specs.Option.{option_map};
 ghost use Rattle.mdr_faults.specs.Faults.{told};
-ghost use Rattle.mdr_check.specs.Forms.{scalar_of, value_of, expression_of, needed, scalar_at, integer_by, integer_at, at_kind, number, truth};
+ghost use Rattle.mdr_operand.specs.Forms.{scalar_of, value_of, expression_of, needed, scalar_at, integer_by, integer_at, at_kind, number, truth};
 
 use mdr_core::{Boxed, Expr, Items, Kind, Lval, Place, Ty, Value};
 use mdr_faults::{Fault, FaultKind};
@@ -43,6 +43,13 @@ pub enum Operand {
 pub struct Integer {
     pub value: Expr,
     pub kind: Kind,
+}
+
+/// A pointer to an object, and the type of the object.
+#[derive(Drop)]
+pub struct Pointer {
+    pub value: Expr,
+    pub ty: Ty,
 }
 
 /// A value of a type, where it is a scalar.

@@ -8,15 +8,15 @@ use Rattle.mdr_core.specs.declared.types.Ty.{Ty, out-Ty}
 use Rattle.mdr_core.specs.declared.types.Ty.TheOpen.{Ty-F}
 use Rattle.mdr_core.specs.Layout.{chosen}
 use Rattle.mdr_syntax.specs.declared.tree.Base.{Base}
-use Rattle.mdr_check.specs.declared.operand.Operand.{Operand}
-use Rattle.mdr_check.specs.declared.operand.Operand.TheVariants as operand
-use Rattle.mdr_check.specs.declared.operand.Scalar.{Scalar}
-use Rattle.mdr_check.specs.declared.operand.Scalar.TheVariants as scalar
+use Rattle.mdr_operand.specs.declared.operand.Operand.{Operand}
+use Rattle.mdr_operand.specs.declared.operand.Operand.TheVariants as operand
+use Rattle.mdr_operand.specs.declared.operand.Scalar.{Scalar}
+use Rattle.mdr_operand.specs.declared.operand.Scalar.TheVariants as scalar
 use Rattle.mdr_faults.specs.declared.scope.Scope.{Scope}
 use Rattle.mdr_faults.specs.Alike.{is_alike, are_alike}
 use Rattle.mdr_faults.specs.Declarations.{type_named}
 use Rattle.mdr_faults.specs.Faults.{Checked, Right, after, both}
-use Rattle.mdr_check.specs.Forms.{at_kind, needed, null_pointer, scalar_of, value_of}
+use Rattle.mdr_operand.specs.Forms.{at_kind, needed, null_pointer, scalar_of, value_of}
 
 -- ---- values of a type as values of another
 

@@ -5,17 +5,17 @@ use Rattle.mdr_core.specs.declared.kind.Kind.{Kind}
 use Rattle.mdr_core.specs.declared.value.Value.TheVariants as value
 use Rattle.mdr_core.specs.Layout.{chosen}
 use Rattle.mdr_faults.specs.declared.fault.FaultKind.TheVariants.{Mismatch}
-use Rattle.mdr_check.specs.declared.operand.Operand.{Operand}
-use Rattle.mdr_check.specs.declared.operand.Operand.TheVariants as operand
-use Rattle.mdr_check.specs.declared.room.LocalName.{LocalName}
+use Rattle.mdr_operand.specs.declared.operand.Operand.{Operand}
+use Rattle.mdr_operand.specs.declared.operand.Operand.TheVariants as operand
+use Rattle.mdr_operand.specs.declared.room.LocalName.{LocalName}
 use Rattle.mdr_faults.specs.declared.scope.Scope.{Scope}
-use Rattle.mdr_check.specs.Binaries.{binary_rule}
-use Rattle.mdr_check.specs.Converting.{cast_rule}
+use Rattle.mdr_binary.specs.Binaries.{binary_rule}
+use Rattle.mdr_operand.specs.Converting.{cast_rule}
 use Rattle.mdr_faults.specs.Faults.{Checked, Right, refuse}
-use Rattle.mdr_check.specs.Forms.{number, prefix_rule}
-use Rattle.mdr_check.specs.Postfix.{member_rule, name_rule, subscript_rule}
-use Rattle.mdr_check.specs.Signs.{binary_operator, prefix_operator}
-use Rattle.mdr_check.specs.Written.{Written}
+use Rattle.mdr_operand.specs.Forms.{number, prefix_rule}
+use Rattle.mdr_postfix.specs.Postfix.{member_rule, name_rule, subscript_rule}
+use Rattle.mdr_operand.specs.Signs.{binary_operator, prefix_operator}
+use Rattle.mdr_operand.specs.Written.{Written}
 
 -- a literal of value 0 may be a null pointer (6.4.4, 6.3.2.3)
 unfoldable pub literal : ℕ → Kind → Operand

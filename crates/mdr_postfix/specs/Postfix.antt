@@ -10,12 +10,12 @@ use Rattle.mdr_core.specs.declared.types.Ty.TheOpen.{Ty-F}
 use Rattle.mdr_core.specs.declared.value.Value.TheVariants as value
 use Rattle.mdr_core.specs.Layout.{chosen}
 use Rattle.mdr_faults.specs.declared.fault.FaultKind.TheVariants.{UnknownName, Mismatch, Incomplete}
-use Rattle.mdr_check.specs.declared.operand.Integer.{Integer}
-use Rattle.mdr_check.specs.declared.operand.Operand.{Operand}
-use Rattle.mdr_check.specs.declared.operand.Operand.TheVariants as operand
-use Rattle.mdr_check.specs.declared.operand.Scalar.{Scalar}
-use Rattle.mdr_check.specs.declared.operand.Scalar.TheVariants as scalar
-use Rattle.mdr_check.specs.declared.room.LocalName.{LocalName}
+use Rattle.mdr_operand.specs.declared.operand.Integer.{Integer}
+use Rattle.mdr_operand.specs.declared.operand.Operand.{Operand}
+use Rattle.mdr_operand.specs.declared.operand.Operand.TheVariants as operand
+use Rattle.mdr_operand.specs.declared.operand.Scalar.{Scalar}
+use Rattle.mdr_operand.specs.declared.operand.Scalar.TheVariants as scalar
+use Rattle.mdr_operand.specs.declared.room.LocalName.{LocalName}
 use Rattle.mdr_faults.specs.declared.scope.Constant.{Constant}
 use Rattle.mdr_faults.specs.declared.scope.Entity.{Entity}
 use Rattle.mdr_faults.specs.declared.scope.Entity.TheVariants as entity
@@ -25,9 +25,9 @@ use Rattle.mdr_faults.specs.declared.scope.Object.{Object}
 use Rattle.mdr_faults.specs.declared.scope.Scope.{Scope}
 use Rattle.mdr_faults.specs.declared.scope.Signature.{Signature}
 use Rattle.mdr_faults.specs.declared.scope.StructEntry.{StructEntry}
-use Rattle.mdr_headings.specs.Annotations.{is_integer}
 use Rattle.mdr_faults.specs.Faults.{Checked, Right, refuse, again, after, both}
-use Rattle.mdr_check.specs.Forms.{integer_at, number, scalar_at}
+use Rattle.mdr_operand.specs.Forms.{integer_at, is_complete, is_number, number, scalar_at}
+use Rattle.mdr_operand.specs.Rooms.{local_named}
 use Rattle.mdr_faults.specs.Scopes.{entity_named}
 
 -- ---- names (6.5.1)
@@ -57,14 +57,6 @@ place_of_local n = chosen n.is_object (lval.Object n.slot) (lval.Slot n.slot)
 
 unfoldable pub local_operand : LocalName → Checked Operand
 local_operand n = after (again n.means) (λ o. Right (object_operand (place_of_local n) o))
-
--- the innermost declaration of a name is the last so far: the names of a block stand behind those of the blocks around it (6.2.1, paragraph 4)
-unfoldable pub local_from : (found : Option LocalName) → List LocalName → List ℕ → Option LocalName
-local_from found [] name = found
-local_from found (n ∷ ns) name = local_from (chosen (bytes_eq n.name name) (Some n) found) ns name
-
-abbrev pub local_named : List LocalName → List ℕ → Option LocalName
-local_named locals name = local_from None locals name
 
 abbrev pub local_or : Option LocalName → Checked Operand → Checked Operand
 local_or None other = other
@@ -130,34 +122,6 @@ unfoldable pub member_rule : Scope → (p at : Place) → (is_arrow : Bool) → 
 member_rule scope p at is_arrow name c = after c (member_by_sign scope p at is_arrow name)
 
 -- ---- subscripts (6.5.2.1)
-
-abbrev pub is_complete_by : Scope → Ty-F Ty → Bool
-is_complete_by scope (Ty-F.Int k) = true
-is_complete_by scope Ty-F.Lock = true
-is_complete_by scope (Ty-F.Struct s) = nat_lt s (length scope.structs)
-is_complete_by scope (Ty-F.Ptr t) = true
-is_complete_by scope Ty-F.VoidPtr = true
-is_complete_by scope (Ty-F.Fun ts) = true
-is_complete_by scope Ty-F.Void = false
-
--- pointers to complete types alone are moved (6.5.6, paragraph 2)
-unfoldable pub is_complete : Scope → Ty → Bool
-is_complete scope t = is_complete_by scope (out-Ty t)
-
-abbrev pub is_number_scalar : Scalar → Bool
-is_number_scalar (scalar.Number e k) = true
-is_number_scalar (scalar.Pointer e t) = false
-is_number_scalar (scalar.Opaque e) = false
-is_number_scalar (scalar.Handle e ts) = false
-
--- the operand has an integer type
-abbrev pub is_number : Operand → Bool
-is_number (operand.Value v) = is_number_scalar v
-is_number (operand.Zero k) = true
-is_number operand.Null = false
-is_number (operand.Object l t) = is_integer t
-is_number (operand.Array l t n) = false
-is_number (operand.Function f ts) = false
 
 -- an element by a pointer: `p[i]` is `*(p + i)` (paragraph 2)
 abbrev pub element_behind : Scope → Place → Integer → Scalar → Checked Operand

@@ -11,19 +11,18 @@ use Rattle.mdr_core.specs.declared.kind.Kind.TheVariants.{S64}
 use Rattle.mdr_core.specs.declared.place.Place.{Place}
 use Rattle.mdr_core.specs.Conversions.{common_kind, promoted}
 use Rattle.mdr_core.specs.Layout.{chosen}
-use Rattle.mdr_check.specs.declared.operand.Integer.{Integer}
-use Rattle.mdr_check.specs.declared.operand.Operand.{Operand}
-use Rattle.mdr_check.specs.declared.operand.Operand.TheVariants as operand
-use Rattle.mdr_check.specs.declared.operand.Scalar.{Scalar}
-use Rattle.mdr_check.specs.declared.operand.Scalar.TheVariants as scalar
-use Rattle.mdr_check.specs.declared.operator.BinaryOperator.{BinaryOperator}
-use Rattle.mdr_check.specs.declared.operator.BinaryOperator.TheVariants as binary
+use Rattle.mdr_operand.specs.declared.operand.Integer.{Integer}
+use Rattle.mdr_operand.specs.declared.operand.Operand.{Operand}
+use Rattle.mdr_operand.specs.declared.operand.Operand.TheVariants as operand
+use Rattle.mdr_operand.specs.declared.operand.Scalar.{Scalar}
+use Rattle.mdr_operand.specs.declared.operand.Scalar.TheVariants as scalar
+use Rattle.mdr_operand.specs.declared.operator.BinaryOperator.{BinaryOperator}
+use Rattle.mdr_operand.specs.declared.operator.BinaryOperator.TheVariants as binary
 use Rattle.mdr_faults.specs.declared.scope.Scope.{Scope}
 use Rattle.mdr_faults.specs.declared.fault.FaultKind.TheVariants.{Mismatch}
 use Rattle.mdr_faults.specs.Alike.{is_alike, are_alike}
 use Rattle.mdr_faults.specs.Faults.{Checked, Right, refuse, after, both}
-use Rattle.mdr_check.specs.Forms.{at_kind, expression_of, integer_at, null_pointer, number, scalar_at, truth}
-use Rattle.mdr_check.specs.Postfix.{is_complete, is_number}
+use Rattle.mdr_operand.specs.Forms.{at_kind, expression_of, integer_at, is_complete, is_number, null_pointer, number, pointer_at, scalar_at, truth}
 
 -- ---- numbers
 

@@ -1,0 +1,2 @@
+//! Expressions (C99 6.5).
+#![tactic(auto)]
