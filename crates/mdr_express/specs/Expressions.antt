@@ -1,9 +1,5 @@
 -- What each expression comes to, in a scope and among the locals so far (C99 6.5).
-use Rattle.std.specs.Prelude.{ℕ, ◌==◌, List, pos}
-use Rattle.mdr_core.specs.declared.code.Expr.TheVariants as expr
-use Rattle.mdr_core.specs.declared.kind.Kind.{Kind}
-use Rattle.mdr_core.specs.declared.value.Value.TheVariants as value
-use Rattle.mdr_core.specs.Layout.{chosen}
+use Rattle.std.specs.Prelude.{List}
 use Rattle.mdr_faults.specs.declared.fault.FaultKind.TheVariants.{Mismatch}
 use Rattle.mdr_operand.specs.declared.operand.Operand.{Operand}
 use Rattle.mdr_operand.specs.declared.operand.Operand.TheVariants as operand
@@ -12,14 +8,10 @@ use Rattle.mdr_faults.specs.declared.scope.Scope.{Scope}
 use Rattle.mdr_binary.specs.Binaries.{binary_rule}
 use Rattle.mdr_operand.specs.Converting.{cast_rule}
 use Rattle.mdr_faults.specs.Faults.{Checked, Right, refuse}
-use Rattle.mdr_operand.specs.Forms.{number, prefix_rule}
+use Rattle.mdr_operand.specs.Forms.{literal, prefix_rule}
 use Rattle.mdr_postfix.specs.Postfix.{member_rule, name_rule, subscript_rule}
 use Rattle.mdr_operand.specs.Signs.{binary_operator, prefix_operator}
 use Rattle.mdr_operand.specs.Written.{Written}
-
--- a literal of value 0 may be a null pointer (6.4.4, 6.3.2.3)
-unfoldable pub literal : ℕ → Kind → Operand
-literal n k = chosen (n == 0) (operand.Zero k) (number (expr.Lit (value.Int k (pos n))) k)
 
 -- texts and types stand as arguments and right sides alone. `++`, `--`, `?:` and calls aren't built as parts of expressions
 abbrev pub typed : Scope → (locals : List LocalName) → Written → Checked Operand
