@@ -2,11 +2,18 @@
 //! and the operators in front of one operand (C99 6.3, 6.5.3, 6.5.4).
 #![tactic(auto)]
 
+mod addresses;
+mod casts;
+mod conversion;
 mod operand;
 mod operator;
+mod prefixes;
 mod room;
 mod sort;
 
+pub use addresses::{address, given_up};
+pub use casts::cast;
+pub use conversion::{cast_as, converted_at, null_as, operand_as, scalar_as};
 pub use operand::{
     Integer, Operand, Pointer, Scalar, at_kind, condition_at, expression_of, integer_at, literal,
     needed, number, pointer_at, scalar_at, scalar_of, truth, value_of,
@@ -15,5 +22,6 @@ pub use operator::{
     AssignmentOperator, BinaryOperator, PrefixOperator, assignment_operator, binary_operator,
     prefix_operator,
 };
+pub use prefixes::prefix;
 pub use room::{LocalName, local_named};
 pub use sort::{is_complete, is_null, is_number};
