@@ -1,33 +1,16 @@
 // Addresses (C99 6.5.3.2).
 
 ghost use Rattle.std.specs.Prelude.{◌≡◌, IfOk, Ok};
-ghost use Rattle.mdr_faults.specs.Faults.{told, refuse};
-ghost use Rattle.mdr_faults.specs.declared.fault.FaultKind.TheVariants.{Mismatch};
+ghost use Rattle.mdr_faults.specs.Faults.{told};
 ghost use Rattle.mdr_core.specs.declared.code.Lval.TheVariants as lval;
 ghost use Rattle.mdr_operand.specs.declared.operand.Operand.TheVariants as operand;
 ghost use Rattle.mdr_operand.specs.Forms.{address_of, object_address, address};
 
 use crate::operand::{Operand, Scalar};
+use crate::release::{both_given_up, given_up};
 use mdr_core::{Boxed, Expr, Items, Lval, Place, Ty, Value};
 use mdr_faults::{Fault, FaultKind};
 use std::alloc::{AllocError, Global};
-
-/// What isn't asked for is let go.
-pub fn given_up<A: Drop, B: Drop>(place: Place, kind: FaultKind, _x: A) -> Result<B, Fault>
-    ensures { result ≡ told (refuse {A = B} place kind) }
-{
-    Err(Fault { place, kind })
-}
-
-/// An array has no address here: there are no pointers to arrays.
-fn array_address<A: Drop, B: Drop, C: Drop>(place: Place, _l: A, _ty: B) -> Result<C, Fault>
-    ensures { result ≡ told (refuse {A = C} place Mismatch) }
-{
-    Err(Fault {
-        place,
-        kind: FaultKind::Mismatch,
-    })
-}
 
 #[tactic(auto, unfolding(crate::specs::Forms::address_of))]
 fn element_address(
@@ -86,7 +69,7 @@ pub fn address(
             kind: FaultKind::NotAnLvalue,
         })),
         Operand::Object(l, ty) => object_address(alloc, l, ty),
-        Operand::Array(l, ty, _) => Ok(array_address(place, l, ty)),
+        Operand::Array(l, ty, _) => Ok(both_given_up(place, FaultKind::Mismatch, l, ty)),
         Operand::Function(f, types) => Ok(function_address(place, f, types)),
     }
 }

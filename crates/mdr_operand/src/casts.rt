@@ -1,6 +1,6 @@
 // Casts (C99 6.5.4).
 
-ghost use Rattle.std.specs.Prelude.{◌≡◌, IfOk, Err};
+ghost use Rattle.std.specs.Prelude.{◌≡◌, IfOk};
 ghost use Rattle.mdr_core.specs.declared.types.Ty.{Ty};
 ghost use Rattle.mdr_faults.specs.Faults.{Checked, told, after, both};
 ghost use Rattle.mdr_operand.specs.declared.operand.Operand.{Operand};
@@ -9,6 +9,7 @@ ghost use Rattle.mdr_operand.specs.Converting.{value_of_type, cast_value, cast_t
 
 use crate::conversion::cast_as;
 use crate::operand::{Operand, Scalar, needed, scalar_of};
+use crate::release::out_of_memory;
 use mdr_core::{Expr, Place, Ty};
 use mdr_faults::{Fault, Scope, both, type_named};
 use mdr_syntax::Base;
@@ -57,13 +58,6 @@ fn cast_by(
         Ok((ty, x)) => cast_to(alloc, place, ty, x),
         Err(fault) => Ok(Err(fault)),
     }
-}
-
-/// What isn't asked for is let go.
-fn out_of_memory<A: Drop, B: Drop>(error: AllocError, _x: A) -> Result<B, AllocError>
-    ensures { result ≡ Err error }
-{
-    Err(error)
 }
 
 /// A cast to a base with so many stars.

@@ -8,10 +8,11 @@ mod conversion;
 mod operand;
 mod operator;
 mod prefixes;
+mod release;
 mod room;
 mod sort;
 
-pub use addresses::{address, given_up};
+pub use addresses::address;
 pub use casts::cast;
 pub use conversion::{cast_as, converted_at, null_as, operand_as, scalar_as};
 pub use operand::{
@@ -23,5 +24,6 @@ pub use operator::{
     prefix_operator,
 };
 pub use prefixes::prefix;
+pub use release::{both_given_up, given_up, out_of_memory};
 pub use room::{LocalName, local_named};
 pub use sort::{is_complete, is_null, is_number};

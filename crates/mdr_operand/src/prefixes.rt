@@ -5,11 +5,12 @@ ghost use Rattle.mdr_faults.specs.Faults.{Checked, told};
 ghost use Rattle.mdr_operand.specs.declared.operand.Operand.{Operand};
 ghost use Rattle.mdr_operand.specs.Forms.{promoted_number, negated_number, flipped_number, promotion_at, negation_at, flip_at, not_at, target_object, target_at, prefix_of, prefix_by, prefix_rule};
 
-use crate::addresses::{address, given_up};
+use crate::addresses::address;
 use crate::operand::{
     Integer, Operand, Pointer, at_kind, condition_at, integer_at, number, pointer_at, truth,
 };
 use crate::operator::PrefixOperator;
+use crate::release::given_up;
 use mdr_arith::promote;
 use mdr_core::{Boxed, Expr, Lval, Place, Ty};
 use mdr_faults::{Fault, FaultKind};
