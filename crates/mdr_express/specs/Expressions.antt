@@ -9,7 +9,9 @@ use Rattle.mdr_binary.specs.Binaries.{binary_rule}
 use Rattle.mdr_operand.specs.Converting.{cast_rule}
 use Rattle.mdr_faults.specs.Faults.{Checked, Right, refuse}
 use Rattle.mdr_operand.specs.Forms.{literal, prefix_rule}
-use Rattle.mdr_postfix.specs.Postfix.{member_rule, name_rule, subscript_rule}
+use Rattle.mdr_postfix.specs.Members.{member_rule}
+use Rattle.mdr_postfix.specs.Names.{name_rule}
+use Rattle.mdr_postfix.specs.Subscripts.{subscript_rule}
 use Rattle.mdr_operand.specs.Signs.{binary_operator, prefix_operator}
 use Rattle.mdr_operand.specs.Written.{Written}
 

@@ -178,8 +178,8 @@ address p (operand.Array l t n) = refuse p Mismatch
 address p (operand.Function f ts) = Right (operand.Value (scalar.Handle (expr.Lit (value.Fn f)) ts))
 
 -- what a pointer names (paragraph 4)
-abbrev pub target_of : Pointer → Checked Operand
-target_of x = Right (operand.Object (lval.Deref x.value) x.ty)
+abbrev pub target_object : Pointer → Operand
+target_object x = operand.Object (lval.Deref x.value) x.ty
 
 -- ---- prefix forms (6.5.3)
 
@@ -193,11 +193,11 @@ unfoldable pub flip_at : Place → Operand → Checked Operand
 flip_at p x = after (integer_at p x) (λ n. Right (flipped_number n))
 
 unfoldable pub not_at : Place → Operand → Checked Operand
-not_at p x = after (scalar_at p x) (λ v. Right (truth (expr.Not (expression_of v))))
+not_at p x = after (condition_at p x) (λ e. Right (truth (expr.Not e)))
 
 -- the operand of `*` is a pointer to an object (6.5.3.2, paragraphs 2 and 4)
 unfoldable pub target_at : Place → Operand → Checked Operand
-target_at p x = after (pointer_at p x) target_of
+target_at p x = after (pointer_at p x) (λ q. Right (target_object q))
 
 unfoldable pub prefix_of : Place → Operand → PrefixOperator → Checked Operand
 prefix_of p x prefix.Promote = promotion_at p x
