@@ -1,6 +1,3 @@
-pub mod Written
-pub mod Signs
-pub mod Forms
 pub mod Initialisers
 pub mod Globals
 pub mod Tables
@@ -8,7 +5,3 @@ pub mod Files
 pub mod Uses
 pub mod Names
 pub mod Whole
-pub mod Converting
-pub mod Postfix
-pub mod Binaries
-pub mod Expressions

@@ -4,9 +4,6 @@
 mod file;
 mod initialiser;
 mod names;
-mod operand;
-mod operator;
-mod room;
 mod table;
 mod uses;
 mod variable;

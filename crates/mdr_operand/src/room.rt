@@ -2,7 +2,7 @@
 
 ghost use Rattle.std.specs.Prelude.{◌≡◌, None};
 ghost use Rattle.std.specs.Option.{option_copied};
-ghost use Rattle.mdr_check.specs.Postfix.{local_from};
+ghost use Rattle.mdr_operand.specs.Rooms.{local_from};
 
 use mdr_core::Name;
 use mdr_faults::{Fault, Object};
@@ -18,7 +18,7 @@ pub struct LocalName {
 }
 
 /// The innermost declaration of a name.
-#[tactic(auto, unfolding(crate::specs::Postfix::local_from))]
+#[tactic(auto, unfolding(crate::specs::Rooms::local_from))]
 pub fn local_named<'a>(locals: &'a [LocalName], name: &[u8]) -> Option<&'a LocalName>
     ensures { option_copied result ≡ local_from None locals.now name.now }
 {

@@ -6,12 +6,12 @@ use Rattle.mdr_core.specs.declared.code.BinOp.TheVariants.{Add, Sub, Mul, Div, R
 use Rattle.mdr_core.specs.declared.code.RelOp.{RelOp}
 use Rattle.mdr_core.specs.declared.code.RelOp.TheVariants.{Eq, Ne, Lt, Le, Gt, Ge}
 use Rattle.mdr_core.specs.Layout.{chosen}
-use Rattle.mdr_check.specs.declared.operator.PrefixOperator.{PrefixOperator}
-use Rattle.mdr_check.specs.declared.operator.PrefixOperator.TheVariants.{Promote, Negate, Flip, Not, Address, Target}
-use Rattle.mdr_check.specs.declared.operator.BinaryOperator.{BinaryOperator}
-use Rattle.mdr_check.specs.declared.operator.BinaryOperator.TheVariants.{Calculate, Compare, And, Or}
-use Rattle.mdr_check.specs.declared.operator.AssignmentOperator.{AssignmentOperator}
-use Rattle.mdr_check.specs.declared.operator.AssignmentOperator.TheVariants.{Plain, Compound}
+use Rattle.mdr_operand.specs.declared.operator.PrefixOperator.{PrefixOperator}
+use Rattle.mdr_operand.specs.declared.operator.PrefixOperator.TheVariants.{Promote, Negate, Flip, Not, Address, Target}
+use Rattle.mdr_operand.specs.declared.operator.BinaryOperator.{BinaryOperator}
+use Rattle.mdr_operand.specs.declared.operator.BinaryOperator.TheVariants.{Calculate, Compare, And, Or}
+use Rattle.mdr_operand.specs.declared.operator.AssignmentOperator.{AssignmentOperator}
+use Rattle.mdr_operand.specs.declared.operator.AssignmentOperator.TheVariants.{Plain, Compound}
 
 abbrev pub calculation : List ℕ → Option BinOp
 calculation sign =

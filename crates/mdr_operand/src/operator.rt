@@ -1,7 +1,7 @@
 // Which operator a punctuation is (C99 6.4.6).
 
 ghost use Rattle.std.specs.Prelude.{◌≡◌};
-ghost use Rattle.mdr_check.specs.Signs.{calculation, comparison, logical, binary_operator, prefix_operator, assignment_operator};
+ghost use Rattle.mdr_operand.specs.Signs.{calculation, comparison, logical, binary_operator, prefix_operator, assignment_operator};
 
 use mdr_core::{BinOp, RelOp};
 
