@@ -1,0 +1,4 @@
+pub mod Parts
+pub mod Occurring
+pub mod Values
+pub mod Programs

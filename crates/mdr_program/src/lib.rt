@@ -1,0 +1,12 @@
+//! The program of a source, or the first fault in it.
+#![tactic(auto)]
+
+mod occurring;
+mod parts;
+mod program;
+mod values;
+mod whole;
+
+pub use parts::{Parts, parts_of};
+pub use program::made;
+pub use whole::check;
