@@ -2,3 +2,4 @@ pub mod Parts
 pub mod Occurring
 pub mod Values
 pub mod Programs
+pub mod Orders
