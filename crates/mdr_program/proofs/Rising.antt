@@ -1,28 +1,25 @@
 -- A type that is put among others in the order of their texts.
-use Rattle.std.proofs.Common.{ℕ, suc, ◌≡◌, ◌+◌, ◌&&◌, refl, Bool, true, false, not, cond, nat_lt, nat_eq, List, [], ◌∷◌, length, insert, Some, None, slice_get, IsTrue, ap, arith, subst}
+use Rattle.std.proofs.Common.{ℕ, suc, ◌≡◌, ◌+◌, ◌&&◌, inl, inr, refl, Bool, true, false, not, cond, nat_lt, nat_eq, List, [], ◌∷◌, length, insert, Some, None, slice_get, IsTrue, ap, arith, subst}
 use Rattle.std.proofs.Math.Path.{sym, ◌∙◌}
 use Rattle.std.specs.List.{prefix_len}
 use Rattle.std.specs.Str.{bytes_eq}
+use Rattle.std.proofs.lemmas.Slice.Eq.{bytes_eq-Decides}
 use Rattle.mdr_core.specs.declared.program.StructDef.{StructDef}
 use Rattle.mdr_core.specs.declared.types.Ty.{Ty}
 use Rattle.mdr_core.specs.Layout.{chosen}
-use Rattle.mdr_core.specs.TypeText.{is_before}
+use Rattle.mdr_core.specs.TypeText.{text_of, is_before}
 use Rattle.mdr_core.specs.Types.{is_pointer}
 use Rattle.mdr_check.specs.declared.table.TextedType.{TextedType}
 use Rattle.mdr_check.specs.Tables.{texted, is_same_at, put_at, with_type, with_pointer, with_pointers, type_table}
-use Rattle.mdr_program.specs.Orders.{StandsAbove, Rise, IsTexted, AreTexted, TablesAreInOrder}
+use Rattle.mdr_program.specs.Orders.{StandsAbove, Rise, IsAmong, HasText, IsTexted, AreTexted, TablesAreInOrder}
 
 -- ---- texts
 
+false_isnt : false ≡ true → ⊥
+false_isnt e = subst (λ (c : Bool). cond c ⊥ (Unit {0})) e tt
+
 not_both : {b : Bool} {A : Type 0} → b ≡ true → b ≡ false → A
-not_both {b = true} t f = absurd (true≢false' f)
-  where
-    true≢false' : true ≡ false → ⊥
-    true≢false' e = subst (λ (c : Bool). cond c (Unit {0}) ⊥) e tt
-not_both {b = false} t f = absurd (false≢true t)
-  where
-    false≢true : false ≡ true → ⊥
-    false≢true e = subst (λ (c : Bool). cond c ⊥ (Unit {0})) e tt
+not_both t f = absurd (false_isnt (sym f ∙ t))
 
 -- of two texts that differ one stands before the other
 behind_by : (x y : ℕ) (before after same : Bool) (p q w : Bool) → nat_lt x y ≡ p → nat_lt y x ≡ q → nat_eq x y ≡ w
@@ -112,39 +109,88 @@ rise_put : (ts : List TextedType) (t : TextedType) → Rise ts → Rise (put ts 
 rise_put [] t h = (tt, tt)
 rise_put (u ∷ us) t h = rise_by us u t (is_before u.text t.text) (bytes_eq u.text t.text) refl refl h (rise_put us t h.1)
 
-texted_by : (structs : List StructDef) (us : List TextedType) (u t : TextedType) (b s : Bool) → AreTexted structs (u ∷ us) → IsTexted structs t → AreTexted structs (put us t) → AreTexted structs (chosen b (u ∷ put us t) (chosen s (u ∷ us) (t ∷ u ∷ us)))
-texted_by structs us u t true s h e rest = (h.0, rest)
-texted_by structs us u t false true h e rest = h
-texted_by structs us u t false false h e rest = (e, h)
+texted_by : (structs : List StructDef) (os : List Ty) (us : List TextedType) (u t : TextedType) (b s : Bool) → AreTexted structs os (u ∷ us) → IsTexted structs os t → AreTexted structs os (put us t) → AreTexted structs os (chosen b (u ∷ put us t) (chosen s (u ∷ us) (t ∷ u ∷ us)))
+texted_by structs os us u t true s h e rest = (h.0, rest)
+texted_by structs os us u t false true h e rest = h
+texted_by structs os us u t false false h e rest = (e, h)
 
-texted_put : (structs : List StructDef) (ts : List TextedType) (t : TextedType) → AreTexted structs ts → IsTexted structs t → AreTexted structs (put ts t)
-texted_put structs [] t h e = (e, tt)
-texted_put structs (u ∷ us) t h e = texted_by structs us u t (is_before u.text t.text) (bytes_eq u.text t.text) h e (texted_put structs us t h.1 e)
+texted_put : (structs : List StructDef) (os : List Ty) (ts : List TextedType) (t : TextedType) → AreTexted structs os ts → IsTexted structs os t → AreTexted structs os (put ts t)
+texted_put structs os [] t h e = (e, tt)
+texted_put structs os (u ∷ us) t h e = texted_by structs os us u t (is_before u.text t.text) (bytes_eq u.text t.text) h e (texted_put structs os us t h.1 e)
+
+-- ---- no text is lost
+
+kept_by : (bs : List ℕ) (us : List TextedType) (u t : TextedType) (b s : Bool) → HasText bs (u ∷ us) → (HasText bs us → HasText bs (put us t)) → HasText bs (chosen b (u ∷ put us t) (chosen s (u ∷ us) (t ∷ u ∷ us)))
+kept_by bs us u t true s (inl e) rest = inl e
+kept_by bs us u t true s (inr h) rest = inr (rest h)
+kept_by bs us u t false true h rest = h
+kept_by bs us u t false false h rest = inr h
+
+kept_put : (bs : List ℕ) (ts : List TextedType) (t : TextedType) → HasText bs ts → HasText bs (put ts t)
+kept_put bs [] t h = absurd h
+kept_put bs (u ∷ us) t h = kept_by bs us u t (is_before u.text t.text) (bytes_eq u.text t.text) h (kept_put bs us t)
+
+there_by : (us : List TextedType) (u t : TextedType) (b s : Bool) → bytes_eq u.text t.text ≡ s → HasText t.text (put us t) → HasText t.text (chosen b (u ∷ put us t) (chosen s (u ∷ us) (t ∷ u ∷ us)))
+there_by us u t true s e rest = inr rest
+there_by us u t false true e rest = inl ((bytes_eq-Decides u.text t.text).0 e)
+there_by us u t false false e rest = inl refl
+
+there_put : (ts : List TextedType) (t : TextedType) → HasText t.text (put ts t)
+there_put [] t = inl refl
+there_put (u ∷ us) t = there_by us u t (is_before u.text t.text) (bytes_eq u.text t.text) refl (there_put us t)
 
 -- ---- all of a list
 
-is_texted : (structs : List StructDef) (ty : Ty) → IsTrue (is_pointer ty) → IsTexted structs (texted structs ty)
+is_texted : (structs : List StructDef) (os : List Ty) (ty : Ty) → IsTrue (is_pointer ty) → IsAmong ty os → IsTexted structs os (texted structs ty)
 unfolding texted
-is_texted structs ty e = record { text = refl; pointer = e }
+is_texted structs os ty e among = record { text = refl; pointer = e; occurs = among }
 
 rise_pointer : (structs : List StructDef) (ts : List TextedType) (ty : Ty) (p : Bool) → Rise ts → Rise (with_pointer p structs ts ty)
 rise_pointer structs ts ty true h = subst Rise (sym (with_is_put ts (texted structs ty))) (rise_put ts (texted structs ty) h)
 rise_pointer structs ts ty false h = h
 
-texted_pointer : (structs : List StructDef) (ts : List TextedType) (ty : Ty) (p : Bool) → is_pointer ty ≡ p → AreTexted structs ts → AreTexted structs (with_pointer p structs ts ty)
-texted_pointer structs ts ty true e h = subst (AreTexted structs) (sym (with_is_put ts (texted structs ty))) (texted_put structs ts (texted structs ty) h (is_texted structs ty e))
-texted_pointer structs ts ty false e h = h
+texted_pointer : (structs : List StructDef) (os : List Ty) (ts : List TextedType) (ty : Ty) (p : Bool) → is_pointer ty ≡ p → IsAmong ty os → AreTexted structs os ts → AreTexted structs os (with_pointer p structs ts ty)
+texted_pointer structs os ts ty true e among h = subst (AreTexted structs os) (sym (with_is_put ts (texted structs ty))) (texted_put structs os ts (texted structs ty) h (is_texted structs os ty e among))
+texted_pointer structs os ts ty false e among h = h
+
+kept_pointer : (structs : List StructDef) (bs : List ℕ) (ts : List TextedType) (ty : Ty) (p : Bool) → HasText bs ts → HasText bs (with_pointer p structs ts ty)
+kept_pointer structs bs ts ty true h = subst (HasText bs) (sym (with_is_put ts (texted structs ty))) (kept_put bs ts (texted structs ty) h)
+kept_pointer structs bs ts ty false h = h
+
+there_pointer : (structs : List StructDef) (ts : List TextedType) (ty : Ty) (p : Bool) → p ≡ true → HasText (text_of structs ty).bytes (with_pointer p structs ts ty)
+unfolding texted
+there_pointer structs ts ty true e = subst (HasText (text_of structs ty).bytes) (sym (with_is_put ts (texted structs ty))) (there_put ts (texted structs ty))
+there_pointer structs ts ty false e = not_both e refl
 
 rise_all : (structs : List StructDef) (ts : List TextedType) (us : List Ty) → Rise ts → Rise (with_pointers structs ts us)
 unfolding with_pointers
 rise_all structs ts [] h = h
 rise_all structs ts (u ∷ us) h = rise_all structs (with_pointer (is_pointer u) structs ts u) us (rise_pointer structs ts u (is_pointer u) h)
 
-texted_all : (structs : List StructDef) (ts : List TextedType) (us : List Ty) → AreTexted structs ts → AreTexted structs (with_pointers structs ts us)
+texted_all : (structs : List StructDef) (os : List Ty) (ts : List TextedType) (us : List Ty) → ((t : Ty) → IsAmong t us → IsAmong t os) → AreTexted structs os ts → AreTexted structs os (with_pointers structs ts us)
 unfolding with_pointers
-texted_all structs ts [] h = h
-texted_all structs ts (u ∷ us) h = texted_all structs (with_pointer (is_pointer u) structs ts u) us (texted_pointer structs ts u (is_pointer u) refl h)
+texted_all structs os ts [] among h = h
+texted_all structs os ts (u ∷ us) among h = texted_all structs os (with_pointer (is_pointer u) structs ts u) us (λ t m. among t (inr m)) (texted_pointer structs os ts u (is_pointer u) refl (among u (inl refl)) h)
+
+kept_all : (structs : List StructDef) (bs : List ℕ) (ts : List TextedType) (us : List Ty) → HasText bs ts → HasText bs (with_pointers structs ts us)
+unfolding with_pointers
+kept_all structs bs ts [] h = h
+kept_all structs bs ts (u ∷ us) h = kept_all structs bs (with_pointer (is_pointer u) structs ts u) us (kept_pointer structs bs ts u (is_pointer u) h)
+
+there_all : (structs : List StructDef) (ts : List TextedType) (us : List Ty) (t : Ty) → IsAmong t us → IsTrue (is_pointer t) → HasText (text_of structs t).bytes (with_pointers structs ts us)
+unfolding with_pointers
+there_all structs ts [] t among e = absurd among
+there_all structs ts (u ∷ us) t (inl same) e =
+    kept_all structs (text_of structs t).bytes (with_pointer (is_pointer u) structs ts u) us
+    (subst (λ (v : Ty). HasText (text_of structs t).bytes (with_pointer (is_pointer v) structs ts v)) (sym same) (there_pointer structs ts t (is_pointer t) e))
+there_all structs ts (u ∷ us) t (inr among) e = there_all structs (with_pointer (is_pointer u) structs ts u) us t among e
 
 pub tables_are_in_order : TablesAreInOrder
 unfolding type_table
-tables_are_in_order structs occurring = record { pointers = with_pointers structs [] occurring; parts = refl; texted = texted_all structs [] occurring tt; rise = rise_all structs [] occurring tt }
+tables_are_in_order structs occurring = record {
+  pointers = with_pointers structs [] occurring;
+  parts = refl;
+  texted = texted_all structs occurring [] occurring (λ t m. m) tt;
+  all = there_all structs [] occurring;
+  rise = rise_all structs [] occurring tt;
+}
