@@ -1,0 +1,4 @@
+pub mod Numbering
+pub mod Zeroing
+pub mod Allocating
+pub mod Rising

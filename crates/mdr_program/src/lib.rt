@@ -1,0 +1,14 @@
+//! The program of a source, or the first fault in it.
+#![tactic(auto)]
+
+mod laws;
+mod occurring;
+mod parts;
+mod program;
+mod values;
+mod whole;
+
+pub use laws::type_tables_are_in_order;
+pub use parts::{Parts, parts_of};
+pub use program::made;
+pub use whole::check;
