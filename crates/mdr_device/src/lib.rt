@@ -1,0 +1,12 @@
+//! A scripted device: registers, count-downs and an interrupt line, and the rules by which they change.
+#![tactic(auto)]
+
+mod copies;
+mod device;
+mod firing;
+mod rule;
+mod state;
+
+pub use device::Device;
+pub use rule::{Effect, Guard, Rule, Trigger};
+pub use state::State;
