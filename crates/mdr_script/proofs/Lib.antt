@@ -1,0 +1,4 @@
+pub mod Worths
+pub mod Splits
+pub mod Lists
+pub mod Once
