@@ -7,6 +7,7 @@ mod firing;
 mod rule;
 mod state;
 
+pub use copies::copied_rules;
 pub use device::Device;
 pub use rule::{Effect, Guard, Rule, Trigger};
 pub use state::State;

@@ -4,3 +4,4 @@ pub mod Numbers
 pub mod Rules
 pub mod Lines
 pub mod Scripts
+pub mod Binding

@@ -1,7 +1,9 @@
-//! Scripts: how a device begins, its rules, and commands, as they stand in a text.
+//! Scripts: how a device begins, its rules, and commands, as they stand in a text, and for a program.
 #![tactic(auto)]
 
 mod arguments;
+mod binding;
+mod bound;
 mod laws;
 mod line;
 mod lines;
@@ -10,9 +12,13 @@ mod reading;
 mod rules;
 mod script;
 mod script_error;
+mod unbound;
 mod unread;
+mod values;
 mod words;
 
+pub use binding::bind;
+pub use bound::Bound;
 pub use laws::{a_scripts_text_has_no_fault, a_text_is_one_script};
 pub use line::{ArgText, Line, LineWhat, ScriptLine};
 pub use reading::read_script;
