@@ -1,5 +1,5 @@
 -- A device, and what reading, writing and ticks do to it.
-use Rattle.std.specs.Prelude.{ℕ, zero, suc, Bool, false, List, [], ◌∷◌, Option, Some, slice_set}
+use Rattle.std.specs.Prelude.{ℕ, zero, suc, false, List, [], ◌∷◌, Option, Some, slice_set}
 use Rattle.mdr_device.specs.declared.rule.Rule.{Rule}
 use Rattle.mdr_device.specs.declared.rule.Trigger.TheVariants as trigger
 use Rattle.mdr_device.specs.declared.state.State.{State}

@@ -80,6 +80,9 @@ abbrev pub rung : (c : ℕ) → List ℕ → List Rule → State → State
 rung c [] rules s = s
 rung c (n ∷ left) rules s = rung (c + 1) left rules (rung_once c n rules s)
 
+abbrev pub is_zero : ℕ → Bool
+is_zero n = n == 0
+
 -- the count-downs are one lower; then the rules happen of those that became zero by that
 abbrev pub counted : List Rule → State → State
 counted rules s = rung 0 s.counts rules (record s { counts = map (λ n. n - 1) s.counts })

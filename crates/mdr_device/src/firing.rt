@@ -1,7 +1,8 @@
 // Rules that happen.
 
 ghost use Rattle.std.specs.Prelude.{◌≡◌, ◌&&◌, length};
-ghost use Rattle.mdr_device.specs.Rules.{is_for, holds, ruled, fired, next_tick, tick_fired, rung_once, rung, one_tick};
+ghost use Rattle.std.specs.List.{list_all};
+ghost use Rattle.mdr_device.specs.Rules.{is_for, holds, ruled, fired, next_tick, tick_fired, rung_once, rung, is_zero, counted, one_tick};
 
 use crate::rule::{Rule, Trigger};
 use crate::state::{State, holds, lower};
@@ -82,6 +83,32 @@ fn ring_all(rules: &[Rule], left: &[u32], state: &mut State)
     }
 }
 
+/// Whether no count-down goes on.
+fn are_idle(counts: &[u32]) -> bool
+    ensures { result ≡ list_all is_zero counts.now }
+{
+    counts.iter().all(|n| *n == 0)
+}
+
+/// Lets the count-downs go on, and the rules happen of those that become zero.
+fn count_down(rules: &[Rule], state: &mut State)
+    ensures { state.new ≡ counted rules.now state.old }
+{
+    let left = state.counts;
+    lower(&mut state.counts);
+    ring_all(rules, &left, state);
+}
+
+/// The same, where most often no count-down goes on.
+#[tactic(auto, using(crate::proofs::Idle::idle_counted))]
+fn count_down_if_any(rules: &[Rule], state: &mut State)
+    ensures { state.new ≡ counted rules.now state.old }
+{
+    if !are_idle(&state.counts) {
+        count_down(rules, state);
+    }
+}
+
 /// One tick of the device. It gives the tick's number.
 #[tactic(auto, unfolding(crate::specs::Rules::one_tick))]
 pub fn advance(rules: &[Rule], ticks: Option<u64>, state: &mut State) -> Option<u64>
@@ -89,8 +116,6 @@ pub fn advance(rules: &[Rule], ticks: Option<u64>, state: &mut State) -> Option<
 {
     let tick = next_tick(ticks);
     fire_tick(rules, tick, state);
-    let left = state.counts;
-    lower(&mut state.counts);
-    ring_all(rules, &left, state);
+    count_down_if_any(rules, state);
     tick
 }

@@ -4,10 +4,12 @@
 mod copies;
 mod device;
 mod firing;
+mod laws;
 mod rule;
 mod state;
 
 pub use copies::copied_rules;
 pub use device::Device;
+pub use laws::devices_work;
 pub use rule::{Effect, Guard, Rule, Trigger};
 pub use state::State;

@@ -2,3 +2,4 @@ pub mod Worths
 pub mod Splits
 pub mod Lists
 pub mod Once
+pub mod WorkedLaws

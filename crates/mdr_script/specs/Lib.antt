@@ -5,3 +5,4 @@ pub mod Rules
 pub mod Lines
 pub mod Scripts
 pub mod Binding
+pub mod Worked

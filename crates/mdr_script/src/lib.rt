@@ -19,7 +19,7 @@ mod words;
 
 pub use binding::bind;
 pub use bound::Bound;
-pub use laws::{a_scripts_text_has_no_fault, a_text_is_one_script};
+pub use laws::{a_scripts_text_has_no_fault, a_text_is_one_script, lines_are_read};
 pub use line::{ArgText, Line, LineWhat, ScriptLine};
 pub use reading::read_script;
 pub use script::Script;
