@@ -2,7 +2,7 @@
 use Rattle.std.proofs.Common.{ℕ, ◌≡◌, ◌+◌, refl, List, [], ◌∷◌, ◌++◌, Result, Ok, Err, ap, length, arith}
 use Rattle.std.proofs.Math.Path.{sym, ◌∙◌}
 use Rattle.mdr_faults.specs.declared.fault.Fault.{Fault}
-use Rattle.mdr_faults.specs.Faults.{Checked, Right, Wrong, next, told, first, lesser, extended}
+use Rattle.mdr_faults.specs.Faults.{Checked, Right, Wrong, next, told, lesser, extended}
 use Rattle.mdr_faults.proofs.Order.{lesser_assoc}
 
 -- one part in front of others

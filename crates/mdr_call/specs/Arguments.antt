@@ -6,7 +6,7 @@ use Rattle.mdr_core.specs.declared.place.Place.{Place}
 use Rattle.mdr_core.specs.declared.types.Ty.{Ty}
 use Rattle.mdr_core.specs.Layout.{chosen}
 use Rattle.mdr_faults.specs.declared.fault.FaultKind.TheVariants.{Mismatch, BadArity}
-use Rattle.mdr_faults.specs.Faults.{Checked, Right, refuse, next, after}
+use Rattle.mdr_faults.specs.Faults.{Checked, Right, refuse, next}
 use Rattle.mdr_operand.specs.Converting.{converted_at}
 use Rattle.mdr_call.specs.declared.parts.Argument.{Argument}
 use Rattle.mdr_call.specs.declared.parts.Argument.TheVariants as argument

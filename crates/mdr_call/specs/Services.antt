@@ -1,5 +1,5 @@
 -- Calls of the kernel's services: which there are, and what each takes and gives.
-use Rattle.std.specs.Prelude.{ℕ, ◌==◌, ◌&&◌, ◌+◌, Bool, true, false, List, [], ◌∷◌, codes, length, map, pos, Option, Some, None, slice_get}
+use Rattle.std.specs.Prelude.{ℕ, ◌==◌, ◌&&◌, Bool, false, List, [], ◌∷◌, codes, length, map, Option, Some, None, slice_get}
 use Rattle.std.specs.Str.{bytes_eq}
 use Rattle.mdr_core.specs.declared.code.Callee.TheVariants as callee
 use Rattle.mdr_core.specs.declared.code.Expr.{Expr}
