@@ -13,8 +13,10 @@ mod plain;
 mod printing;
 mod service;
 mod star;
+mod written;
 
 pub use call::call_rule;
 pub use parts::{Argument, Callable, Handle, Target, TypedCall};
 pub use service::{PlainService, Service, service_named};
 pub use star::{callee_behind, is_handle};
+pub use written::argument;
