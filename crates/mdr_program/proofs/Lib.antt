@@ -3,3 +3,4 @@ pub mod Zeroing
 pub mod Allocating
 pub mod Rising
 pub mod FirstNumbers
+pub mod Happening

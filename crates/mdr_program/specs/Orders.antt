@@ -5,10 +5,13 @@ use Rattle.mdr_core.specs.declared.program.StructDef.{StructDef}
 use Rattle.mdr_core.specs.declared.types.Ty.{Ty}
 use Rattle.mdr_core.specs.declared.types.Ty.TheVariants as type
 use Rattle.mdr_core.specs.Kinds.{kind_number}
-use Rattle.mdr_core.specs.TypeText.{text_of, is_before}
+use Rattle.mdr_core.specs.TypeText.{text_of, is_before, Occurs}
 use Rattle.mdr_core.specs.Types.{first_types, is_pointer}
 use Rattle.mdr_check.specs.declared.table.TextedType.{TextedType}
 use Rattle.mdr_check.specs.Tables.{struct_types, types_alone, type_table}
+use Rattle.mdr_program.specs.declared.parts.Parts.{Parts}
+use Rattle.mdr_program.specs.Occurring.{occurring}
+use Rattle.mdr_program.specs.Programs.{made}
 
 -- the text stands before the first of others
 abbrev pub StandsAbove : TextedType → List TextedType → Type 0
@@ -59,3 +62,7 @@ pub record HasFirstNumbers (structs : List StructDef) (table : List Ty) : Type 0
 
 abbrev pub TablesHaveFirstNumbers : Type 0
 TablesHaveFirstNumbers = (structs : List StructDef) (occurring : List Ty) → HasFirstNumbers structs (type_table structs occurring)
+
+-- the types that the table is made of occur in the program
+abbrev pub TypesOccur : Type 0
+TypesOccur = (ps : Parts) (t : Ty) → IsAmong t (occurring ps) → Occurs (made ps) t
