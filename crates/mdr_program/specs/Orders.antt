@@ -1,11 +1,17 @@
 -- In which order the type table of a program is.
-use Rattle.std.specs.Prelude.{◌≡◌, ◌⊎◌, ℕ, List, [], ◌∷◌, ◌++◌, length, IsTrue}
+use Rattle.std.specs.Prelude.{◌≡◌, ◌⊎◌, ℕ, ◌+◌, ◌<◌, Some, slice_get, List, [], ◌∷◌, ◌++◌, length, IsTrue}
+use Rattle.mdr_core.specs.declared.kind.Kind.{Kind}
 use Rattle.mdr_core.specs.declared.program.StructDef.{StructDef}
 use Rattle.mdr_core.specs.declared.types.Ty.{Ty}
-use Rattle.mdr_core.specs.TypeText.{text_of, is_before}
+use Rattle.mdr_core.specs.declared.types.Ty.TheVariants as type
+use Rattle.mdr_core.specs.Kinds.{kind_number}
+use Rattle.mdr_core.specs.TypeText.{text_of, is_before, Occurs}
 use Rattle.mdr_core.specs.Types.{first_types, is_pointer}
 use Rattle.mdr_check.specs.declared.table.TextedType.{TextedType}
 use Rattle.mdr_check.specs.Tables.{struct_types, types_alone, type_table}
+use Rattle.mdr_program.specs.declared.parts.Parts.{Parts}
+use Rattle.mdr_program.specs.Occurring.{occurring}
+use Rattle.mdr_program.specs.Programs.{made}
 
 -- the text stands before the first of others
 abbrev pub StandsAbove : TextedType → List TextedType → Type 0
@@ -47,3 +53,16 @@ pub record IsInOrder (structs : List StructDef) (occurring table : List Ty) : Ty
 
 abbrev pub TablesAreInOrder : Type 0
 TablesAreInOrder = (structs : List StructDef) (occurring : List Ty) → IsInOrder structs occurring (type_table structs occurring)
+
+-- integer kinds, the lock and structs have the same numbers in each table
+pub record HasFirstNumbers (structs : List StructDef) (table : List Ty) : Type 0 where
+  pub kinds : (k : Kind) → slice_get table (kind_number k) ≡ Some (type.Int k)
+  pub lock : slice_get table 8 ≡ Some type.Lock
+  pub numbers : (s : ℕ) → s < length structs → slice_get table (9 + s) ≡ Some (type.Struct s)
+
+abbrev pub TablesHaveFirstNumbers : Type 0
+TablesHaveFirstNumbers = (structs : List StructDef) (occurring : List Ty) → HasFirstNumbers structs (type_table structs occurring)
+
+-- the types that the table is made of occur in the program
+abbrev pub TypesOccur : Type 0
+TypesOccur = (ps : Parts) (t : Ty) → IsAmong t (occurring ps) → Occurs (made ps) t

@@ -8,7 +8,7 @@ mod program;
 mod values;
 mod whole;
 
-pub use laws::type_tables_are_in_order;
+pub use laws::{type_tables_are_in_order, type_tables_have_first_numbers, types_of_tables_occur};
 pub use parts::{Parts, parts_of};
 pub use program::made;
 pub use whole::check;
