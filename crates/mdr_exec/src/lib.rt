@@ -10,16 +10,26 @@
 //! holds, the search for the code at a place, and the way into a list of a statement. Not there yet: `go`, which runs it.
 #![tactic(auto)]
 
+mod close;
+mod evaluate;
 mod frame;
+mod halt;
 mod laws;
+mod leave;
+mod memory;
+mod operators;
 mod places;
+mod pointers;
 mod run;
 mod start;
 mod step;
+mod values;
 
 pub use frame::{Flow, Frame, Front, Machine, Side, Suspended, Until};
+pub use halt::Halt;
 pub use laws::{
     each_run_is_made, each_statement_steps, evaluation_is_walked, functions_are_started,
     held_work_goes_on, questions_are_answered, statements_want_ticks,
 };
+pub use memory::Memory;
 pub use places::{Part, Position};
