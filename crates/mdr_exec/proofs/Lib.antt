@@ -15,3 +15,4 @@ pub mod PointerLaws
 pub mod LeavingLaws
 pub mod ClosingLaws
 pub mod OperandLaws
+pub mod BeginningLaws

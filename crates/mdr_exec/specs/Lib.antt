@@ -13,3 +13,4 @@ pub mod Starting
 pub mod Outcomes
 pub mod Leaving
 pub mod Closing
+pub mod Beginning

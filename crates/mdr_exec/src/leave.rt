@@ -148,7 +148,7 @@ fn go_behind(machine: &mut Machine, flow: Flow, next: usize, born: Items<Value>)
 }
 
 /// Goes on behind a position of the block around in the objects that are there.
-fn go_past(machine: &mut Machine, flow: Flow, next: usize)
+pub(crate) fn go_past(machine: &mut Machine, flow: Flow, next: usize)
     ensures { (program : AnyProgram) → held_of program machine.new ≡ goes_behind program machine.old (flow_as flow) next (wires_of machine.old.top.born) }
 {
     machine.top.next = next;
