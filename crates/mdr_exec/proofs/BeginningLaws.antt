@@ -49,12 +49,12 @@ module _ (program : Program) (m : Machine) where
   Stands code = code_at (block_of program m.top) m.top.next ≡ Some code
 
   -- the statement that comes next is the first of those that follow
-  stands : (code : Code) → is_running m.front ≡ true → Stands code → held_of program m ≡ holds Runs here locals (Codes.Then code more) items
+  pub stands : (code : Code) → is_running m.front ≡ true → Stands code → held_of program m ≡ holds Runs here locals (Codes.Then code more) items
   unfolding held_of
   stands code runs is = rw (running_is m.front runs, next_stands (block_of program m.top) m.top.next code is) refl
 
   -- it ends so
-  goes_past : (flow : Flow) (next : ℕ) → next ≡ m.top.next + 1 → goes_behind program m flow next (wires_of m.top.born) ≡ held_after (Ok (record { flow = flow; locals = locals })) here more items
+  pub goes_past : (flow : Flow) (next : ℕ) → next ≡ m.top.next + 1 → goes_behind program m flow next (wires_of m.top.born) ≡ held_after (Ok (record { flow = flow; locals = locals })) here more items
   goes_past flow next is = let one : next ≡ suc m.top.next = omega (arith, is) in rw one refl
 
   branch_entered : (n : ℕ) (e : Term) (one other : Codes) → Stands (Code.If n e one other) → (b : Bool) → list_entered program m (branch b) ≡ holds_block here locals more items (chosen b one other)

@@ -16,3 +16,4 @@ pub mod LeavingLaws
 pub mod ClosingLaws
 pub mod OperandLaws
 pub mod BeginningLaws
+pub mod StoringLaws

@@ -14,3 +14,4 @@ pub mod Outcomes
 pub mod Leaving
 pub mod Closing
 pub mod Beginning
+pub mod Storing

@@ -9,10 +9,11 @@
 //! Of the `Machine` there are `new`, `start`, `resume` and `active`, with contracts about the tree of the work that it
 //! holds, the search for the code at a place, and the way into a list of a statement. Its steps are functions with
 //! contracts by those laws, over any `Memory`: expressions and lvalues are evaluated (members of structs are not), `if`,
-//! loops, `return`, jumps and blocks begin, lists of statements and functions are left, and objects die. Not there yet:
+//! loops, assignments, `return`, jumps and blocks begin, lists of statements and functions are left, and objects die. Not there yet:
 //! declarations, texts, calls, and `go`, which runs the machine.
 #![tactic(auto)]
 
+mod assign;
 mod begin;
 mod close;
 mod evaluate;
