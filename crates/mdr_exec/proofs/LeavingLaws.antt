@@ -28,10 +28,10 @@ use Rattle.mdr_exec.proofs.PathLaws.{next_stands, path_into, around_into}
 
 -- ---- which code
 
-data Looped : Option Code → Type 0 where
+pub data Looped : Option Code → Type 0 where
   The : (n : ℕ) (e : Term) (step body : Codes) → Looped (Some (Code.Loop n e step body))
 
-looped : (code : Option Code) → is_loop code ≡ true → Looped code
+pub looped : (code : Option Code) → is_loop code ≡ true → Looped code
 looped (Some (Code.Loop n e step body)) h = The n e step body
 looped None h = absurd (cc h)
 looped (Some (Code.Declare n i)) h = absurd (cc h)
@@ -43,7 +43,7 @@ looped (Some (Code.Block body)) h = absurd (cc h)
 looped (Some (Code.Return n e)) h = absurd (cc h)
 looped (Some (Code.Jump n way)) h = absurd (cc h)
 
-plainly : (p : Part) (code : Option Code) → ending_by p (is_loop code) ≡ ending.Plain → (outer : List Wire) → ends_with p outer code ≡ Scope outer ∷ []
+pub plainly : (p : Part) (code : Option Code) → ending_by p (is_loop code) ≡ ending.Plain → (outer : List Wire) → ends_with p outer code ≡ Scope outer ∷ []
 plainly part.One code h outer = refl
 plainly part.Other code h outer = refl
 plainly part.Inner code h outer = refl
@@ -68,11 +68,11 @@ plainly part.Step (Some (Code.Block body)) h outer = refl
 plainly part.Step (Some (Code.Return n e)) h outer = refl
 plainly part.Step (Some (Code.Jump n way)) h outer = refl
 
-record Loops (p q : Part) (b : Bool) : Type 0 where
-  is : p ≡ q
-  loops : b ≡ true
+pub record Loops (p q : Part) (b : Bool) : Type 0 where
+  pub is : p ≡ q
+  pub loops : b ≡ true
 
-turning : (p : Part) (b : Bool) → ending_by p b ≡ ending.Turn → Loops p part.Body b
+pub turning : (p : Part) (b : Bool) → ending_by p b ≡ ending.Turn → Loops p part.Body b
 turning part.Body true h = record { is = refl; loops = refl }
 turning part.Body false h = absurd (cc h)
 turning part.Step true h = absurd (cc h)
@@ -250,7 +250,7 @@ ahead_forgotten side flow here l ahead items = record { by = λ f r. refl }
 
 module _ (program : Program) (m : Machine) (path : List Position) where
   -- the machine at another place
-  abbrev placed : Machine
+  abbrev pub placed : Machine
   placed = record {
     side = m.side;
     front = m.front;

@@ -17,3 +17,5 @@ pub mod ClosingLaws
 pub mod OperandLaws
 pub mod BeginningLaws
 pub mod StoringLaws
+pub mod NextLaws
+pub mod WentLaws

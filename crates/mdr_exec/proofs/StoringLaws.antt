@@ -28,7 +28,7 @@ pub stored_so : {A M : Type 0} (r : Result (Unit {0}) StopKind) (x : Result M St
 stored_so (Ok done) x old new l is kept = ap (λ y. after_result y old (λ m o. did (Ok l) m)) is
 stored_so (Err kind) x old new l is kept = ap (λ y. after_result y old (λ m o. did (Ok l) m)) is ∙ ap (did (Err kind)) (sym kept)
 
-wires_set : (slots : List Value) (i : ℕ) (v : Value) → wires_of (slice_set slots i v) ≡ slice_set (wires_of slots) i (wire_of v)
+pub wires_set : (slots : List Value) (i : ℕ) (v : Value) → wires_of (slice_set slots i v) ≡ slice_set (wires_of slots) i (wire_of v)
 wires_set [] zero v = refl
 wires_set [] (suc i) v = refl
 wires_set (x ∷ slots) zero v = refl

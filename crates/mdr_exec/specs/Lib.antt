@@ -15,3 +15,4 @@ pub mod Leaving
 pub mod Closing
 pub mod Beginning
 pub mod Storing
+pub mod Went

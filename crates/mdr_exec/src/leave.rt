@@ -30,7 +30,7 @@ pub enum Ending {
     Plain,
 }
 
-fn what_ends(part: Part, loops: bool) -> Ending
+pub(crate) fn what_ends(part: Part, loops: bool) -> Ending
     ensures { result ≡ ending_by part loops }
 {
     match part {
@@ -83,7 +83,7 @@ fn is_behind_loop<'a>(found: Found<'a>, next: usize) -> bool
 }
 
 /// Whether a loop stands in front of a place in the block of the machine's place.
-fn goes_round(machine: &Machine, program: &Program, next: usize) -> bool
+pub(crate) fn goes_round(machine: &Machine, program: &Program, next: usize) -> bool
     ensures { result ≡ is_loop (code_before (block_of program.now machine.now.top) next) }
 {
     let block = block_at(
@@ -238,7 +238,7 @@ fn leave_step(machine: &mut Machine, flow: Flow, next: usize)
 
 /// Leaves a list of the statement at a position, of which the machine's place is the block around. No object is left in
 /// it that would die.
-fn leave_list(
+pub(crate) fn leave_list(
     machine: &mut Machine,
     alloc: Global,
     program: &Program,

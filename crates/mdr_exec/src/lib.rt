@@ -9,7 +9,7 @@
 //! Of the `Machine` there are `new`, `start`, `resume` and `active`, with contracts about the tree of the work that it
 //! holds, the search for the code at a place, and the way into a list of a statement. Its steps are functions with
 //! contracts by those laws, over any `Memory`: expressions and lvalues are evaluated (members of structs are not), `if`,
-//! loops, assignments, `return`, jumps and blocks begin, lists of statements and functions are left, and objects die. Not there yet:
+//! loops, assignments, `return`, jumps and blocks begin, lists of statements and functions are left, and objects are born and die. Not there yet:
 //! declarations, texts, calls, and `go`, which runs the machine.
 #![tactic(auto)]
 
@@ -22,12 +22,14 @@ mod halt;
 mod laws;
 mod leave;
 mod memory;
+mod next;
 mod operators;
 mod places;
 mod pointers;
 mod run;
 mod start;
 mod step;
+mod unwind;
 mod values;
 
 pub use frame::{Flow, Frame, Front, Machine, Side, Suspended, Until};
