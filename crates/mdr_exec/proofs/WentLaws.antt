@@ -1,5 +1,5 @@
 -- Objects die first, or a list of statements is left.
-use Rattle.std.proofs.Common.{◌≡◌, Bool, true, false, List, [], ◌∷◌, ◌++◌, Option, Some, None, option_map, refl, ap, sym, ◌∙◌, subst}
+use Rattle.std.proofs.Common.{reverse, ◌≡◌, Bool, true, false, List, [], ◌∷◌, ◌++◌, Option, Some, None, option_map, refl, ap, sym, ◌∙◌, subst}
 use Rattle.mdr_core.specs.declared.program.Program.{Program}
 use Rattle.mdr_core.specs.declared.place.At.{At}
 use Rattle.mdr_core.specs.declared.value.Value.{Value}
@@ -11,20 +11,24 @@ use Rattle.mdr_meaning.specs.Walk.{Accesses, walk}
 use Rattle.mdr_exec.specs.declared.frame.Flow.{Flow as Leaving}
 use Rattle.mdr_exec.specs.declared.frame.Front.TheVariants as front
 use Rattle.mdr_exec.specs.declared.frame.Machine.{Machine}
+use Rattle.std.proofs.lemmas.List.{reverse-append}
+use Rattle.mdr_exec.specs.declared.frame.Suspended.{Suspended}
+use Rattle.mdr_exec.specs.declared.frame.Until.{Until}
+use Rattle.mdr_exec.specs.declared.frame.Until.TheVariants as until
 use Rattle.mdr_exec.specs.declared.leave.Ending.{Ending}
 use Rattle.mdr_exec.specs.declared.leave.Ending.TheVariants as ending
 use Rattle.mdr_exec.specs.declared.places.Part.{Part}
 use Rattle.mdr_exec.specs.declared.places.Part.TheVariants as part
 use Rattle.mdr_exec.specs.declared.places.Position.{Position}
 use Rattle.mdr_exec.specs.declared.unwind.Left.{Left}
-use Rattle.mdr_exec.specs.Closing.{DiesAt, AtBlock, asked_to_die, asks_on}
+use Rattle.mdr_exec.specs.Closing.{DiesAt, AtBlock, AtEnd, Finishes, asked_to_die, asks_on}
 use Rattle.mdr_exec.specs.Found.{body_codes}
 use Rattle.mdr_exec.specs.Held.{Item, Held}
-use Rattle.mdr_exec.specs.Holding.{block_of, ends_with, flow_as, held_of, wires_of}
+use Rattle.mdr_exec.specs.Holding.{around, below_of, block_of, ends_with, flow_as, held_of, waits_by, wires_of}
 use Rattle.mdr_exec.specs.Leaving.{ending_by, here_in, is_loop, leaves_list}
 use Rattle.mdr_exec.specs.Places.{code_before}
-use Rattle.mdr_exec.specs.Steps.{Goes, Asks, IsSame, Steps}
-use Rattle.mdr_exec.specs.Unwinding.{dying_came, is_return}
+use Rattle.mdr_exec.specs.Steps.{Ended, Goes, Asks, IsSame, Steps}
+use Rattle.mdr_exec.specs.Unwinding.{IsEnd, dying_came, is_return}
 use Rattle.mdr_exec.specs.Went.{dies_in, inside, left_came, left_of}
 use Rattle.mdr_exec.proofs.LeavingLaws.{Looped, The, looped, plainly, turning, placed, block_left}
 use Rattle.mdr_exec.proofs.PathLaws.{around_into}
@@ -99,3 +103,43 @@ let_die_inside a program m flow p path memory memory' r held b is named holds st
     let step' = subst (λ (xs : List Position). (program : Program) (side : Side) → DiesAt (flow_as flow) (held_of program (placed program m xs)).items → side.asks ≡ asks_on m.side
     → Steps a side (held_of program (placed program m xs)) memory (left_came r (in_here (here_in program m) 0)) (held program) memory') is step in
     step' program side (dies_inside program m (flow_as flow) p (sym named ∙ holds)) same
+
+-- ---- the end of a function, and any step
+
+ends_so : (program : Program) (s : Suspended) → IsEnd (waits_by program s.frame s.until)
+ends_so program s = by_until s.until where
+  by_until : (u : Until) → IsEnd (waits_by program s.frame u)
+  by_until until.Call = tt
+  by_until (until.Started b) = tt
+
+no_last : (xs : List Suspended) (s : Suspended) → xs ++ s ∷ [] ≡ [] → ⊥
+no_last [] s h = cc h
+no_last (x ∷ xs) s h = cc h
+
+none_below : (below : List Suspended) → reverse below ≡ [] → below ≡ []
+none_below [] h = refl
+none_below (s ∷ below) h = absurd (no_last (reverse below) s (sym (reverse-append (s ∷ []) below) ∙ h))
+
+end_dies : (program : Program) (flow : Flow) (below xs : List Suspended) → (below ≡ [] → ⊥) → reverse below ≡ xs → DiesAt flow (below_of program xs)
+unfolding below_of
+end_dies program flow below [] started is = absurd (started (none_below below is))
+end_dies program flow below (s ∷ xs) started is = AtEnd flow (waits_by program s.frame s.until) _ (ends_so program s)
+
+pub function_dies_at : (m : Machine) (flow : Flow) → m.top.path ≡ [] → (m.below ≡ [] → ⊥) → (program : Program) → DiesAt flow (held_of program m).items
+unfolding held_of around
+function_dies_at m flow outside started program = rw outside (end_dies program flow m.below (reverse m.below) started refl)
+
+pub finish_steps : {M : Type 0} (a : Accesses M) (memory : M) (side : Side) (h h' : Held) (v : Wire) → Finishes side h v h' → Steps a side h memory (Ended v) h' memory
+unfolding walk
+finish_steps a memory side h h' v s = record { by = λ f n r fewer. ap (λ t. walk a n t memory) (s.by f r) }
+
+module _ {M : Type 0} (a : Accesses M) (program : Program) (m : Machine) (path : List Position) (memory memory' : M) (r : Left) (held : Held) where
+  pub put_back : (p : Position) → m.top.path ≡ path ++ p ∷ []
+      → ((side : Side) → side.asks ≡ asks_on m.side → Steps a side (held_of program (inside (placed program m path) p)) memory (left_came r (in_here (here_in program m) 0)) held memory')
+      → (side : Side) → side.asks ≡ asks_on m.side → Steps a side (held_of program m) memory (left_came r (in_here (here_in program m) 0)) held memory'
+  put_back p e step side same = subst (λ (xs : List Position). Steps a side (held_of program (placed program m xs)) memory (left_came r (in_here (here_in program m) 0)) held memory') (sym e) (step side same)
+
+  pub put_outside : m.top.path ≡ [] → path ≡ []
+      → ((side : Side) → side.asks ≡ asks_on m.side → Steps a side (held_of program (placed program m path)) memory (left_came r (in_here (here_in program m) 0)) held memory')
+      → (side : Side) → side.asks ≡ asks_on m.side → Steps a side (held_of program m) memory (left_came r (in_here (here_in program m) 0)) held memory'
+  put_outside e e' step side same = subst (λ (xs : List Position). Steps a side (held_of program (placed program m xs)) memory (left_came r (in_here (here_in program m) 0)) held memory') (e' ∙ sym e) (step side same)

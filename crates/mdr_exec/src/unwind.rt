@@ -1,6 +1,6 @@
 // Blocks, loops and functions are left, a step at a time.
 
-ghost use Rattle.std.specs.Prelude.{◌≡◌, ◌&&◌, IfOk, not};
+ghost use Rattle.std.specs.Prelude.{◌≡◌, ◌&&◌, [], IfOk, not};
 ghost use Rattle.mdr_core.specs.declared.program.Program.{Program as AnyProgram};
 ghost use Rattle.mdr_meaning.specs.Sides.{Side as AnySide, in_here};
 ghost use Rattle.mdr_exec.specs.declared.frame.Front.TheVariants as front;
@@ -12,9 +12,9 @@ ghost use Rattle.mdr_exec.specs.Steps.{Steps};
 ghost use Rattle.mdr_exec.specs.Unwinding.{is_return};
 ghost use Rattle.mdr_exec.specs.Went.{dies_in, inside, left_came};
 
-use crate::close::die;
+use crate::close::{die, end_function};
 use crate::frame::{Flow, Machine};
-use crate::leave::{Ending, goes_round, leave_list, what_ends};
+use crate::leave::{Ending, goes_round, last_off, leave_list, what_ends};
 use crate::memory::Memory;
 use crate::places::{Part, Position};
 use mdr_core::{Items, Program, Value};
@@ -96,5 +96,43 @@ fn leave_or_die<C: Memory>(
     } else {
         leave_list(machine, alloc, program, flow, p)?;
         Ok(Left::Goes)
+    }
+}
+
+/// The end of a function: its objects die, or it is left.
+fn end_or_die<C: Memory>(machine: &mut Machine, alloc: Global, memory: &mut C, flow: Flow) -> Left
+    requires unwinds { machine.old.front ≡ front.Unwinds flow }
+    requires outside { machine.old.top.path ≡ [] }
+    requires started { machine.old.below ≡ [] → ⊥ }
+    ensures { (program : AnyProgram) (side : AnySide) → side.asks ≡ asks_on machine.old.side → Steps C.accesses side (held_of program machine.old) memory.old (left_came result (in_here (here_in program machine.old) 0)) (held_of program machine.new) memory.new }
+{
+    if machine.top.born.is_empty() {
+        match end_function(machine, alloc, flow) {
+            Some(value) => Left::Ended(value),
+            None => Left::Goes,
+        }
+    } else {
+        let_die(machine, alloc, memory, flow)
+    }
+}
+
+/// A step that leaves a block, a loop or a function, or lets the objects of one die.
+pub(crate) fn unwind<C: Memory>(
+    machine: &mut Machine,
+    alloc: Global,
+    program: &Program,
+    memory: &mut C,
+    flow: Flow,
+) -> Result<Left, AllocError>
+    requires unwinds { machine.old.front ≡ front.Unwinds flow }
+    requires started { machine.old.below ≡ [] → ⊥ }
+    ensures { IfOk result (λ r. (side : AnySide) → side.asks ≡ asks_on machine.old.side → Steps C.accesses side (held_of program.now machine.old) memory.old (left_came r (in_here (here_in program.now machine.old) 0)) (held_of program.now machine.new) memory.new) }
+{
+    match last_off(alloc, &mut machine.top.path) {
+        Some(p) => {
+            let left = leave_or_die(machine, alloc, program, memory, flow, p)?;
+            Ok(left)
+        }
+        None => Ok(end_or_die(machine, alloc, memory, flow)),
     }
 }
