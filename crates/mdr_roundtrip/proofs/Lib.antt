@@ -40,3 +40,5 @@ pub mod ShapedNodes
 pub mod ShapingStatements
 pub mod ShapingItems
 pub mod ShapingSources
+pub mod Erased
+pub mod Placeless

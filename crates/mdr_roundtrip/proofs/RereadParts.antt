@@ -157,17 +157,26 @@ no_star_there halves named d k b None None None rest h p e = absurd (false≢tru
 no_star_there halves named d k b name None (Some us) rest h p e = absurd p
 no_star_there halves named d k b name (Some ds) None rest h p e = absurd p
 no_star_there halves true d k b (Some name) None None rest h p e = record {
-  first = at (Word name); more = tokens_of rest; begins = _; are = refl;
+  first = at (Word name);
+  more = tokens_of rest;
+  begins = _;
+  are = refl;
   begun = ap (λ s. parameter_declarator_rule true d (nowhere_based b) k s (at (Word name))) (name_sort halves name h);
   follows = done;
 }
 no_star_there halves false d k b (Some name) None None rest h p e = record {
-  first = at (Word name); more = tokens_of rest; begins = _; are = refl;
+  first = at (Word name);
+  more = tokens_of rest;
+  begins = _;
+  are = refl;
   begun = ap (λ s. parameter_declarator_rule false d (nowhere_based b) k s (at (Word name))) (name_sort halves name h);
   follows = done;
 }
 no_star_there halves named d k b None (Some ds) (Some us) rest h p e = record {
-  first = at (Punct (codes "(")); more = _; begins = _; are = refl;
+  first = at (Punct (codes "("));
+  more = _;
+  begins = _;
+  are = refl;
   begun = allowed (ap (λ s. parameter_declarator_rule named d (nowhere_based b) k s (at (Punct (codes "(")))) (open_sort halves)) p.0;
   follows =
       word {s = Sort.Star} (ap (λ s. is Sort.Star s) (star_sort halves))
@@ -175,7 +184,10 @@ no_star_there halves named d k b None (Some ds) (Some us) rest h p e = record {
       (closes halves (opens halves (parts (p.1 (Is (Punct (codes ")")) ∷ rest)) (closes halves done)))));
 }
 no_star_there halves named d k b (Some name) (Some ds) (Some us) rest h p e = record {
-  first = at (Punct (codes "(")); more = _; begins = _; are = refl;
+  first = at (Punct (codes "("));
+  more = _;
+  begins = _;
+  are = refl;
   begun = allowed (ap (λ s. parameter_declarator_rule named d (nowhere_based b) k s (at (Punct (codes "(")))) (open_sort halves)) p.0;
   follows =
       word {s = Sort.Star} (ap (λ s. is Sort.Star s) (star_sort halves))
@@ -206,7 +218,10 @@ pub parameter_declarator_there : (halves named : Bool) (d n : ℕ) (b : Base) (n
     → There halves (parameter_declarator named d (nowhere_based b) 0) (tokens_of (printed_stars n (core (sized_name name None) fun rest))) (tokens_of rest) (bare (nowhere_based b) n name None us)
 parameter_declarator_there halves named d zero b name fun us rest low h p e = no_star_there halves named d 0 b name fun us rest h p e
 parameter_declarator_there halves named d (suc n) b name fun us rest low h p e = record {
-  first = at (Punct (codes "*")); more = _; begins = _; are = refl;
+  first = at (Punct (codes "*"));
+  more = _;
+  begins = _;
+  are = refl;
   begun = allowed (ap (λ s. parameter_declarator_rule named d (nowhere_based b) 0 s (at (Punct (codes "*")))) (star_sort halves)) (le-leb (0 + 1) 4294967295 (omega (arith, low)));
   follows = parts (parameter_declarator_reread halves named d (0 + 1) n (suc n) b name fun us rest (omega arith) low h p) done;
 }

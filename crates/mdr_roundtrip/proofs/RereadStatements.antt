@@ -189,9 +189,10 @@ AreNodes halves _ _ _ = ⊥
 pub items_reread : (halves : Bool) (l depth : ℕ) (ss : List Stated) (ws : List Written) (ns : List Node) → AreNodes halves ss ws ns → all (map (item_at l) ss) ≡ true → AllRead halves (block_items l) (map (line_of depth) ws) (map alone ns)
 items_reread halves l depth [] [] [] g h = tt
 items_reread halves l depth (s ∷ ss) (w ∷ ws) (n ∷ ns) g h =
-    let k = both (item_at l s) (all (map (item_at l) ss)) h in
-    (λ rest. subst (λ (ts : List Token). Gets halves (part (block_item l)) ts (tokens_of rest) (n ∷ [])) (sym (tabs_gone depth (w.words depth (Newline ∷ rest)))) (item_reread halves l s w n g.0 k.0 depth (Newline ∷ rest)),
-    items_reread halves l depth ss ws ns g.1 k.1)
+    let k = both (item_at l s) (all (map (item_at l) ss)) h in (
+      λ rest. subst (λ (ts : List Token). Gets halves (part (block_item l)) ts (tokens_of rest) (n ∷ [])) (sym (tabs_gone depth (w.words depth (Newline ∷ rest)))) (item_reread halves l s w n g.0 k.0 depth (Newline ∷ rest)),
+      items_reread halves l depth ss ws ns g.1 k.1,
+    )
 items_reread halves l depth [] [] (n ∷ ns) g h = absurd g
 items_reread halves l depth [] (w ∷ ws) ns g h = absurd g
 items_reread halves l depth (s ∷ ss) [] ns g h = absurd g

@@ -110,9 +110,15 @@ source_outer halves first b k s t h m = and_by (sourcing halves) (declarator_rul
 
 pub source_remote : (halves : Bool) (first : Place) (b : Specifier) (k : ℕ) (s : Sort) (t : Token) → (halves && based b k) ≡ true → knows s t.what ≡ true → SoundRuleBy (sourcing halves) (remote_rule first b k s t) (all_items halves)
 source_remote halves first b k Sort.Star t h m = λ a. let f = both halves (based b k) h in (also halves (based b (k + 1)) f.0 (one_star_more b k f.1 a), λ v g. g)
-source_remote halves first b k Sort.Name t h m = λ x. λ o q. (refl, λ ps hp. λ c r. (refl, λ a ha. λ e r'.
-    let f = both halves (based b k) h in
-    one_line halves first (item_is.Proto (head_of b k t ps a) true) (also (is_shaped_head false (head_of b k t ps a)) halves (head_is false b k t ps a f.1 m hp ha) f.0)))
+source_remote halves first b k Sort.Name t h m = λ x. λ o q. (
+  refl,
+  λ ps hp. λ c r. (
+    refl,
+    λ a ha. λ e r'.
+        let f = both halves (based b k) h in
+        one_line halves first (item_is.Proto (head_of b k t ps a) true) (also (is_shaped_head false (head_of b k t ps a)) halves (head_is false b k t ps a f.1 m hp ha) f.0),
+  ),
+)
 source_remote halves first b k _ t h m = tt
 
 pub source_critical : (halves : Bool) (first : Place) (b : Specifier) (k : ℕ) (s : Sort) (t : Token) → based b k ≡ true → knows s t.what ≡ true → SoundRuleBy (sourcing halves) (critical_rule first b k s t) (all_items halves)
@@ -133,9 +139,12 @@ source_qualified halves first Sort.Critical t m = λ a. (refl, λ b hb. (unstarr
 source_qualified halves first s t m = typed_by halves first s t
 
 pub source_fields : (halves : Bool) (first : Place) (n : Token) (s : Sort) (t : Token) → is_name (text_of n.what) ≡ true → SoundRuleBy (sourcing halves) (fields_rule first n s t) (maybe (all_items halves))
-source_fields halves first n Sort.OpenBrace t w = λ a. (refl, λ gs hg. λ c q. λ e r.
-    let k = both (list_all (list_all is_shaped_field) gs) (grown true [] gs) hg in
-    one_line halves first (item_is.Struct n.place (text_of n.what) (joined gs)) (also (is_name (text_of n.what)) (list_all is_shaped_field (joined gs)) w (all_flat is_shaped_field gs k.0)))
+source_fields halves first n Sort.OpenBrace t w = λ a. (
+  refl,
+  λ gs hg. λ c q. λ e r.
+      let k = both (list_all (list_all is_shaped_field) gs) (grown true [] gs) hg in
+      one_line halves first (item_is.Struct n.place (text_of n.what) (joined gs)) (also (is_name (text_of n.what)) (list_all is_shaped_field (joined gs)) w (all_flat is_shaped_field gs k.0)),
+)
 source_fields halves first n _ t w = tt
 
 struct_by : (halves : Bool) (t n : Token) (o : Option (List Item)) → is_name (text_of n.what) ≡ true → maybe (all_items halves) o ≡ true → SoundBy (sourcing halves) (struct_or_outer t n o) (all_items halves)
@@ -144,8 +153,14 @@ struct_by halves t n None w h = (also (is_name (text_of n.what)) true w refl, λ
 
 pub source_item : (halves : Bool) (s : Sort) (t : Token) → more halves s t.what ≡ true → SoundRuleBy (sourcing halves) (item_rule s t) (all_items halves)
 source_item halves Sort.Define t m = λ a. one_line halves t.place (item_is.Define (text_of t.what) (is_negative t.what) (number_in t.what) (kind_in t.what)) refl
-source_item halves Sort.Enum t m = λ a. λ o q. (refl, λ e he. (also (list_all is_shaped_enumerator (e ∷ [])) true (all_one is_shaped_enumerator e he) refl, λ es hes. λ c r. λ f r'.
-    let k = both (list_all is_shaped_enumerator es) (are_some es) hes in
-    one_line halves t.place (item_is.Enum es) (also (are_some es) (list_all is_shaped_enumerator es) k.1 k.0)))
+source_item halves Sort.Enum t m = λ a. λ o q. (
+  refl,
+  λ e he. (
+    also (list_all is_shaped_enumerator (e ∷ [])) true (all_one is_shaped_enumerator e he) refl,
+    λ es hes. λ c r. λ f r'.
+        let k = both (list_all is_shaped_enumerator es) (are_some es) hes in
+        one_line halves t.place (item_is.Enum es) (also (are_some es) (list_all is_shaped_enumerator es) k.1 k.0),
+  ),
+)
 source_item halves Sort.Struct t m = λ a. λ n hn. (hn, λ o ho. struct_by halves t n o hn ho)
 source_item halves s t m = source_qualified halves t.place s t m

@@ -87,10 +87,13 @@ source_right halves l d _ t f = tt
 
 pub source_local : (halves : Bool) (first : Place) (b : Specifier) (l d : ℕ) (s : Sort) (t : Token) → is_named_base b.base ≡ true → knows s t.what ≡ true → SoundRuleBy (sourcing halves) (local_rule first b l d s t) (local_by b l d)
 source_local halves first b l d s t g m = and_by (sourcing halves) (declarator_rule d b 0 s t) (λ x. local_of first l d x) (declared_by b d) (local_by b l d) (source_declarator halves d b 0 s t (also (is_named_base b.base) true g refl) m)
-    (λ x hx. (either_way (is_level_free (l + 1)), λ r hr.
-    let k = both (is_shaped_decl x Standing.Alone d) (is_none (out-Decl x).ann && is_same_base b.base (out-Decl x).base) hx in
-    let j = both (is_none (out-Decl x).ann) (is_same_base b.base (out-Decl x).base) k.1 in
-    local_is first b l d x r (also (is_shaped_decl x Standing.Alone d) (is_none (out-Decl x).ann && maybe (is_right_at (l + 1)) r) k.0 (also (is_none (out-Decl x).ann) (maybe (is_right_at (l + 1)) r) j.0 hr)) j.1))
+    (λ x hx. (
+      either_way (is_level_free (l + 1)),
+      λ r hr.
+          let k = both (is_shaped_decl x Standing.Alone d) (is_none (out-Decl x).ann && is_same_base b.base (out-Decl x).base) hx in
+          let j = both (is_none (out-Decl x).ann) (is_same_base b.base (out-Decl x).base) k.1 in
+          local_is first b l d x r (also (is_shaped_decl x Standing.Alone d) (is_none (out-Decl x).ann && maybe (is_right_at (l + 1)) r) k.0 (also (is_none (out-Decl x).ann) (maybe (is_right_at (l + 1)) r) j.0 hr)) j.1,
+    ))
 
 locals_by : (halves : Bool) (first : Place) (b : Specifier) (l d : ℕ) (p : List Node → Bool) → is_named_base b.base ≡ true → ((ns : List Node) → list_all (local_by b l d) ns ≡ true → p ns ≡ true) → SoundBy (sourcing halves) (locals_of first b l d) p
 locals_by halves first b l d p g f = (g, λ x hx. (also (is_named_base b.base) (list_all (local_by b l d) (x ∷ [])) g (all_one (local_by b l d) x hx), λ v h. f v h))
@@ -118,10 +121,13 @@ still_allowed false [] h = refl
 still_allowed false (n ∷ ns) h = absurd (false≢true h)
 
 block_by : (halves : Bool) (place : Place) (l : ℕ) (p : Ended → Bool) → ((ns : List Node) → (is_level_free (l + 1) || not (are_some ns)) ≡ true → list_all (item_in (l + 1)) ns ≡ true → p (record { node = node_at place (NodeWhat.Block ns); closed = true }) ≡ true) → SoundBy (sourcing halves) (nested_in l >>= λ ns. block_end place ns) p
-block_by halves place l p f = (or_true (is_level_free (l + 1)), λ ns hn. λ c q.
-    let k = both (list_all (list_all (item_in (l + 1))) ns) (grown (is_level_free (l + 1)) [] ns) hn in
-    let j = both (is_level_free (l + 1) || not (are_some ns)) (not false || are_some ns) k.1 in
-    f (joined ns) (still_allowed (is_level_free (l + 1)) ns j.0) (all_flat (item_in (l + 1)) ns k.0))
+block_by halves place l p f = (
+  or_true (is_level_free (l + 1)),
+  λ ns hn. λ c q.
+      let k = both (list_all (list_all (item_in (l + 1))) ns) (grown (is_level_free (l + 1)) [] ns) hn in
+      let j = both (is_level_free (l + 1) || not (are_some ns)) (not false || are_some ns) k.1 in
+      f (joined ns) (still_allowed (is_level_free (l + 1)) ns j.0) (all_flat (item_in (l + 1)) ns k.0),
+)
 
 keyword_by : (halves : Bool) (l : ℕ) (s : Sort) (t : Token) → SoundRuleBy (sourcing halves) (keyword_rule l s t) (is_statement l)
 keyword_by halves l Sort.Semicolon t = λ a. empty_is t.place l
@@ -183,7 +189,16 @@ source_label halves _ t = tt
 
 pub source_clause : (halves : Bool) (l : ℕ) (s : Sort) (t : Token) → SoundRuleBy (sourcing halves) (clause_rule l s t) (λ c. is_clause_at c l)
 source_clause halves l s t = and_by (sourcing halves) (label_rule s t) (λ x. clause_of l x) is_shaped_label (λ c. is_clause_at c l) (source_label halves s t)
-    (λ x hx. (also (list_all is_shaped_label (x ∷ [])) true (all_one is_shaped_label x hx) refl, λ ls hls. (refl, λ n hn. (also (list_all (λ n. (stated n).statement l) (n ∷ [])) true (all_one (λ n. (stated n).statement l) n hn) refl, λ ns hns.
-    let a = both (list_all is_shaped_label ls) (grown true (x ∷ []) ls) hls in
-    let b = both (list_all (λ n. (stated n).statement l) ns) (grown true (n ∷ []) ns) hns in
-    clause_is l ls ns a.1 a.0 b.1 b.0))))
+    (λ x hx. (
+      also (list_all is_shaped_label (x ∷ [])) true (all_one is_shaped_label x hx) refl,
+      λ ls hls. (
+        refl,
+        λ n hn. (
+          also (list_all (λ n. (stated n).statement l) (n ∷ [])) true (all_one (λ n. (stated n).statement l) n hn) refl,
+          λ ns hns.
+              let a = both (list_all is_shaped_label ls) (grown true (x ∷ []) ls) hls in
+              let b = both (list_all (λ n. (stated n).statement l) ns) (grown true (n ∷ []) ns) hns in
+              clause_is l ls ns a.1 a.0 b.1 b.0,
+        ),
+      ),
+    ))
