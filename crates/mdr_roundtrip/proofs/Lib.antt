@@ -42,3 +42,4 @@ pub mod ShapingItems
 pub mod ShapingSources
 pub mod Erased
 pub mod Placeless
+pub mod Unplacing
