@@ -43,3 +43,4 @@ pub mod ShapingSources
 pub mod Erased
 pub mod Placeless
 pub mod Unplacing
+pub mod PlacelessForms
