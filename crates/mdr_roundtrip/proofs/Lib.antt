@@ -44,3 +44,5 @@ pub mod Erased
 pub mod Placeless
 pub mod Unplacing
 pub mod PlacelessForms
+pub mod PlacelessDecls
+pub mod PlacelessStatements

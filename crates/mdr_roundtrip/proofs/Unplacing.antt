@@ -97,7 +97,7 @@ call_made place f args = made place (FormWhat-F.Call f args) (FormWhat.Call f ar
 abbrev declaration_of : Place → Option (List ℕ) → Base → ℕ → Option Const → Option (List Decl) → Option AnnText → Decl
 declaration_of place name b k size fun a = roll-Decl (record { place = place; name = name; base = b; stars = k; size = size; fun = fun; ann = a })
 
-decl_made : (place : Place) (name : Option (List ℕ)) (b : Base) (k : ℕ) (size : Option Const) (fun : Option (List Decl)) (a : Option AnnText) → unplaced_decl (declaration_of place name b k size fun a) ≡ declaration_of nowhere name (unplaced_base b) k (option_map unplaced_const size) (option_map (map unplaced_decl) fun) (option_map unplaced_annotation a)
+pub decl_made : (place : Place) (name : Option (List ℕ)) (b : Base) (k : ℕ) (size : Option Const) (fun : Option (List Decl)) (a : Option AnnText) → unplaced_decl (declaration_of place name b k size fun a) ≡ declaration_of nowhere name (unplaced_base b) k (option_map unplaced_const size) (option_map (map unplaced_decl) fun) (option_map unplaced_annotation a)
 decl_made place name b k size None a = fold-roll-Decl Decl decl_unplaced (record { place = place; name = name; base = b; stars = k; size = size; fun = None; ann = a })
 decl_made place name b k size (Some ps) a = fold-roll-Decl Decl decl_unplaced (record { place = place; name = name; base = b; stars = k; size = size; fun = Some ps; ann = a })
 
