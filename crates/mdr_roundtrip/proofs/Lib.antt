@@ -46,3 +46,5 @@ pub mod Unplacing
 pub mod PlacelessForms
 pub mod PlacelessDecls
 pub mod PlacelessStatements
+pub mod PlacelessItems
+pub mod PlacelessRules
