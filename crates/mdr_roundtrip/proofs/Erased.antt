@@ -1,8 +1,7 @@
 -- What the grammar's nonterminals and values are with their places set to one.
-use Rattle.std.proofs.Common.{Bool, Option, List, map}
+use Rattle.std.proofs.Common.{map}
 use Rattle.std.specs.Option.{option_map}
 use Rattle.mdr_syntax.specs.declared.token.Token.{Token}
-use Rattle.mdr_syntax.specs.declared.tree.Item.{Item}
 use Rattle.mdr_grammar.specs.declared.parts.Ended.{Ended}
 use Rattle.mdr_grammar.specs.declared.parts.Specifier.{Specifier}
 use Rattle.mdr_grammar.specs.Forms.{Operand, Part, PartValue, Repeated, repeated, Separated, separated, Enclosed, enclosed, Nonterminal, Value}

@@ -48,3 +48,4 @@ pub mod PlacelessDecls
 pub mod PlacelessStatements
 pub mod PlacelessItems
 pub mod PlacelessRules
+pub mod PlacedSources

@@ -11,7 +11,6 @@ use Rattle.mdr_grammar.specs.Forms.Empty.{cannot, may}
 use Rattle.mdr_grammar.specs.Grammar.{rule, empty, Gets, Follows}
 use Rattle.mdr_grammar.specs.Grammar.Gets.{absent, present}
 use Rattle.mdr_grammar.specs.Grammar.Follows.{done, word, both as parts}
-use Rattle.mdr_roundtrip.specs.Unplaced.{at}
 use Rattle.mdr_roundtrip.proofs.Erased.{erased, erased_value, erased_token}
 
 -- ---- right sides, rules and empty forms that differ in places alone; `f` sets the places of what is given aside
@@ -111,7 +110,7 @@ pub record IsPlaceless : Type 0 where
   pub by_nothing : (n : Nonterminal) → AlikeEmpty (erased_value n) (empty n) (empty (erased n))
 
 -- a nonterminal, what it is with its places set aside, and how values go along
-data Erases : (n m : Nonterminal) → (Value n → Value m) → Type 0 where
+pub data Erases : (n m : Nonterminal) → (Value n → Value m) → Type 0 where
   erases : (n : Nonterminal) → Erases n (erased n) (erased_value n)
 
 rules_of : IsPlaceless → {n m : Nonterminal} {f : Value n → Value m} → Erases n m f → (s : Sort) (t : Token) → AlikeRules f (rule n s t) (rule m s (erased_token t))
@@ -120,12 +119,12 @@ rules_of i (erases n) s t = i.by_rule n s t
 nothing_of : IsPlaceless → {n m : Nonterminal} {f : Value n → Value m} → Erases n m f → AlikeEmpty f (empty n) (empty m)
 nothing_of i (erases n) = i.by_nothing n
 
-record Placed (halves : Bool) (n : Nonterminal) {B : Type 0} (f : Value n → B) (ts us : List Token) (w : B) : Type 0 where
-  left : List Token
-  given_value : Value n
-  found : Gets halves n ts left given_value
-  left_alike : Alike left us
-  value_alike : f given_value ≡ w
+pub record Placed (halves : Bool) (n : Nonterminal) {B : Type 0} (f : Value n → B) (ts us : List Token) (w : B) : Type 0 where
+  pub left : List Token
+  pub given_value : Value n
+  pub found : Gets halves n ts left given_value
+  pub left_alike : Alike left us
+  pub value_alike : f given_value ≡ w
 
 record PlacedBehind (halves : Bool) (n : Nonterminal) {B : Type 0} (f : Value n → B) (r : Right (Value n)) (ts us : List Token) (w : B) : Type 0 where
   left : List Token
@@ -135,7 +134,7 @@ record PlacedBehind (halves : Bool) (n : Nonterminal) {B : Type 0} (f : Value n 
   value_alike : f given_value ≡ w
 
 mutual
-  placed_by : (halves : Bool) → IsPlaceless → {n m : Nonterminal} {f : Value n → Value m} → Erases n m f → (ts : List Token) {ts' us : List Token} {w : Value m} → Gets halves m ts' us w → Alike ts ts' → Placed halves n f ts us w
+  pub placed_by : (halves : Bool) → IsPlaceless → {n m : Nonterminal} {f : Value n → Value m} → Erases n m f → (ts : List Token) {ts' us : List Token} {w : Value m} → Gets halves m ts' us w → Alike ts ts' → Placed halves n f ts us w
   placed_by halves i x ts (absent e) a =
       let k = emptied (nothing_of i x) e in
       record { left = ts; given_value = k.value; found = absent k.is_empty; left_alike = a; value_alike = k.alike }
@@ -155,3 +154,34 @@ mutual
       let b = placed_by halves i (erases o) ts g a in
       let h = behind_by halves i {n = n} {m = m} {f = f} b.left d (subst (λ z. AlikeBy f (k b.given_value) (k' z)) b.value_alike (x b.given_value)) b.left_alike in
       record { left = h.left; given_value = h.given_value; found = parts b.found h.found; left_alike = h.left_alike; value_alike = h.value_alike }
+
+-- ---- the other way: places may be set aside
+
+record RuledToo {A B : Type 0} (f : A → B) (r : Right A) (x' : Rule B) : Type 0 where
+  side : Right B
+  is_rule : x' ≡ given true side
+  alike : AlikeBy f r side
+
+ruled_too : {A B : Type 0} {f : A → B} {x : Rule A} {x' : Rule B} {r : Right A} → AlikeRules f x x' → x ≡ given true r → RuledToo f r x'
+ruled_too {A = A} {r = r} no_rule e = let q : ◌≡◌ {A = Rule A} never (given true r) = e in absurd (Prim.cc)
+ruled_too {f = f} {r = r} (rules {r' = r'} c x) e = record {
+  side = r';
+  is_rule = ap (λ b. given b r') (sym c ∙ ap allows e);
+  alike = subst (λ z. AlikeBy f z r') (ap (side_of r) e) x;
+}
+
+emptied_too : {A B : Type 0} {f : A → B} {x : Empty A} {x' : Empty B} {v : A} → AlikeEmpty f x x' → x ≡ may true v → x' ≡ may true (f v)
+emptied_too {A = A} {v = v} never_empty e = let q : ◌≡◌ {A = Empty A} cannot (may true v) = e in absurd (Prim.cc)
+emptied_too {f = f} {v = v} (empties {w = w} c) e = ap (λ b. may b w) (ap may_be e) ∙ ap (λ z. may true z) (sym c ∙ ap f (ap (value_of v) e))
+
+mutual
+  pub erased_by : (halves : Bool) → IsPlaceless → {n : Nonterminal} {ts us : List Token} {v : Value n} → Gets halves n ts us v → Gets halves (erased n) (map erased_token ts) (map erased_token us) (erased_value n v)
+  erased_by halves i {n = n} (absent e) = absent (emptied_too (i.by_nothing n) e)
+  erased_by halves i {n = n} (present {t = t} e d) =
+      let k = ruled_too (i.by_rule n (sort_of halves t.what) t) e in
+      present k.is_rule (erased_behind halves i d k.alike)
+
+  erased_behind : (halves : Bool) → IsPlaceless → {n : Nonterminal} {ts us : List Token} {r : Right (Value n)} {r' : Right (Value (erased n))} {v : Value n} → Follows halves n r ts us v → AlikeBy (erased_value n) r r' → Follows halves (erased n) r' (map erased_token ts) (map erased_token us) (erased_value n v)
+  erased_behind halves i {n = n} {ts = ts} done (same {v = v} e) = subst (λ z. Follows halves (erased n) (gives z) (map erased_token ts) (map erased_token ts) (erased_value n v)) e done
+  erased_behind halves i (word {t = t} q d) (token x) = word q (erased_behind halves i d (x t))
+  erased_behind halves i (parts {x = v} g d) (next x) = parts (erased_by halves i g) (erased_behind halves i d (x v))

@@ -1,5 +1,5 @@
 -- The rules of declarations and initialisers look at no place.
-use Rattle.std.proofs.Common.{◌≡◌, refl, sym, subst, ap, ◌∙◌, ℕ, ◌+◌, Bool, true, false, not, Option, Some, None, List, [], ◌∷◌, map}
+use Rattle.std.proofs.Common.{◌≡◌, refl, subst, ap, ◌∙◌, ℕ, ◌+◌, Bool, not, Some, None, [], ◌∷◌, map}
 use Rattle.std.specs.Option.{option_map}
 use Rattle.mdr_core.specs.declared.place.Place.{Place}
 use Rattle.mdr_syntax.specs.declared.token.Token.{Token}
@@ -13,7 +13,7 @@ use Rattle.mdr_grammar.specs.Forms.Nonterminal.{part, commas, after_void, parame
 use Rattle.mdr_grammar.specs.Forms.Separated.{parameters_at}
 use Rattle.mdr_grammar.specs.Expressions.{text_of}
 use Rattle.mdr_grammar.specs.Declarations.{constant_rule, size_rule, annotation_rule, value_rule, specifiers_rule, unnamed, with_annotation, declarator_rule, parameter_name_rule, parameter_declarator_rule, annotated_parameter, parameter_of, parameter_rule, more_parameters, void_base, void_parameter, after_void_rule, listed_parameters, parameters_rule, field_rule, fields_in, field_group_rule, enumerator_rule, other_initialiser, initialiser_rule, initial_rule, bare_element, element_rule}
-use Rattle.mdr_roundtrip.specs.Unplaced.{nowhere, at}
+use Rattle.mdr_roundtrip.specs.Unplaced.{nowhere}
 use Rattle.mdr_roundtrip.specs.Initialised.{unplaced_const, unplaced_init, unplaced_elem}
 use Rattle.mdr_roundtrip.specs.Declarations.{unplaced_annotation, unplaced_decl}
 use Rattle.mdr_roundtrip.specs.Itemised.{unplaced_enumerator}

@@ -1,20 +1,19 @@
 -- The rules of expressions look at no place.
-use Rattle.std.proofs.Common.{◌≡◌, refl, sym, subst, ap, ◌∙◌, ℕ, zero, suc, ◌+◌, ◌-◌, Bool, true, false, Option, Some, None, List, [], ◌∷◌, map}
+use Rattle.std.proofs.Common.{◌≡◌, refl, sym, subst, ap, ◌∙◌, ℕ, zero, suc, ◌+◌, ◌-◌, Bool, true, false, Option, Some, None, [], ◌∷◌, map}
 use Rattle.std.specs.Prelude.{◌&&◌, nat_eq, nat_lt}
 use Rattle.std.specs.Option.{option_map}
 use Rattle.mdr_core.specs.declared.place.Place.{Place}
 use Rattle.mdr_syntax.specs.declared.token.Token.{Token}
-use Rattle.mdr_syntax.specs.declared.tree.Base.{Base}
 use Rattle.mdr_syntax.specs.declared.tree.Form.{Form}
 use Rattle.mdr_syntax.specs.declared.tree.FormWhat
 use Rattle.mdr_syntax.specs.declared.tree.FormWhat.{FormWhat}
 use Rattle.mdr_grammar.specs.declared.sort.Sort.{Sort}
 use Rattle.mdr_grammar.specs.Sorts.{is_level}
-use Rattle.mdr_grammar.specs.Forms.{Operand, Right, ◌>>=◌, form}
-use Rattle.mdr_grammar.specs.Forms.Nonterminal.{part, commas, postfix, operators, choice, opened, arguments, stars, text_behind, text_after, unsigned_word}
+use Rattle.mdr_grammar.specs.Forms.{Operand, ◌>>=◌, form}
+use Rattle.mdr_grammar.specs.Forms.Nonterminal.{commas, postfix, operators, choice, opened, stars, text_after}
 use Rattle.mdr_grammar.specs.Forms.Separated.{arguments_at}
-use Rattle.mdr_grammar.specs.Expressions.{text_of, is_level_free, may_open, may_sink, height, name_form, number_form, form_at, binary, precedence_of, operators_from, of_precedence, behind_operand, in_parentheses, kept, word_argument, base_rule, unsigned_word_rule, stars_rule, prefix, step_before, service, member, parentheses, operand_rule, postfix_rule, operators_rule, choice_rule, expression_rule, cast_rule, opened_rule, type_argument, argument_rule, text_after_rule, text_behind_rule, arguments_rule}
-use Rattle.mdr_roundtrip.specs.Unplaced.{nowhere, at, unplaced_base, unplaced_form}
+use Rattle.mdr_grammar.specs.Expressions.{text_of, is_level_free, may_open, may_sink, name_form, number_form, form_at, binary, precedence_of, operators_from, of_precedence, behind_operand, in_parentheses, kept, word_argument, base_rule, unsigned_word_rule, stars_rule, prefix, step_before, service, member, parentheses, operand_rule, postfix_rule, operators_rule, choice_rule, expression_rule, cast_rule, opened_rule, type_argument, argument_rule, text_after_rule, text_behind_rule, arguments_rule}
+use Rattle.mdr_roundtrip.specs.Unplaced.{nowhere, unplaced_base, unplaced_form}
 use Rattle.mdr_roundtrip.proofs.Heights.{unplaced_height}
 use Rattle.mdr_roundtrip.proofs.Erased.{erased_token, erased_specifier, erased_operand}
 use Rattle.mdr_roundtrip.proofs.Placeless.{AlikeBy, AlikeRules, bind_alike, and_alike, or_alike, where_alike, whole}

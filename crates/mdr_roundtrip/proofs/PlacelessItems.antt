@@ -1,10 +1,8 @@
 -- The rules of items look at no place.
-use Rattle.std.proofs.Common.{◌≡◌, refl, sym, subst, ap, ◌∙◌, ℕ, ◌+◌, Bool, true, false, Option, Some, None, List, [], ◌∷◌, map}
+use Rattle.std.proofs.Common.{◌≡◌, refl, sym, subst, ap, ℕ, ◌+◌, Bool, true, false, Option, Some, None, List, map}
 use Rattle.std.specs.Option.{option_map}
 use Rattle.mdr_core.specs.declared.place.Place.{Place}
 use Rattle.mdr_syntax.specs.declared.token.Token.{Token}
-use Rattle.mdr_syntax.specs.declared.tree.AnnText.{AnnText}
-use Rattle.mdr_syntax.specs.declared.tree.Const.{Const}
 use Rattle.mdr_syntax.specs.declared.tree.Decl.{Decl}
 use Rattle.mdr_syntax.specs.declared.tree.Head.{Head}
 use Rattle.mdr_syntax.specs.declared.tree.Init.{Init}
@@ -13,15 +11,13 @@ use Rattle.mdr_syntax.specs.declared.tree.ItemWhat.TheVariants as item_is
 use Rattle.mdr_syntax.specs.declared.tree.Node.{Node}
 use Rattle.mdr_grammar.specs.declared.parts.Specifier.{Specifier}
 use Rattle.mdr_grammar.specs.declared.sort.Sort.{Sort}
-use Rattle.mdr_grammar.specs.Forms.{form}
-use Rattle.mdr_grammar.specs.Forms.Nonterminal.{part, commas, qualified, outer, remote, critical}
-use Rattle.mdr_grammar.specs.Forms.Separated.{globals}
+use Rattle.mdr_grammar.specs.Forms.Nonterminal.{qualified, outer, remote, critical}
 use Rattle.mdr_grammar.specs.Expressions.{text_of, struct_of}
 use Rattle.mdr_grammar.specs.Declarations.{with_annotation}
-use Rattle.mdr_grammar.specs.Statements.{joined, item_at, global_with, global_rule, more_globals, globals_with, head_of, function_with, function_end_rule, function_there, function_rule, named_global, other_globals, outer_rule, remote_rule, critical_rule, typed_item, qualified_rule, fields_rule, struct_or_outer, item_rule}
-use Rattle.mdr_roundtrip.specs.Unplaced.{nowhere, at}
-use Rattle.mdr_roundtrip.specs.Initialised.{unplaced_const, unplaced_init}
-use Rattle.mdr_roundtrip.specs.Declarations.{unplaced_annotation, unplaced_decl}
+use Rattle.mdr_grammar.specs.Statements.{item_at, global_with, global_rule, more_globals, globals_with, head_of, function_with, function_end_rule, function_there, function_rule, named_global, other_globals, outer_rule, remote_rule, critical_rule, typed_item, qualified_rule, fields_rule, struct_or_outer, item_rule}
+use Rattle.mdr_roundtrip.specs.Unplaced.{nowhere}
+use Rattle.mdr_roundtrip.specs.Initialised.{unplaced_init}
+use Rattle.mdr_roundtrip.specs.Declarations.{unplaced_decl}
 use Rattle.mdr_roundtrip.specs.Stated.{unplaced_node}
 use Rattle.mdr_roundtrip.specs.Itemised.{unplaced_head, unplaced_item}
 use Rattle.mdr_roundtrip.proofs.Erased.{erased_token, erased_specifier}

@@ -1,8 +1,9 @@
 -- No rule of the grammar looks at a place.
-use Rattle.std.proofs.Common.{◌≡◌, refl, sym, subst, ap, ◌∙◌, ℕ, ◌+◌, Bool, true, false, not, Option, Some, None, List, [], ◌∷◌, ◌++◌, map}
+use Rattle.std.proofs.Common.{refl, subst, Bool, None, List, [], ◌∷◌, ◌++◌, map}
+use Rattle.std.proofs.lemmas.List.{map-append}
 use Rattle.mdr_syntax.specs.declared.token.Token.{Token}
 use Rattle.mdr_grammar.specs.declared.sort.Sort.{Sort}
-use Rattle.mdr_grammar.specs.Forms.{Part, PartValue, Repeated, repeated, Separated, separated, Enclosed, enclosed, Nonterminal, Value, form}
+use Rattle.mdr_grammar.specs.Forms.{Part, PartValue, Repeated, repeated, Separated, separated, Enclosed, enclosed, Nonterminal, form}
 use Rattle.mdr_grammar.specs.Forms.Part.{operand, expression, argument, statement, body, plain, simple, block_item, opening, local, right, right_side, label, clause, base, specifiers, size, annotation, constant, value, declarator, parameter, field, field_group, enumerator, initial, initialiser, element, global, item}
 use Rattle.mdr_grammar.specs.Forms.Repeated.{block_items, statements, clauses, labels, field_groups, items}
 use Rattle.mdr_grammar.specs.Forms.Separated.{arguments_at, locals, parameters_at, fields_of, globals}
@@ -11,10 +12,10 @@ use Rattle.mdr_grammar.specs.Forms.Nonterminal.{part, option, many, commas, comm
 use Rattle.mdr_grammar.specs.Grammar.{rule, empty, part_rule}
 use Rattle.mdr_roundtrip.proofs.Erased.{erased_token, erased_part, erased_value_of, erased_repeated, erased_separated, erased_between, erased_inside, erased, erased_value}
 use Rattle.mdr_roundtrip.proofs.Placeless.{AlikeBy, AlikeRules, AlikeEmpty, IsPlaceless, and_alike, where_alike, whole}
-use Rattle.mdr_roundtrip.proofs.Placeless.AlikeBy.{same, token, next}
+use Rattle.mdr_roundtrip.proofs.Placeless.AlikeBy.{same, next}
 use Rattle.mdr_roundtrip.proofs.Placeless.AlikeRules.{no_rule, rules}
 use Rattle.mdr_roundtrip.proofs.Placeless.AlikeEmpty.{never_empty, empties}
-use Rattle.mdr_roundtrip.proofs.Unplacing.{plain_made, unnamed_made, map_more}
+use Rattle.mdr_roundtrip.proofs.Unplacing.{plain_made, unnamed_made}
 use Rattle.mdr_roundtrip.proofs.PlacelessForms.{unsigned_alike, base_alike, stars_alike, operand_alike, postfix_alike, operators_alike, choice_alike, expression_alike, opened_alike, argument_alike, text_after_alike, text_behind_alike, arguments_alike}
 use Rattle.mdr_roundtrip.proofs.PlacelessDecls.{constant_alike, size_alike, annotation_alike, value_alike, specifiers_alike, declarator_alike, parameter_name_alike, parameter_declarator_alike, parameter_alike, after_void_alike, parameters_alike, field_alike, field_group_alike, enumerator_alike, initialiser_alike, initial_alike, element_alike}
 use Rattle.mdr_roundtrip.proofs.PlacelessStatements.{assignment_alike, simple_alike, right_side_alike, right_alike, local_alike, statement_alike, otherwise_alike, body_alike, plain_alike, block_item_alike, opening_alike, label_alike, clause_alike}
@@ -55,7 +56,7 @@ part_alike item s t = item_alike s t
 -- ---- lists
 
 many_alike : (allowed : Bool) (x : Repeated) (so_far : List (PartValue (repeated x))) (s : Sort) (t : Token) → AlikeRules (erased_repeated x) (part_rule (repeated x) s t) (part_rule (repeated x) s (erased_token t)) → AlikeRules (map (erased_repeated x)) (rule (many allowed x so_far) s t) (rule (many allowed x (map (erased_repeated x) so_far)) s (erased_token t))
-many_alike allowed x so_far s t r = where_alike allowed (and_alike _ _ r (λ v. subst (λ (ys : List (PartValue (repeated x))). AlikeBy (map (erased_repeated x)) (form (many allowed x (so_far ++ (v ∷ [])))) (form (many allowed x ys))) (map_more (erased_repeated x) so_far v) (whole (many allowed x (so_far ++ (v ∷ []))))))
+many_alike allowed x so_far s t r = where_alike allowed (and_alike _ _ r (λ v. subst (λ (ys : List (PartValue (repeated x))). AlikeBy (map (erased_repeated x)) (form (many allowed x (so_far ++ (v ∷ [])))) (form (many allowed x ys))) (map-append (erased_repeated x) so_far (v ∷ [])) (whole (many allowed x (so_far ++ (v ∷ []))))))
 
 repeated_alike : (x : Repeated) (s : Sort) (t : Token) → AlikeRules (erased_repeated x) (part_rule (repeated x) s t) (part_rule (repeated x) s (erased_token t))
 repeated_alike (block_items l) s t = block_item_alike l s t
@@ -66,7 +67,7 @@ repeated_alike field_groups s t = field_group_alike s t
 repeated_alike items s t = item_alike s t
 
 comma_alike : (x : Separated) (so_far : List (PartValue (separated x))) (v : PartValue (separated x)) → AlikeBy (map (erased_between x)) (form (commas x (so_far ++ (v ∷ [])))) (form (commas (erased_separated x) (map (erased_between x) so_far ++ (erased_between x v ∷ []))))
-comma_alike x so_far v = subst (λ (ys : List (PartValue (separated (erased_separated x)))). AlikeBy (map (erased_between x)) (form (commas x (so_far ++ (v ∷ [])))) (form (commas (erased_separated x) ys))) (map_more (erased_between x) so_far v) (whole (commas x (so_far ++ (v ∷ []))))
+comma_alike x so_far v = subst (λ (ys : List (PartValue (separated (erased_separated x)))). AlikeBy (map (erased_between x)) (form (commas x (so_far ++ (v ∷ [])))) (form (commas (erased_separated x) ys))) (map-append (erased_between x) so_far (v ∷ [])) (whole (commas x (so_far ++ (v ∷ []))))
 
 commas_alike : (x : Separated) (so_far : List (PartValue (separated x))) (s : Sort) (t : Token) → AlikeRules (map (erased_between x)) (rule (commas x so_far) s t) (rule (commas (erased_separated x) (map (erased_between x) so_far)) s (erased_token t))
 commas_alike (arguments_at l d) so_far Sort.Comma t = rules refl (next (λ v. comma_alike (arguments_at l d) so_far v))
@@ -89,7 +90,7 @@ enclosed_alike enumerators s t = enumerator_alike s t
 enclosed_alike (elements n) s t = element_alike n s t
 
 after_alike : (x : Enclosed) (so_far : List (PartValue (enclosed x))) (s : Sort) (t : Token) → AlikeRules (map (erased_inside x)) (rule (after_comma x so_far) s t) (rule (after_comma x (map (erased_inside x) so_far)) s (erased_token t))
-after_alike x so_far s t = and_alike _ _ (enclosed_alike x s t) (λ v. subst (λ (ys : List (PartValue (enclosed x))). AlikeBy (map (erased_inside x)) (form (commas_open x (so_far ++ (v ∷ [])))) (form (commas_open x ys))) (map_more (erased_inside x) so_far v) (whole (commas_open x (so_far ++ (v ∷ [])))))
+after_alike x so_far s t = and_alike _ _ (enclosed_alike x s t) (λ v. subst (λ (ys : List (PartValue (enclosed x))). AlikeBy (map (erased_inside x)) (form (commas_open x (so_far ++ (v ∷ [])))) (form (commas_open x ys))) (map-append (erased_inside x) so_far (v ∷ [])) (whole (commas_open x (so_far ++ (v ∷ [])))))
 
 -- ---- every rule
 

@@ -1,5 +1,5 @@
 -- The rules of statements look at no place.
-use Rattle.std.proofs.Common.{◌≡◌, refl, sym, subst, ap, ◌∙◌, ℕ, ◌+◌, Bool, true, false, Option, Some, None, List, [], ◌∷◌, map}
+use Rattle.std.proofs.Common.{◌≡◌, refl, ap, ◌∙◌, ℕ, ◌+◌, Bool, true, false, Option, Some, None, List, [], ◌∷◌, map}
 use Rattle.std.specs.Option.{option_map}
 use Rattle.mdr_core.specs.declared.place.Place.{Place}
 use Rattle.mdr_syntax.specs.declared.token.Token.{Token}
@@ -11,13 +11,12 @@ use Rattle.mdr_syntax.specs.declared.tree.NodeWhat
 use Rattle.mdr_grammar.specs.declared.parts.Ended.{Ended}
 use Rattle.mdr_grammar.specs.declared.parts.Specifier.{Specifier}
 use Rattle.mdr_grammar.specs.declared.sort.Sort.{Sort}
-use Rattle.mdr_grammar.specs.Forms.{form}
 use Rattle.mdr_grammar.specs.Forms.Part.{right_side}
 use Rattle.mdr_grammar.specs.Forms.Nonterminal.{part, commas, assignment}
 use Rattle.mdr_grammar.specs.Forms.Separated.{locals}
 use Rattle.mdr_grammar.specs.Expressions.{text_of, is_level_free}
 use Rattle.mdr_grammar.specs.Statements.{joined, node_at, if_at, assigned, assignment_rule, simple_rule, right_side_rule, right_rule, local_of, local_rule, locals_of, locals_rule, deeper_keyword_rule, keyword_rule, simple_statement_rule, statement_rule, other_branch, otherwise_rule, single_rule, body_rule, plain_rule, block_item_rule, opening_rule, label_rule, clause_of, clause_rule}
-use Rattle.mdr_roundtrip.specs.Unplaced.{nowhere, at, unplaced_form}
+use Rattle.mdr_roundtrip.specs.Unplaced.{nowhere, unplaced_form}
 use Rattle.mdr_roundtrip.specs.Declarations.{unplaced_decl}
 use Rattle.mdr_roundtrip.specs.Stated.{unplaced_label, unplaced_node, unplaced_clause}
 use Rattle.mdr_roundtrip.proofs.Erased.{erased_token, erased_specifier, erased_ended}
@@ -26,7 +25,7 @@ use Rattle.mdr_roundtrip.proofs.Placeless.AlikeBy.{same, token, next}
 use Rattle.mdr_roundtrip.proofs.Placeless.AlikeRules.{no_rule, rules}
 use Rattle.mdr_roundtrip.proofs.Unplacing.{text_made, empty_made, break_made, continue_made, block_made, local_made, assign_made, if_made, while_made, do_made, loop_made, switch_made, return_made, clause_made, map_joined}
 use Rattle.mdr_roundtrip.proofs.PlacelessForms.{operand_alike, expression_alike}
-use Rattle.mdr_roundtrip.proofs.PlacelessDecls.{constant_alike, specifiers_alike, declarator_alike}
+use Rattle.mdr_roundtrip.proofs.PlacelessDecls.{specifiers_alike, declarator_alike}
 
 -- ---- simple statements and locals
 

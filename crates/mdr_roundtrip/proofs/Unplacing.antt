@@ -1,8 +1,8 @@
 -- Places are set aside in each part of what is made.
-use Rattle.std.proofs.Common.{◌≡◌, refl, sym, subst, ap, ◌∙◌, ℕ, Bool, true, false, Option, Some, None, List, [], ◌∷◌, ◌++◌, map}
+use Rattle.std.proofs.Common.{◌≡◌, refl, sym, ap, ◌∙◌, ℕ, Bool, Option, Some, None, List, [], ◌∷◌, ◌++◌, map}
 use Rattle.std.specs.Prelude.{◌&&◌}
 use Rattle.std.specs.Option.{option_map, is_some}
-use Rattle.mdr_core.specs.declared.kind.Kind.{Kind}
+use Rattle.std.proofs.lemmas.List.{map-append}
 use Rattle.mdr_core.specs.declared.place.Place.{Place}
 use Rattle.mdr_syntax.specs.declared.token.Token.{Token}
 use Rattle.mdr_syntax.specs.declared.tree.AnnText.{AnnText}
@@ -40,7 +40,7 @@ use Rattle.mdr_grammar.specs.declared.parts.Ended.{Ended}
 use Rattle.mdr_grammar.specs.Expressions.{form_at, number_form, name_form, text_form}
 use Rattle.mdr_grammar.specs.Declarations.{declared, unnamed, perhaps_named, with_annotation}
 use Rattle.mdr_grammar.specs.Statements.{node_at, other_node, opened_by, are_named, joined}
-use Rattle.mdr_roundtrip.specs.Unplaced.{nowhere, at, unplaced_base, what_unplaced, form_unplaced, unplaced_form, unplaced_what}
+use Rattle.mdr_roundtrip.specs.Unplaced.{nowhere, unplaced_base, what_unplaced, form_unplaced, unplaced_form, unplaced_what}
 use Rattle.mdr_roundtrip.specs.Initialised.{unplaced_const, unplaced_field, init_unplaced, elem_unplaced, unplaced_init, unplaced_elem}
 use Rattle.mdr_roundtrip.specs.Declarations.{unplaced_annotation, decl_unplaced, unplaced_decl}
 use Rattle.mdr_roundtrip.specs.Stated.{unplaced_label, statement_unplaced, clause_unplaced, node_unplaced, unplaced_node, unplaced_statement, unplaced_clause}
@@ -207,14 +207,6 @@ clause_made xs ns = fold-roll-Clause NodeWhat Clause Node statement_unplaced cla
 
 -- ---- lists
 
-pub map_more : {X Y : Type 0} (f : X → Y) (xs : List X) (x : X) → map f (xs ++ (x ∷ [])) ≡ map f xs ++ (f x ∷ [])
-map_more f [] x = refl
-map_more {Y = Y} f (y ∷ ys) x = ap (λ (zs : List Y). f y ∷ zs) (map_more f ys x)
-
-map_append : {X Y : Type 0} (f : X → Y) (xs ys : List X) → map f (xs ++ ys) ≡ map f xs ++ map f ys
-map_append f [] ys = refl
-map_append {Y = Y} f (x ∷ xs) ys = ap (λ (zs : List Y). f x ∷ zs) (map_append f xs ys)
-
 pub map_joined : {X Y : Type 0} (f : X → Y) (xss : List (List X)) → map f (joined xss) ≡ joined (map (map f) xss)
 map_joined f [] = refl
-map_joined {Y = Y} f (xs ∷ xss) = map_append f xs (joined xss) ∙ ap (λ (zs : List Y). map f xs ++ zs) (map_joined f xss)
+map_joined {Y = Y} f (xs ∷ xss) = map-append f xs (joined xss) ∙ ap (λ (zs : List Y). map f xs ++ zs) (map_joined f xss)
