@@ -40,3 +40,12 @@ pub mod ShapedNodes
 pub mod ShapingStatements
 pub mod ShapingItems
 pub mod ShapingSources
+pub mod Erased
+pub mod Placeless
+pub mod Unplacing
+pub mod PlacelessForms
+pub mod PlacelessDecls
+pub mod PlacelessStatements
+pub mod PlacelessItems
+pub mod PlacelessRules
+pub mod PlacedSources

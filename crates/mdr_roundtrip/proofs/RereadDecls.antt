@@ -14,20 +14,20 @@ use Rattle.mdr_syntax.specs.declared.tree.Const.{Const}
 use Rattle.mdr_syntax.specs.declared.tree.Decl.{Decl, roll-Decl, out-Decl, out-roll-Decl}
 use Rattle.mdr_syntax.specs.declared.tree.Decl.TheOpen.{Decl-F}
 use Rattle.mdr_syntax.specs.declared.tree.Decl.TheFolds.{ind-Decl, map-Decl, fold-roll-Decl}
-use Rattle.mdr_print.specs.Marks.{Mark, Is, Blank, Marks, blank_unless, separated, comma_list}
+use Rattle.mdr_print.specs.Marks.{Mark, Marks, blank_unless, separated}
 use Rattle.mdr_print.specs.Spelled.{lexemes}
 use Rattle.mdr_print.specs.Types.{kind_name, base_name, stars as printed_stars}
-use Rattle.mdr_print.specs.Declarations.{Declared, annotated, sized_name, core, is_bare, const_if, is_lone_void, is_void_base, parameter_list, whole_of, alone_shown, decl_shown, shown_decl, declaration, declarator as declarator_of}
+use Rattle.mdr_print.specs.Declarations.{Declared, annotated, sized_name, core, is_bare, const_if, is_void_base, parameter_list, whole_of, alone_shown, decl_shown, shown_decl, declaration, declarator as declarator_of}
 use Rattle.mdr_reread.specs.Printable.{all}
 use Rattle.mdr_reread.specs.Declared.{maybe}
 use Rattle.mdr_reread.proofs.Tests.{both}
 use Rattle.mdr_reread.proofs.Parts.{suc_not_zero}
 use Rattle.mdr_grammar.specs.declared.parts.Specifier.{Specifier}
 use Rattle.mdr_grammar.specs.declared.sort.Sort.{Sort}
-use Rattle.mdr_grammar.specs.Sorts.{is, sort_of, words}
-use Rattle.mdr_grammar.specs.Forms.{Nonterminal, Value, Right, ◌>>=◌, form, and_then, or_else, where_allowed}
-use Rattle.mdr_grammar.specs.Forms.Part.{base, specifiers, annotation, declarator, parameter, field}
-use Rattle.mdr_grammar.specs.Forms.Nonterminal.{part, commas, parameters, after_void, parameter_declarator}
+use Rattle.mdr_grammar.specs.Sorts.{sort_of, words}
+use Rattle.mdr_grammar.specs.Forms.{Nonterminal, Value, Right, ◌>>=◌, and_then, or_else, where_allowed}
+use Rattle.mdr_grammar.specs.Forms.Part.{specifiers, annotation, declarator, parameter, field}
+use Rattle.mdr_grammar.specs.Forms.Nonterminal.{part, commas, parameters, after_void}
 use Rattle.mdr_grammar.specs.Forms.Separated.{parameters_at}
 use Rattle.mdr_grammar.specs.Forms.Right.{gives}
 use Rattle.mdr_grammar.specs.Forms.Rule.{given}
@@ -35,7 +35,7 @@ use Rattle.mdr_grammar.specs.Expressions.{may_open, base_rule}
 use Rattle.mdr_grammar.specs.Declarations.{unnamed, void_base, with_annotation, specifiers_rule, annotation_rule, annotated_parameter, parameter_of, parameter_rule, parameter_declarator_rule, more_parameters, after_void_rule, parameters_rule}
 use Rattle.mdr_grammar.specs.Grammar.{rule, Gets, Follows}
 use Rattle.mdr_grammar.specs.Grammar.Gets.{absent, present}
-use Rattle.mdr_grammar.specs.Grammar.Follows.{done, word, both as parts}
+use Rattle.mdr_grammar.specs.Grammar.Follows.{done, both as parts}
 use Rattle.mdr_roundtrip.specs.Shaped.{is_name, is_named_base, are_stars}
 use Rattle.mdr_roundtrip.specs.Unplaced.{nowhere, at, all_at, unplaced_base}
 use Rattle.mdr_roundtrip.specs.Initialised.{unplaced_const, is_shaped_const}
@@ -44,7 +44,7 @@ use Rattle.mdr_roundtrip.proofs.Following.{through}
 use Rattle.mdr_roundtrip.proofs.Signs.{comma_sort, struct_sort, void_sort, lock_sort, kind_sort}
 use Rattle.mdr_roundtrip.proofs.Rereading.{tokens_of, no_rule}
 use Rattle.mdr_roundtrip.proofs.RereadForms.{base_reread, blank_gone}
-use Rattle.mdr_roundtrip.proofs.RereadParts.{There, through_there, names, annotation_reread, annotated_reread, ArePointed, bare, nowhere_based, declarator_reread, parameter_declarator_reread, parameter_declarator_there}
+use Rattle.mdr_roundtrip.proofs.RereadParts.{through_there, names, annotation_reread, annotated_reread, ArePointed, bare, nowhere_based, declarator_reread, parameter_declarator_reread, parameter_declarator_there}
 
 const_sort : (halves : Bool) → sort_of halves (Word (codes "const")) ≡ Sort.Qualifier
 unfolding sort_of words

@@ -1,8 +1,8 @@
 -- Printed items and trees are read again.
-use Rattle.std.proofs.Common.{◌≡◌, refl, sym, subst, ap, ◌∙◌, arith, ℕ, zero, suc, ◌+◌, ◌≤◌, Bool, true, false, not, Option, Some, None, List, [], ◌∷◌, ◌++◌, map, append_assoc}
-use Rattle.std.specs.Prelude.{◌&&◌, ◌||◌, IsTrue, codes}
+use Rattle.std.proofs.Common.{◌≡◌, refl, sym, subst, ap, ◌∙◌, arith, ℕ, zero, suc, ◌+◌, ◌≤◌, Bool, true, false, Option, Some, None, List, [], ◌∷◌, ◌++◌, map, append_assoc}
+use Rattle.std.specs.Prelude.{◌&&◌, codes}
 use Rattle.std.specs.List.{list_all}
-use Rattle.std.specs.Option.{option_map, is_some}
+use Rattle.std.specs.Option.{option_map}
 use Rattle.std.proofs.lemmas.Bool.{false≢true, le-leb, leb-true}
 use Rattle.std.proofs.lemmas.List.{append-nil}
 use Rattle.mdr_core.specs.declared.place.Place.{Place}
@@ -13,9 +13,7 @@ use Rattle.mdr_syntax.specs.declared.tree.Base.{Base}
 use Rattle.mdr_syntax.specs.declared.tree.Base.TheVariants as base_type
 use Rattle.mdr_syntax.specs.declared.tree.Const.{Const}
 use Rattle.mdr_core.specs.declared.kind.Kind.{Kind}
-use Rattle.mdr_syntax.specs.declared.tree.Decl.{Decl, out-Decl, roll-Decl, out-roll-Decl}
-use Rattle.mdr_syntax.specs.declared.tree.Decl.TheOpen.{Decl-F}
-use Rattle.mdr_syntax.specs.declared.tree.Decl.TheFolds.{fold_out-Decl}
+use Rattle.mdr_syntax.specs.declared.tree.Decl.{Decl, out-Decl, roll-Decl}
 use Rattle.mdr_syntax.specs.declared.tree.Enumerator.{Enumerator}
 use Rattle.mdr_syntax.specs.declared.tree.Head.{Head}
 use Rattle.mdr_syntax.specs.declared.tree.Init.{Init}
@@ -24,47 +22,42 @@ use Rattle.mdr_syntax.specs.declared.tree.ItemWhat.{ItemWhat}
 use Rattle.mdr_syntax.specs.declared.tree.ItemWhat.TheVariants as item_is
 use Rattle.mdr_syntax.specs.declared.tree.Node.{Node}
 use Rattle.mdr_syntax.specs.declared.tree.Tree.{Tree}
-use Rattle.mdr_print.specs.Marks.{Mark, Is, Newline, Marks, word as printed_word, blank, separated, comma_list, row, ◌▸◌}
+use Rattle.mdr_print.specs.Marks.{Mark, Is, Newline, Marks, word as printed_word, blank, separated, row, ◌▸◌}
 use Rattle.mdr_print.specs.Types.{kind_name, base_name, stars as printed_stars}
-use Rattle.mdr_print.specs.Declarations.{Declared, annotated, sized_name, core, parameter_list, parameters as parameters_printed, shown_decl, declaration, declarator as declarator_of, head as printed_head, initialised, init, valued, enumerator as printed_enumerator, constant as printed_constant}
+use Rattle.mdr_print.specs.Declarations.{Declared, annotated, sized_name, core, parameter_list, parameters as parameters_printed, shown_decl, declaration, declarator as declarator_of, head as printed_head, initialised, valued, enumerator as printed_enumerator}
 use Rattle.mdr_print.specs.Statements.{semicolon, lines, closed, block_words, written}
-use Rattle.mdr_print.specs.Items.{field as printed_field, item_words, item_lines, tree_marks}
-use Rattle.mdr_print.specs.Spelled.{lexemes, spelled}
-use Rattle.mdr_reread.specs.Printable.{all}
+use Rattle.mdr_print.specs.Items.{field as printed_field, item_words, item_lines}
+use Rattle.mdr_print.specs.Spelled.{spelled}
 use Rattle.mdr_reread.specs.Declared.{maybe}
 use Rattle.mdr_reread.proofs.Tests.{both}
-use Rattle.mdr_grammar.specs.declared.parts.Specifier.{Specifier}
 use Rattle.mdr_grammar.specs.declared.sort.Sort.{Sort}
 use Rattle.mdr_grammar.specs.Sorts.{is, sort_of, words}
-use Rattle.mdr_grammar.specs.Forms.{Nonterminal, Value, Right, ◌>>=◌, take, form as whole_form, one, and_then, or_else, where_allowed}
-use Rattle.mdr_grammar.specs.Forms.Part.{base, specifiers, declarator, field, field_group, enumerator, value, initial, initialiser, global, item}
-use Rattle.mdr_grammar.specs.Forms.Repeated.{field_groups, items, block_items}
-use Rattle.mdr_grammar.specs.Forms.Separated.{fields_of}
+use Rattle.mdr_grammar.specs.Forms.{Nonterminal, Value, Right, ◌>>=◌, take, form as whole_form, and_then}
+use Rattle.mdr_grammar.specs.Forms.Part.{base, field_group, enumerator, value, initial, item}
+use Rattle.mdr_grammar.specs.Forms.Repeated.{field_groups, items}
 use Rattle.mdr_grammar.specs.Forms.Enclosed.{enumerators}
-use Rattle.mdr_grammar.specs.Forms.Nonterminal.{part, option, many, commas_open, after_comma, parameters, qualified, outer, remote, critical, function, function_end, fields}
+use Rattle.mdr_grammar.specs.Forms.Nonterminal.{part, option, commas_open, after_comma, outer, remote, critical, function, function_end, fields}
 use Rattle.mdr_grammar.specs.Forms.Right.{gives}
-use Rattle.mdr_grammar.specs.Forms.Rule.{given}
-use Rattle.mdr_grammar.specs.Expressions.{base_rule}
-use Rattle.mdr_grammar.specs.Declarations.{specifiers_rule, fields_in, field_group_rule, enumerator_rule, initial_rule, value_rule}
-use Rattle.mdr_grammar.specs.Statements.{item_at as items_at, are_named, head_of, function_head, function_with, function_end_rule, function_rule, outer_rule, remote_rule, critical_rule, qualified_rule, fields_rule, item_rule, other_globals, globals_with, more_globals, tree_of, joined}
+use Rattle.mdr_grammar.specs.Declarations.{fields_in, enumerator_rule}
+use Rattle.mdr_grammar.specs.Statements.{item_at as items_at, are_named, function_head, function_with, function_end_rule, function_rule, outer_rule, remote_rule, critical_rule, fields_rule, item_rule, more_globals, joined}
 use Rattle.mdr_grammar.specs.Grammar.{rule, Gets, Follows, Reads}
 use Rattle.mdr_grammar.specs.Grammar.Gets.{absent, present}
 use Rattle.mdr_grammar.specs.Grammar.Follows.{done, word, both as parts}
 use Rattle.mdr_roundtrip.specs.Shaped.{is_name, is_named_base, are_stars}
 use Rattle.mdr_roundtrip.specs.Unplaced.{nowhere, at, all_at, unplaced_base}
-use Rattle.mdr_roundtrip.specs.Initialised.{unplaced_const, unplaced_init, is_shaped_const, is_shaped_init, are_some}
-use Rattle.mdr_roundtrip.specs.Declarations.{Standing, unplaced_annotation, decl_unplaced, unplaced_decl, is_annotation_at, is_shaped_decl}
-use Rattle.mdr_roundtrip.specs.Stated.{unplaced_node, stated}
+use Rattle.mdr_roundtrip.specs.Initialised.{unplaced_const, unplaced_init, is_shaped_const, are_some}
+use Rattle.mdr_roundtrip.specs.Declarations.{unplaced_annotation, unplaced_decl, is_annotation_at}
+use Rattle.mdr_roundtrip.specs.Stated.{unplaced_node}
 use Rattle.mdr_roundtrip.specs.Itemised.{unplaced_enumerator, unplaced_head, unplaced_what_item, unplaced_item, unplaced_tree, is_shaped_field, is_shaped_enumerator, initial_at, is_shaped_parameter, is_shaped_head, is_shaped_body, is_shaped_what, is_shaped_item, is_shaped_tree}
-use Rattle.mdr_roundtrip.proofs.Bools.{also}
+use Rattle.mdr_roundtrip.proofs.Unplacing.{names_kept}
 use Rattle.mdr_roundtrip.proofs.Following.{through}
 use Rattle.mdr_roundtrip.proofs.Signs.{open_sort, star_sort, comma_sort, struct_sort, void_sort, lock_sort, kind_sort, name_sort}
-use Rattle.mdr_roundtrip.proofs.Rereading.{tokens_of, no_rule}
+use Rattle.mdr_roundtrip.proofs.Rereading.{tokens_of}
 use Rattle.mdr_roundtrip.proofs.RereadForms.{allowed, base_reread}
 use Rattle.mdr_roundtrip.proofs.RereadInits.{constant_reread, inits_reread, equals_sort}
-use Rattle.mdr_roundtrip.proofs.RereadParts.{opens, closes, names, size_reread, annotated_reread, ArePointed, nowhere_based, named_reread}
-use Rattle.mdr_roundtrip.proofs.RereadDecls.{with_is, Apart, IsAlone, good_decls, IsFieldRead, fields_reread, parameters_reread}
-use Rattle.mdr_roundtrip.proofs.RereadLists.{tabs_gone, AllRead, many_reread, alone, joined_alone}
+use Rattle.mdr_roundtrip.proofs.RereadParts.{opens, closes, names, size_reread, annotated_reread, ArePointed, nowhere_based}
+use Rattle.mdr_roundtrip.proofs.RereadDecls.{with_is, good_decls, fields_reread, parameters_reread}
+use Rattle.mdr_roundtrip.proofs.RereadLists.{AllRead, many_reread, alone, joined_alone}
 use Rattle.mdr_roundtrip.proofs.RereadStatements.{semicolon_sort, brace_sort, ends, unbraces}
 use Rattle.mdr_roundtrip.proofs.RereadLoops.{allowed_always, body_reread}
 
@@ -262,14 +255,8 @@ critical_function halves k (suc n) j b name ps a ns rest e low h s =
     (parts (critical_function halves (k + 1) n j b name ps a ns rest (omega (arith, e)) low h s) done)
 
 -- names are kept
-name_kept : (p : Decl) → (out-Decl (unplaced_decl p)).name ≡ (out-Decl p).name
-name_kept p = ap (λ (d : Decl). (out-Decl d).name) (fold_out-Decl Decl decl_unplaced p) ∙ ap (λ (l : Decl-F Decl). l.name) (out-roll-Decl _)
-
 still_named : (ps : List Decl) → are_named ps ≡ true → are_named (map unplaced_decl ps) ≡ true
-still_named [] h = refl
-still_named (p ∷ ps) h =
-    let k = both (is_some (out-Decl p).name) (are_named ps) h in
-    also (is_some (out-Decl (unplaced_decl p)).name) (are_named (map unplaced_decl ps)) (ap (λ (o : Option (List ℕ)). is_some o) (name_kept p) ∙ k.0) (still_named ps k.1)
+still_named ps h = names_kept ps ∙ h
 
 head_parts : (named : Bool) (h : Head) → is_shaped_head named h ≡ true → (is_named_base h.base ≡ true) × ((h.stars ≤ 4294967295) × Headed named h.name h.params h.ann)
 head_parts named h e =

@@ -1,7 +1,6 @@
 -- Printed left sides of assignments, and expressions that are statements, are read again as operands without a cast.
-use Rattle.std.proofs.Common.{◌≡◌, refl, sym, subst, ap, ◌∙◌, arith, ℕ, suc, ◌+◌, ◌≤◌, Bool, true, false, not, List, [], ◌∷◌, map}
-use Rattle.std.specs.Prelude.{◌&&◌, codes}
-use Rattle.std.specs.List.{list_all}
+use Rattle.std.proofs.Common.{◌≡◌, refl, sym, subst, ap, arith, ℕ, suc, ◌+◌, ◌≤◌, Bool, true, false, not, List, ◌∷◌, map}
+use Rattle.std.specs.Prelude.{codes}
 use Rattle.std.proofs.lemmas.Bool.{false≢true}
 use Rattle.mdr_syntax.specs.declared.token.Lexeme.TheVariants.{Punct}
 use Rattle.mdr_syntax.specs.declared.tree.Form.{Form}
@@ -11,19 +10,18 @@ use Rattle.mdr_syntax.specs.declared.tree.FormWhat.TheOpen.{FormWhat-F}
 use Rattle.mdr_syntax.specs.declared.tree.FormWhat.TheFolds.{ind-Form, map-FormWhat, fold-roll-FormWhat, fold_out-Form}
 use Rattle.mdr_print.specs.Marks.{Mark, Is, sign, comma_list, in_parentheses, ◌▸◌}
 use Rattle.mdr_print.specs.Forms.{Shown, marks_of, plain, prefixed, parenthesised_if, operand as printed_operand, left_of, what_shown, form_shown, shown_form, shown_what, form, left_side}
-use Rattle.mdr_print.specs.Spelled.{lexemes}
-use Rattle.mdr_reread.specs.Words.{is_prefix, is_step, prefixes, steps}
+use Rattle.mdr_reread.specs.Words.{is_prefix, is_step, steps}
 use Rattle.mdr_reread.specs.Printable.{all}
 use Rattle.mdr_reread.proofs.Tests.{both, among}
 use Rattle.mdr_grammar.specs.declared.sort.Sort.{Sort}
 use Rattle.mdr_grammar.specs.Sorts.{sort_of, marks}
 use Rattle.mdr_grammar.specs.Forms.Part.{operand}
 use Rattle.mdr_grammar.specs.Forms.Nonterminal.{part}
-use Rattle.mdr_grammar.specs.Expressions.{height, form_at, operand_rule, step_before}
+use Rattle.mdr_grammar.specs.Expressions.{height, form_at, operand_rule}
 use Rattle.mdr_grammar.specs.Grammar.{Gets}
 use Rattle.mdr_grammar.specs.Grammar.Gets.{absent, present}
 use Rattle.mdr_grammar.specs.Grammar.Follows.{done, both as parts}
-use Rattle.mdr_roundtrip.specs.Unplaced.{nowhere, at, all_at, what_unplaced, form_unplaced, unplaced_form, unplaced_what}
+use Rattle.mdr_roundtrip.specs.Unplaced.{nowhere, at, what_unplaced, form_unplaced, unplaced_form, unplaced_what}
 use Rattle.mdr_roundtrip.specs.Shaped.{Shape, argument_of, what_shaped, form_shaped, shape_of, shape_of_what}
 use Rattle.mdr_roundtrip.specs.Alone.{what_alone, form_alone, is_alone, is_alone_what}
 use Rattle.mdr_roundtrip.proofs.Following.{free}

@@ -1,7 +1,6 @@
 -- What stands one behind the other is read again, if each is.
 use Rattle.std.proofs.Common.{◌≡◌, refl, sym, subst, ap, ◌∙◌, ℕ, zero, suc, Bool, true, List, [], ◌∷◌, ◌++◌, map, append_assoc}
 use Rattle.std.specs.Prelude.{◌&&◌}
-use Rattle.std.specs.List.{flat_map}
 use Rattle.std.proofs.lemmas.List.{append-nil}
 use Rattle.mdr_syntax.specs.declared.token.Token.{Token}
 use Rattle.mdr_print.specs.Marks.{Mark, Marks, tabs, row}

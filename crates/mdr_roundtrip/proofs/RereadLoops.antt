@@ -14,7 +14,7 @@ use Rattle.mdr_syntax.specs.declared.tree.Base.{Base}
 use Rattle.mdr_syntax.specs.declared.tree.Base.TheVariants as base_type
 use Rattle.mdr_syntax.specs.declared.tree.Clause.{Clause}
 use Rattle.mdr_syntax.specs.declared.tree.Const.{Const}
-use Rattle.mdr_syntax.specs.declared.tree.Decl.{Decl, out-Decl}
+use Rattle.mdr_syntax.specs.declared.tree.Decl.{out-Decl}
 use Rattle.mdr_syntax.specs.declared.tree.Form.{Form}
 use Rattle.mdr_syntax.specs.declared.tree.Label.{Label}
 use Rattle.mdr_syntax.specs.declared.tree.Node.{Node}
@@ -23,11 +23,9 @@ use Rattle.mdr_syntax.specs.declared.tree.NodeWhat.{NodeWhat}
 use Rattle.mdr_syntax.specs.declared.tree.NodeWhat.TheOpen.{NodeWhat-F}
 use Rattle.mdr_syntax.specs.declared.tree.NodeWhat.TheFolds.{ind-Node, map-NodeWhat, fold-roll-NodeWhat, fold-roll-Clause, fold_out-Node}
 use Rattle.mdr_syntax.specs.declared.tree.NodeWhat.TheViews.{roll-Clause}
-use Rattle.mdr_print.specs.Marks.{Mark, Is, Blank, Newline, Marks, nothing as no_marks, word as printed_word, blank, tabs, row, ◌▸◌}
-use Rattle.mdr_print.specs.Types.{base_name}
-use Rattle.mdr_print.specs.Forms.{form, left_side}
-use Rattle.mdr_print.specs.Declarations.{constant as printed_constant}
-use Rattle.mdr_print.specs.Statements.{Written, sole as sole_written, simple as simple_written, clauses_words, semicolon, line_of, lines, closed, braced, clause_head, otherwise, optional, for_parts, for_test, step_of, head_list, label, label_words, at as at_depth, clause_lines, what_written, clause_written, node_written, written, written_what, written_clause}
+use Rattle.mdr_print.specs.Marks.{Mark, Is, Blank, Newline, Marks, nothing as no_marks, blank, row, ◌▸◌}
+use Rattle.mdr_print.specs.Forms.{form}
+use Rattle.mdr_print.specs.Statements.{Written, sole as sole_written, simple as simple_written, clauses_words, semicolon, line_of, lines, closed, braced, clause_head, for_parts, for_test, step_of, head_list, label, label_words, at as at_depth, clause_lines, what_written, clause_written, node_written, written, written_what, written_clause}
 use Rattle.mdr_reread.specs.Words.{is_among}
 use Rattle.mdr_reread.specs.Printable.{all}
 use Rattle.mdr_reread.specs.Declared.{maybe}
@@ -36,24 +34,22 @@ use Rattle.mdr_grammar.specs.declared.parts.Ended.{Ended}
 use Rattle.mdr_grammar.specs.declared.parts.Specifier.{Specifier}
 use Rattle.mdr_grammar.specs.declared.sort.Sort.{Sort}
 use Rattle.mdr_grammar.specs.Sorts.{is, sort_of, words, marks}
-use Rattle.mdr_grammar.specs.Forms.{Nonterminal, Value, Right, ◌>>=◌, take, form as whole_form, one, and_then, or_else, where_allowed}
-use Rattle.mdr_grammar.specs.Forms.Part.{expression, statement, body, plain, simple, opening, local, clause, label as label_part}
+use Rattle.mdr_grammar.specs.Forms.{Right, ◌>>=◌, take, form as whole_form, and_then, or_else, where_allowed}
+use Rattle.mdr_grammar.specs.Forms.Part.{statement, plain, simple, opening, local, clause, label as label_part}
 use Rattle.mdr_grammar.specs.Forms.Repeated.{block_items, clauses, labels, statements}
 use Rattle.mdr_grammar.specs.Forms.Separated.{locals}
 use Rattle.mdr_grammar.specs.Forms.Nonterminal.{part, option, commas, many}
 use Rattle.mdr_grammar.specs.Forms.Right.{gives}
 use Rattle.mdr_grammar.specs.Forms.Rule.{given}
-use Rattle.mdr_grammar.specs.Expressions.{is_level_free, height}
+use Rattle.mdr_grammar.specs.Expressions.{is_level_free}
 use Rattle.mdr_grammar.specs.Declarations.{specifiers_rule}
 use Rattle.mdr_grammar.specs.Statements.{node_at, simple_rule, locals_of, opening_rule, opening_simple_rule, statement_rule, plain_rule, label_rule, clause_of, for_at, opened_by}
 use Rattle.mdr_grammar.specs.Grammar.{rule, Gets, Follows}
 use Rattle.mdr_grammar.specs.Grammar.Gets.{absent, present}
 use Rattle.mdr_grammar.specs.Grammar.Follows.{done, word, both as parts}
-use Rattle.mdr_roundtrip.specs.Shaped.{shape_of}
 use Rattle.mdr_roundtrip.specs.Unplaced.{nowhere, at, unplaced_base, unplaced_form}
-use Rattle.mdr_roundtrip.specs.Initialised.{unplaced_const, is_shaped_const, are_some}
-use Rattle.mdr_roundtrip.specs.Declarations.{unplaced_decl}
-use Rattle.mdr_roundtrip.specs.Stated.{Stated, sole as sole_stated, as_simple, is_expression_at, assignments, item_at, block_at, opening_at, further_at, with_base, is_same_base, is_same_kind, simple_at, body_at, clause_at, statement_at, is_shaped_label, unplaced_label, statement_unplaced, clause_unplaced, node_unplaced, unplaced_node, unplaced_statement, unplaced_clause, statement_stated, clause_stated, node_stated, stated, stated_what, is_clause_at}
+use Rattle.mdr_roundtrip.specs.Initialised.{unplaced_const, is_shaped_const}
+use Rattle.mdr_roundtrip.specs.Stated.{Stated, sole as sole_stated, as_simple, is_expression_at, assignments, item_at, opening_at, further_at, with_base, is_same_base, is_same_kind, simple_at, clause_at, statement_at, is_shaped_label, unplaced_label, statement_unplaced, clause_unplaced, node_unplaced, unplaced_node, unplaced_statement, unplaced_clause, statement_stated, clause_stated, node_stated, stated, stated_what, is_clause_at}
 use Rattle.mdr_roundtrip.specs.Alone.{is_alone}
 use Rattle.mdr_roundtrip.proofs.Following.{through, through_first}
 use Rattle.mdr_roundtrip.proofs.Rereading.{tokens_of, no_rule}
@@ -61,9 +57,9 @@ use Rattle.mdr_roundtrip.proofs.RereadForms.{allowed, placed_first}
 use Rattle.mdr_roundtrip.proofs.RereadInits.{constant_reread}
 use Rattle.mdr_roundtrip.proofs.RereadParts.{opens, closes, nowhere_based}
 use Rattle.mdr_roundtrip.proofs.RereadDecls.{specifiers_reread}
-use Rattle.mdr_roundtrip.proofs.RereadSimple.{assign_reread, plain_reread, local_reread, IsLocal}
+use Rattle.mdr_roundtrip.proofs.RereadSimple.{assign_reread, plain_reread, local_reread}
 use Rattle.mdr_roundtrip.proofs.RereadLists.{tabs_gone, AllRead, AllowedFor, many_reread, alone}
-use Rattle.mdr_roundtrip.proofs.RereadStatements.{brace_sort, ends, unbraces, IsStatement, IsHere, GoodNode, AreNodes, simple_statement, items_reread, block_statement, block_body, free_at, condition_then, IsBody, MaybeBody, if_reread, while_reread, do_reread, optional_expression, return_reread, break_reread, continue_reread, empty_reread}
+use Rattle.mdr_roundtrip.proofs.RereadStatements.{brace_sort, ends, unbraces, IsStatement, GoodNode, AreNodes, simple_statement, items_reread, block_statement, block_body, free_at, condition_then, IsBody, if_reread, while_reread, do_reread, optional_expression, return_reread, break_reread, continue_reread, empty_reread}
 
 for_sort : (halves : Bool) → sort_of halves (Word (codes "for")) ≡ Sort.For
 unfolding sort_of words

@@ -1,17 +1,14 @@
 -- Printed assignments, calls and locals are read again.
-use Rattle.std.proofs.Common.{◌≡◌, refl, sym, subst, ap, ◌∙◌, arith, ℕ, suc, ◌+◌, ◌≤◌, Bool, true, false, Option, Some, None, List, [], ◌∷◌, ◌++◌, map}
+use Rattle.std.proofs.Common.{◌≡◌, refl, sym, subst, ap, ◌∙◌, arith, ℕ, ◌+◌, ◌≤◌, Bool, true, false, Option, Some, None, List}
 use Rattle.std.specs.Prelude.{◌&&◌, ◌||◌, is_none, codes}
-use Rattle.std.specs.List.{list_all}
 use Rattle.std.specs.Option.{option_map}
 use Rattle.std.proofs.lemmas.Bool.{false≢true, leb-true}
-use Rattle.mdr_core.specs.declared.place.Place.{Place}
 use Rattle.mdr_syntax.specs.declared.token.Lexeme.TheVariants.{Punct}
 use Rattle.mdr_syntax.specs.declared.token.Token.{Token}
 use Rattle.mdr_syntax.specs.declared.tree.AnnText.{AnnText}
 use Rattle.mdr_syntax.specs.declared.tree.Base.{Base}
 use Rattle.mdr_syntax.specs.declared.tree.Decl.{Decl, out-Decl, roll-Decl, roll-out-Decl}
 use Rattle.mdr_syntax.specs.declared.tree.Form.{Form}
-use Rattle.mdr_syntax.specs.declared.tree.FormWhat
 use Rattle.mdr_syntax.specs.declared.tree.FormWhat.{FormWhat}
 use Rattle.mdr_syntax.specs.declared.tree.FormWhat.TheOpen.{FormWhat-F}
 use Rattle.mdr_syntax.specs.declared.tree.FormWhat.TheFolds.{ind-Form, map-FormWhat, fold-roll-FormWhat, fold_out-Form, fold-FormWhat}
@@ -23,20 +20,20 @@ use Rattle.mdr_print.specs.Forms.{Shown, what_shown, form_shown, shown_form, sho
 use Rattle.mdr_print.specs.Declarations.{Declared, shown_decl, declaration, declarator as declarator_of}
 use Rattle.mdr_print.specs.Statements.{assigned as printed_value}
 use Rattle.mdr_print.specs.Spelled.{lexemes}
-use Rattle.mdr_reread.specs.Words.{is_among, is_writable}
+use Rattle.mdr_reread.specs.Words.{is_among}
 use Rattle.mdr_reread.specs.Declared.{maybe}
 use Rattle.mdr_reread.proofs.Tests.{both, among}
 use Rattle.mdr_grammar.specs.declared.sort.Sort.{Sort}
-use Rattle.mdr_grammar.specs.Sorts.{is, sort_of, marks}
-use Rattle.mdr_grammar.specs.Forms.{Right, ◌>>=◌, form as whole_form, one, and_then, where_allowed}
-use Rattle.mdr_grammar.specs.Forms.Part.{operand, expression, declarator, simple, local, right, right_side}
+use Rattle.mdr_grammar.specs.Sorts.{sort_of, marks}
+use Rattle.mdr_grammar.specs.Forms.{Right, ◌>>=◌, form as whole_form, one, and_then}
+use Rattle.mdr_grammar.specs.Forms.Part.{expression, declarator, simple, local, right, right_side}
 use Rattle.mdr_grammar.specs.Forms.Nonterminal.{part, option, assignment}
-use Rattle.mdr_grammar.specs.Forms.Right.{gives, takes, then}
+use Rattle.mdr_grammar.specs.Forms.Right.{gives}
 use Rattle.mdr_grammar.specs.Forms.Rule.{given}
 use Rattle.mdr_grammar.specs.Expressions.{is_level_free, height, form_at, expression_rule}
 use Rattle.mdr_grammar.specs.Statements.{node_at, assignment_rule, right_side_rule, local_of}
 use Rattle.mdr_grammar.specs.Declarations.{with_annotation}
-use Rattle.mdr_grammar.specs.Grammar.{rule, Gets, Follows}
+use Rattle.mdr_grammar.specs.Grammar.{rule, Gets}
 use Rattle.mdr_grammar.specs.Grammar.Gets.{absent, present}
 use Rattle.mdr_grammar.specs.Grammar.Follows.{done, both as parts}
 use Rattle.mdr_roundtrip.specs.Unplaced.{nowhere, at, unplaced_base, what_unplaced, form_unplaced, unplaced_form, unplaced_what}

@@ -1,20 +1,18 @@
 -- Printed statements are read again.
-use Rattle.std.proofs.Common.{◌≡◌, refl, sym, subst, ap, ◌∙◌, arith, ℕ, zero, suc, ◌+◌, ◌≤◌, Bool, true, false, Option, Some, None, List, [], ◌∷◌, ◌++◌, map}
+use Rattle.std.proofs.Common.{◌≡◌, refl, sym, subst, ap, ◌∙◌, arith, ℕ, suc, ◌+◌, ◌≤◌, Bool, true, false, Option, Some, None, List, [], ◌∷◌, map}
 use Rattle.std.specs.Prelude.{◌&&◌, ◌||◌, codes}
-use Rattle.std.specs.List.{list_all}
 use Rattle.std.specs.Option.{option_map}
 use Rattle.std.proofs.lemmas.Bool.{false≢true}
-use Rattle.mdr_core.specs.declared.place.Place.{Place}
 use Rattle.mdr_syntax.specs.declared.token.Lexeme.TheVariants.{Word, Punct}
 use Rattle.mdr_syntax.specs.declared.token.Token.{Token}
 use Rattle.mdr_syntax.specs.declared.tree.Base.{Base}
 use Rattle.mdr_syntax.specs.declared.tree.Form.{Form}
 use Rattle.mdr_syntax.specs.declared.tree.Node.{Node}
 use Rattle.mdr_syntax.specs.declared.tree.NodeWhat
-use Rattle.mdr_print.specs.Marks.{Mark, Is, Blank, Newline, Marks, word as printed_word, blank, tabs, row, in_parentheses, ◌▸◌}
+use Rattle.mdr_print.specs.Marks.{Mark, Is, Blank, Newline, Marks, word as printed_word, blank, in_parentheses, ◌▸◌}
 use Rattle.mdr_print.specs.Types.{base_name}
 use Rattle.mdr_print.specs.Forms.{form}
-use Rattle.mdr_print.specs.Statements.{Written, semicolon, line, line_of, lines, opened, closed, braced, clause_head, otherwise, optional, returned, for_parts, for_test, step_of, head_list, next_part}
+use Rattle.mdr_print.specs.Statements.{Written, semicolon, line_of, lines, closed, braced, clause_head, otherwise, optional, returned}
 use Rattle.mdr_reread.specs.Printable.{all}
 use Rattle.mdr_reread.specs.Declared.{maybe}
 use Rattle.mdr_reread.proofs.Tests.{both}
@@ -23,27 +21,26 @@ use Rattle.mdr_grammar.specs.declared.parts.Specifier.{Specifier}
 use Rattle.mdr_grammar.specs.declared.sort.Sort.{Sort}
 use Rattle.mdr_grammar.specs.Sorts.{is, sort_of, words, marks}
 use Rattle.mdr_grammar.specs.Forms.{Nonterminal, Value, Right, ◌>>=◌, take, form as whole_form, one, and_then, or_else, where_allowed}
-use Rattle.mdr_grammar.specs.Forms.Part.{expression, statement, body, simple, block_item, opening, local, specifiers}
+use Rattle.mdr_grammar.specs.Forms.Part.{expression, statement, body, simple, block_item}
 use Rattle.mdr_grammar.specs.Forms.Repeated.{block_items}
-use Rattle.mdr_grammar.specs.Forms.Separated.{locals}
-use Rattle.mdr_grammar.specs.Forms.Nonterminal.{part, option, commas, many, otherwise as other_branch}
+use Rattle.mdr_grammar.specs.Forms.Nonterminal.{part, option, many, otherwise as other_branch}
 use Rattle.mdr_grammar.specs.Forms.Right.{gives, takes}
 use Rattle.mdr_grammar.specs.Forms.Rule.{given}
-use Rattle.mdr_grammar.specs.Expressions.{is_level_free, height}
+use Rattle.mdr_grammar.specs.Expressions.{is_level_free}
 use Rattle.mdr_grammar.specs.Declarations.{specifiers_rule}
-use Rattle.mdr_grammar.specs.Statements.{node_at, simple_rule, simple_end, locals_of, condition, keyword_rule, deeper_keyword_rule, simple_statement_rule, statement_rule, block_item_rule, opening_rule, opening_simple_rule, body_rule, otherwise_rule, if_at, while_at, do_at, for_at, opened_by, other_node, other_closed, block_end, semicolon_behind, joined}
-use Rattle.mdr_grammar.specs.Grammar.{rule, Gets, Follows}
+use Rattle.mdr_grammar.specs.Statements.{node_at, simple_rule, simple_end, locals_of, condition, statement_rule, block_item_rule, body_rule, otherwise_rule, if_at, while_at, do_at, other_node, other_closed, block_end, semicolon_behind, joined}
+use Rattle.mdr_grammar.specs.Grammar.{Gets, Follows}
 use Rattle.mdr_grammar.specs.Grammar.Gets.{absent, present}
 use Rattle.mdr_grammar.specs.Grammar.Follows.{done, word, both as parts}
-use Rattle.mdr_roundtrip.specs.Unplaced.{nowhere, at, unplaced_base, unplaced_form}
-use Rattle.mdr_roundtrip.specs.Stated.{Stated, is_expression_at, item_at, block_at, opening_at, further_at, with_base, is_same_base, is_same_kind}
+use Rattle.mdr_roundtrip.specs.Unplaced.{nowhere, at, unplaced_form}
+use Rattle.mdr_roundtrip.specs.Stated.{Stated, is_expression_at, item_at, block_at}
 use Rattle.mdr_roundtrip.proofs.Following.{through, through_first, free}
 use Rattle.mdr_roundtrip.proofs.Rereading.{tokens_of, no_rule}
 use Rattle.mdr_roundtrip.proofs.RereadForms.{allowed, placed_first}
-use Rattle.mdr_roundtrip.proofs.RereadParts.{opens, closes, nowhere_based}
+use Rattle.mdr_roundtrip.proofs.RereadParts.{opens, closes}
 use Rattle.mdr_roundtrip.proofs.RereadDecls.{specifiers_reread}
 use Rattle.mdr_roundtrip.proofs.RereadSimple.{low_of, expression_reread, IsLocal}
-use Rattle.mdr_roundtrip.proofs.RereadLists.{right_bind, tabs_gone, AllRead, AllowedFor, many_reread, alone, joined_alone}
+use Rattle.mdr_roundtrip.proofs.RereadLists.{right_bind, tabs_gone, AllRead, many_reread, alone, joined_alone}
 
 -- ---- sorts
 

@@ -10,7 +10,7 @@ use Rattle.mdr_syntax.specs.declared.tree.Decl.{Decl, out-Decl}
 use Rattle.mdr_syntax.specs.declared.tree.Form.{Form}
 use Rattle.mdr_syntax.specs.declared.tree.FormWhat
 use Rattle.mdr_syntax.specs.declared.tree.FormWhat.TheOpen.{FormWhat-F}
-use Rattle.mdr_syntax.specs.declared.tree.FormWhat.TheFolds.{fold-FormWhat, map-FormWhat, fold-roll-FormWhat, fold_out-Form}
+use Rattle.mdr_syntax.specs.declared.tree.FormWhat.TheFolds.{fold-FormWhat, fold-roll-FormWhat, fold_out-Form}
 use Rattle.mdr_syntax.specs.declared.tree.FormWhat.TheVariants.{rolls-Text}
 use Rattle.mdr_syntax.specs.declared.tree.Label.{Label}
 use Rattle.mdr_syntax.specs.declared.tree.Node.{Node}
@@ -30,7 +30,7 @@ use Rattle.mdr_grammar.specs.Expressions.{is_level_free, form_at}
 use Rattle.mdr_grammar.specs.Statements.{node_at, other_node, opened_by}
 use Rattle.mdr_roundtrip.specs.Initialised.{are_some}
 use Rattle.mdr_roundtrip.specs.Alone.{is_alone}
-use Rattle.mdr_roundtrip.specs.Stated.{Stated, is_expression_at, what_texted, form_texted, is_text_form, is_right_at, assignments, is_same_base, item_at, block_at, with_base, further_at, opening_at, simple_at, body_at, clause_at, statement_at, local_at, is_shaped_label, statement_stated, clause_stated, node_stated, stated, stated_what, is_clause_at}
+use Rattle.mdr_roundtrip.specs.Stated.{Stated, is_expression_at, what_texted, form_texted, is_text_form, assignments, is_same_base, item_at, block_at, with_base, further_at, opening_at, clause_at, statement_at, local_at, is_shaped_label, statement_stated, clause_stated, node_stated, stated, stated_what, is_clause_at}
 use Rattle.mdr_roundtrip.proofs.Bools.{also}
 use Rattle.mdr_roundtrip.proofs.Sourcing.{local_by, item_in, body_of}
 use Rattle.mdr_roundtrip.proofs.ShapedDecls.{bases_alike}

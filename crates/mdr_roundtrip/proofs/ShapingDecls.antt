@@ -1,5 +1,5 @@
 -- Declarations that are read have the shape of declarations.
-use Rattle.std.proofs.Common.{◌≡◌, refl, ℕ, ◌+◌, Bool, true, false, Option, Some, None, List, [], ◌∷◌, ◌++◌}
+use Rattle.std.proofs.Common.{◌≡◌, refl, ℕ, ◌+◌, Bool, true, false, Some, None, List, [], ◌∷◌}
 use Rattle.std.specs.Prelude.{◌&&◌, not, is_none}
 use Rattle.std.specs.List.{list_all}
 use Rattle.std.specs.Option.{option_map}
@@ -11,7 +11,7 @@ use Rattle.mdr_reread.specs.Declared.{maybe}
 use Rattle.mdr_reread.proofs.Tests.{both}
 use Rattle.mdr_grammar.specs.declared.parts.Specifier.{Specifier}
 use Rattle.mdr_grammar.specs.declared.sort.Sort.{Sort}
-use Rattle.mdr_grammar.specs.Forms.{Right, ◌>>=◌}
+use Rattle.mdr_grammar.specs.Forms.{◌>>=◌}
 use Rattle.mdr_grammar.specs.Expressions.{text_of, may_open, base_rule}
 use Rattle.mdr_grammar.specs.Declarations.{constant_rule, size_rule, annotation_rule, value_rule, specifiers_rule, declarator_rule, parameter_name_rule, unnamed, parameter_declarator_rule, annotated_parameter, parameter_of, parameter_rule, more_parameters, void_base, void_parameter, after_void_rule, listed_parameters, parameters_rule, field_rule, fields_in, field_group_rule, enumerator_rule, initial_rule, with_annotation}
 use Rattle.mdr_roundtrip.specs.Shaped.{is_name, is_named_base, are_stars}
@@ -25,7 +25,7 @@ use Rattle.mdr_roundtrip.proofs.Shaping.{knows}
 use Rattle.mdr_roundtrip.proofs.ShapingForms.{of_base, is_good_base}
 use Rattle.mdr_roundtrip.proofs.ShapingInits.{of_constant}
 use Rattle.mdr_roundtrip.proofs.Sourcing.{declared_by, is_parameter, based, sourcing, rule_kept, shaping_agrees, initialising_agrees}
-use Rattle.mdr_roundtrip.proofs.ShapedDecls.{pointed_at, decl_is, annotated_is, declared_is, one_is, unnamed_is, perhaps_is}
+use Rattle.mdr_roundtrip.proofs.ShapedDecls.{pointed_at, annotated_is, declared_is, one_is, unnamed_is, perhaps_is}
 
 pub source_base : (halves : Bool) (s : Sort) (t : Token) → SoundRuleBy (sourcing halves) (base_rule s t) is_good_base
 source_base halves s t = rule_kept _ halves (shaping_agrees halves) (base_rule s t) is_good_base (of_base s t)

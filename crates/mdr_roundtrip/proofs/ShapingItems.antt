@@ -1,8 +1,7 @@
 -- Items that are read have the shape of items.
-use Rattle.std.proofs.Common.{◌≡◌, refl, ap, ◌∙◌, ℕ, ◌+◌, Bool, true, false, Option, Some, None, List, [], ◌∷◌, map}
-use Rattle.std.specs.Prelude.{◌&&◌, ◌||◌, not}
+use Rattle.std.proofs.Common.{◌≡◌, refl, ℕ, ◌+◌, Bool, true, false, Option, Some, None, List, [], ◌∷◌}
+use Rattle.std.specs.Prelude.{◌&&◌}
 use Rattle.std.specs.List.{list_all}
-use Rattle.std.proofs.lemmas.Bool.{false≢true}
 use Rattle.mdr_core.specs.declared.place.Place.{Place}
 use Rattle.mdr_syntax.specs.declared.token.Token.{Token}
 use Rattle.mdr_syntax.specs.declared.tree.AnnText.{AnnText}
@@ -17,21 +16,20 @@ use Rattle.mdr_reread.specs.Declared.{maybe}
 use Rattle.mdr_reread.proofs.Tests.{both}
 use Rattle.mdr_grammar.specs.declared.parts.Specifier.{Specifier}
 use Rattle.mdr_grammar.specs.declared.sort.Sort.{Sort}
-use Rattle.mdr_grammar.specs.Forms.{Right, ◌>>=◌, form}
+use Rattle.mdr_grammar.specs.Forms.{form}
 use Rattle.mdr_grammar.specs.Forms.Nonterminal.{outer}
 use Rattle.mdr_grammar.specs.Expressions.{text_of, number_in, kind_in, base_rule}
 use Rattle.mdr_grammar.specs.Declarations.{declarator_rule, with_annotation}
 use Rattle.mdr_grammar.specs.Statements.{item_at, joined, are_named, global_with, global_rule, more_globals, globals_with, head_of, function_with, function_end_rule, function_rule, named_global, outer_rule, remote_rule, critical_rule, typed_item, qualified_rule, fields_rule, struct_or_outer, is_negative, item_rule}
 use Rattle.mdr_roundtrip.specs.Shaped.{is_name, is_named_base, are_stars}
-use Rattle.mdr_roundtrip.specs.Initialised.{is_shaped_const, are_some}
-use Rattle.mdr_roundtrip.specs.Declarations.{Standing, is_annotation_at, is_shaped_decl}
-use Rattle.mdr_roundtrip.specs.Stated.{stated}
+use Rattle.mdr_roundtrip.specs.Initialised.{are_some}
+use Rattle.mdr_roundtrip.specs.Declarations.{Standing, is_annotation_at}
 use Rattle.mdr_roundtrip.specs.Itemised.{is_shaped_field, is_shaped_enumerator, initial_at, is_shaped_parameter, is_shaped_head, is_shaped_body, is_shaped_what, is_shaped_item}
 use Rattle.mdr_roundtrip.proofs.Bools.{also, all_one, all_flat}
 use Rattle.mdr_roundtrip.proofs.Judges.{SoundBy, SoundRuleBy, and_by}
 use Rattle.mdr_roundtrip.proofs.Shaping.{knows}
 use Rattle.mdr_roundtrip.proofs.ShapingForms.{is_good_base}
-use Rattle.mdr_roundtrip.proofs.Sourcing.{more, declared_by, item_in, is_parameter, all_items, based, grown, sourcing}
+use Rattle.mdr_roundtrip.proofs.Sourcing.{more, declared_by, item_in, all_items, based, grown, sourcing}
 use Rattle.mdr_roundtrip.proofs.ShapedDecls.{decl_is, annotated_is}
 use Rattle.mdr_roundtrip.proofs.ShapedNodes.{all_in}
 use Rattle.mdr_roundtrip.proofs.ShapingDecls.{source_base, source_declarator, alone_of}

@@ -1,34 +1,31 @@
 -- The tree of each source has the shape of one, and so it is read again from what is printed of it.
-use Rattle.std.proofs.Common.{◌≡◌, refl, sym, ap, subst, ◌∙◌, arith, ℕ, ◌+◌, Bool, true, false, Option, Some, None, List, [], ◌∷◌, ◌++◌}
+use Rattle.std.proofs.Common.{◌≡◌, refl, sym, ap, subst, ◌∙◌, arith, ℕ, Bool, true, false, Some, None, List, [], ◌∷◌, ◌++◌}
 use Rattle.std.specs.Prelude.{◌&&◌, ◌||◌, not, nat_eq}
 use Rattle.std.specs.List.{list_all}
 use Rattle.std.proofs.lemmas.Bool.{false≢true}
-use Rattle.mdr_syntax.specs.declared.token.Lexeme.{Lexeme}
 use Rattle.mdr_syntax.specs.declared.token.Token.{Token}
-use Rattle.mdr_syntax.specs.declared.tree.Item.{Item}
 use Rattle.mdr_syntax.specs.declared.tree.Tree.{Tree}
 use Rattle.mdr_print.specs.Spelled.{spelled}
 use Rattle.mdr_reread.specs.Declared.{maybe}
 use Rattle.mdr_reread.proofs.Tests.{both}
 use Rattle.mdr_grammar.specs.declared.sort.Sort.{Sort}
-use Rattle.mdr_grammar.specs.Sorts.{is, sort_of}
-use Rattle.mdr_grammar.specs.Forms.{Part, PartValue, Repeated, repeated, Separated, separated, Enclosed, enclosed, Nonterminal, Value, Right, form}
+use Rattle.mdr_grammar.specs.Sorts.{sort_of}
+use Rattle.mdr_grammar.specs.Forms.{Part, PartValue, Repeated, repeated, Separated, separated, Enclosed, enclosed, Nonterminal, form}
 use Rattle.mdr_grammar.specs.Forms.Part.{operand, expression, argument, statement, body, plain, simple, block_item, opening, local, right, right_side, label, clause, base, specifiers, size, annotation, constant, value, declarator, parameter, field, field_group, enumerator, initial, initialiser, element, global, item}
 use Rattle.mdr_grammar.specs.Forms.Repeated.{block_items, statements, clauses, labels, field_groups, items}
 use Rattle.mdr_grammar.specs.Forms.Enclosed.{enumerators, elements}
 use Rattle.mdr_grammar.specs.Forms.Nonterminal.{part, option, many, commas, commas_open, after_comma, postfix, operators, choice, opened, arguments, stars, text_behind, text_after, unsigned_word, assignment, otherwise, parameters, after_void, parameter_name, parameter_declarator, qualified, outer, remote, critical, function, function_end, fields}
 use Rattle.mdr_grammar.specs.Forms.Right.{gives}
-use Rattle.mdr_grammar.specs.Expressions.{text_of, is_level_free}
-use Rattle.mdr_grammar.specs.Statements.{joined, tree_of}
-use Rattle.mdr_grammar.specs.Grammar.{rule, empty, part_rule, Gets, Reads}
-use Rattle.mdr_roundtrip.specs.Lexed.{is_lexed, are_lexed}
-use Rattle.mdr_roundtrip.specs.Shaped.{is_name, is_named_base, are_stars}
+use Rattle.mdr_grammar.specs.Expressions.{text_of}
+use Rattle.mdr_grammar.specs.Grammar.{rule, empty, part_rule, Reads}
+use Rattle.mdr_roundtrip.specs.Lexed.{are_lexed}
+use Rattle.mdr_roundtrip.specs.Shaped.{is_name}
 use Rattle.mdr_roundtrip.specs.Initialised.{are_some}
 use Rattle.mdr_roundtrip.specs.Itemised.{is_shaped_item, is_shaped_tree, unplaced_tree}
 use Rattle.mdr_roundtrip.specs.Unplaced.{all_at}
 use Rattle.mdr_roundtrip.proofs.Bools.{also, all_more, all_flat}
-use Rattle.mdr_roundtrip.proofs.Judges.{SoundBy, SoundRuleBy, SoundEmpty, and_by, where_by, IsJudge, given_by}
-use Rattle.mdr_roundtrip.proofs.Shaping.{knows, sort_knows, shaping}
+use Rattle.mdr_roundtrip.proofs.Judges.{SoundRuleBy, SoundEmpty, and_by, where_by, IsJudge, given_by}
+use Rattle.mdr_roundtrip.proofs.Shaping.{knows, sort_knows}
 use Rattle.mdr_roundtrip.proofs.ShapingForms.{of_rule as expression_rules, of_nothing as expression_nothing}
 use Rattle.mdr_roundtrip.proofs.ShapingInits.{of_part as init_part, told_of}
 use Rattle.mdr_roundtrip.proofs.Sourcing.{more, sort_more, good_part, good, fits_part, fits, grown, based, all_items, sourcing, rule_kept, shaping_agrees, initialising_agrees}

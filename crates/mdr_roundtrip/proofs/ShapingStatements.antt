@@ -1,13 +1,12 @@
 -- Statements that are read have the shape of statements.
-use Rattle.std.proofs.Common.{◌≡◌, refl, ℕ, ◌+◌, Bool, true, false, Option, Some, None, List, [], ◌∷◌, ◌++◌, map}
+use Rattle.std.proofs.Common.{◌≡◌, refl, ℕ, ◌+◌, Bool, true, false, List, [], ◌∷◌, map}
 use Rattle.std.specs.Prelude.{◌&&◌, ◌||◌, not, is_none}
-use Rattle.std.specs.List.{list_all, flat_map}
+use Rattle.std.specs.List.{list_all}
 use Rattle.std.proofs.lemmas.Bool.{false≢true}
 use Rattle.mdr_core.specs.declared.place.Place.{Place}
 use Rattle.mdr_syntax.specs.declared.token.Token.{Token}
-use Rattle.mdr_syntax.specs.declared.tree.Decl.{Decl, out-Decl}
+use Rattle.mdr_syntax.specs.declared.tree.Decl.{out-Decl}
 use Rattle.mdr_syntax.specs.declared.tree.Form.{Form}
-use Rattle.mdr_syntax.specs.declared.tree.Label.{Label}
 use Rattle.mdr_syntax.specs.declared.tree.Node.{Node}
 use Rattle.mdr_syntax.specs.declared.tree.NodeWhat
 use Rattle.mdr_reread.specs.Words.{is_among}
@@ -16,23 +15,23 @@ use Rattle.mdr_reread.proofs.Tests.{both, or_right}
 use Rattle.mdr_grammar.specs.declared.parts.Ended.{Ended}
 use Rattle.mdr_grammar.specs.declared.parts.Specifier.{Specifier}
 use Rattle.mdr_grammar.specs.declared.sort.Sort.{Sort}
-use Rattle.mdr_grammar.specs.Forms.{Right, ◌>>=◌, Rule, form}
+use Rattle.mdr_grammar.specs.Forms.{◌>>=◌, form}
 use Rattle.mdr_grammar.specs.Forms.Nonterminal.{assignment}
 use Rattle.mdr_grammar.specs.Expressions.{text_of, text_form, is_level_free, operand_rule, expression_rule}
 use Rattle.mdr_grammar.specs.Declarations.{specifiers_rule, declarator_rule}
-use Rattle.mdr_grammar.specs.Statements.{node_at, joined, assigned, assignment_rule, simple_rule, right_side_rule, right_rule, local_of, local_rule, locals_of, locals_rule, nested_in, block_end, deeper_keyword_rule, keyword_rule, simple_end, simple_statement_rule, statement_rule, other_branch, otherwise_rule, single_rule, body_rule, plain_rule, semicolon_behind, block_item_rule, opening_simple_rule, opening_rule, label_rule, clause_of, clause_rule, other_node, opened_by}
-use Rattle.mdr_roundtrip.specs.Shaped.{is_named_base, shape_of}
-use Rattle.mdr_roundtrip.specs.Initialised.{is_shaped_const, are_some}
+use Rattle.mdr_grammar.specs.Statements.{node_at, joined, assigned, assignment_rule, simple_rule, right_side_rule, right_rule, local_of, local_rule, locals_of, locals_rule, nested_in, block_end, deeper_keyword_rule, keyword_rule, simple_end, simple_statement_rule, statement_rule, other_branch, otherwise_rule, single_rule, body_rule, plain_rule, semicolon_behind, block_item_rule, opening_simple_rule, opening_rule, label_rule, clause_of, clause_rule}
+use Rattle.mdr_roundtrip.specs.Shaped.{is_named_base}
+use Rattle.mdr_roundtrip.specs.Initialised.{are_some}
 use Rattle.mdr_roundtrip.specs.Declarations.{Standing, is_shaped_decl}
 use Rattle.mdr_roundtrip.specs.Alone.{is_alone}
-use Rattle.mdr_roundtrip.specs.Stated.{is_text_form, is_expression_at, is_right_at, assignments, is_same_base, local_at, opening_at, is_shaped_label, stated, is_clause_at}
+use Rattle.mdr_roundtrip.specs.Stated.{is_text_form, is_expression_at, is_right_at, assignments, is_same_base, opening_at, is_shaped_label, stated, is_clause_at}
 use Rattle.mdr_roundtrip.proofs.Bools.{also, all_one, all_flat}
-use Rattle.mdr_roundtrip.proofs.Judges.{SoundBy, SoundRuleBy, then_by, less_by, less_rule, and_by, or_by, where_by}
+use Rattle.mdr_roundtrip.proofs.Judges.{SoundBy, SoundRuleBy, less_rule, and_by, or_by, where_by}
 use Rattle.mdr_roundtrip.proofs.Shaping.{knows, is_expression, told_alone, is_postfix, is_operand}
 use Rattle.mdr_roundtrip.proofs.ShapingForms.{of_operand, of_expression, is_good_base}
 use Rattle.mdr_roundtrip.proofs.Sourcing.{more, declared_by, local_by, item_in, body_of, grown, sourcing, rule_kept, shaping_agrees}
 use Rattle.mdr_roundtrip.proofs.ShapedNodes.{empty_is, break_is, continue_is, return_is, assign_is, plain_is, block_statement, block_body, local_is, item_of_local, item_of_statement, opening_of_locals, opening_of_simple, if_is, while_is, do_is, for_is, switch_is, clause_is, text_is, simple_stands}
-use Rattle.mdr_roundtrip.proofs.ShapingDecls.{source_constant, source_specifiers, source_declarator}
+use Rattle.mdr_roundtrip.proofs.ShapingDecls.{source_specifiers, source_declarator}
 
 -- a test, or not
 pub either_way : (b : Bool) → (not b || b) ≡ true

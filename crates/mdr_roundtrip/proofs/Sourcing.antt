@@ -1,25 +1,22 @@
 -- What is known of all that a source gives: its parts have the shapes of those that are read.
-use Rattle.std.proofs.Common.{◌≡◌, refl, sym, subst, ℕ, ◌+◌, Bool, true, false, Option, Some, None, List, [], ◌∷◌, map}
+use Rattle.std.proofs.Common.{◌≡◌, refl, sym, ℕ, ◌+◌, Bool, true, false, Some, List, map}
 use Rattle.std.specs.Prelude.{◌&&◌, ◌||◌, not, is_none, nat_lt, nat_eq}
 use Rattle.std.specs.List.{list_all}
 use Rattle.std.specs.Option.{option_map}
 use Rattle.std.proofs.lemmas.Bool.{false≢true}
 use Rattle.mdr_syntax.specs.declared.token.Lexeme.{Lexeme}
 use Rattle.mdr_syntax.specs.declared.token.Lexeme.TheVariants as lexeme
-use Rattle.mdr_syntax.specs.declared.token.Token.{Token}
-use Rattle.mdr_syntax.specs.declared.tree.Base.{Base}
 use Rattle.mdr_syntax.specs.declared.tree.Decl.{Decl, out-Decl}
 use Rattle.mdr_syntax.specs.declared.tree.Item.{Item}
 use Rattle.mdr_syntax.specs.declared.tree.Node.{Node}
 use Rattle.mdr_syntax.specs.Words.{is_reserved}
 use Rattle.mdr_reread.specs.Words.{is_among}
 use Rattle.mdr_reread.specs.Declared.{maybe}
-use Rattle.mdr_reread.proofs.Tests.{both}
 use Rattle.mdr_grammar.specs.declared.parts.Ended.{Ended}
 use Rattle.mdr_grammar.specs.declared.parts.Specifier.{Specifier}
 use Rattle.mdr_grammar.specs.declared.sort.Sort.{Sort}
 use Rattle.mdr_grammar.specs.Sorts.{is, words, marks, sort_in, admitted, unlisted, sort_of}
-use Rattle.mdr_grammar.specs.Forms.{Part, PartValue, Repeated, repeated, Separated, separated, Enclosed, enclosed, Nonterminal, Value, Right, Rule}
+use Rattle.mdr_grammar.specs.Forms.{Part, PartValue, repeated, separated, enclosed, Nonterminal, Value, Right, Rule}
 use Rattle.mdr_grammar.specs.Forms.Part.{operand, expression, argument, statement, body, plain, simple, block_item, opening, local, right, right_side, label, clause, base, specifiers, size, annotation, constant, value, declarator, parameter, field, field_group, enumerator, initial, initialiser, element, global, item}
 use Rattle.mdr_grammar.specs.Forms.Nonterminal.{part, option, many, commas, commas_open, after_comma, postfix, operators, choice, opened, arguments, stars, text_behind, text_after, unsigned_word, assignment, otherwise, parameters, after_void, parameter_name, parameter_declarator, qualified, outer, remote, critical, function, function_end, fields}
 use Rattle.mdr_grammar.specs.Forms.Separated.{arguments_at}
@@ -27,13 +24,11 @@ use Rattle.mdr_grammar.specs.Forms.Enclosed.{elements}
 use Rattle.mdr_grammar.specs.Forms.Right.{gives, takes, then}
 use Rattle.mdr_grammar.specs.Forms.Rule.{never, given}
 use Rattle.mdr_grammar.specs.Expressions.{text_of, is_level_free}
-use Rattle.mdr_roundtrip.specs.Lexed.{is_lexed}
 use Rattle.mdr_roundtrip.specs.Shaped.{is_name, is_named_base, are_stars}
 use Rattle.mdr_roundtrip.specs.Initialised.{is_shaped_const, is_shaped_init, is_shaped_elem, are_some}
 use Rattle.mdr_roundtrip.specs.Declarations.{Standing, may_be_named, is_annotation_at, is_shaped_decl}
 use Rattle.mdr_roundtrip.specs.Stated.{stated, is_right_at, assignments, is_same_base, with_base, item_at, opening_at, is_shaped_label, is_clause_at}
 use Rattle.mdr_roundtrip.specs.Itemised.{is_shaped_field, is_shaped_enumerator, is_shaped_head, is_shaped_item}
-use Rattle.mdr_roundtrip.proofs.Bools.{also}
 use Rattle.mdr_roundtrip.proofs.Judges.{Judge, SoundBy, SoundRuleBy}
 use Rattle.mdr_roundtrip.proofs.Sorted.{listed, no}
 use Rattle.mdr_roundtrip.proofs.Shaping.{is_expression, is_argument, is_text, is_postfix, is_operand, shaping}

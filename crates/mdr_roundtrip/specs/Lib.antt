@@ -6,3 +6,4 @@ pub mod Declarations
 pub mod Alone
 pub mod Stated
 pub mod Itemised
+pub mod Again

@@ -1,6 +1,6 @@
 // Laws of sources that are read and printed, each the contract of a function that does nothing.
 
-ghost use Rattle.std.specs.Prelude.{◌≡◌, ◌≤◌, ◌+◌, ℕ, Bool, true, List, Ok};
+ghost use Rattle.std.specs.Prelude.{◌≡◌, ◌≤◌, ◌+◌, ℕ, Bool, true, List, map, Ok};
 ghost use Rattle.mdr_syntax.specs.declared.token.Token.{Token};
 ghost use Rattle.mdr_syntax.specs.declared.tree.Form.{Form as Expression};
 ghost use Rattle.mdr_syntax.specs.declared.tree.Init.{Init as Initialiser};
@@ -10,12 +10,13 @@ ghost use Rattle.mdr_print.specs.Declarations.{init};
 ghost use Rattle.mdr_print.specs.Forms.{form};
 ghost use Rattle.mdr_print.specs.Items.{printed};
 ghost use Rattle.mdr_print.specs.Marks.{Mark};
-ghost use Rattle.mdr_print.specs.Spelled.{GivesLexemes, lexemes, spelled};
+ghost use Rattle.mdr_print.specs.Spelled.{GivesLexemes, lexemes, spelled, what_of};
 ghost use Rattle.mdr_reread.specs.Whole.{is_printable};
 ghost use Rattle.mdr_grammar.specs.Expressions.{height};
 ghost use Rattle.mdr_grammar.specs.Forms.Nonterminal.{part};
 ghost use Rattle.mdr_grammar.specs.Forms.Part.{expression, initialiser};
 ghost use Rattle.mdr_grammar.specs.Grammar.{Gets, Reads};
+ghost use Rattle.mdr_roundtrip.specs.Again.{IsPrintedAsSource, IsSourceOf};
 ghost use Rattle.mdr_roundtrip.specs.Initialised.{is_shaped_init, unplaced_init};
 ghost use Rattle.mdr_roundtrip.specs.Lexed.{are_lexed};
 ghost use Rattle.mdr_roundtrip.specs.Shaped.{shape_of};
@@ -74,4 +75,14 @@ pub fn printed_trees_are_trees()
 pub fn sources_are_read_again()
     ensures shaped { (halves : Bool) (tokens : List Token) (tree : SourceTree) → are_lexed tokens ≡ true → Reads halves tokens tree → is_shaped_tree halves tree ≡ true }
     ensures again { (halves : Bool) (tokens : List Token) (tree : SourceTree) → are_lexed tokens ≡ true → Reads halves tokens tree → Reads halves (all_at (spelled tree)) (unplaced_tree tree) }
+{}
+
+/// Reading looks at no place: tokens with the same lexemes are sources of the same tree, places aside.
+pub fn sources_are_alike()
+    ensures { (halves : Bool) (tokens others : List Token) (tree : SourceTree) → map what_of tokens ≡ map what_of others → Reads halves tokens tree → IsSourceOf halves others tree }
+{}
+
+/// The text that is printed of a source's tree is a source, of the same tree, places aside.
+pub fn printed_sources_are_sources()
+    ensures { (bytes : List ℕ) (tokens : List Token) (halves : Bool) (tree : SourceTree) → tokens_of bytes ≡ Ok tokens → Reads halves tokens tree → IsPrintedAsSource halves tree }
 {}
