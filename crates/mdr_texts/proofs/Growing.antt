@@ -777,11 +777,11 @@ whole_by program s plan ups e all =
     ap (λ u. parts heading (type_lines program 0 plan.types) (function_lines plan 0 plan.names) (down_lines 0 plan.down) u ending) (sym (all_ups plan ups all))
     ∙ ap (λ v. so_by program v plan ups) (sym e)
 
+pub text_in : (program : Program) (bytes : List ℕ) (plan : Plan) (h : IsPlanText bytes plan) → struct_names program ≡ h.reader.structs → plan_text program plan ≡ bytes
+text_in program bytes plan h e =
+    ap (plan_text program) (sym h.same)
+    ∙ whole_by program h.reader.stage h.reader.plan h.reader.ups (done_is h.reader.stage h.done) ((held bytes h.lines h.reader h.reached).rest h.done)
+    ∙ sym (read_so_far program bytes h.lines h.reader h.reached (record { more = []; same = e ∙ sym (append-nil h.reader.structs) }))
+
 pub text_is : (bytes : List ℕ) (plan : Plan) → IsPlanText bytes plan → IsTextOf bytes plan
-text_is bytes plan h = record {
-  names = h.reader.structs;
-  text = λ program e.
-      ap (plan_text program) (sym h.same)
-      ∙ whole_by program h.reader.stage h.reader.plan h.reader.ups (done_is h.reader.stage h.done) ((held bytes h.lines h.reader h.reached).rest h.done)
-      ∙ sym (read_so_far program bytes h.lines h.reader h.reached (record { more = []; same = e ∙ sym (append-nil h.reader.structs) }));
-}
+text_is bytes plan h = record { names = h.reader.structs; text = λ program e. text_in program bytes plan h e }

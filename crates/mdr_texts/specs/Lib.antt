@@ -1,1 +1,2 @@
 pub mod PlanTexts
+pub mod Canonical

@@ -3,4 +3,4 @@
 
 mod laws;
 
-pub use laws::a_text_that_is_read_is_its_plans;
+pub use laws::{a_text_that_is_read_is_its_plans, the_text_of_a_plan_is_read_as_the_plan};
