@@ -14,15 +14,14 @@ use Rattle.mdr_grammar.specs.Forms.Repeated.{items}
 use Rattle.mdr_grammar.specs.Statements.{tree_of}
 use Rattle.mdr_grammar.specs.Grammar.{Gets, Reads}
 use Rattle.mdr_roundtrip.specs.Again.{IsSourceOf, IsPrintedAsSource}
-use Rattle.mdr_roundtrip.specs.Itemised.{unplaced_item, unplaced_tree}
-use Rattle.mdr_roundtrip.specs.Lexed.{are_lexed}
+use Rattle.mdr_roundtrip.specs.Itemised.{unplaced_item, unplaced_tree, is_shaped_tree}
 use Rattle.mdr_roundtrip.specs.Unplaced.{all_at}
 use Rattle.mdr_roundtrip.proofs.Erased.{erased_token}
 use Rattle.mdr_roundtrip.proofs.Unplacing.{map_joined}
 use Rattle.mdr_roundtrip.proofs.Placeless.{Alike, placed_by, erased_by}
 use Rattle.mdr_roundtrip.proofs.Placeless.Erases.{erases}
 use Rattle.mdr_roundtrip.proofs.PlacelessRules.{placeless}
-use Rattle.mdr_roundtrip.proofs.ShapingSources.{trees_again}
+use Rattle.mdr_roundtrip.proofs.RereadItems.{trees_reread}
 
 -- ---- tokens
 
@@ -79,10 +78,10 @@ placed_source halves tokens tree r of e =
 pub sources_alike : (halves : Bool) (tokens others : List Token) (tree : Tree) → map what_of tokens ≡ map what_of others → Reads halves tokens tree → IsSourceOf halves others tree
 sources_alike halves tokens others tree e r = placed_source halves others (unplaced_tree tree) (subst (λ (xs : List Lexeme). Reads halves (all_at xs) (unplaced_tree tree)) e (unplaced_source halves tokens tree r)) tree refl
 
--- what is printed of a source's tree is a source of it
-pub printed_again : (halves : Bool) (tokens : List Token) (tree : Tree) → are_lexed tokens ≡ true → Reads halves tokens tree → GivesLexemes (tokens_of (printed tree)) (spelled tree) → IsPrintedAsSource halves tree
-printed_again halves tokens tree a r g = record {
+-- what is printed of a tree that has the shape of those that are read is a source of it
+pub shape_again : (halves : Bool) (tree : Tree) → is_shaped_tree halves tree ≡ true → GivesLexemes (tokens_of (printed tree)) (spelled tree) → IsPrintedAsSource halves tree
+shape_again halves tree s g = record {
   tokens = g.tokens;
   is_text = g.is_read;
-  is_source = placed_source halves g.tokens (unplaced_tree tree) (subst (λ (xs : List Lexeme). Reads halves (all_at xs) (unplaced_tree tree)) (sym g.are) (trees_again halves tokens tree a r)) tree refl;
+  is_source = placed_source halves g.tokens (unplaced_tree tree) (subst (λ (xs : List Lexeme). Reads halves (all_at xs) (unplaced_tree tree)) (sym g.are) (trees_reread halves tree s)) tree refl;
 }

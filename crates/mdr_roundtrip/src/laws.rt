@@ -86,3 +86,9 @@ pub fn sources_are_alike()
 pub fn printed_sources_are_sources()
     ensures { (bytes : List ℕ) (tokens : List Token) (halves : Bool) (tree : SourceTree) → tokens_of bytes ≡ Ok tokens → Reads halves tokens tree → IsPrintedAsSource halves tree }
 {}
+
+/// The text that is printed of a tree is a source of it, places aside, where the tree can be printed and has the shape
+/// of those that are read.
+pub fn printed_shapes_are_sources()
+    ensures { (halves : Bool) (tree : SourceTree) → is_printable tree ≡ true → is_shaped_tree halves tree ≡ true → IsPrintedAsSource halves tree }
+{}

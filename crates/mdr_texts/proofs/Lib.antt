@@ -1,3 +1,5 @@
 pub mod Whole
 pub mod Growing
 pub mod Canonicals
+pub mod HalvesAgain
+pub mod JoinedAgain

@@ -1,2 +1,3 @@
 pub mod PlanTexts
 pub mod Canonical
+pub mod HalfTexts

@@ -3,12 +3,13 @@ use Rattle.mdr_print.specs.Spelled.{spelled}
 use Rattle.mdr_print.proofs.Reading.{reads_tree}
 use Rattle.mdr_reread.proofs.ItemsApart.{trees_apart}
 use Rattle.mdr_roundtrip.proofs.Lexemes.{tokens_are_lexed}
-use Rattle.mdr_roundtrip.proofs.PlacedSources.{printed_again}
+use Rattle.mdr_roundtrip.proofs.PlacedSources.{shape_again}
 use Rattle.mdr_roundtrip.proofs.Printing.{trees_are_printable}
+use Rattle.mdr_roundtrip.proofs.ShapingSources.{sources_are_shaped}
 use Rattle.mdr_roundtrip.proofs.laws.printed_sources_are_sources.Goals as goal
 
 pub returns : goal.returns
 unfolding printed spelled
 returns c bytes tokens halves tree e r =
     let a = tokens_are_lexed bytes tokens e in
-    printed_again halves tokens tree a r (reads_tree (tree_marks tree) (trees_apart tree (trees_are_printable halves tokens tree a r)))
+    shape_again halves tree (sources_are_shaped halves tokens tree a r) (reads_tree (tree_marks tree) (trees_apart tree (trees_are_printable halves tokens tree a r)))
