@@ -86,3 +86,8 @@ pub fn sources_are_alike()
 pub fn printed_sources_are_sources()
     ensures { (bytes : List ℕ) (tokens : List Token) (halves : Bool) (tree : SourceTree) → tokens_of bytes ≡ Ok tokens → Reads halves tokens tree → IsPrintedAsSource halves tree }
 {}
+
+/// What is printed of a tree doesn't show its places: trees that are equal, places aside, have one text.
+pub fn printing_looks_at_no_place()
+    ensures { (tree other : SourceTree) → unplaced_tree tree ≡ unplaced_tree other → printed tree ≡ printed other }
+{}
