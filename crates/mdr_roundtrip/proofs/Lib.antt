@@ -49,3 +49,7 @@ pub mod PlacelessStatements
 pub mod PlacelessItems
 pub mod PlacelessRules
 pub mod PlacedSources
+pub mod PrintedForms
+pub mod PrintedDecls
+pub mod PrintedStatements
+pub mod PrintedTrees

@@ -92,3 +92,8 @@ pub fn printed_sources_are_sources()
 pub fn printed_shapes_are_sources()
     ensures { (halves : Bool) (tree : SourceTree) → is_printable tree ≡ true → is_shaped_tree halves tree ≡ true → IsPrintedAsSource halves tree }
 {}
+
+/// What is printed of a tree doesn't show its places: trees that are equal, places aside, have one text.
+pub fn printing_looks_at_no_place()
+    ensures { (tree other : SourceTree) → unplaced_tree tree ≡ unplaced_tree other → printed tree ≡ printed other }
+{}

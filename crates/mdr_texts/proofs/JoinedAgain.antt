@@ -1,10 +1,8 @@
 -- Trees that are the halves of a tree, places aside, are joined to it, places aside.
-use Rattle.std.proofs.Common.{◌≡◌, Bool, true, false, not, ℕ, List, [], ◌∷◌, map, Result, Ok, Err, refl, sym, ap, subst, ◌∙◌}
-use Rattle.std.specs.Prelude.{◌&&◌, ◌||◌}
+use Rattle.std.proofs.Common.{◌≡◌, true, false, ℕ, List, [], ◌∷◌, map, Result, Ok, Err, refl, sym, ap, subst, ◌∙◌}
 use Rattle.std.specs.List.{list_all}
 use Rattle.std.specs.Str.{bytes_eq}
 use Rattle.std.proofs.lemmas.Bool.{false≢true}
-use Rattle.mdr_core.specs.declared.plan.Half.{Half}
 use Rattle.mdr_core.specs.declared.plan.Half.TheVariants.{Kernel, User}
 use Rattle.mdr_core.specs.declared.plan.Plan.{Plan}
 use Rattle.mdr_syntax.specs.declared.token.Token.{Token}
@@ -24,7 +22,7 @@ use Rattle.mdr_roundtrip.specs.Itemised.{unplaced_what_item, unplaced_item, unpl
 use Rattle.mdr_roundtrip.specs.Unplaced.{nowhere}
 use Rattle.mdr_half.specs.declared.joining.Whole.{Whole}
 use Rattle.mdr_half.specs.declared.joining.Whole.TheVariants.{First, Second, Neither}
-use Rattle.mdr_half.specs.Halves.{half_tree, item_in, kernel_tree, user_tree}
+use Rattle.mdr_half.specs.Halves.{item_in, kernel_tree, user_tree}
 use Rattle.mdr_half.specs.Joins.{item_text, are_alike, part_of, remote_of, whole_by, whole_of, whole_item, joined_item, behind, behind_joined, joined_from, joined, HasNoRemote}
 use Rattle.mdr_half.proofs.Pairing.{halves_join}
 use Rattle.mdr_texts.specs.HalfTexts.{AreJoinedTo}
