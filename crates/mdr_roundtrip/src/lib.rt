@@ -1,7 +1,7 @@
 //! Sources that are read and printed: laws alone, nothing here runs.
 //!
-//! Proved: the text that is printed of any source's tree is a source, of the same tree, places aside; reading looks
-//! at no place; printing neither; and expressions and initialisers are read again as they were.
+//! Proved: the text that is printed of any source's tree is a source, of the same tree, places aside; neither reading
+//! nor printing looks at a place; and expressions and initialisers are read again as they were.
 #![tactic(auto)]
 
 mod laws;
