@@ -1,0 +1,22 @@
+//! What the bodies of functions come to: blocks with their names, numbers and slots (C99 6.8, 6.9.1).
+#![tactic(auto)]
+
+mod here;
+mod locals;
+mod mention;
+mod simple;
+mod statement;
+mod typing;
+mod whole;
+
+pub use here::{DeclaredLocal, Frame, Here};
+pub use locals::{count, declare_local, first_here, leave, parameter_objects, struct_locks, takes};
+pub use mention::{Mention, has, have, mentions, perhaps_mentions, uses};
+pub use simple::{
+    assigned, called, condition, jumped, local_made, perhaps_condition, returned, single, stated,
+};
+pub use statement::{
+    as_part, condition_counted, for_of, head_taken_in, if_of, paired, taken_at, while_of,
+};
+pub use typing::Typing;
+pub use whole::{body_of, frame_of};
