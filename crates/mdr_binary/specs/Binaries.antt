@@ -14,6 +14,7 @@ use Rattle.mdr_core.specs.Layout.{chosen}
 use Rattle.mdr_operand.specs.declared.operand.Integer.{Integer}
 use Rattle.mdr_operand.specs.declared.operand.Operand.{Operand}
 use Rattle.mdr_operand.specs.declared.operand.Operand.TheVariants as operand
+use Rattle.mdr_operand.specs.declared.operand.Pointer.{Pointer}
 use Rattle.mdr_operand.specs.declared.operand.Scalar.{Scalar}
 use Rattle.mdr_operand.specs.declared.operand.Scalar.TheVariants as scalar
 use Rattle.mdr_operand.specs.declared.operator.BinaryOperator.{BinaryOperator}
@@ -22,20 +23,24 @@ use Rattle.mdr_faults.specs.declared.scope.Scope.{Scope}
 use Rattle.mdr_faults.specs.declared.fault.FaultKind.TheVariants.{Mismatch}
 use Rattle.mdr_faults.specs.Alike.{is_alike, are_alike}
 use Rattle.mdr_faults.specs.Faults.{Checked, Right, refuse, after, both}
-use Rattle.mdr_operand.specs.Forms.{at_kind, expression_of, integer_at, is_complete, is_number, null_pointer, number, pointer_at, scalar_at, truth}
+use Rattle.mdr_operand.specs.Forms.{at_kind, expression_of, integer_at, is_complete, is_null, is_number, needed, null_pointer, number, pointer_at, scalar_at, truth}
 
 -- ---- numbers
 
--- the operands are brought to their common kind (6.3.1.8)
-abbrev pub with_common : BinOp → Kind → Integer → Integer → Checked Operand
-with_common op k m n = Right (number (expr.Bin op k (at_kind k m) (at_kind k n)) k)
+-- the operands at their kinds; the value has the left one's
+abbrev pub bin_at : BinOp → (left right : Kind) → Integer → Integer → Operand
+bin_at op k l m n = number (expr.Bin op k (at_kind k m) (at_kind l n)) k
 
-unfoldable pub arithmetic : BinOp → Integer → Integer → Checked Operand
+abbrev pub with_common : BinOp → Kind → Integer → Integer → Operand
+with_common op k m n = bin_at op k k m n
+
+-- the operands are brought to their common kind (6.3.1.8)
+unfoldable pub arithmetic : BinOp → Integer → Integer → Operand
 arithmetic op m n = with_common op (common_kind m.kind n.kind) m n
 
--- a shift has the kind of its promoted left operand (6.5.7, paragraph 3)
-unfoldable pub shifted : BinOp → Integer → Integer → Checked Operand
-shifted op m n = Right (number (expr.Bin op (promoted m.kind) (at_kind (promoted m.kind) m) (at_kind (promoted n.kind) n)) (promoted m.kind))
+-- the operands of a shift are promoted each by itself, and its value has the kind of the left one (6.5.7, paragraph 3)
+unfoldable pub shifted : BinOp → Integer → Integer → Operand
+shifted op m n = bin_at op (promoted m.kind) (promoted n.kind) m n
 
 abbrev pub is_shift : BinOp → Bool
 is_shift Add = false
@@ -49,31 +54,38 @@ is_shift BitAnd = false
 is_shift BitOr = false
 is_shift BitXor = false
 
-unfoldable pub calculated : BinOp → Integer → Integer → Checked Operand
+unfoldable pub calculated : BinOp → Integer → Integer → Operand
 calculated op m n = chosen (is_shift op) (shifted op m n) (arithmetic op m n)
 
 -- both operands have integer types (6.5.5 to 6.5.7, 6.5.10 to 6.5.12)
 unfoldable pub numbers_calculated : BinOp → Place → Operand → Operand → Checked Operand
-numbers_calculated op p x y = both (integer_at p x) (integer_at p y) (calculated op)
+numbers_calculated op p x y = both (integer_at p x) (integer_at p y) (λ m n. Right (calculated op m n))
 
 -- ---- pointers moved (6.5.6)
 
-abbrev pub moved_pointer : Scope → Place → (back : Bool) → Scalar → Integer → Checked Operand
-moved_pointer scope p back (scalar.Number e k) n = refuse p Mismatch
-moved_pointer scope p back (scalar.Pointer e t) n = chosen (is_complete scope t) (Right (operand.Value (scalar.Pointer (expr.Move back e n.value) t))) (refuse p Mismatch)
-moved_pointer scope p back (scalar.Opaque e) n = refuse p Mismatch
-moved_pointer scope p back (scalar.Handle e ts) n = refuse p Mismatch
+unfoldable pub moved : (back : Bool) → Pointer → Integer → Operand
+moved back s n = operand.Value (scalar.Pointer (expr.Move back s.value n.value) s.ty)
+
+-- a pointer to a complete type (paragraphs 2 and 3)
+unfoldable pub moved_pointer : Scope → Place → (back : Bool) → Pointer → Integer → Checked Operand
+moved_pointer scope p back s n = chosen (is_complete scope s.ty) (Right (moved back s n)) (refuse p Mismatch)
 
 unfoldable pub moved_by : Scope → Place → (back : Bool) → (pointer steps : Operand) → Checked Operand
-moved_by scope p back x y = both (scalar_at p x) (integer_at p y) (moved_pointer scope p back)
+moved_by scope p back x y = both (pointer_at p x) (integer_at p y) (moved_pointer scope p back)
 
--- the difference of two pointers to one complete type (paragraphs 3 and 9)
-abbrev pub difference_by : Scope → Place → Scalar → Scalar → Checked Operand
-difference_by scope p (scalar.Pointer e t) (scalar.Pointer f u) = chosen (is_alike t u && is_complete scope t) (Right (number (expr.Diff e f) S64)) (refuse p Mismatch)
-difference_by scope p v w = refuse p Mismatch
+unfoldable pub distance : Pointer → Pointer → Operand
+distance s t = number (expr.Diff s.value t.value) S64
+
+-- pointers to one complete type
+abbrev pub have_distance : Scope → Pointer → Pointer → Bool
+have_distance scope s t = is_alike s.ty t.ty && is_complete scope s.ty
+
+-- the difference of two pointers (paragraphs 3 and 9)
+unfoldable pub distance_at : Scope → Place → Pointer → Pointer → Checked Operand
+distance_at scope p s t = chosen (have_distance scope s t) (Right (distance s t)) (refuse p Mismatch)
 
 unfoldable pub difference : Scope → Place → Operand → Operand → Checked Operand
-difference scope p x y = both (scalar_at p x) (scalar_at p y) (difference_by scope p)
+difference scope p x y = both (pointer_at p x) (pointer_at p y) (distance_at scope p)
 
 unfoldable pub sum : Scope → Place → Operand → Operand → Checked Operand
 sum scope p x y = chosen (is_number y) (moved_by scope p false x y) (moved_by scope p false y x)
@@ -82,7 +94,7 @@ unfoldable pub less : Scope → Place → Operand → Operand → Checked Operan
 less scope p x y = chosen (is_number y) (moved_by scope p true x y) (difference scope p x y)
 
 -- one operand at least has no integer type: a pointer for `+` and `-` alone
-abbrev pub pointers_calculated : Scope → Place → BinOp → Operand → Operand → Checked Operand
+unfoldable pub pointers_calculated : Scope → Place → BinOp → Operand → Operand → Checked Operand
 pointers_calculated scope p Add x y = sum scope p x y
 pointers_calculated scope p Sub x y = less scope p x y
 pointers_calculated scope p op x y = refuse p Mismatch
@@ -95,51 +107,74 @@ calculation_of scope p op x y = chosen (are_numbers x y) (numbers_calculated op 
 
 -- ---- comparisons (6.5.8, 6.5.9)
 
-abbrev pub compared : RelOp → Expr → Expr → Checked Operand
-compared op e f = Right (truth (expr.Rel op e f))
+abbrev pub compared : RelOp → Expr → Expr → Operand
+compared op e f = truth (expr.Rel op e f)
 
-abbrev pub compared_at : RelOp → Kind → Integer → Integer → Checked Operand
+abbrev pub compared_at : RelOp → Kind → Integer → Integer → Operand
 compared_at op k m n = compared op (at_kind k m) (at_kind k n)
 
-unfoldable pub integers_compared : RelOp → Integer → Integer → Checked Operand
+unfoldable pub integers_compared : RelOp → Integer → Integer → Operand
 integers_compared op m n = compared_at op (common_kind m.kind n.kind) m n
 
 unfoldable pub numbers_compared : RelOp → Place → Operand → Operand → Checked Operand
-numbers_compared op p x y = both (integer_at p x) (integer_at p y) (integers_compared op)
+numbers_compared op p x y = both (integer_at p x) (integer_at p y) (λ m n. Right (integers_compared op m n))
 
--- a null pointer constant (6.3.2.3, paragraph 3)
-abbrev pub is_null : Operand → Bool
-is_null (operand.Value v) = false
-is_null (operand.Zero k) = true
-is_null operand.Null = true
-is_null (operand.Object l t) = false
-is_null (operand.Array l t n) = false
-is_null (operand.Function f ts) = false
+abbrev pub address_by : Scalar → Option Expr
+address_by (scalar.Number e k) = None
+address_by (scalar.Pointer e t) = Some e
+address_by (scalar.Opaque e) = Some e
+address_by (scalar.Handle e ts) = Some e
 
-abbrev pub pointer_by : Place → Scalar → Checked Expr
-pointer_by p (scalar.Number e k) = refuse p Mismatch
-pointer_by p (scalar.Pointer e t) = Right e
-pointer_by p (scalar.Opaque e) = Right e
-pointer_by p (scalar.Handle e ts) = Right e
-
-abbrev pub pointer_value : Place → Operand → Checked Expr
-pointer_value p x = after (scalar_at p x) (pointer_by p)
+-- a pointer of any type
+unfoldable pub address_at : Place → Operand → Checked Expr
+address_at p x = after (scalar_at p x) (λ v. needed p (address_by v))
 
 -- a pointer that is compared with a null pointer constant: that becomes a pointer of its type
-unfoldable pub pointer_at : Place → Operand → Checked Expr
-pointer_at p x = chosen (is_null x) (Right null_pointer) (pointer_value p x)
+unfoldable pub null_or_address : Place → Operand → Checked Expr
+null_or_address p x = chosen (is_null x) (Right null_pointer) (address_at p x)
 
 unfoldable pub null_compared : RelOp → Place → Operand → Operand → Checked Operand
-null_compared op p x y = both (pointer_at p x) (pointer_at p y) (compared op)
+null_compared op p x y = both (null_or_address p x) (null_or_address p y) (λ e f. Right (compared op e f))
+
+-- pointers to objects of one type, or both `void *`
+abbrev pub have_one_object : Scalar → Scalar → Bool
+have_one_object (scalar.Pointer e t) (scalar.Pointer f u) = is_alike t u
+have_one_object (scalar.Opaque e) (scalar.Opaque f) = true
+have_one_object v w = false
+
+-- pointers to functions of one type
+abbrev pub have_one_function : Scalar → Scalar → Bool
+have_one_function (scalar.Handle e ts) (scalar.Handle f us) = are_alike ts us
+have_one_function v w = false
+
+abbrev pub have_one_type : Scalar → Scalar → Bool
+have_one_type v w = have_one_object v w || have_one_function v w
+
+-- one of them is a `void *`, and the other a pointer to an object
+abbrev pub have_one_void : Scalar → Scalar → Bool
+have_one_void (scalar.Pointer e t) (scalar.Opaque f) = true
+have_one_void (scalar.Opaque e) (scalar.Pointer f u) = true
+have_one_void v w = false
+
+-- a pointer to an object becomes a `void *` (6.3.2.3, paragraph 1)
+abbrev pub void_of : Scalar → Expr
+void_of (scalar.Number e k) = e
+void_of (scalar.Pointer e t) = expr.ToVoid e
+void_of (scalar.Opaque e) = e
+void_of (scalar.Handle e ts) = e
+
+unfoldable pub values_compared : RelOp → Scalar → Scalar → Operand
+values_compared op v w = compared op (expression_of v) (expression_of w)
+
+unfoldable pub voids_compared : RelOp → Scalar → Scalar → Operand
+voids_compared op v w = compared op (void_of v) (void_of w)
+
+unfoldable pub voids_equal : RelOp → Place → Scalar → Scalar → Checked Operand
+voids_equal op p v w = chosen (have_one_void v w) (Right (voids_compared op v w)) (refuse p Mismatch)
 
 -- pointers to one type, or a pointer and a `void *`, to which the other is converted (6.5.9, paragraphs 2 and 5)
-abbrev pub pointers_equal : RelOp → Place → Scalar → Scalar → Checked Operand
-pointers_equal op p (scalar.Pointer e t) (scalar.Pointer f u) = chosen (is_alike t u) (compared op e f) (refuse p Mismatch)
-pointers_equal op p (scalar.Pointer e t) (scalar.Opaque f) = compared op (expr.ToVoid e) f
-pointers_equal op p (scalar.Opaque e) (scalar.Pointer f u) = compared op e (expr.ToVoid f)
-pointers_equal op p (scalar.Opaque e) (scalar.Opaque f) = compared op e f
-pointers_equal op p (scalar.Handle e ts) (scalar.Handle f us) = chosen (are_alike ts us) (compared op e f) (refuse p Mismatch)
-pointers_equal op p v w = refuse p Mismatch
+unfoldable pub pointers_equal : RelOp → Place → Scalar → Scalar → Checked Operand
+pointers_equal op p v w = chosen (have_one_type v w) (Right (values_compared op v w)) (voids_equal op p v w)
 
 unfoldable pub equality_of_values : RelOp → Place → Operand → Operand → Checked Operand
 equality_of_values op p x y = both (scalar_at p x) (scalar_at p y) (pointers_equal op p)
@@ -151,10 +186,8 @@ unfoldable pub equality : RelOp → Place → Operand → Operand → Checked Op
 equality op p x y = chosen (has_null x y) (null_compared op p x y) (equality_of_values op p x y)
 
 -- pointers to objects of one type are ordered (6.5.8, paragraph 2)
-abbrev pub pointers_ordered : RelOp → Place → Scalar → Scalar → Checked Operand
-pointers_ordered op p (scalar.Pointer e t) (scalar.Pointer f u) = chosen (is_alike t u) (compared op e f) (refuse p Mismatch)
-pointers_ordered op p (scalar.Opaque e) (scalar.Opaque f) = compared op e f
-pointers_ordered op p v w = refuse p Mismatch
+unfoldable pub pointers_ordered : RelOp → Place → Scalar → Scalar → Checked Operand
+pointers_ordered op p v w = chosen (have_one_object v w) (Right (values_compared op v w)) (refuse p Mismatch)
 
 unfoldable pub order_of_values : RelOp → Place → Operand → Operand → Checked Operand
 order_of_values op p x y = both (scalar_at p x) (scalar_at p y) (pointers_ordered op p)
@@ -179,17 +212,17 @@ comparison_of op p x y = chosen (are_numbers x y) (numbers_compared op p x y) (p
 
 -- ---- `&&` and `||` (6.5.13, 6.5.14)
 
-abbrev pub both_true : Scalar → Scalar → Checked Operand
-both_true v w = Right (truth (expr.And (expression_of v) (expression_of w)))
+abbrev pub both_true : Scalar → Scalar → Operand
+both_true v w = truth (expr.And (expression_of v) (expression_of w))
 
-abbrev pub either_true : Scalar → Scalar → Checked Operand
-either_true v w = Right (truth (expr.Or (expression_of v) (expression_of w)))
+abbrev pub either_true : Scalar → Scalar → Operand
+either_true v w = truth (expr.Or (expression_of v) (expression_of w))
 
 unfoldable pub conjunction : Place → Operand → Operand → Checked Operand
-conjunction p x y = both (scalar_at p x) (scalar_at p y) both_true
+conjunction p x y = both (scalar_at p x) (scalar_at p y) (λ v w. Right (both_true v w))
 
 unfoldable pub disjunction : Place → Operand → Operand → Checked Operand
-disjunction p x y = both (scalar_at p x) (scalar_at p y) either_true
+disjunction p x y = both (scalar_at p x) (scalar_at p y) (λ v w. Right (either_true v w))
 
 -- ---- all of them
 
@@ -200,7 +233,7 @@ binary_of scope p binary.And x y = conjunction p x y
 binary_of scope p binary.Or x y = disjunction p x y
 
 -- no other operator stands between two operands
-abbrev pub binary_by : Scope → Place → Option BinaryOperator → Operand → Operand → Checked Operand
+unfoldable pub binary_by : Scope → Place → Option BinaryOperator → Operand → Operand → Checked Operand
 binary_by scope p None x y = refuse p Mismatch
 binary_by scope p (Some op) x y = binary_of scope p op x y
 

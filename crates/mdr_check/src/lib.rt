@@ -9,7 +9,12 @@ mod uses;
 mod variable;
 mod whole;
 
+pub use file::Piece;
+pub use initialiser::First;
 pub use mdr_faults::{
     Candidate, Constant, Entity, Fault, FaultKind, Member, Named, Object, Scope, Signature,
     StructEntry, Tag,
 };
+pub use table::type_table;
+pub use variable::Variable;
+pub use whole::checked_pieces;

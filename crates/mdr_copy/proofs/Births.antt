@@ -1,7 +1,7 @@
 -- Blocks that are told of for the first time, found one by one.
 use Rattle.std.proofs.Common.{◌≡◌, ℕ, ◌+◌, ◌<◌, List, [], ◌∷◌, ◌++◌, Bool, true, false, cond, not, ◌&&◌, length, drop, get_or, sym, ap, ◌∙◌, append_assoc}
 use Rattle.std.proofs.lemmas.List.{at_drop_more}
-use Rattle.mdr_model.specs.declared.wire.Wire.{Wire}
+use Rattle.mdr_meaning.specs.declared.wire.Wire.{Wire}
 use Rattle.mdr_model.specs.declared.message.New.{New}
 use Rattle.mdr_model.specs.declared.memory.MemoryBlock.{MemoryBlock}
 use Rattle.mdr_model.specs.Memory.{Memory, is_live}

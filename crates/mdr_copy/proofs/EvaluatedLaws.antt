@@ -18,10 +18,11 @@ use Rattle.mdr_core.specs.Folds.{term_layer, lvalue_layer, term_of}
 use Rattle.mdr_core.specs.Kinds.{kind_number, is_same_kind, is_in_range}
 use Rattle.mdr_core.specs.Operators.{operated, is_right_operand}
 use Rattle.mdr_core.proofs.Operators.{right_operand_in_range, operated-in_range}
-use Rattle.mdr_model.specs.declared.wire.Wire.{Wire}
-use Rattle.mdr_model.specs.declared.wire.Wire.TheVariants as wire
-use Rattle.mdr_model.specs.declared.wire.WireView.{WireView}
-use Rattle.mdr_model.specs.Values.{type_number, fits_type, fits_maybe, fits, wire_of, integer}
+use Rattle.mdr_meaning.specs.declared.wire.Wire.{Wire}
+use Rattle.mdr_meaning.specs.declared.wire.Wire.TheVariants as wire
+use Rattle.mdr_meaning.specs.declared.wire.WireView.{WireView}
+use Rattle.mdr_meaning.specs.Values.{wire_of, integer, at_kind}
+use Rattle.mdr_model.specs.Values.{type_number, fits_type, fits_maybe, fits}
 use Rattle.mdr_model.specs.declared.memory.Cell.{Cell}
 use Rattle.mdr_model.specs.Memory.{Memory, cell_of, loaded, everywhere}
 use Rattle.mdr_model.specs.Tree.{Tree}
@@ -33,7 +34,7 @@ use Rattle.mdr_model.specs.Holds.{IsSoundMemory}
 use Rattle.mdr_model.proofs.Tests.{and_right, and_both, same_number}
 use Rattle.mdr_model.proofs.FairTrees.{kind_type}
 use Rattle.mdr_model.proofs.HoldsLaws.{cell_filled, loaded_is}
-use Rattle.mdr_copy.specs.Evaluated.{after_value, numbered_at, evaluated}
+use Rattle.mdr_copy.specs.Evaluated.{after_value, evaluated}
 
 -- ---- kinds and ranges
 
@@ -73,10 +74,10 @@ variable_fits allowed program m (Lvalue.Global g) kind v sound memory s e =
 variable_fits allowed program m _ kind v sound memory s e = elim s [ ]
 
 computed_fits : (op : BinOp) (kind : Kind) (x y v : Wire) → fits_type (ty.Int kind) x ≡ true → fits_type (ty.Int kind) y ≡ true
-    → numbered_at kind (operated op kind (integer x) (integer y)) ≡ Ok v → fits_type (ty.Int kind) v ≡ true
+    → at_kind kind (operated op kind (integer x) (integer y)) ≡ Ok v → fits_type (ty.Int kind) v ≡ true
 computed_fits op kind x y v hx hy e = of (operated op kind (integer x) (integer y)) refl e
   where
-    of : (r : Result ℤ Undefined) → operated op kind (integer x) (integer y) ≡ r → numbered_at kind r ≡ Ok v → fits_type (ty.Int kind) v ≡ true
+    of : (r : Result ℤ Undefined) → operated op kind (integer x) (integer y) ≡ r → at_kind kind r ≡ Ok v → fits_type (ty.Int kind) v ≡ true
     of (Ok n) q h =
         let same : wire.Int kind n ≡ v = Prim.cc in
         subst (λ (w : Wire). fits_type (ty.Int kind) w ≡ true) same
@@ -95,13 +96,13 @@ evaluated_fits allowed program m (Term.Bin op l a b) kind v sound memory s e =
     first (evaluated allowed program m a) (λ x h. evaluated_fits allowed program m a kind x sound memory s.1 h) (λ y h. evaluated_fits allowed program m b kind y sound memory s.2 h) e
   where
     second : (x : Wire) (r : Result Wire StopKind) → fits_type (ty.Int kind) x ≡ true → ((y : Wire) → r ≡ Ok y → fits_type (ty.Int kind) y ≡ true)
-        → after_value r (λ y. numbered_at l (operated op l (integer x) (integer y))) ≡ Ok v → fits_type (ty.Int kind) v ≡ true
+        → after_value r (λ y. at_kind l (operated op l (integer x) (integer y))) ≡ Ok v → fits_type (ty.Int kind) v ≡ true
     second x (Ok y) hx fit h =
-        computed_fits op kind x y v hx (fit y refl) (subst (λ (k : Kind). numbered_at k (operated op k (integer x) (integer y)) ≡ Ok v) s.0 h)
+        computed_fits op kind x y v hx (fit y refl) (subst (λ (k : Kind). at_kind k (operated op k (integer x) (integer y)) ≡ Ok v) s.0 h)
     second x (Err why) hx fit h = absurd (Prim.cc)
 
     first : (r : Result Wire StopKind) → ((x : Wire) → r ≡ Ok x → fits_type (ty.Int kind) x ≡ true) → ((y : Wire) → evaluated allowed program m b ≡ Ok y → fits_type (ty.Int kind) y ≡ true)
-        → after_value r (λ x. after_value (evaluated allowed program m b) (λ y. numbered_at l (operated op l (integer x) (integer y)))) ≡ Ok v → fits_type (ty.Int kind) v ≡ true
+        → after_value r (λ x. after_value (evaluated allowed program m b) (λ y. at_kind l (operated op l (integer x) (integer y)))) ≡ Ok v → fits_type (ty.Int kind) v ≡ true
     first (Ok x) fit fit' h = second x (evaluated allowed program m b) (fit x refl) fit' h
     first (Err why) fit fit' h = absurd (Prim.cc)
 evaluated_fits allowed program m _ kind v sound memory s e = elim s [ ]
@@ -138,13 +139,13 @@ walk_value allowed n program at (Term.Bin op kind a b) k m =
     walk_value allowed n program at a (λ x. value program at b (λ y. given (operated op kind (integer x) (integer y)) kind at k)) m
     ∙ first (evaluated allowed program m a) (λ x. walk_value allowed n program at b (λ y. given (operated op kind (integer x) (integer y)) kind at k) m)
   where
-    computed : (r : Result ℤ Undefined) → walk allowed n (given r kind at k) m ≡ on_load (numbered_at kind r) at m n (λ v. walk allowed n (k v) m)
+    computed : (r : Result ℤ Undefined) → walk allowed n (given r kind at k) m ≡ on_load (at_kind kind r) at m n (λ v. walk allowed n (k v) m)
     computed (Ok i) = refl
     computed (Err why) = refl
 
     second : (x : Wire) (r : Result Wire StopKind)
         → on_load r at m n (λ y. walk allowed n (given (operated op kind (integer x) (integer y)) kind at k) m)
-        ≡ on_load (after_value r (λ y. numbered_at kind (operated op kind (integer x) (integer y)))) at m n (λ v. walk allowed n (k v) m)
+        ≡ on_load (after_value r (λ y. at_kind kind (operated op kind (integer x) (integer y)))) at m n (λ v. walk allowed n (k v) m)
     second x (Ok y) = computed (operated op kind (integer x) (integer y))
     second x (Err why) = refl
 
@@ -152,7 +153,7 @@ walk_value allowed n program at (Term.Bin op kind a b) k m =
         → ((x : Wire) → walk allowed n (value program at b (λ y. given (operated op kind (integer x) (integer y)) kind at k)) m
         ≡ on_load (evaluated allowed program m b) at m n (λ y. walk allowed n (given (operated op kind (integer x) (integer y)) kind at k) m))
         → on_load r at m n (λ x. walk allowed n (value program at b (λ y. given (operated op kind (integer x) (integer y)) kind at k)) m)
-        ≡ on_load (after_value r (λ x. after_value (evaluated allowed program m b) (λ y. numbered_at kind (operated op kind (integer x) (integer y))))) at m n (λ v. walk allowed n (k v) m)
+        ≡ on_load (after_value r (λ x. after_value (evaluated allowed program m b) (λ y. at_kind kind (operated op kind (integer x) (integer y))))) at m n (λ v. walk allowed n (k v) m)
     first (Ok x) later = later x ∙ second x (evaluated allowed program m b)
     first (Err why) later = refl
 walk_value allowed n program at _ k m = refl
@@ -167,13 +168,13 @@ kernel_value program at (Term.Bin op kind a b) k w =
     kernel_value program at a (λ x. value program at b (λ y. given (operated op kind (integer x) (integer y)) kind at k)) w
     ∙ first (evaluated everywhere program w.memory a) (λ x. kernel_value program at b (λ y. given (operated op kind (integer x) (integer y)) kind at k) w)
   where
-    computed : (r : Result ℤ Undefined) → in_kernel (given r kind at k) w ≡ when_loaded (numbered_at kind r) at w (λ v. in_kernel (k v) w)
+    computed : (r : Result ℤ Undefined) → in_kernel (given r kind at k) w ≡ when_loaded (at_kind kind r) at w (λ v. in_kernel (k v) w)
     computed (Ok i) = refl
     computed (Err why) = refl
 
     second : (x : Wire) (r : Result Wire StopKind)
         → when_loaded r at w (λ y. in_kernel (given (operated op kind (integer x) (integer y)) kind at k) w)
-        ≡ when_loaded (after_value r (λ y. numbered_at kind (operated op kind (integer x) (integer y)))) at w (λ v. in_kernel (k v) w)
+        ≡ when_loaded (after_value r (λ y. at_kind kind (operated op kind (integer x) (integer y)))) at w (λ v. in_kernel (k v) w)
     second x (Ok y) = computed (operated op kind (integer x) (integer y))
     second x (Err why) = refl
 
@@ -181,7 +182,7 @@ kernel_value program at (Term.Bin op kind a b) k w =
         → ((x : Wire) → in_kernel (value program at b (λ y. given (operated op kind (integer x) (integer y)) kind at k)) w
         ≡ when_loaded (evaluated everywhere program w.memory b) at w (λ y. in_kernel (given (operated op kind (integer x) (integer y)) kind at k) w))
         → when_loaded r at w (λ x. in_kernel (value program at b (λ y. given (operated op kind (integer x) (integer y)) kind at k)) w)
-        ≡ when_loaded (after_value r (λ x. after_value (evaluated everywhere program w.memory b) (λ y. numbered_at kind (operated op kind (integer x) (integer y))))) at w (λ v. in_kernel (k v) w)
+        ≡ when_loaded (after_value r (λ x. after_value (evaluated everywhere program w.memory b) (λ y. at_kind kind (operated op kind (integer x) (integer y))))) at w (λ v. in_kernel (k v) w)
     first (Ok x) later = later x ∙ second x (evaluated everywhere program w.memory b)
     first (Err why) later = refl
 kernel_value program at _ k w = refl

@@ -11,8 +11,9 @@ use Rattle.mdr_core.specs.Layout.{Leaf, Home, Alone, repeated, cells, cells_or, 
 use Rattle.mdr_core.proofs.Lying.{fields_more, fields_over, is_below, not_below}
 use Rattle.mdr_core.specs.declared.program.Program.{Program}
 use Rattle.mdr_model.specs.declared.message.New.{New}
-use Rattle.mdr_model.specs.declared.wire.Wire.{Wire}
-use Rattle.mdr_model.specs.Values.{fits_type, wire_of}
+use Rattle.mdr_meaning.specs.declared.wire.Wire.{Wire}
+use Rattle.mdr_meaning.specs.Values.{wire_of}
+use Rattle.mdr_model.specs.Values.{fits_type}
 use Rattle.mdr_model.specs.Memory.{leaves_of, leaf_at, fits_leaf, is_lock_type, zero_of}
 use Rattle.mdr_model.specs.Sets.{is_open_leaf}
 use Rattle.mdr_copy.specs.CellTypes.{type_of, types_of, is_void, is_void_by}

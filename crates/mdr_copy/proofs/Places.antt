@@ -2,7 +2,7 @@
 use Rattle.std.proofs.Common.{◌≡◌, ℕ, suc, ◌+◌, ◌<◌, ◌≤◌, ◌⊎◌, inl, inr, Bool, true, false, cond, not, [], ◌∷◌, length, Some, None, refl, sym, ◌∙◌, ap, arith, get_or}
 use Rattle.std.specs.Prelude.{◌==◌, nat_lt, slice_get, slice_set, position}
 use Rattle.std.specs.List.{position_or_len}
-use Rattle.mdr_model.specs.declared.wire.Wire.{Wire}
+use Rattle.mdr_meaning.specs.declared.wire.Wire.{Wire}
 use Rattle.mdr_model.specs.declared.memory.MemoryBlock.{MemoryBlock}
 use Rattle.mdr_model.specs.declared.memory.Cell.{Cell}
 use Rattle.mdr_model.specs.Memory.{Memory, put}

@@ -1,6 +1,6 @@
 -- Memories stay sound: the first one, after a store, and after each part of a message that fits.
 use Rattle.std.proofs.Common.{◌≡◌, ◌≢◌, ne_eqb, ℕ, zero, suc, ◌+◌, ◌<◌, Bool, true, false, cond, not, List, [], ◌∷◌, map, length, Option, Some, None, Ok, refl, sym, ap, ◌∙◌, subst, eq-eqb, lt-ltb, slice_get, arith}
-use Rattle.std.specs.Prelude.{◌==◌, nat_lt}
+use Rattle.std.specs.Prelude.{◌==◌, nat_lt, option_map}
 use Rattle.std.specs.List.{AllByRecursion, list_all}
 use Rattle.std.proofs.lemmas.Bool.{cond-true, cond-false}
 use Rattle.mdr_core.specs.declared.kind.Kind.{Kind}
@@ -11,9 +11,9 @@ use Rattle.mdr_core.specs.declared.program.GlobalDef.{GlobalDef}
 use Rattle.mdr_core.specs.Code.{Lvalue}
 use Rattle.mdr_core.specs.declared.refusal.RefuseKind.TheVariants as refusal
 use Rattle.mdr_core.specs.Kinds.{is_in_range}
-use Rattle.mdr_model.specs.declared.wire.Wire.{Wire}
-use Rattle.mdr_model.specs.declared.wire.Wire.TheVariants as wire
-use Rattle.mdr_model.specs.declared.wire.WireView.{WireView}
+use Rattle.mdr_meaning.specs.declared.wire.Wire.{Wire}
+use Rattle.mdr_meaning.specs.declared.wire.Wire.TheVariants as wire
+use Rattle.mdr_meaning.specs.declared.wire.WireView.{WireView}
 use Rattle.mdr_model.specs.declared.message.New.{New}
 use Rattle.mdr_model.specs.declared.message.Run.{Run}
 use Rattle.mdr_model.specs.declared.message.SetRun.{SetRun}
@@ -23,7 +23,6 @@ use Rattle.mdr_model.specs.declared.memory.Cell.{Cell}
 use denote.Hole.Carrier.{out}
 use Rattle.mdr_core.specs.declared.types.Ty as form
 use Rattle.mdr_core.specs.Layout.{Leaf}
-use Rattle.std.specs.Prelude.{option_map}
 use Rattle.mdr_model.specs.Agreement.{cell_zero}
 use Rattle.mdr_model.specs.Memory.{Memory, size_of, leaf_at, fits_leaf, fits_at, zero_of, cell_at, births, born_at, is_live, put, cell_of, zero_block, swept, swept_block, killed, global_block, global_blocks, first_memory, stored}
 use Rattle.mdr_model.specs.Sets.{is_in, follows_maybe}

@@ -2,7 +2,7 @@
 use Rattle.std.specs.Prelude.{Bool, false, List, map, Option, Some, None}
 use Rattle.mdr_core.specs.declared.types.Ty.{Ty}
 use Rattle.mdr_core.specs.declared.program.Param.{Param}
-use Rattle.mdr_model.specs.declared.wire.Wire.{Wire}
+use Rattle.mdr_meaning.specs.declared.wire.Wire.{Wire}
 use Rattle.mdr_model.specs.Values.{fits_type}
 
 abbrev pub types_of : List Param → List Ty

@@ -1,19 +1,16 @@
 -- What an expression comes to on a memory (C99 6.5), where the cells that may be touched are all or those of a set.
-use Rattle.std.specs.Prelude.{Bool, true, false, List, Option, Some, None, Result, Ok, Err, ℤ}
-use Rattle.mdr_core.specs.declared.kind.Kind.{Kind}
-use Rattle.mdr_core.specs.declared.undefined.Undefined.{Undefined}
+use Rattle.std.specs.Prelude.{Bool, true, false, List, Option, Some, None, Result, Ok, Err}
 use Rattle.mdr_core.specs.declared.stop.StopKind.{StopKind}
 use Rattle.mdr_core.specs.declared.stop.StopKind.TheVariants as stop
 use Rattle.mdr_core.specs.declared.program.Program.{Program}
 use Rattle.mdr_core.specs.Code.{Term}
 use Rattle.mdr_core.specs.Operators.{operated}
-use Rattle.mdr_model.specs.declared.wire.Wire.{Wire}
-use Rattle.mdr_model.specs.declared.wire.Wire.TheVariants as wire
-use Rattle.mdr_model.specs.Values.{wire_of, integer}
+use Rattle.mdr_meaning.specs.declared.wire.Wire.{Wire}
+use Rattle.mdr_meaning.specs.Values.{at_kind, wire_of, integer}
 use Rattle.mdr_model.specs.declared.memory.Cell.{Cell}
 use Rattle.mdr_model.specs.Memory.{Memory, is_live, loaded}
 use Rattle.mdr_model.specs.Sets.{is_in}
-use Rattle.mdr_model.specs.Meaning.{pointer_to, stop_of}
+use Rattle.mdr_model.specs.Meaning.{pointer_to}
 
 -- the cells that may be touched: all, or those of a set
 abbrev pub allows : Option (List Cell) → Cell → Bool
@@ -39,16 +36,11 @@ abbrev pub after_value : Result Wire StopKind → (Wire → Result Wire StopKind
 after_value (Ok v) go = go v
 after_value (Err kind) go = Err kind
 
--- a number at a kind, or the stop
-abbrev pub numbered_at : Kind → Result ℤ Undefined → Result Wire StopKind
-numbered_at kind (Ok n) = Ok (wire.Int kind n)
-numbered_at kind (Err why) = Err (stop_of why)
-
 -- the value, or the first stop from left to right
 unfoldable pub evaluated : (Cell → Bool) → Program → Memory → Term → Result Wire StopKind
 evaluated allowed program m (Term.Lit v) = Ok (wire_of v)
 evaluated allowed program m (Term.Load place) = loaded allowed m (pointer_to program place)
 evaluated allowed program m (Term.Bin op kind a b) =
-    after_value (evaluated allowed program m a) (λ x. after_value (evaluated allowed program m b) (λ y. numbered_at kind (operated op kind (integer x) (integer y))))
+    after_value (evaluated allowed program m a) (λ x. after_value (evaluated allowed program m b) (λ y. at_kind kind (operated op kind (integer x) (integer y))))
 -- other expressions aren't built: no sound program has one
 evaluated allowed program m _ = Err stop.NoValue

@@ -3,7 +3,7 @@
 ghost use Rattle.std.specs.Prelude.{◌≡◌, ◌+◌, ℕ, List, length, nat_lt, slice_get, replicate, MatchOption, IfSome, Some, None};
 ghost use Rattle.std.specs.Option.{option_map};
 ghost use Rattle.mdr_core.specs.Layout.{Leaf, Alone, repeated, leaves, leaves_below, struct_cells, struct_of, fields_of, zero_value};
-ghost use Rattle.mdr_model.specs.Values.{wire_of};
+ghost use Rattle.mdr_meaning.specs.Values.{wire_of};
 ghost use Rattle.mdr_model.specs.Memory.{size_of, leaf_at, fits_at, is_lock_type};
 ghost use Rattle.mdr_model.specs.Sets.{is_open_leaf};
 ghost use Rattle.mdr_model.specs.Agreement.{cell_zero};

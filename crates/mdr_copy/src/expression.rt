@@ -6,11 +6,10 @@ ghost use Rattle.mdr_core.specs.declared.kind.Kind.{Kind as AnyKind};
 ghost use Rattle.mdr_core.specs.Kinds.{is_in_range};
 ghost use Rattle.mdr_core.specs.Folds.{term_of};
 ghost use Rattle.mdr_core.specs.Operators.{operated, is_right_operand};
-ghost use Rattle.mdr_model.specs.Values.{integer};
-ghost use Rattle.mdr_model.specs.Meaning.{stop_of};
+ghost use Rattle.mdr_meaning.specs.Values.{at_kind, integer, stop_of};
 ghost use Rattle.mdr_model.specs.Runnable.{IsRunnable, IsRunnableExpr};
 ghost use Rattle.mdr_model.specs.Holds.{IsSoundMemory};
-ghost use Rattle.mdr_copy.specs.Evaluated.{allows, evaluated, numbered_at};
+ghost use Rattle.mdr_copy.specs.Evaluated.{allows, evaluated};
 
 use crate::access::loaded;
 use crate::values::wire_of;
@@ -39,7 +38,7 @@ fn integer(value: Wire) -> i128
 }
 
 fn numbered_at(kind: Kind, computed: Result<i128, Undefined>) -> Result<Wire, StopKind>
-    ensures { result ≡ numbered_at kind computed }
+    ensures { result ≡ at_kind kind computed }
 {
     match computed {
         Ok(n) => Ok(Wire::Int(kind, n)),
@@ -51,7 +50,7 @@ fn numbered_at(kind: Kind, computed: Result<i128, Undefined>) -> Result<Wire, St
 fn combined(op: BinOp, kind: Kind, left: Wire, right: Wire) -> Result<Wire, StopKind>
     requires left { is_in_range kind (integer left) ≡ true }
     requires right { is_right_operand op kind (integer right) ≡ true }
-    ensures { result ≡ numbered_at kind (operated op kind (integer left) (integer right)) }
+    ensures { result ≡ at_kind kind (operated op kind (integer left) (integer right)) }
 {
     numbered_at(kind, bin(op, kind, integer(left), integer(right)))
 }

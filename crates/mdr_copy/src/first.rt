@@ -1,7 +1,7 @@
 // The memory in which a run begins.
 
 ghost use Rattle.std.specs.Prelude.{◌≡◌, ◌++◌, ◌+◌, ◌<◌, ◌^◌, map, length, OnOk, IfOk};
-ghost use Rattle.mdr_model.specs.Values.{wire_of};
+ghost use Rattle.mdr_meaning.specs.Values.{wire_of};
 ghost use Rattle.mdr_model.specs.Memory.{global_block, global_blocks, first_memory};
 
 use crate::values::{type_number, wire_of};

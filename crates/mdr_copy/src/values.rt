@@ -1,7 +1,8 @@
 // Values: what they are in messages, and which are the same.
 
 ghost use Rattle.std.specs.Prelude.{◌≡◌};
-ghost use Rattle.mdr_model.specs.Values.{type_number, wire_view, wire_of, lock_number, is_same_view, is_same, fits_type, fits_result, is_view_of};
+ghost use Rattle.mdr_meaning.specs.Values.{wire_view, wire_of};
+ghost use Rattle.mdr_model.specs.Values.{type_number, lock_number, is_same_view, is_same, fits_type, fits_result, is_view_of};
 
 use mdr_core::{LockState, Ty, Value, View};
 use mdr_model::{New, Wire, WireView};

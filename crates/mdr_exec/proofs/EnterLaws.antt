@@ -12,7 +12,7 @@ use Rattle.mdr_exec.specs.Holding.{held_of, is_running, list_entered}
 use Rattle.mdr_exec.specs.Places.{behind}
 use Rattle.mdr_exec.proofs.PathLaws.{path_into, around_into}
 
-running_is : (b : Before) → is_running b ≡ true → b ≡ front.Runs
+pub running_is : (b : Before) → is_running b ≡ true → b ≡ front.Runs
 running_is front.Runs h = refl
 running_is (front.Unwinds flow) h = absurd (cc h)
 running_is (front.Comes v) h = absurd (cc h)

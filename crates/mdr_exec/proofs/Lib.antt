@@ -11,3 +11,11 @@ pub mod StartLaws
 pub mod StartedLaws
 pub mod PathLaws
 pub mod EnterLaws
+pub mod PointerLaws
+pub mod LeavingLaws
+pub mod ClosingLaws
+pub mod OperandLaws
+pub mod BeginningLaws
+pub mod StoringLaws
+pub mod NextLaws
+pub mod WentLaws

@@ -10,3 +10,9 @@ pub mod Places
 pub mod Found
 pub mod Holding
 pub mod Starting
+pub mod Outcomes
+pub mod Leaving
+pub mod Closing
+pub mod Beginning
+pub mod Storing
+pub mod Went

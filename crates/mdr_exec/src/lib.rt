@@ -7,19 +7,36 @@
 //! expressions, assignments and calls come to.
 //!
 //! Of the `Machine` there are `new`, `start`, `resume` and `active`, with contracts about the tree of the work that it
-//! holds, the search for the code at a place, and the way into a list of a statement. Not there yet: `go`, which runs it.
+//! holds, the search for the code at a place, and the way into a list of a statement. Its steps are functions with
+//! contracts by those laws, over any `Memory`: expressions and lvalues are evaluated (members of structs are not), `if`,
+//! loops, assignments, `return`, jumps and blocks begin, lists of statements and functions are left, and objects are born and die. Not there yet:
+//! declarations, texts, calls, and `go`, which runs the machine.
 #![tactic(auto)]
 
+mod assign;
+mod begin;
+mod close;
+mod evaluate;
 mod frame;
+mod halt;
 mod laws;
+mod leave;
+mod memory;
+mod next;
+mod operators;
 mod places;
+mod pointers;
 mod run;
 mod start;
 mod step;
+mod unwind;
+mod values;
 
 pub use frame::{Flow, Frame, Front, Machine, Side, Suspended, Until};
+pub use halt::Halt;
 pub use laws::{
     each_run_is_made, each_statement_steps, evaluation_is_walked, functions_are_started,
     held_work_goes_on, questions_are_answered, statements_want_ticks,
 };
+pub use memory::Memory;
 pub use places::{Part, Position};

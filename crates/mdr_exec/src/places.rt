@@ -122,7 +122,7 @@ fn statement_at<'a>(statements: &'a [Stmt], i: usize) -> Option<&'a Stmt>
 }
 
 /// What stands at an index of a block.
-fn standing_at<'a>(found: Found<'a>, i: usize) -> Option<Standing<'a>>
+pub(crate) fn standing_at<'a>(found: Found<'a>, i: usize) -> Option<Standing<'a>>
     ensures { option_map code_in result ≡ code_at (codes_in found.entry) i }
 {
     match statement_at(found.statements, i) {

@@ -1,2 +1,6 @@
 //! Expressions (C99 6.5).
 #![tactic(auto)]
+
+mod form;
+
+pub use form::expression;

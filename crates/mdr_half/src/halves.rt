@@ -7,8 +7,8 @@ ghost use Rattle.mdr_core.specs.declared.plan.Half.TheVariants.{Kernel, User};
 ghost use Rattle.mdr_half.specs.Plans.{half_or_user};
 ghost use Rattle.mdr_half.specs.Halves.{half_by, half_of, is_same_half, remote, body_or_remote, what_in, item_in, half_tree, kernel_text, user_text};
 
-use crate::copy::{copy_head, copy_item_what, copy_nodes};
 use crate::plan_lines::half_at;
+use mdr_copies::{copy_head, copy_item_what, copy_nodes};
 use mdr_core::{Half, Items, Name, OutOfMemory, Plan};
 use mdr_print::print;
 use mdr_syntax::{Head, Item, ItemWhat, Node, Tree};

@@ -4,9 +4,9 @@ ghost use Rattle.std.specs.Prelude.{◌≡◌, ◌++◌, IfOk, List};
 ghost use Rattle.std.specs.Str.{bytes_eq};
 ghost use Rattle.mdr_half.specs.Joins.{item_text, are_alike, part_of, part_of_proto, remote_of, whole_by, whole_of, whole_item, joined_item, joined_from, joined, Refuses, JoinsItem, JoinsItems, Joins};
 
-use crate::copy::{copy_item, copy_item_what};
 use crate::halves::remote;
 use crate::join_error::JoinError;
+use mdr_copies::{copy_item, copy_item_what};
 use mdr_core::{Items, OutOfMemory, Place};
 use mdr_print::print;
 use mdr_syntax::{Item, ItemWhat, Tree};

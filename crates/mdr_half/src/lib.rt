@@ -2,7 +2,6 @@
 #![tactic(auto)]
 
 mod calls;
-mod copy;
 mod halves;
 mod join_error;
 mod joining;

@@ -6,7 +6,7 @@ use Rattle.mdr_core.specs.declared.program.Program.{Program}
 use Rattle.mdr_core.specs.declared.value.Value.{Value}
 use Rattle.mdr_model.specs.declared.command.Command.{Command}
 use Rattle.mdr_model.specs.declared.command.Command.TheVariants as command
-use Rattle.mdr_model.specs.declared.wire.Wire.{Wire}
+use Rattle.mdr_meaning.specs.declared.wire.Wire.{Wire}
 use Rattle.mdr_model.specs.declared.memory.Cell.{Cell}
 use Rattle.mdr_model.specs.declared.message.Run.{Run}
 use Rattle.mdr_model.specs.declared.message.Fault.{Fault}
@@ -15,10 +15,11 @@ use Rattle.mdr_model.specs.declared.reply.Reply.{Reply}
 use Rattle.mdr_model.specs.declared.reply.Reply.TheVariants as replies
 use Rattle.mdr_model.specs.declared.outcome.Happened.{Happened}
 use Rattle.mdr_model.specs.declared.outcome.Happened.TheVariants as happened
-use Rattle.mdr_model.specs.Values.{wire_of, natural}
+use Rattle.mdr_meaning.specs.Values.{wire_of, natural}
 use Rattle.mdr_model.specs.Memory.{Memory, normal, loaded, stored, everywhere}
 use Rattle.mdr_model.specs.Sets.{is_in}
-use Rattle.mdr_model.specs.Tree.{Asked, Tree}
+use Rattle.mdr_meaning.specs.Tree.{Asked}
+use Rattle.mdr_model.specs.Tree.{Tree}
 use Rattle.mdr_model.specs.Meaning.{func_at, is_kernel}
 use Rattle.mdr_model.specs.World.{World, top, below, Ran, Ended, Stopped, after, counted, when_loaded, when_stored, noted, written, written_if, is_writel, served, as_now, in_kernel, kernel_call}
 use Rattle.mdr_model.specs.Watched.{Finish, with_view, upcall_begun, renewed, upcall_ended, ending, in_user, upcall, name_of, begun, returned, noting, Beginning, Did, Opens, called_by, begin, in_place, and_then, commands, first_world, watched}

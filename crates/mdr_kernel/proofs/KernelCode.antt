@@ -16,12 +16,14 @@ use Rattle.mdr_core.specs.Code.{Term, Lvalue, Called, CallOf, Goal, Code}
 use Rattle.mdr_core.specs.Folds.{term_of, code_of, codes_of}
 use Rattle.mdr_core.specs.declared.program.Func.{Func}
 use Rattle.mdr_core.specs.declared.plan.Half.TheVariants as half
-use Rattle.mdr_model.specs.declared.wire.Wire.{Wire}
-use Rattle.mdr_model.specs.declared.wire.Wire.TheVariants as wire
-use Rattle.mdr_model.specs.declared.wire.WireView.{WireView}
-use Rattle.mdr_model.specs.Values.{fits_type, natural}
+use Rattle.mdr_meaning.specs.declared.wire.Wire.{Wire}
+use Rattle.mdr_meaning.specs.declared.wire.Wire.TheVariants as wire
+use Rattle.mdr_meaning.specs.declared.wire.WireView.{WireView}
+use Rattle.mdr_meaning.specs.Values.{natural}
+use Rattle.mdr_model.specs.Values.{fits_type}
 use Rattle.mdr_model.specs.Memory.{Memory, births, normal, first_memory, cell_of, reached, stored, everywhere}
-use Rattle.mdr_model.specs.Tree.{Asked, Tree}
+use Rattle.mdr_meaning.specs.Tree.{Asked}
+use Rattle.mdr_model.specs.Tree.{Tree}
 use Rattle.mdr_model.specs.Meaning.{func_at, critical_of, is_kernel, body_of, type_of_global, pointer_to, value, values, Here, Enters, call, keeps, statement, statements, function}
 use Rattle.mdr_model.specs.World.{World, advanced, Ran, Ended, Stopped, after, counted, when_loaded, when_stored, written, written_if, is_writel, served, in_kernel, kernel_call}
 use Rattle.mdr_model.specs.Holds.{IsSoundMemory}

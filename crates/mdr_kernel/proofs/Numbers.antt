@@ -6,10 +6,11 @@ use Rattle.mdr_core.specs.declared.kind.Kind.TheVariants.{U32}
 use Rattle.mdr_core.specs.declared.types.Ty.TheVariants as ty
 use Rattle.mdr_core.specs.Kinds.{is_in_range}
 use Rattle.mdr_core.proofs.Ranges.{in_range-least, in_range-greatest}
-use Rattle.mdr_model.specs.declared.wire.Wire.{Wire}
-use Rattle.mdr_model.specs.declared.wire.Wire.TheVariants as wire
+use Rattle.mdr_meaning.specs.declared.wire.Wire.{Wire}
+use Rattle.mdr_meaning.specs.declared.wire.Wire.TheVariants as wire
 use Rattle.mdr_model.specs.declared.message.Fault.{Fault}
-use Rattle.mdr_model.specs.Values.{fits_type, integer}
+use Rattle.mdr_meaning.specs.Values.{integer}
+use Rattle.mdr_model.specs.Values.{fits_type}
 use Rattle.mdr_model.specs.Faults.{args_fault}
 use Rattle.mdr_model.specs.ReplyFaults.{service_params}
 use Rattle.mdr_copy.proofs.EvaluatedLaws.{number_in_range}

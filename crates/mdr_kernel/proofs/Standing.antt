@@ -4,7 +4,7 @@ use Rattle.mdr_core.specs.declared.program.Program.{Program}
 use Rattle.mdr_core.specs.declared.value.Value.{Value}
 use Rattle.mdr_model.specs.declared.command.Command.{Command}
 use Rattle.mdr_model.specs.declared.command.Command.TheVariants as command
-use Rattle.mdr_model.specs.declared.wire.Wire.{Wire}
+use Rattle.mdr_meaning.specs.declared.wire.Wire.{Wire}
 use Rattle.mdr_model.specs.declared.message.Run.{Run}
 use Rattle.mdr_model.specs.declared.message.Fault.{Fault}
 use Rattle.mdr_model.specs.declared.message.Message.{Message}
@@ -14,9 +14,9 @@ use Rattle.mdr_model.specs.declared.outcome.End.{End}
 use Rattle.mdr_model.specs.declared.outcome.End.TheVariants as ends
 use Rattle.mdr_model.specs.Runnable.{IsRunnable}
 use Rattle.mdr_model.specs.Meaning.{is_kernel}
-use Rattle.mdr_model.specs.Tree.{Asked}
+use Rattle.mdr_meaning.specs.Tree.{Asked}
 use Rattle.mdr_model.specs.World.{World, Ran, Ended, Stopped, served, kernel_call}
-use Rattle.mdr_model.specs.Values.{wire_of}
+use Rattle.mdr_meaning.specs.Values.{wire_of}
 use Rattle.mdr_model.specs.Watched.{with_view, upcall_ended, begun, returned, noting, called_by, begin, first_world}
 use Rattle.mdr_model.specs.KernelState.{Kernel, Rest, Noted, Pending, Over, Waits, Reading}
 use Rattle.mdr_model.specs.ReplyFaults.{reply_of, fault_of}

@@ -2,9 +2,9 @@
 use Rattle.std.proofs.Common.{◌≡◌, ℕ, ◌+◌, ◌≤◌, true, List, arith}
 use Rattle.mdr_core.specs.declared.value.Value.{Value}
 use Rattle.mdr_core.specs.declared.program.Program.{Program}
-use Rattle.mdr_model.specs.declared.wire.Wire.{Wire}
+use Rattle.mdr_meaning.specs.declared.wire.Wire.{Wire}
 use Rattle.mdr_model.specs.declared.memory.Cell.{Cell}
-use Rattle.mdr_model.specs.Tree.{Asked}
+use Rattle.mdr_meaning.specs.Tree.{Asked}
 use Rattle.mdr_model.specs.Meaning.{is_kernel}
 use Rattle.mdr_model.specs.World.{World, Ran, served, kernel_call}
 use Rattle.mdr_model.specs.Watched.{begun, returned}

@@ -1,6 +1,6 @@
 -- What comes of a statement of the kernel half.
 use Rattle.std.specs.Prelude.{Option, Some, None}
-use Rattle.mdr_model.specs.declared.wire.Wire.{Wire}
+use Rattle.mdr_meaning.specs.declared.wire.Wire.{Wire}
 use Rattle.mdr_model.specs.Tree.{Tree}
 use Rattle.mdr_model.specs.World.{World, Ran, Stopped, in_kernel}
 use Rattle.mdr_kernel.specs.declared.state.Stopped.{Stopped as CodeStop}

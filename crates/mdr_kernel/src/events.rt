@@ -1,7 +1,8 @@
 // The events of commands.
 
 ghost use Rattle.std.specs.Prelude.{◌≡◌, suc, IfOk, OnOk};
-ghost use Rattle.mdr_model.specs.Values.{view_of, value_of};
+ghost use Rattle.mdr_meaning.specs.Fit.{view_of};
+ghost use Rattle.mdr_model.specs.Values.{value_of};
 ghost use Rattle.mdr_model.specs.Meaning.{func_at};
 ghost use Rattle.mdr_model.specs.Watched.{name_of, begun, returned};
 ghost use Rattle.mdr_kernel.specs.States.{world_of};

@@ -5,8 +5,8 @@ ghost use Rattle.mdr_model.specs.declared.command.Command.{Command as AnyCommand
 ghost use Rattle.mdr_model.specs.Runnable.{IsRunnable};
 ghost use Rattle.mdr_model.specs.Meaning.{is_kernel};
 ghost use Rattle.mdr_model.specs.World.{kernel_call, World as AnyWorld};
-ghost use Rattle.mdr_model.specs.declared.wire.Wire.{Wire as AnyWire};
-ghost use Rattle.mdr_model.specs.Values.{wire_of};
+ghost use Rattle.mdr_meaning.specs.declared.wire.Wire.{Wire as AnyWire};
+ghost use Rattle.mdr_meaning.specs.Values.{wire_of};
 ghost use Rattle.mdr_model.specs.Watched.{noting, called_by, begun, begin};
 ghost use Rattle.mdr_model.specs.KernelState.{Kernel as AnyKernel, Pending as AnyPending};
 ghost use Rattle.mdr_model.specs.Kernel.{then_split, split_by, split_commands};

@@ -3,8 +3,9 @@
 ghost use Rattle.std.specs.Prelude.{◌≡◌, ℕ, true, List, [], None, IfOk, nat_lt};
 ghost use Rattle.mdr_core.specs.declared.kind.Kind.TheVariants.{U32 as Number};
 ghost use Rattle.mdr_core.specs.declared.types.Ty.TheVariants as ty;
-ghost use Rattle.mdr_model.specs.declared.message.Shape64.{Shape64 as AnyShape};
-ghost use Rattle.mdr_model.specs.Values.{fits_type, natural};
+ghost use Rattle.mdr_meaning.specs.declared.shape.Shape64.{Shape64 as AnyShape};
+ghost use Rattle.mdr_meaning.specs.Values.{natural};
+ghost use Rattle.mdr_model.specs.Values.{fits_type};
 ghost use Rattle.mdr_model.specs.Faults.{args_fault};
 ghost use Rattle.mdr_model.specs.ReplyFaults.{service_params};
 ghost use Rattle.mdr_model.specs.World.{written_if, written, served};

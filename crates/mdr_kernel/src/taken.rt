@@ -2,8 +2,8 @@
 
 ghost use Rattle.std.specs.Prelude.{◌≡◌, ◌+◌, ◌^◌, ◌<◌, ◌≤◌, [], true, ℕ, List, None, unwrap_or, IfOk};
 ghost use Rattle.mdr_model.specs.declared.command.Command.{Command as AnyCommand};
-ghost use Rattle.mdr_model.specs.declared.wire.Wire.{Wire as AnyWire};
-ghost use Rattle.mdr_model.specs.declared.message.Shape64.{Shape64 as AnyShape};
+ghost use Rattle.mdr_meaning.specs.declared.wire.Wire.{Wire as AnyWire};
+ghost use Rattle.mdr_meaning.specs.declared.shape.Shape64.{Shape64 as AnyShape};
 ghost use Rattle.mdr_model.specs.Runnable.{IsRunnable};
 ghost use Rattle.mdr_model.specs.Meaning.{is_kernel};
 ghost use Rattle.mdr_model.specs.World.{kernel_call, served};

@@ -6,7 +6,8 @@ use Rattle.mdr_core.specs.declared.value.Block.{Block}
 use Rattle.mdr_core.specs.declared.value.Value.{Value}
 use Rattle.mdr_core.specs.declared.value.Value.TheVariants as value
 use Rattle.mdr_model.specs.declared.memory.Cell.{Cell}
-use Rattle.mdr_model.specs.Values.{names_block, wire_of}
+use Rattle.mdr_meaning.specs.Values.{wire_of}
+use Rattle.mdr_model.specs.Values.{names_block}
 use Rattle.mdr_model.specs.Memory.{born_at, is_live, cell_at}
 use Rattle.mdr_model.specs.Agreement.{SerialsRise, names_it}
 use Rattle.mdr_mem.specs.declared.cells.Life.{Life}

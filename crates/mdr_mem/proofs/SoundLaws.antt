@@ -8,7 +8,7 @@ use Rattle.mdr_core.specs.declared.value.Block.{Block}
 use Rattle.mdr_core.specs.declared.value.Value.{Value}
 use Rattle.mdr_core.specs.declared.value.Value.TheVariants as value
 use Rattle.mdr_model.specs.Memory.{Memory, killed, cell_at, born_at}
-use Rattle.mdr_model.specs.declared.wire.Wire.{Wire}
+use Rattle.mdr_meaning.specs.declared.wire.Wire.{Wire}
 use Rattle.mdr_mem.specs.declared.cells.Life.{Life}
 use Rattle.mdr_mem.specs.declared.cells.Life.TheVariants as life
 use Rattle.mdr_mem.specs.declared.rows.Held.{Held}

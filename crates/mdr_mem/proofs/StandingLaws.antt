@@ -11,9 +11,9 @@ use Rattle.mdr_core.specs.declared.types.Shape.{Shape}
 use Rattle.mdr_core.specs.declared.program.Program.{Program}
 use Rattle.mdr_model.specs.declared.message.BirthKind.{BirthKind}
 use Rattle.mdr_core.specs.Layout.{Leaf, zero_by}
-use Rattle.mdr_model.specs.declared.wire.Wire.{Wire}
-use Rattle.mdr_model.specs.declared.wire.Wire.TheVariants as wire
-use Rattle.mdr_model.specs.Values.{wire_of, wire_view}
+use Rattle.mdr_meaning.specs.declared.wire.Wire.{Wire}
+use Rattle.mdr_meaning.specs.declared.wire.Wire.TheVariants as wire
+use Rattle.mdr_meaning.specs.Values.{wire_of, wire_view}
 use Rattle.mdr_model.specs.Memory.{is_live, normal, normal_if, zero_of, leaves_of, zero_block}
 use Rattle.mdr_mem.specs.Contents.{Contents, IsInOrder, is_handle, handle_of, left_of, current, wire_in, born_as, new_block}
 use Rattle.mdr_mem.specs.Rows.{IsOld}

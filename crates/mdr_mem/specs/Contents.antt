@@ -5,10 +5,10 @@ use Rattle.mdr_core.specs.declared.value.Block.{Block}
 use Rattle.mdr_core.specs.declared.value.Value.{Value}
 use Rattle.mdr_core.specs.declared.value.Value.TheVariants as value
 use Rattle.mdr_core.specs.declared.types.Shape.{Shape}
-use Rattle.mdr_model.specs.declared.wire.Wire.{Wire}
+use Rattle.mdr_meaning.specs.declared.wire.Wire.{Wire}
 use Rattle.mdr_model.specs.declared.message.BirthKind.{BirthKind}
 use Rattle.mdr_model.specs.declared.message.New.{New}
-use Rattle.mdr_model.specs.Values.{wire_of}
+use Rattle.mdr_meaning.specs.Values.{wire_of}
 use Rattle.mdr_model.specs.Memory.{Memory, is_live, cell_at, put, killed}
 use Rattle.mdr_model.specs.declared.memory.MemoryBlock.{MemoryBlock}
 use Rattle.mdr_model.specs.declared.memory.Cell.{Cell}

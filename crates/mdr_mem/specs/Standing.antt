@@ -6,7 +6,7 @@ use Rattle.mdr_core.specs.declared.value.Value.TheVariants as value
 use Rattle.mdr_core.specs.declared.types.Shape.{Shape}
 use Rattle.mdr_core.specs.declared.program.Program.{Program}
 use Rattle.mdr_model.specs.declared.message.BirthKind.{BirthKind}
-use Rattle.mdr_model.specs.Values.{wire_of}
+use Rattle.mdr_meaning.specs.Values.{wire_of}
 use Rattle.mdr_model.specs.Memory.{normal, zero_of, zero_block, leaves_of}
 use Rattle.mdr_mem.specs.Contents.{Contents, IsInOrder, handle_of, left_of, current, wire_in, born_as, new_block}
 use Rattle.mdr_mem.specs.Rows.{IsOld}

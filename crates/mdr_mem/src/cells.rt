@@ -23,7 +23,7 @@ pub trait Cells {
     ghost use Rattle.std.specs.Prelude.{◌≡◌, ◌<◌, ◌≤◌, ℕ, List, length, Option, Some, IsTrue, IsSome, IfOk, OnErr};
     ghost use Rattle.mdr_model.specs.Memory.{cell_at, born_at};
     ghost use Rattle.mdr_model.specs.declared.memory.Cell.{Cell};
-    ghost use Rattle.mdr_model.specs.Values.{wire_of};
+    ghost use Rattle.mdr_meaning.specs.Values.{wire_of};
     ghost use Rattle.mdr_mem.specs.Contents.{Contents, IsInOrder, is_handle, handle_of, cell_in, current, births_in, after_birth, after_death, after_store, shape_of, kind_of, may_touch};
 
     ghost contents: { Self → Contents };

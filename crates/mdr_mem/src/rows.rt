@@ -2,7 +2,7 @@
 
 ghost use Rattle.std.specs.Prelude.{◌≡◌, ◌<◌, ◌≤◌, ◌+◌, ◌++◌, [], ◌∷◌, length, map, IsTrue, IsSome, IfOk, OnOk, OnErr, vec_capacity, slice_set, Some, None, option_map, ◌^◌, ◌-◌};
 ghost use Rattle.mdr_model.specs.Memory.{cell_at, born_at};
-ghost use Rattle.mdr_model.specs.Values.{wire_of};
+ghost use Rattle.mdr_meaning.specs.Values.{wire_of};
 ghost use Rattle.mdr_mem.specs.Contents.{is_handle, handle_of, cell_in, current, births_in, after_birth, after_death, after_store, shape_of, kind_of, IsInOrder, with_block, wire_in};
 ghost use Rattle.mdr_mem.specs.Rows.{IsSound, in_slot, is_held, shown, AreOld, with_cell};
 ghost use Rattle.slab.specs.Slab.{HasRoomFor, Updates, get};

@@ -2,8 +2,8 @@
 use Rattle.std.proofs.Common.{◌≡◌, ℕ, true, List, Some, refl, sym, ◌∙◌, arith}
 use Rattle.std.proofs.lemmas.Bool.{eq-eqb}
 use Rattle.mdr_core.specs.declared.program.Program.{Program}
-use Rattle.mdr_model.specs.declared.wire.Wire.{Wire}
-use Rattle.mdr_model.specs.declared.wire.Wire.TheVariants as wire
+use Rattle.mdr_meaning.specs.declared.wire.Wire.{Wire}
+use Rattle.mdr_meaning.specs.declared.wire.Wire.TheVariants as wire
 use Rattle.mdr_model.specs.Memory.{Memory, Cell, born_at, is_live, cell_at, put, normal}
 use Rattle.mdr_model.specs.Sets.{is_in}
 use Rattle.mdr_model.specs.Copies.{changed_cells, changes, put_runs}

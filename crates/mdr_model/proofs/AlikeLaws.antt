@@ -10,11 +10,11 @@ use Rattle.mdr_core.specs.declared.program.Program.{Program}
 use Rattle.mdr_core.specs.Code.{Term, Called, Goal, Code, Codes}
 use Rattle.mdr_core.specs.Folds.{codes_of}
 use Rattle.mdr_core.specs.Operators.{operated}
-use Rattle.mdr_model.specs.declared.wire.Wire.{Wire}
-use Rattle.mdr_model.specs.declared.wire.Wire.TheVariants as wire
-use Rattle.mdr_model.specs.Values.{wire_of, integer}
+use Rattle.mdr_meaning.specs.declared.wire.Wire.{Wire}
+use Rattle.mdr_meaning.specs.declared.wire.Wire.TheVariants as wire
+use Rattle.mdr_meaning.specs.Values.{wire_of, integer, stop_of, first_of}
 use Rattle.mdr_model.specs.Tree.{Tree, cut}
-use Rattle.mdr_model.specs.Meaning.{func_at, is_own, body_of, pointer_to, stop_of, given, value, values, Here, Enters, by_half, at_depth, call, keeps, statement, number_of, statements, function, first_result}
+use Rattle.mdr_model.specs.Meaning.{func_at, is_own, body_of, pointer_to, given, value, values, Here, Enters, by_half, at_depth, call, keeps, statement, number_of, statements, function}
 use Rattle.mdr_model.specs.Alike.{IsCongruence, FuelIsNoMatter}
 
 -- ---- any congruence
@@ -81,8 +81,8 @@ module _ (R : ℕ → Tree → Tree → Type 0) (c : IsCongruence R) where
           (entered.by r (le_refl r) g vs (suc here.depth) k l h)
           (c.cross r at g vs (suc here.depth) k l (λ v. (h v).by r (le_refl r))))
       alike_call r entered (Called.Service n) at vs k l h =
-          c.ask r (record { service = n; at = at; args = vs; shapes = []; bytes = [] }) (λ results. k (first_result results)) (λ results. l (first_result results))
-          (λ results. (h (first_result results)).by r (le_refl r))
+          c.ask r (record { service = n; at = at; args = vs; shapes = []; bytes = [] }) (λ results. k (first_of results)) (λ results. l (first_of results))
+          (λ results. (h (first_of results)).by r (le_refl r))
       alike_call r entered (Called.Through e) at vs k l h = c.stop r stop.NoValue at
 
       alike_statement : (r : ℕ) → AreEntered r low low' → (c' : Code) (at : At) (t u : Tree) → AreNext r t u → R r (statement program side low here at c' t) (statement program side low' here at c' u)

@@ -23,7 +23,8 @@ use Rattle.mdr_core.specs.Services.{Service, Writel, Signature, offered, service
 use Rattle.mdr_core.specs.Types.{is_scalar, is_pointer}
 use Rattle.mdr_core.specs.Typing.{int, One, extent, slots_of, IsGlobal, Has, Designates, HaveAll, gives_by, AreTyped, IsTyped}
 use Rattle.mdr_core.specs.Sound.{IsFirstValue, all_cells, IsSoundGlobal, HasTypedBody, IsSound}
-use Rattle.mdr_model.specs.Values.{fits_type, wire_of}
+use Rattle.mdr_meaning.specs.Values.{wire_of}
+use Rattle.mdr_model.specs.Values.{fits_type}
 use Rattle.mdr_model.specs.Built.{IsBuiltCell, IsBuiltLvalue, IsBuiltTerm, IsBuiltCallee, IsBuiltStep, IsBuiltBody, IsBuiltFunc, IsBuilt}
 use Rattle.mdr_model.specs.Runnable.{IsVariable, IsRunnablePlace, IsRunnableExpr, IsRunnableWritel, IsRunnableCall, IsRunnableStep, IsRunnableBody, IsRunnableFunc, IsRunnableGlobal, IsRunnable}
 use Rattle.mdr_model.proofs.HoldsLaws.{all_get}

@@ -12,7 +12,8 @@ use Rattle.mdr_core.specs.declared.program.Program.{Program}
 use Rattle.mdr_core.specs.Kinds.{is_in_range}
 use Rattle.mdr_core.specs.Layout.{Leaf, Home, Alone, chosen, repeated, leaves, leaves_by, field_leaves, fields_of, leaves_below, struct_cells, cells, cells_or, zero_by}
 use Rattle.mdr_model.specs.declared.message.New.{New}
-use Rattle.mdr_model.specs.Values.{type_at, wire_of}
+use Rattle.mdr_meaning.specs.Values.{wire_of}
+use Rattle.mdr_model.specs.Values.{type_at}
 use Rattle.mdr_model.specs.Memory.{leaves_of, leaf_at, zero_of}
 use Rattle.mdr_model.specs.Holds.{FitsLayer, Fits}
 use Rattle.mdr_model.proofs.PlainCells.{all_get}

@@ -21,14 +21,15 @@ use Rattle.mdr_core.specs.Folds.{codes_of}
 use Rattle.mdr_core.specs.Kinds.{kind_number, is_same_kind, is_in_range}
 use Rattle.mdr_core.specs.Operators.{operated}
 use Rattle.mdr_core.proofs.Operators.{operated-in_range}
-use Rattle.mdr_model.specs.declared.wire.Wire.{Wire}
-use Rattle.mdr_model.specs.declared.wire.Wire.TheVariants as wire
+use Rattle.mdr_meaning.specs.declared.wire.Wire.{Wire}
+use Rattle.mdr_meaning.specs.declared.wire.Wire.TheVariants as wire
 use Rattle.mdr_model.specs.declared.message.New.{New}
 use Rattle.mdr_model.specs.declared.message.BirthKind.TheVariants.{Static}
-use Rattle.mdr_model.specs.Values.{type_number, fits_type, fits_maybe, fits, fits_result, is_view_of, wire_of, integer}
+use Rattle.mdr_meaning.specs.Values.{wire_of, integer, stop_of}
+use Rattle.mdr_model.specs.Values.{type_number, fits_type, fits_maybe, fits, fits_result, is_view_of}
 use Rattle.mdr_model.specs.Memory.{births, global_blocks, first_memory}
 use Rattle.mdr_model.specs.Tree.{Tree}
-use Rattle.mdr_model.specs.Meaning.{func_at, critical_of, is_kernel, is_user, is_own, body_of, type_of_global, pointer_to, stop_of, given, value, values, Here, Enters, by_half, at_depth, call, keeps, statement, number_of, statements, function, started}
+use Rattle.mdr_model.specs.Meaning.{func_at, critical_of, is_kernel, is_user, is_own, body_of, type_of_global, pointer_to, given, value, values, Here, Enters, by_half, at_depth, call, keeps, statement, number_of, statements, function, started}
 use Rattle.mdr_model.specs.Faults.{params_of, args_fault}
 use Rattle.mdr_model.specs.ReplyFaults.{callee_is, calls_func, any_calls, has_down_stub, has_number, any_has_number, is_user_place, user_stop}
 use Rattle.mdr_core.specs.Types.{first_types}

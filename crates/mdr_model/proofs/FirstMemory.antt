@@ -7,9 +7,10 @@ use Rattle.mdr_core.specs.declared.types.Ty.TheVariants as ty
 use Rattle.mdr_core.specs.declared.value.Value.{Value}
 use Rattle.mdr_core.specs.declared.program.Program.{Program}
 use Rattle.mdr_core.specs.declared.program.GlobalDef.{GlobalDef}
-use Rattle.mdr_model.specs.declared.wire.Wire.{Wire}
+use Rattle.mdr_meaning.specs.declared.wire.Wire.{Wire}
 use Rattle.mdr_model.specs.declared.message.New.{New}
-use Rattle.mdr_model.specs.Values.{type_number, type_at, fits, fits_maybe, fits_type, wire_of}
+use Rattle.mdr_meaning.specs.Values.{wire_of}
+use Rattle.mdr_model.specs.Values.{type_number, type_at, fits, fits_maybe, fits_type}
 use Rattle.mdr_model.specs.Memory.{Memory, Cell, fits_at, born_at, cell_at, global_block, global_blocks, first_memory}
 use Rattle.mdr_core.specs.Types.{first_types}
 use Rattle.mdr_model.specs.Agreement.{has_index}

@@ -7,9 +7,9 @@ use Rattle.mdr_core.specs.declared.types.Ty.{Ty}
 use Rattle.mdr_core.specs.Layout.{Leaf}
 use Rattle.mdr_core.specs.Types.{first_types}
 use Rattle.mdr_core.specs.declared.program.GlobalDef.{GlobalDef}
-use Rattle.mdr_model.specs.declared.wire.Wire.{Wire}
-use Rattle.mdr_model.specs.declared.wire.Wire.TheVariants as wire
-use Rattle.mdr_model.specs.declared.wire.WireView.{WireView}
+use Rattle.mdr_meaning.specs.declared.wire.Wire.{Wire}
+use Rattle.mdr_meaning.specs.declared.wire.Wire.TheVariants as wire
+use Rattle.mdr_meaning.specs.declared.wire.WireView.{WireView}
 use Rattle.mdr_model.specs.declared.message.New.{New}
 use Rattle.std.specs.Prelude.{option_map}
 use Rattle.mdr_model.specs.Values.{type_at, fits_maybe, fits, is_view_of}

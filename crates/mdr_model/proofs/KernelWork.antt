@@ -4,10 +4,12 @@ use Rattle.mdr_core.specs.declared.stop.StopKind.{StopKind}
 use Rattle.mdr_core.specs.declared.place.At.{At}
 use Rattle.mdr_core.specs.declared.plan.Half.TheVariants as half
 use Rattle.mdr_core.specs.declared.program.Program.{Program}
-use Rattle.mdr_model.specs.declared.wire.Wire.{Wire}
-use Rattle.mdr_model.specs.Values.{fits_result, natural}
+use Rattle.mdr_meaning.specs.declared.wire.Wire.{Wire}
+use Rattle.mdr_meaning.specs.Values.{natural}
+use Rattle.mdr_model.specs.Values.{fits_result}
 use Rattle.mdr_model.specs.Memory.{Memory, loaded, stored, everywhere}
-use Rattle.mdr_model.specs.Tree.{Asked, Tree}
+use Rattle.mdr_meaning.specs.Tree.{Asked}
+use Rattle.mdr_model.specs.Tree.{Tree}
 use Rattle.mdr_model.specs.Meaning.{func_at, is_kernel}
 use Rattle.mdr_model.specs.World.{World, Ran, Ended, Stopped, after, counted, when_loaded, when_stored, written, written_if, is_writel, served, as_now, in_kernel, kernel_call}
 use Rattle.mdr_model.specs.ReplyFaults.{has_down_stub, result_type}

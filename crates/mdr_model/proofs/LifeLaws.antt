@@ -6,11 +6,12 @@ use Rattle.mdr_core.specs.declared.types.Ty.{Ty, out-Ty}
 use Rattle.mdr_core.specs.declared.types.Ty.TheOpen.{Ty-F}
 use Rattle.mdr_core.specs.Layout.{Leaf, zero_by}
 use Rattle.mdr_core.specs.declared.program.Program.{Program}
-use Rattle.mdr_model.specs.declared.wire.Wire.{Wire}
-use Rattle.mdr_model.specs.declared.wire.Wire.TheVariants as wire
-use Rattle.mdr_model.specs.declared.wire.WireView.{WireView}
+use Rattle.mdr_meaning.specs.declared.wire.Wire.{Wire}
+use Rattle.mdr_meaning.specs.declared.wire.Wire.TheVariants as wire
+use Rattle.mdr_meaning.specs.declared.wire.WireView.{WireView}
 use Rattle.mdr_model.specs.declared.message.New.{New}
-use Rattle.mdr_model.specs.Values.{names_block, wire_of}
+use Rattle.mdr_meaning.specs.Values.{wire_of}
+use Rattle.mdr_model.specs.Values.{names_block}
 use Rattle.mdr_model.specs.Memory.{Memory, MemoryBlock, Cell, leaves_of, size_of, leaf_at, born_at, is_live, cell_at, swept, swept_block, killed, zero_of, zero_block, normal, normal_if}
 use Rattle.mdr_model.specs.Copies.{held, died, without, inserted, with_news, is_named, news_of}
 use Rattle.mdr_model.specs.Agreement.{cell_zero, names_it, is_named_in, has, news_at, is_told, NewsRise, SerialsRise}

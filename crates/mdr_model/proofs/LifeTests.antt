@@ -4,7 +4,7 @@ use Rattle.std.specs.Prelude.{nat_lt}
 use Rattle.std.specs.List.{list_all}
 use Rattle.std.proofs.lemmas.Bool.{eq-eqb, lt-ltb}
 use Rattle.mdr_core.specs.declared.program.Program.{Program}
-use Rattle.mdr_model.specs.declared.wire.Wire.{Wire}
+use Rattle.mdr_meaning.specs.declared.wire.Wire.{Wire}
 use Rattle.mdr_model.specs.declared.message.New.{New}
 use Rattle.mdr_model.specs.Memory.{Memory, Cell, births, is_live}
 use Rattle.mdr_model.specs.Copies.{died, without, is_named, news_of, left_of, changed_values, told_news, tells}

@@ -8,7 +8,7 @@ use Rattle.mdr_core.specs.declared.types.Ty as form
 use Rattle.mdr_core.specs.declared.program.Program.{Program}
 use Rattle.mdr_core.specs.Types.{first_types}
 use Rattle.mdr_core.specs.Layout.{Leaf, Alone, repeated, leaves, cells, cells_or}
-use Rattle.mdr_model.specs.declared.wire.Wire.{Wire}
+use Rattle.mdr_meaning.specs.declared.wire.Wire.{Wire}
 use Rattle.mdr_model.specs.declared.message.New.{New}
 use Rattle.mdr_model.specs.Values.{type_at, fits, fits_maybe}
 use Rattle.mdr_model.specs.Memory.{leaves_of, size_of, leaf_at, fits_leaf, fits_at}

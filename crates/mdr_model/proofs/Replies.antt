@@ -8,12 +8,12 @@ use Rattle.mdr_core.specs.declared.program.Program.{Program}
 use Rattle.std.proofs.lemmas.Bool.{eq-eqb, lt-ltb, le-leb}
 use Rattle.mdr_core.specs.declared.types.Ty.{Ty}
 use Rattle.mdr_core.specs.declared.refusal.RefuseKind.TheVariants as refusal
-use Rattle.mdr_model.specs.declared.wire.Wire.{Wire}
+use Rattle.mdr_meaning.specs.declared.wire.Wire.{Wire}
 use Rattle.mdr_model.specs.declared.message.Run.{Run}
 use Rattle.mdr_model.specs.declared.reply.Reply.TheVariants as replies
 use Rattle.mdr_model.specs.Values.{fits_type, fits_result}
 use Rattle.mdr_model.specs.Memory.{Memory, Cell, normal}
-use Rattle.mdr_model.specs.Tree.{Asked}
+use Rattle.mdr_meaning.specs.Tree.{Asked}
 use Rattle.mdr_model.specs.World.{Kept, advanced, World, top}
 use Rattle.mdr_model.specs.Meaning.{func_at}
 use Rattle.mdr_model.specs.Faults.{fault, params_of, args_fault, runs_fault}

@@ -6,7 +6,7 @@ use Rattle.mdr_core.specs.declared.place.At.{At}
 use Rattle.mdr_core.specs.declared.plan.Half.TheVariants as half
 use Rattle.mdr_core.specs.declared.program.Program.{Program}
 use Rattle.mdr_model.specs.declared.command.Command.{Command}
-use Rattle.mdr_model.specs.declared.wire.Wire.{Wire}
+use Rattle.mdr_meaning.specs.declared.wire.Wire.{Wire}
 use Rattle.mdr_model.specs.declared.message.Told.{Told}
 use Rattle.mdr_model.specs.declared.message.Fault.{Fault}
 use Rattle.mdr_model.specs.declared.message.Message.{Message}
@@ -17,7 +17,8 @@ use Rattle.mdr_model.specs.declared.outcome.End.{End}
 use Rattle.mdr_model.specs.declared.outcome.End.TheVariants as ends
 use Rattle.mdr_model.specs.Memory.{Memory, Cell, normal, loaded}
 use Rattle.mdr_model.specs.Sets.{is_in}
-use Rattle.mdr_model.specs.Tree.{Asked, Tree}
+use Rattle.mdr_meaning.specs.Tree.{Asked}
+use Rattle.mdr_model.specs.Tree.{Tree}
 use Rattle.mdr_model.specs.Walk.{Walked, walk, on_load, on_store}
 use Rattle.mdr_model.specs.World.{World, top, below, advanced, Ran, Ended, Stopped, after, counted, when_loaded, when_stored, served, as_now, kernel_call}
 use Rattle.mdr_model.specs.Watched.{with_view, renewed, ending, in_user, Finish, finish, noting, and_then, commands}

@@ -5,7 +5,7 @@ use Rattle.mdr_core.specs.declared.refusal.RefuseKind.{RefuseKind}
 use Rattle.mdr_core.specs.declared.refusal.RefuseKind.TheVariants as refusal
 use Rattle.mdr_core.specs.declared.program.Program.{Program}
 use Rattle.mdr_model.specs.declared.command.Command.{Command}
-use Rattle.mdr_model.specs.declared.wire.Wire.{Wire}
+use Rattle.mdr_meaning.specs.declared.wire.Wire.{Wire}
 use Rattle.mdr_model.specs.declared.message.Fault.{Fault}
 use Rattle.mdr_model.specs.declared.message.Message.{Message}
 use Rattle.mdr_model.specs.declared.reply.Reply.{Reply}

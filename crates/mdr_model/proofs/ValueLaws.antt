@@ -10,9 +10,9 @@ use Rattle.mdr_core.specs.declared.value.LockState.{LockState}
 use Rattle.mdr_core.specs.declared.value.LockState.TheVariants.{Free, Spin, Sleep}
 use Rattle.mdr_core.specs.declared.program.Program.{Program}
 use Rattle.mdr_core.specs.Kinds.{kind_number, is_same_kind}
-use Rattle.mdr_model.specs.declared.wire.Wire.{Wire}
-use Rattle.mdr_model.specs.declared.wire.Wire.TheVariants as wire
-use Rattle.mdr_model.specs.declared.wire.WireView.{WireView}
+use Rattle.mdr_meaning.specs.declared.wire.Wire.{Wire}
+use Rattle.mdr_meaning.specs.declared.wire.Wire.TheVariants as wire
+use Rattle.mdr_meaning.specs.declared.wire.WireView.{WireView}
 use Rattle.mdr_core.specs.Layout.{Leaf}
 use Rattle.mdr_model.specs.declared.message.New.{New}
 use Rattle.mdr_model.specs.Values.{fits_type, fits_result, fits, fits_maybe, type_at, is_same, is_same_view, lock_number}

@@ -4,7 +4,7 @@ use Rattle.std.specs.Prelude.{◌==◌, nat_lt, is_some, slice_get}
 use Rattle.std.proofs.lemmas.Bool.{cond-true, cond-false, eq-eqb, ne_eqb}
 use Rattle.mdr_core.specs.declared.program.Program.{Program}
 use Rattle.mdr_core.specs.Layout.{Leaf}
-use Rattle.mdr_model.specs.declared.wire.Wire.{Wire}
+use Rattle.mdr_meaning.specs.declared.wire.Wire.{Wire}
 use Rattle.mdr_model.specs.declared.message.New.{New}
 use Rattle.mdr_model.specs.Memory.{Memory, Cell, leaves_of, size_of, leaf_at, fits_at, is_lock_type, is_lock_leaf, births, born_at, cell_at}
 use Rattle.mdr_model.specs.Sets.{is_same_cell, is_in, cells_from, is_open_leaf, is_keyed, keyed_cells, visible_of}

@@ -18,8 +18,8 @@ use Rattle.mdr_core.specs.Code.{Term, Lvalue, Called, Goal, Code, Codes}
 use Rattle.mdr_core.specs.Folds.{term_of, lvalue_of, call_of, code_of, codes_of}
 use Rattle.mdr_core.proofs.Coded as coded
 use Rattle.mdr_core.proofs.Coded.{code_is, lit_is, global_is, load_is, bin_is}
-use Rattle.mdr_model.specs.declared.wire.Wire.{Wire}
-use Rattle.mdr_model.specs.declared.wire.Wire.TheVariants as wire
+use Rattle.mdr_meaning.specs.declared.wire.Wire.{Wire}
+use Rattle.mdr_meaning.specs.declared.wire.Wire.TheVariants as wire
 use Rattle.mdr_model.specs.Tree.{Tree}
 use Rattle.mdr_model.specs.Meaning.{func_at, is_kernel, is_user, body_of, Enters, statements, function}
 use Rattle.mdr_model.specs.ReplyFaults.{any_calls, any_has_number, has_down_stub, is_user_place}

@@ -7,8 +7,8 @@ use Rattle.mdr_core.specs.declared.value.Value.TheVariants as value
 use denote.Hole.Carrier.{out}
 use Rattle.mdr_core.specs.declared.types.Ty as form
 use Rattle.mdr_core.specs.Layout.{repeated, cells, leaves}
-use Rattle.mdr_model.specs.declared.wire.Wire.{Wire}
-use Rattle.mdr_model.specs.declared.wire.Wire.TheVariants as wire
+use Rattle.mdr_meaning.specs.declared.wire.Wire.{Wire}
+use Rattle.mdr_meaning.specs.declared.wire.Wire.TheVariants as wire
 use Rattle.mdr_model.specs.declared.message.BirthKind.TheVariants.{Static}
 use Rattle.mdr_model.specs.declared.message.Message.{Message}
 use Rattle.mdr_model.specs.declared.message.Message.TheVariants as message
@@ -16,28 +16,24 @@ use Rattle.mdr_model.specs.declared.outcome.Happened.{Happened}
 use Rattle.mdr_model.specs.declared.outcome.Happened.TheVariants as happened
 use Rattle.mdr_model.specs.declared.outcome.End.TheVariants as ends
 use Rattle.mdr_model.specs.KernelState.{Kernel, Reading}
-use Rattle.mdr_model.specs.Memory.{leaves_of, fits_at, Memory}
-use Rattle.mdr_model.specs.Watched.{Finish, finish}
-use Rattle.mdr_model.specs.User.{Delivered, Runs, done}
+use Rattle.mdr_model.specs.Memory.{leaves_of, fits_at, Memory, born_at, is_live, cell_at, put, killed, normal, first_memory, reached, loaded, stored}
+use Rattle.mdr_model.specs.Watched.{Finish, finish, with_view, in_user, upcall, begin, begun, returned, commands, first_world, watched}
+use Rattle.mdr_model.specs.User.{Delivered, Runs, done, view_fits, runs_fit, lives_fit, call_fits, back_fits, answer_fits, opened, replied, deliver, first_user, user_after, allowance, user_reply}
 use Rattle.mdr_core.specs.declared.plan.Half.TheVariants as half
-use Rattle.mdr_model.specs.Meaning.{function}
+use Rattle.mdr_model.specs.Meaning.{function, is_kernel, is_user, pointer_to}
 use Rattle.mdr_model.proofs.WorkedCode.{add_one_bodies, add_one_code, bump_bodies, bump_code, reset_bodies, reset_code, entered, is_entered, bump_stub, bump_place, reset_stub, reset_place}
 use Rattle.mdr_model.specs.Worked.{add_one, bump, u32_value, count_view, count_is, count_told, BumpPrints, BumpIdles, BumpStops, AddOnePrints, calling, BumpSends, BumpSpells, reset, ResetPrints, ResetSends}
 use Rattle.mdr_model.specs.Copies.{numbered, values_of_runs, put_all, put_runs, held, changed_cells, changes, died, without, inserted, with_news, news_of, left_of, changed_values, told_news, begun_copy, agreed_after, tells}
 use Rattle.mdr_model.specs.Faults.{args_fault, fits_cell, run_fault, runs_fault}
 use Rattle.mdr_model.specs.ReplyFaults.{is_ask_place, is_awaited, user_stop, fault_of}
 use Rattle.mdr_model.specs.Kernel.{calls, comes_back, answers, split_commands, applied, taken, next, first_kernel, run_from_pending, split_run}
-use Rattle.mdr_model.specs.Meaning.{is_kernel, is_user, pointer_to}
-use Rattle.mdr_model.specs.Memory.{born_at, is_live, cell_at, put, killed, normal, first_memory, reached, loaded, stored}
 use Rattle.mdr_model.specs.Outcome.{outcome_of}
 use Rattle.mdr_model.specs.Report.{value_shown, argument_shown, cell_shown, arguments_shown, cells_shown, event_line, event_lines, end_line, object_line, object_lines, report}
 use Rattle.mdr_model.specs.Sets.{is_in, cells_from, cells_of_runs, runs_of_cells, rises_after, is_keyed, visible_of, visible}
 use Rattle.mdr_model.specs.Text.{value_text, new_text, run_text, set_run_text, told_text, shape_text, text}
 use Rattle.mdr_model.specs.Tree.{Tree}
-use Rattle.mdr_model.specs.User.{view_fits, runs_fit, lives_fit, call_fits, back_fits, answer_fits, opened, replied, deliver, first_user, user_after, allowance, user_reply}
 use Rattle.mdr_model.specs.Values.{fits, fits_result, is_view_of, is_same_view, is_same}
 use Rattle.mdr_model.specs.Walk.{walk}
-use Rattle.mdr_model.specs.Watched.{with_view, in_user, upcall, begin, begun, returned, commands, first_world, watched}
 use Rattle.mdr_model.specs.World.{served, in_kernel, kernel_call}
 use Rattle.mdr_model.specs.Xdr.{four, eight, item, opaque, listed}
 use Rattle.mdr_core.specs.Bits.{bit_of, of_bits}

@@ -4,8 +4,9 @@ use Rattle.mdr_core.specs.declared.stop.StopKind.{StopKind}
 use Rattle.mdr_core.specs.declared.place.At.{At}
 use Rattle.mdr_core.specs.declared.plan.Half.{Half}
 use Rattle.mdr_core.specs.declared.program.Program.{Program}
-use Rattle.mdr_model.specs.declared.wire.Wire.{Wire}
-use Rattle.mdr_model.specs.Tree.{Asked, Tree, cut}
+use Rattle.mdr_meaning.specs.declared.wire.Wire.{Wire}
+use Rattle.mdr_meaning.specs.Tree.{Asked}
+use Rattle.mdr_model.specs.Tree.{Tree, cut}
 use Rattle.mdr_model.specs.Meaning.{function}
 
 -- R r t u says that t and u are alike for r ticks. A congruence relates two trees with the same first node where it relates what comes next; after a tick, with one tick fewer

@@ -11,11 +11,12 @@ use Rattle.mdr_core.specs.Kinds.{is_in_range}
 use Rattle.mdr_core.specs.Layout.{Leaf}
 use Rattle.mdr_core.specs.Types.{first_types}
 use Rattle.mdr_core.specs.Views.{IsViewOf}
-use Rattle.mdr_model.specs.declared.wire.Wire.{Wire}
-use Rattle.mdr_model.specs.declared.wire.Wire.TheVariants as wire
-use Rattle.mdr_model.specs.declared.wire.WireView.{WireView}
+use Rattle.mdr_meaning.specs.declared.wire.Wire.{Wire}
+use Rattle.mdr_meaning.specs.declared.wire.Wire.TheVariants as wire
+use Rattle.mdr_meaning.specs.declared.wire.WireView.{WireView}
 use Rattle.mdr_model.specs.declared.message.New.{New}
-use Rattle.mdr_model.specs.Values.{type_at, view_of}
+use Rattle.mdr_meaning.specs.Fit.{view_of}
+use Rattle.mdr_model.specs.Values.{type_at}
 use Rattle.mdr_model.specs.Memory.{Memory, Cell, leaf_at, fits_at, born_at, cell_at, global_block}
 use Rattle.mdr_model.specs.Agreement.{SerialsRise, has_index}
 

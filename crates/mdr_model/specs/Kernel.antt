@@ -4,7 +4,7 @@ use Rattle.mdr_core.specs.declared.stop.StopKind.TheVariants as stop
 use Rattle.mdr_core.specs.declared.refusal.RefuseKind.TheVariants as refusal
 use Rattle.mdr_core.specs.declared.program.Program.{Program}
 use Rattle.mdr_model.specs.declared.command.Command.{Command}
-use Rattle.mdr_model.specs.declared.wire.Wire.{Wire}
+use Rattle.mdr_meaning.specs.declared.wire.Wire.{Wire}
 use Rattle.mdr_model.specs.declared.message.Run.{Run}
 use Rattle.mdr_model.specs.declared.message.Told.{Told}
 use Rattle.mdr_model.specs.declared.message.Fault.{Fault}
@@ -15,7 +15,7 @@ use Rattle.mdr_model.specs.declared.reply.Reply.TheVariants as replies
 use Rattle.mdr_model.specs.declared.outcome.End.{End}
 use Rattle.mdr_model.specs.declared.outcome.End.TheVariants as ends
 use Rattle.mdr_model.specs.Memory.{first_memory}
-use Rattle.mdr_model.specs.Tree.{Asked}
+use Rattle.mdr_meaning.specs.Tree.{Asked}
 use Rattle.mdr_model.specs.World.{World, top, advanced, Ran, Ended, Stopped, served, kernel_call}
 use Rattle.mdr_model.specs.Watched.{upcall_begun, renewed, upcall_ended, returned, Beginning, Did, Opens, begin, first_world}
 use Rattle.mdr_model.specs.Copies.{tells, agreed_after, put_runs}

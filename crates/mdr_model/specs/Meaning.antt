@@ -2,7 +2,6 @@
 use Rattle.std.specs.Prelude.{ℕ, zero, suc, Bool, true, false, not, ◌&&◌, List, [], ◌∷◌, length, Option, Some, None, Result, Ok, Err, ℤ, nat_lt, slice_get, unwrap_or}
 use Rattle.mdr_core.specs.declared.kind.Kind.{Kind}
 use Rattle.mdr_core.specs.declared.undefined.Undefined.{Undefined}
-use Rattle.mdr_core.specs.declared.undefined.Undefined.TheVariants as undefined
 use Rattle.mdr_core.specs.declared.stop.StopKind.{StopKind}
 use Rattle.mdr_core.specs.declared.stop.StopKind.TheVariants as stop
 use Rattle.mdr_core.specs.declared.place.At.{At}
@@ -15,9 +14,10 @@ use Rattle.mdr_core.specs.declared.code.Stmt.{Stmt}
 use Rattle.mdr_core.specs.Code.{Term, Lvalue, Called, Goal, Code, Codes}
 use Rattle.mdr_core.specs.Folds.{codes_of}
 use Rattle.mdr_core.specs.Operators.{operated}
-use Rattle.mdr_model.specs.declared.wire.Wire.{Wire}
-use Rattle.mdr_model.specs.declared.wire.Wire.TheVariants as wire
-use Rattle.mdr_model.specs.Values.{type_number, wire_of, integer}
+use Rattle.mdr_meaning.specs.declared.wire.Wire.{Wire}
+use Rattle.mdr_meaning.specs.declared.wire.Wire.TheVariants as wire
+use Rattle.mdr_meaning.specs.Values.{wire_of, integer, stop_of, first_of}
+use Rattle.mdr_model.specs.Values.{type_number}
 use Rattle.mdr_model.specs.Tree.{Tree}
 
 -- ---- functions and their halves
@@ -59,11 +59,6 @@ pointer_to program (Lvalue.Global g) =
 -- other lvalues aren't built: no sound program has one
 pointer_to program _ = wire.Null
 
-abbrev pub stop_of : Undefined → StopKind
-stop_of undefined.Overflow = stop.Overflow
-stop_of undefined.DivZero = stop.DivZero
-stop_of undefined.Shift = stop.Shift
-
 abbrev pub given : Result ℤ Undefined → Kind → At → (Wire → Tree) → Tree
 given (Ok n) kind at k = k (wire.Int kind n)
 given (Err why) kind at k = Tree.Stop (stop_of why) at
@@ -100,17 +95,12 @@ abbrev pub at_depth : Bool → At → (Unit {0} → Tree) → Tree
 at_depth true at go = go tt
 at_depth false at go = Tree.Stop stop.Depth at
 
--- what a service gave, as the value of its call
-abbrev pub first_result : List Wire → Wire
-first_result [] = wire.NoValue
-first_result (v ∷ vs) = v
-
 abbrev pub call : Program → Half → Enters → Here → At → Called → List Wire → (Wire → Tree) → Tree
 call program half low here at (Called.Direct f) vs k =
     at_depth (nat_lt (suc here.depth) 256) at
     (λ z. by_half (is_own program half f) (λ z. low f vs (suc here.depth) k) (Tree.Cross at f vs (suc here.depth) k))
 call program half low here at (Called.Service n) vs k =
-    Tree.Ask (record { service = n; at = at; args = vs; shapes = []; bytes = [] }) (λ results. k (first_result results))
+    Tree.Ask (record { service = n; at = at; args = vs; shapes = []; bytes = [] }) (λ results. k (first_of results))
 -- a call through a value isn't built: no sound program has one
 call program half low here at (Called.Through e) vs k = Tree.Stop stop.NoValue at
 

@@ -8,13 +8,14 @@ use Rattle.mdr_core.specs.declared.program.Program.{Program}
 use Rattle.mdr_core.specs.declared.program.GlobalDef.{GlobalDef}
 pub use Rattle.mdr_model.specs.declared.memory.MemoryBlock.{MemoryBlock}
 pub use Rattle.mdr_model.specs.declared.memory.Cell.{Cell}
-use Rattle.mdr_model.specs.declared.wire.Wire.{Wire}
-use Rattle.mdr_model.specs.declared.wire.Wire.TheVariants as wire
-use Rattle.mdr_model.specs.declared.wire.WireView.{WireView}
+use Rattle.mdr_meaning.specs.declared.wire.Wire.{Wire}
+use Rattle.mdr_meaning.specs.declared.wire.Wire.TheVariants as wire
+use Rattle.mdr_meaning.specs.declared.wire.WireView.{WireView}
 use Rattle.mdr_model.specs.declared.message.New.{New}
 use Rattle.mdr_model.specs.declared.message.BirthKind.TheVariants.{Static}
 use Rattle.mdr_core.specs.Layout.{Leaf, repeated, cells_at, zero_value}
-use Rattle.mdr_model.specs.Values.{type_number, fits_type, wire_of, names_block}
+use Rattle.mdr_meaning.specs.Values.{wire_of}
+use Rattle.mdr_model.specs.Values.{type_number, fits_type, names_block}
 
 -- ---- the cells of a block
 

@@ -2,8 +2,8 @@
 use Rattle.std.specs.Prelude.{◌+◌, List, map, length}
 use Rattle.mdr_core.specs.declared.value.LockState.{LockState}
 use Rattle.mdr_core.specs.declared.value.LockState.TheVariants.{Free, Spin, Sleep}
-use Rattle.mdr_model.specs.declared.wire.Wire.{Wire}
-use Rattle.mdr_model.specs.declared.wire.Wire.TheVariants as wire
+use Rattle.mdr_meaning.specs.declared.wire.Wire.{Wire}
+use Rattle.mdr_meaning.specs.declared.wire.Wire.TheVariants as wire
 use Rattle.mdr_model.specs.declared.outcome.Outcome.{Outcome}
 use Rattle.mdr_model.specs.declared.outcome.Object.{Object}
 use Rattle.mdr_model.specs.declared.outcome.Seen.{Seen}

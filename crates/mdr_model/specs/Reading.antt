@@ -4,16 +4,16 @@ use Rattle.mdr_core.specs.declared.kind.Kind.{Kind}
 use Rattle.mdr_core.specs.declared.kind.Kind.TheVariants.{U8, U16, U32, U64, S8, S16, S32, S64}
 use Rattle.mdr_core.specs.declared.refusal.RefuseKind.TheVariants as refusal
 use Rattle.mdr_core.specs.declared.place.At.{At}
-use Rattle.mdr_model.specs.declared.wire.Wire.{Wire}
-use Rattle.mdr_model.specs.declared.wire.Wire.TheVariants as wire
-use Rattle.mdr_model.specs.declared.wire.WireView.{WireView}
+use Rattle.mdr_meaning.specs.declared.wire.Wire.{Wire}
+use Rattle.mdr_meaning.specs.declared.wire.Wire.TheVariants as wire
+use Rattle.mdr_meaning.specs.declared.wire.WireView.{WireView}
 use Rattle.mdr_model.specs.declared.message.BirthKind.{BirthKind}
 use Rattle.mdr_model.specs.declared.message.BirthKind.TheVariants.{Static, Heap, Auto}
 use Rattle.mdr_model.specs.declared.message.New.{New}
 use Rattle.mdr_model.specs.declared.message.Run.{Run}
 use Rattle.mdr_model.specs.declared.message.SetRun.{SetRun}
 use Rattle.mdr_model.specs.declared.message.Told.{Told}
-use Rattle.mdr_model.specs.declared.message.Shape64.{Shape64}
+use Rattle.mdr_meaning.specs.declared.shape.Shape64.{Shape64}
 use Rattle.mdr_model.specs.declared.message.Fault.{Fault}
 use Rattle.mdr_model.specs.declared.message.Message.{Message}
 use Rattle.mdr_model.specs.declared.message.Message.TheVariants as message

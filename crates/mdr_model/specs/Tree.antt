@@ -3,16 +3,8 @@ use Rattle.std.specs.Prelude.{ℕ, zero, suc, List}
 use Rattle.mdr_core.specs.declared.stop.StopKind.{StopKind}
 use Rattle.mdr_core.specs.declared.stop.StopKind.TheVariants.{Ticks}
 use Rattle.mdr_core.specs.declared.place.At.{At}
-use Rattle.mdr_model.specs.declared.wire.Wire.{Wire}
-use Rattle.mdr_model.specs.declared.message.Shape64.{Shape64}
-
--- a service that is asked for
-pub record Asked : Type 0 where
-  pub service : ℕ
-  pub at : At
-  pub args : List Wire
-  pub shapes : List Shape64
-  pub bytes : List ℕ
+use Rattle.mdr_meaning.specs.declared.wire.Wire.{Wire}
+use Rattle.mdr_meaning.specs.Tree.{Asked}
 
 pub data Tree : Type 0 where
   -- nothing was started

@@ -3,8 +3,8 @@ use Rattle.std.specs.Prelude.{ℕ, suc, ◌+◌, ◌-◌, Bool, true, false, not
 use Rattle.std.specs.List.{list_all}
 use Rattle.mdr_core.specs.declared.plan.Half.TheVariants as half
 use Rattle.mdr_core.specs.declared.program.Program.{Program}
-use Rattle.mdr_model.specs.declared.wire.Wire.{Wire}
-use Rattle.mdr_model.specs.declared.wire.Wire.TheVariants as wire
+use Rattle.mdr_meaning.specs.declared.wire.Wire.{Wire}
+use Rattle.mdr_meaning.specs.declared.wire.Wire.TheVariants as wire
 use Rattle.mdr_model.specs.declared.message.New.{New}
 use Rattle.mdr_model.specs.declared.message.Run.{Run}
 use Rattle.mdr_model.specs.declared.message.SetRun.{SetRun}
@@ -15,7 +15,8 @@ use Rattle.mdr_core.specs.declared.stop.StopKind.TheVariants as stop
 use Rattle.mdr_model.specs.Values.{type_at, fits_result}
 use Rattle.mdr_model.specs.Memory.{Memory, Cell, size_of, born_at, is_live, normal, first_memory}
 use Rattle.mdr_model.specs.Sets.{is_in, cells_of_run, cells_of_runs, rises_after, is_keyed}
-use Rattle.mdr_model.specs.Tree.{Asked, Tree}
+use Rattle.mdr_meaning.specs.Tree.{Asked}
+use Rattle.mdr_model.specs.Tree.{Tree}
 use Rattle.mdr_model.specs.Walk.{Reached, Walked, walk}
 use Rattle.mdr_model.specs.Meaning.{func_at, is_user, started}
 use Rattle.mdr_model.specs.Copies.{agreed_after, with_news, without, changes, put_runs}

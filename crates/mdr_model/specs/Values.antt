@@ -1,18 +1,18 @@
--- Values: which fit where, which are the same, and how code's values name blocks by serials.
-use Rattle.std.specs.Prelude.{ℕ, Bool, true, false, ◌&&◌, Option, Some, None, ℤ, pos, negsuc, ◌==◌, nat_le, slice_get}
+-- Values: which fit where, which are the same, and the values of events.
+use Rattle.std.specs.Prelude.{ℕ, Bool, true, false, ◌&&◌, Option, Some, None, ◌==◌, nat_le, slice_get}
 use Rattle.std.specs.Ordering.{int_eq}
 use Rattle.mdr_core.specs.declared.types.Ty.{Ty}
 use Rattle.mdr_core.specs.declared.types.Ty.TheVariants as ty
 use Rattle.mdr_core.specs.declared.value.Value.{Value}
 use Rattle.mdr_core.specs.declared.value.Value.TheVariants as value
-use Rattle.mdr_core.specs.declared.value.View.{View}
 use Rattle.mdr_core.specs.declared.value.LockState.{LockState}
 use Rattle.mdr_core.specs.declared.value.LockState.TheVariants.{Free, Spin, Sleep}
 use Rattle.mdr_core.specs.declared.program.Program.{Program}
 use Rattle.mdr_core.specs.Kinds.{kind_number, is_same_kind, is_in_range}
-use Rattle.mdr_model.specs.declared.wire.Wire.{Wire}
-use Rattle.mdr_model.specs.declared.wire.Wire.TheVariants as wire
-use Rattle.mdr_model.specs.declared.wire.WireView.{WireView}
+use Rattle.mdr_meaning.specs.declared.wire.Wire.{Wire}
+use Rattle.mdr_meaning.specs.declared.wire.Wire.TheVariants as wire
+use Rattle.mdr_meaning.specs.declared.wire.WireView.{WireView}
+use Rattle.mdr_meaning.specs.Fit.{view_of}
 use Rattle.mdr_model.specs.declared.message.New.{New}
 
 -- ---- names of types
@@ -89,23 +89,7 @@ is_same (wire.Lock s) (wire.Lock t) = lock_number s == lock_number t
 is_same wire.NoValue wire.NoValue = true
 is_same _ _ = false
 
--- ---- from code's values and back
-
-abbrev pub wire_view : View → WireView
-wire_view p = record { serial = p.block.serial; first = p.first; ty = p.ty; count = p.count; index = p.index }
-
--- a value of a program's text, whose pointers name globals
-abbrev pub wire_of : Value → Wire
-wire_of (value.Int k n) = wire.Int k n
-wire_of value.Null = wire.Null
-wire_of (value.Ptr p) = wire.Ptr (wire_view p)
-wire_of value.Dead = wire.Dead
-wire_of (value.Fn f) = wire.Fn f
-wire_of (value.Lock s) = wire.Lock s
-wire_of value.NoValue = wire.NoValue
-
-abbrev pub view_of : WireView → View
-view_of p = record { block = record { slot = 0; serial = p.serial }; first = p.first; ty = p.ty; count = p.count; index = p.index }
+-- ---- back to code's values
 
 -- a value of an event, in which no slot is meant
 abbrev pub value_of : Wire → Value
@@ -116,16 +100,3 @@ value_of wire.Dead = value.Dead
 value_of (wire.Fn f) = value.Fn f
 value_of (wire.Lock s) = value.Lock s
 value_of wire.NoValue = value.NoValue
-
--- the number of an integer value; no other is asked for its number
-abbrev pub integer : Wire → ℤ
-integer (wire.Int k n) = n
-integer _ = pos 0
-
--- the same where it isn't negative
-abbrev pub natural_of : ℤ → ℕ
-natural_of (pos n) = n
-natural_of (negsuc n) = 0
-
-abbrev pub natural : Wire → ℕ
-natural v = natural_of (integer v)

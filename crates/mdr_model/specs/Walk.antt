@@ -2,9 +2,10 @@
 use Rattle.std.specs.Prelude.{ℕ, zero, suc, Bool, List, Result, Ok, Err}
 use Rattle.mdr_core.specs.declared.stop.StopKind.{StopKind}
 use Rattle.mdr_core.specs.declared.place.At.{At}
-use Rattle.mdr_model.specs.declared.wire.Wire.{Wire}
+use Rattle.mdr_meaning.specs.declared.wire.Wire.{Wire}
 use Rattle.mdr_model.specs.Memory.{Memory, Cell, loaded, stored}
-use Rattle.mdr_model.specs.Tree.{Asked, Tree}
+use Rattle.mdr_meaning.specs.Tree.{Asked}
+use Rattle.mdr_model.specs.Tree.{Tree}
 
 pub data Reached : Type 0 where
   -- nothing was started

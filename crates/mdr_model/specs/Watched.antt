@@ -6,12 +6,13 @@ use Rattle.mdr_core.specs.declared.program.Func.{Func}
 use Rattle.mdr_core.specs.declared.value.Value.{Value}
 use Rattle.mdr_model.specs.declared.command.Command.{Command}
 use Rattle.mdr_model.specs.declared.command.Command.TheVariants as command
-use Rattle.mdr_model.specs.declared.wire.Wire.{Wire}
-use Rattle.mdr_model.specs.declared.wire.Wire.TheVariants as wire
+use Rattle.mdr_meaning.specs.declared.wire.Wire.{Wire}
+use Rattle.mdr_meaning.specs.declared.wire.Wire.TheVariants as wire
 use Rattle.mdr_model.specs.declared.outcome.End.{End}
 use Rattle.mdr_model.specs.declared.outcome.End.TheVariants as ends
 use Rattle.mdr_model.specs.declared.outcome.Happened.TheVariants as happened
-use Rattle.mdr_model.specs.Values.{wire_of, value_of}
+use Rattle.mdr_meaning.specs.Values.{wire_of}
+use Rattle.mdr_model.specs.Values.{value_of}
 use Rattle.mdr_model.specs.Memory.{Cell, first_memory, normal, loaded, stored}
 use Rattle.mdr_model.specs.Sets.{is_in, visible}
 use Rattle.mdr_model.specs.Tree.{Tree}

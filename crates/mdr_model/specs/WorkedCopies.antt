@@ -5,8 +5,8 @@ use Rattle.mdr_core.specs.declared.types.Ty.TheVariants as ty
 use Rattle.mdr_core.specs.declared.types.Ann.TheVariants.{Single}
 use Rattle.mdr_core.specs.declared.value.Value.TheVariants as value
 use Rattle.mdr_core.specs.declared.program.Program.{Program}
-use Rattle.mdr_model.specs.declared.wire.Wire.{Wire}
-use Rattle.mdr_model.specs.declared.wire.Wire.TheVariants as wire
+use Rattle.mdr_meaning.specs.declared.wire.Wire.{Wire}
+use Rattle.mdr_meaning.specs.declared.wire.Wire.TheVariants as wire
 use Rattle.mdr_model.specs.declared.message.New.{New}
 use Rattle.mdr_model.specs.declared.message.Run.{Run}
 use Rattle.mdr_model.specs.declared.message.SetRun.{SetRun}

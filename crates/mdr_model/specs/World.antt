@@ -5,13 +5,14 @@ use Rattle.mdr_core.specs.declared.stop.StopKind.TheVariants as stop
 use Rattle.mdr_core.specs.declared.place.At.{At}
 use Rattle.mdr_core.specs.declared.plan.Half.TheVariants as half
 use Rattle.mdr_core.specs.declared.program.Program.{Program}
-use Rattle.mdr_model.specs.declared.wire.Wire.{Wire}
-use Rattle.mdr_model.specs.declared.wire.Wire.TheVariants as wire
+use Rattle.mdr_meaning.specs.declared.wire.Wire.{Wire}
+use Rattle.mdr_meaning.specs.declared.wire.Wire.TheVariants as wire
 use Rattle.mdr_model.specs.declared.outcome.Happened.{Happened}
 use Rattle.mdr_model.specs.declared.outcome.Happened.TheVariants as happened
-use Rattle.mdr_model.specs.Values.{natural}
+use Rattle.mdr_meaning.specs.Values.{natural}
 use Rattle.mdr_model.specs.Memory.{Memory, Cell, normal, loaded, stored, everywhere}
-use Rattle.mdr_model.specs.Tree.{Asked, Tree}
+use Rattle.mdr_meaning.specs.Tree.{Asked}
+use Rattle.mdr_model.specs.Tree.{Tree}
 use Rattle.mdr_model.specs.Meaning.{started}
 
 -- the ticks that were counted, and those that the budget leaves

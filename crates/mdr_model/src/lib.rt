@@ -7,7 +7,6 @@ mod memory;
 mod message;
 mod outcome;
 mod reply;
-mod wire;
 mod worked;
 mod worked_copies;
 
@@ -19,11 +18,11 @@ pub use laws::{
     pointers_are_equal_at_one_cell, refused_messages_can_be_left_out, replies_agree,
     split_is_one_memory, steps_may_follow,
 };
+pub use mdr_meaning::{Shape64, Wire, WireView};
 pub use memory::{Cell, MemoryBlock};
-pub use message::{BirthKind, Fault, Message, New, Run, SetRun, Shape64, Told};
+pub use message::{BirthKind, Fault, Message, New, Run, SetRun, Told};
 pub use outcome::{End, Happened, Object, Outcome, Seen};
 pub use reply::Reply;
-pub use wire::{Wire, WireView};
 pub use worked::{
     a_budget_stops_the_run, add_one_prints_its_report, an_empty_script_ends_at_once,
     bump_messages_are_spelled, bump_prints_its_report, bump_sends_eight_messages,

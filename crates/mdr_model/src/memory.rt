@@ -1,8 +1,8 @@
 // Memories.
 
 use crate::message::New;
-use crate::wire::Wire;
 use mdr_core::Items;
+use mdr_meaning::Wire;
 
 /// A live block: how it was born, and what its cells hold.
 #[derive(Debug, Drop)]

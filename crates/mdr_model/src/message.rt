@@ -1,7 +1,7 @@
 // The messages between the halves.
 
-use crate::wire::Wire;
 use mdr_core::{At, Items, RefuseKind};
+use mdr_meaning::{Shape64, Wire};
 
 /// How a block was born.
 #[derive(Clone, Copy, Debug, PartialEq, Eq)]
@@ -47,13 +47,6 @@ pub struct Told {
     pub news: Items<New>,
     pub view: Items<SetRun>,
     pub runs: Items<Run>,
-}
-
-/// What an allocation asks for: `count` elements of a type of the table.
-#[derive(Clone, Copy, Debug, PartialEq, Eq)]
-pub struct Shape64 {
-    pub ty: u32,
-    pub count: u64,
 }
 
 /// A message. `Call`, `Back` and `Answer` go to the user half, all others to the kernel half. In those,

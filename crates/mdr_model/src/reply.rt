@@ -1,8 +1,8 @@
 // The user half's replies to the messages that it takes.
 
-use crate::message::{Run, Shape64};
-use crate::wire::Wire;
+use crate::message::Run;
 use mdr_core::{At, Items};
+use mdr_meaning::{Shape64, Wire};
 
 /// What the kernel half awaits. Its fields are those of the message of the same name.
 #[derive(Debug, Drop)]

@@ -16,7 +16,7 @@ use Rattle.mdr_faults.specs.declared.scope.Scope.{Scope}
 use Rattle.mdr_faults.specs.Alike.{is_alike, are_alike}
 use Rattle.mdr_faults.specs.Declarations.{type_named}
 use Rattle.mdr_faults.specs.Faults.{Checked, Right, after, both}
-use Rattle.mdr_operand.specs.Forms.{at_kind, needed, null_pointer, scalar_of, value_of}
+use Rattle.mdr_operand.specs.Forms.{at_kind, is_null, needed, null_pointer, scalar_of, value_of}
 
 -- ---- values of a type as values of another
 
@@ -71,14 +71,9 @@ first_of None other = other
 
 -- ---- casts
 
--- the operand as a value of the type. A literal zero under a cast is a number alone
+-- an operand's value as one of the type. A literal zero is a number here, and a `NULL` a `void *`
 unfoldable pub cast_as : Operand → Ty → Option Expr
-cast_as (operand.Value v) t = value_as (value_of (operand.Value v)) t
-cast_as (operand.Zero k) t = value_as (value_of (operand.Zero k)) t
-cast_as operand.Null t = null_as t
-cast_as (operand.Object l u) t = value_as (value_of (operand.Object l u)) t
-cast_as (operand.Array l u n) t = value_as (value_of (operand.Array l u n)) t
-cast_as (operand.Function f us) t = value_as (value_of (operand.Function f us)) t
+cast_as x t = value_as (value_of x) t
 
 abbrev pub value_of_type : Option Expr → Ty → Option Scalar
 value_of_type None t = None
@@ -96,17 +91,12 @@ cast_rule scope p b n c = both (type_named scope b n) c (cast_to p)
 
 -- ---- as if by assignment
 
--- a literal zero is a null pointer too
-abbrev pub zero_as : Kind → Ty → Option Expr
-zero_as k t = first_of (null_as t) (value_as (value_of (operand.Zero k)) t)
+-- a null pointer constant as a value of the type: a null pointer, and else a literal zero is a number
+unfoldable pub constant_as : Operand → Ty → Option Expr
+constant_as x t = first_of (null_as t) (cast_as x t)
 
 unfoldable pub operand_as : Operand → Ty → Option Expr
-operand_as (operand.Value v) t = value_as (Some v) t
-operand_as (operand.Zero k) t = zero_as k t
-operand_as operand.Null t = null_as t
-operand_as (operand.Object l u) t = cast_as (operand.Object l u) t
-operand_as (operand.Array l u n) t = cast_as (operand.Array l u n) t
-operand_as (operand.Function f us) t = cast_as (operand.Function f us) t
+operand_as x t = chosen (is_null x) (constant_as x t) (cast_as x t)
 
 -- an operand of the form at place p as a value of the type
 unfoldable pub converted_at : Place → Ty → Operand → Checked Expr

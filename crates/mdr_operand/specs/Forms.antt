@@ -1,5 +1,5 @@
 -- Expressions: the rule of each form, over its parts (C99 6.3, 6.5).
-use Rattle.std.specs.Prelude.{ℕ, nat_lt, Bool, true, false, pos, length, Option, Some, None}
+use Rattle.std.specs.Prelude.{ℕ, ◌==◌, nat_lt, Bool, true, false, pos, length, Option, Some, None}
 use Rattle.mdr_core.specs.declared.code.Expr.{Expr}
 use Rattle.mdr_core.specs.declared.code.Expr.TheOpen.{Lval-F}
 use Rattle.mdr_core.specs.declared.code.Expr.TheVariants as expr
@@ -77,6 +77,10 @@ integer_by (scalar.Handle e ts) = None
 unfoldable pub integer_at : Place → Operand → Checked Integer
 integer_at p x = after (scalar_at p x) (λ v. needed p (integer_by v))
 
+-- what is tested in a condition has a scalar type (6.5.13, 6.5.14, 6.8.4.1, 6.8.5)
+unfoldable pub condition_at : Place → Operand → Checked Expr
+condition_at p x = after (scalar_at p x) (λ v. Right (expression_of v))
+
 abbrev pub is_number_value : Option Scalar → Bool
 is_number_value None = false
 is_number_value (Some (scalar.Number e k)) = true
@@ -87,6 +91,15 @@ is_number_value (Some (scalar.Handle e ts)) = false
 -- the operand has an integer type
 unfoldable pub is_number : Operand → Bool
 is_number x = is_number_value (value_of x)
+
+-- a null pointer constant (6.3.2.3, paragraph 3)
+abbrev pub is_null : Operand → Bool
+is_null (operand.Value v) = false
+is_null (operand.Zero k) = true
+is_null operand.Null = true
+is_null (operand.Object l t) = false
+is_null (operand.Array l t n) = false
+is_null (operand.Function f ts) = false
 
 abbrev pub pointer_by : Scalar → Option Pointer
 pointer_by (scalar.Number e k) = None
@@ -125,6 +138,10 @@ number e k = operand.Value (scalar.Number e k)
 abbrev pub truth : Expr → Operand
 truth e = number e S32
 
+-- a literal of value 0 may be a null pointer (6.4.4, 6.3.2.3)
+unfoldable pub literal : ℕ → Kind → Operand
+literal n k = chosen (n == 0) (operand.Zero k) (number (expr.Lit (value.Int k (pos n))) k)
+
 unfoldable pub promoted_number : Integer → Operand
 promoted_number n = number (at_kind (promoted n.kind) n) (promoted n.kind)
 
@@ -148,18 +165,21 @@ address_by (Lval-F.Index l e) = expr.Move false (expr.Decay l) e
 unfoldable pub address_of : Lval → Expr
 address_of l = address_by (out-Lval l)
 
+abbrev pub object_address : Lval → Ty → Operand
+object_address l t = operand.Value (scalar.Pointer (address_of l) t)
+
 -- the operand of `&` is an lvalue or a function's name (paragraph 1). There are no pointers to arrays
 unfoldable pub address : Place → Operand → Checked Operand
 address p (operand.Value v) = refuse p NotAnLvalue
 address p (operand.Zero k) = refuse p NotAnLvalue
 address p operand.Null = refuse p NotAnLvalue
-address p (operand.Object l t) = Right (operand.Value (scalar.Pointer (address_of l) t))
+address p (operand.Object l t) = Right (object_address l t)
 address p (operand.Array l t n) = refuse p Mismatch
 address p (operand.Function f ts) = Right (operand.Value (scalar.Handle (expr.Lit (value.Fn f)) ts))
 
 -- what a pointer names (paragraph 4)
-abbrev pub target_of : Pointer → Checked Operand
-target_of x = Right (operand.Object (lval.Deref x.value) x.ty)
+abbrev pub target_object : Pointer → Operand
+target_object x = operand.Object (lval.Deref x.value) x.ty
 
 -- ---- prefix forms (6.5.3)
 
@@ -173,11 +193,11 @@ unfoldable pub flip_at : Place → Operand → Checked Operand
 flip_at p x = after (integer_at p x) (λ n. Right (flipped_number n))
 
 unfoldable pub not_at : Place → Operand → Checked Operand
-not_at p x = after (scalar_at p x) (λ v. Right (truth (expr.Not (expression_of v))))
+not_at p x = after (condition_at p x) (λ e. Right (truth (expr.Not e)))
 
 -- the operand of `*` is a pointer to an object (6.5.3.2, paragraphs 2 and 4)
 unfoldable pub target_at : Place → Operand → Checked Operand
-target_at p x = after (pointer_at p x) target_of
+target_at p x = after (pointer_at p x) (λ q. Right (target_object q))
 
 unfoldable pub prefix_of : Place → Operand → PrefixOperator → Checked Operand
 prefix_of p x prefix.Promote = promotion_at p x

@@ -3,7 +3,7 @@
 ghost use Rattle.std.specs.Prelude.{◌≡◌, IfOk, pos};
 ghost use Rattle.std.specs.Option.{option_map};
 ghost use Rattle.mdr_faults.specs.Faults.{told};
-ghost use Rattle.mdr_operand.specs.Forms.{scalar_of, value_of, expression_of, needed, scalar_at, integer_by, integer_at, at_kind, number, truth};
+ghost use Rattle.mdr_operand.specs.Forms.{scalar_of, value_of, expression_of, needed, scalar_at, integer_by, integer_at, at_kind, number, truth, literal, condition_at, pointer_by, pointer_at};
 
 use mdr_core::{Boxed, Expr, Items, Kind, Lval, Place, Ty, Value};
 use mdr_faults::{Fault, FaultKind};
@@ -156,4 +156,47 @@ pub fn truth(value: Expr) -> Operand
     ensures { result ≡ truth value }
 {
     number(value, Kind::S32)
+}
+
+/// A number that is written.
+#[tactic(auto, unfolding(crate::specs::Forms::literal))]
+pub fn literal(n: u64, kind: Kind) -> Operand
+    ensures { result ≡ literal n kind }
+{
+    if n == 0 {
+        Operand::Zero(kind)
+    } else {
+        number(Expr::Lit(Value::Int(kind, n as i128)), kind)
+    }
+}
+
+/// What is tested: an integer, a pointer or a function pointer.
+#[tactic(auto, unfolding(crate::specs::Forms::condition_at))]
+pub fn condition_at(place: Place, x: Operand) -> Result<Expr, Fault>
+    ensures { result ≡ told (condition_at place x) }
+{
+    match scalar_at(place, x) {
+        Ok(v) => Ok(expression_of(v)),
+        Err(fault) => Err(fault),
+    }
+}
+
+fn pointer_by(v: Scalar) -> Option<Pointer>
+    ensures { result ≡ pointer_by v }
+{
+    match v {
+        Scalar::Pointer(value, ty) => Some(Pointer { value, ty }),
+        Scalar::Number(_, _) | Scalar::Opaque(_) | Scalar::Handle(_, _) => None,
+    }
+}
+
+/// The pointer to an object that the form at this place works on.
+#[tactic(auto, unfolding(crate::specs::Forms::pointer_at))]
+pub fn pointer_at(place: Place, x: Operand) -> Result<Pointer, Fault>
+    ensures { result ≡ told (pointer_at place x) }
+{
+    match scalar_at(place, x) {
+        Ok(v) => needed(place, pointer_by(v)),
+        Err(fault) => Err(fault),
+    }
 }

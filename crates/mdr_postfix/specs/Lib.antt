@@ -1,1 +1,3 @@
-pub mod Postfix
+pub mod Members
+pub mod Names
+pub mod Subscripts

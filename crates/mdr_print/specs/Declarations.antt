@@ -3,6 +3,8 @@ use Rattle.std.specs.Prelude.{ℕ, Bool, true, false, ◌==◌, ◌&&◌, is_non
 use Rattle.std.specs.Option.{option_map}
 use Rattle.mdr_syntax.specs.declared.tree.AnnText.{AnnText}
 use Rattle.mdr_syntax.specs.declared.tree.AnnText.TheVariants as ann
+use Rattle.mdr_syntax.specs.declared.tree.Base.{Base}
+use Rattle.mdr_syntax.specs.declared.tree.Base.TheVariants as base
 use Rattle.mdr_syntax.specs.declared.tree.Const.{Const}
 use Rattle.mdr_syntax.specs.declared.tree.Const.TheVariants as const
 use Rattle.mdr_syntax.specs.declared.tree.Decl.{Decl, out-Decl}
@@ -54,14 +56,25 @@ sized_name name size = named name ▸ sized size
 pub record Declared : Type 0 where
   pub alone : Marks
   pub whole : Marks
+  -- whether the whole is `void`
+  pub is_void : Bool
 
 abbrev pub whole_of : Declared → Marks
 whole_of d = d.whole
 
--- an empty list is `void`
+abbrev pub const_if : Bool → Marks
+const_if true rest = word (codes "const") (blank rest)
+const_if false rest = rest
+
+abbrev pub is_lone_void : List Declared → Bool
+is_lone_void [] = false
+is_lone_void (d ∷ []) = d.is_void
+is_lone_void (d ∷ e ∷ ds) = false
+
+-- an empty list is `void`; so a parameter that is `void`, where it stands alone, has a qualifier (6.7.5.3, paragraph 10)
 abbrev pub parameter_list : List Declared → Marks
 parameter_list [] = word (codes "void")
-parameter_list (d ∷ ds) = comma_list (map whole_of (d ∷ ds))
+parameter_list (d ∷ ds) = const_if (is_lone_void (d ∷ ds)) ▸ comma_list (map whole_of (d ∷ ds))
 
 abbrev pub parameters : List Declared → Marks
 parameters ds = in_parentheses (parameter_list ds)
@@ -75,6 +88,12 @@ core inner (Some params) = in_parentheses (sign (codes "*") ▸ inner) ▸ param
 abbrev pub is_bare : {X : Type 0} → ℕ → Option (List ℕ) → Option X → Bool
 is_bare n name fun = n == 0 && is_none name && is_none fun
 
+abbrev pub is_void_base : Base → Bool
+is_void_base base.Void = true
+is_void_base (base.Int kind) = false
+is_void_base (base.Struct place name) = false
+is_void_base base.Lock = false
+
 abbrev pub alone_shown : Decl-F Declared → Marks
 alone_shown d = stars d.stars ▸ core (sized_name d.name d.size) d.fun ▸ annotated d.ann
 
@@ -82,6 +101,7 @@ abbrev pub decl_shown : Decl-F Declared → Declared
 decl_shown d = record {
   alone = alone_shown d;
   whole = base_name d.base ▸ blank_unless (is_bare d.stars d.name d.fun) ▸ alone_shown d;
+  is_void = is_void_base d.base && (is_bare d.stars d.name d.fun && (is_none d.size && is_none d.ann));
 }
 
 abbrev pub shown_decl : Decl → Declared

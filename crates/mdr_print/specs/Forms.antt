@@ -1,5 +1,5 @@
 -- Expressions (C99 6.5).
-use Rattle.std.specs.Prelude.{Bool, true, false, ◌||◌, List, map, codes}
+use Rattle.std.specs.Prelude.{Bool, true, false, not, ◌||◌, List, map, codes}
 use Rattle.mdr_syntax.specs.declared.tree.Form.{Form}
 use Rattle.mdr_syntax.specs.declared.tree.FormWhat.{FormWhat}
 use Rattle.mdr_syntax.specs.declared.tree.FormWhat.TheOpen.{Form-F, FormWhat-F}
@@ -7,23 +7,27 @@ use Rattle.mdr_syntax.specs.declared.tree.FormWhat.TheFolds.{fold-Form, fold-For
 use Rattle.mdr_print.specs.Marks.{Marks, word, sign, number, quoted, spaced, in_parentheses, in_brackets, comma_list, ◌▸◌}
 use Rattle.mdr_print.specs.Types.{type_name}
 
--- an expression's text, whether it is an operator form (no name, literal or postfix form), and whether it is a number
+-- an expression's text, whether it is an operator form (no name, literal or postfix form), whether it is a number, and whether it is a unary expression (6.5.3)
 pub record Shown : Type 0 where
   pub is_operator : Bool
   pub is_number : Bool
+  pub is_unary : Bool
   pub marks : Marks
 
 abbrev pub marks_of : Shown → Marks
 marks_of s = s.marks
 
 abbrev pub plain : Marks → Shown
-plain marks = record { is_operator = false; is_number = false; marks = marks }
+plain marks = record { is_operator = false; is_number = false; is_unary = true; marks = marks }
 
 abbrev pub literal : Marks → Shown
-literal marks = record { is_operator = false; is_number = true; marks = marks }
+literal marks = record { is_operator = false; is_number = true; is_unary = true; marks = marks }
 
 abbrev pub operator : Marks → Shown
-operator marks = record { is_operator = true; is_number = false; marks = marks }
+operator marks = record { is_operator = true; is_number = false; is_unary = false; marks = marks }
+
+abbrev pub prefixed : Marks → Shown
+prefixed marks = record { is_operator = true; is_number = false; is_unary = true; marks = marks }
 
 abbrev pub parenthesised_if : Bool → Marks → Marks
 parenthesised_if true marks = in_parentheses marks
@@ -52,7 +56,7 @@ abbrev pub what_shown : FormWhat-F Shown Shown → Shown
 what_shown (FormWhat-F.Number n kind) = literal (number n kind)
 what_shown FormWhat-F.Null = plain (word (codes "NULL"))
 what_shown (FormWhat-F.Name name) = plain (word name)
-what_shown (FormWhat-F.Prefix op a) = operator (sign op ▸ operand a)
+what_shown (FormWhat-F.Prefix op a) = prefixed (sign op ▸ operand a)
 what_shown (FormWhat-F.Post op a) = plain (operand a ▸ sign op)
 what_shown (FormWhat-F.Cast base n a) = operator (in_parentheses (type_name base n) ▸ operand a)
 what_shown (FormWhat-F.Binary op a b) = operator (operand a ▸ spaced op ▸ operand b)
@@ -74,3 +78,10 @@ shown_what = fold-FormWhat Shown Shown what_shown form_shown
 
 abbrev pub form : Form → Marks
 form f = (shown_form f).marks
+
+-- the left side of an assignment is a unary expression (6.5.16); any other is in parentheses
+abbrev pub left_of : Shown → Marks
+left_of s = parenthesised_if (not s.is_unary) s.marks
+
+abbrev pub left_side : Form → Marks
+left_side f = left_of (shown_form f)

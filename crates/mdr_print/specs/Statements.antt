@@ -9,7 +9,7 @@ use Rattle.mdr_syntax.specs.declared.tree.Clause.{Clause}
 use Rattle.mdr_syntax.specs.declared.tree.NodeWhat.TheOpen.{NodeWhat-F, Node-F, Clause-F}
 use Rattle.mdr_syntax.specs.declared.tree.NodeWhat.TheFolds.{fold-Node, fold-NodeWhat, fold-Clause}
 use Rattle.mdr_print.specs.Marks.{Marks, nothing, word, sign, blank, newline, tabs, spaced, comma_unless, row, in_parentheses, ◌▸◌}
-use Rattle.mdr_print.specs.Forms.{form}
+use Rattle.mdr_print.specs.Forms.{form, left_side}
 use Rattle.mdr_print.specs.Declarations.{constant, declaration, declarator, equals}
 
 -- how a statement is written: its words, where its line has so many tabs; the lines that it has as a body;
@@ -128,7 +128,7 @@ abbrev pub what_written : NodeWhat-F Written (ℕ → Marks) Written → Written
 what_written NodeWhat-F.Empty = sole (λ depth. semicolon)
 what_written (NodeWhat-F.Block ss) = block ss
 what_written (NodeWhat-F.Local d value) = simple (declaration d ▸ assigned value) (declarator d ▸ assigned value)
-what_written (NodeWhat-F.Assign place op a b) = simple (form a ▸ spaced op ▸ form b) nothing
+what_written (NodeWhat-F.Assign place op a b) = simple (left_side a ▸ spaced op ▸ form b) nothing
 what_written (NodeWhat-F.Plain f) = simple (form f) nothing
 what_written (NodeWhat-F.If test a b) = sole (λ depth. clause_head (codes "if") (form test) ▸ blank ▸ braced depth a.body ▸ otherwise depth b)
 what_written (NodeWhat-F.While test a) = sole (λ depth. clause_head (codes "while") (form test) ▸ blank ▸ braced depth a.body)

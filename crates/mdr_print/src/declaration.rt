@@ -4,12 +4,12 @@ ghost use Rattle.std.specs.Prelude.{◌≡◌, OnOk, map, codes};
 ghost use Rattle.mdr_syntax.specs.declared.tree.Decl.{out-Decl};
 ghost use Rattle.mdr_print.specs.Marks.{Appends, spell, word, sign, blank, comma_list, in_parentheses, ◌▸◌};
 ghost use Rattle.mdr_print.specs.Types.{stars};
-ghost use Rattle.mdr_print.specs.Declarations.{minus, constant, annotation, annotated, named, sized, parameters, shown_decl, whole_of, core_of, parameter_list, declaration, declarator, head, is_bare, sized_name};
+ghost use Rattle.mdr_print.specs.Declarations.{minus, constant, annotation, annotated, named, sized, parameters, shown_decl, whole_of, core_of, parameter_list, declaration, declarator, head, is_bare, sized_name, const_if, is_lone_void, is_void_base};
 
 use crate::put::{put_blank, put_blank_unless, put_comma_unless, put_number, put_sign, put_word};
 use crate::types::{put_base, put_stars};
 use mdr_core::Name;
-use mdr_syntax::{AnnText, Const, Decl, Head};
+use mdr_syntax::{AnnText, Base, Const, Decl, Head};
 use std::alloc::{AllocError, Global};
 
 fn put_minus(out: &mut Vec<u8>, is_negative: bool) -> Result<(), AllocError>
@@ -154,6 +154,41 @@ fn is_bare(d: &Decl) -> bool
     d.stars == 0 && d.name.is_none() && d.fun.is_none()
 }
 
+fn is_void_base(base: &Base) -> bool
+    ensures { result ≡ is_void_base base.now }
+{
+    match base {
+        Base::Void => true,
+        Base::Int(_) | Base::Struct(_, _) | Base::Lock => false,
+    }
+}
+
+/// Whether it is written as `void`.
+fn is_void(d: &Decl) -> bool
+    ensures { result ≡ (shown_decl d.now).is_void }
+{
+    is_void_base(&d.base) && is_bare(d) && d.size.is_none() && d.ann.is_none()
+}
+
+fn is_lone_void(params: &[Decl]) -> bool
+    ensures { result ≡ is_lone_void (map shown_decl params.now) }
+{
+    match params {
+        [d] => is_void(d),
+        _ => false,
+    }
+}
+
+fn put_const_if(out: &mut Vec<u8>, is_const: bool) -> Result<(), AllocError>
+    ensures { OnOk result (Appends out.old.items out.new.items (const_if is_const)) }
+{
+    if !is_const {
+        return Ok(());
+    }
+    put_word(out, b"const")?;
+    put_blank(out)
+}
+
 /// A declaration as a whole, without what ends it.
 #[cycle(declare)]
 pub fn put_declaration(alloc: Global, out: &mut Vec<u8>, d: &Decl) -> Result<(), AllocError>
@@ -201,10 +236,10 @@ fn put_parameter_list(alloc: Global, out: &mut Vec<u8>, params: &[Decl]) -> Resu
     ensures { OnOk result (Appends out.old.items out.new.items (parameter_list (map shown_decl params.now))) }
 {
     if params.is_empty() {
-        put_word(out, b"void")
-    } else {
-        put_declarations(alloc, out, params)
+        return put_word(out, b"void");
     }
+    put_const_if(out, is_lone_void(params))?;
+    put_declarations(alloc, out, params)
 }
 
 #[cycle(declare)]

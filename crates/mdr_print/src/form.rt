@@ -3,7 +3,7 @@
 ghost use Rattle.std.specs.Prelude.{◌≡◌, ◌||◌, OnOk, map};
 ghost use Rattle.mdr_print.specs.Marks.{Appends, spell, comma_list, in_parentheses, in_brackets, spaced, ◌▸◌};
 ghost use Rattle.mdr_print.specs.Types.{type_name};
-ghost use Rattle.mdr_print.specs.Forms.{shown_what, shown_form, marks_of, operand, arguments, owner, is_apart, member_sign, form};
+ghost use Rattle.mdr_print.specs.Forms.{shown_what, shown_form, marks_of, operand, arguments, owner, is_apart, member_sign, form, left_side};
 
 use crate::put::{put_comma_unless, put_number, put_quoted, put_sign, put_spaced, put_word};
 use crate::types::put_type;
@@ -48,6 +48,25 @@ fn is_number(what: &FormWhat) -> bool
         | FormWhat::Call(_, _)
         | FormWhat::Text(_)
         | FormWhat::Base(_, _) => false,
+    }
+}
+
+/// Whether it may stand on the left of an assignment without parentheses.
+fn is_unary(what: &FormWhat) -> bool
+    ensures { result ≡ (shown_what what.now).is_unary }
+{
+    match what {
+        FormWhat::Cast(_, _, _) | FormWhat::Binary(_, _, _) | FormWhat::Choice(_, _, _) => false,
+        FormWhat::Number(_, _)
+        | FormWhat::Null
+        | FormWhat::Name(_)
+        | FormWhat::Prefix(_, _)
+        | FormWhat::Post(_, _)
+        | FormWhat::Subscript(_, _)
+        | FormWhat::Member(_, _, _, _)
+        | FormWhat::Call(_, _)
+        | FormWhat::Text(_)
+        | FormWhat::Base(_, _) => true,
     }
 }
 
@@ -205,5 +224,16 @@ fn put_what(alloc: Global, out: &mut Vec<u8>, what: &FormWhat) -> Result<(), All
         }
         FormWhat::Text(bytes) => put_quoted(out, bytes.as_slice()),
         FormWhat::Base(base, stars) => put_type(out, base, *stars),
+    }
+}
+
+/// The left side of an assignment.
+pub fn put_left_side(alloc: Global, out: &mut Vec<u8>, f: &Form) -> Result<(), AllocError>
+    ensures { OnOk result (Appends out.old.items out.new.items (left_side f.now)) }
+{
+    if is_unary(&f.what) {
+        put_form(alloc, out, f)
+    } else {
+        put_in_parentheses(alloc, out, f)
     }
 }

@@ -3,11 +3,11 @@
 ghost use Rattle.std.specs.Prelude.{◌≡◌, ◌+◌, OnOk, IfOk, suc, true, map, codes};
 ghost use Rattle.std.specs.Option.{option_map};
 ghost use Rattle.mdr_print.specs.Marks.{Appends, spell, word, sign, blank, newline, row, spaced, ◌▸◌};
-ghost use Rattle.mdr_print.specs.Forms.{form};
+ghost use Rattle.mdr_print.specs.Forms.{form, left_side};
 ghost use Rattle.mdr_print.specs.Statements.{semicolon, line_of, lines, braced, opened, closed, clause_head, assigned, optional, next_part, step_of, head_list, for_test, for_parts, first_of, further_of, words_of, body_of, head_part, block_words, clauses_words, clause_lines, otherwise, returned, label_words, label, at, written, written_what, written_clause};
 
 use crate::declaration::{put_constant, put_declaration, put_declarator};
-use crate::form::{put_form, put_in_parentheses};
+use crate::form::{put_form, put_in_parentheses, put_left_side};
 use crate::initialiser::put_equals;
 use crate::put::{
     put_blank, put_comma_unless, put_newline, put_sign, put_spaced, put_tabs, put_word,
@@ -104,9 +104,9 @@ fn put_assignment(
     a: &Form,
     b: &Form,
 ) -> Result<(), AllocError>
-    ensures { OnOk result (Appends out.old.items out.new.items (form a.now ▸ spaced operator.now ▸ form b.now)) }
+    ensures { OnOk result (Appends out.old.items out.new.items (left_side a.now ▸ spaced operator.now ▸ form b.now)) }
 {
-    put_form(alloc, out, a)?;
+    put_left_side(alloc, out, a)?;
     put_spaced(out, operator)?;
     put_form(alloc, out, b)
 }

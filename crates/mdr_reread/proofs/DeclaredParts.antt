@@ -9,9 +9,9 @@ use Rattle.mdr_syntax.specs.declared.tree.AnnText.TheVariants as ann
 use Rattle.mdr_syntax.specs.declared.tree.Const.{Const}
 use Rattle.mdr_syntax.specs.declared.tree.Const.TheVariants as const
 use Rattle.mdr_syntax.specs.declared.tree.Decl.TheOpen.{Decl-F}
-use Rattle.mdr_print.specs.Marks.{Mark, Is, Blank, Marks, spell, token_text, number_text, word, blank_unless}
+use Rattle.mdr_print.specs.Marks.{Mark, Is, Blank, Marks, spell, token_text, number_text, word, blank_unless, comma_list, ◌▸◌}
 use Rattle.mdr_print.specs.Types.{base_name, stars}
-use Rattle.mdr_print.specs.Declarations.{Declared, constant, annotation, annotated, named, sized, sized_name, whole_of, parameter_list, parameters, core, is_bare, alone_shown, decl_shown}
+use Rattle.mdr_print.specs.Declarations.{Declared, constant, annotation, annotated, named, sized, sized_name, whole_of, const_if, is_lone_void, parameter_list, parameters, core, is_bare, alone_shown, decl_shown}
 use Rattle.mdr_print.specs.Spelled.{AreApart}
 use Rattle.mdr_reread.specs.Words.{is_word, is_base}
 use Rattle.mdr_reread.specs.Declared.{maybe, is_constant, is_annotation}
@@ -89,9 +89,14 @@ wholes : (ds : List Declared) → AllByRecursion IsDeclared ds → AllByRecursio
 wholes [] h = tt
 wholes (d ∷ ds) h = ((h.0).whole, wholes ds h.1)
 
+const_apart : (b : Bool) (m : Marks) → Apart m → Apart (const_if b ▸ m)
+unfolding spell token_text
+const_apart true m h rest a q = (word_front (codes "const") (spell (Blank ∷ m rest)) refl refl, h rest a q)
+const_apart false m h rest a q = h rest a q
+
 list_apart : (ds : List Declared) → AllByRecursion IsDeclared ds → Apart (parameter_list ds)
 list_apart [] h = word_apart (codes "void") refl
-list_apart (d ∷ ds) h = separated_apart (map whole_of (d ∷ ds)) (wholes (d ∷ ds) h) true
+list_apart (d ∷ ds) h = const_apart (is_lone_void (d ∷ ds)) (comma_list (map whole_of (d ∷ ds))) (separated_apart (map whole_of (d ∷ ds)) (wholes (d ∷ ds) h) true)
 
 pub parameters_apart : (ds : List Declared) → AllByRecursion IsDeclared ds → (rest : List Mark) → AreApart rest → AreApart (parameters ds rest)
 parameters_apart ds h rest a = enclosed_apart (parameter_list ds) (list_apart ds h) rest a

@@ -6,12 +6,12 @@ use Rattle.mdr_syntax.specs.declared.tree.Form.{Form}
 use Rattle.mdr_syntax.specs.declared.tree.FormWhat.{FormWhat}
 use Rattle.mdr_syntax.specs.declared.tree.FormWhat.TheOpen.{FormWhat-F}
 use Rattle.mdr_syntax.specs.declared.tree.FormWhat.TheFolds.{ind-Form, map-FormWhat, fold-roll-FormWhat, fold_out-Form}
-use Rattle.mdr_print.specs.Forms.{Shown, marks_of, what_shown, form_shown, shown_form, shown_what, form}
+use Rattle.mdr_print.specs.Forms.{Shown, marks_of, what_shown, form_shown, shown_form, shown_what, form, left_side}
 use Rattle.mdr_reread.specs.Words.{is_word, is_sign, is_prefix, is_step, is_base}
 use Rattle.mdr_reread.specs.Printable.{all, what_printable, form_printable, is_printable_form, is_printable_what}
 use Rattle.mdr_reread.specs.Standing.{Apart}
 use Rattle.mdr_reread.proofs.Tests.{both}
-use Rattle.mdr_reread.proofs.ShownForms.{IsShown, shown_apart, number_shown, word_shown, text_shown, prefix_shown, post_shown, type_shown, cast_shown, binary_shown, choice_shown, subscript_shown, member_shown, call_shown}
+use Rattle.mdr_reread.proofs.ShownForms.{IsShown, shown_apart, number_shown, word_shown, text_shown, prefix_shown, post_shown, type_shown, cast_shown, binary_shown, choice_shown, subscript_shown, member_shown, call_shown, left_apart}
 
 record GoodWhat (w : FormWhat) : Type 0 where
   by : is_printable_what w ≡ true → IsShown (shown_what w)
@@ -68,3 +68,6 @@ good_forms = ind-Form GoodWhat GoodForm
 
 pub forms_apart : (f : Form) → is_printable_form f ≡ true → Apart (form f)
 forms_apart f h = shown_apart (shown_form f) ((good_forms f).by h)
+
+pub left_side_apart : (f : Form) → is_printable_form f ≡ true → Apart (left_side f)
+left_side_apart f h = left_apart (shown_form f) ((good_forms f).by h)

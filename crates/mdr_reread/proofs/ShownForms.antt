@@ -1,6 +1,6 @@
 -- The forms of expressions, one by one, are apart.
 use Rattle.std.proofs.Common.{◌≡◌, ℕ, Bool, true, false, List, ◌∷◌, ◌++◌, refl, sym, subst, codes}
-use Rattle.std.specs.Prelude.{◌||◌}
+use Rattle.std.specs.Prelude.{not, ◌||◌}
 use Rattle.std.specs.List.{AllByRecursion, list_all}
 use Rattle.std.proofs.lemmas.Bool.{false≢true}
 use Rattle.mdr_core.specs.declared.kind.Kind.{Kind}
@@ -8,7 +8,7 @@ use Rattle.mdr_syntax.specs.declared.token.Lexeme.TheVariants.{Punct}
 use Rattle.mdr_syntax.specs.declared.tree.Base.{Base}
 use Rattle.mdr_print.specs.Marks.{Mark, Is, Marks, spell, token_text, word, sign, number, quoted, spaced, in_parentheses, in_brackets, comma_list, ◌▸◌}
 use Rattle.mdr_print.specs.Types.{type_name}
-use Rattle.mdr_print.specs.Forms.{Shown, plain, literal, operator, parenthesised_if, operand, owner, member_sign}
+use Rattle.mdr_print.specs.Forms.{Shown, plain, literal, operator, prefixed, parenthesised_if, operand, left_of, owner, member_sign}
 use Rattle.mdr_print.specs.Spelled.{AreApart}
 use Rattle.mdr_reread.specs.Words.{is_word, is_written, is_writable, is_sign, is_prefix, is_step, is_base}
 use Rattle.mdr_reread.specs.Standing.{stops, first, Apart}
@@ -38,6 +38,9 @@ wrapped_opens s g false q rest = g.starts (q refl) rest
 
 pub operand_apart : (s : Shown) → IsShown s → Apart (operand s)
 operand_apart s g rest a q = wrapped s g s.is_operator rest a (λ e. stops_any (s.is_operator || s.is_number) (first rest) q)
+
+pub left_apart : (s : Shown) → IsShown s → Apart (left_of s)
+left_apart s g rest a q = wrapped s g (not s.is_unary) rest a (λ e. stops_any (s.is_operator || s.is_number) (first rest) q)
 
 pub operand_opens : (s : Shown) → IsShown s → (rest : List Mark) → opens (first (operand s rest)) ≡ true
 operand_opens s g rest = wrapped_opens s g s.is_operator (λ e. e) rest
@@ -80,7 +83,7 @@ pub text_shown : (bytes : List ℕ) → list_all is_writable bytes ≡ true → 
 unfolding spell token_text
 text_shown bytes h = record { apart = λ rest a q. (text_front bytes (spell rest) h, a); starts = λ e rest. refl }
 
-pub prefix_shown : (op : List ℕ) (s : Shown) → is_prefix op ≡ true → IsShown s → IsShown (operator (sign op ▸ operand s))
+pub prefix_shown : (op : List ℕ) (s : Shown) → is_prefix op ≡ true → IsShown s → IsShown (prefixed (sign op ▸ operand s))
 unfolding spell token_text
 prefix_shown op s h g = record {
   apart = λ rest a q. (prefix_sign op (spell (operand s rest)) h (operand_opens s g rest), operand_apart s g rest a q);

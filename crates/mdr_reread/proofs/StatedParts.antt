@@ -7,7 +7,7 @@ use Rattle.mdr_syntax.specs.declared.tree.Decl.{Decl}
 use Rattle.mdr_syntax.specs.declared.tree.Form.{Form}
 use Rattle.mdr_syntax.specs.declared.tree.Label.{Label}
 use Rattle.mdr_print.specs.Marks.{Mark, Is, Blank, Newline, Marks, spell, token_text, nothing, word, blank, tabs, spaced, row, ◌▸◌}
-use Rattle.mdr_print.specs.Forms.{form}
+use Rattle.mdr_print.specs.Forms.{form, left_side}
 use Rattle.mdr_print.specs.Declarations.{declaration, declarator}
 use Rattle.mdr_print.specs.Statements.{Written, semicolon, line, line_of, lines, closed, braced, clause_head, sole, simple, block, assigned, optional, step_of, head_list, next_part, for_test, for_parts, at, clauses_words, otherwise, returned, label, label_words, clause_lines}
 use Rattle.mdr_print.specs.Spelled.{AreApart}
@@ -21,7 +21,7 @@ use Rattle.mdr_reread.proofs.WordFronts.{word_front}
 use Rattle.mdr_reread.proofs.SignFronts.{brace_front, unbrace_front, semicolon_front, colon_front}
 use Rattle.mdr_reread.proofs.Parts.{comma_then}
 use Rattle.mdr_reread.proofs.ShownForms.{enclosed_apart, spaced_apart, spaced_stops}
-use Rattle.mdr_reread.proofs.FormsApart.{forms_apart}
+use Rattle.mdr_reread.proofs.FormsApart.{forms_apart, left_side_apart}
 use Rattle.mdr_reread.proofs.DeclaredParts.{constant_apart}
 use Rattle.mdr_reread.proofs.DeclsApart.{decl_is}
 use Rattle.mdr_reread.proofs.InitsApart.{equals_apart}
@@ -106,10 +106,10 @@ local_is d o h k =
     (λ rest a q. (decl_is d h).whole (assigned o rest) (assigned_apart o k rest a q) (assigned_stops o rest q))
     (λ rest a q. (decl_is d h).alone (assigned o rest) (assigned_apart o k rest a q) (assigned_stops o rest q))
 
-pub assign_is : (op : List ℕ) (f g : Form) → is_sign op ≡ true → is_printable_form f ≡ true → is_printable_form g ≡ true → IsWritten (simple (form f ▸ spaced op ▸ form g) nothing)
+pub assign_is : (op : List ℕ) (f g : Form) → is_sign op ≡ true → is_printable_form f ≡ true → is_printable_form g ≡ true → IsWritten (simple (left_side f ▸ spaced op ▸ form g) nothing)
 assign_is op f g h j k =
-    alone_is (form f ▸ spaced op ▸ form g)
-    (λ rest a q. forms_apart f j (spaced op (form g rest)) (spaced_apart op h (form g rest) (forms_apart g k rest a q)) (spaced_stops op (form g rest)))
+    alone_is (left_side f ▸ spaced op ▸ form g)
+    (λ rest a q. left_side_apart f j (spaced op (form g rest)) (spaced_apart op h (form g rest) (forms_apart g k rest a q)) (spaced_stops op (form g rest)))
 
 abbrev pub MaybeWritten : Option Written → Type 0
 MaybeWritten None = Unit {0}

@@ -33,7 +33,7 @@ SoundRuleBy j (given allowed r) p = allowed ≡ true → SoundBy j r p
 
 abbrev pub SoundEmpty : {A : Type 0} → Empty A → (A → Bool) → Type 0
 SoundEmpty cannot p = Unit {0}
-SoundEmpty (may allowed v) p = p v ≡ true
+SoundEmpty (may allowed v) p = allowed ≡ true → p v ≡ true
 
 pub then_by : (j : Judge) {A B : Type 0} (r : Right A) (k : A → Right B) (p : A → Bool) (q : B → Bool) → SoundBy j r p → ((v : A) → p v ≡ true → SoundBy j (k v) q) → SoundBy j (r >>= k) q
 then_by j (gives v) k p q x y = y v x
@@ -74,7 +74,7 @@ Given j n v rest = (j.good n v ≡ true) × (are_lexed rest ≡ true)
 
 mutual
   pub given_by : (j : Judge) (halves : Bool) → IsJudge j halves → {n : Nonterminal} {ts rest : List Token} {v : Value n} → Gets halves n ts rest v → j.fits n ≡ true → are_lexed ts ≡ true → Given j n v rest
-  given_by j halves i {n = n} (absent e) f a = (subst (λ o. SoundEmpty o (j.good n)) e (i.nothing n f), a)
+  given_by j halves i {n = n} (absent e) f a = (subst (λ o. SoundEmpty o (j.good n)) e (i.nothing n f) refl, a)
   given_by j halves i {n = n} (present {t = t} {ts = ts} e d) f a =
       let k = both (is_lexed t.what) (are_lexed ts) a in
       left_by j halves i d (subst (λ r. SoundRuleBy j r (j.good n)) e (i.rules n t f k.0) refl) k.1

@@ -61,7 +61,7 @@ named_called halves name h = on (is_name name) refl
         left true b h e = absurd (false≢true (sym e))
         left false b h e = h
 
-args_are : (halves : Bool) {X : Type 0} (of : X → Form) → ((x : X) → GoodForm halves (of x)) → (xs : List X) → all (map argument_of (map shape_of (map of xs))) ≡ true → AreArguments halves (map shown_form (map of xs)) (map unplaced_form (map of xs))
+pub args_are : (halves : Bool) {X : Type 0} (of : X → Form) → ((x : X) → GoodForm halves (of x)) → (xs : List X) → all (map argument_of (map shape_of (map of xs))) ≡ true → AreArguments halves (map shown_form (map of xs)) (map unplaced_form (map of xs))
 args_are halves of good [] h = tt
 args_are halves of good (x ∷ xs) h =
     let k = both (shape_of (of x)).argument (all (map argument_of (map shape_of (map of xs)))) h in

@@ -13,7 +13,7 @@ use Rattle.mdr_syntax.specs.declared.tree.Form.{Form}
 use Rattle.mdr_syntax.specs.declared.tree.FormWhat
 use Rattle.mdr_print.specs.Marks.{Mark, Is, word as printed_word, sign, number, quoted, blank_unless, spaced, in_parentheses as parentheses_around, in_brackets, separated, comma_list, ◌▸◌}
 use Rattle.mdr_print.specs.Types.{kind_name, base_name, stars as printed_stars, type_name}
-use Rattle.mdr_print.specs.Forms.{Shown, marks_of, plain, literal, operator, operand as printed_operand, is_apart, owner, member_sign}
+use Rattle.mdr_print.specs.Forms.{Shown, marks_of, plain, literal, operator, prefixed, operand as printed_operand, is_apart, owner, member_sign}
 use Rattle.mdr_reread.specs.Words.{is_among, is_prefix, is_step}
 use Rattle.mdr_grammar.specs.declared.parts.Specifier.{Specifier}
 use Rattle.mdr_grammar.specs.declared.sort.Sort.{Sort}
@@ -42,10 +42,10 @@ use Rattle.mdr_roundtrip.proofs.Rereading.{tokens_of, IsReread, behind, expressi
 pub allowed : {A : Type 0} {x : Rule A} {b : Bool} {r : Right A} → x ≡ given b r → b ≡ true → x ≡ given true r
 allowed {r = r} e h = e ∙ ap (λ b. given b r) h
 
-up_to : (l top : ℕ) {m n : ℕ} → m ≡ n → l + m ≤ top → l + n ≤ top
+pub up_to : (l top : ℕ) {m n : ℕ} → m ≡ n → l + m ≤ top → l + n ≤ top
 up_to l top e h = subst (λ (n : ℕ). l + n ≤ top) e h
 
-sinks : (l : ℕ) (f : Form) → l + suc (height f) ≤ 256 → may_sink l f ≡ true
+pub sinks : (l : ℕ) (f : Form) → l + suc (height f) ≤ 256 → may_sink l f ≡ true
 sinks l f h = free (l + suc (height f)) h
 
 chained : (halves : Bool) (s : Shown) (f : Form) (alone : Bool) → ((casts : Bool) (l d : ℕ) (rest : List Mark) (end : List Token) (v : Operand) → l + height f ≤ 256 → d + height f ≤ 512 → Gets halves (postfix l d nowhere f alone) (tokens_of rest) end v → Gets halves (part (operand casts l d)) (tokens_of (s.marks rest)) end v) → IsReread halves s f
@@ -127,7 +127,7 @@ as_prefix halves op s f h g =
           present (allowed (b.begins casts l d) (free (l + 1) (omega (arith, low)))) (both x.read done);
     }
 
-pub prefix_reread : (halves : Bool) (op : List ℕ) (s : Shown) (f : Form) → is_prefix op ≡ true → IsReread halves s f → IsReread halves (operator (sign op ▸ printed_operand s)) (form_at nowhere (FormWhat.Prefix op f))
+pub prefix_reread : (halves : Bool) (op : List ℕ) (s : Shown) (f : Form) → is_prefix op ≡ true → IsReread halves s f → IsReread halves (prefixed (sign op ▸ printed_operand s)) (form_at nowhere (FormWhat.Prefix op f))
 prefix_reread halves op s f h g =
     let p = as_prefix halves op s f h g in
     record {
@@ -190,7 +190,7 @@ pub stars_reread : (halves : Bool) (k n m : ℕ) (rest : List Mark) → k + n �
 stars_reread halves k zero m rest e h = let same : k ≡ m = omega (arith, e) in subst (λ (j : ℕ). Gets halves (stars k) (tokens_of rest) (tokens_of rest) j) same (absent refl)
 stars_reread halves k (suc n) m rest e h = present (allowed (ap (λ s. stars_rule k s (at (Punct (codes "*")))) (star_sort halves)) (le-leb (k + 1) 4294967295 (omega (arith, e, h)))) (both (stars_reread halves (k + 1) n m rest (omega (arith, e)) h) done)
 
-blank_gone : (b : Bool) (rest : List Mark) → tokens_of (blank_unless b rest) ≡ tokens_of rest
+pub blank_gone : (b : Bool) (rest : List Mark) → tokens_of (blank_unless b rest) ≡ tokens_of rest
 blank_gone true rest = refl
 blank_gone false rest = refl
 
@@ -238,7 +238,7 @@ type_is l d Sort.Text t r e = no_rule e
 type_is l d Sort.Name t r e = no_rule e
 type_is l d s t r e = ap (λ o. or_else (and_then o (λ b. form (stars 0) >>= λ k. gives (form_at t.place (FormWhat.Base b.base k)))) (expression_rule l d s t)) e
 
-placed_first : (xs : List Lexeme) {t : Token} {us : List Token} → all_at xs ≡ t ∷ us → t.place ≡ nowhere
+pub placed_first : (xs : List Lexeme) {t : Token} {us : List Token} → all_at xs ≡ t ∷ us → t.place ≡ nowhere
 placed_first [] e = absurd (Prim.cc)
 placed_first (x ∷ xs) {t = t} e = let same : at x ≡ t = Prim.cc in sym (ap (λ (t : Token). t.place) same)
 
@@ -265,7 +265,7 @@ commas_reread halves l d (s ∷ ss) (f ∷ fs) so_far rest h a b =
     subst (λ (gs : List Form). Gets halves (commas (arguments_at (l + 1) (d + 1)) so_far) (tokens_of (separated false (map marks_of (s ∷ ss)) rest)) (tokens_of rest) gs) (append_assoc so_far (f ∷ []) fs)
     (present (ap (λ s. rule (commas (arguments_at (l + 1) (d + 1)) so_far) s (at (Punct (codes ",")))) (comma_sort halves)) (both here (both later done)))
 
-arguments_reread : (halves : Bool) (l d : ℕ) (ss : List Shown) (fs : List Form) (rest : List Mark) → AreArguments halves ss fs → l + highest (map height fs) ≤ 256 → d + highest (map height fs) ≤ 512 → Gets halves (arguments (l + 1) (d + 1)) (tokens_of (comma_list (map marks_of ss) rest)) (tokens_of rest) fs
+pub arguments_reread : (halves : Bool) (l d : ℕ) (ss : List Shown) (fs : List Form) (rest : List Mark) → AreArguments halves ss fs → l + highest (map height fs) ≤ 256 → d + highest (map height fs) ≤ 512 → Gets halves (arguments (l + 1) (d + 1)) (tokens_of (comma_list (map marks_of ss) rest)) (tokens_of rest) fs
 arguments_reread halves l d [] [] rest h a b = absent refl
 arguments_reread halves l d [] (f ∷ fs) rest h a b = absurd h
 arguments_reread halves l d (s ∷ ss) [] rest h a b = absurd h

@@ -47,7 +47,7 @@ and_sort : (halves : Bool) → sort_of halves (Punct (codes "&")) ≡ Sort.And
 unfolding sort_of marks
 and_sort halves = refl
 
-equals_sort : (halves : Bool) → sort_of halves (Punct (codes "=")) ≡ Sort.Equals
+pub equals_sort : (halves : Bool) → sort_of halves (Punct (codes "=")) ≡ Sort.Equals
 unfolding sort_of marks
 equals_sort halves = refl
 

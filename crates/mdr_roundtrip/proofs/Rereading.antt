@@ -94,7 +94,7 @@ argument_from halves l d (present {t = t} e f) = to_argument halves l d (sort_of
 
 -- ---- as an operand
 
-parenthesised : (halves casts : Bool) (l d : ℕ) (s : Shown) (f : Form) → IsReread halves s f → (rest : List Mark) (end : List Token) (v : Operand) → l + height f ≤ 256 → d + suc (height f) ≤ 512 → Gets halves (postfix l d nowhere f false) (tokens_of rest) end v → Gets halves (part (operand casts l d)) (at (Punct (codes "(")) ∷ tokens_of (s.marks (Is (Punct (codes ")")) ∷ rest))) end v
+pub parenthesised : (halves casts : Bool) (l d : ℕ) (s : Shown) (f : Form) → IsReread halves s f → (rest : List Mark) (end : List Token) (v : Operand) → l + height f ≤ 256 → d + suc (height f) ≤ 512 → Gets halves (postfix l d nowhere f false) (tokens_of rest) end v → Gets halves (part (operand casts l d)) (at (Punct (codes "(")) ∷ tokens_of (s.marks (Is (Punct (codes ")")) ∷ rest))) end v
 parenthesised halves true l d s f g rest end v a b tail =
     let inside = g.whole l (d + 1) (Is (Punct (codes ")")) ∷ rest) a (omega (arith, b)) in
     let more = word {s = Sort.Close} (ap (λ s. is Sort.Close s) (close_sort halves)) (both tail done) in

@@ -1,6 +1,6 @@
 -- What is known of tokens and of the expressions that are given: they have the shape of expressions.
 use Rattle.std.proofs.Common.{◌≡◌, refl, ℕ, ◌+◌, Bool, true, false, List}
-use Rattle.std.specs.Prelude.{◌&&◌, not, nat_lt, nat_eq}
+use Rattle.std.specs.Prelude.{◌&&◌, ◌||◌, not, nat_lt, nat_eq}
 use Rattle.std.specs.List.{list_all}
 use Rattle.mdr_syntax.specs.declared.token.Lexeme.{Lexeme}
 use Rattle.mdr_syntax.specs.declared.token.Lexeme.TheVariants as lexeme
@@ -11,12 +11,13 @@ use Rattle.mdr_reread.specs.Declared.{maybe}
 use Rattle.mdr_grammar.specs.declared.sort.Sort.{Sort}
 use Rattle.mdr_core.specs.declared.kind.Kind.TheVariants.{U8, U16, U32, U64, S8, S16, S32, S64}
 use Rattle.mdr_grammar.specs.Sorts.{is, words, marks, sort_in, admitted, unlisted, sort_of}
-use Rattle.mdr_grammar.specs.Forms.{Part, PartValue, separated, Nonterminal, Value}
+use Rattle.mdr_grammar.specs.Forms.{Part, PartValue, Operand, separated, Nonterminal, Value}
 use Rattle.mdr_grammar.specs.Forms.Part.{operand, expression, argument, base}
 use Rattle.mdr_grammar.specs.Forms.Nonterminal.{part, commas, postfix, operators, choice, opened, arguments, stars, text_behind, text_after, unsigned_word}
 use Rattle.mdr_grammar.specs.Expressions.{text_of, number_in, kind_in, is_level_free, height}
 use Rattle.mdr_roundtrip.specs.Lexed.{is_lexed}
 use Rattle.mdr_roundtrip.specs.Shaped.{is_name, services, binaries, is_named_base, are_stars, shape_of}
+use Rattle.mdr_roundtrip.specs.Alone.{is_alone}
 use Rattle.mdr_roundtrip.proofs.Bools.{also}
 use Rattle.mdr_roundtrip.proofs.Judges.{Judge}
 use Rattle.mdr_roundtrip.proofs.Sorted.{listed, no}
@@ -115,8 +116,18 @@ is_argument l f = (shape_of f).argument && is_level_free (l + height f)
 abbrev pub is_text : Form → Bool
 is_text f = (shape_of f).argument && nat_eq (height f) 0
 
+-- where an operand is said to be a statement by itself, it is one
+abbrev pub told_alone : (alone : Bool) → Form → Bool
+told_alone alone f = not alone || is_alone f
+
+abbrev pub is_postfix : ℕ → Form → (alone : Bool) → Bool
+is_postfix l f alone = is_expression l f && told_alone alone f
+
+abbrev pub is_operand : ℕ → Operand → Bool
+is_operand l x = is_postfix l x.form x.alone
+
 abbrev pub good_part : (x : Part) → PartValue x → Bool
-good_part (operand casts l d) v = is_expression l v.form
+good_part (operand casts l d) v = is_operand l v
 good_part (expression l d) v = is_expression l v
 good_part (argument l d) v = is_argument l v
 good_part base v = is_named_base v.base
@@ -125,10 +136,10 @@ good_part _ v = true
 abbrev pub good : (n : Nonterminal) → Value n → Bool
 good (part x) v = good_part x v
 good (commas x so_far) v = list_all (good_part (separated x)) v
-good (postfix l d first form alone) v = is_expression l v.form
+good (postfix l d first form alone) v = is_operand l v
 good (operators precedence l d form) v = is_expression l v
 good (choice l d form) v = is_expression l v
-good (opened l d first) v = is_expression l v.form
+good (opened l d first) v = is_operand l v
 good (arguments l d) v = list_all (is_argument l) v
 good (stars k) v = are_stars v
 good text_behind v = maybe is_text v
@@ -147,7 +158,7 @@ fits_part _ = false
 abbrev pub fits : Nonterminal → Bool
 fits (part x) = fits_part x
 fits (commas x so_far) = fits_part (separated x) && list_all (good_part (separated x)) so_far
-fits (postfix l d first form alone) = is_expression l form
+fits (postfix l d first form alone) = is_postfix l form alone
 fits (operators precedence l d form) = nat_lt 1 precedence && is_expression l form
 fits (choice l d form) = is_expression l form
 fits (opened l d first) = is_level_free l

@@ -7,10 +7,12 @@ use Rattle.mdr_core.specs.declared.place.Place.{Place}
 use Rattle.mdr_syntax.specs.declared.token.Lexeme.{Lexeme}
 use Rattle.mdr_syntax.specs.declared.token.Token.{Token}
 use Rattle.mdr_syntax.specs.declared.tree.Form.{Form}
+use Rattle.mdr_syntax.specs.declared.tree.FormWhat
 use Rattle.mdr_syntax.specs.declared.tree.FormWhat.{FormWhat}
 use Rattle.mdr_syntax.specs.declared.tree.FormWhat.TheOpen.{FormWhat-F}
 use Rattle.mdr_syntax.specs.declared.tree.FormWhat.TheFolds.{map-FormWhat, fold-roll-FormWhat, fold_out-Form}
-use Rattle.mdr_syntax.specs.declared.tree.FormWhat.TheViews.{out-FormWhat, out-Form, roll-out-FormWhat}
+use Rattle.mdr_syntax.specs.declared.tree.FormWhat.TheViews.{roll-FormWhat, out-FormWhat, out-Form, roll-out-FormWhat}
+use Rattle.mdr_syntax.specs.declared.tree.FormWhat.TheVariants.{rolls-Prefix, rolls-Post, rolls-Call}
 use Rattle.mdr_reread.specs.Words.{is_among, is_prefix, is_step}
 use Rattle.mdr_reread.specs.Declared.{maybe}
 use Rattle.mdr_reread.proofs.Tests.{both}
@@ -22,15 +24,16 @@ use Rattle.mdr_grammar.specs.Forms.Part.{operand, expression, argument, base}
 use Rattle.mdr_grammar.specs.Forms.Nonterminal.{part, commas, postfix, operators, choice, opened, arguments, stars, text_behind, text_after, unsigned_word}
 use Rattle.mdr_grammar.specs.Forms.Separated.{arguments_at}
 use Rattle.mdr_grammar.specs.Forms.Right.{gives}
-use Rattle.mdr_grammar.specs.Expressions.{text_of, number_in, kind_in, is_level_free, may_open, may_sink, height, name_form, binary, precedence_of, operators_from, of_precedence, behind_operand, in_parentheses, kept, word_argument, base_rule, unsigned_word_rule, stars_rule, parentheses, operand_rule, postfix_rule, operators_rule, choice_rule, expression_rule, cast_rule, opened_rule, type_argument, argument_rule, text_after_rule, text_behind_rule, arguments_rule}
+use Rattle.mdr_grammar.specs.Expressions.{text_of, number_in, kind_in, is_level_free, may_open, may_sink, height, name_form, form_at, binary, precedence_of, operators_from, of_precedence, behind_operand, in_parentheses, kept, word_argument, base_rule, unsigned_word_rule, stars_rule, parentheses, operand_rule, postfix_rule, operators_rule, choice_rule, expression_rule, cast_rule, opened_rule, type_argument, argument_rule, text_after_rule, text_behind_rule, arguments_rule}
 use Rattle.mdr_grammar.specs.Grammar.{rule, empty, part_rule, Gets}
 use Rattle.mdr_roundtrip.specs.Lexed.{are_lexed}
 use Rattle.mdr_roundtrip.specs.Shaped.{binaries, is_named_base, Shape, what_shaped, form_shaped, shape_of, shape_of_what}
+use Rattle.mdr_roundtrip.specs.Alone.{what_alone, form_alone, is_alone, is_alone_what}
 use Rattle.mdr_roundtrip.proofs.Bools.{also, all_one, all_more}
 use Rattle.mdr_roundtrip.proofs.Judges.{SoundBy, SoundRuleBy, SoundEmpty, then_by, less_by, less_rule, and_by, or_by, where_by, IsJudge, given_by}
 use Rattle.mdr_roundtrip.proofs.Sorted.{no}
 use Rattle.mdr_roundtrip.proofs.Heights.{name_height}
-use Rattle.mdr_roundtrip.proofs.Shaping.{knows, sort_knows, told_of, is_expression, is_argument, is_text, good_part, good, fits_part, fits, shaping}
+use Rattle.mdr_roundtrip.proofs.Shaping.{knows, sort_knows, told_of, is_expression, is_argument, is_text, told_alone, is_postfix, is_operand, good_part, good, fits_part, fits, shaping}
 use Rattle.mdr_roundtrip.proofs.ShapeTests.{shape_is, level_is, level, sunk, below, number_formed, null_formed, name_formed, service_shape, prefix_formed, post_formed, cast_formed, binary_formed, choice_formed, subscript_formed, member_formed, call_formed, text_formed, base_formed, text_anywhere}
 
 -- ---- an expression may be called, and be an argument
@@ -68,11 +71,30 @@ as_argument l f h = let k = both (shape_of f).expression (is_level_free (l + hei
 
 -- ---- types
 
-abbrev is_good_base : Specifier → Bool
+abbrev pub is_good_base : Specifier → Bool
 is_good_base b = is_named_base b.base
 
-abbrev is_operand : ℕ → Operand → Bool
-is_operand l x = is_expression l x.form
+-- an operand that isn't said to be a statement
+part_only : (l : ℕ) (f : Form) → is_expression l f ≡ true → is_postfix l f false ≡ true
+part_only l f h = also (is_expression l f) true h refl
+
+stands_alone : (l : ℕ) (f : Form) → is_expression l f ≡ true → is_alone f ≡ true → is_postfix l f true ≡ true
+stands_alone l f h a = also (is_expression l f) (is_alone f) h a
+
+formed : (l : ℕ) (f : Form) (alone : Bool) → is_postfix l f alone ≡ true → is_expression l f ≡ true
+formed l f alone h = (both (is_expression l f) (told_alone alone f) h).0
+
+alone_made : (place : Place) (l : FormWhat-F FormWhat Form) (w : FormWhat) → roll-FormWhat l ≡ w → is_alone (form_at place w) ≡ what_alone (map-FormWhat FormWhat Form Bool Bool is_alone_what is_alone l)
+alone_made place l w e = fold_out-Form Bool Bool what_alone form_alone (record { place = place; what = w }) ∙ ap is_alone_what (sym e) ∙ fold-roll-FormWhat Bool Bool what_alone form_alone l
+
+call_alone : (place : Place) (f : Form) (args : List Form) → is_alone (form_at place (FormWhat.Call f args)) ≡ true
+call_alone place f args = alone_made place (FormWhat-F.Call f args) (FormWhat.Call f args) (rolls-Call f args)
+
+post_alone : (place : Place) (op : List ℕ) (f : Form) → is_alone (form_at place (FormWhat.Post op f)) ≡ true
+post_alone place op f = alone_made place (FormWhat-F.Post op f) (FormWhat.Post op f) (rolls-Post op f)
+
+step_alone : (place : Place) (op : List ℕ) (f : Form) → is_step op ≡ true → is_alone (form_at place (FormWhat.Prefix op f)) ≡ true
+step_alone place op f h = alone_made place (FormWhat-F.Prefix op f) (FormWhat.Prefix op f) (rolls-Prefix op f) ∙ h
 
 of_unsigned : (s : Sort) (t : Token) → SoundRuleBy shaping (unsigned_word_rule s t) is_named_base
 of_unsigned Sort.Char t = λ a. refl
@@ -81,7 +103,7 @@ of_unsigned Sort.Int t = λ a. refl
 of_unsigned Sort.Long t = λ a. refl
 of_unsigned _ t = tt
 
-of_base : (s : Sort) (t : Token) → SoundRuleBy shaping (base_rule s t) is_good_base
+pub of_base : (s : Sort) (t : Token) → SoundRuleBy shaping (base_rule s t) is_good_base
 of_base (Sort.Integer k) t = λ a. refl
 of_base Sort.Char t = λ a. refl
 of_base Sort.Short t = λ a. refl
@@ -102,35 +124,35 @@ of_stars k _ t = tt
 
 of_parentheses : (casts : Bool) (l d : ℕ) (t : Token) → is_level_free l ≡ true → SoundRuleBy shaping (parentheses casts l d t) (is_operand l)
 of_parentheses true l d t f = λ a. (f, λ x h. h)
-of_parentheses false l d t f = λ a. (f, λ g hg. λ c q. (hg, λ x h. h))
+of_parentheses false l d t f = λ a. (f, λ g hg. λ c q. (part_only l g hg, λ x h. h))
 
 of_service : (l : ℕ) (t : Token) → is_level_free (l + 1) ≡ true → l + suc (height (name_form t)) ≤ 256
 of_service l t h = let q = level (l + 1) h in let z = name_height t.place (text_of t.what) in omega (arith, q, z)
 
-of_operand : (casts : Bool) (l d : ℕ) (s : Sort) (t : Token) → is_level_free l ≡ true → knows s t.what ≡ true → SoundRuleBy shaping (operand_rule casts l d s t) (is_operand l)
-of_operand casts l d Sort.Name t f m = λ a. (name_formed l t.place (text_of t.what) (level l f) m, λ x h. h)
-of_operand casts l d Sort.Number t f m = λ a. (number_formed l t.place (number_in t.what) (kind_in t.what) (level l f) m, λ x h. h)
-of_operand casts l d Sort.Null t f m = λ a. (null_formed l t.place (level l f), λ x h. h)
+pub of_operand : (casts : Bool) (l d : ℕ) (s : Sort) (t : Token) → is_level_free l ≡ true → knows s t.what ≡ true → SoundRuleBy shaping (operand_rule casts l d s t) (is_operand l)
+of_operand casts l d Sort.Name t f m = λ a. (part_only l _ (name_formed l t.place (text_of t.what) (level l f) m), λ x h. h)
+of_operand casts l d Sort.Number t f m = λ a. (part_only l _ (number_formed l t.place (number_in t.what) (kind_in t.what) (level l f) m), λ x h. h)
+of_operand casts l d Sort.Null t f m = λ a. (part_only l _ (null_formed l t.place (level l f)), λ x h. h)
 of_operand casts l d Sort.Service t f m = λ a.
     let k = both (is_level_free (l + 1)) (may_open (d + 1)) a in
-    λ b q. (k.0, λ args ha. λ c r. (call_formed l t.place (name_form t) args (service_shape t.place (text_of t.what) m) (of_service l t k.0) ha, λ x h. h))
+    λ b q. (k.0, λ args ha. λ c r. (stands_alone l _ (call_formed l t.place (name_form t) args (service_shape t.place (text_of t.what) m) (of_service l t k.0) ha) (call_alone t.place (name_form t) args), λ x h. h))
 of_operand casts l d Sort.Open t f m = of_parentheses casts l d t f
-of_operand casts l d Sort.Minus t f m = λ a. (a, λ x h. prefix_formed l t.place (text_of t.what) x.form (both (is_prefix (text_of t.what)) (is_among binaries (text_of t.what)) m).0 h)
-of_operand casts l d Sort.Plus t f m = λ a. (a, λ x h. prefix_formed l t.place (text_of t.what) x.form (both (is_prefix (text_of t.what)) (is_among binaries (text_of t.what)) m).0 h)
-of_operand casts l d Sort.And t f m = λ a. (a, λ x h. prefix_formed l t.place (text_of t.what) x.form (both (is_prefix (text_of t.what)) (is_among binaries (text_of t.what)) m).0 h)
-of_operand casts l d Sort.Star t f m = λ a. (a, λ x h. prefix_formed l t.place (text_of t.what) x.form (both (is_prefix (text_of t.what)) (is_among binaries (text_of t.what)) m).0 h)
-of_operand casts l d Sort.Not t f m = λ a. (a, λ x h. prefix_formed l t.place (text_of t.what) x.form m h)
-of_operand casts l d Sort.Step t f m = λ a. (a, λ x h. prefix_formed l t.place (text_of t.what) x.form (both (is_prefix (text_of t.what)) (is_step (text_of t.what)) m).0 h)
+of_operand casts l d Sort.Minus t f m = λ a. (a, λ x h. part_only l _ (prefix_formed l t.place (text_of t.what) x.form (both (is_prefix (text_of t.what)) (is_among binaries (text_of t.what)) m).0 (formed (l + 1) x.form x.alone h)))
+of_operand casts l d Sort.Plus t f m = λ a. (a, λ x h. part_only l _ (prefix_formed l t.place (text_of t.what) x.form (both (is_prefix (text_of t.what)) (is_among binaries (text_of t.what)) m).0 (formed (l + 1) x.form x.alone h)))
+of_operand casts l d Sort.And t f m = λ a. (a, λ x h. part_only l _ (prefix_formed l t.place (text_of t.what) x.form (both (is_prefix (text_of t.what)) (is_among binaries (text_of t.what)) m).0 (formed (l + 1) x.form x.alone h)))
+of_operand casts l d Sort.Star t f m = λ a. (a, λ x h. part_only l _ (prefix_formed l t.place (text_of t.what) x.form (both (is_prefix (text_of t.what)) (is_among binaries (text_of t.what)) m).0 (formed (l + 1) x.form x.alone h)))
+of_operand casts l d Sort.Not t f m = λ a. (a, λ x h. part_only l _ (prefix_formed l t.place (text_of t.what) x.form m (formed (l + 1) x.form x.alone h)))
+of_operand casts l d Sort.Step t f m = λ a. (a, λ x h. stands_alone l _ (prefix_formed l t.place (text_of t.what) x.form (both (is_prefix (text_of t.what)) (is_step (text_of t.what)) m).0 (formed (l + 1) x.form x.alone h)) (step_alone t.place (text_of t.what) x.form (both (is_prefix (text_of t.what)) (is_step (text_of t.what)) m).1))
 of_operand casts l d _ t f m = tt
 
 of_postfix : (l d : ℕ) (first : Place) (f : Form) (s : Sort) (t : Token) → is_expression l f ≡ true → knows s t.what ≡ true → SoundRuleBy shaping (postfix_rule l d first f s t) (is_operand l)
-of_postfix l d first f Sort.OpenBracket t g m = λ a. (below l f a, λ i hi. λ c q. (subscript_formed l first f i (shape_is l f g) (sunk l f a) hi, λ x h. h))
-of_postfix l d first f Sort.Dot t g m = λ a. λ n hn. (member_formed l first f false n.place (text_of n.what) (shape_is l f g) (sunk l f a) hn, λ x h. h)
-of_postfix l d first f Sort.Arrow t g m = λ a. λ n hn. (member_formed l first f true n.place (text_of n.what) (shape_is l f g) (sunk l f a) hn, λ x h. h)
+of_postfix l d first f Sort.OpenBracket t g m = λ a. (below l f a, λ i hi. λ c q. (part_only l _ (subscript_formed l first f i (shape_is l f g) (sunk l f a) hi), λ x h. h))
+of_postfix l d first f Sort.Dot t g m = λ a. λ n hn. (part_only l _ (member_formed l first f false n.place (text_of n.what) (shape_is l f g) (sunk l f a) hn), λ x h. h)
+of_postfix l d first f Sort.Arrow t g m = λ a. λ n hn. (part_only l _ (member_formed l first f true n.place (text_of n.what) (shape_is l f g) (sunk l f a) hn), λ x h. h)
 of_postfix l d first f Sort.Open t g m = λ a.
     let k = both (may_sink l f) (may_open (d + 1)) a in
-    (below l f k.0, λ args ha. λ c q. (call_formed l first f args ((anywhere f).called (shape_is l f g)) (sunk l f k.0) ha, λ x h. h))
-of_postfix l d first f Sort.Step t g m = λ a. (post_formed l first (text_of t.what) f (both (is_prefix (text_of t.what)) (is_step (text_of t.what)) m).1 (shape_is l f g) (sunk l f a), λ x h. h)
+    (below l f k.0, λ args ha. λ c q. (stands_alone l _ (call_formed l first f args ((anywhere f).called (shape_is l f g)) (sunk l f k.0) ha) (call_alone first f args), λ x h. h))
+of_postfix l d first f Sort.Step t g m = λ a. (stands_alone l _ (post_formed l first (text_of t.what) f (both (is_prefix (text_of t.what)) (is_step (text_of t.what)) m).1 (shape_is l f g) (sunk l f a)) (post_alone first (text_of t.what) f), λ x h. h)
 of_postfix l d first f _ t g m = tt
 
 -- ---- operators
@@ -188,7 +210,7 @@ of_one : (b : Bool) (p l d : ℕ) (f : Form) (t : Token) → nat_lt 1 p ≡ true
 of_one false p l d f t h g o = tt
 of_one true p l d f t h g o = λ a. (
   below l f a,
-  λ x hx. then_by shaping (operators_from (11 - p) (suc p) (l + 1) d x.form) (λ v. form (operators p l d (binary f t v))) (is_expression (l + 1)) (is_expression l) (of_from (11 - p) (suc p) (l + 1) d x.form (next p h) hx)
+  λ x hx. then_by shaping (operators_from (11 - p) (suc p) (l + 1) d x.form) (λ v. form (operators p l d (binary f t v))) (is_expression (l + 1)) (is_expression l) (of_from (11 - p) (suc p) (l + 1) d x.form (next p h) (formed (l + 1) x.form x.alone hx))
       (λ v k. (also (nat_lt 1 p) (is_expression l (binary f t v)) h (binary_formed l t.place (text_of t.what) f v (o refl) (shape_is l f g) (sunk l f a) k), λ w j. j)),
 )
 
@@ -202,23 +224,23 @@ of_choice l d f Sort.Question t g = λ a. (below l f a, λ x hx. λ c q. (below 
 of_choice l d f _ t g = tt
 
 of_behind : (l d : ℕ) (x : Operand) → is_operand l x ≡ true → SoundBy shaping (behind_operand l d x) (is_expression l)
-of_behind l d x hx = then_by shaping (operators_from 10 2 l d x.form) (λ f. form (choice l d f)) (is_expression l) (is_expression l) (of_from 10 2 l d x.form refl hx) (λ f hf. (hf, λ v h. h))
+of_behind l d x hx = then_by shaping (operators_from 10 2 l d x.form) (λ f. form (choice l d f)) (is_expression l) (is_expression l) (of_from 10 2 l d x.form refl (formed l x.form x.alone hx)) (λ f hf. (hf, λ v h. h))
 
-of_expression : (l d : ℕ) (s : Sort) (t : Token) → is_level_free l ≡ true → knows s t.what ≡ true → SoundRuleBy shaping (expression_rule l d s t) (is_expression l)
+pub of_expression : (l d : ℕ) (s : Sort) (t : Token) → is_level_free l ≡ true → knows s t.what ≡ true → SoundRuleBy shaping (expression_rule l d s t) (is_expression l)
 of_expression l d s t f m = and_by shaping (operand_rule true l d s t) (λ x. behind_operand l d x) (is_operand l) (is_expression l) (of_operand true l d s t f m) (λ x hx. of_behind l d x hx)
 
 -- ---- behind a `(`, and arguments
 
 of_cast : (l d : ℕ) (first : Place) (s : Sort) (t : Token) → SoundRuleBy shaping (cast_rule l d first s t) (is_operand l)
-of_cast l d first s t = where_by shaping (is_level_free (l + 1)) _ (is_operand l) (λ a. and_by shaping (base_rule s t) _ is_good_base (is_operand l) (of_base s t) (λ b hb. (refl, λ k hk. λ c q. (a, λ x hx. cast_formed l first b.base k x.form hb hk hx))))
+of_cast l d first s t = where_by shaping (is_level_free (l + 1)) _ (is_operand l) (λ a. and_by shaping (base_rule s t) _ is_good_base (is_operand l) (of_base s t) (λ b hb. (refl, λ k hk. λ c q. (a, λ x hx. part_only l _ (cast_formed l first b.base k x.form hb hk (formed (l + 1) x.form x.alone hx))))))
 
 of_opened : (l d : ℕ) (first : Place) (s : Sort) (t : Token) → is_level_free l ≡ true → knows s t.what ≡ true → SoundRuleBy shaping (opened_rule l d first s t) (is_operand l)
 of_opened l d first s t f m = or_by shaping (cast_rule l d first s t) _ (is_operand l) (of_cast l d first s t)
-    (and_by shaping (expression_rule l (d + 1) s t) (λ g. in_parentheses l d first g) (is_expression l) (is_operand l) (of_expression l (d + 1) s t f m) (λ g hg. λ c q. (hg, λ x h. h)))
+    (and_by shaping (expression_rule l (d + 1) s t) (λ g. in_parentheses l d first g) (is_expression l) (is_operand l) (of_expression l (d + 1) s t f m) (λ g hg. λ c q. (part_only l g hg, λ x h. h)))
 
 of_kept : (l d : ℕ) (t : Token) (o : Option Form) → is_level_free l ≡ true → knows Sort.Name t.what ≡ true → maybe is_text o ≡ true → SoundBy shaping (kept l d t o) (is_argument l)
 of_kept l d t (Some g) f w h = text_anywhere l g (level l f) h
-of_kept l d t None f w h = (name_formed l t.place (text_of t.what) (level l f) w, λ x hx. less_by shaping (behind_operand l d x) (is_expression l) (is_argument l) (λ v k. as_argument l v k) (of_behind l d x hx))
+of_kept l d t None f w h = (part_only l _ (name_formed l t.place (text_of t.what) (level l f) w), λ x hx. less_by shaping (behind_operand l d x) (is_expression l) (is_argument l) (λ v k. as_argument l v k) (of_behind l d x hx))
 
 of_word : (b : Bool) (l d : ℕ) (t : Token) → is_level_free l ≡ true → knows Sort.Name t.what ≡ true → SoundBy shaping (word_argument b l d t) (is_argument l)
 of_word true l d t f w = (refl, λ o ho. of_kept l d t o f w ho)
@@ -258,10 +280,10 @@ of_part (argument l d) s t f m = of_argument l d s t f m
 of_part base s t f m = of_base s t
 of_part _ s t f m = no f
 
-of_rule : (n : Nonterminal) (s : Sort) (t : Token) → fits n ≡ true → knows s t.what ≡ true → SoundRuleBy shaping (rule n s t) (good n)
+pub of_rule : (n : Nonterminal) (s : Sort) (t : Token) → fits n ≡ true → knows s t.what ≡ true → SoundRuleBy shaping (rule n s t) (good n)
 of_rule (part x) s t f m = of_part x s t f m
 of_rule (commas x so_far) s t f m = of_commas x so_far s t f
-of_rule (postfix l d first g alone) s t f m = of_postfix l d first g s t f m
+of_rule (postfix l d first g alone) s t f m = of_postfix l d first g s t (formed l g alone f) m
 of_rule (operators precedence l d g) s t f m = of_operators precedence l d g s t f m
 of_rule (choice l d g) s t f m = of_choice l d g s t f
 of_rule (opened l d first) s t f m = of_opened l d first s t f m
@@ -272,18 +294,18 @@ of_rule text_after s t f m = of_text_after s t m
 of_rule unsigned_word s t f m = of_unsigned s t
 of_rule _ s t f m = no f
 
-of_nothing : (n : Nonterminal) → fits n ≡ true → SoundEmpty (empty n) (good n)
+pub of_nothing : (n : Nonterminal) → fits n ≡ true → SoundEmpty (empty n) (good n)
 of_nothing (part x) f = tt
-of_nothing (commas x so_far) f = (both (fits_part (separated x)) (list_all (good_part (separated x)) so_far) f).1
-of_nothing (postfix l d first g alone) f = f
-of_nothing (operators precedence l d g) f = (both (nat_lt 1 precedence) (is_expression l g) f).1
-of_nothing (choice l d g) f = f
+of_nothing (commas x so_far) f = λ a. (both (fits_part (separated x)) (list_all (good_part (separated x)) so_far) f).1
+of_nothing (postfix l d first g alone) f = λ a. f
+of_nothing (operators precedence l d g) f = λ a. (both (nat_lt 1 precedence) (is_expression l g) f).1
+of_nothing (choice l d g) f = λ a. f
 of_nothing (opened l d first) f = tt
-of_nothing (arguments l d) f = refl
-of_nothing (stars k) f = f
-of_nothing text_behind f = refl
+of_nothing (arguments l d) f = λ a. refl
+of_nothing (stars k) f = λ a. f
+of_nothing text_behind f = λ a. refl
 of_nothing text_after f = tt
-of_nothing unsigned_word f = refl
+of_nothing unsigned_word f = λ a. refl
 of_nothing _ f = no f
 
 pub shaping_judge : (halves : Bool) → IsJudge shaping halves

@@ -37,7 +37,7 @@ use Rattle.mdr_roundtrip.proofs.Shaping.{knows, sort_knows, told_of as name_told
 
 -- ---- what is known
 
-abbrev told : Sort → Lexeme → Bool
+abbrev pub told : Sort → Lexeme → Bool
 told Sort.Name x = is_name (text_of x)
 told Sort.Number x = is_written (number_in x) (kind_in x)
 told _ x = true
@@ -54,39 +54,39 @@ number_of (Sort.Integer S32) x e m = no e
 number_of (Sort.Integer S64) x e m = no e
 number_of _ x e m = no e
 
-told_of : (s s' : Sort) (x : Lexeme) → is s s' ≡ true → knows s' x ≡ true → told s x ≡ true
+pub told_of : (s s' : Sort) (x : Lexeme) → is s s' ≡ true → knows s' x ≡ true → told s x ≡ true
 told_of Sort.Name s' x e m = name_told Sort.Name s' x e m
 told_of Sort.Number s' x e m = number_of s' x e m
 told_of _ s' x e m = refl
 
-abbrev good_part : (x : Part) → PartValue x → Bool
+abbrev pub good_part : (x : Part) → PartValue x → Bool
 good_part constant v = is_shaped_const v
 good_part (initialiser n) v = is_shaped_init v n
 good_part (element n) v = is_shaped_elem v n
 good_part _ v = true
 
-abbrev good : (n : Nonterminal) → Value n → Bool
+abbrev pub good : (n : Nonterminal) → Value n → Bool
 good (part x) v = good_part x v
 good (commas_open x so_far) v = list_all (good_part (enclosed x)) v && are_some v
 good (after_comma x so_far) v = list_all (good_part (enclosed x)) v && are_some v
 good _ v = true
 
-abbrev fits_part : Part → Bool
+abbrev pub fits_part : Part → Bool
 fits_part constant = true
 fits_part (initialiser n) = true
 fits_part (element n) = true
 fits_part _ = false
 
-abbrev listed : (x : Enclosed) → List (PartValue (enclosed x)) → Bool
+abbrev pub listed : (x : Enclosed) → List (PartValue (enclosed x)) → Bool
 listed x so_far = fits_part (enclosed x) && (list_all (good_part (enclosed x)) so_far && are_some so_far)
 
-abbrev fits : Nonterminal → Bool
+abbrev pub fits : Nonterminal → Bool
 fits (part x) = fits_part x
 fits (commas_open x so_far) = listed x so_far
 fits (after_comma x so_far) = listed x so_far
 fits _ = false
 
-abbrev initialising : Judge
+abbrev pub initialising : Judge
 initialising = record { told = told; good = good; fits = fits }
 
 -- ---- initialisers, one by one
@@ -127,7 +127,7 @@ elem_made field i n f h = ap (λ (g : ℕ → Bool). g n) (fold_out-Elem (ℕ �
 
 -- ---- rules
 
-of_constant : (s : Sort) (t : Token) → knows s t.what ≡ true → SoundRuleBy initialising (constant_rule s t) is_shaped_const
+pub of_constant : (s : Sort) (t : Token) → knows s t.what ≡ true → SoundRuleBy initialising (constant_rule s t) is_shaped_const
 of_constant Sort.Minus t m = λ a. λ n h. h
 of_constant Sort.Number t m = λ a. m
 of_constant Sort.Name t m = λ a. m
@@ -153,7 +153,7 @@ of_element : (n : ℕ) (s : Sort) (t : Token) → knows s t.what ≡ true → So
 of_element n Sort.Dot t m = λ a. λ x hx. λ e q. (refl, λ i hi. elem_made (Some (record { place = x.place; name = text_of x.what })) i n hx hi)
 of_element n s t m = of_bare n s t m
 
-of_part : (x : Part) (s : Sort) (t : Token) → fits_part x ≡ true → knows s t.what ≡ true → SoundRuleBy initialising (part_rule x s t) (good_part x)
+pub of_part : (x : Part) (s : Sort) (t : Token) → fits_part x ≡ true → knows s t.what ≡ true → SoundRuleBy initialising (part_rule x s t) (good_part x)
 of_part constant s t f m = of_constant s t m
 of_part (initialiser n) s t f m = of_initialiser n s t m
 of_part (element n) s t f m = of_element n s t m
@@ -182,8 +182,8 @@ of_rule _ s t f m = no f
 
 of_nothing : (n : Nonterminal) → fits n ≡ true → SoundEmpty (empty n) (good n)
 of_nothing (part x) f = tt
-of_nothing (commas_open x so_far) f = (both (fits_part (enclosed x)) (list_all (good_part (enclosed x)) so_far && are_some so_far) f).1
-of_nothing (after_comma x so_far) f = (both (fits_part (enclosed x)) (list_all (good_part (enclosed x)) so_far && are_some so_far) f).1
+of_nothing (commas_open x so_far) f = λ a. (both (fits_part (enclosed x)) (list_all (good_part (enclosed x)) so_far && are_some so_far) f).1
+of_nothing (after_comma x so_far) f = λ a. (both (fits_part (enclosed x)) (list_all (good_part (enclosed x)) so_far && are_some so_far) f).1
 of_nothing _ f = no f
 
 initialising_judge : (halves : Bool) → IsJudge initialising halves

@@ -19,6 +19,7 @@ ghost use Rattle.mdr_grammar.specs.Grammar.{Gets, Reads};
 ghost use Rattle.mdr_roundtrip.specs.Initialised.{is_shaped_init, unplaced_init};
 ghost use Rattle.mdr_roundtrip.specs.Lexed.{are_lexed};
 ghost use Rattle.mdr_roundtrip.specs.Shaped.{shape_of};
+ghost use Rattle.mdr_roundtrip.specs.Itemised.{is_shaped_tree, unplaced_tree};
 ghost use Rattle.mdr_roundtrip.specs.Unplaced.{all_at, unplaced_form};
 
 /// The words, numbers, texts, punctuation and `#define` lines that the lexer gives are such as it reads again.
@@ -61,4 +62,16 @@ pub fn printed_initialisers_are_initialisers()
 pub fn initialisers_are_read_again()
     ensures shaped { (halves : Bool) (braces : ℕ) (tokens rest : List Token) (i : Initialiser) → are_lexed tokens ≡ true → Gets halves (part (initialiser braces)) tokens rest i → is_shaped_init i braces ≡ true }
     ensures again { (halves : Bool) (braces : ℕ) (tokens rest : List Token) (i : Initialiser) (behind : List Mark) → are_lexed tokens ≡ true → Gets halves (part (initialiser braces)) tokens rest i → Gets halves (part (initialiser braces)) (all_at (lexemes (init i behind))) (all_at (lexemes behind)) (unplaced_init i) }
+{}
+
+/// The tokens by which a tree is printed, all set to one place, are the source of the tree with its places set to
+/// that one, for each tree that has the shape of those that are read.
+pub fn printed_trees_are_trees()
+    ensures { (halves : Bool) (tree : SourceTree) → is_shaped_tree halves tree ≡ true → Reads halves (all_at (spelled tree)) (unplaced_tree tree) }
+{}
+
+/// The tree of the lexer's tokens is read again, its places set to one, from the tokens that it is printed by.
+pub fn sources_are_read_again()
+    ensures shaped { (halves : Bool) (tokens : List Token) (tree : SourceTree) → are_lexed tokens ≡ true → Reads halves tokens tree → is_shaped_tree halves tree ≡ true }
+    ensures again { (halves : Bool) (tokens : List Token) (tree : SourceTree) → are_lexed tokens ≡ true → Reads halves tokens tree → Reads halves (all_at (spelled tree)) (unplaced_tree tree) }
 {}

@@ -8,6 +8,6 @@ mod laws;
 
 pub use laws::{
     expressions_are_read_again, initialisers_are_read_again, printed_expressions_are_expressions,
-    printed_initialisers_are_initialisers, printed_sources_are_read, sources_are_printable,
-    tokens_are_lexed,
+    printed_initialisers_are_initialisers, printed_sources_are_read, printed_trees_are_trees,
+    sources_are_printable, sources_are_read_again, tokens_are_lexed,
 };

@@ -7,7 +7,7 @@ use Rattle.mdr_core.specs.declared.program.Program.{Program}
 use Rattle.mdr_core.specs.declared.code.Expr.{Expr}
 use Rattle.mdr_core.specs.Code.{Term}
 use Rattle.mdr_core.specs.Folds.{term_of}
-use Rattle.mdr_model.specs.declared.wire.Wire.{Wire}
+use Rattle.mdr_meaning.specs.declared.wire.Wire.{Wire}
 use Rattle.mdr_model.specs.Memory.{Memory}
 use Rattle.mdr_copy.specs.Evaluated.{evaluated}
 use Rattle.mdr_user.specs.Statements.{Cells}

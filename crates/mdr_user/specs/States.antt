@@ -5,8 +5,9 @@ use Rattle.mdr_core.specs.declared.program.Program.{Program}
 use Rattle.mdr_core.specs.declared.program.Func.{Func}
 use Rattle.mdr_core.specs.declared.code.Stmt.{Stmt}
 use Rattle.mdr_core.specs.Folds.{codes_of}
-use Rattle.mdr_model.specs.declared.wire.Wire.TheVariants as wire
+use Rattle.mdr_meaning.specs.declared.wire.Wire.TheVariants as wire
 use Rattle.mdr_model.specs.declared.message.Message.{Message}
+use Rattle.mdr_meaning.specs.Tree.{Asked as AskedFor}
 use Rattle.mdr_model.specs.Tree as tree
 use Rattle.mdr_model.specs.Meaning.{Here, func_at, body_of, function, statements}
 use Rattle.mdr_model.specs.User as user
@@ -34,7 +35,7 @@ body_at program f = body_of (func_at program f)
 abbrev pub rest_at : Program → ℕ → Position → tree.Tree
 rest_at program n p = tree_of program n (here_of p) (drop p.next (body_at program p.func))
 
-abbrev pub asked_of : Asked → tree.Asked
+abbrev pub asked_of : Asked → AskedFor
 asked_of asked = record { service = asked.service; at = asked.at; args = asked.args; shapes = []; bytes = [] }
 
 abbrev pub work_of : Program → ℕ → Work → user.Work

@@ -7,7 +7,7 @@ ghost use Rattle.mdr_model.specs.Copies.{changes, put_runs};
 ghost use Rattle.mdr_model.specs.ReplyFaults.{stop_number};
 ghost use Rattle.mdr_model.specs.User.{replied};
 ghost use Rattle.mdr_model.specs.Holds.{IsSoundMemory};
-ghost use Rattle.mdr_model.specs.declared.wire.Wire.TheVariants.{NoValue};
+ghost use Rattle.mdr_meaning.specs.declared.wire.Wire.TheVariants.{NoValue};
 ghost use Rattle.mdr_model.specs.declared.message.Message.TheVariants.{Return, Stop};
 ghost use Rattle.mdr_user.specs.declared.state.Work.TheVariants.{Nothing};
 ghost use Rattle.mdr_user.specs.States.{delivered, IsSoundState};

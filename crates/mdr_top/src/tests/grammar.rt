@@ -11,7 +11,7 @@ use std::process::Abort;
 use std::test::Fail;
 
 /// Items, each with the text that is printed for it.
-const ITEMS: [(&str, &str); 12] = [
+const ITEMS: [(&str, &str); 13] = [
     ("#define LIMIT 0x10\n", "#define LIMIT 16\n"),
     ("#define LOW  - 3ul\n", "#define LOW -3ul\n"),
     (
@@ -38,6 +38,11 @@ const ITEMS: [(&str, &str); 12] = [
         "__remote void g(void(*h)(void));",
         "__remote void g(void (*h)(void));\n",
     ),
+    // a parameter that is `void` isn't an empty list
+    (
+        "void g(void(*h)(const void));",
+        "void g(void (*h)(const void));\n",
+    ),
     (
         "inline __critical struct dev*f(u32 n){}",
         "__critical struct dev *f(u32 n) {\n}\n",
@@ -45,10 +50,15 @@ const ITEMS: [(&str, &str); 12] = [
 ];
 
 /// Statements of a function, each with the lines that are printed for it.
-const STATEMENTS: [(&str, &str); 22] = [
+const STATEMENTS: [(&str, &str); 23] = [
     (";", "\t;\n"),
     ("{a=1;}", "\t{\n\t\ta = 1;\n\t}\n"),
     ("a+=1;b<<=c;", "\ta += 1;\n\tb <<= c;\n"),
+    // a left side that is no unary expression keeps its parentheses
+    (
+        "((u32)a)=b;(a+b)=c;*a=b;",
+        "\t((u32)a) = b;\n\t(a + b) = c;\n\t*a = b;\n",
+    ),
     ("f(1,b);x=f();", "\tf(1, b);\n\tx = f();\n"),
     (
         "break;continue;return;",
@@ -150,6 +160,69 @@ const LEFT_OUT: [&str; 15] = [
     "_Imaginary",
 ];
 
+/// A network driver, as in `examples/nic.c`.
+const NETWORK: &str = "#include <linux/module.h>
+#define RING 4
+#define STATUS 1
+enum { IDLE, UP = 2 };
+struct buf { u32 len; u8 bytes[8]; struct buf *next; };
+struct stats { u32 sent; u32 got; u32 errors; };
+struct card { combolock_t lock; u32 state; struct stats st;
+\tstruct buf *ring[RING]; u32 head; struct buf *spare; };
+struct op { u32 code; s32 (*run)(u32 arg); };
+static struct card card;
+static void nic_irq(void) {
+\tu32 s;
+\ts = readl(STATUS);
+\tif (s & 1) card.st.sent += 1;
+\tif (s & 2) card.st.errors += 1;
+\twritel(0, STATUS);
+}
+static s32 op_state(u32 arg) { card.state = arg; return 0; }
+static s32 op_reset(u32 arg) { card.st.sent = 0; card.st.errors = arg; return 0; }
+static struct op ops[3] = { {1, op_state}, {2, op_reset}, {0, NULL} };
+s32 nic_probe(void) {
+\tu32 i; struct buf *b; s32 err;
+\tfor (i = 0; i < RING; i += 1) {
+\t\tb = kzalloc(struct buf);
+\t\tif (!b) return -12;
+\t\tb->len = i + 1;
+\t\tcard.ring[i] = b;
+\t}
+\terr = request_irq(nic_irq);
+\tif (err) return err;
+\tprintk(KERN_INFO \"nic: %u buffers\\n\", i);
+\treturn 0;
+}
+s32 nic_open(void) { card.state = UP; writel(1, 0); return 0; }
+__critical s32 nic_transmit(u32 len) {
+\tstruct buf *b;
+\tcombolock(&card.lock);
+\tif (card.state != UP) { combounlock(&card.lock); return -100; }
+\tb = card.ring[card.head];
+\tb->len = len;
+\tcard.head = (card.head + 1) % RING;
+\twritel(len, 2);
+\tcombounlock(&card.lock);
+\treturn 0;
+}
+s32 nic_ioctl(u32 code, u32 arg) {
+\tstruct op *o; s32 r;
+\to = ops;
+\twhile (o->code) {
+\t\tif (o->code == code) { r = o->run(arg); return r; }
+\t\to += 1;
+\t}
+\treturn -25;
+}
+s32 nic_total(void) {
+\tu32 i; u32 t; struct buf *b;
+\tt = 0;
+\tfor (i = 0; i < RING; i += 1) { b = card.ring[i]; t += b->len; }
+\treturn t;
+}
+";
+
 /// The text that is printed for a source or for a half of one, and nothing where it isn't read.
 fn printed(alloc: Global, source: &[u8]) -> Vec<u8> {
     let Ok(tokens) = tokens(alloc, source) else {
@@ -234,6 +307,15 @@ fn ends_early(alloc: Global, tokens: &[Token], last: &Token) -> bool {
         Err(ParseError::Expected(place)) => place == last.place,
         _ => false,
     }
+}
+
+#[test]
+fn a_network_driver_is_printed_and_read_again(rt: HostRuntime) -> Result<(), Fail> {
+    let once = printed(rt.alloc(), NETWORK.as_bytes());
+    let twice = printed(rt.alloc(), once.as_slice());
+    assert!(rt; once.len() > 1500, "it is printed: {}", once.len());
+    assert_eq!(rt; twice.as_slice(), once.as_slice());
+    Ok(())
 }
 
 #[test]

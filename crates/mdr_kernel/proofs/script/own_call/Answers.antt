@@ -1,8 +1,8 @@
 -- The world that kernel code leaves is sound, and so is the one in which its return is noted.
 use Rattle.std.proofs.Common.{[], Option, sym, subst}
 use Rattle.mdr_model.specs.World.{World, Ran}
-use Rattle.mdr_model.specs.declared.wire.Wire.{Wire}
-use Rattle.mdr_model.specs.declared.wire.Wire.TheVariants as wire
+use Rattle.mdr_meaning.specs.declared.wire.Wire.{Wire}
+use Rattle.mdr_meaning.specs.declared.wire.Wire.TheVariants as wire
 use Rattle.mdr_kernel.specs.declared.state.Stopped.{Stopped as CodeStop}
 use Rattle.mdr_kernel.specs.States.{world_of, ran_of, IsSoundWorld}
 use Rattle.mdr_kernel.proofs.Worlds.{Ends, Gone, kernel_goes, returned_is_sound}

@@ -1,5 +1,5 @@
 use Rattle.std.proofs.Common.{◌≡◌, ◌++◌, map, drop}
-use Rattle.mdr_model.specs.Values.{wire_of}
+use Rattle.mdr_meaning.specs.Values.{wire_of}
 use Rattle.mdr_kernel.proofs.script.wires_of.Given as goal
 
 abbrev pub invariant-loop-value : goal.invariant-loop-value

@@ -1,6 +1,6 @@
 use Rattle.std.proofs.Common.{pos, ◌≤ℤ◌, ap, arith}
 use Rattle.std.proofs.lemmas.Int.{ints}
-use Rattle.mdr_model.specs.Values.{natural}
+use Rattle.mdr_meaning.specs.Values.{natural}
 use Rattle.mdr_kernel.proofs.Numbers.{number-least, number-greatest}
 use Rattle.mdr_kernel.proofs.service.natural.Goals as goal
 

@@ -2,8 +2,8 @@
 use Rattle.std.proofs.Common.{◌≡◌, List, Option, sym, ap, ◌∙◌}
 use Rattle.mdr_core.specs.declared.program.Program.{Program}
 use Rattle.mdr_model.specs.declared.command.Command.{Command}
-use Rattle.mdr_model.specs.declared.wire.Wire.{Wire}
-use Rattle.mdr_model.specs.declared.wire.Wire.TheVariants as wire
+use Rattle.mdr_meaning.specs.declared.wire.Wire.{Wire}
+use Rattle.mdr_meaning.specs.declared.wire.Wire.TheVariants as wire
 use Rattle.mdr_model.specs.World.{World, Ran, Ended}
 use Rattle.mdr_model.specs.KernelState.{Kernel, Rest, Pending}
 use Rattle.mdr_model.specs.Kernel.{comes_back, downcalled}

@@ -1,7 +1,7 @@
 use Rattle.std.proofs.Common.{◌≡◌, ℕ, drop}
 use Rattle.mdr_core.specs.Folds.{codes_of}
 use Rattle.mdr_core.specs.declared.plan.Half.TheVariants as half
-use Rattle.mdr_model.specs.declared.wire.Wire.TheVariants as wire
+use Rattle.mdr_meaning.specs.declared.wire.Wire.TheVariants as wire
 use Rattle.mdr_model.specs.Tree.{Tree}
 use Rattle.mdr_model.specs.Meaning.{Enters, statements}
 use Rattle.mdr_model.specs.World.{in_kernel}

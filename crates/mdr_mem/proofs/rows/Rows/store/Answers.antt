@@ -1,6 +1,6 @@
 use Rattle.std.proofs.Common.{sym, refl, ◌∙◌, ap}
 use Rattle.std.specs.Prelude.{option_map}
-use Rattle.mdr_model.specs.Values.{wire_of}
+use Rattle.mdr_meaning.specs.Values.{wire_of}
 use Rattle.mdr_mem.specs.Rows.{with_cell, blocks_of}
 use Rattle.mdr_mem.specs.Contents.{current, cell_in}
 use Rattle.mdr_model.specs.Memory.{put}

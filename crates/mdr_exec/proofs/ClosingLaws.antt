@@ -1,0 +1,162 @@
+-- Objects die where a block or a function ends, and the machine holds what is left.
+use Rattle.std.proofs.Common.{◌≡◌, ◌↔◌, IsTrue, ℕ, Bool, true, false, List, [], ◌∷◌, ◌++◌, refl, ap, sym, ◌∙◌}
+use Rattle.mdr_core.specs.declared.program.Program.{Program}
+use Rattle.mdr_core.specs.declared.value.Value.{Value}
+use Rattle.mdr_core.specs.Code.{Codes}
+use Rattle.mdr_meaning.specs.declared.wire.Wire.{Wire}
+use Rattle.mdr_meaning.specs.Cut.{cut}
+use Rattle.mdr_meaning.specs.Lives.{returned}
+use Rattle.mdr_meaning.specs.Values.{wire_of}
+use Rattle.mdr_meaning.specs.Sides.{Side, Here, Locals, Flow, Ends, Breaks, Continues, Returns, in_here}
+use Rattle.mdr_meaning.specs.Walk.{Reached, Accesses, walk, walked}
+use Rattle.std.proofs.lemmas.List.{reverse-append}
+use Rattle.mdr_exec.specs.declared.frame.Flow.{Flow as Leaving}
+use Rattle.mdr_exec.specs.declared.frame.Suspended.{Suspended}
+use Rattle.mdr_exec.specs.declared.frame.Until.TheVariants as until
+use Rattle.mdr_exec.specs.declared.frame.Front.{Front as Before}
+use Rattle.mdr_exec.specs.declared.frame.Front.TheVariants as front
+use Rattle.mdr_exec.specs.declared.frame.Machine.{Machine}
+use Rattle.mdr_exec.specs.Closing.{DiesAt, AtBlock, AtEnd, Finishes, asks_on}
+use Rattle.mdr_exec.specs.Held.{Unwinds, WaitsDeath, Item, Scope, Held, carry, bare, tree}
+use Rattle.mdr_exec.specs.Holding.{around, below_of, block_of, flow_as, front_in, held_of, wires_of}
+use Rattle.mdr_exec.specs.Leaving.{here_in}
+use Rattle.mdr_exec.specs.Places.{behind}
+use Rattle.mdr_exec.specs.Steps.{holds, child, Came, Goes, Ended, Stopped, Asks, Crosses, after, IsSame, Steps}
+use Rattle.mdr_exec.specs.Unwinding.{is_return, dying_came, dying_front, dying_memory}
+use Rattle.mdr_exec.proofs.UnwindingLaws.{work_goes_on}
+
+module _ {M : Type 0} (a : Accesses M) (side : Side) where
+  after_same : (h1 h2 : Held) → IsSame side h1 h2 → (came : Came) (m : M) (f n r : ℕ) → after a side f came h1 m n r ≡ after a side f came h2 m n r
+  after_same h1 h2 s Goes m f n r = ap (λ t. walk a n t m) (s.by f r)
+  after_same h1 h2 s (Ended v) m f n r = ap (λ t. walked (Reached.Ended v t) m n) (s.by f r)
+  after_same h1 h2 s (Stopped kind at) m f n r = refl
+  after_same h1 h2 s (Asks asked) m f n r = ap (λ t. walked (Reached.Asks asked (child t)) m n) (s.by f r)
+  after_same h1 h2 s (Crosses at func args depth) m f n r = ap (λ t. walked (Reached.Crosses at func args depth (λ v. child t (v ∷ []))) m n) (s.by f r)
+
+  pub steps_same : (h h1 h2 : Held) (m m' : M) (came : Came) → Steps a side h m came h1 m' → IsSame side h1 h2 → Steps a side h m came h2 m'
+  steps_same h h1 h2 m m' came p s = record { by = λ f n r fewer. p.by f n r fewer ∙ after_same h1 h2 s came m' f n r }
+
+-- the objects of a block are dead, and the block is still to be left
+module _ (side : Side) (here : Here) (slots : List Wire) (ahead : Codes) (items : List Item) where
+  abbrev holding : List Wire → Locals
+  holding born = record { slots = slots; born = born }
+
+  unwinds_so : (flow : Flow) (outer : List Wire) → is_return flow ≡ false → IsSame side (holds (Unwinds flow) here (holding outer) ahead items) (holds (Unwinds flow) here (holding []) ahead (Scope outer ∷ items))
+  unfolding bare tree carry
+  unwinds_so Ends outer h = record { by = λ f r. refl }
+  unwinds_so Breaks outer h = record { by = λ f r. refl }
+  unwinds_so Continues outer h = record { by = λ f r. refl }
+  unwinds_so (Returns v) outer h = absurd (cc h)
+
+  waits_so : (flow : Flow) (outer : List Wire) → is_return flow ≡ false → IsSame side (holds (WaitsDeath flow) here (holding outer) ahead items) (holds (WaitsDeath flow) here (holding []) ahead (Scope outer ∷ items))
+  unfolding bare tree carry
+  waits_so Ends outer h = record { by = λ f r. refl }
+  waits_so Breaks outer h = record { by = λ f r. refl }
+  waits_so Continues outer h = record { by = λ f r. refl }
+  waits_so (Returns v) outer h = absurd (cc h)
+
+  left_so : (asks : Bool) (ps : List Wire) (flow : Flow) (outer : List Wire) → is_return flow ≡ false
+      → IsSame side (holds (dying_front asks ps flow) here (holding outer) ahead items) (holds (dying_front asks ps flow) here (holding []) ahead (Scope outer ∷ items))
+  left_so asks [] flow outer h = unwinds_so flow outer h
+  left_so false (p ∷ ps) flow outer h = unwinds_so flow outer h
+  left_so true (p ∷ ps) flow outer h = waits_so flow outer h
+
+module _ {M : Type 0} (a : Accesses M) (side : Side) (here : Here) (slots born : List Wire) (ahead : Codes) (m : M) where
+  pub dies_at : (flow : Flow) (items : List Item) → DiesAt flow items
+      → Steps a side (holds (Unwinds flow) here (record { slots = slots; born = born }) ahead items) m (dying_came side.asks (in_here here 0) born)
+      (holds (dying_front side.asks born flow) here (record { slots = slots; born = [] }) ahead items) (dying_memory a side.asks born m)
+  dies_at flow _ (AtBlock _ outer items h) =
+      let law = work_goes_on a side here (record { slots = slots; born = born }) ahead items m in
+      steps_same a side _ _ _ m (dying_memory a side.asks born m) (dying_came side.asks (in_here here 0) born) (law.scope_left flow outer h) (left_so side here slots ahead items side.asks born flow outer h)
+  dies_at flow _ (AtEnd _ end items h) =
+      let law = work_goes_on a side here (record { slots = slots; born = born }) ahead items m in
+      law.function_dies flow end h
+
+-- ---- what the machine holds then
+
+module _ {M : Type 0} (a : Accesses M) (m : Machine) (flow : Leaving) (born : List Value) (memory : M) where
+  -- the machine without these objects
+  abbrev emptied : Before → Machine
+  emptied b = record {
+    side = m.side;
+    front = b;
+    top = record { func = m.top.func; depth = m.top.depth; path = m.top.path; next = m.top.next; slots = m.top.slots; born = born };
+    below = m.below;
+  }
+
+  died : (b : Before) (memory' : M) (program : Program) (side : Side) → m.front ≡ front.Unwinds flow → born ≡ [] → DiesAt (flow_as flow) (held_of program m).items
+      → dying_front side.asks (wires_of m.top.born) (flow_as flow) ≡ front_in program (emptied b).top b → dying_memory a side.asks (wires_of m.top.born) memory ≡ memory'
+      → Steps a side (held_of program m) memory (dying_came side.asks (in_here (here_in program m) 0) (wires_of m.top.born)) (held_of program (emptied b)) memory'
+  unfolding held_of
+  died b memory' program side is none d fr me =
+      rw (is, none, ← fr, ← me)
+      (dies_at a side (here_in program m) (wires_of m.top.slots) (wires_of m.top.born) (behind (block_of program m.top) m.top.next) memory (flow_as flow) (held_of program m).items d)
+
+asked_front : (asks : Bool) → asks ≡ true → (born : List Value) → (born ≡ [] → ⊥) → (flow : Flow) → dying_front asks (wires_of born) flow ≡ WaitsDeath flow
+asked_front false h born some flow = absurd (cc h)
+asked_front true h [] some flow = absurd (some refl)
+asked_front true h (v ∷ vs) some flow = refl
+
+asked_memory : {M : Type 0} (a : Accesses M) (asks : Bool) → asks ≡ true → (born : List Value) (memory : M) → dying_memory a asks (wires_of born) memory ≡ memory
+asked_memory a false h born memory = absurd (cc h)
+asked_memory a true h [] memory = refl
+asked_memory a true h (v ∷ vs) memory = refl
+
+here_front : (asks : Bool) → asks ≡ false → (born : List Value) (flow : Flow) → dying_front asks (wires_of born) flow ≡ Unwinds flow
+here_front true h born flow = absurd (cc h)
+here_front false h [] flow = refl
+here_front false h (v ∷ vs) flow = refl
+
+here_memory : {M : Type 0} (a : Accesses M) (asks : Bool) → asks ≡ false → (born : List Value) → (born ≡ [] → ⊥) → (memory : M) → dying_memory a asks (wires_of born) memory ≡ a.death memory (wires_of born)
+here_memory a true h born some memory = absurd (cc h)
+here_memory a false h [] some memory = absurd (some refl)
+here_memory a false h (v ∷ vs) some memory = refl
+
+-- what was taken is not empty
+some_taken : (e : Bool) (taken held : List Value) → (IsTrue e ↔ (taken ≡ [])) → e ≡ false → taken ≡ held → held ≡ [] → ⊥
+some_taken e taken held told not_empty is none = cc (not_empty, told.1 (is ∙ none))
+
+module _ {M : Type 0} (a : Accesses M) (m : Machine) (flow : Leaving) (born taken : List Value) (memory : M) (e asks : Bool) where
+  pub died_asked : m.front ≡ front.Unwinds flow → born ≡ [] → (IsTrue e ↔ (taken ≡ [])) → e ≡ false → taken ≡ m.top.born → asks ≡ asks_on m.side → asks ≡ true
+      → (program : Program) (side : Side) → DiesAt (flow_as flow) (held_of program m).items → side.asks ≡ asks_on m.side
+      → Steps a side (held_of program m) memory (dying_came side.asks (in_here (here_in program m) 0) (wires_of m.top.born)) (held_of program (record {
+        side = m.side;
+        front = front.WaitsDeath flow;
+        top = record { func = m.top.func; depth = m.top.depth; path = m.top.path; next = m.top.next; slots = m.top.slots; born = born };
+        below = m.below;
+      })) memory
+  died_asked is none told not_empty taken_is asks_is yes_asks program side d same =
+      let some = some_taken e taken m.top.born told not_empty taken_is in
+      let all = same ∙ sym asks_is ∙ yes_asks in
+      died a m flow born memory (front.WaitsDeath flow) memory program side is none d (asked_front side.asks all m.top.born some (flow_as flow)) (asked_memory a side.asks all m.top.born memory)
+
+  pub died_here : m.front ≡ front.Unwinds flow → born ≡ [] → (IsTrue e ↔ (taken ≡ [])) → e ≡ false → taken ≡ m.top.born → asks ≡ asks_on m.side → asks ≡ false
+      → (slice : List Value) → slice ≡ taken → (memory' : M) → memory' ≡ a.death memory (wires_of slice)
+      → (program : Program) (side : Side) → DiesAt (flow_as flow) (held_of program m).items → side.asks ≡ asks_on m.side
+      → Steps a side (held_of program m) memory (dying_came side.asks (in_here (here_in program m) 0) (wires_of m.top.born)) (held_of program (record {
+        side = m.side;
+        front = m.front;
+        top = record { func = m.top.func; depth = m.top.depth; path = m.top.path; next = m.top.next; slots = m.top.slots; born = born };
+        below = m.below;
+      })) memory'
+  died_here is none told not_empty taken_is asks_is no_asks slice sliced memory' done program side d same =
+      let some = some_taken e taken m.top.born told not_empty taken_is in
+      let all = same ∙ sym asks_is ∙ no_asks in
+      died a m flow born memory m.front memory' program side is none d
+      (here_front side.asks all m.top.born (flow_as flow) ∙ sym (ap (front_in program m.top) is))
+      (here_memory a side.asks all m.top.born some memory ∙ sym (done ∙ ap (λ vs. a.death memory (wires_of vs)) (sliced ∙ taken_is)))
+
+-- ---- functions end
+
+module _ (m : Machine) (flow : Leaving) (s : Suspended) (below : List Suspended) (value : Value) where
+  pub called_back : m.front ≡ front.Unwinds flow → m.top.path ≡ [] → m.top.born ≡ [] → m.below ≡ below ++ s ∷ [] → s.until ≡ until.Call → wire_of value ≡ returned (flow_as flow)
+      → (program : Program) (side : Side) → IsSame side (held_of program m) (held_of program (record { side = m.side; front = front.Comes value; top = s.frame; below = below }))
+  unfolding held_of below_of around bare tree carry
+  called_back is outside none last waits gives program side =
+      rw (is, outside, none, last, reverse-append below (s ∷ []), waits, gives) (record { by = λ f r. refl })
+
+  pub start_ended : (b : Before) → m.front ≡ front.Unwinds flow → m.top.path ≡ [] → m.top.born ≡ [] → m.below ≡ below ++ s ∷ [] → s.until ≡ until.Started b → wire_of value ≡ returned (flow_as flow)
+      → (program : Program) (side : Side) → Finishes side (held_of program m) (wire_of value) (held_of program (record { side = m.side; front = b; top = s.frame; below = below }))
+  unfolding held_of below_of around bare tree carry cut
+  start_ended b is outside none last waits gives program side =
+      rw (is, outside, none, last, reverse-append below (s ∷ []), waits, gives) (record { by = λ f r. refl })

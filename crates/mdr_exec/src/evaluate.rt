@@ -1,0 +1,174 @@
+// What expressions and lvalues come to.
+
+ghost use Rattle.std.specs.Prelude.{◌≡◌, IfOk};
+ghost use Rattle.mdr_core.specs.Folds.{lvalue_of, term_of};
+ghost use Rattle.mdr_core.specs.Sound.{IsSound};
+ghost use Rattle.mdr_meaning.specs.Bodies.{known_of};
+ghost use Rattle.mdr_meaning.specs.Values.{wire_of};
+ghost use Rattle.mdr_exec.specs.Evaluation.{after_value, fresh_of, loaded_by, place_of, value_of};
+ghost use Rattle.mdr_exec.specs.Holding.{wires_of};
+ghost use Rattle.mdr_exec.specs.Outcomes.{wired};
+
+use crate::halt::Halt;
+use crate::memory::Memory;
+use crate::operators::{both, combined, converted, either, flipped, inverted, negated};
+use crate::pointers::{cast, difference, global, moved, related};
+use crate::values::slot_at;
+use mdr_core::{Expr, Lval, Program, StopKind, Value};
+
+/// What a slot holds is read.
+fn fresh<C: Memory>(memory: &C, value: Value) -> Result<Value, StopKind>
+    ensures { wired result ≡ fresh_of C.accesses memory.now (wire_of value) }
+{
+    match value {
+        Value::Ptr(_) => memory.fresh(value),
+        Value::Dead => memory.fresh(value),
+        _ => Ok(value),
+    }
+}
+
+fn loaded<C: Memory>(memory: &C, place: Result<Value, StopKind>) -> Result<Value, StopKind>
+    ensures { wired result ≡ after_value (wired place) (C.accesses.load memory.now) }
+{
+    match place {
+        Ok(pointer) => memory.load(pointer),
+        Err(stop) => Err(stop),
+    }
+}
+
+/// The value of what an lvalue names, given its place.
+fn loaded_by<C: Memory>(
+    memory: &C,
+    slots: &[Value],
+    lvalue: &Lval,
+    place: Result<Value, StopKind>,
+) -> Result<Value, StopKind>
+    ensures { wired result ≡ loaded_by C.accesses memory.now (wires_of slots.now) (lvalue_of lvalue.now) (wired place) }
+{
+    match lvalue {
+        Lval::Slot(i) => fresh(memory, slot_at(slots, *i)),
+        Lval::Object(_) => loaded(memory, place),
+        Lval::Global(_) => loaded(memory, place),
+        Lval::Deref(_) => loaded(memory, place),
+        Lval::Member(_, _) => loaded(memory, place),
+        Lval::Index(_, _) => loaded(memory, place),
+    }
+}
+
+/// The value of an expression, or the first stop from left to right. Members of structs aren't built.
+#[cycle(evaluate)]
+#[tactic(auto, unfolding(crate::specs::Evaluation::value_of))]
+pub(crate) fn evaluated<C: Memory>(
+    program: &Program,
+    memory: &C,
+    slots: &[Value],
+    e: &Expr,
+) -> Result<Result<Value, StopKind>, Halt>
+    requires { IsSound program.now }
+    ensures { IfOk result (λ r. wired r ≡ value_of C.accesses memory.now (known_of program.now) (wires_of slots.now) (term_of e.now)) }
+{
+    match e {
+        Expr::Lit(value) => Ok(Ok(*value)),
+        Expr::Load(p) => {
+            let place = located(program, memory, slots, p)?;
+            Ok(loaded_by(memory, slots, p, place))
+        }
+        Expr::Addr(p) => {
+            let place = located(program, memory, slots, p)?;
+            Ok(place)
+        }
+        Expr::Decay(p) => {
+            let place = located(program, memory, slots, p)?;
+            Ok(place)
+        }
+        Expr::Neg(kind, e) => {
+            let x = evaluated(program, memory, slots, e.get())?;
+            let result = negated(*kind, x)?;
+            Ok(result)
+        }
+        Expr::Flip(kind, e) => {
+            let x = evaluated(program, memory, slots, e.get())?;
+            let result = flipped(*kind, x)?;
+            Ok(result)
+        }
+        Expr::Not(e) => {
+            let x = evaluated(program, memory, slots, e.get())?;
+            Ok(inverted(x))
+        }
+        Expr::Bin(op, kind, x, y) => {
+            let left = evaluated(program, memory, slots, x.get())?;
+            let right = evaluated(program, memory, slots, y.get())?;
+            let result = combined(*op, *kind, left, right)?;
+            Ok(result)
+        }
+        Expr::Rel(op, x, y) => {
+            let left = evaluated(program, memory, slots, x.get())?;
+            let right = evaluated(program, memory, slots, y.get())?;
+            Ok(related(program, *op, left, right))
+        }
+        Expr::And(x, y) => {
+            let left = evaluated(program, memory, slots, x.get())?;
+            let right = evaluated(program, memory, slots, y.get())?;
+            Ok(both(left, right))
+        }
+        Expr::Or(x, y) => {
+            let left = evaluated(program, memory, slots, x.get())?;
+            let right = evaluated(program, memory, slots, y.get())?;
+            Ok(either(left, right))
+        }
+        Expr::Conv(kind, e) => {
+            let x = evaluated(program, memory, slots, e.get())?;
+            Ok(converted(*kind, x))
+        }
+        Expr::ToVoid(e) => {
+            let x = evaluated(program, memory, slots, e.get())?;
+            Ok(x)
+        }
+        Expr::FromVoid(ty, e) => {
+            let x = evaluated(program, memory, slots, e.get())?;
+            Ok(cast(program, ty, x))
+        }
+        Expr::Move(back, p, i) => {
+            let pointer = evaluated(program, memory, slots, p.get())?;
+            let count = evaluated(program, memory, slots, i.get())?;
+            Ok(moved(*back, pointer, count))
+        }
+        Expr::Diff(p, q) => {
+            let left = evaluated(program, memory, slots, p.get())?;
+            let right = evaluated(program, memory, slots, q.get())?;
+            Ok(difference(left, right))
+        }
+    }
+}
+
+/// The address of what an lvalue names, or the first stop from left to right. What lies in a slot has none.
+#[cycle(evaluate)]
+#[tactic(auto, unfolding(crate::specs::Evaluation::place_of))]
+pub(crate) fn located<C: Memory>(
+    program: &Program,
+    memory: &C,
+    slots: &[Value],
+    p: &Lval,
+) -> Result<Result<Value, StopKind>, Halt>
+    requires { IsSound program.now }
+    ensures { IfOk result (λ r. wired r ≡ place_of C.accesses memory.now (known_of program.now) (wires_of slots.now) (lvalue_of p.now)) }
+{
+    match p {
+        Lval::Slot(_) => Ok(Ok(Value::Null)),
+        Lval::Object(i) => Ok(Ok(slot_at(slots, *i))),
+        Lval::Global(g) => {
+            let pointer = global(program, memory, *g)?;
+            Ok(Ok(pointer))
+        }
+        Lval::Deref(e) => {
+            let pointer = evaluated(program, memory, slots, e.get())?;
+            Ok(pointer)
+        }
+        Lval::Member(_, _) => Err(Halt::Unfit),
+        Lval::Index(p, e) => {
+            let pointer = located(program, memory, slots, p.get())?;
+            let count = evaluated(program, memory, slots, e.get())?;
+            Ok(moved(false, pointer, count))
+        }
+    }
+}

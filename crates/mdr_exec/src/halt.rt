@@ -1,0 +1,23 @@
+// Why code is not run on.
+
+use std::alloc::{AllocError, AllocFailed};
+
+/// Why code is not run on. Of the work after it nothing is promised.
+#[derive(Clone, Copy, Debug, PartialEq, Eq)]
+pub enum Halt {
+    OutOfMemory,
+    /// A value doesn't fit what is done with it, as values of a sound program do.
+    Unfit,
+}
+
+impl From<AllocError> for Halt {
+    fn from(_e: AllocError) -> Halt {
+        Halt::OutOfMemory
+    }
+}
+
+impl<T: Drop> From<AllocFailed<T>> for Halt {
+    fn from(_e: AllocFailed<T>) -> Halt {
+        Halt::OutOfMemory
+    }
+}

@@ -1,0 +1,35 @@
+// The memory that code runs on.
+
+use mdr_core::{StopKind, Value};
+
+/// A memory, as code sees it. `accesses` is what is done to it, and what that comes to. A pointer's slot is where its
+/// block was seen last: it makes an access fast, and an access with any other slot comes to the same.
+pub trait Memory {
+    ghost use Rattle.std.specs.Prelude.{◌≡◌, OnErr};
+    ghost use Rattle.mdr_meaning.specs.Values.{wire_of};
+    ghost use Rattle.mdr_meaning.specs.Walk.{Accesses};
+    ghost use Rattle.mdr_exec.specs.Holding.{wires_of};
+    ghost use Rattle.mdr_exec.specs.Outcomes.{wired, when_made};
+
+    ghost accesses: { Accesses Self };
+
+    /// What the cell that a pointer names holds.
+    fn load(&self, pointer: Value) -> Result<Value, StopKind>
+        ensures { wired result ≡ accesses.load self.now (wire_of pointer) };
+
+    /// What a slot's pointer is when it is read: its block may have died.
+    fn fresh(&self, pointer: Value) -> Result<Value, StopKind>
+        ensures { wired result ≡ accesses.fresh self.now (wire_of pointer) };
+
+    /// Puts a value into the cell that a pointer names.
+    fn store(&mut self, pointer: Value, value: Value) -> Result<(), StopKind>
+        ensures made { accesses.store self.old (wire_of pointer) (wire_of value) ≡ when_made result self.new }
+        ensures kept { OnErr result (self.new ≡ self.old) };
+
+    /// Ends the objects that these pointers name.
+    fn death(&mut self, pointers: &[Value])
+        ensures { self.new ≡ accesses.death self.old (wires_of pointers.now) };
+
+    /// The slot of the block with this serial, if it lives.
+    fn slot(&self, serial: u64) -> u32;
+}

@@ -1,0 +1,50 @@
+// What comes next.
+
+ghost use Rattle.std.specs.Prelude.{◌≡◌, true, OnOk, None};
+ghost use Rattle.std.specs.Option.{option_map};
+ghost use Rattle.mdr_core.specs.declared.program.Program.{Program as AnyProgram};
+ghost use Rattle.mdr_meaning.specs.Sides.{Side as AnySide};
+ghost use Rattle.mdr_exec.specs.declared.frame.Front.TheVariants as front;
+ghost use Rattle.mdr_exec.specs.Found.{code_in};
+ghost use Rattle.mdr_exec.specs.Holding.{block_of, held_of, is_running};
+ghost use Rattle.mdr_exec.specs.Places.{code_at};
+ghost use Rattle.mdr_exec.specs.Steps.{IsSame};
+
+use crate::frame::{Flow, Front, Machine};
+use crate::places::{Standing, block_at, body_of, standing_at};
+use mdr_core::{Program, Value};
+use std::alloc::AllocError;
+
+/// The statement that comes next, or the loop of a `for`.
+pub(crate) fn stands_next<'a>(machine: &Machine, program: &'a Program) -> Option<Standing<'a>>
+    ensures { option_map code_in result ≡ code_at (block_of program.now machine.now.top) machine.now.top.next }
+{
+    let block = block_at(
+        body_of(program, machine.top.func),
+        machine.top.path.as_slice(),
+    );
+    standing_at(block, machine.top.next)
+}
+
+/// No statement comes next: the list of statements is left.
+pub(crate) fn run_out(machine: &mut Machine)
+    requires runs { is_running machine.old.front ≡ true }
+    ensures { (program : AnyProgram) (side : AnySide) → code_at (block_of program machine.old.top) machine.old.top.next ≡ None → IsSame side (held_of program machine.old) (held_of program machine.new) }
+{
+    machine.front = Front::Unwinds(Flow::Ends);
+}
+
+/// The object of a local was born: its slot holds its address.
+pub(crate) fn take_object(
+    machine: &mut Machine,
+    slot: u32,
+    pointer: Value,
+) -> Result<(), AllocError>
+    requires born { machine.old.front ≡ front.Born slot pointer }
+    ensures { OnOk result ((program : AnyProgram) (side : AnySide) → IsSame side (held_of program machine.old) (held_of program machine.new)) }
+{
+    machine.top.slots.set(slot as usize, pointer);
+    machine.top.born.push(pointer)?;
+    machine.front = Front::Runs;
+    Ok(())
+}

@@ -1,0 +1,196 @@
+// What each expression comes to (C99 6.5).
+
+ghost use Rattle.std.specs.Prelude.{◌≡◌, IfOk, Err};
+ghost use Rattle.mdr_faults.specs.Faults.{Checked, told};
+ghost use Rattle.mdr_operand.specs.declared.operand.Operand.{Operand};
+ghost use Rattle.mdr_binary.specs.Binaries.{binary_rule};
+ghost use Rattle.mdr_postfix.specs.Subscripts.{subscript_rule};
+ghost use Rattle.mdr_operand.specs.Written.{Written, written_of, written_what};
+ghost use Rattle.mdr_express.specs.Expressions.{signed_rule, typed};
+
+use mdr_binary::binary_rule;
+use mdr_core::{Name, OutOfMemory, Place};
+use mdr_faults::{Fault, Scope, mismatch};
+use mdr_operand::{
+    BinaryOperator, LocalName, Operand, binary_operator, cast, literal, prefix, prefix_operator,
+};
+use mdr_postfix::{member_rule, name_rule, subscript_rule};
+use mdr_syntax::{Base, Form, FormWhat};
+use std::alloc::Global;
+
+/// What an expression comes to, in a scope and among the locals so far.
+#[cycle(expression)]
+pub fn expression(
+    alloc: Global,
+    scope: &Scope,
+    locals: &[LocalName],
+    form: &Form,
+) -> Result<Result<Operand, Fault>, OutOfMemory>
+    ensures { IfOk result (λ r. r ≡ told (typed scope.now locals.now (written_of form.now))) }
+{
+    expression_at(alloc, scope, locals, form.place, &form.what)
+}
+
+#[cycle(expression)]
+fn prefix_form(
+    alloc: Global,
+    scope: &Scope,
+    locals: &[LocalName],
+    place: Place,
+    sign: &Name,
+    a: &Form,
+) -> Result<Result<Operand, Fault>, OutOfMemory>
+    ensures { IfOk result (λ r. r ≡ told (typed scope.now locals.now (Written.Prefix place sign.now (written_of a.now)))) }
+{
+    let x = expression(alloc, scope, locals, a)?;
+    Ok(prefix(alloc, place, prefix_operator(sign.as_slice()), x)?)
+}
+
+#[cycle(expression)]
+fn cast_form(
+    alloc: Global,
+    scope: &Scope,
+    locals: &[LocalName],
+    place: Place,
+    base: &Base,
+    stars: u32,
+    a: &Form,
+) -> Result<Result<Operand, Fault>, OutOfMemory>
+    ensures { IfOk result (λ r. r ≡ told (typed scope.now locals.now (Written.Cast place base.now stars (written_of a.now)))) }
+{
+    let x = expression(alloc, scope, locals, a)?;
+    Ok(cast(alloc, scope, place, base, stars, x)?)
+}
+
+/// Both operands of a form, where there was memory for both.
+fn both_sides(
+    a: Result<Result<Operand, Fault>, OutOfMemory>,
+    b: Result<Result<Operand, Fault>, OutOfMemory>,
+) -> Result<Sides, OutOfMemory>
+    ensures { (c d : Checked Operand) → IfOk a (λ x. x ≡ told c) → IfOk b (λ y. y ≡ told d) → IfOk result (λ s. (s.left ≡ told c) × (s.right ≡ told d)) }
+{
+    match a {
+        Ok(left) => match b {
+            Ok(right) => Ok(Sides { left, right }),
+            Err(error) => left_over(error, left),
+        },
+        Err(error) => left_over(error, b),
+    }
+}
+
+fn binary_operands(
+    alloc: Global,
+    scope: &Scope,
+    place: Place,
+    op: Option<BinaryOperator>,
+    a: Result<Result<Operand, Fault>, OutOfMemory>,
+    b: Result<Result<Operand, Fault>, OutOfMemory>,
+) -> Result<Result<Operand, Fault>, OutOfMemory>
+    ensures { (c d : Checked Operand) → IfOk a (λ x. x ≡ told c) → IfOk b (λ y. y ≡ told d) → IfOk result (λ r. r ≡ told (binary_rule scope.now place op c d)) }
+{
+    let sides = both_sides(a, b)?;
+    Ok(binary_rule(alloc, scope, place, op, sides.left, sides.right)?)
+}
+
+#[tactic(auto, unfolding(crate::specs::Expressions::signed_rule))]
+fn binary_form(
+    alloc: Global,
+    scope: &Scope,
+    place: Place,
+    sign: &Name,
+    a: Result<Result<Operand, Fault>, OutOfMemory>,
+    b: Result<Result<Operand, Fault>, OutOfMemory>,
+) -> Result<Result<Operand, Fault>, OutOfMemory>
+    ensures { (c d : Checked Operand) → IfOk a (λ x. x ≡ told c) → IfOk b (λ y. y ≡ told d) → IfOk result (λ r. r ≡ told (signed_rule scope.now place sign.now c d)) }
+{
+    let op = binary_operator(sign.as_slice());
+    binary_operands(alloc, scope, place, op, a, b)
+}
+
+fn subscript_form(
+    alloc: Global,
+    scope: &Scope,
+    place: Place,
+    a: Result<Result<Operand, Fault>, OutOfMemory>,
+    b: Result<Result<Operand, Fault>, OutOfMemory>,
+) -> Result<Result<Operand, Fault>, OutOfMemory>
+    ensures { (c d : Checked Operand) → IfOk a (λ x. x ≡ told c) → IfOk b (λ y. y ≡ told d) → IfOk result (λ r. r ≡ told (subscript_rule scope.now place c d)) }
+{
+    let sides = both_sides(a, b)?;
+    Ok(subscript_rule(alloc, scope, place, sides.left, sides.right)?)
+}
+
+#[cycle(expression)]
+fn member_form(
+    alloc: Global,
+    scope: &Scope,
+    locals: &[LocalName],
+    place: Place,
+    at: Place,
+    a: &Form,
+    is_arrow: bool,
+    name: &Name,
+) -> Result<Result<Operand, Fault>, OutOfMemory>
+    ensures { IfOk result (λ r. r ≡ told (typed scope.now locals.now (Written.Member place (written_of a.now) is_arrow at name.now))) }
+{
+    let x = expression(alloc, scope, locals, a)?;
+    member_rule(alloc, scope, place, at, is_arrow, name.as_slice(), x)
+}
+
+/// What the form at this place comes to.
+#[cycle(expression)]
+fn expression_at(
+    alloc: Global,
+    scope: &Scope,
+    locals: &[LocalName],
+    place: Place,
+    what: &FormWhat,
+) -> Result<Result<Operand, Fault>, OutOfMemory>
+    ensures { IfOk result (λ r. r ≡ told (typed scope.now locals.now (written_what what.now place))) }
+{
+    match what {
+        FormWhat::Number(n, kind) => Ok(Ok(literal(*n, *kind))),
+        FormWhat::Null => Ok(Ok(Operand::Null)),
+        FormWhat::Name(name) => Ok(name_rule(alloc, scope, locals, place, name.as_slice())?),
+        FormWhat::Prefix(sign, a) => prefix_form(alloc, scope, locals, place, sign, a.get()),
+        FormWhat::Cast(base, stars, a) => {
+            cast_form(alloc, scope, locals, place, base, *stars, a.get())
+        }
+        FormWhat::Binary(sign, a, b) => binary_form(
+            alloc,
+            scope,
+            place,
+            sign,
+            expression(alloc, scope, locals, a.get()),
+            expression(alloc, scope, locals, b.get()),
+        ),
+        FormWhat::Subscript(a, i) => subscript_form(
+            alloc,
+            scope,
+            place,
+            expression(alloc, scope, locals, a.get()),
+            expression(alloc, scope, locals, i.get()),
+        ),
+        FormWhat::Member(a, is_arrow, at, name) => {
+            member_form(alloc, scope, locals, place, *at, a.get(), *is_arrow, name)
+        }
+        FormWhat::Post(_, _) | FormWhat::Choice(_, _, _) | FormWhat::Call(_, _) => {
+            Ok(mismatch(place))
+        }
+        FormWhat::Text(_) | FormWhat::Base(_, _) => Ok(mismatch(place)),
+    }
+}
+
+/// The left operand is let go where memory was wanting for the right one.
+fn left_over<A: Drop, B: Drop>(error: OutOfMemory, _left: A) -> Result<B, OutOfMemory>
+    ensures { result ≡ Err error }
+{
+    Err(error)
+}
+
+/// What the two operands of a form come to.
+#[derive(Drop)]
+struct Sides {
+    left: Result<Operand, Fault>,
+    right: Result<Operand, Fault>,
+}

@@ -1,0 +1,57 @@
+-- Names (C99 6.5.1).
+use Rattle.std.specs.Prelude.{ℕ, List, ◌∷◌, Option, Some, None}
+use Rattle.mdr_core.specs.declared.code.Expr.TheVariants as expr
+use Rattle.mdr_core.specs.declared.code.Lval.{Lval}
+use Rattle.mdr_core.specs.declared.code.Lval.TheVariants as lval
+use Rattle.mdr_core.specs.declared.place.Place.{Place}
+use Rattle.mdr_core.specs.declared.value.Value.TheVariants as value
+use Rattle.mdr_core.specs.Layout.{chosen}
+use Rattle.mdr_faults.specs.declared.fault.FaultKind.TheVariants.{UnknownName, Incomplete}
+use Rattle.mdr_faults.specs.declared.scope.Constant.{Constant}
+use Rattle.mdr_faults.specs.declared.scope.Entity.{Entity}
+use Rattle.mdr_faults.specs.declared.scope.Entity.TheVariants as entity
+use Rattle.mdr_faults.specs.declared.scope.Named.{Named}
+use Rattle.mdr_faults.specs.declared.scope.Object.{Object}
+use Rattle.mdr_faults.specs.declared.scope.Scope.{Scope}
+use Rattle.mdr_faults.specs.declared.scope.Signature.{Signature}
+use Rattle.mdr_faults.specs.Faults.{Checked, Right, refuse, again, after}
+use Rattle.mdr_faults.specs.Scopes.{entity_named}
+use Rattle.mdr_operand.specs.declared.operand.Operand.{Operand}
+use Rattle.mdr_operand.specs.declared.operand.Operand.TheVariants as operand
+use Rattle.mdr_operand.specs.declared.room.LocalName.{LocalName}
+use Rattle.mdr_operand.specs.Forms.{number}
+use Rattle.mdr_operand.specs.Rooms.{local_named}
+
+-- an object by its lvalue: an array, or a single one
+abbrev pub object_operand : Lval → Object → Operand
+object_operand l o = chosen o.array (operand.Array l o.ty o.count) (operand.Object l o.ty)
+
+abbrev pub constant_operand : Constant → Operand
+constant_operand c = number (expr.Lit (value.Int c.kind c.number)) c.kind
+
+-- every function that is used has its body somewhere in the file (6.9, paragraph 3)
+unfoldable pub function_operand : Place → Signature → Checked Operand
+function_operand p f = chosen f.is_defined (Right (operand.Function f.number (f.result ∷ f.params))) (refuse p Incomplete)
+
+unfoldable pub entity_operand : Place → Entity → Checked Operand
+entity_operand p (entity.Constant c) = Right (constant_operand c)
+entity_operand p (entity.Global g o) = Right (object_operand (lval.Global g) o)
+entity_operand p (entity.Function f) = function_operand p f
+
+unfoldable pub file_name : Place → Option Named → Checked Operand
+file_name p None = refuse p UnknownName
+file_name p (Some entry) = after (again entry.means) (entity_operand p)
+
+abbrev pub place_of_local : LocalName → Lval
+place_of_local n = chosen n.is_object (lval.Object n.slot) (lval.Slot n.slot)
+
+unfoldable pub local_operand : LocalName → Checked Operand
+local_operand n = after (again n.means) (λ o. Right (object_operand (place_of_local n) o))
+
+abbrev pub local_or : Option LocalName → Checked Operand → Checked Operand
+local_or None other = other
+local_or (Some n) other = local_operand n
+
+-- a local hides what the file declares (6.2.1, paragraph 4)
+unfoldable pub name_rule : Scope → (locals : List LocalName) → Place → List ℕ → Checked Operand
+name_rule scope locals p name = local_or (local_named locals name) (file_name p (entity_named scope name))

@@ -1,0 +1,5 @@
+pub mod Parts
+pub mod Occurring
+pub mod Values
+pub mod Programs
+pub mod Orders

@@ -1,0 +1,14 @@
+//! The program of a source, or the first fault in it.
+#![tactic(auto)]
+
+mod laws;
+mod occurring;
+mod parts;
+mod program;
+mod values;
+mod whole;
+
+pub use laws::{type_tables_are_in_order, type_tables_have_first_numbers, types_of_tables_occur};
+pub use parts::{Parts, parts_of};
+pub use program::made;
+pub use whole::check;

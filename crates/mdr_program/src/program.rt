@@ -1,0 +1,87 @@
+// The program of a file.
+
+ghost use Rattle.std.specs.Prelude.{◌≡◌, [], IfOk};
+ghost use Rattle.mdr_check.specs.Tables.{type_table};
+ghost use Rattle.mdr_program.specs.Programs.{global_def, global_defs, made};
+
+use crate::occurring::occurring;
+use crate::parts::Parts;
+use crate::values::first_values;
+use mdr_check::{Variable, type_table};
+use mdr_core::{GlobalDef, Items, OutOfMemory, Program, StructDef, Ty};
+use mdr_faults::{copied, copied_type};
+use std::alloc::Global;
+
+fn global_def(
+    alloc: Global,
+    types: &[Ty],
+    structs: &[StructDef],
+    variables: &[Variable],
+    v: &Variable,
+) -> Result<GlobalDef, OutOfMemory>
+    ensures { IfOk result (λ def. def ≡ global_def types.now structs.now variables.now v.now) }
+{
+    Ok(GlobalDef {
+        name: copied(alloc, v.name.as_slice())?,
+        ty: copied_type(alloc, &v.object.ty)?,
+        count: v.object.count,
+        array: v.object.array,
+        ann: v.ann,
+        init: first_values(alloc, types, structs, variables, v.first.as_slice())?,
+    })
+}
+
+#[tactic(auto, unfolding(crate::specs::Programs::global_defs))]
+fn global_defs(
+    alloc: Global,
+    types: &[Ty],
+    structs: &[StructDef],
+    variables: &[Variable],
+) -> Result<Items<GlobalDef>, OutOfMemory>
+    ensures { IfOk result (λ defs. defs ≡ global_defs types.now structs.now variables.now variables.now) }
+{
+    let mut all = Items::new(alloc);
+    for v in variables {
+        all.push(global_def(alloc, types, structs, variables, v)?)?;
+    }
+    Ok(all)
+}
+
+/// A program with its type table and its globals.
+fn with_types(
+    alloc: Global,
+    types: Items<Ty>,
+    bare: Program,
+    variables: Items<Variable>,
+) -> Result<Program, OutOfMemory>
+    ensures { IfOk result (λ p. p ≡ record { types = types; structs = bare.structs; globals = global_defs types bare.structs variables variables; funcs = bare.funcs }) }
+{
+    let globals = global_defs(
+        alloc,
+        types.as_slice(),
+        bare.structs.as_slice(),
+        variables.as_slice(),
+    )?;
+    Ok(Program {
+        types,
+        structs: bare.structs,
+        globals,
+        funcs: bare.funcs,
+    })
+}
+
+/// The program of these structs, globals and functions.
+#[tactic(auto, unfolding(crate::specs::Programs::made))]
+pub fn made(alloc: Global, parts: Parts) -> Result<Program, OutOfMemory>
+    ensures { IfOk result (λ p. p ≡ made parts) }
+{
+    let types = occurring(alloc, &parts)?;
+    let bare = Program {
+        types: Items::new(alloc),
+        structs: parts.structs,
+        globals: Items::new(alloc),
+        funcs: parts.funcs,
+    };
+    let table = type_table(alloc, &bare, types.as_slice())?;
+    with_types(alloc, table, bare, parts.variables)
+}

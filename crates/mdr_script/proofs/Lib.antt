@@ -1,0 +1,5 @@
+pub mod Worths
+pub mod Splits
+pub mod Lists
+pub mod Once
+pub mod WorkedLaws

@@ -1,0 +1,30 @@
+// Why something was not read.
+
+ghost use Rattle.std.specs.Prelude.{◌≡◌};
+ghost use Rattle.mdr_script.specs.declared.unread.Unread.TheVariants.{OutOfMemory};
+
+use std::alloc::{AllocError, AllocFailed};
+
+/// Why something was not read.
+#[derive(Clone, Copy, Debug)]
+pub enum Unread {
+    /// It doesn't stand there.
+    Refused,
+    OutOfMemory,
+}
+
+impl From<AllocError> for Unread {
+    ghost from_gives = { λ _ e. e ≡ OutOfMemory };
+
+    fn from(_e: AllocError) -> Unread {
+        Unread::OutOfMemory
+    }
+}
+
+impl<T: Drop> From<AllocFailed<T>> for Unread {
+    ghost from_gives = { λ _ e. e ≡ OutOfMemory };
+
+    fn from(_e: AllocFailed<T>) -> Unread {
+        Unread::OutOfMemory
+    }
+}
