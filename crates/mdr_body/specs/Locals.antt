@@ -1,11 +1,13 @@
 -- Parameters and locals: what is declared, in which slot, and whether it is an object of its own (C99 6.2.1, 6.7, 6.9.1).
-use Rattle.std.specs.Prelude.{ℕ, ◌+◌, ◌==◌, ◌&&◌, ◌||◌, not, nat_lt, Bool, true, false, List, [], ◌∷◌, ◌++◌, length, take, slice_get, Option, Some, None, Result, Ok, Err}
+use Rattle.std.specs.Prelude.{ℕ, ◌+◌, ◌==◌, ◌&&◌, ◌||◌, not, nat_lt, Bool, true, false, List, [], ◌∷◌, ◌++◌, length, take, slice_get, is_some, Option, Some, None, Result, Ok, Err}
 use Rattle.std.specs.Str.{bytes_eq}
 use Rattle.mdr_core.specs.declared.place.Place.{Place}
 use Rattle.mdr_core.specs.declared.program.Local.{Local}
 use Rattle.mdr_core.specs.declared.types.Ty.{Ty, out-Ty}
 use Rattle.mdr_core.specs.declared.types.Ty.TheOpen.{Ty-F}
 use Rattle.mdr_core.specs.Layout.{chosen}
+use Rattle.mdr_syntax.specs.declared.tree.Const.{Const}
+use Rattle.mdr_syntax.specs.declared.tree.Const.TheVariants as const
 use Rattle.mdr_syntax.specs.declared.tree.Decl.{Decl, out-Decl}
 use Rattle.mdr_faults.specs.declared.fault.Fault.{Fault}
 use Rattle.mdr_faults.specs.declared.fault.FaultKind.TheVariants.{Redefined, Mismatch, Limit}
@@ -17,6 +19,7 @@ use Rattle.mdr_faults.specs.Declarations.{declarator, object_declared}
 use Rattle.mdr_faults.specs.Faults.{Checked, Right, refuse, after, demand, told}
 use Rattle.mdr_headings.specs.Structs.{name_or_none}
 use Rattle.mdr_operand.specs.declared.room.LocalName.{LocalName}
+use Rattle.mdr_operand.specs.Rooms.{local_named}
 use Rattle.mdr_operand.specs.Written.{Written, Line, Lines}
 use Rattle.mdr_body.specs.declared.here.Here.{Here}
 use Rattle.mdr_body.specs.declared.mention.Mention.TheVariants.{Address}
@@ -112,6 +115,15 @@ is_again first name (n ∷ ns) = is_in_block first name n || is_again first name
 abbrev pub has_place : (before : ℕ) → List ℕ → Bool
 has_place before name = not (before == 64) && not (nat_lt 63 (length name))
 
+-- a parameter or a local is no constant, and hides one of its name (6.6, paragraph 6; 6.2.1, paragraph 4)
+abbrev pub is_no_constant : List LocalName → Const → Bool
+is_no_constant names (const.Number at is_negative n k) = false
+is_no_constant names (const.Name at name) = is_some (local_named names name)
+
+abbrev pub has_no_size : List LocalName → Option Const → Bool
+has_no_size names None = false
+has_no_size names (Some c) = is_no_constant names c
+
 abbrev pub local_whole : (is_taken : Bool) → Decl → Checked Object → Checked Local
 local_whole is_taken d c = after c (λ o. Right (local_of is_taken d o))
 
@@ -120,7 +132,8 @@ unfoldable pub local_declared : Scope → (locks : List Bool) → Here → (is_t
 local_declared scope locks here is_taken d =
     demand (out-Decl d).place Redefined (not (is_again here.first (name_of d) here.names))
     (demand (out-Decl d).place Limit (has_place (length here.locals) (name_of d))
-    (local_whole is_taken d (local_object scope locks d)))
+    (demand (out-Decl d).place Mismatch (not (has_no_size here.names (out-Decl d).size))
+    (local_whole is_taken d (local_object scope locks d))))
 
 -- behind a declarator (6.2.1, paragraph 7)
 unfoldable pub with_local : Scope → (locks : List Bool) → (is_taken : Bool) → Decl → Here → Here

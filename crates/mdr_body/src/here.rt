@@ -1,6 +1,6 @@
 // What is known in front of a statement.
 
-use mdr_core::{Items, Local};
+use mdr_core::{Items, Local, Ty};
 use mdr_faults::Fault;
 use mdr_operand::LocalName;
 
@@ -23,4 +23,11 @@ pub struct Here {
     pub slot: u32,
     /// The number of the next statement.
     pub number: u32,
+}
+
+/// What is the same in a whole body: which structs hold a lock, and what the function gives.
+#[derive(Drop)]
+pub struct Frame {
+    pub locks: Items<bool>,
+    pub result: Result<Ty, Fault>,
 }

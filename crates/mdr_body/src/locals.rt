@@ -5,11 +5,11 @@ ghost use Rattle.std.specs.Option.{option_map, option_copied};
 ghost use Rattle.mdr_core.specs.declared.types.Ty.{Ty};
 ghost use Rattle.mdr_faults.specs.declared.scope.Object.{Object};
 ghost use Rattle.mdr_faults.specs.Faults.{Checked, told, after, demand};
-ghost use Rattle.mdr_faults.specs.declared.fault.FaultKind.TheVariants.{Redefined, Limit};
-ghost use Rattle.mdr_syntax.specs.declared.tree.Decl.{Decl};
+ghost use Rattle.mdr_faults.specs.declared.fault.FaultKind.TheVariants.{Redefined, Mismatch, Limit};
+ghost use Rattle.mdr_syntax.specs.declared.tree.Decl.{Decl, out-Decl};
 ghost use Rattle.mdr_operand.specs.Written.{written_of, lines_of};
 ghost use Rattle.mdr_body.specs.declared.mention.Mention.TheVariants.{Address};
-ghost use Rattle.mdr_body.specs.Locals.{flag, holds_lock, object_lock, member_lock, any_lock, locks_behind, struct_locks, without_lock, local_object, is_struct, is_own_object, lies_apart, name_of, named_local, local_of, is_in_block, is_again, has_place, local_whole, local_declared, with_local, takes, entered, left, numbered, parameter_object, parameter_means, parameter_taken, parameters_from, first_here};
+ghost use Rattle.mdr_body.specs.Locals.{flag, holds_lock, object_lock, member_lock, any_lock, locks_behind, struct_locks, without_lock, local_object, is_struct, is_own_object, lies_apart, name_of, named_local, local_of, is_in_block, is_again, has_place, is_no_constant, has_no_size, local_whole, local_declared, with_local, takes, entered, left, numbered, parameter_object, parameter_means, parameter_taken, parameters_from, first_here};
 
 use crate::here::{DeclaredLocal, Here};
 use crate::mention::{Mention, have, perhaps_mentions};
@@ -19,8 +19,8 @@ use mdr_faults::{
     object_declared, parameter, small,
 };
 use mdr_headings::declared_name;
-use mdr_operand::LocalName;
-use mdr_syntax::{Decl, Form, Node};
+use mdr_operand::{LocalName, local_named};
+use mdr_syntax::{Const, Decl, Form, Node};
 use std::alloc::{AllocError, Global};
 use std::mem;
 
@@ -91,7 +91,7 @@ fn without_lock(locks: &[bool], place: Place, o: Object) -> Result<Object, Fault
 
 /// The object that a local's declaration declares.
 #[tactic(auto, unfolding(crate::specs::Locals::local_object))]
-fn local_object(
+pub fn local_object(
     alloc: Global,
     scope: &Scope,
     locks: &[bool],
@@ -114,7 +114,7 @@ fn is_struct(ty: &Ty) -> bool
     }
 }
 
-fn is_own_object(is_taken: bool, o: &Object) -> bool
+pub fn is_own_object(is_taken: bool, o: &Object) -> bool
     ensures { result ≡ is_own_object is_taken o.now }
 {
     o.array || is_struct(&o.ty) || is_taken
@@ -196,6 +196,35 @@ fn local_whole(name: Name, is_taken: bool, o: Result<Object, Fault>) -> Result<L
     }
 }
 
+fn is_no_constant(names: &[LocalName], c: &Const) -> bool
+    ensures { result ≡ is_no_constant names.now c.now }
+{
+    match c {
+        Const::Number(_, _, _, _) => false,
+        Const::Name(_, name) => local_named(names, name.as_slice()).is_some(),
+    }
+}
+
+fn has_no_size(names: &[LocalName], size: &Option<Const>) -> bool
+    ensures { result ≡ has_no_size names.now size.now }
+{
+    match size {
+        None => false,
+        Some(c) => is_no_constant(names, c),
+    }
+}
+
+fn sized_rule(here: &Here, d: &Decl, c: Result<Local, Fault>) -> Result<Local, Fault>
+    ensures { (l : Checked Local) → c ≡ told l → result ≡ told (demand (out-Decl d.now).place Mismatch (not (has_no_size here.now.names (out-Decl d.now).size)) l) }
+{
+    demanded(
+        d.place,
+        FaultKind::Mismatch,
+        !has_no_size(here.names.as_slice(), &d.size),
+        c,
+    )
+}
+
 fn local_rule(
     here: &Here,
     place: Place,
@@ -234,7 +263,8 @@ fn local_declared(
     let name = declared_name(alloc, &d.name)?;
     let again = declared_name(alloc, &d.name)?;
     let whole = local_whole(again, is_taken, o);
-    Ok(local_rule(here, d.place, name.as_slice(), whole))
+    let sized = sized_rule(here, d, whole);
+    Ok(local_rule(here, d.place, name.as_slice(), sized))
 }
 
 /// Declares a local.

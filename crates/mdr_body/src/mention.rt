@@ -211,7 +211,7 @@ fn has_at(m: Mention, place: Place, what: &NodeWhat, name: &[u8]) -> bool
 }
 
 #[cycle(has)]
-fn perhaps_has(m: Mention, n: &Option<Boxed<Node>>, name: &[u8]) -> bool
+pub fn perhaps_has(m: Mention, n: &Option<Boxed<Node>>, name: &[u8]) -> bool
     ensures { result ≡ have m name.now (perhaps (option_map line_of n.now)) false }
 {
     match n {

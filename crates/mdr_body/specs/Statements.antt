@@ -1,0 +1,273 @@
+-- Statements: what each comes to, and what is known behind it (C99 6.8).
+use Rattle.std.specs.Prelude.{ℕ, ◌&&◌, ◌||◌, not, nat_lt, Bool, true, false, List, [], ◌∷◌, ◌++◌, length, Option, Some, None}
+use Rattle.mdr_core.specs.declared.code.Expr.{Expr}
+use Rattle.mdr_core.specs.declared.code.Lval.{Lval}
+use Rattle.mdr_core.specs.declared.code.Lval.TheVariants as lval
+use Rattle.mdr_core.specs.declared.code.Step.{Step}
+use Rattle.mdr_core.specs.declared.code.Step.TheVariants as step
+use Rattle.mdr_core.specs.declared.code.Stmt.{Stmt}
+use Rattle.mdr_core.specs.declared.place.Place.{Place}
+use Rattle.mdr_core.specs.declared.types.Ty.{Ty}
+use Rattle.mdr_core.specs.Layout.{chosen}
+use Rattle.mdr_core.specs.Types.{is_scalar}
+use Rattle.mdr_syntax.specs.declared.tree.Decl.{Decl, out-Decl}
+use Rattle.mdr_faults.specs.declared.fault.FaultKind.TheVariants.{Mismatch}
+use Rattle.mdr_faults.specs.declared.scope.Object.{Object}
+use Rattle.mdr_faults.specs.declared.scope.Scope.{Scope}
+use Rattle.mdr_faults.specs.Declarations.{is_void}
+use Rattle.mdr_faults.specs.Faults.{Checked, Right, refuse, again, after, both}
+use Rattle.mdr_headings.specs.Annotations.{is_character}
+use Rattle.mdr_operand.specs.declared.operand.Operand.{Operand}
+use Rattle.mdr_operand.specs.declared.operand.Scalar.{Scalar}
+use Rattle.mdr_operand.specs.declared.room.LocalName.{LocalName}
+use Rattle.mdr_operand.specs.Forms.{scalar_at, expression_of}
+use Rattle.mdr_operand.specs.Written.{Written, Line, Lines}
+use Rattle.mdr_body.specs.declared.here.Frame.{Frame}
+use Rattle.mdr_body.specs.declared.here.Here.{Here}
+use Rattle.mdr_body.specs.declared.mention.Mention.TheVariants.{Address}
+use Rattle.mdr_body.specs.Locals.{local_object, is_own_object, with_local, is_taken, entered, left, numbered}
+use Rattle.mdr_body.specs.Mentions.{perhaps_mentions, has, have}
+
+-- ---- what statements are made of
+
+-- the rules of expressions, assignments and calls
+pub record Rules : Type 0 where
+  -- an expression
+  pub typed : Scope → List LocalName → Written → Checked Operand
+  -- an assignment, by its operator (6.5.16)
+  pub assigned : Scope → List LocalName → (at : Place) → (operator : List ℕ) → Written → Written → Checked Step
+  -- what is a statement by itself: a call (6.8.3)
+  pub called : Scope → List LocalName → Written → Checked Step
+  -- a value or a call's result, given to an object of the type, as if by assignment (6.7.8, paragraph 11)
+  pub stored : Scope → List LocalName → Place → Lval → Ty → Written → Checked Step
+  -- the same, given to the caller (6.8.6.4, paragraph 3)
+  pub returned : Scope → List LocalName → Place → Ty → Written → Checked Step
+
+abbrev pub stmt : ℕ → Step → Stmt
+stmt n s = record { number = n; step = s }
+
+abbrev pub single : ℕ → Step → Checked (List Stmt)
+single n s = Right (stmt n s ∷ [])
+
+abbrev pub stated : ℕ → Checked Step → Checked (List Stmt)
+stated n c = after c (single n)
+
+-- ---- conditions (6.8.4.1, 6.8.5)
+
+-- a scalar (paragraphs 1 and 2)
+abbrev pub tested : Place → Operand → Checked Expr
+tested p x = after (scalar_at p x) (λ v. Right (expression_of v))
+
+unfoldable pub condition : Rules → Scope → Here → Place → Written → Checked Expr
+condition rules scope here p w = after (rules.typed scope here.names w) (tested p)
+
+abbrev pub some : Expr → Checked (Option Expr)
+some e = Right (Some e)
+
+unfoldable pub perhaps_condition : Rules → Scope → Here → Place → Option Written → Checked (Option Expr)
+perhaps_condition rules scope here p None = Right None
+perhaps_condition rules scope here p (Some w) = after (condition rules scope here p w) some
+
+-- ---- declarations (6.7)
+
+-- a text as an initialiser
+abbrev pub text_of : Written → Option (List ℕ)
+text_of (Written.Text p bytes) = Some bytes
+text_of w = None
+
+-- it is for an array of characters, in which it has room but perhaps for its closing zero (6.7.8, paragraph 14)
+abbrev pub takes_text : Object → (bytes : ℕ) → Bool
+takes_text o n = is_character o.ty && (o.array && not (nat_lt o.count n))
+
+abbrev pub is_single : Object → Bool
+is_single o = is_scalar o.ty && not o.array
+
+abbrev pub own_place : (is_object : Bool) → (slot : ℕ) → Lval
+own_place true slot = lval.Object slot
+own_place false slot = lval.Slot slot
+
+abbrev pub initial_by : Rules → Scope → List LocalName → Place → (slot : ℕ) → (is_taken : Bool) → Written → Option (List ℕ) → Object → Checked Step
+initial_by rules scope names p slot t w (Some bytes) o = chosen (takes_text o (length bytes)) (Right (step.Text slot bytes)) (refuse p Mismatch)
+initial_by rules scope names p slot t w None o = chosen (is_single o) (rules.stored scope names p (own_place (is_own_object t o) slot) o.ty w) (refuse p Mismatch)
+
+-- the initialiser is in the scope of what it is for
+unfoldable pub initial_step : Rules → Scope → Frame → Here → (is_taken : Bool) → Decl → Written → Checked Step
+initial_step rules scope frame here t d w =
+    after (local_object scope frame.locks d)
+    (initial_by rules scope (with_local scope frame.locks t d here).names (out-Decl d).place here.slot t w (text_of w))
+
+abbrev pub declared_then : (number slot : ℕ) → Step → Checked (List Stmt)
+declared_then n slot s = Right (stmt n (step.Declare slot) ∷ stmt n s ∷ [])
+
+-- the declarator, and its initialiser, which have one number
+unfoldable pub local_made : Rules → Scope → Frame → Here → (is_taken : Bool) → Decl → Option Written → Checked (List Stmt)
+local_made rules scope frame here t d None = single here.number (step.Declare here.slot)
+local_made rules scope frame here t d (Some w) = after (initial_step rules scope frame here t d w) (declared_then here.number here.slot)
+
+-- ---- jumps (6.8.6)
+
+-- `break` and `continue` stand in a loop (6.8.6.2, 6.8.6.3)
+abbrev pub jumped : Place → (in_loop : Bool) → Step → Checked Step
+jumped p true s = Right s
+jumped p false s = refuse p Mismatch
+
+-- without a value where the function gives none (6.8.6.4, paragraph 1)
+abbrev pub bare_return : Place → Ty → Checked Step
+bare_return p t = chosen (is_void t) (Right (step.Return None)) (refuse p Mismatch)
+
+abbrev pub value_return : Rules → Scope → Here → Place → Written → Ty → Checked Step
+value_return rules scope here p w t = chosen (is_void t) (refuse p Mismatch) (rules.returned scope here.names p t w)
+
+abbrev pub return_by : Rules → Scope → Here → Place → Option Written → Ty → Checked Step
+return_by rules scope here p None t = bare_return p t
+return_by rules scope here p (Some w) t = value_return rules scope here p w t
+
+unfoldable pub return_step : Rules → Scope → Frame → Here → Place → Option Written → Checked Step
+return_step rules scope frame here p e = after (again frame.result) (return_by rules scope here p e)
+
+-- ---- statements without parts
+
+-- of all others none stands where these do; `do` and `switch` aren't built
+abbrev pub simple_made : Rules → Scope → Frame → (in_loop : Bool) → Here → (is_taken : Bool) → Line → Checked (List Stmt)
+simple_made rules scope frame in_loop here t (Line.Empty p) = single here.number step.Empty
+simple_made rules scope frame in_loop here t (Line.Block p ls) = refuse p Mismatch
+simple_made rules scope frame in_loop here t (Line.Local p d init) = local_made rules scope frame here t d init
+simple_made rules scope frame in_loop here t (Line.Assign p at op a b) = stated here.number (rules.assigned scope here.names at op a b)
+simple_made rules scope frame in_loop here t (Line.Plain p w) = stated here.number (rules.called scope here.names w)
+simple_made rules scope frame in_loop here t (Line.If p e one other) = refuse p Mismatch
+simple_made rules scope frame in_loop here t (Line.While p e body) = refuse p Mismatch
+simple_made rules scope frame in_loop here t (Line.For p init test step body) = refuse p Mismatch
+simple_made rules scope frame in_loop here t (Line.Do p body e) = refuse p Mismatch
+simple_made rules scope frame in_loop here t (Line.Switch p e) = refuse p Mismatch
+simple_made rules scope frame in_loop here t (Line.Return p e) = stated here.number (return_step rules scope frame here p e)
+simple_made rules scope frame in_loop here t (Line.Break p) = stated here.number (jumped p in_loop step.Break)
+simple_made rules scope frame in_loop here t (Line.Continue p) = stated here.number (jumped p in_loop step.Continue)
+
+-- behind one, but for its number
+abbrev pub simple_behind : Scope → Frame → Here → (is_taken : Bool) → Line → Here
+simple_behind scope frame here t (Line.Local p d init) = with_local scope frame.locks t d here
+simple_behind scope frame here t l = here
+
+-- ---- the head of a `for` (6.8.5.3)
+
+abbrev pub appended : {A : Type 0} → List A → List A → Checked (List A)
+appended xs ys = Right (xs ++ ys)
+
+abbrev pub pair : {A B : Type 0} → A → B → Checked (A × B)
+pair x y = Right (x, y)
+
+-- whether the address of what the head declares is taken in the head or in the body
+abbrev pub taken_behind : Option (List ℕ) → Option Written → (rest : Lines) → (test : Option Written) → (step : Lines) → (body : Line) → Bool
+taken_behind None init rest test step body = false
+taken_behind (Some name) init rest test step body = perhaps_mentions Address name init || have Address name rest (perhaps_mentions Address name test || (have Address name step false || has Address name body))
+
+abbrev pub head_taken : Line → (rest : Lines) → (test : Option Written) → (step : Lines) → (body : Line) → Bool
+head_taken (Line.Local p d init) rest test step body = taken_behind (out-Decl d).name init rest test step body
+head_taken l rest test step body = false
+
+unfoldable pub heads_made : Rules → Scope → Frame → Here → (test : Option Written) → (step : Lines) → (body : Line) → Lines → Checked (List Stmt)
+heads_made rules scope frame here test step body Lines.End = Right []
+heads_made rules scope frame here test step body (Lines.Then l ls) =
+    both (simple_made rules scope frame false here (head_taken l ls test step body) l)
+    (heads_made rules scope frame (simple_behind scope frame here (head_taken l ls test step body) l) test step body ls) appended
+
+unfoldable pub heads_behind : Scope → Frame → Here → (test : Option Written) → (step : Lines) → (body : Line) → Lines → Here
+heads_behind scope frame here test step body Lines.End = here
+heads_behind scope frame here test step body (Lines.Then l ls) = heads_behind scope frame (simple_behind scope frame here (head_taken l ls test step body) l) test step body ls
+
+-- the last part: nothing, or a statement
+abbrev pub steps_made : Rules → Scope → Frame → Here → Lines → Checked (List Stmt)
+steps_made rules scope frame here Lines.End = Right []
+steps_made rules scope frame here (Lines.Then l ls) = simple_made rules scope frame false here false l
+
+abbrev pub steps_behind : Scope → Frame → Here → Lines → Here
+steps_behind scope frame here Lines.End = here
+steps_behind scope frame here (Lines.Then l ls) = simple_behind scope frame here false l
+
+-- the statements of the init, the test and the step, which share the number of the `for`
+abbrev pub ForHead : Type 0
+ForHead = (List Stmt × Option Expr) × List Stmt
+
+unfoldable pub for_head : Rules → Scope → Frame → Here → Place → (init : Lines) → (test : Option Written) → (step : Lines) → (body : Line) → Checked ForHead
+for_head rules scope frame here p init test step body =
+    both (both (heads_made rules scope frame here test step body init) (perhaps_condition rules scope (heads_behind scope frame here test step body init) p test) pair)
+    (steps_made rules scope frame (heads_behind scope frame here test step body init) step) pair
+
+unfoldable pub behind_head : Scope → Frame → Here → (init : Lines) → (test : Option Written) → (step : Lines) → (body : Line) → Here
+behind_head scope frame here init test step body = numbered (steps_behind scope frame (heads_behind scope frame here test step body init) step)
+
+-- ---- statements with parts
+
+-- the statements of a block: those of the part that it is of another statement, or one
+abbrev pub block_of : List Stmt → Checked (List Stmt)
+block_of ss = single 0 (step.Block ss)
+
+abbrev pub as_part : (is_part : Bool) → Checked (List Stmt) → Checked (List Stmt)
+as_part true c = c
+as_part false c = after c block_of
+
+abbrev pub if_of : ℕ → Expr × List Stmt → List Stmt → Checked (List Stmt)
+if_of n half other = single n (step.If half.0 half.1 other)
+
+abbrev pub while_of : ℕ → Expr → List Stmt → Checked (List Stmt)
+while_of n e body = single n (step.While e body)
+
+abbrev pub for_of : ℕ → ForHead → List Stmt → Checked (List Stmt)
+for_of n head body = single n (step.For head.0.0 head.0.1 head.1 body)
+
+-- what is known behind a statement, whatever is wrong in it: its locals are declared, and its numbers and slots are counted
+abbrev mutual
+  pub line_behind : Scope → Frame → Here → (is_taken : Bool) → Line → Here
+  line_behind scope frame here t (Line.Empty p) = numbered here
+  line_behind scope frame here t (Line.Block p ls) = left here (lines_behind scope frame (entered here) ls)
+  line_behind scope frame here t (Line.Local p d init) = numbered (with_local scope frame.locks t d here)
+  line_behind scope frame here t (Line.Assign p at op a b) = numbered here
+  line_behind scope frame here t (Line.Plain p w) = numbered here
+  line_behind scope frame here t (Line.If p e one other) = perhaps_behind scope frame (line_behind scope frame (numbered here) false one) other
+  line_behind scope frame here t (Line.While p e body) = line_behind scope frame (numbered here) false body
+  line_behind scope frame here t (Line.For p init test step body) = left here (line_behind scope frame (behind_head scope frame (entered here) init test step body) false body)
+  line_behind scope frame here t (Line.Do p body e) = numbered here
+  line_behind scope frame here t (Line.Switch p e) = numbered here
+  line_behind scope frame here t (Line.Return p e) = numbered here
+  line_behind scope frame here t (Line.Break p) = numbered here
+  line_behind scope frame here t (Line.Continue p) = numbered here
+
+  pub perhaps_behind : Scope → Frame → Here → Lines → Here
+  perhaps_behind scope frame here Lines.End = here
+  perhaps_behind scope frame here (Lines.Then l ls) = line_behind scope frame here false l
+
+  pub lines_behind : Scope → Frame → Here → Lines → Here
+  lines_behind scope frame here Lines.End = here
+  lines_behind scope frame here (Lines.Then l ls) = lines_behind scope frame (line_behind scope frame here (is_taken l ls) l) ls
+
+-- each part of an `if` and of a loop is a block (6.8.4, paragraph 3; 6.8.5, paragraph 5)
+abbrev mutual
+  pub line_made : Rules → Scope → Frame → (in_loop is_part : Bool) → Here → (is_taken : Bool) → Line → Checked (List Stmt)
+  line_made rules scope frame in_loop is_part here t (Line.Empty p) = simple_made rules scope frame in_loop here t (Line.Empty p)
+  line_made rules scope frame in_loop is_part here t (Line.Block p ls) = as_part is_part (lines_made rules scope frame in_loop (entered here) ls)
+  line_made rules scope frame in_loop is_part here t (Line.Local p d init) = simple_made rules scope frame in_loop here t (Line.Local p d init)
+  line_made rules scope frame in_loop is_part here t (Line.Assign p at op a b) = simple_made rules scope frame in_loop here t (Line.Assign p at op a b)
+  line_made rules scope frame in_loop is_part here t (Line.Plain p w) = simple_made rules scope frame in_loop here t (Line.Plain p w)
+  line_made rules scope frame in_loop is_part here t (Line.If p e one other) =
+      both (both (condition rules scope here p e) (line_made rules scope frame in_loop true (numbered here) false one) pair)
+      (perhaps_made rules scope frame in_loop (line_behind scope frame (numbered here) false one) other) (if_of here.number)
+  line_made rules scope frame in_loop is_part here t (Line.While p e body) =
+      both (condition rules scope here p e) (line_made rules scope frame true true (numbered here) false body) (while_of here.number)
+  line_made rules scope frame in_loop is_part here t (Line.For p init test step body) =
+      both (for_head rules scope frame (entered here) p init test step body)
+      (line_made rules scope frame true true (behind_head scope frame (entered here) init test step body) false body) (for_of here.number)
+  line_made rules scope frame in_loop is_part here t (Line.Do p body e) = simple_made rules scope frame in_loop here t (Line.Do p body e)
+  line_made rules scope frame in_loop is_part here t (Line.Switch p e) = simple_made rules scope frame in_loop here t (Line.Switch p e)
+  line_made rules scope frame in_loop is_part here t (Line.Return p e) = simple_made rules scope frame in_loop here t (Line.Return p e)
+  line_made rules scope frame in_loop is_part here t (Line.Break p) = simple_made rules scope frame in_loop here t (Line.Break p)
+  line_made rules scope frame in_loop is_part here t (Line.Continue p) = simple_made rules scope frame in_loop here t (Line.Continue p)
+
+  pub perhaps_made : Rules → Scope → Frame → (in_loop : Bool) → Here → Lines → Checked (List Stmt)
+  perhaps_made rules scope frame in_loop here Lines.End = Right []
+  perhaps_made rules scope frame in_loop here (Lines.Then l ls) = line_made rules scope frame in_loop true here false l
+
+  pub lines_made : Rules → Scope → Frame → (in_loop : Bool) → Here → Lines → Checked (List Stmt)
+  lines_made rules scope frame in_loop here Lines.End = Right []
+  lines_made rules scope frame in_loop here (Lines.Then l ls) =
+      both (line_made rules scope frame in_loop false here (is_taken l ls) l)
+      (lines_made rules scope frame in_loop (line_behind scope frame here (is_taken l ls) l) ls) appended

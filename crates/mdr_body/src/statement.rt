@@ -1,0 +1,225 @@
+// Statements with parts, and blocks (C99 6.8.2, 6.8.4, 6.8.5).
+
+ghost use Rattle.std.specs.Prelude.{◌≡◌, ◌||◌, ◌+◌, ◌<◌, IfOk, OnOk, List, drop, length, false};
+ghost use Rattle.std.specs.Option.{option_map};
+ghost use Rattle.mdr_core.specs.declared.code.Expr.{Expr};
+ghost use Rattle.mdr_core.specs.declared.code.Stmt.{Stmt};
+ghost use Rattle.mdr_faults.specs.Faults.{Checked, told, both};
+ghost use Rattle.mdr_operand.specs.Written.{written_of, line_of, lines_of, perhaps};
+ghost use Rattle.mdr_body.specs.declared.mention.Mention.TheVariants.{Address};
+ghost use Rattle.mdr_body.specs.Locals.{is_taken, numbered};
+ghost use Rattle.mdr_body.specs.Mentions.{perhaps_mentions, has, have, line_what};
+ghost use Rattle.mdr_body.specs.Statements.{condition, pair, taken_behind, head_taken, ForHead, as_part, if_of, while_of, for_of};
+
+use crate::here::Here;
+use crate::locals::{count, takes};
+use crate::mention::{Mention, has, have, perhaps_has, perhaps_mentions};
+use crate::simple::{condition, single};
+use crate::typing::Typing;
+use mdr_core::{Boxed, Expr, Items, Name, OutOfMemory, Place, Step, Stmt};
+use mdr_faults::{Fault, Scope, both};
+use mdr_syntax::{Form, Node, NodeWhat};
+use std::alloc::{AllocError, Global};
+
+// ---- whose addresses are taken
+
+fn is_taken_at(place: Place, what: &NodeWhat, rest: &[Node]) -> bool
+    ensures { result ≡ is_taken (line_what what.now place) (lines_of rest.now) }
+{
+    match what {
+        NodeWhat::Local(d, init) => takes(&d.name, init, rest),
+        NodeWhat::Empty => false,
+        NodeWhat::Block(_) => false,
+        NodeWhat::Assign(_, _, _, _) => false,
+        NodeWhat::Plain(_) => false,
+        NodeWhat::If(_, _, _) => false,
+        NodeWhat::While(_, _) => false,
+        NodeWhat::For(_, _, _, _) => false,
+        NodeWhat::Do(_, _) => false,
+        NodeWhat::Switch(_, _) => false,
+        NodeWhat::Return(_) => false,
+        NodeWhat::Break => false,
+        NodeWhat::Continue => false,
+    }
+}
+
+fn is_taken(n: &Node, rest: &[Node]) -> bool
+    ensures { result ≡ is_taken (line_of n.now) (lines_of rest.now) }
+{
+    is_taken_at(n.place, &n.what, rest)
+}
+
+/// The same of the statement of number i among those of its list.
+pub fn taken_at(n: &Node, nodes: &[Node], i: usize) -> bool
+    requires { i < length nodes.now }
+    ensures { result ≡ is_taken (line_of n.now) (lines_of (drop (i + 1) nodes.now)) }
+{
+    is_taken(n, &nodes[i + 1..])
+}
+
+fn tail_has(test: &Option<Form>, step: &Option<Boxed<Node>>, body: &Node, name: &[u8]) -> bool
+    ensures { result ≡ (perhaps_mentions Address name.now (option_map written_of test.now) || (have Address name.now (perhaps (option_map line_of step.now)) false || has Address name.now (line_of body.now))) }
+{
+    perhaps_mentions(Mention::Address, test, name)
+        || perhaps_has(Mention::Address, step, name)
+        || has(Mention::Address, body, name)
+}
+
+fn taken_behind(
+    name: &Option<Name>,
+    init: &Option<Form>,
+    rest: &[Node],
+    test: &Option<Form>,
+    step: &Option<Boxed<Node>>,
+    body: &Node,
+) -> bool
+    ensures { result ≡ taken_behind name.now (option_map written_of init.now) (lines_of rest.now) (option_map written_of test.now) (perhaps (option_map line_of step.now)) (line_of body.now) }
+{
+    match name {
+        None => false,
+        Some(name) => {
+            let behind = tail_has(test, step, body, name.as_slice());
+            perhaps_mentions(Mention::Address, init, name.as_slice())
+                || have(Mention::Address, rest, name.as_slice(), behind)
+        }
+    }
+}
+
+fn head_taken_at(
+    place: Place,
+    what: &NodeWhat,
+    rest: &[Node],
+    test: &Option<Form>,
+    step: &Option<Boxed<Node>>,
+    body: &Node,
+) -> bool
+    ensures { result ≡ head_taken (line_what what.now place) (lines_of rest.now) (option_map written_of test.now) (perhaps (option_map line_of step.now)) (line_of body.now) }
+{
+    match what {
+        NodeWhat::Local(d, init) => taken_behind(&d.name, init, rest, test, step, body),
+        NodeWhat::Empty => false,
+        NodeWhat::Block(_) => false,
+        NodeWhat::Assign(_, _, _, _) => false,
+        NodeWhat::Plain(_) => false,
+        NodeWhat::If(_, _, _) => false,
+        NodeWhat::While(_, _) => false,
+        NodeWhat::For(_, _, _, _) => false,
+        NodeWhat::Do(_, _) => false,
+        NodeWhat::Switch(_, _) => false,
+        NodeWhat::Return(_) => false,
+        NodeWhat::Break => false,
+        NodeWhat::Continue => false,
+    }
+}
+
+fn head_taken(
+    n: &Node,
+    rest: &[Node],
+    test: &Option<Form>,
+    step: &Option<Boxed<Node>>,
+    body: &Node,
+) -> bool
+    ensures { result ≡ head_taken (line_of n.now) (lines_of rest.now) (option_map written_of test.now) (perhaps (option_map line_of step.now)) (line_of body.now) }
+{
+    head_taken_at(n.place, &n.what, rest, test, step, body)
+}
+
+pub fn head_taken_in(
+    n: &Node,
+    nodes: &[Node],
+    i: usize,
+    test: &Option<Form>,
+    step: &Option<Boxed<Node>>,
+    body: &Node,
+) -> bool
+    requires { i < length nodes.now }
+    ensures { result ≡ head_taken (line_of n.now) (lines_of (drop (i + 1) nodes.now)) (option_map written_of test.now) (perhaps (option_map line_of step.now)) (line_of body.now) }
+{
+    head_taken(n, &nodes[i + 1..], test, step, body)
+}
+
+// ---- parts and their numbers
+
+pub fn paired<A: Drop, B: Drop>(a: Result<A, Fault>, b: Result<B, Fault>) -> Result<(A, B), Fault>
+    ensures { (c : Checked A) (d : Checked B) → a ≡ told c → b ≡ told d → result ≡ told (both c d pair) }
+{
+    both(a, b)
+}
+
+pub fn condition_counted<R: Typing>(
+    alloc: Global,
+    rules: &R,
+    scope: &Scope,
+    here: &mut Here,
+    place: Place,
+    form: &Form,
+) -> Result<Result<Expr, Fault>, OutOfMemory>
+    ensures told { IfOk result (λ r. r ≡ told (condition (R.rules rules.now) scope.now here.old place (written_of form.now))) }
+    ensures grown { OnOk result (here.new ≡ numbered here.old) }
+{
+    let made = condition(alloc, rules, scope, here, place, form)?;
+    count(here)?;
+    Ok(made)
+}
+
+// ---- statements of their parts
+
+pub fn as_part(
+    alloc: Global,
+    is_part: bool,
+    made: Result<Items<Stmt>, Fault>,
+) -> Result<Result<Items<Stmt>, Fault>, AllocError>
+    ensures { (c : Checked (List Stmt)) → made ≡ told c → IfOk result (λ r. r ≡ told (as_part is_part c)) }
+{
+    if is_part {
+        return Ok(made);
+    }
+    match made {
+        Ok(ss) => Ok(Ok(single(alloc, 0, Step::Block(ss))?)),
+        Err(fault) => Ok(Err(fault)),
+    }
+}
+
+pub fn if_of(
+    alloc: Global,
+    number: u32,
+    half: Result<(Expr, Items<Stmt>), Fault>,
+    other: Result<Items<Stmt>, Fault>,
+) -> Result<Result<Items<Stmt>, Fault>, AllocError>
+    ensures { (c : Checked (Expr × List Stmt)) (d : Checked (List Stmt)) → half ≡ told c → other ≡ told d → IfOk result (λ r. r ≡ told (both c d (if_of number))) }
+{
+    match both(half, other) {
+        Ok(((e, one), other)) => Ok(Ok(single(alloc, number, Step::If(e, one, other))?)),
+        Err(fault) => Ok(Err(fault)),
+    }
+}
+
+pub fn while_of(
+    alloc: Global,
+    number: u32,
+    e: Result<Expr, Fault>,
+    body: Result<Items<Stmt>, Fault>,
+) -> Result<Result<Items<Stmt>, Fault>, AllocError>
+    ensures { (c : Checked Expr) (d : Checked (List Stmt)) → e ≡ told c → body ≡ told d → IfOk result (λ r. r ≡ told (both c d (while_of number))) }
+{
+    match both(e, body) {
+        Ok((e, body)) => Ok(Ok(single(alloc, number, Step::While(e, body))?)),
+        Err(fault) => Ok(Err(fault)),
+    }
+}
+
+pub fn for_of(
+    alloc: Global,
+    number: u32,
+    head: Result<((Items<Stmt>, Option<Expr>), Items<Stmt>), Fault>,
+    body: Result<Items<Stmt>, Fault>,
+) -> Result<Result<Items<Stmt>, Fault>, AllocError>
+    ensures { (c : Checked ForHead) (d : Checked (List Stmt)) → head ≡ told c → body ≡ told d → IfOk result (λ r. r ≡ told (both c d (for_of number))) }
+{
+    match both(head, body) {
+        Ok((((init, test), step), body)) => {
+            Ok(Ok(single(alloc, number, Step::For(init, test, step, body))?))
+        }
+        Err(fault) => Ok(Err(fault)),
+    }
+}
