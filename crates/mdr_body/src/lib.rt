@@ -13,7 +13,8 @@ pub use here::{DeclaredLocal, Frame, Here};
 pub use locals::{count, declare_local, first_here, leave, parameter_objects, struct_locks, takes};
 pub use mention::{Mention, has, have, mentions, perhaps_mentions, uses};
 pub use simple::{
-    assigned, called, condition, jumped, local_made, perhaps_condition, returned, single, stated,
+    assigned, broken, called, condition, continued, local_made, perhaps_condition, returned,
+    single, stated,
 };
 pub use statement::{
     as_part, condition_counted, for_of, head_taken_in, if_of, paired, taken_at, while_of,

@@ -295,10 +295,24 @@ pub fn local_made<R: Typing>(
 
 // ---- jumps
 
-pub fn jumped(place: Place, in_loop: bool, step: Step) -> Result<Step, Fault>
-    ensures { result ≡ told (jumped place in_loop step) }
+/// A `break` at this place.
+pub fn broken(place: Place, in_loop: bool) -> Result<Step, Fault>
+    ensures { result ≡ told (jumped place in_loop Step.Break) }
 {
-    if in_loop { Ok(step) } else { mismatch(place) }
+    if in_loop {
+        return Ok(Step::Break);
+    }
+    mismatch(place)
+}
+
+/// A `continue` at this place.
+pub fn continued(place: Place, in_loop: bool) -> Result<Step, Fault>
+    ensures { result ≡ told (jumped place in_loop Step.Continue) }
+{
+    if in_loop {
+        return Ok(Step::Continue);
+    }
+    mismatch(place)
 }
 
 fn bare_return(place: Place, ty: &Ty) -> Result<Step, Fault>
