@@ -158,7 +158,9 @@ fn simple_node<R: Typing>(
     ensures told { IfOk result (λ r. r ≡ told (simple_made (R.rules rules.now) scope.now frame.now false here.old is_taken (line_of n.now))) }
     ensures grown { OnOk result (here.new ≡ simple_behind scope.now frame.now here.old is_taken (line_of n.now)) }
 {
-    simple_made(alloc, rules, scope, frame, false, here, is_taken, n.place, &n.what)
+    simple_made(
+        alloc, rules, scope, frame, false, here, is_taken, n.place, &n.what,
+    )
 }
 
 pub fn simple_counted<R: Typing>(
@@ -175,7 +177,9 @@ pub fn simple_counted<R: Typing>(
     ensures told { IfOk result (λ r. r ≡ told (simple_made (R.rules rules.now) scope.now frame.now in_loop here.old is_taken (line_what what.now place))) }
     ensures grown { OnOk result (here.new ≡ numbered (simple_behind scope.now frame.now here.old is_taken (line_what what.now place))) }
 {
-    let made = simple_made(alloc, rules, scope, frame, in_loop, here, is_taken, place, what)?;
+    let made = simple_made(
+        alloc, rules, scope, frame, in_loop, here, is_taken, place, what,
+    )?;
     count(here)?;
     Ok(made)
 }
@@ -217,7 +221,13 @@ fn heads<R: Typing>(
     for i in 0..init.len() {
         let n = &init[i];
         let made = simple_node(
-            alloc, rules, scope, frame, here, head_taken_in(n, init, i, test, step, body), n,
+            alloc,
+            rules,
+            scope,
+            frame,
+            here,
+            head_taken_in(n, init, i, test, step, body),
+            n,
         )?;
         all = followed(all, made)?;
     }
@@ -295,7 +305,9 @@ pub fn for_head<R: Typing>(
     ensures told { IfOk result (λ r. r ≡ told (for_head (R.rules rules.now) scope.now frame.now here.old place (lines_of init.now) (option_map written_of test.now) (perhaps (option_map line_of step.now)) (line_of body.now))) }
     ensures grown { OnOk result (here.new ≡ behind_head scope.now frame.now here.old (lines_of init.now) (option_map written_of test.now) (perhaps (option_map line_of step.now)) (line_of body.now)) }
 {
-    let two = init_and_test(alloc, rules, scope, frame, here, place, init, test, step, body)?;
+    let two = init_and_test(
+        alloc, rules, scope, frame, here, place, init, test, step, body,
+    )?;
     let third = last_counted(alloc, rules, scope, frame, here, step)?;
     Ok(paired(two, third))
 }
