@@ -14,10 +14,11 @@ pub use locals::{count, declare_local, first_here, leave, parameter_objects, str
 pub use mention::{Mention, has, have, mentions, perhaps_mentions, uses};
 pub use simple::{
     assigned, broken, called, condition, continued, local_made, perhaps_condition, returned,
-    single, stated,
+    simple_made, single, stated,
 };
 pub use statement::{
-    as_part, condition_counted, for_of, head_taken_in, if_of, paired, taken_at, while_of,
+    as_part, condition_counted, for_head, for_of, head_taken_in, if_of, paired, simple_counted,
+    taken_at, while_of,
 };
 pub use typing::Typing;
-pub use whole::{body_of, frame_of};
+pub use whole::{body_of, declared_locals, frame_of};
