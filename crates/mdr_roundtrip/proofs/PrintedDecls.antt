@@ -1,5 +1,5 @@
 -- What is printed of a declaration or an initialiser doesn't show its places.
-use Rattle.std.proofs.Common.{◌≡◌, ℕ, Bool, Option, Some, None, List, [], ◌∷◌, map, refl, sym, ap, subst, ◌∙◌}
+use Rattle.std.proofs.Common.{◌≡◌, ℕ, Bool, Option, Some, None, List, map, refl, sym, ap, subst, ◌∙◌}
 use Rattle.std.specs.Prelude.{◌&&◌, is_none}
 use Rattle.std.specs.Option.{option_map}
 use Rattle.mdr_syntax.specs.declared.tree.AnnText.{AnnText}
@@ -8,12 +8,11 @@ use Rattle.mdr_syntax.specs.declared.tree.Base.{Base}
 use Rattle.mdr_syntax.specs.declared.tree.Base.TheVariants as base
 use Rattle.mdr_syntax.specs.declared.tree.Const.{Const}
 use Rattle.mdr_syntax.specs.declared.tree.Const.TheVariants as const
-use Rattle.mdr_syntax.specs.declared.tree.Decl.{Decl, roll-Decl}
+use Rattle.mdr_syntax.specs.declared.tree.Decl.{Decl}
 use Rattle.mdr_syntax.specs.declared.tree.Decl.TheOpen.{Decl-F}
 use Rattle.mdr_syntax.specs.declared.tree.Decl.TheFolds.{ind-Decl, map-Decl, fold-roll-Decl}
 use Rattle.mdr_syntax.specs.declared.tree.Elem.{Elem}
 use Rattle.mdr_syntax.specs.declared.tree.FieldName.{FieldName}
-use Rattle.mdr_syntax.specs.declared.tree.Init
 use Rattle.mdr_syntax.specs.declared.tree.Init.{Init}
 use Rattle.mdr_syntax.specs.declared.tree.Init.TheOpen.{Init-F}
 use Rattle.mdr_syntax.specs.declared.tree.Init.TheFolds.{ind-Init, map-Init, fold-roll-Init, fold_out-Elem}
@@ -153,12 +152,12 @@ designator_alike (Some f) = refl
 pub init_alike : (x : Init) → InitAlike x
 init_alike = ind-Init InitAlike ElemAlike
     (λ x y is.
-        ap init (fold-roll-Init Init Elem init_unplaced elem_unplaced x)
-        ∙ subst InitLayer is (init_layer_is (λ e. e.0) (λ e. e.0) (λ e. e.1) y)
-        ∙ sym (fold-roll-Init Marks Marks init_shown elem_shown x))
+    ap init (fold-roll-Init Init Elem init_unplaced elem_unplaced x)
+    ∙ subst InitLayer is (init_layer_is (λ e. e.0) (λ e. e.0) (λ e. e.1) y)
+    ∙ sym (fold-roll-Init Marks Marks init_shown elem_shown x))
     (λ x y is.
-        let same : InitAlike x.init = subst InitAlike (ap (λ z. z.init) is) (y.init.1) in
-        ap elem (fold_out-Elem Init Elem init_unplaced elem_unplaced (record { field = x.field; init = x.init }))
-        ∙ fold_out-Elem Marks Marks init_shown elem_shown (record { field = unplaced_field x.field; init = unplaced_init x.init })
-        ∙ (λ i. designator_alike x.field i ▸ same i)
-        ∙ sym (fold_out-Elem Marks Marks init_shown elem_shown (record { field = x.field; init = x.init })))
+    let same : InitAlike x.init = subst InitAlike (ap (λ z. z.init) is) (y.init.1) in
+    ap elem (fold_out-Elem Init Elem init_unplaced elem_unplaced (record { field = x.field; init = x.init }))
+    ∙ fold_out-Elem Marks Marks init_shown elem_shown (record { field = unplaced_field x.field; init = unplaced_init x.init })
+    ∙ (λ i. designator_alike x.field i ▸ same i)
+    ∙ sym (fold_out-Elem Marks Marks init_shown elem_shown (record { field = x.field; init = x.init })))

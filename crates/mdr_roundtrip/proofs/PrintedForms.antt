@@ -1,18 +1,17 @@
 -- What is printed of an expression doesn't show its places.
-use Rattle.std.proofs.Common.{◌≡◌, Bool, List, [], ◌∷◌, map, refl, sym, ap, subst, ◌∙◌, codes}
+use Rattle.std.proofs.Common.{◌≡◌, List, [], ◌∷◌, map, refl, sym, ap, subst, ◌∙◌}
 use Rattle.std.specs.Prelude.{◌==◌}
 use Rattle.mdr_syntax.specs.declared.tree.Base.{Base}
 use Rattle.mdr_syntax.specs.declared.tree.Base.TheVariants as base
 use Rattle.mdr_syntax.specs.declared.tree.Form.{Form}
-use Rattle.mdr_syntax.specs.declared.tree.FormWhat
 use Rattle.mdr_syntax.specs.declared.tree.FormWhat.{FormWhat}
 use Rattle.mdr_syntax.specs.declared.tree.FormWhat.TheOpen.{FormWhat-F}
 use Rattle.mdr_syntax.specs.declared.tree.FormWhat.TheFolds.{ind-Form, map-FormWhat, fold-roll-FormWhat, fold_out-Form}
 use Rattle.mdr_syntax.specs.declared.tree.FormWhat.TheVariants.{rolls-Number, rolls-Null, rolls-Name, rolls-Text, rolls-Base, rolls-Prefix, rolls-Post, rolls-Cast, rolls-Binary, rolls-Choice, rolls-Subscript, rolls-Member, rolls-Call}
 use Rattle.mdr_syntax.specs.declared.tree.FormWhat.TheViews.{roll-FormWhat}
-use Rattle.mdr_print.specs.Marks.{Marks, sign, spaced, in_parentheses, in_brackets, blank_unless, ◌▸◌}
+use Rattle.mdr_print.specs.Marks.{in_parentheses, blank_unless, ◌▸◌}
 use Rattle.mdr_print.specs.Types.{base_name, stars}
-use Rattle.mdr_print.specs.Forms.{Shown, plain, operator, operand, arguments, what_shown, form_shown, shown_form, shown_what, form, left_of, left_side}
+use Rattle.mdr_print.specs.Forms.{Shown, plain, operator, operand, what_shown, form_shown, shown_form, shown_what, form, left_of, left_side}
 use Rattle.mdr_roundtrip.specs.Unplaced.{nowhere, unplaced_base, what_unplaced, form_unplaced, unplaced_form, unplaced_what}
 
 -- ---- lists
@@ -84,14 +83,14 @@ layer_is what of same (FormWhat-F.Base b n) =
 pub shown_alike : (f : Form) → IsAlike f
 shown_alike = ind-Form WhatAlike IsAlike
     (λ x y is.
-        ap shown_what (fold-roll-FormWhat FormWhat Form what_unplaced form_unplaced x)
-        ∙ subst Layer is (layer_is (λ e. e.0) (λ e. e.0) (λ e. e.1) y)
-        ∙ sym (fold-roll-FormWhat Shown Shown what_shown form_shown x))
+    ap shown_what (fold-roll-FormWhat FormWhat Form what_unplaced form_unplaced x)
+    ∙ subst Layer is (layer_is (λ e. e.0) (λ e. e.0) (λ e. e.1) y)
+    ∙ sym (fold-roll-FormWhat Shown Shown what_shown form_shown x))
     (λ x y is.
-        ap shown_form (fold_out-Form FormWhat Form what_unplaced form_unplaced (record { place = x.place; what = x.what }))
-        ∙ fold_out-Form Shown Shown what_shown form_shown (record { place = nowhere; what = unplaced_what x.what })
-        ∙ subst WhatAlike (ap (λ z. z.what) is) (y.what.1)
-        ∙ sym (fold_out-Form Shown Shown what_shown form_shown (record { place = x.place; what = x.what })))
+    ap shown_form (fold_out-Form FormWhat Form what_unplaced form_unplaced (record { place = x.place; what = x.what }))
+    ∙ fold_out-Form Shown Shown what_shown form_shown (record { place = nowhere; what = unplaced_what x.what })
+    ∙ subst WhatAlike (ap (λ z. z.what) is) (y.what.1)
+    ∙ sym (fold_out-Form Shown Shown what_shown form_shown (record { place = x.place; what = x.what })))
 
 pub form_alike : (f : Form) → form (unplaced_form f) ≡ form f
 form_alike f = ap (λ (s : Shown). s.marks) (shown_alike f)

@@ -1,10 +1,9 @@
 -- What is printed of a statement doesn't show its places.
-use Rattle.std.proofs.Common.{◌≡◌, ℕ, suc, Bool, true, Option, Some, None, List, [], ◌∷◌, map, refl, sym, ap, subst, ◌∙◌, codes}
+use Rattle.std.proofs.Common.{◌≡◌, ℕ, suc, true, Option, Some, None, List, map, refl, sym, ap, subst, ◌∙◌, codes}
 use Rattle.std.specs.Option.{option_map}
 use Rattle.mdr_syntax.specs.declared.tree.Clause.{Clause}
 use Rattle.mdr_syntax.specs.declared.tree.Const.{Const}
 use Rattle.mdr_syntax.specs.declared.tree.Const.TheVariants as const
-use Rattle.mdr_syntax.specs.declared.tree.Decl.{Decl}
 use Rattle.mdr_syntax.specs.declared.tree.Form.{Form}
 use Rattle.mdr_syntax.specs.declared.tree.Label.{Label}
 use Rattle.mdr_syntax.specs.declared.tree.Node.{Node}
@@ -12,10 +11,9 @@ use Rattle.mdr_syntax.specs.declared.tree.NodeWhat.{NodeWhat}
 use Rattle.mdr_syntax.specs.declared.tree.NodeWhat.TheOpen.{NodeWhat-F}
 use Rattle.mdr_syntax.specs.declared.tree.NodeWhat.TheFolds.{ind-Node, map-NodeWhat, fold-roll-NodeWhat, fold-roll-Clause, fold_out-Node}
 use Rattle.mdr_syntax.specs.declared.tree.NodeWhat.TheVariants.{rolls-Empty, rolls-Block, rolls-Local, rolls-Assign, rolls-Plain, rolls-If, rolls-While, rolls-For, rolls-Do, rolls-Switch, rolls-Return, rolls-Break, rolls-Continue}
-use Rattle.mdr_syntax.specs.declared.tree.NodeWhat.TheViews.{roll-NodeWhat, roll-Clause}
+use Rattle.mdr_syntax.specs.declared.tree.NodeWhat.TheViews.{roll-NodeWhat}
 use Rattle.mdr_print.specs.Marks.{Marks, nothing, word, sign, blank, newline, tabs, spaced, row, ◌▸◌}
-use Rattle.mdr_print.specs.Forms.{Shown, form, left_side}
-use Rattle.mdr_print.specs.Declarations.{Declared, equals}
+use Rattle.mdr_print.specs.Declarations.{equals}
 use Rattle.mdr_print.specs.Statements.{Written, semicolon, lines, braced, clause_head, sole, simple, block, assigned, optional, step_of, head_list, next_part, clauses_words, otherwise, returned, what_written, node_written, label_words, label, clause_lines, clause_written, written, written_what, written_clause}
 use Rattle.mdr_roundtrip.specs.Unplaced.{nowhere, unplaced_form}
 use Rattle.mdr_roundtrip.specs.Initialised.{unplaced_const}
@@ -116,16 +114,16 @@ clause_layer xs of same zs = λ i depth. row (all_alike (label depth) unplaced_l
 pub written_alike : (n : Node) → IsAlike n
 written_alike = ind-Node WhatAlike ClauseAlike IsAlike
     (λ x y is.
-        ap written_what (fold-roll-NodeWhat NodeWhat Clause Node statement_unplaced clause_unplaced node_unplaced x)
-        ∙ subst Layer is (layer_is (λ e. e.0) (λ e. e.0) (λ e. e.0) (λ e. e.1) (λ e. e.1) y)
-        ∙ sym (fold-roll-NodeWhat Written (ℕ → Marks) Written what_written clause_written node_written x))
+    ap written_what (fold-roll-NodeWhat NodeWhat Clause Node statement_unplaced clause_unplaced node_unplaced x)
+    ∙ subst Layer is (layer_is (λ e. e.0) (λ e. e.0) (λ e. e.0) (λ e. e.1) (λ e. e.1) y)
+    ∙ sym (fold-roll-NodeWhat Written (ℕ → Marks) Written what_written clause_written node_written x))
     (λ x y is.
-        ap written_clause (fold-roll-Clause NodeWhat Clause Node statement_unplaced clause_unplaced node_unplaced x)
-        ∙ fold-roll-Clause Written (ℕ → Marks) Written what_written clause_written node_written (record { labels = map unplaced_label x.labels; body = map unplaced_node x.body })
-        ∙ subst (ClauseLayer x.labels) (ap (λ z. z.body) is) (clause_layer x.labels (λ e. e.0) (λ e. e.1) y.body)
-        ∙ sym (fold-roll-Clause Written (ℕ → Marks) Written what_written clause_written node_written x))
+    ap written_clause (fold-roll-Clause NodeWhat Clause Node statement_unplaced clause_unplaced node_unplaced x)
+    ∙ fold-roll-Clause Written (ℕ → Marks) Written what_written clause_written node_written (record { labels = map unplaced_label x.labels; body = map unplaced_node x.body })
+    ∙ subst (ClauseLayer x.labels) (ap (λ z. z.body) is) (clause_layer x.labels (λ e. e.0) (λ e. e.1) y.body)
+    ∙ sym (fold-roll-Clause Written (ℕ → Marks) Written what_written clause_written node_written x))
     (λ x y is.
-        ap written (fold_out-Node NodeWhat Clause Node statement_unplaced clause_unplaced node_unplaced (record { place = x.place; what = x.what }))
-        ∙ fold_out-Node Written (ℕ → Marks) Written what_written clause_written node_written (record { place = nowhere; what = unplaced_statement x.what })
-        ∙ subst WhatAlike (ap (λ z. z.what) is) (y.what.1)
-        ∙ sym (fold_out-Node Written (ℕ → Marks) Written what_written clause_written node_written (record { place = x.place; what = x.what })))
+    ap written (fold_out-Node NodeWhat Clause Node statement_unplaced clause_unplaced node_unplaced (record { place = x.place; what = x.what }))
+    ∙ fold_out-Node Written (ℕ → Marks) Written what_written clause_written node_written (record { place = nowhere; what = unplaced_statement x.what })
+    ∙ subst WhatAlike (ap (λ z. z.what) is) (y.what.1)
+    ∙ sym (fold_out-Node Written (ℕ → Marks) Written what_written clause_written node_written (record { place = x.place; what = x.what })))

@@ -1,5 +1,5 @@
 -- What is printed of a tree doesn't show its places.
-use Rattle.std.proofs.Common.{◌≡◌, ℕ, Bool, true, false, Option, Some, None, List, [], map, refl, sym, ap, ◌∙◌, codes}
+use Rattle.std.proofs.Common.{◌≡◌, Option, Some, None, [], refl, sym, ap, ◌∙◌, codes}
 use Rattle.std.specs.Option.{option_map}
 use Rattle.mdr_syntax.specs.declared.tree.Const.{Const}
 use Rattle.mdr_syntax.specs.declared.tree.Const.TheVariants as const

@@ -1,7 +1,7 @@
 //! Sources that are read and printed: laws alone, nothing here runs.
 //!
-//! Proved: the text that is printed of any source's tree is a source, of the same tree, places aside; reading looks
-//! at no place; and expressions and initialisers are read again as they were.
+//! Proved: the text that is printed of any source's tree is a source, of the same tree, places aside; neither reading
+//! nor printing looks at a place; and expressions and initialisers are read again as they were.
 #![tactic(auto)]
 
 mod laws;
@@ -9,6 +9,6 @@ mod laws;
 pub use laws::{
     expressions_are_read_again, initialisers_are_read_again, printed_expressions_are_expressions,
     printed_initialisers_are_initialisers, printed_sources_are_read, printed_sources_are_sources,
-    printed_trees_are_trees, printing_looks_at_no_place, sources_are_alike, sources_are_printable, sources_are_read_again,
-    tokens_are_lexed,
+    printed_trees_are_trees, printing_looks_at_no_place, sources_are_alike, sources_are_printable,
+    sources_are_read_again, tokens_are_lexed,
 };
