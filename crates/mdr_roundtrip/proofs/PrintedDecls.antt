@@ -19,7 +19,7 @@ use Rattle.mdr_syntax.specs.declared.tree.Init.TheFolds.{ind-Init, map-Init, fol
 use Rattle.mdr_syntax.specs.declared.tree.Init.TheViews.{roll-Init}
 use Rattle.mdr_syntax.specs.declared.tree.Init.TheVariants.{rolls-Const, rolls-Null, rolls-Address, rolls-Text, rolls-List}
 use Rattle.mdr_print.specs.Marks.{Marks, blank_unless, in_braces, comma_list, ◌▸◌}
-use Rattle.mdr_print.specs.Types.{base_name, stars}
+use Rattle.mdr_print.specs.Types.{stars}
 use Rattle.mdr_print.specs.Declarations.{Declared, constant, annotated, named, sized, core, is_bare, is_void_base, decl_shown, shown_decl, declaration, declarator, designator, init_shown, elem_shown, init, elem}
 use Rattle.mdr_roundtrip.specs.Unplaced.{nowhere, unplaced_base}
 use Rattle.mdr_roundtrip.specs.Initialised.{unplaced_const, unplaced_field, init_unplaced, elem_unplaced, unplaced_init, unplaced_elem}
