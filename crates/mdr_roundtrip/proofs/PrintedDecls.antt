@@ -19,11 +19,12 @@ use Rattle.mdr_syntax.specs.declared.tree.Init.TheFolds.{ind-Init, map-Init, fol
 use Rattle.mdr_syntax.specs.declared.tree.Init.TheViews.{roll-Init}
 use Rattle.mdr_syntax.specs.declared.tree.Init.TheVariants.{rolls-Const, rolls-Null, rolls-Address, rolls-Text, rolls-List}
 use Rattle.mdr_print.specs.Marks.{Marks, blank_unless, in_braces, comma_list, ◌▸◌}
-use Rattle.mdr_print.specs.Types.{base_name, stars}
+use Rattle.mdr_print.specs.Types.{stars}
 use Rattle.mdr_print.specs.Declarations.{Declared, constant, annotated, named, sized, core, is_bare, is_void_base, decl_shown, shown_decl, declaration, declarator, designator, init_shown, elem_shown, init, elem}
 use Rattle.mdr_roundtrip.specs.Unplaced.{nowhere, unplaced_base}
 use Rattle.mdr_roundtrip.specs.Initialised.{unplaced_const, unplaced_field, init_unplaced, elem_unplaced, unplaced_init, unplaced_elem}
 use Rattle.mdr_roundtrip.specs.Declarations.{unplaced_annotation, decl_unplaced, unplaced_decl}
+use Rattle.mdr_roundtrip.proofs.RereadDecls.{mapped, twice}
 use Rattle.mdr_roundtrip.proofs.PrintedForms.{parts_alike, base_alike}
 
 -- ---- constants, sizes and annotations
@@ -64,19 +65,6 @@ declared_by base is_void k name size is_no_array fun annotation has_none = recor
   whole = base ▸ blank_unless (is_bare k name fun) ▸ stars k ▸ core (named name ▸ size) fun ▸ annotation;
   is_void = is_void && (is_bare k name fun && (is_no_array && has_none));
 }
-
-abbrev of_layer : Decl-F Declared → Declared
-of_layer d = declared_by (base_name d.base) (is_void_base d.base) d.stars d.name (sized d.size) (is_none d.size) d.fun (annotated d.ann) (is_none d.ann)
-
-shown_by : (d : Decl-F Declared) → decl_shown d ≡ of_layer d
-shown_by d = refl
-
-mapped : {X Y : Type 0} (f : X → Y) (x : Decl-F X) (fun : Option (List X)) → x.fun ≡ fun → (map-Decl X Y f x).fun ≡ option_map (map f) x.fun
-mapped f x None e = rw e refl
-mapped f x (Some ds) e = rw e refl
-
-twice : {X Y : Type 0} (of : X → Decl) (f : Decl → Y) (l : Decl-F X) → (map-Decl Decl Y f (map-Decl X Decl of l)).fun ≡ option_map (map f) (option_map (map of) l.fun)
-twice {X} {Y} of f l = mapped f (map-Decl X Decl of l) (map-Decl X Decl of l).fun refl ∙ ap (option_map (map f)) (mapped of l l.fun refl)
 
 abbrev IsAlike : Decl → Type 0
 IsAlike d = shown_decl (unplaced_decl d) ≡ shown_decl d

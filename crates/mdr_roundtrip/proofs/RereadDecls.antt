@@ -338,11 +338,11 @@ alone_parts halves d b n (Some name) size fun us a g low h s p q = record {
 
 -- ---- by induction
 
-mapped : {X Y : Type 0} (f : X → Y) (x : Decl-F X) (fun : Option (List X)) → x.fun ≡ fun → (map-Decl X Y f x).fun ≡ option_map (map f) x.fun
+pub mapped : {X Y : Type 0} (f : X → Y) (x : Decl-F X) (fun : Option (List X)) → x.fun ≡ fun → (map-Decl X Y f x).fun ≡ option_map (map f) x.fun
 mapped f x None e = rw e refl
 mapped f x (Some ds) e = rw e refl
 
-twice : {X Y : Type 0} (of : X → Decl) (f : Decl → Y) (l : Decl-F X) → (map-Decl Decl Y f (map-Decl X Decl of l)).fun ≡ option_map (map f) (option_map (map of) l.fun)
+pub twice : {X Y : Type 0} (of : X → Decl) (f : Decl → Y) (l : Decl-F X) → (map-Decl Decl Y f (map-Decl X Decl of l)).fun ≡ option_map (map f) (option_map (map of) l.fun)
 twice {X} {Y} of f l = mapped f (map-Decl X Decl of l) (map-Decl X Decl of l).fun refl ∙ ap (option_map (map f)) (mapped of l l.fun refl)
 
 are_listed : (halves : Bool) (d : ℕ) {X : Type 0} (of : X → Decl) → ((x : X) → GoodDecl halves (of x)) → (xs : List X) → all (map (as_parameter d) (map is_shaped_decl (map of xs))) ≡ true → AreListed halves false d (map shown_decl (map of xs)) (map unplaced_decl (map of xs))
