@@ -1,4 +1,5 @@
 pub mod Mentions
 pub mod Locals
+pub mod Simple
 pub mod Statements
 pub mod Bodies

@@ -1,6 +1,6 @@
 // Statements without parts (C99 6.7, 6.8.3, 6.8.6).
 
-ghost use Rattle.std.specs.Prelude.{◌≡◌, ℕ, ◌∷◌, ◌++◌, [], IfOk, OnOk, length, None};
+ghost use Rattle.std.specs.Prelude.{◌≡◌, ℕ, Bool, false, ◌∷◌, ◌++◌, [], IfOk, OnOk, Ok, length, None};
 ghost use Rattle.std.specs.Option.{option_map, option_copied};
 ghost use Rattle.mdr_core.specs.declared.code.Expr.{Expr};
 ghost use Rattle.mdr_core.specs.declared.code.Step.{Step};
@@ -11,8 +11,10 @@ ghost use Rattle.mdr_faults.specs.declared.scope.Object.{Object};
 ghost use Rattle.mdr_core.specs.declared.types.Ty.{Ty};
 ghost use Rattle.mdr_operand.specs.Written.{written_of, written_what};
 ghost use Rattle.mdr_body.specs.Locals.{with_local, is_own_object, local_object};
+ghost use Rattle.mdr_body.specs.Mentions.{line_what};
 ghost use Rattle.mdr_body.specs.declared.here.Here.{Here};
-ghost use Rattle.mdr_body.specs.Statements.{stmt, stated, tested, condition, some, perhaps_condition, text_of, takes_text, is_single, own_place, initial_by, initial_step, declared_then, local_made, jumped, bare_return, value_return, return_by, return_step};
+ghost use Rattle.mdr_body.specs.Simple.{declares};
+ghost use Rattle.mdr_body.specs.Statements.{stmt, stated, tested, condition, some, perhaps_condition, text_of, takes_text, is_single, own_place, initial_by, initial_step, declared_then, local_made, jumped, bare_return, value_return, return_by, return_step, simple_made, simple_behind};
 
 use crate::here::{Frame, Here};
 use crate::locals::{declare_local, is_own_object, local_object};
@@ -21,7 +23,7 @@ use mdr_core::{Expr, Items, Lval, Name, OutOfMemory, Place, Step, Stmt, Ty};
 use mdr_faults::{Fault, Object, Scope, copied, is_scalar, is_void, mismatch};
 use mdr_headings::is_character;
 use mdr_operand::{LocalName, Operand, expression_of, scalar_at};
-use mdr_syntax::{Decl, Form, FormWhat};
+use mdr_syntax::{Decl, Form, FormWhat, NodeWhat};
 use std::alloc::{AllocError, Global};
 
 /// One statement.
@@ -295,10 +297,24 @@ pub fn local_made<R: Typing>(
 
 // ---- jumps
 
-pub fn jumped(place: Place, in_loop: bool, step: Step) -> Result<Step, Fault>
-    ensures { result ≡ told (jumped place in_loop step) }
+/// A `break` at this place.
+pub fn broken(place: Place, in_loop: bool) -> Result<Step, Fault>
+    ensures { result ≡ told (jumped place in_loop Step.Break) }
 {
-    if in_loop { Ok(step) } else { mismatch(place) }
+    if in_loop {
+        return Ok(Step::Break);
+    }
+    mismatch(place)
+}
+
+/// A `continue` at this place.
+pub fn continued(place: Place, in_loop: bool) -> Result<Step, Fault>
+    ensures { result ≡ told (jumped place in_loop Step.Continue) }
+{
+    if in_loop {
+        return Ok(Step::Continue);
+    }
+    mismatch(place)
 }
 
 fn bare_return(place: Place, ty: &Ty) -> Result<Step, Fault>
@@ -407,4 +423,77 @@ pub fn called<R: Typing>(
 {
     let step = rules.called(alloc, scope, here.names.as_slice(), form)?;
     Ok(stated(alloc, here.number, step)?)
+}
+
+// ---- statements without parts
+
+fn empty(alloc: Global, number: u32) -> Result<Result<Items<Stmt>, Fault>, OutOfMemory>
+    ensures { IfOk result (λ r. r ≡ Ok (stmt number Step.Empty ∷ [])) }
+{
+    Ok(Ok(single(alloc, number, Step::Empty)?))
+}
+
+fn jump(
+    alloc: Global,
+    number: u32,
+    step: Result<Step, Fault>,
+) -> Result<Result<Items<Stmt>, Fault>, OutOfMemory>
+    ensures { (c : Checked Step) → step ≡ told c → IfOk result (λ r. r ≡ told (stated number c)) }
+{
+    Ok(stated(alloc, number, step)?)
+}
+
+/// A statement that declares nothing.
+fn plain_made<R: Typing>(
+    alloc: Global,
+    rules: &R,
+    scope: &Scope,
+    frame: &Frame,
+    in_loop: bool,
+    here: &Here,
+    place: Place,
+    what: &NodeWhat,
+) -> Result<Result<Items<Stmt>, Fault>, OutOfMemory>
+    ensures { (t : Bool) → declares (line_what what.now place) ≡ false → IfOk result (λ r. r ≡ told (simple_made (R.rules rules.now) scope.now frame.now in_loop here.now t (line_what what.now place))) }
+{
+    match what {
+        NodeWhat::Empty => empty(alloc, here.number),
+        NodeWhat::Assign(at, operator, a, b) => {
+            assigned(alloc, rules, scope, here, *at, operator.as_slice(), a, b)
+        }
+        NodeWhat::Plain(form) => called(alloc, rules, scope, here, form),
+        NodeWhat::Return(form) => returned(alloc, rules, scope, frame, here, place, form),
+        NodeWhat::Break => jump(alloc, here.number, broken(place, in_loop)),
+        NodeWhat::Continue => jump(alloc, here.number, continued(place, in_loop)),
+        NodeWhat::Local(_, _) => Ok(mismatch(place)),
+        NodeWhat::Block(_) => Ok(mismatch(place)),
+        NodeWhat::If(_, _, _) => Ok(mismatch(place)),
+        NodeWhat::While(_, _) => Ok(mismatch(place)),
+        NodeWhat::For(_, _, _, _) => Ok(mismatch(place)),
+        NodeWhat::Do(_, _) => Ok(mismatch(place)),
+        NodeWhat::Switch(_, _) => Ok(mismatch(place)),
+    }
+}
+
+/// A statement without parts; what it declares is known behind it.
+pub fn simple_made<R: Typing>(
+    alloc: Global,
+    rules: &R,
+    scope: &Scope,
+    frame: &Frame,
+    in_loop: bool,
+    here: &mut Here,
+    is_taken: bool,
+    place: Place,
+    what: &NodeWhat,
+) -> Result<Result<Items<Stmt>, Fault>, OutOfMemory>
+    ensures told { IfOk result (λ r. r ≡ told (simple_made (R.rules rules.now) scope.now frame.now in_loop here.old is_taken (line_what what.now place))) }
+    ensures grown { OnOk result (here.new ≡ simple_behind scope.now frame.now here.old is_taken (line_what what.now place)) }
+{
+    match what {
+        NodeWhat::Local(d, init) => {
+            local_made(alloc, rules, scope, frame, here, is_taken, d, init)
+        }
+        _ => plain_made(alloc, rules, scope, frame, in_loop, here, place, what),
+    }
 }

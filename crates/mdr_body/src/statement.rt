@@ -1,23 +1,23 @@
 // Statements with parts, and blocks (C99 6.8.2, 6.8.4, 6.8.5).
 
-ghost use Rattle.std.specs.Prelude.{◌≡◌, ◌||◌, ◌+◌, ◌<◌, IfOk, OnOk, List, drop, length, false};
+ghost use Rattle.std.specs.Prelude.{◌≡◌, ◌||◌, ◌+◌, ◌<◌, IfOk, OnOk, List, drop, length, false, true};
 ghost use Rattle.std.specs.Option.{option_map};
 ghost use Rattle.mdr_core.specs.declared.code.Expr.{Expr};
 ghost use Rattle.mdr_core.specs.declared.code.Stmt.{Stmt};
 ghost use Rattle.mdr_faults.specs.Faults.{Checked, told, both};
 ghost use Rattle.mdr_operand.specs.Written.{written_of, line_of, lines_of, perhaps};
 ghost use Rattle.mdr_body.specs.declared.mention.Mention.TheVariants.{Address};
-ghost use Rattle.mdr_body.specs.Locals.{is_taken, numbered};
+ghost use Rattle.mdr_body.specs.Locals.{is_taken, entered, left, numbered};
 ghost use Rattle.mdr_body.specs.Mentions.{perhaps_mentions, has, have, line_what};
-ghost use Rattle.mdr_body.specs.Statements.{condition, pair, taken_behind, head_taken, ForHead, as_part, if_of, while_of, for_of};
+ghost use Rattle.mdr_body.specs.Statements.{condition, perhaps_condition, pair, taken_behind, head_taken, heads_made, heads_behind, steps_made, steps_behind, ForHead, for_head, behind_head, as_part, if_of, while_of, for_of, simple_made, simple_behind, line_behind, perhaps_behind, lines_behind, line_made, perhaps_made, lines_made};
 
-use crate::here::Here;
-use crate::locals::{count, takes};
+use crate::here::{Frame, Here};
+use crate::locals::{count, leave, takes};
 use crate::mention::{Mention, has, have, perhaps_has, perhaps_mentions};
-use crate::simple::{condition, single};
+use crate::simple::{condition, perhaps_condition, simple_made, single};
 use crate::typing::Typing;
 use mdr_core::{Boxed, Expr, Items, Name, OutOfMemory, Place, Step, Stmt};
-use mdr_faults::{Fault, Scope, both};
+use mdr_faults::{Fault, Scope, both, followed};
 use mdr_syntax::{Form, Node, NodeWhat};
 use std::alloc::{AllocError, Global};
 
@@ -146,6 +146,40 @@ pub fn paired<A: Drop, B: Drop>(a: Result<A, Fault>, b: Result<B, Fault>) -> Res
     both(a, b)
 }
 
+fn simple_node<R: Typing>(
+    alloc: Global,
+    rules: &R,
+    scope: &Scope,
+    frame: &Frame,
+    here: &mut Here,
+    is_taken: bool,
+    n: &Node,
+) -> Result<Result<Items<Stmt>, Fault>, OutOfMemory>
+    ensures told { IfOk result (λ r. r ≡ told (simple_made (R.rules rules.now) scope.now frame.now false here.old is_taken (line_of n.now))) }
+    ensures grown { OnOk result (here.new ≡ simple_behind scope.now frame.now here.old is_taken (line_of n.now)) }
+{
+    simple_made(alloc, rules, scope, frame, false, here, is_taken, n.place, &n.what)
+}
+
+pub fn simple_counted<R: Typing>(
+    alloc: Global,
+    rules: &R,
+    scope: &Scope,
+    frame: &Frame,
+    in_loop: bool,
+    here: &mut Here,
+    is_taken: bool,
+    place: Place,
+    what: &NodeWhat,
+) -> Result<Result<Items<Stmt>, Fault>, OutOfMemory>
+    ensures told { IfOk result (λ r. r ≡ told (simple_made (R.rules rules.now) scope.now frame.now in_loop here.old is_taken (line_what what.now place))) }
+    ensures grown { OnOk result (here.new ≡ numbered (simple_behind scope.now frame.now here.old is_taken (line_what what.now place))) }
+{
+    let made = simple_made(alloc, rules, scope, frame, in_loop, here, is_taken, place, what)?;
+    count(here)?;
+    Ok(made)
+}
+
 pub fn condition_counted<R: Typing>(
     alloc: Global,
     rules: &R,
@@ -160,6 +194,110 @@ pub fn condition_counted<R: Typing>(
     let made = condition(alloc, rules, scope, here, place, form)?;
     count(here)?;
     Ok(made)
+}
+
+// ---- the head of a `for`
+
+#[tactic(auto, using(mdr_faults::proofs::Gathered::followed_none), unfolding(crate::specs::Statements::heads_made, crate::specs::Statements::heads_behind))]
+fn heads<R: Typing>(
+    alloc: Global,
+    rules: &R,
+    scope: &Scope,
+    frame: &Frame,
+    here: &mut Here,
+    test: &Option<Form>,
+    step: &Option<Boxed<Node>>,
+    body: &Node,
+    init: &[Node],
+) -> Result<Result<Items<Stmt>, Fault>, OutOfMemory>
+    ensures told { IfOk result (λ r. r ≡ told (heads_made (R.rules rules.now) scope.now frame.now here.old (option_map written_of test.now) (perhaps (option_map line_of step.now)) (line_of body.now) (lines_of init.now))) }
+    ensures grown { OnOk result (here.new ≡ heads_behind scope.now frame.now here.old (option_map written_of test.now) (perhaps (option_map line_of step.now)) (line_of body.now) (lines_of init.now)) }
+{
+    let mut all = Ok(Items::new(alloc));
+    for i in 0..init.len() {
+        let n = &init[i];
+        let made = simple_node(
+            alloc, rules, scope, frame, here, head_taken_in(n, init, i, test, step, body), n,
+        )?;
+        all = followed(all, made)?;
+    }
+    Ok(all)
+}
+
+/// The init and the test of the `for` at this place.
+fn init_and_test<R: Typing>(
+    alloc: Global,
+    rules: &R,
+    scope: &Scope,
+    frame: &Frame,
+    here: &mut Here,
+    place: Place,
+    init: &[Node],
+    test: &Option<Form>,
+    step: &Option<Boxed<Node>>,
+    body: &Node,
+) -> Result<Result<(Items<Stmt>, Option<Expr>), Fault>, OutOfMemory>
+    ensures told { IfOk result (λ r. r ≡ told (both (heads_made (R.rules rules.now) scope.now frame.now here.old (option_map written_of test.now) (perhaps (option_map line_of step.now)) (line_of body.now) (lines_of init.now)) (perhaps_condition (R.rules rules.now) scope.now (heads_behind scope.now frame.now here.old (option_map written_of test.now) (perhaps (option_map line_of step.now)) (line_of body.now) (lines_of init.now)) place (option_map written_of test.now)) pair)) }
+    ensures grown { OnOk result (here.new ≡ heads_behind scope.now frame.now here.old (option_map written_of test.now) (perhaps (option_map line_of step.now)) (line_of body.now) (lines_of init.now)) }
+{
+    let first = heads(alloc, rules, scope, frame, here, test, step, body, init)?;
+    let second = perhaps_condition(alloc, rules, scope, here, place, test)?;
+    Ok(paired(first, second))
+}
+
+fn last_part<R: Typing>(
+    alloc: Global,
+    rules: &R,
+    scope: &Scope,
+    frame: &Frame,
+    here: &mut Here,
+    step: &Option<Boxed<Node>>,
+) -> Result<Result<Items<Stmt>, Fault>, OutOfMemory>
+    ensures told { IfOk result (λ r. r ≡ told (steps_made (R.rules rules.now) scope.now frame.now here.old (perhaps (option_map line_of step.now)))) }
+    ensures grown { OnOk result (here.new ≡ steps_behind scope.now frame.now here.old (perhaps (option_map line_of step.now))) }
+{
+    match step {
+        None => Ok(Ok(Items::new(alloc))),
+        Some(n) => simple_node(alloc, rules, scope, frame, here, false, n.get()),
+    }
+}
+
+fn last_counted<R: Typing>(
+    alloc: Global,
+    rules: &R,
+    scope: &Scope,
+    frame: &Frame,
+    here: &mut Here,
+    step: &Option<Boxed<Node>>,
+) -> Result<Result<Items<Stmt>, Fault>, OutOfMemory>
+    ensures told { IfOk result (λ r. r ≡ told (steps_made (R.rules rules.now) scope.now frame.now here.old (perhaps (option_map line_of step.now)))) }
+    ensures grown { OnOk result (here.new ≡ numbered (steps_behind scope.now frame.now here.old (perhaps (option_map line_of step.now)))) }
+{
+    let made = last_part(alloc, rules, scope, frame, here, step)?;
+    count(here)?;
+    Ok(made)
+}
+
+/// The init, the test and the step of the `for` at this place.
+#[tactic(auto, unfolding(crate::specs::Statements::for_head, crate::specs::Statements::behind_head))]
+pub fn for_head<R: Typing>(
+    alloc: Global,
+    rules: &R,
+    scope: &Scope,
+    frame: &Frame,
+    here: &mut Here,
+    place: Place,
+    init: &[Node],
+    test: &Option<Form>,
+    step: &Option<Boxed<Node>>,
+    body: &Node,
+) -> Result<Result<((Items<Stmt>, Option<Expr>), Items<Stmt>), Fault>, OutOfMemory>
+    ensures told { IfOk result (λ r. r ≡ told (for_head (R.rules rules.now) scope.now frame.now here.old place (lines_of init.now) (option_map written_of test.now) (perhaps (option_map line_of step.now)) (line_of body.now))) }
+    ensures grown { OnOk result (here.new ≡ behind_head scope.now frame.now here.old (lines_of init.now) (option_map written_of test.now) (perhaps (option_map line_of step.now)) (line_of body.now)) }
+{
+    let two = init_and_test(alloc, rules, scope, frame, here, place, init, test, step, body)?;
+    let third = last_counted(alloc, rules, scope, frame, here, step)?;
+    Ok(paired(two, third))
 }
 
 // ---- statements of their parts
@@ -222,4 +360,206 @@ pub fn for_of(
         }
         Err(fault) => Ok(Err(fault)),
     }
+}
+
+// ---- statements
+
+/// A statement; what it declares and counts is known behind it.
+#[cycle(line)]
+fn line<R: Typing>(
+    alloc: Global,
+    rules: &R,
+    scope: &Scope,
+    frame: &Frame,
+    in_loop: bool,
+    is_part: bool,
+    here: &mut Here,
+    is_taken: bool,
+    n: &Node,
+) -> Result<Result<Items<Stmt>, Fault>, OutOfMemory>
+    ensures told { IfOk result (λ r. r ≡ told (line_made (R.rules rules.now) scope.now frame.now in_loop is_part here.old is_taken (line_of n.now))) }
+    ensures grown { OnOk result (here.new ≡ line_behind scope.now frame.now here.old is_taken (line_of n.now)) }
+{
+    line_at(alloc, rules, scope, frame, in_loop, is_part, here, is_taken, n.place, &n.what)
+}
+
+#[cycle(line)]
+fn line_at<R: Typing>(
+    alloc: Global,
+    rules: &R,
+    scope: &Scope,
+    frame: &Frame,
+    in_loop: bool,
+    is_part: bool,
+    here: &mut Here,
+    is_taken: bool,
+    place: Place,
+    what: &NodeWhat,
+) -> Result<Result<Items<Stmt>, Fault>, OutOfMemory>
+    ensures told { IfOk result (λ r. r ≡ told (line_made (R.rules rules.now) scope.now frame.now in_loop is_part here.old is_taken (line_what what.now place))) }
+    ensures grown { OnOk result (here.new ≡ line_behind scope.now frame.now here.old is_taken (line_what what.now place)) }
+{
+    match what {
+        NodeWhat::Block(body) => {
+            block(alloc, rules, scope, frame, in_loop, is_part, here, body.as_slice())
+        }
+        NodeWhat::If(e, one, other) => {
+            let n = here.number;
+            let half = if_half(alloc, rules, scope, frame, in_loop, here, place, e, one.get())?;
+            let other = perhaps_line(alloc, rules, scope, frame, in_loop, here, other)?;
+            Ok(if_of(alloc, n, half, other)?)
+        }
+        NodeWhat::While(e, body) => {
+            while_made(alloc, rules, scope, frame, here, place, e, body.get())
+        }
+        NodeWhat::For(init, test, step, body) => for_made(
+            alloc,
+            rules,
+            scope,
+            frame,
+            here,
+            place,
+            body.get(),
+            init.as_slice(),
+            test,
+            step,
+        ),
+        _ => simple_counted(alloc, rules, scope, frame, in_loop, here, is_taken, place, what),
+    }
+}
+
+/// The condition of an `if` and its first branch.
+#[cycle(line)]
+fn if_half<R: Typing>(
+    alloc: Global,
+    rules: &R,
+    scope: &Scope,
+    frame: &Frame,
+    in_loop: bool,
+    here: &mut Here,
+    place: Place,
+    e: &Form,
+    one: &Node,
+) -> Result<Result<(Expr, Items<Stmt>), Fault>, OutOfMemory>
+    ensures told { IfOk result (λ r. r ≡ told (both (condition (R.rules rules.now) scope.now here.old place (written_of e.now)) (line_made (R.rules rules.now) scope.now frame.now in_loop true (numbered here.old) false (line_of one.now)) pair)) }
+    ensures grown { OnOk result (here.new ≡ line_behind scope.now frame.now (numbered here.old) false (line_of one.now)) }
+{
+    let head = condition_counted(alloc, rules, scope, here, place, e)?;
+    let one = line(alloc, rules, scope, frame, in_loop, true, here, false, one)?;
+    Ok(paired(head, one))
+}
+
+/// A branch that may be missing.
+#[cycle(line)]
+fn perhaps_line<R: Typing>(
+    alloc: Global,
+    rules: &R,
+    scope: &Scope,
+    frame: &Frame,
+    in_loop: bool,
+    here: &mut Here,
+    n: &Option<Boxed<Node>>,
+) -> Result<Result<Items<Stmt>, Fault>, OutOfMemory>
+    ensures told { IfOk result (λ r. r ≡ told (perhaps_made (R.rules rules.now) scope.now frame.now in_loop here.old (perhaps (option_map line_of n.now)))) }
+    ensures grown { OnOk result (here.new ≡ perhaps_behind scope.now frame.now here.old (perhaps (option_map line_of n.now))) }
+{
+    match n {
+        None => Ok(Ok(Items::new(alloc))),
+        Some(n) => line(alloc, rules, scope, frame, in_loop, true, here, false, n.get()),
+    }
+}
+
+#[cycle(line)]
+fn while_made<R: Typing>(
+    alloc: Global,
+    rules: &R,
+    scope: &Scope,
+    frame: &Frame,
+    here: &mut Here,
+    place: Place,
+    e: &Form,
+    body: &Node,
+) -> Result<Result<Items<Stmt>, Fault>, OutOfMemory>
+    ensures told { IfOk result (λ r. r ≡ told (both (condition (R.rules rules.now) scope.now here.old place (written_of e.now)) (line_made (R.rules rules.now) scope.now frame.now true true (numbered here.old) false (line_of body.now)) (while_of here.old.number))) }
+    ensures grown { OnOk result (here.new ≡ line_behind scope.now frame.now (numbered here.old) false (line_of body.now)) }
+{
+    let n = here.number;
+    let head = condition_counted(alloc, rules, scope, here, place, e)?;
+    let body = line(alloc, rules, scope, frame, true, true, here, false, body)?;
+    Ok(while_of(alloc, n, head, body)?)
+}
+
+#[cycle(line)]
+fn for_made<R: Typing>(
+    alloc: Global,
+    rules: &R,
+    scope: &Scope,
+    frame: &Frame,
+    here: &mut Here,
+    place: Place,
+    body: &Node,
+    init: &[Node],
+    test: &Option<Form>,
+    step: &Option<Boxed<Node>>,
+) -> Result<Result<Items<Stmt>, Fault>, OutOfMemory>
+    ensures told { IfOk result (λ r. r ≡ told (both (for_head (R.rules rules.now) scope.now frame.now (entered here.old) place (lines_of init.now) (option_map written_of test.now) (perhaps (option_map line_of step.now)) (line_of body.now)) (line_made (R.rules rules.now) scope.now frame.now true true (behind_head scope.now frame.now (entered here.old) (lines_of init.now) (option_map written_of test.now) (perhaps (option_map line_of step.now)) (line_of body.now)) false (line_of body.now)) (for_of here.old.number))) }
+    ensures grown { OnOk result (here.new ≡ left here.old (line_behind scope.now frame.now (behind_head scope.now frame.now (entered here.old) (lines_of init.now) (option_map written_of test.now) (perhaps (option_map line_of step.now)) (line_of body.now)) false (line_of body.now))) }
+{
+    let n = here.number;
+    let names = here.names.len();
+    let first = here.first;
+    here.first = here.slot;
+    let head = for_head(alloc, rules, scope, frame, here, place, init, test, step, body)?;
+    let inside = line(alloc, rules, scope, frame, true, true, here, false, body)?;
+    leave(alloc, names, first, here);
+    Ok(for_of(alloc, n, head, inside)?)
+}
+
+/// A block with names of its own.
+#[cycle(line)]
+fn block<R: Typing>(
+    alloc: Global,
+    rules: &R,
+    scope: &Scope,
+    frame: &Frame,
+    in_loop: bool,
+    is_part: bool,
+    here: &mut Here,
+    nodes: &[Node],
+) -> Result<Result<Items<Stmt>, Fault>, OutOfMemory>
+    ensures told { IfOk result (λ r. r ≡ told (as_part is_part (lines_made (R.rules rules.now) scope.now frame.now in_loop (entered here.old) (lines_of nodes.now)))) }
+    ensures grown { OnOk result (here.new ≡ left here.old (lines_behind scope.now frame.now (entered here.old) (lines_of nodes.now))) }
+{
+    let names = here.names.len();
+    let first = here.first;
+    here.first = here.slot;
+    let made = lines(alloc, rules, scope, frame, in_loop, here, nodes)?;
+    leave(alloc, names, first, here);
+    Ok(as_part(alloc, is_part, made)?)
+}
+
+/// Statements one behind the other.
+#[cycle(line)]
+#[tactic(auto, using(mdr_faults::proofs::Gathered::followed_none))]
+pub fn lines<R: Typing>(
+    alloc: Global,
+    rules: &R,
+    scope: &Scope,
+    frame: &Frame,
+    in_loop: bool,
+    here: &mut Here,
+    nodes: &[Node],
+) -> Result<Result<Items<Stmt>, Fault>, OutOfMemory>
+    ensures told { IfOk result (λ r. r ≡ told (lines_made (R.rules rules.now) scope.now frame.now in_loop here.old (lines_of nodes.now))) }
+    ensures grown { OnOk result (here.new ≡ lines_behind scope.now frame.now here.old (lines_of nodes.now)) }
+{
+    let mut all = Ok(Items::new(alloc));
+    for i in 0..nodes.len() {
+        let n = &nodes[i];
+        let made = line(
+            alloc, rules, scope, frame, in_loop, false, here, taken_at(n, nodes, i), n,
+        )?;
+        all = followed(all, made)?;
+    }
+    Ok(all)
 }
