@@ -28,7 +28,7 @@ differ h = cc
 abbrev Layer : Type 0
 Layer = NodeWhat-F NodeWhat Clause Node
 
-has_parts : Line → Bool
+abbrev has_parts : Line → Bool
 has_parts (Line.Empty p) = false
 has_parts (Line.Block p ls) = true
 has_parts (Line.Local p d init) = false

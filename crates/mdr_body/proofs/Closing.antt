@@ -8,7 +8,7 @@ use Rattle.mdr_faults.proofs.Order.{lesser_assoc}
 use Rattle.mdr_body.specs.declared.here.DeclaredLocal.{DeclaredLocal}
 use Rattle.mdr_body.specs.Bodies.{declared_locals, local_again}
 
-before : {A : Type 0} → Result A Fault → Result (List A) Fault → Result (List A) Fault
+abbrev before : {A : Type 0} → Result A Fault → Result (List A) Fault → Result (List A) Fault
 before (Ok x) (Ok xs) = Ok (x ∷ xs)
 before (Ok x) (Err g) = Err g
 before (Err f) (Ok xs) = Err f

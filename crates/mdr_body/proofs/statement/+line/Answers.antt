@@ -17,6 +17,6 @@ lines-returns-clause-grown g t c = sym (at_drop_all (λ ys. lines_behind c.args.
 
 pub line_at-returns-in_default : goal.line_at-returns-in_default
 line_at-returns-in_default g t c = record {
-  told = told_same c.simple_counted.result _ _ (made_simple (g.R.Typing.rules c.args.rules.now) c.args.scope.now c.args.frame.now c.args.in_loop c.args.is_part c.args.here.old c.args.is_taken c.args.what.now c.in_default.not-Block c.in_default.not-If c.in_default.not-While c.in_default.not-For c.args.place) c.simple_counted.ensures.told;
-  grown = grown_same c.simple_counted.result _ _ _ (behind_made_simple c.args.scope.now c.args.frame.now c.args.here.old c.args.is_taken c.args.what.now c.in_default.not-Block c.in_default.not-If c.in_default.not-While c.in_default.not-For c.args.place) c.simple_counted.ensures.grown;
+  told = told_same c.simple_counted.result _ _ (made_simple (g.R.Typing.rules c.args.rules.now) c.args.scope.now c.args.frame.now c.args.in_loop c.args.is_part c.args.here.now c.args.is_taken c.args.what.now c.in_default.not-Block c.in_default.not-If c.in_default.not-While c.in_default.not-For c.args.place) c.simple_counted.ensures.told;
+  grown = grown_same c.simple_counted.result _ _ _ (behind_made_simple c.args.scope.now c.args.frame.now c.args.here.now c.args.is_taken c.args.what.now c.in_default.not-Block c.in_default.not-If c.in_default.not-While c.in_default.not-For c.args.place) c.simple_counted.ensures.grown;
 }
