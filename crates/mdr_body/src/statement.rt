@@ -158,7 +158,9 @@ fn simple_node<R: Typing>(
     ensures told { IfOk result (λ r. r ≡ told (simple_made (R.rules rules.now) scope.now frame.now false here.old is_taken (line_of n.now))) }
     ensures grown { OnOk result (here.new ≡ simple_behind scope.now frame.now here.old is_taken (line_of n.now)) }
 {
-    simple_made(alloc, rules, scope, frame, false, here, is_taken, n.place, &n.what)
+    simple_made(
+        alloc, rules, scope, frame, false, here, is_taken, n.place, &n.what,
+    )
 }
 
 pub fn simple_counted<R: Typing>(
@@ -175,7 +177,9 @@ pub fn simple_counted<R: Typing>(
     ensures told { IfOk result (λ r. r ≡ told (simple_made (R.rules rules.now) scope.now frame.now in_loop here.old is_taken (line_what what.now place))) }
     ensures grown { OnOk result (here.new ≡ numbered (simple_behind scope.now frame.now here.old is_taken (line_what what.now place))) }
 {
-    let made = simple_made(alloc, rules, scope, frame, in_loop, here, is_taken, place, what)?;
+    let made = simple_made(
+        alloc, rules, scope, frame, in_loop, here, is_taken, place, what,
+    )?;
     count(here)?;
     Ok(made)
 }
@@ -217,7 +221,13 @@ fn heads<R: Typing>(
     for i in 0..init.len() {
         let n = &init[i];
         let made = simple_node(
-            alloc, rules, scope, frame, here, head_taken_in(n, init, i, test, step, body), n,
+            alloc,
+            rules,
+            scope,
+            frame,
+            here,
+            head_taken_in(n, init, i, test, step, body),
+            n,
         )?;
         all = followed(all, made)?;
     }
@@ -295,7 +305,9 @@ pub fn for_head<R: Typing>(
     ensures told { IfOk result (λ r. r ≡ told (for_head (R.rules rules.now) scope.now frame.now here.old place (lines_of init.now) (option_map written_of test.now) (perhaps (option_map line_of step.now)) (line_of body.now))) }
     ensures grown { OnOk result (here.new ≡ behind_head scope.now frame.now here.old (lines_of init.now) (option_map written_of test.now) (perhaps (option_map line_of step.now)) (line_of body.now)) }
 {
-    let two = init_and_test(alloc, rules, scope, frame, here, place, init, test, step, body)?;
+    let two = init_and_test(
+        alloc, rules, scope, frame, here, place, init, test, step, body,
+    )?;
     let third = last_counted(alloc, rules, scope, frame, here, step)?;
     Ok(paired(two, third))
 }
@@ -380,7 +392,9 @@ fn line<R: Typing>(
     ensures told { IfOk result (λ r. r ≡ told (line_made (R.rules rules.now) scope.now frame.now in_loop is_part here.old is_taken (line_of n.now))) }
     ensures grown { OnOk result (here.new ≡ line_behind scope.now frame.now here.old is_taken (line_of n.now)) }
 {
-    line_at(alloc, rules, scope, frame, in_loop, is_part, here, is_taken, n.place, &n.what)
+    line_at(
+        alloc, rules, scope, frame, in_loop, is_part, here, is_taken, n.place, &n.what,
+    )
 }
 
 #[cycle(line)]
@@ -401,11 +415,30 @@ fn line_at<R: Typing>(
 {
     match what {
         NodeWhat::Block(body) => {
-            block(alloc, rules, scope, frame, in_loop, is_part, here, body.as_slice())
+            block(
+                alloc,
+                rules,
+                scope,
+                frame,
+                in_loop,
+                is_part,
+                here,
+                body.as_slice(),
+            )
         }
         NodeWhat::If(e, one, other) => {
             let n = here.number;
-            let half = if_half(alloc, rules, scope, frame, in_loop, here, place, e, one.get())?;
+            let half = if_half(
+                alloc,
+                rules,
+                scope,
+                frame,
+                in_loop,
+                here,
+                place,
+                e,
+                one.get(),
+            )?;
             let other = perhaps_line(alloc, rules, scope, frame, in_loop, here, other)?;
             Ok(if_of(alloc, n, half, other)?)
         }
@@ -424,7 +457,9 @@ fn line_at<R: Typing>(
             test,
             step,
         ),
-        _ => simple_counted(alloc, rules, scope, frame, in_loop, here, is_taken, place, what),
+        _ => simple_counted(
+            alloc, rules, scope, frame, in_loop, here, is_taken, place, what,
+        ),
     }
 }
 
@@ -465,7 +500,17 @@ fn perhaps_line<R: Typing>(
 {
     match n {
         None => Ok(Ok(Items::new(alloc))),
-        Some(n) => line(alloc, rules, scope, frame, in_loop, true, here, false, n.get()),
+        Some(n) => line(
+            alloc,
+            rules,
+            scope,
+            frame,
+            in_loop,
+            true,
+            here,
+            false,
+            n.get(),
+        ),
     }
 }
 
@@ -509,7 +554,9 @@ fn for_made<R: Typing>(
     let names = here.names.len();
     let first = here.first;
     here.first = here.slot;
-    let head = for_head(alloc, rules, scope, frame, here, place, init, test, step, body)?;
+    let head = for_head(
+        alloc, rules, scope, frame, here, place, init, test, step, body,
+    )?;
     let inside = line(alloc, rules, scope, frame, true, true, here, false, body)?;
     leave(alloc, names, first, here);
     Ok(for_of(alloc, n, head, inside)?)
@@ -557,7 +604,15 @@ pub fn lines<R: Typing>(
     for i in 0..nodes.len() {
         let n = &nodes[i];
         let made = line(
-            alloc, rules, scope, frame, in_loop, false, here, taken_at(n, nodes, i), n,
+            alloc,
+            rules,
+            scope,
+            frame,
+            in_loop,
+            false,
+            here,
+            taken_at(n, nodes, i),
+            n,
         )?;
         all = followed(all, made)?;
     }

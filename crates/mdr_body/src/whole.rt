@@ -9,8 +9,8 @@ ghost use Rattle.mdr_body.specs.Mentions.{uses};
 ghost use Rattle.mdr_body.specs.Bodies.{declared_locals, frame_of, body_of, body_by, body_rule};
 
 use crate::here::{DeclaredLocal, Frame, Here};
-use crate::mention::uses;
 use crate::locals::{first_here, parameter_objects, struct_locks};
+use crate::mention::uses;
 use crate::statement::lines;
 use crate::typing::Typing;
 use mdr_core::{Items, Local, OutOfMemory, Stmt};
