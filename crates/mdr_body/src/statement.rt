@@ -436,14 +436,14 @@ fn line_at<R: Typing>(
                 in_loop,
                 here,
                 place,
-                e,
                 one.get(),
+                e,
             )?;
             let other = perhaps_line(alloc, rules, scope, frame, in_loop, here, other)?;
             Ok(if_of(alloc, n, half, other)?)
         }
         NodeWhat::While(e, body) => {
-            while_made(alloc, rules, scope, frame, here, place, e, body.get())
+            while_made(alloc, rules, scope, frame, here, place, body.get(), e)
         }
         NodeWhat::For(init, test, step, body) => for_made(
             alloc,
@@ -473,8 +473,8 @@ fn if_half<R: Typing>(
     in_loop: bool,
     here: &mut Here,
     place: Place,
-    e: &Form,
     one: &Node,
+    e: &Form,
 ) -> Result<Result<(Expr, Items<Stmt>), Fault>, OutOfMemory>
     ensures told { IfOk result (λ r. r ≡ told (both (condition (R.rules rules.now) scope.now here.old place (written_of e.now)) (line_made (R.rules rules.now) scope.now frame.now in_loop true (numbered here.old) false (line_of one.now)) pair)) }
     ensures grown { OnOk result (here.new ≡ line_behind scope.now frame.now (numbered here.old) false (line_of one.now)) }
@@ -522,8 +522,8 @@ fn while_made<R: Typing>(
     frame: &Frame,
     here: &mut Here,
     place: Place,
-    e: &Form,
     body: &Node,
+    e: &Form,
 ) -> Result<Result<Items<Stmt>, Fault>, OutOfMemory>
     ensures told { IfOk result (λ r. r ≡ told (both (condition (R.rules rules.now) scope.now here.old place (written_of e.now)) (line_made (R.rules rules.now) scope.now frame.now true true (numbered here.old) false (line_of body.now)) (while_of here.old.number))) }
     ensures grown { OnOk result (here.new ≡ line_behind scope.now frame.now (numbered here.old) false (line_of body.now)) }

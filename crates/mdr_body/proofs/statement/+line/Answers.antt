@@ -1,7 +1,10 @@
-use Rattle.std.proofs.Math.Path.{sym, ◌∙◌}
+use Rattle.std.proofs.Common.{true, false}
+use Rattle.std.proofs.Math.Path.{sym, ap, ◌∙◌}
 use Rattle.std.proofs.lemmas.List.{at_drop_all}
-use Rattle.mdr_operand.specs.Written.{lines_of}
-use Rattle.mdr_body.specs.Statements.{lines_behind}
+use Rattle.mdr_faults.specs.Faults.{told}
+use Rattle.mdr_operand.specs.Written.{line_of, lines_of}
+use Rattle.mdr_body.specs.declared.here.Here.{Here}
+use Rattle.mdr_body.specs.Statements.{lines_behind, line_made}
 use Rattle.mdr_body.proofs.Apart.{made_simple, behind_made_simple, told_same, grown_same}
 use Rattle.mdr_body.proofs.Gathering.{one_line, one_behind_line}
 use Rattle.mdr_body.proofs.statement.+line.Goals as goal
@@ -20,3 +23,8 @@ line_at-returns-in_default g t c = record {
   told = told_same c.simple_counted.result _ _ (made_simple (g.R.Typing.rules c.args.rules.now) c.args.scope.now c.args.frame.now c.args.in_loop c.args.is_part c.args.here.now c.args.is_taken c.args.what.now c.in_default.not-Block c.in_default.not-If c.in_default.not-While c.in_default.not-For c.args.place) c.simple_counted.ensures.told;
   grown = grown_same c.simple_counted.result _ _ _ (behind_made_simple c.args.scope.now c.args.frame.now c.args.here.now c.args.is_taken c.args.what.now c.in_default.not-Block c.in_default.not-If c.in_default.not-While c.in_default.not-For c.args.place) c.simple_counted.ensures.grown;
 }
+
+pub if_half-returns-clause-told : goal.if_half-returns-clause-told
+if_half-returns-clause-told g t c =
+    c.paired.ensures _ _ c.in_ok-head.ensures.told
+    (c.in_ok-one.ensures.told ∙ ap (λ (h : Here). told (line_made (g.R.Typing.rules c.args.rules.now) c.args.scope.now c.args.frame.now c.args.in_loop true h false (line_of c.args.one.now))) c.in_ok-head.ensures.grown)
