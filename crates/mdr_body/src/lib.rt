@@ -17,8 +17,8 @@ pub use simple::{
     simple_made, single, stated,
 };
 pub use statement::{
-    as_part, condition_counted, for_head, for_of, head_taken_in, if_of, paired, simple_counted,
-    taken_at, while_of,
+    as_part, condition_counted, for_head, for_of, head_taken_in, if_of, lines, paired,
+    simple_counted, taken_at, while_of,
 };
 pub use typing::Typing;
-pub use whole::{body_of, declared_locals, frame_of};
+pub use whole::{Rule, body_of, body_rule, declared_locals, frame_of};

@@ -1,18 +1,18 @@
 // Statements with parts, and blocks (C99 6.8.2, 6.8.4, 6.8.5).
 
-ghost use Rattle.std.specs.Prelude.{◌≡◌, ◌||◌, ◌+◌, ◌<◌, IfOk, OnOk, List, drop, length, false};
+ghost use Rattle.std.specs.Prelude.{◌≡◌, ◌||◌, ◌+◌, ◌<◌, IfOk, OnOk, List, drop, length, false, true};
 ghost use Rattle.std.specs.Option.{option_map};
 ghost use Rattle.mdr_core.specs.declared.code.Expr.{Expr};
 ghost use Rattle.mdr_core.specs.declared.code.Stmt.{Stmt};
 ghost use Rattle.mdr_faults.specs.Faults.{Checked, told, both};
 ghost use Rattle.mdr_operand.specs.Written.{written_of, line_of, lines_of, perhaps};
 ghost use Rattle.mdr_body.specs.declared.mention.Mention.TheVariants.{Address};
-ghost use Rattle.mdr_body.specs.Locals.{is_taken, numbered};
+ghost use Rattle.mdr_body.specs.Locals.{is_taken, entered, left, numbered};
 ghost use Rattle.mdr_body.specs.Mentions.{perhaps_mentions, has, have, line_what};
-ghost use Rattle.mdr_body.specs.Statements.{condition, perhaps_condition, pair, taken_behind, head_taken, heads_made, heads_behind, steps_made, steps_behind, ForHead, for_head, behind_head, as_part, if_of, while_of, for_of, simple_made, simple_behind};
+ghost use Rattle.mdr_body.specs.Statements.{condition, perhaps_condition, pair, taken_behind, head_taken, heads_made, heads_behind, steps_made, steps_behind, ForHead, for_head, behind_head, as_part, if_of, while_of, for_of, simple_made, simple_behind, line_behind, perhaps_behind, lines_behind, line_made, perhaps_made, lines_made};
 
 use crate::here::{Frame, Here};
-use crate::locals::{count, takes};
+use crate::locals::{count, leave, takes};
 use crate::mention::{Mention, has, have, perhaps_has, perhaps_mentions};
 use crate::simple::{condition, perhaps_condition, simple_made, single};
 use crate::typing::Typing;
@@ -372,4 +372,249 @@ pub fn for_of(
         }
         Err(fault) => Ok(Err(fault)),
     }
+}
+
+// ---- statements
+
+/// A statement; what it declares and counts is known behind it.
+#[cycle(line)]
+fn line<R: Typing>(
+    alloc: Global,
+    rules: &R,
+    scope: &Scope,
+    frame: &Frame,
+    in_loop: bool,
+    is_part: bool,
+    here: &mut Here,
+    is_taken: bool,
+    n: &Node,
+) -> Result<Result<Items<Stmt>, Fault>, OutOfMemory>
+    ensures told { IfOk result (λ r. r ≡ told (line_made (R.rules rules.now) scope.now frame.now in_loop is_part here.old is_taken (line_of n.now))) }
+    ensures grown { OnOk result (here.new ≡ line_behind scope.now frame.now here.old is_taken (line_of n.now)) }
+{
+    line_at(
+        alloc, rules, scope, frame, in_loop, is_part, here, is_taken, n.place, &n.what,
+    )
+}
+
+#[cycle(line)]
+fn line_at<R: Typing>(
+    alloc: Global,
+    rules: &R,
+    scope: &Scope,
+    frame: &Frame,
+    in_loop: bool,
+    is_part: bool,
+    here: &mut Here,
+    is_taken: bool,
+    place: Place,
+    what: &NodeWhat,
+) -> Result<Result<Items<Stmt>, Fault>, OutOfMemory>
+    ensures told { IfOk result (λ r. r ≡ told (line_made (R.rules rules.now) scope.now frame.now in_loop is_part here.old is_taken (line_what what.now place))) }
+    ensures grown { OnOk result (here.new ≡ line_behind scope.now frame.now here.old is_taken (line_what what.now place)) }
+{
+    match what {
+        NodeWhat::Block(body) => {
+            block(
+                alloc,
+                rules,
+                scope,
+                frame,
+                in_loop,
+                is_part,
+                here,
+                body.as_slice(),
+            )
+        }
+        NodeWhat::If(e, one, other) => {
+            let n = here.number;
+            let half = if_half(
+                alloc,
+                rules,
+                scope,
+                frame,
+                in_loop,
+                here,
+                place,
+                one.get(),
+                e,
+            )?;
+            let other = perhaps_line(alloc, rules, scope, frame, in_loop, here, other)?;
+            Ok(if_of(alloc, n, half, other)?)
+        }
+        NodeWhat::While(e, body) => {
+            while_made(alloc, rules, scope, frame, here, place, body.get(), e)
+        }
+        NodeWhat::For(init, test, step, body) => for_made(
+            alloc,
+            rules,
+            scope,
+            frame,
+            here,
+            place,
+            body.get(),
+            init.as_slice(),
+            test,
+            step,
+        ),
+        _ => simple_counted(
+            alloc, rules, scope, frame, in_loop, here, is_taken, place, what,
+        ),
+    }
+}
+
+/// The condition of an `if` and its first branch.
+#[cycle(line)]
+fn if_half<R: Typing>(
+    alloc: Global,
+    rules: &R,
+    scope: &Scope,
+    frame: &Frame,
+    in_loop: bool,
+    here: &mut Here,
+    place: Place,
+    one: &Node,
+    e: &Form,
+) -> Result<Result<(Expr, Items<Stmt>), Fault>, OutOfMemory>
+    ensures told { IfOk result (λ r. r ≡ told (both (condition (R.rules rules.now) scope.now here.old place (written_of e.now)) (line_made (R.rules rules.now) scope.now frame.now in_loop true (numbered here.old) false (line_of one.now)) pair)) }
+    ensures grown { OnOk result (here.new ≡ line_behind scope.now frame.now (numbered here.old) false (line_of one.now)) }
+{
+    let head = condition_counted(alloc, rules, scope, here, place, e)?;
+    let one = line(alloc, rules, scope, frame, in_loop, true, here, false, one)?;
+    Ok(paired(head, one))
+}
+
+/// A branch that may be missing.
+#[cycle(line)]
+fn perhaps_line<R: Typing>(
+    alloc: Global,
+    rules: &R,
+    scope: &Scope,
+    frame: &Frame,
+    in_loop: bool,
+    here: &mut Here,
+    n: &Option<Boxed<Node>>,
+) -> Result<Result<Items<Stmt>, Fault>, OutOfMemory>
+    ensures told { IfOk result (λ r. r ≡ told (perhaps_made (R.rules rules.now) scope.now frame.now in_loop here.old (perhaps (option_map line_of n.now)))) }
+    ensures grown { OnOk result (here.new ≡ perhaps_behind scope.now frame.now here.old (perhaps (option_map line_of n.now))) }
+{
+    match n {
+        None => Ok(Ok(Items::new(alloc))),
+        Some(n) => line(
+            alloc,
+            rules,
+            scope,
+            frame,
+            in_loop,
+            true,
+            here,
+            false,
+            n.get(),
+        ),
+    }
+}
+
+#[cycle(line)]
+fn while_made<R: Typing>(
+    alloc: Global,
+    rules: &R,
+    scope: &Scope,
+    frame: &Frame,
+    here: &mut Here,
+    place: Place,
+    body: &Node,
+    e: &Form,
+) -> Result<Result<Items<Stmt>, Fault>, OutOfMemory>
+    ensures told { IfOk result (λ r. r ≡ told (both (condition (R.rules rules.now) scope.now here.old place (written_of e.now)) (line_made (R.rules rules.now) scope.now frame.now true true (numbered here.old) false (line_of body.now)) (while_of here.old.number))) }
+    ensures grown { OnOk result (here.new ≡ line_behind scope.now frame.now (numbered here.old) false (line_of body.now)) }
+{
+    let n = here.number;
+    let head = condition_counted(alloc, rules, scope, here, place, e)?;
+    let body = line(alloc, rules, scope, frame, true, true, here, false, body)?;
+    Ok(while_of(alloc, n, head, body)?)
+}
+
+#[cycle(line)]
+fn for_made<R: Typing>(
+    alloc: Global,
+    rules: &R,
+    scope: &Scope,
+    frame: &Frame,
+    here: &mut Here,
+    place: Place,
+    body: &Node,
+    init: &[Node],
+    test: &Option<Form>,
+    step: &Option<Boxed<Node>>,
+) -> Result<Result<Items<Stmt>, Fault>, OutOfMemory>
+    ensures told { IfOk result (λ r. r ≡ told (both (for_head (R.rules rules.now) scope.now frame.now (entered here.old) place (lines_of init.now) (option_map written_of test.now) (perhaps (option_map line_of step.now)) (line_of body.now)) (line_made (R.rules rules.now) scope.now frame.now true true (behind_head scope.now frame.now (entered here.old) (lines_of init.now) (option_map written_of test.now) (perhaps (option_map line_of step.now)) (line_of body.now)) false (line_of body.now)) (for_of here.old.number))) }
+    ensures grown { OnOk result (here.new ≡ left here.old (line_behind scope.now frame.now (behind_head scope.now frame.now (entered here.old) (lines_of init.now) (option_map written_of test.now) (perhaps (option_map line_of step.now)) (line_of body.now)) false (line_of body.now))) }
+{
+    let n = here.number;
+    let names = here.names.len();
+    let first = here.first;
+    here.first = here.slot;
+    let head = for_head(
+        alloc, rules, scope, frame, here, place, init, test, step, body,
+    )?;
+    let inside = line(alloc, rules, scope, frame, true, true, here, false, body)?;
+    leave(alloc, names, first, here);
+    Ok(for_of(alloc, n, head, inside)?)
+}
+
+/// A block with names of its own.
+#[cycle(line)]
+fn block<R: Typing>(
+    alloc: Global,
+    rules: &R,
+    scope: &Scope,
+    frame: &Frame,
+    in_loop: bool,
+    is_part: bool,
+    here: &mut Here,
+    nodes: &[Node],
+) -> Result<Result<Items<Stmt>, Fault>, OutOfMemory>
+    ensures told { IfOk result (λ r. r ≡ told (as_part is_part (lines_made (R.rules rules.now) scope.now frame.now in_loop (entered here.old) (lines_of nodes.now)))) }
+    ensures grown { OnOk result (here.new ≡ left here.old (lines_behind scope.now frame.now (entered here.old) (lines_of nodes.now))) }
+{
+    let names = here.names.len();
+    let first = here.first;
+    here.first = here.slot;
+    let made = lines(alloc, rules, scope, frame, in_loop, here, nodes)?;
+    leave(alloc, names, first, here);
+    Ok(as_part(alloc, is_part, made)?)
+}
+
+/// Statements one behind the other.
+#[cycle(line)]
+#[tactic(auto, using(mdr_faults::proofs::Gathered::followed_none))]
+pub fn lines<R: Typing>(
+    alloc: Global,
+    rules: &R,
+    scope: &Scope,
+    frame: &Frame,
+    in_loop: bool,
+    here: &mut Here,
+    nodes: &[Node],
+) -> Result<Result<Items<Stmt>, Fault>, OutOfMemory>
+    ensures told { IfOk result (λ r. r ≡ told (lines_made (R.rules rules.now) scope.now frame.now in_loop here.old (lines_of nodes.now))) }
+    ensures grown { OnOk result (here.new ≡ lines_behind scope.now frame.now here.old (lines_of nodes.now)) }
+{
+    let mut all = Ok(Items::new(alloc));
+    for i in 0..nodes.len() {
+        let n = &nodes[i];
+        let made = line(
+            alloc,
+            rules,
+            scope,
+            frame,
+            in_loop,
+            false,
+            here,
+            taken_at(n, nodes, i),
+            n,
+        )?;
+        all = followed(all, made)?;
+    }
+    Ok(all)
 }

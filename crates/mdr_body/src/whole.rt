@@ -1,17 +1,22 @@
 // A function's body (C99 6.9.1).
 
-ghost use Rattle.std.specs.Prelude.{◌≡◌, IfOk, List};
+ghost use Rattle.std.specs.Prelude.{◌≡◌, IfOk, List, false};
 ghost use Rattle.mdr_core.specs.declared.code.Stmt.{Stmt};
 ghost use Rattle.mdr_core.specs.declared.program.Local.{Local};
 ghost use Rattle.mdr_faults.specs.Faults.{Checked, told, both};
-ghost use Rattle.mdr_body.specs.Bodies.{declared_locals, frame_of, body_of};
+ghost use Rattle.mdr_operand.specs.Written.{lines_of};
+ghost use Rattle.mdr_body.specs.Mentions.{uses};
+ghost use Rattle.mdr_body.specs.Bodies.{declared_locals, frame_of, body_of, body_by, body_rule};
 
-use crate::here::{DeclaredLocal, Frame};
-use crate::locals::struct_locks;
-use mdr_core::{Items, Local, Stmt};
+use crate::here::{DeclaredLocal, Frame, Here};
+use crate::locals::{first_here, parameter_objects, struct_locks};
+use crate::mention::uses;
+use crate::statement::lines;
+use crate::typing::Typing;
+use mdr_core::{Items, Local, OutOfMemory, Stmt};
 use mdr_faults::{Fault, Scope, both, extended};
-use mdr_headings::{Body, head_result};
-use mdr_syntax::Head;
+use mdr_headings::{Bodies, Body, head_result};
+use mdr_syntax::{Head, Node};
 use std::alloc::{AllocError, Global};
 
 /// What is the same in a whole body.
@@ -55,5 +60,64 @@ pub fn body_of(
             statements,
         }),
         Err(fault) => Err(fault),
+    }
+}
+
+fn body_by<R: Typing>(
+    alloc: Global,
+    rules: &R,
+    scope: &Scope,
+    frame: &Frame,
+    here: Here,
+    objects: Items<bool>,
+    nodes: &[Node],
+) -> Result<Result<Body, Fault>, OutOfMemory>
+    ensures { IfOk result (λ r. r ≡ told (body_by (R.rules rules.now) scope.now frame.now here objects (lines_of nodes.now))) }
+{
+    let mut here = here;
+    let made = lines(alloc, rules, scope, frame, false, &mut here, nodes)?;
+    let locals = declared_locals(alloc, here.locals)?;
+    Ok(body_of(objects, locals, made))
+}
+
+/// What a function's body comes to. The scope is that behind the function's name.
+#[tactic(auto, unfolding(crate::specs::Bodies::body_rule))]
+pub fn body_rule<R: Typing>(
+    alloc: Global,
+    rules: &R,
+    scope: &Scope,
+    h: &Head,
+    nodes: &[Node],
+) -> Result<Result<Body, Fault>, OutOfMemory>
+    ensures { IfOk result (λ r. r ≡ told (body_rule (R.rules rules.now) scope.now h.now nodes.now)) }
+{
+    let frame = frame_of(alloc, scope, h)?;
+    let objects = parameter_objects(alloc, nodes, h.params.as_slice())?;
+    let here = first_here(alloc, scope, nodes, h.params.as_slice())?;
+    body_by(alloc, rules, scope, &frame, here, objects, nodes)
+}
+
+/// The rule of bodies, over rules of expressions, assignments and calls.
+pub struct Rule<R> {
+    pub typing: R,
+}
+
+impl<R: Typing> Bodies for Rule<R> {
+    ghost rule = { λ self. body_rule (R.rules self.typing) };
+
+    ghost used = { λ self. uses };
+
+    fn body(
+        &self,
+        alloc: Global,
+        scope: &Scope,
+        h: &Head,
+        nodes: &[Node],
+    ) -> Result<Result<Body, Fault>, OutOfMemory> {
+        body_rule(alloc, &self.typing, scope, h, nodes)
+    }
+
+    fn uses(&self, h: &Head, nodes: &[Node], name: &[u8]) -> bool {
+        uses(h, nodes, name)
     }
 }
