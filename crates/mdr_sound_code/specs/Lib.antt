@@ -1,0 +1,3 @@
+pub mod Knowing
+pub mod Operands
+pub mod Laws
