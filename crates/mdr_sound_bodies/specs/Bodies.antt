@@ -1,0 +1,1 @@
+-- Bodies that keep to the rules of sound programs.

@@ -1,0 +1,3 @@
+pub mod Grounded
+pub mod Rules
+pub mod Bodies
