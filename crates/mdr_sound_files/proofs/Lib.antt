@@ -1,3 +1,5 @@
 pub mod Sorts
 pub mod NamedTypes
 pub mod Objects
+pub mod Reading
+pub mod Annotating

@@ -1,10 +1,11 @@
 -- What declarations come to, as of the program that the file comes to (C99 6.2.5, 6.7).
-use Rattle.std.specs.Prelude.{◌≡◌, ℕ, ◌<◌, ◌≤◌, length, Some}
+use Rattle.std.specs.Prelude.{◌≡◌, ℕ, ◌<◌, ◌≤◌, true, List, length, Some, slice_get}
 use Rattle.mdr_core.specs.declared.program.Program.{Program}
 use Rattle.mdr_core.specs.declared.types.Ty.{Ty}
 use Rattle.mdr_core.specs.Layout.{struct_of}
-use Rattle.mdr_core.specs.Sound.{IsObjectSort, IsCount, all_cells}
+use Rattle.mdr_core.specs.Sound.{Sibling, IsIntegerSibling, IsObjectSort, IsCount, all_cells}
 use Rattle.mdr_core.specs.Types.{Sort, Wrong, Empty, Locks, Aggregate, Scalar, sort_of}
+use Rattle.mdr_faults.specs.declared.scope.Candidate.{Candidate}
 use Rattle.mdr_faults.specs.declared.scope.Object.{Object}
 use Rattle.mdr_faults.specs.declared.scope.Scope.{Scope}
 
@@ -25,3 +26,7 @@ pub record IsSoundObject (program : Program) (scope : Scope) (o : Object) : Type
   pub count : IsCount o.array o.count
   pub small : length (all_cells program o.ty o.count) ≤ 65536
   pub lower : (s : ℕ) → struct_of o.ty ≡ Some s → s < length scope.structs
+
+-- what an annotation sees of the fields or parameters beside it is so
+pub record SeesSiblings (candidates : List Candidate) (siblings : List Sibling) : Type 0 where
+  pub integers : (i : ℕ) (c : Candidate) → slice_get candidates i ≡ Some c → c.is_integer ≡ true → IsIntegerSibling siblings i
