@@ -6,3 +6,4 @@ pub mod Annotating
 pub mod Gathering
 pub mod Candidates
 pub mod Structs
+pub mod StructsKnown

@@ -114,16 +114,16 @@ struct_as scope p ds xs e =
 -- ---- what annotations see of the fields
 
 -- what a field's declaration says of it
-record IsMade (scope : Scope) (d : Decl) (x : Field) : Type 0 where
-  whole : (declarator scope d).whole ≡ Right x.ty
-  array : is_some (out-Decl d).size ≡ x.array
+pub record IsMade (scope : Scope) (d : Decl) (x : Field) : Type 0 where
+  pub whole : (declarator scope d).whole ≡ Right x.ty
+  pub array : is_some (out-Decl d).size ≡ x.array
 
-field_made : (scope : Scope) (limit : Place) (siblings : List Candidate) (d : Decl) (x : Field) → IsFieldOf scope limit siblings d x → IsMade scope d x
+pub field_made : (scope : Scope) (limit : Place) (siblings : List Candidate) (d : Decl) (x : Field) → IsFieldOf scope limit siblings d x → IsMade scope d x
 field_made scope limit siblings d x h =
     let a = declared_as scope limit d h.object h.declared in
     record { whole = a.whole ∙ ap (λ (y : Field). Right y.ty) h.made; array = a.array ∙ ap (λ (y : Field). y.array) h.made }
 
-not_true : (b : Bool) → not b ≡ true → b ≡ false
+pub not_true : (b : Bool) → not b ≡ true → b ≡ false
 not_true true e = cc
 not_true false e = refl
 
