@@ -7,3 +7,4 @@ pub mod Gathering
 pub mod Candidates
 pub mod Structs
 pub mod StructsKnown
+pub mod Headings
