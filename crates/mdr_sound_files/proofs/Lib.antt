@@ -9,3 +9,5 @@ pub mod Structs
 pub mod StructsKnown
 pub mod Headings
 pub mod Tables
+pub mod TextsTell
+pub mod Numbers

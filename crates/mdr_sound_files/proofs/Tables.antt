@@ -73,7 +73,7 @@ rise_once (t ∷ ts) zero (suc j) x y h e f same = absurd (never t.text y.text (
 rise_once (t ∷ ts) (suc i) zero x y h e f same = absurd (never t.text x.text (above_all t ts i x h e) (ap (λ (v : TextedType). v.text) (some_same f) ∙ sym same))
 rise_once (t ∷ ts) (suc i) (suc j) x y h e f same = ap suc (rise_once ts i j x y h.1 e f same)
 
-texted_at : (structs : List StructDef) (occurring : List Ty) (ts : List TextedType) (i : ℕ) (x : TextedType) → AreTexted structs occurring ts → slice_get ts i ≡ Some x → IsTexted structs occurring x
+pub texted_at : (structs : List StructDef) (occurring : List Ty) (ts : List TextedType) (i : ℕ) (x : TextedType) → AreTexted structs occurring ts → slice_get ts i ≡ Some x → IsTexted structs occurring x
 texted_at structs occurring [] i x h e = cc
 texted_at structs occurring (t ∷ ts) zero x h e = subst (IsTexted structs occurring) (some_same e) h.0
 texted_at structs occurring (t ∷ ts) (suc i) x h e = texted_at structs occurring ts i x h.1 e
