@@ -1,1 +1,4 @@
+pub mod Alike
 pub mod Rights
+pub mod Layers
+pub mod Values
