@@ -5,3 +5,6 @@ pub mod Values
 pub mod Converted
 pub mod Addresses
 pub mod Prefixes
+pub mod Calculated
+pub mod Compared
+pub mod Joined
