@@ -8,3 +8,7 @@ pub mod Prefixes
 pub mod Calculated
 pub mod Compared
 pub mod Joined
+pub mod Placed
+pub mod Named
+pub mod MembersKnown
+pub mod Elements
