@@ -1,7 +1,7 @@
 -- What is an lvalue has an address: that of what it names (C99 6.5.3.2).
-use Rattle.std.specs.Prelude.{◌≡◌, ◌⊎◌, ℕ, Bool, true, false, ◌&&◌, ◌||◌, List, Option, Some, None, IsTrue, codes}
+use Rattle.std.specs.Prelude.{◌≡◌, ℕ, Bool, true, false, ◌&&◌, ◌||◌, List, Some, None, codes}
 use Rattle.std.specs.Str.{bytes_eq}
-use Rattle.std.proofs.Common.{inl, inr, refl, ap, sym, ◌∙◌, subst}
+use Rattle.std.proofs.Common.{refl, ap, sym, ◌∙◌, subst}
 use Rattle.std.proofs.lemmas.Slice.Eq.{bytes_eq-Decides}
 use Rattle.mdr_core.specs.declared.code.Expr.{Expr}
 use Rattle.mdr_core.specs.declared.code.Expr.TheOpen.{Lval-F}
@@ -12,21 +12,18 @@ use Rattle.mdr_core.specs.declared.place.Place.{Place}
 use Rattle.mdr_core.specs.declared.program.Program.{Program}
 use Rattle.mdr_core.specs.declared.types.Ty.{Ty}
 use Rattle.mdr_core.specs.declared.types.Ty.TheVariants as type
-use Rattle.mdr_core.specs.Code.{Lvalue, Term}
+use Rattle.mdr_core.specs.Code.{Term}
 use Rattle.mdr_core.specs.Folds.{term_of, lvalue_of}
 use Rattle.mdr_core.specs.Layout.{chosen}
-use Rattle.mdr_core.specs.Typing.{Slot, Extent, One, Many, Has, Designates, HasAddress, IsTarget, IsElement}
-use Rattle.mdr_core.proofs.Coded.{addr_is, decay_is, move_is, slot_is, object_is, global_is, deref_is, member_is, index_is}
-use Rattle.mdr_body.specs.declared.mention.Mention.TheVariants.{Address}
-use Rattle.mdr_body.specs.Mentions.{mentions, is_name, is_address}
-use Rattle.mdr_operand.specs.declared.operator.PrefixOperator.{PrefixOperator}
+use Rattle.mdr_core.specs.Typing.{Slot, One, Has, Designates, HasAddress, IsTarget, IsElement}
+use Rattle.mdr_core.proofs.Coded.{addr_is, decay_is, move_is, deref_is, index_is}
 use Rattle.mdr_operand.specs.declared.operator.PrefixOperator.TheVariants as prefix
 use Rattle.mdr_operand.specs.declared.room.LocalName.{LocalName}
 use Rattle.mdr_operand.specs.Forms.{address_by, address_of}
 use Rattle.mdr_operand.specs.Signs.{prefix_operator}
 use Rattle.mdr_operand.specs.Written.{Written}
 use Rattle.mdr_sound_code.specs.Knowing.{TakesNoSlot}
-use Rattle.mdr_sound_code.specs.Operands.{IsOf, IsInSlot, IsSlotNamed, IsKnownObject}
+use Rattle.mdr_sound_code.specs.Operands.{IsOf, IsInSlot}
 use Rattle.mdr_sound_code.proofs.Values.{of_term}
 
 -- ---- where an address is taken, it isn't that of a slot

@@ -1,6 +1,6 @@
 -- A type from one level of it, and its sort.
-use Rattle.std.specs.Prelude.{◌≡◌, ◌⊎◌, ℕ, ◌<◌, Bool, true, false, nat_lt, List, [], ◌∷◌, map, IsTrue}
-use Rattle.std.proofs.Common.{inl, inr, refl, ap, sym, ◌∙◌, subst, arith}
+use Rattle.std.specs.Prelude.{◌≡◌, ℕ, Bool, true, false, nat_lt, List, [], ◌∷◌, map, IsTrue}
+use Rattle.std.proofs.Common.{inl, inr, refl, ap, sym, ◌∙◌, subst}
 use Rattle.mdr_core.specs.declared.kind.Kind.{Kind}
 use Rattle.mdr_core.specs.declared.types.Ty.{Ty, out-Ty, roll-Ty, roll-out-Ty}
 use Rattle.mdr_core.specs.declared.types.Ty.TheFolds.{map-Ty}
@@ -51,6 +51,9 @@ sort_ptr n t = sort_at n (type.Ptr t) (Ty-F.Ptr t) (type.outs-Ptr t)
 
 pub sort_void_ptr : (n : ℕ) → sort_of n type.VoidPtr ≡ Scalar
 sort_void_ptr n = sort_at n type.VoidPtr Ty-F.VoidPtr type.outs-VoidPtr
+
+pub sort_void : (n : ℕ) → sort_of n type.Void ≡ Empty
+sort_void n = sort_at n type.Void Ty-F.Void type.outs-Void
 
 -- ---- what pointers point to
 

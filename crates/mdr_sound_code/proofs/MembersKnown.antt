@@ -1,5 +1,5 @@
 -- Members of what is known are known (C99 6.5.2.3).
-use Rattle.std.specs.Prelude.{◌≡◌, ◌⊎◌, ℕ, Bool, true, false, List, Option, Some, None, Result, Ok, Err, slice_get, IsTrue}
+use Rattle.std.specs.Prelude.{◌≡◌, ◌⊎◌, ℕ, Bool, true, false, List, Option, Some, None, Ok, slice_get, IsTrue}
 use Rattle.std.proofs.Common.{inl, inr, refl, ap, sym, ◌∙◌, subst}
 use Rattle.std.proofs.lemmas.Option.{none-some, same_Some}
 use Rattle.mdr_core.specs.declared.code.Lval.{Lval}
@@ -11,23 +11,21 @@ use Rattle.mdr_core.specs.declared.types.Ty.TheOpen.{Ty-F}
 use Rattle.mdr_core.specs.declared.types.Ty.TheVariants as type
 use Rattle.mdr_core.specs.Folds.{lvalue_of}
 use Rattle.mdr_core.specs.Types.{is_scalar, is_scalar_by}
-use Rattle.mdr_core.specs.Typing.{Slot, One, extent, Designates, HasAddress, IsMember}
-use Rattle.mdr_core.proofs.Coded.{member_is, deref_is}
+use Rattle.mdr_core.specs.Typing.{Slot, One, extent, Designates, HasAddress}
+use Rattle.mdr_core.proofs.Coded.{member_is}
 use Rattle.mdr_faults.specs.declared.scope.Member.{Member}
-use Rattle.mdr_faults.specs.declared.scope.Object.{Object}
 use Rattle.mdr_faults.specs.declared.scope.Scope.{Scope}
 use Rattle.mdr_faults.specs.declared.scope.StructEntry.{StructEntry}
-use Rattle.mdr_faults.specs.Faults.{Checked, Right, again, after}
+use Rattle.mdr_faults.specs.Faults.{Checked, Right, again}
 use Rattle.mdr_operand.specs.declared.operand.Operand.{Operand}
 use Rattle.mdr_operand.specs.declared.operand.Operand.TheVariants as operand
-use Rattle.mdr_operand.specs.declared.operand.Pointer.{Pointer}
 use Rattle.mdr_operand.specs.declared.room.LocalName.{LocalName}
 use Rattle.mdr_operand.specs.Forms.{needed, pointer_at}
 use Rattle.mdr_operand.specs.Written.{Written}
 use Rattle.mdr_postfix.specs.declared.located.Located.{Located}
 use Rattle.mdr_postfix.specs.declared.member.Found.{Found}
 use Rattle.mdr_postfix.specs.Members.{object_of, object_at, target, target_located, located, struct_by, struct_of, member_numbered, member_position, member_found, member_among, struct_entry, member_named, member_operand, member_in, member_of, member_rule}
-use Rattle.mdr_sound_code.specs.Knowing.{IsFormed, IsKnownField, Knows}
+use Rattle.mdr_sound_code.specs.Knowing.{IsKnownField, Knows}
 use Rattle.mdr_sound_code.specs.Operands.{IsInSlot, IsKnownObject, IsKnown}
 use Rattle.mdr_sound_code.proofs.Layers.{struct_from}
 use Rattle.mdr_sound_code.proofs.Placed.{same_extent, object_known}
@@ -86,7 +84,6 @@ unfolding member_among
 among at name s m e = found at s.members (member_position s.members name) m e
 
 module _ (program : Program) (slots : List Slot) (names : List LocalName) where
-
   -- an object that has an address
   record IsAt (x : Located) : Type 0 where
     designates : Designates program slots (lvalue_of x.lval) (One x.ty)
@@ -120,14 +117,14 @@ module _ (program : Program) (slots : List Slot) (names : List LocalName) where
         let o = m.object in
         let f = part.field in
         object_known program slots names w (lval.Member x.lval m.number) o
-            (subst (λ d. Designates program slots d (extent o.array o.ty o.count)) (sym (member_is x.lval m.number)) (record {
-              struct = part.struct;
-              whole = subst (λ t. Designates program slots (lvalue_of x.lval) (One t)) part.is h.designates;
-              field = f.field;
-              names = f.names;
-              is = same_extent f.field.array o.array f.field.ty o.ty f.field.count o.count f.array f.ty f.count;
-            }))
-            f.formed (subst HasAddress (sym (member_is x.lval m.number)) (addressed x.lval x.ty part.struct part.is h.kept))
+        (subst (λ d. Designates program slots d (extent o.array o.ty o.count)) (sym (member_is x.lval m.number)) (record {
+          struct = part.struct;
+          whole = subst (λ t. Designates program slots (lvalue_of x.lval) (One t)) part.is h.designates;
+          field = f.field;
+          names = f.names;
+          is = same_extent f.field.array o.array f.field.ty o.ty f.field.count o.count f.array f.ty f.count;
+        }))
+        f.formed (subst HasAddress (sym (member_is x.lval m.number)) (addressed x.lval x.ty part.struct part.is h.kept))
 
     member_in_known : (scope : Scope) (p at : Place) (name : List ℕ) (x : Located) (y : Operand) → Knows program scope → IsAt x → member_in scope p at name x ≡ Right y → IsKnown program slots names w y
     unfolding member_in

@@ -1,20 +1,14 @@
 -- What a name stands for is known (C99 6.5.1).
-use Rattle.std.specs.Prelude.{◌≡◌, ◌⊎◌, ℕ, Bool, true, false, List, ◌∷◌, Option, Some, None, Result, Ok, Err, IsTrue}
-use Rattle.std.proofs.Common.{inl, inr, refl, ap, sym, ◌∙◌, subst}
-use Rattle.mdr_core.specs.declared.code.Expr.TheVariants as expr
-use Rattle.mdr_core.specs.declared.code.Lval.{Lval}
+use Rattle.std.specs.Prelude.{◌≡◌, ℕ, Bool, true, false, List, ◌∷◌, Option, Some, None}
+use Rattle.std.proofs.Common.{inr, refl, sym, ◌∙◌, subst}
 use Rattle.mdr_core.specs.declared.code.Lval.TheVariants as lval
 use Rattle.mdr_core.specs.declared.place.Place.{Place}
 use Rattle.mdr_core.specs.declared.program.Program.{Program}
-use Rattle.mdr_core.specs.declared.types.Ty.{Ty}
 use Rattle.mdr_core.specs.declared.types.Ty.TheVariants as type
 use Rattle.mdr_core.specs.declared.value.Value.TheVariants as value
-use Rattle.mdr_core.specs.Folds.{lvalue_of}
 use Rattle.mdr_core.specs.Layout.{chosen}
-use Rattle.mdr_core.specs.Types.{is_scalar}
 use Rattle.mdr_core.specs.Typing.{Slot, extent, Designates, HasAddress}
 use Rattle.mdr_core.proofs.Coded.{lit_is, slot_is, object_is, global_is}
-use Rattle.mdr_faults.specs.declared.scope.Constant.{Constant}
 use Rattle.mdr_faults.specs.declared.scope.Entity.{Entity}
 use Rattle.mdr_faults.specs.declared.scope.Entity.TheVariants as entity
 use Rattle.mdr_faults.specs.declared.scope.Named.{Named}
@@ -29,15 +23,14 @@ use Rattle.mdr_operand.specs.declared.operand.Operand.TheVariants as operand
 use Rattle.mdr_operand.specs.declared.room.LocalName.{LocalName}
 use Rattle.mdr_operand.specs.Rooms.{local_named}
 use Rattle.mdr_operand.specs.Written.{Written}
-use Rattle.mdr_postfix.specs.Names.{object_operand, constant_operand, function_operand, entity_operand, file_name, place_of_local, local_operand, local_or, name_rule}
+use Rattle.mdr_postfix.specs.Names.{object_operand, function_operand, entity_operand, file_name, place_of_local, local_operand, local_or, name_rule}
 use Rattle.mdr_sound_code.specs.Knowing.{IsKnownGlobal, IsKnownFunction, IsKnownEntity, IsKnownLocal, Knows, KnowsLocals}
-use Rattle.mdr_sound_code.specs.Operands.{IsInSlot, IsSlotNamed, IsKnown}
+use Rattle.mdr_sound_code.specs.Operands.{IsInSlot, IsKnown}
 use Rattle.mdr_sound_code.proofs.Placed.{same_extent, placed_known, object_known}
 use Rattle.mdr_sound_code.proofs.Rights.{after_right, again_right, chosen_right, same_right, not_right}
 use Rattle.mdr_sound_code.proofs.Values.{of_term}
 
 module _ (program : Program) (slots : List Slot) (names : List LocalName) where
-
   -- ---- names of the file
 
   module _ (w : Written) where
@@ -96,7 +89,7 @@ module _ (program : Program) (slots : List Slot) (names : List LocalName) where
   local_known p name n y k is q =
       let a = after_right (again n.means) (λ o. Right (object_operand (place_of_local n) o)) y q in
       subst (IsKnown program slots names (Written.Name p name)) (same_right _ _ a.made)
-          (slot_known (Written.Name p name) n a.value n.is_object refl (k.locals name n a.value is (again_right n.means a.value a.right)) (λ e. record { local = n; named = is; in_slot = e }))
+      (slot_known (Written.Name p name) n a.value n.is_object refl (k.locals name n a.value is (again_right n.means a.value a.right)) (λ e. record { local = n; named = is; in_slot = e }))
 
   local_or_known : (scope : Scope) (p : Place) (name : List ℕ) (o : Option LocalName) (y : Operand) → Knows program scope → KnowsLocals program slots names → local_named names name ≡ o
       → local_or o (file_name p (entity_named scope name)) ≡ Right y → IsKnown program slots names (Written.Name p name) y

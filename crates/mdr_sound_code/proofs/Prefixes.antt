@@ -1,6 +1,6 @@
 -- Prefix forms of what is known (C99 6.5.3).
-use Rattle.std.specs.Prelude.{◌≡◌, ◌⊎◌, ℕ, Bool, true, false, List, Option, Some, None}
-use Rattle.std.proofs.Common.{inl, inr, refl, ap, sym, ◌∙◌, subst}
+use Rattle.std.specs.Prelude.{◌≡◌, ◌⊎◌, ℕ, List, Option, Some, None}
+use Rattle.std.proofs.Common.{inl, inr, refl, ap, sym, subst}
 use Rattle.mdr_core.specs.declared.code.Expr.{Expr}
 use Rattle.mdr_core.specs.declared.code.Expr.TheVariants as expr
 use Rattle.mdr_core.specs.declared.code.Lval.{Lval}
@@ -12,29 +12,25 @@ use Rattle.mdr_core.specs.declared.types.Ty.{Ty}
 use Rattle.mdr_core.specs.declared.types.Ty.TheVariants as type
 use Rattle.mdr_core.specs.declared.value.Value.TheVariants as value
 use Rattle.mdr_core.specs.Conversions.{promoted}
-use Rattle.mdr_core.specs.Folds.{term_of, lvalue_of}
-use Rattle.mdr_core.specs.Types.{is_scalar}
-use Rattle.mdr_core.specs.Typing.{Slot, One, Has, Designates, HasAddress, IsCondition}
+use Rattle.mdr_core.specs.Folds.{lvalue_of}
+use Rattle.mdr_core.specs.Typing.{Slot, One, Designates, HasAddress}
 use Rattle.mdr_core.proofs.Coded.{lit_is, neg_is, flip_is, not_is, deref_is}
-use Rattle.mdr_faults.specs.Faults.{Checked, Right, after}
-use Rattle.mdr_operand.specs.declared.operand.Integer.{Integer}
+use Rattle.mdr_faults.specs.Faults.{Checked, Right}
 use Rattle.mdr_operand.specs.declared.operand.Operand.{Operand}
 use Rattle.mdr_operand.specs.declared.operand.Operand.TheVariants as operand
-use Rattle.mdr_operand.specs.declared.operand.Pointer.{Pointer}
 use Rattle.mdr_operand.specs.declared.operator.PrefixOperator.{PrefixOperator}
 use Rattle.mdr_operand.specs.declared.operator.PrefixOperator.TheVariants as prefix
 use Rattle.mdr_operand.specs.declared.room.LocalName.{LocalName}
-use Rattle.mdr_operand.specs.Forms.{integer_at, condition_at, pointer_at, at_kind, number, truth, promoted_number, negated_number, flipped_number, address, object_address, target_object, promotion_at, negation_at, flip_at, not_at, target_at, prefix_of, prefix_by, prefix_rule}
+use Rattle.mdr_operand.specs.Forms.{integer_at, condition_at, pointer_at, at_kind, truth, promoted_number, negated_number, flipped_number, address, object_address, target_object, promotion_at, negation_at, flip_at, not_at, target_at, prefix_of, prefix_by, prefix_rule}
 use Rattle.mdr_operand.specs.Signs.{prefix_operator}
 use Rattle.mdr_operand.specs.Written.{Written}
-use Rattle.mdr_sound_code.specs.Knowing.{TakesNoSlot, IsFormed}
-use Rattle.mdr_sound_code.specs.Operands.{IsOf, IsPointer, IsInSlot, IsKnownObject, IsKnown}
+use Rattle.mdr_sound_code.specs.Knowing.{TakesNoSlot}
+use Rattle.mdr_sound_code.specs.Operands.{IsPointer, IsInSlot, IsKnownObject, IsKnown}
 use Rattle.mdr_sound_code.proofs.Addresses.{not_in_slot, address_of_known}
 use Rattle.mdr_sound_code.proofs.Rights.{after_right, same_right, not_right}
 use Rattle.mdr_sound_code.proofs.Values.{of_term, integer_known, condition_known, pointer_known, at_kind_known}
 
 module _ (program : Program) (slots : List Slot) (names : List LocalName) where
-
   -- ---- what a pointer names
 
   pub deref_known : (w : Written) (e : Expr) (t : Ty) → IsPointer program slots e t → IsKnown program slots names w (operand.Object (lval.Deref e) t)
@@ -52,7 +48,7 @@ module _ (program : Program) (slots : List Slot) (names : List LocalName) where
     promotion_known p x y h q =
         let a = after_right (integer_at p x) (λ n. Right (promoted_number n)) y q in
         subst (IsKnown program slots names w) (same_right _ _ a.made)
-            (at_kind_known program slots (promoted a.value.kind) a.value (integer_known program slots names v p x a.value h a.right))
+        (at_kind_known program slots (promoted a.value.kind) a.value (integer_known program slots names v p x a.value h a.right))
 
     negation_known : (p : Place) (x y : Operand) → IsKnown program slots names v x → negation_at p x ≡ Right y → IsKnown program slots names w y
     unfolding negation_at negated_number
@@ -60,7 +56,7 @@ module _ (program : Program) (slots : List Slot) (names : List LocalName) where
         let a = after_right (integer_at p x) (λ n. Right (negated_number n)) y q in
         let known = at_kind_known program slots (promoted a.value.kind) a.value (integer_known program slots names v p x a.value h a.right) in
         subst (IsKnown program slots names w) (same_right _ _ a.made)
-            (of_term program slots _ _ (type.Int (promoted a.value.kind)) (neg_is (promoted a.value.kind) (at_kind (promoted a.value.kind) a.value)) (record { operand = known; is = refl }))
+        (of_term program slots _ _ (type.Int (promoted a.value.kind)) (neg_is (promoted a.value.kind) (at_kind (promoted a.value.kind) a.value)) (record { operand = known; is = refl }))
 
     flip_known : (p : Place) (x y : Operand) → IsKnown program slots names v x → flip_at p x ≡ Right y → IsKnown program slots names w y
     unfolding flip_at flipped_number
@@ -68,14 +64,14 @@ module _ (program : Program) (slots : List Slot) (names : List LocalName) where
         let a = after_right (integer_at p x) (λ n. Right (flipped_number n)) y q in
         let known = at_kind_known program slots (promoted a.value.kind) a.value (integer_known program slots names v p x a.value h a.right) in
         subst (IsKnown program slots names w) (same_right _ _ a.made)
-            (of_term program slots _ _ (type.Int (promoted a.value.kind)) (flip_is (promoted a.value.kind) (at_kind (promoted a.value.kind) a.value)) (record { operand = known; is = refl }))
+        (of_term program slots _ _ (type.Int (promoted a.value.kind)) (flip_is (promoted a.value.kind) (at_kind (promoted a.value.kind) a.value)) (record { operand = known; is = refl }))
 
     not_known : (p : Place) (x y : Operand) → IsKnown program slots names v x → not_at p x ≡ Right y → IsKnown program slots names w y
     unfolding not_at
     not_known p x y h q =
         let a = after_right (condition_at p x) (λ e. Right (truth (expr.Not e))) y q in
         subst (IsKnown program slots names w) (same_right _ _ a.made)
-            (of_term program slots _ _ (type.Int S32) (not_is a.value) (record { operand = condition_known program slots names v p x a.value h a.right; is = refl }))
+        (of_term program slots _ _ (type.Int S32) (not_is a.value) (record { operand = condition_known program slots names v p x a.value h a.right; is = refl }))
 
     target_known : (p : Place) (x y : Operand) → IsKnown program slots names v x → target_at p x ≡ Right y → IsKnown program slots names w y
     unfolding target_at
