@@ -6,3 +6,6 @@ pub mod Converted
 pub mod Calculated
 pub mod Compared
 pub mod Joined
+pub mod Formed
+pub mod TypesWritten
+pub mod Assigned
