@@ -12,3 +12,6 @@ pub mod Placed
 pub mod Named
 pub mod MembersKnown
 pub mod Elements
+pub mod Formed
+pub mod TypesWritten
+pub mod Assigned
