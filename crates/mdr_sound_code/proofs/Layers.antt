@@ -16,9 +16,6 @@ use Rattle.mdr_core.proofs.Laid.{sort_is}
 pub int_from : (t : Ty) (k : Kind) → out-Ty t ≡ Ty-F.Int k → t ≡ type.Int k
 int_from t k e = sym (roll-out-Ty t) ∙ ap roll-Ty e ∙ type.rolls-Int k
 
-pub lock_from : (t : Ty) → out-Ty t ≡ Ty-F.Lock → t ≡ type.Lock
-lock_from t e = sym (roll-out-Ty t) ∙ ap roll-Ty e ∙ type.rolls-Lock
-
 pub struct_from : (t : Ty) (s : ℕ) → out-Ty t ≡ Ty-F.Struct s → t ≡ type.Struct s
 struct_from t s e = sym (roll-out-Ty t) ∙ ap roll-Ty e ∙ type.rolls-Struct s
 
@@ -51,9 +48,6 @@ sort_ptr n t = sort_at n (type.Ptr t) (Ty-F.Ptr t) (type.outs-Ptr t)
 
 pub sort_void_ptr : (n : ℕ) → sort_of n type.VoidPtr ≡ Scalar
 sort_void_ptr n = sort_at n type.VoidPtr Ty-F.VoidPtr type.outs-VoidPtr
-
-pub sort_void : (n : ℕ) → sort_of n type.Void ≡ Empty
-sort_void n = sort_at n type.Void Ty-F.Void type.outs-Void
 
 -- ---- what pointers point to
 

@@ -9,9 +9,11 @@ pub mod Calculated
 pub mod Compared
 pub mod Joined
 pub mod Placed
-pub mod Named
-pub mod MembersKnown
+pub mod Names
+pub mod Members
 pub mod Elements
 pub mod Formed
 pub mod TypesWritten
 pub mod Assigned
+pub mod Casts
+pub mod Expressions
