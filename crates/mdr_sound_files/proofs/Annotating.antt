@@ -38,12 +38,12 @@ use Rattle.mdr_sound_code.specs.Knowing.{IsKnownGlobal, IsKnownEntity}
 use Rattle.mdr_sound_files.specs.Declared.{SeesSiblings}
 use Rattle.mdr_sound_files.specs.Standing.{Stands, IsScalarField}
 use Rattle.mdr_sound_files.proofs.Reading.{left_holds, right_holds}
-use Rattle.mdr_sound_files.proofs.Sorts.{pointer_is, struct_is, integer_is, void_pointer_is}
+use Rattle.mdr_sound_code.proofs.Layers.{ptr_from, struct_from, int_from, void_ptr_from}
 
 -- ---- integers, and what pointers point to
 
 integer_by : (t : Ty) (l : Ty-F Ty) → out-Ty t ≡ l → is_integer_by l ≡ true → (k : Kind) × (t ≡ type.Int k)
-integer_by t (Ty-F.Int k) e h = (k, integer_is t k e)
+integer_by t (Ty-F.Int k) e h = (k, int_from t k e)
 integer_by t Ty-F.Lock e h = cc
 integer_by t (Ty-F.Struct s) e h = cc
 integer_by t (Ty-F.Ptr u) e h = cc
@@ -58,7 +58,7 @@ target_is_by : (t u : Ty) (l : Ty-F Ty) → out-Ty t ≡ l → target_by l ≡ S
 target_is_by t u (Ty-F.Int k) e h = cc
 target_is_by t u Ty-F.Lock e h = cc
 target_is_by t u (Ty-F.Struct s) e h = cc
-target_is_by t u (Ty-F.Ptr v) e h = pointer_is t v e ∙ ap type.Ptr (some_same h)
+target_is_by t u (Ty-F.Ptr v) e h = ptr_from t v e ∙ ap type.Ptr (some_same h)
 target_is_by t u Ty-F.VoidPtr e h = cc
 target_is_by t u (Ty-F.Fun ts) e h = cc
 target_is_by t u Ty-F.Void e h = cc
@@ -197,7 +197,7 @@ sentinel_is_by program scope siblings at p name t u (Ty-F.Struct s) a st is o e 
     let x = among_is program s at p name (slice_get scope.outlines s) a (λ fields f c n g h. st.outlines s f fields c n g h) e in
     subst (Annotates program siblings t) x.made (record {
       struct = s;
-      pointer = is ∙ ap type.Ptr (struct_is u s o);
+      pointer = is ∙ ap type.Ptr (struct_from u s o);
       field = x.good.field;
       names = x.good.names;
       single = x.good.single;
@@ -234,7 +234,7 @@ text_kind t S32 f e = cc
 text_kind t S64 f e = cc
 
 text_by : (t u : Ty) (l : Ty-F Ty) → t ≡ type.Ptr u → out-Ty u ≡ l → is_character_by l ≡ true → IsText t
-text_by t u (Ty-F.Int k) f o e = text_kind t k (f ∙ ap type.Ptr (integer_is u k o)) e
+text_by t u (Ty-F.Int k) f o e = text_kind t k (f ∙ ap type.Ptr (int_from u k o)) e
 text_by t u Ty-F.Lock f o e = cc
 text_by t u (Ty-F.Struct s) f o e = cc
 text_by t u (Ty-F.Ptr v) f o e = cc
@@ -253,8 +253,8 @@ data_pointer_by : (t : Ty) (l : Ty-F Ty) → out-Ty t ≡ l → is_data_pointer_
 data_pointer_by t (Ty-F.Int k) o e = cc
 data_pointer_by t Ty-F.Lock o e = cc
 data_pointer_by t (Ty-F.Struct s) o e = cc
-data_pointer_by t (Ty-F.Ptr u) o e = inl (u, pointer_is t u o)
-data_pointer_by t Ty-F.VoidPtr o e = inr (void_pointer_is t o)
+data_pointer_by t (Ty-F.Ptr u) o e = inl (u, ptr_from t u o)
+data_pointer_by t Ty-F.VoidPtr o e = inr (void_ptr_from t o)
 data_pointer_by t (Ty-F.Fun ts) o e = cc
 data_pointer_by t Ty-F.Void o e = cc
 

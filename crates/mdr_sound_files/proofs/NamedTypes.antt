@@ -20,7 +20,8 @@ use Rattle.mdr_faults.specs.Faults.{Checked, Right, refuse, after, both, next}
 use Rattle.mdr_faults.specs.Scopes.{tag_named}
 use Rattle.mdr_sound_code.proofs.Rights.{After, after_right, Both, both_right, same_right, demand_right, chosen_right, not_right}
 use Rattle.mdr_sound_files.specs.Declared.{IsSomeSort}
-use Rattle.mdr_sound_files.proofs.Sorts.{integer_sort, lock_sort, struct_aggregate, void_sort, pointer_some, scalar_sort, result_sort, is_result, handle_sort}
+use Rattle.mdr_sound_code.proofs.Layers.{sort_int, sort_lock}
+use Rattle.mdr_sound_files.proofs.Sorts.{struct_aggregate, void_sort, pointer_some, scalar_sort, result_sort, is_result, handle_sort}
 
 -- structs that have names are among the first n
 pub record AreNumbered (scope : Scope) (n : ℕ) : Type 0 where
@@ -33,10 +34,10 @@ struct_some scope n p None t low e = not_right _ t e
 struct_some scope n p (Some g) t low e = subst (λ (u : Ty). IsSomeSort (sort_of n u)) (same_right (type.Struct g.number) t e) (subst IsSomeSort (sym (struct_aggregate n g.number (low g refl))) tt)
 
 base_some : (scope : Scope) (n : ℕ) (b : Base) (t : Ty) → AreNumbered scope n → base_type scope b ≡ Right t → IsSomeSort (sort_of n t)
-base_some scope n (base.Int k) t low e = subst (λ (u : Ty). IsSomeSort (sort_of n u)) (same_right (type.Int k) t e) (subst IsSomeSort (sym (integer_sort n k)) tt)
+base_some scope n (base.Int k) t low e = subst (λ (u : Ty). IsSomeSort (sort_of n u)) (same_right (type.Int k) t e) (subst IsSomeSort (sym (sort_int n k)) tt)
 base_some scope n (base.Struct p name) t low e = struct_some scope n p (tag_named scope name) t (low.below name) e
 base_some scope n base.Void t low e = subst (λ (u : Ty). IsSomeSort (sort_of n u)) (same_right type.Void t e) (subst IsSomeSort (sym (void_sort n)) tt)
-base_some scope n base.Lock t low e = subst (λ (u : Ty). IsSomeSort (sort_of n u)) (same_right type.Lock t e) (subst IsSomeSort (sym (lock_sort n)) tt)
+base_some scope n base.Lock t low e = subst (λ (u : Ty). IsSomeSort (sort_of n u)) (same_right type.Lock t e) (subst IsSomeSort (sym (sort_lock n)) tt)
 
 starred_some : (n stars : ℕ) (t : Ty) → IsSomeSort (sort_of n t) → IsSomeSort (sort_of n (starred stars t))
 unfolding starred

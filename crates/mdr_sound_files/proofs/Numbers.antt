@@ -22,7 +22,8 @@ use Rattle.mdr_program.proofs.Rising.{tables_are_in_order}
 use Rattle.mdr_program.proofs.FirstNumbers.{tables_have_first_numbers}
 use Rattle.mdr_sound_files.specs.Telling.{AreToldApart}
 use Rattle.mdr_sound_files.proofs.Reading.{get_map}
-use Rattle.mdr_sound_files.proofs.Sorts.{integer_is, struct_is, void_sort}
+use Rattle.mdr_sound_code.proofs.Layers.{int_from, struct_from}
+use Rattle.mdr_sound_files.proofs.Sorts.{void_sort}
 use Rattle.mdr_sound_files.proofs.Tables.{texted_at}
 use Rattle.mdr_sound_files.proofs.TextsTell.{told_apart, not_empty}
 
@@ -60,12 +61,12 @@ pointer_in structs occurring t apart formed among points =
     }
 
 in_by : (structs : List StructDef) (occurring : List Ty) (t : Ty) (l : Ty-F Ty) → out-Ty t ≡ l → IsObjectSort (sort_of (length structs) t) → (is_pointer_by l ≡ true → IsIn (type_table structs occurring) t) → IsIn (type_table structs occurring) t
-in_by structs occurring t (Ty-F.Int k) e h later = record { number = kind_number k; names = (tables_have_first_numbers structs occurring).kinds k ∙ ap Some (sym (integer_is t k e)) }
+in_by structs occurring t (Ty-F.Int k) e h later = record { number = kind_number k; names = (tables_have_first_numbers structs occurring).kinds k ∙ ap Some (sym (int_from t k e)) }
 in_by structs occurring t Ty-F.Lock e h later = record { number = 8; names = (tables_have_first_numbers structs occurring).lock ∙ ap Some (sym (lock_is t e)) }
   where
     lock_is : (u : Ty) → out-Ty u ≡ Ty-F.Lock → u ≡ type.Lock
     lock_is u f = sym (roll-out-Ty u) ∙ ap roll-Ty f ∙ type.rolls-Lock
-in_by structs occurring t (Ty-F.Struct s) e h later = record { number = 9 + s; names = (tables_have_first_numbers structs occurring).numbers s (struct_within (length structs) t s h (ap struct_by e)) ∙ ap Some (sym (struct_is t s e)) }
+in_by structs occurring t (Ty-F.Struct s) e h later = record { number = 9 + s; names = (tables_have_first_numbers structs occurring).numbers s (struct_within (length structs) t s h (ap struct_by e)) ∙ ap Some (sym (struct_from t s e)) }
 in_by structs occurring t (Ty-F.Ptr u) e h later = later refl
 in_by structs occurring t Ty-F.VoidPtr e h later = later refl
 in_by structs occurring t (Ty-F.Fun ts) e h later = later refl

@@ -12,21 +12,10 @@ use Rattle.mdr_core.specs.Sound.{IsObjectSort}
 use Rattle.mdr_core.specs.Types.{Sort, Wrong, Empty, Locks, Aggregate, Scalar, sort_of, sort_layer, pointer_sort, function_sort, is_result_sort, is_scalar_sort, is_scalar, is_scalar_by}
 use Rattle.mdr_core.proofs.Laid.{sort_is}
 use Rattle.mdr_faults.specs.Declarations.{is_void, is_void_by, pointer_by, pointer_to}
+use Rattle.mdr_sound_code.proofs.Layers.{sort_struct, sort_ptr, sort_void_ptr}
 use Rattle.mdr_sound_files.specs.Declared.{IsSomeSort}
 
 -- ---- a type by its first level
-
-pub pointer_is : (t u : Ty) → out-Ty t ≡ Ty-F.Ptr u → t ≡ type.Ptr u
-pointer_is t u e = sym (roll-out-Ty t) ∙ ap roll-Ty e ∙ type.rolls-Ptr u
-
-pub struct_is : (t : Ty) (s : ℕ) → out-Ty t ≡ Ty-F.Struct s → t ≡ type.Struct s
-struct_is t s e = sym (roll-out-Ty t) ∙ ap roll-Ty e ∙ type.rolls-Struct s
-
-pub integer_is : (t : Ty) (k : Kind) → out-Ty t ≡ Ty-F.Int k → t ≡ type.Int k
-integer_is t k e = sym (roll-out-Ty t) ∙ ap roll-Ty e ∙ type.rolls-Int k
-
-pub void_pointer_is : (t : Ty) → out-Ty t ≡ Ty-F.VoidPtr → t ≡ type.VoidPtr
-void_pointer_is t e = sym (roll-out-Ty t) ∙ ap roll-Ty e ∙ type.rolls-VoidPtr
 
 void_by : (t : Ty) (l : Ty-F Ty) → out-Ty t ≡ l → is_void_by l ≡ true → t ≡ type.Void
 void_by t (Ty-F.Int k) e h = cc
@@ -42,26 +31,6 @@ void_is t h = void_by t (out-Ty t) refl h
 
 -- ---- sorts of the forms
 
-pub integer_sort : (n : ℕ) (k : Kind) → sort_of n (type.Int k) ≡ Scalar
-unfolding sort_of
-integer_sort n k = ap (sort_of n) (sym (type.rolls-Int k)) ∙ fold-roll-Ty Sort (sort_layer n) (Ty-F.Int k)
-
-pub lock_sort : (n : ℕ) → sort_of n type.Lock ≡ Locks
-unfolding sort_of
-lock_sort n = ap (sort_of n) (sym type.rolls-Lock) ∙ fold-roll-Ty Sort (sort_layer n) Ty-F.Lock
-
-pub struct_sort : (n s : ℕ) → sort_of n (type.Struct s) ≡ chosen (nat_lt s n) Aggregate Wrong
-unfolding sort_of
-struct_sort n s = ap (sort_of n) (sym (type.rolls-Struct s)) ∙ fold-roll-Ty Sort (sort_layer n) (Ty-F.Struct s)
-
-pub pointer_sort_is : (n : ℕ) (t : Ty) → sort_of n (type.Ptr t) ≡ pointer_sort (sort_of n t)
-unfolding sort_of
-pointer_sort_is n t = ap (sort_of n) (sym (type.rolls-Ptr t)) ∙ fold-roll-Ty Sort (sort_layer n) (Ty-F.Ptr t)
-
-pub void_pointer_sort : (n : ℕ) → sort_of n type.VoidPtr ≡ Scalar
-unfolding sort_of
-void_pointer_sort n = ap (sort_of n) (sym type.rolls-VoidPtr) ∙ fold-roll-Ty Sort (sort_layer n) Ty-F.VoidPtr
-
 pub function_sort_is : (n : ℕ) (ts : List Ty) → sort_of n (type.Fun ts) ≡ function_sort (map (sort_of n) ts)
 unfolding sort_of
 function_sort_is n ts = ap (sort_of n) (sym (type.rolls-Fun ts)) ∙ fold-roll-Ty Sort (sort_layer n) (Ty-F.Fun ts)
@@ -75,7 +44,7 @@ within s n true e h = refl
 within s n false e h = absurd (grind (arith, e, h))
 
 pub struct_aggregate : (n s : ℕ) → s < n → sort_of n (type.Struct s) ≡ Aggregate
-struct_aggregate n s h = struct_sort n s ∙ within s n (nat_lt s n) refl h
+struct_aggregate n s h = sort_struct n s ∙ within s n (nat_lt s n) refl h
 
 -- ---- scalars, and types of objects
 
@@ -147,7 +116,7 @@ some_scalar : (n : ℕ) (t : Ty) → sort_of n t ≡ Scalar → IsSomeSort (sort
 some_scalar n t e = subst IsSomeSort (sym e) tt
 
 to_object : (n : ℕ) (t : Ty) → IsObjectSort (sort_of n t) → IsSomeSort (sort_of n (type.Ptr t))
-to_object n t h = some_scalar n (type.Ptr t) (pointer_sort_is n t ∙ pointer_object (sort_of n t) h)
+to_object n t h = some_scalar n (type.Ptr t) (sort_ptr n t ∙ pointer_object (sort_of n t) h)
 
 pointer_some_by : (n : ℕ) (t : Ty) (l : Ty-F Ty) → (is_void_by l ≡ false → IsObjectSort (sort_of n t)) → IsSomeSort (sort_of n (pointer_by t l))
 pointer_some_by n t (Ty-F.Int k) h = to_object n t (h refl)
@@ -156,7 +125,7 @@ pointer_some_by n t (Ty-F.Struct s) h = to_object n t (h refl)
 pointer_some_by n t (Ty-F.Ptr u) h = to_object n t (h refl)
 pointer_some_by n t Ty-F.VoidPtr h = to_object n t (h refl)
 pointer_some_by n t (Ty-F.Fun ts) h = to_object n t (h refl)
-pointer_some_by n t Ty-F.Void h = some_scalar n type.VoidPtr (void_pointer_sort n)
+pointer_some_by n t Ty-F.Void h = some_scalar n type.VoidPtr (sort_void_ptr n)
 
 pub pointer_some : (n : ℕ) (t : Ty) → IsSomeSort (sort_of n t) → IsSomeSort (sort_of n (pointer_to t))
 pointer_some n t h = pointer_some_by n t (out-Ty t) (λ e. object_sort n t e h)

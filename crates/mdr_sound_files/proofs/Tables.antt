@@ -20,7 +20,8 @@ use Rattle.mdr_program.specs.Orders.{StandsAbove, Rise, IsAmong, IsTexted, AreTe
 use Rattle.mdr_program.proofs.Rising.{tables_are_in_order}
 use Rattle.mdr_program.proofs.FirstNumbers.{tables_have_first_numbers}
 use Rattle.mdr_sound_files.proofs.Reading.{Mapped, get_mapped}
-use Rattle.mdr_sound_files.proofs.Sorts.{integer_sort, lock_sort, struct_aggregate}
+use Rattle.mdr_sound_code.proofs.Layers.{sort_int, sort_lock}
+use Rattle.mdr_sound_files.proofs.Sorts.{struct_aggregate}
 
 -- ---- texts in their order
 
@@ -112,10 +113,10 @@ record IsFirst (n i : ℕ) (t : Ty) : Type 0 where
   formed : IsObjectSort (sort_of n t)
 
 integer_first : (n : ℕ) (k : Kind) → IsFirst n (kind_number k) (type.Int k)
-integer_first n k = record { place = ap place_by (type.outs-Int k); plain = ap is_pointer_by (type.outs-Int k); formed = inl (integer_sort n k) }
+integer_first n k = record { place = ap place_by (type.outs-Int k); plain = ap is_pointer_by (type.outs-Int k); formed = inl (sort_int n k) }
 
 lock_first : (n : ℕ) → IsFirst n 8 type.Lock
-lock_first n = record { place = ap place_by type.outs-Lock; plain = ap is_pointer_by type.outs-Lock; formed = inr (inr (lock_sort n)) }
+lock_first n = record { place = ap place_by type.outs-Lock; plain = ap is_pointer_by type.outs-Lock; formed = inr (inr (sort_lock n)) }
 
 struct_first : (n s : ℕ) → s < n → IsFirst n (9 + s) (type.Struct s)
 struct_first n s h = record { place = ap place_by (type.outs-Struct s); plain = ap is_pointer_by (type.outs-Struct s); formed = inr (inl (struct_aggregate n s h)) }

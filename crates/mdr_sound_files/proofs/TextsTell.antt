@@ -28,7 +28,8 @@ use Rattle.mdr_faults.specs.Declarations.{pointer_by, pointer_to}
 use Rattle.mdr_sound_files.specs.Declared.{IsSomeSort}
 use Rattle.mdr_sound_files.specs.Telling.{AreToldApart}
 use Rattle.mdr_sound_files.proofs.Reading.{left_holds, right_holds}
-use Rattle.mdr_sound_files.proofs.Sorts.{integer_sort, struct_sort, pointer_sort_is, function_sort_is, void_sort, object_is_some}
+use Rattle.mdr_sound_code.proofs.Layers.{sort_int, sort_struct, sort_ptr}
+use Rattle.mdr_sound_files.proofs.Sorts.{function_sort_is, void_sort, object_is_some}
 
 -- ---- the numbers of structs by their names
 
@@ -215,7 +216,7 @@ within (d ∷ ds) (suc s) h = within ds s (omega (arith, h))
 
 struct_written : (structs : List StructDef) (s : ℕ) → AreToldApart structs → Claim structs (type.Struct s)
 struct_written structs s apart h =
-    let d = within structs s (below s (length structs) (nat_lt s (length structs)) refl (subst IsSomeSort (struct_sort (length structs) s) h)) in
+    let d = within structs s (below s (length structs) (nat_lt s (length structs)) refl (subst IsSomeSort (sort_struct (length structs) s) h)) in
     struct_written_by structs s d.0 apart d.1
 
 pointed : (s : Sort) → IsSomeSort (pointer_sort s) → IsObjectSort s
@@ -228,7 +229,7 @@ pointed Scalar h = inl refl
 pointer_written : (structs : List StructDef) (t : Ty) → Claim structs t → Claim structs (type.Ptr t)
 pointer_written structs t inner h =
     let n = length structs in
-    let object = pointed (sort_of n t) (subst IsSomeSort (pointer_sort_is n t) h) in
+    let object = pointed (sort_of n t) (subst IsSomeSort (sort_ptr n t) h) in
     let x = text_of structs t in
     let w : Written (number_of structs) t (type.Ptr t) x = subst (λ (q : Ty). Written (number_of structs) t q x) (pointer_to_object n t object) (inner (object_is_some (sort_of n t) object)) in
     written_as structs (type.Ptr t) (type.Ptr (type.Ptr t)) (text (x.bytes ++ star x.starred) true) (ap (pointer_by (type.Ptr t)) (type.outs-Ptr t)) (pointer_text structs t) (OfPtr t (type.Ptr t) x w)
