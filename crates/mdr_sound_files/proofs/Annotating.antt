@@ -35,9 +35,9 @@ use Rattle.mdr_faults.specs.Scopes.{entity_named}
 use Rattle.mdr_headings.specs.Annotations.{is_integer, is_integer_by, as_length, entity_constant, named_constant, entity_global, named_global, sibling_named, has_sibling, no_length, or_global, or_sibling, or_constant, length_named, array_length, field_suits, sentinel_at, field_named, sentinel_among, target_by, array_on, sentinel_of, sentinel_on, is_character, is_character_by, is_character_kind, points_to_characters, is_data_pointer, is_data_pointer_by, suits_if, annotated}
 use Rattle.mdr_sound_code.proofs.Rights.{same_right, chosen_right, not_right}
 use Rattle.mdr_sound_code.specs.Knowing.{IsKnownGlobal, IsKnownEntity}
+use Rattle.mdr_sound_code.proofs.Alike.{left_of, right_of}
 use Rattle.mdr_sound_files.specs.Declared.{SeesSiblings}
 use Rattle.mdr_sound_files.specs.Standing.{Stands, IsScalarField}
-use Rattle.mdr_sound_files.proofs.Reading.{left_holds, right_holds}
 use Rattle.mdr_sound_code.proofs.Layers.{ptr_from, struct_from, int_from, void_ptr_from}
 
 -- ---- integers, and what pointers point to
@@ -108,8 +108,8 @@ global_by x h g o true f t e = subst (NamesInteger (Some x)) (some_same e) (reco
   names = refl;
   object = o;
   means = f;
-  integer = left_holds (is_integer o.ty) (not o.array) t;
-  single = right_holds (is_integer o.ty) (not o.array) t;
+  integer = left_of (is_integer o.ty) (not o.array) t;
+  single = right_of (is_integer o.ty) (not o.array) t;
 })
 global_by x h g o false f t e = cc
 
@@ -138,7 +138,7 @@ sibling_length candidates siblings name i sees e =
     let none : Candidate = record { name = None; is_integer = false; is_scalar = false } in
     let p = position-Some (λ (c : Candidate). is_same_name c.name (Some name) && c.is_integer) candidates i none e in
     let here : Candidate = get_or candidates i none in
-    sees.integers i here (slice_get-get_or candidates i none p.0) (right_holds (is_same_name here.name (Some name)) here.is_integer p.1)
+    sees.integers i here (slice_get-get_or candidates i none p.0) (right_of (is_same_name here.name (Some name)) here.is_integer p.1)
 
 constant_or : (program : Program) (siblings : List Sibling) (o : Option ℕ) (c : Checked Ann) (a : Ann) → ((m : ℕ) → o ≡ Some m → 1 ≤ m) → (c ≡ Right a → IsArrayOf program siblings a) → or_constant o c ≡ Right a → IsArrayOf program siblings a
 constant_or program siblings None c a some rest e = rest e

@@ -26,9 +26,10 @@ use Rattle.mdr_headings.specs.Annotations.{annotated, candidate, is_integer}
 use Rattle.mdr_headings.specs.Heads.{param_of, annotated_param, param_among, params_behind, given_by, annotated_result, head_result, given, heading_of, heading}
 use Rattle.mdr_headings.specs.Source.{signature, signature_by}
 use Rattle.mdr_sound_code.proofs.Rights.{After, after_right, Both, both_right, same_right, Demanded, demand_right, chosen_right, not_right}
+use Rattle.mdr_sound_code.proofs.Alike.{left_of}
 use Rattle.mdr_sound_files.specs.Declared.{SeesSiblings, IsSoundHeading}
 use Rattle.mdr_sound_files.specs.Standing.{Stands}
-use Rattle.mdr_sound_files.proofs.Reading.{get_map, get_mapped, left_holds, right_holds}
+use Rattle.mdr_sound_files.proofs.Reading.{get_map, get_mapped}
 use Rattle.mdr_sound_files.proofs.NamedTypes.{AreNumbered, IsGoodDeclarator, declarator_good, type_named_some, result_type_is, parameter_list_is}
 use Rattle.mdr_sound_files.proofs.Sorts.{is_result, handle_sort}
 use Rattle.mdr_sound_files.proofs.Objects.{tags_numbered}
@@ -77,7 +78,7 @@ sees_params scope siblings ds xs params = record {
       let whole = parameter_whole scope m.item x.ty (p.1).related.type in
       let size = is_some (out-Decl m.item).size in
       let both : (is_integer x.ty && not size) ≡ true = sym (candidate_integer scope m.item x.ty whole) ∙ ap (λ (y : Candidate). y.is_integer) m.made ∙ h in
-      let k = integer x.ty (left_holds (is_integer x.ty) (not size) both) in
+      let k = integer x.ty (left_of (is_integer x.ty) (not size) both) in
       record {
         sibling = sibling_param x;
         names = get_map sibling_param xs i x (p.1).right;

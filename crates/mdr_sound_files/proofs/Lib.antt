@@ -11,3 +11,4 @@ pub mod Headings
 pub mod Tables
 pub mod TextsTell
 pub mod Numbers
+pub mod Functions

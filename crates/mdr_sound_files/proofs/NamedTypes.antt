@@ -18,6 +18,7 @@ use Rattle.mdr_faults.specs.declared.scope.Tag.{Tag}
 use Rattle.mdr_faults.specs.Declarations.{Declarator, declarator, declarator_by, declarator_layer, declarator_type, base_type, struct_named, starred, pointer_to, type_named, result_type, parameter_type, function_type, parameter_among, parameter_list, is_same_name, is_void}
 use Rattle.mdr_faults.specs.Faults.{Checked, Right, refuse, after, both, next}
 use Rattle.mdr_faults.specs.Scopes.{tag_named}
+use Rattle.mdr_sound_code.proofs.Alike.{left_of}
 use Rattle.mdr_sound_code.proofs.Rights.{After, after_right, Both, both_right, same_right, demand_right, chosen_right, not_right}
 use Rattle.mdr_sound_files.specs.Declared.{IsSomeSort}
 use Rattle.mdr_sound_code.proofs.Layers.{sort_int, sort_lock}
@@ -56,19 +57,10 @@ result_type_is n p u t h e =
     let d = chosen_right (is_scalar u || is_void u) (Right u) p Mismatch t e in
     subst (λ (v : Ty). (sort_of n v ≡ Scalar) ⊎ (v ≡ type.Void)) (same_right u t d.right) (result_sort n u h d.holds)
 
-first_of : (a b : Bool) → (a && b) ≡ true → a ≡ true
-first_of true b e = refl
-first_of false b e = e
-
-second_of : (a b : Bool) → (a && b) ≡ true → b ≡ true
-second_of true b e = e
-second_of false true e = refl
-second_of false false e = e
-
 pub parameter_type_is : (n : ℕ) (p : Place) (array : Bool) (u t : Ty) → IsSomeSort (sort_of n u) → parameter_type p array u ≡ Right t → sort_of n t ≡ Scalar
 parameter_type_is n p array u t h e =
     let d = chosen_right (is_scalar u && not array) (Right u) p Mismatch t e in
-    subst (λ (v : Ty). sort_of n v ≡ Scalar) (same_right u t d.right) (scalar_sort n u (first_of (is_scalar u) (not array) d.holds) h)
+    subst (λ (v : Ty). sort_of n v ≡ Scalar) (same_right u t d.right) (scalar_sort n u (left_of (is_scalar u) (not array) d.holds) h)
 
 -- ---- declarators
 

@@ -1,5 +1,5 @@
--- Items of lists that are made one from another.
-use Rattle.std.proofs.Common.{◌≡◌, ℕ, zero, suc, ◌&&◌, Bool, true, false, List, [], ◌∷◌, map, Option, Some, None, slice_get, refl, ap}
+-- Items of a list that is made of another one.
+use Rattle.std.proofs.Common.{◌≡◌, ℕ, zero, suc, List, [], ◌∷◌, map, Option, Some, None, slice_get, refl, ap}
 use Rattle.mdr_core.proofs.Viewed.{some_same}
 
 pub get_map : {A B : Type 0} (f : A → B) (xs : List A) (i : ℕ) (x : A) → slice_get xs i ≡ Some x → slice_get (map f xs) i ≡ Some (f x)
@@ -16,15 +16,3 @@ pub get_mapped : {A B : Type 0} (f : A → B) (xs : List A) (i : ℕ) (y : B) �
 get_mapped f [] i y e = cc
 get_mapped f (x ∷ xs) zero y e = record { item = x; names = refl; made = some_same e }
 get_mapped f (x ∷ xs) (suc i) y e = let m = get_mapped f xs i y e in record { item = m.item; names = m.names; made = m.made }
-
-pub left_holds : (a b : Bool) → (a && b) ≡ true → a ≡ true
-left_holds true b e = refl
-left_holds false b e = e
-
-pub right_holds : (a b : Bool) → (a && b) ≡ true → b ≡ true
-right_holds true b e = e
-right_holds false true e = refl
-right_holds false false e = e
-
-pub not_false : {A : Type 0} → true ≡ false → A
-not_false e = cc

@@ -29,9 +29,10 @@ use Rattle.mdr_headings.specs.Annotations.{annotated, candidate, is_integer}
 use Rattle.mdr_headings.specs.Structs.{field_of, annotated_field, field_among, fields_behind, number_or_zero, cells_of_fields, within_limit, struct_size, struct_rule, struct_fields, member, struct_entry}
 use Rattle.mdr_sound_code.specs.Knowing.{IsKnownField}
 use Rattle.mdr_sound_code.proofs.Rights.{After, after_right, Both, both_right, same_right, Demanded, demand_right, refused_right, told_right, not_right}
+use Rattle.mdr_sound_code.proofs.Alike.{left_of, right_of}
 use Rattle.mdr_sound_files.specs.Declared.{SeesSiblings, IsSoundObject, IsKnownStruct}
 use Rattle.mdr_sound_files.specs.Standing.{Stands, IsScalarField}
-use Rattle.mdr_sound_files.proofs.Reading.{get_map, get_mapped, left_holds, right_holds}
+use Rattle.mdr_sound_files.proofs.Reading.{get_map, get_mapped}
 use Rattle.mdr_sound_files.proofs.Sorts.{scalar_sort, object_is_some}
 use Rattle.mdr_sound_files.proofs.Objects.{IsDeclaredAs, declared_as, object_sound, KnowsSizes, sized_is}
 use Rattle.mdr_sound_files.proofs.Annotating.{annotation_sound, integer}
@@ -136,11 +137,11 @@ sees_fields scope limit siblings ds xs fields = record {
       let made = field_made scope limit siblings m.item x (p.1).related in
       let size = is_some (out-Decl m.item).size in
       let both : (is_integer x.ty && not size) ≡ true = sym (candidate_integer scope m.item x.ty made.whole) ∙ ap (λ (y : Candidate). y.is_integer) m.made ∙ h in
-      let k = integer x.ty (left_holds (is_integer x.ty) (not size) both) in
+      let k = integer x.ty (left_of (is_integer x.ty) (not size) both) in
       record {
         sibling = sibling_field x;
         names = get_map sibling_field xs i x (p.1).right;
-        single = sym made.array ∙ not_true size (right_holds (is_integer x.ty) (not size) both);
+        single = sym made.array ∙ not_true size (right_of (is_integer x.ty) (not size) both);
         kind = k.0;
         integer = k.1;
       };

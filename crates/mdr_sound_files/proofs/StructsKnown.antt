@@ -24,9 +24,10 @@ use Rattle.mdr_headings.specs.Annotations.{candidate}
 use Rattle.mdr_headings.specs.Structs.{field_of, number_or_zero, cells_of_fields, struct_size, struct_fields, member, struct_entry}
 use Rattle.mdr_sound_code.specs.Knowing.{Knows, IsKnownField}
 use Rattle.mdr_sound_code.proofs.Rights.{After, after_right, same_right, refused_right, told_right, not_right}
+use Rattle.mdr_sound_code.proofs.Alike.{left_of, right_of}
 use Rattle.mdr_sound_files.specs.Declared.{IsSomeSort, IsKnownStruct}
 use Rattle.mdr_sound_files.specs.Standing.{Stands, IsScalarField}
-use Rattle.mdr_sound_files.proofs.Reading.{get_mapped, left_holds, right_holds}
+use Rattle.mdr_sound_files.proofs.Reading.{get_mapped}
 use Rattle.mdr_sound_files.proofs.Sorts.{scalar_sort, object_is_some}
 use Rattle.mdr_sound_files.proofs.Objects.{declared_as, object_sound, KnowsSizes, sized_is}
 use Rattle.mdr_sound_files.proofs.Gathering.{Pairwise, Pair, pair_of_left, pair_of_right}
@@ -136,8 +137,8 @@ scalar_field program scope p ds xs s f c st fields is n e =
     record {
       field = x;
       names = ap (λ (ys : List Field). slice_get ys f) is ∙ (r.1).right;
-      single = sym made.array ∙ not_true size (right_holds (is_scalar x.ty) (not size) both);
-      scalar = scalar_sort (length program.structs) x.ty (left_holds (is_scalar x.ty) (not size) both) some;
+      single = sym made.array ∙ not_true size (right_of (is_scalar x.ty) (not size) both);
+      scalar = scalar_sort (length program.structs) x.ty (left_of (is_scalar x.ty) (not size) both) some;
     }
 
 -- ---- all of it

@@ -25,9 +25,9 @@ use Rattle.mdr_plan.specs.TypeTexts.Written.{OfInt, OfLock, OfStruct, OfVoid, Of
 use Rattle.mdr_plan.specs.TypeTexts.AreParams.{NoParams, Param}
 use Rattle.mdr_plan.proofs.TypesRead.{pointer_again}
 use Rattle.mdr_faults.specs.Declarations.{pointer_by, pointer_to}
+use Rattle.mdr_sound_code.proofs.Alike.{left_of, right_of}
 use Rattle.mdr_sound_files.specs.Declared.{IsSomeSort}
 use Rattle.mdr_sound_files.specs.Telling.{AreToldApart}
-use Rattle.mdr_sound_files.proofs.Reading.{left_holds, right_holds}
 use Rattle.mdr_sound_code.proofs.Layers.{sort_int, sort_struct, sort_ptr}
 use Rattle.mdr_sound_files.proofs.Sorts.{function_sort_is, void_sort, object_is_some}
 
@@ -85,7 +85,7 @@ word_by p x xs h e =
 
 whole_word : (p : ℕ → Bool) (xs : List ℕ) → list_all p xs ≡ true → prefix_len p xs ≡ length xs
 whole_word p [] e = refl
-whole_word p (x ∷ xs) e = word_by p x xs (whole_word p xs (right_holds (p x) (list_all p xs) e)) (left_holds (p x) (list_all p xs) e)
+whole_word p (x ∷ xs) e = word_by p x xs (whole_word p xs (right_of (p x) (list_all p xs) e)) (left_of (p x) (list_all p xs) e)
 
 -- ---- what sorts tell of a type
 
@@ -248,8 +248,8 @@ module _ {E : Type 0} (of : E → Ty) where
   params_written structs good [] h = NoParams
   params_written structs good (e ∷ es) h =
       let n = length structs in
-      let one = left_holds (is_scalar_sort (sort_of n (of e))) (list_all is_scalar_sort (map (sort_of n) (map of es))) h in
-      let rest = right_holds (is_scalar_sort (sort_of n (of e))) (list_all is_scalar_sort (map (sort_of n) (map of es))) h in
+      let one = left_of (is_scalar_sort (sort_of n (of e))) (list_all is_scalar_sort (map (sort_of n) (map of es))) h in
+      let rest = right_of (is_scalar_sort (sort_of n (of e))) (list_all is_scalar_sort (map (sort_of n) (map of es))) h in
       Param (of e) (pointer_to (of e)) (map of es) (text_of structs (of e)) (map (text_of structs) (map of es)) ((good e).by (some_scalar (sort_of n (of e)) one)) (is_scalar_type n (of e) one) (params_written structs good es rest)
 
   holds : (b : Bool) → IsSomeSort (chosen b Scalar Wrong) → b ≡ true
@@ -261,8 +261,8 @@ module _ {E : Type 0} (of : E → Ty) where
   function_by structs good (e ∷ es) h =
       let n = length structs in
       let both = holds (is_result_sort (sort_of n (of e)) && list_all is_scalar_sort (map (sort_of n) (map of es))) h in
-      let result = left_holds (is_result_sort (sort_of n (of e))) (list_all is_scalar_sort (map (sort_of n) (map of es))) both in
-      let rest = right_holds (is_result_sort (sort_of n (of e))) (list_all is_scalar_sort (map (sort_of n) (map of es))) both in
+      let result = left_of (is_result_sort (sort_of n (of e))) (list_all is_scalar_sort (map (sort_of n) (map of es))) both in
+      let rest = right_of (is_result_sort (sort_of n (of e))) (list_all is_scalar_sort (map (sort_of n) (map of es))) both in
       let ts = map of es in
       let x = text_of structs (of e) in
       let xs = map (text_of structs) ts in
