@@ -1,5 +1,5 @@
 -- Parts that are gathered one behind the other: each stands for what it was made of.
-use Rattle.std.proofs.Common.{◌≡◌, ℕ, zero, suc, List, [], ◌∷◌, ◌++◌, map, Some, slice_get, refl, sym, ap, subst, ◌∙◌}
+use Rattle.std.proofs.Common.{◌≡◌, ℕ, zero, suc, List, [], ◌∷◌, ◌++◌, length, Some, slice_get, refl, sym, ap, subst, ◌∙◌}
 use Rattle.mdr_core.proofs.Viewed.{some_same}
 use Rattle.mdr_faults.specs.Faults.{Checked, Right, next}
 use Rattle.mdr_sound_code.proofs.Rights.{Both, both_right, same_right}
@@ -33,6 +33,12 @@ pair_of_right R [] (y ∷ ys) i x h e = absurd h
 pair_of_right R (f ∷ fs) [] i x h e = absurd h
 pair_of_right R (f ∷ fs) (y ∷ ys) zero x h e = (f, record { left = refl; right = e; related = subst (λ g. R f g) (some_same e) h.0 })
 pair_of_right R (f ∷ fs) (y ∷ ys) (suc i) x h e = let r = pair_of_right R fs ys i x h.1 e in (r.0, later R fs ys f y i r.0 x r.1)
+
+pub pairwise_length : {D X : Type 0} (R : D → X → Type 0) (ds : List D) (xs : List X) → Pairwise R ds xs → length ds ≡ length xs
+pairwise_length R [] [] h = refl
+pairwise_length R [] (x ∷ xs) h = absurd h
+pairwise_length R (d ∷ ds) [] h = absurd h
+pairwise_length R (d ∷ ds) (x ∷ xs) h = ap suc (pairwise_length R ds xs h.1)
 
 -- what a loop gathers that judges each part among those before it
 pub gathered : {D X : Type 0} (F : List D → List D → Checked (List X)) (G : List D → D → Checked X) (R : D → X → Type 0)

@@ -13,6 +13,7 @@ use Rattle.mdr_core.specs.Types.{Sort, Wrong, Empty, Locks, Aggregate, Scalar, s
 use Rattle.mdr_core.proofs.Laid.{sort_is}
 use Rattle.mdr_faults.specs.Declarations.{is_void, is_void_by, pointer_by, pointer_to}
 use Rattle.mdr_sound_code.proofs.Layers.{sort_struct, sort_ptr, sort_void_ptr}
+pub use Rattle.mdr_sound_code.proofs.Layers.{int_from as integer_is, ptr_from as pointer_is, void_ptr_from as void_pointer_is}
 use Rattle.mdr_sound_files.specs.Declared.{IsSomeSort}
 
 -- ---- a type by its first level

@@ -2,7 +2,7 @@
 use Rattle.std.proofs.Common.{◌≡◌, ℕ, zero, suc, ◌+◌, ◌*◌, ◌<◌, ◌≤◌, ◌⊎◌, inl, inr, Bool, true, false, not, nat_lt, IsTrue, List, [], ◌∷◌, ◌++◌, map, length, Option, Some, None, is_some, Ok, slice_get, refl, sym, ap, subst, ◌∙◌, arith}
 use Rattle.std.specs.Prelude.{◌&&◌}
 use Rattle.std.proofs.lemmas.Option.{slice_get_within}
-use Rattle.std.proofs.lemmas.List.{length-append}
+use Rattle.std.proofs.lemmas.List.{length-append, length-map}
 use Rattle.mdr_core.specs.declared.place.Place.{Place}
 use Rattle.mdr_core.specs.declared.program.Field.{Field}
 use Rattle.mdr_core.specs.declared.program.Program.{Program}
@@ -30,7 +30,7 @@ use Rattle.mdr_sound_files.specs.Standing.{Stands, IsScalarField}
 use Rattle.mdr_sound_files.proofs.Reading.{get_mapped}
 use Rattle.mdr_sound_files.proofs.Sorts.{scalar_sort, object_is_some}
 use Rattle.mdr_sound_files.proofs.Objects.{declared_as, object_sound, KnowsSizes, sized_is}
-use Rattle.mdr_sound_files.proofs.Gathering.{Pairwise, Pair, pair_of_left, pair_of_right}
+use Rattle.mdr_sound_files.proofs.Gathering.{Pairwise, Pair, pair_of_left, pairwise_length}
 use Rattle.mdr_sound_files.proofs.Candidates.{candidate_scalar}
 use Rattle.mdr_sound_files.proofs.Structs.{IsFieldOf, IsStructOf, struct_as, IsMade, field_made, not_true}
 
@@ -94,6 +94,10 @@ entry_cells scope p ds xs n e f =
     let r = refused_right (nat_lt 65536 (cells_of_fields scope p xs)) (Right (cells_of_fields scope p xs)) p Limit n sized in
     same_right (cells_of_fields scope p xs) n r.right
 
+entry_members : (scope : Scope) (p : Place) (ds : List Decl) → length (struct_entry scope p ds).members ≡ length ds
+unfolding struct_entry
+entry_members scope p ds = length-map ds (member scope p)
+
 -- ---- its members
 
 record IsMemberOf (scope : Scope) (p : Place) (ds : List Decl) (f : ℕ) (o : Object) : Type 0 where
@@ -148,6 +152,9 @@ struct_known program scope p ds xs st e is =
     let a = struct_as scope p ds xs e in
     let s = length scope.structs in
     record {
+      small = let cells = struct_length program scope p ds xs st e is in let most = a.small in omega (arith, cells, most);
+      few = let fields = ap length is in let most = a.few in omega (arith, fields, most);
+      many = entry_members scope p ds ∙ pairwise_length (IsFieldOf scope p (map (candidate scope) ds)) ds xs a.fields ∙ ap length (sym is);
       size = λ n f. struct_length program scope p ds xs st e is ∙ entry_cells scope p ds xs n e f;
       members = λ f m o n g. known_field program scope p ds xs s f o st a.fields is (member_of scope p ds f m o n g);
       outline = λ f c n g. scalar_field program scope p ds xs s f c st a.fields is n g;

@@ -5,7 +5,7 @@ use Rattle.mdr_core.specs.declared.program.Param.{Param}
 use Rattle.mdr_core.specs.declared.program.Program.{Program}
 use Rattle.mdr_core.specs.declared.types.Ty.{Ty}
 use Rattle.mdr_core.specs.declared.types.Ty.TheVariants as type
-use Rattle.mdr_core.specs.Layout.{struct_of, struct_cells}
+use Rattle.mdr_core.specs.Layout.{struct_of, fields_of, struct_cells}
 use Rattle.mdr_core.specs.Sound.{Sibling, sibling_param, IsIntegerSibling, Annotates, IsObjectSort, IsCount, IsSoundParam, all_cells}
 use Rattle.mdr_core.specs.Types.{Sort, Wrong, Empty, Locks, Aggregate, Scalar, sort_of}
 use Rattle.mdr_syntax.specs.declared.tree.Decl.{Decl}
@@ -41,9 +41,12 @@ pub record IsSoundObject (program : Program) (scope : Scope) (o : Object) : Type
 pub record SeesSiblings (candidates : List Candidate) (siblings : List Sibling) : Type 0 where
   pub integers : (i : ℕ) (c : Candidate) → slice_get candidates i ≡ Some c → c.is_integer ≡ true → IsIntegerSibling siblings i
 
--- what is known behind a struct, and what annotations see of it, is so of struct s of the program
+-- struct s of the program keeps the limits, and what is known behind it, and what annotations see of it, is so
 pub record IsKnownStruct (program : Program) (scope : Scope) (p : Place) (ds : List Decl) (s : ℕ) : Type 0 where
+  pub small : length (struct_cells program.structs s) ≤ 65536
+  pub few : length (fields_of program.structs s) ≤ 64
   pub size : (n : ℕ) → (struct_entry scope p ds).cells ≡ Ok n → length (struct_cells program.structs s) ≡ n
+  pub many : length (struct_entry scope p ds).members ≡ length (fields_of program.structs s)
   pub members : (f : ℕ) (m : Member) (o : Object) → slice_get (struct_entry scope p ds).members f ≡ Some m → m.means ≡ Ok o → IsKnownField program s f o
   pub outline : (f : ℕ) (c : Candidate) → slice_get (map (candidate scope) ds) f ≡ Some c → c.is_scalar ≡ true → IsScalarField program s f
 

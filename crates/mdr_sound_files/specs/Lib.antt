@@ -1,3 +1,4 @@
+pub mod DeclarationLaws
 pub mod Declared
 pub mod Standing
 pub mod Telling

@@ -1,2 +1,9 @@
 //! What the rules of declarations make keeps to the rules of sound programs.
 #![tactic(auto)]
+
+mod declaration_laws;
+
+pub use declaration_laws::{
+    annotations_are_sound, declarators_have_types, headings_are_sound, objects_are_sound,
+    structs_are_known, structs_are_sound, tables_are_sound, types_have_numbers,
+};
