@@ -1,5 +1,5 @@
 -- Annotations say what is so.
-use Rattle.std.proofs.Common.{◌≡◌, ℕ, zero, suc, ◌<◌, ◌≤◌, ◌⊎◌, inl, inr, Bool, true, false, not, nat_lt, IsTrue, ℤ, pos, negsuc, List, Option, Some, None, is_some, Result, Ok, Err, slice_get, get_or, position, refl, sym, ap, subst, ◌∙◌, arith}
+use Rattle.std.proofs.Common.{◌≡◌, ℕ, zero, suc, ◌≤◌, ◌⊎◌, inl, inr, Bool, true, false, not, nat_lt, ℤ, pos, negsuc, List, Option, Some, None, is_some, Result, Ok, Err, slice_get, get_or, refl, ap, subst, ◌∙◌, arith}
 use Rattle.std.specs.Prelude.{◌&&◌, ◌||◌}
 use Rattle.std.proofs.lemmas.Option.{slice_get-get_or}
 use Rattle.std.proofs.lemmas.List.Quantifiers.{position-Some}
@@ -15,7 +15,7 @@ use Rattle.mdr_core.specs.declared.types.Ty.{Ty, out-Ty}
 use Rattle.mdr_core.specs.declared.types.Ty.TheOpen.{Ty-F}
 use Rattle.mdr_core.specs.declared.types.Ty.TheVariants as type
 use Rattle.mdr_core.specs.Layout.{chosen}
-use Rattle.mdr_core.specs.Sound.{Sibling, IsIntegerSibling, IsIntegerGlobal, IsLength, IsSentinel, Annotates}
+use Rattle.mdr_core.specs.Sound.{Sibling, IsIntegerSibling, IsIntegerGlobal, IsLength, Annotates}
 use Rattle.mdr_core.proofs.Viewed.{some_same}
 use Rattle.mdr_syntax.specs.declared.tree.AnnText.{AnnText}
 use Rattle.mdr_syntax.specs.declared.tree.AnnText.TheVariants as text
@@ -32,9 +32,9 @@ use Rattle.mdr_faults.specs.declared.scope.Scope.{Scope}
 use Rattle.mdr_faults.specs.Declarations.{is_same_name, number_constant}
 use Rattle.mdr_faults.specs.Faults.{Checked, Right, refuse}
 use Rattle.mdr_faults.specs.Scopes.{entity_named}
-use Rattle.mdr_headings.specs.Annotations.{is_integer, is_integer_by, as_length, entity_constant, named_constant, entity_global, named_global, sibling_named, has_sibling, no_length, or_global, or_sibling, or_constant, length_named, array_length, field_suits, sentinel_at, field_named, sentinel_among, target_by, array_on, sentinel_of, sentinel_on, is_character, is_character_by, is_character_kind, points_to_characters, is_data_pointer, is_data_pointer_by, suits_if, annotated}
+use Rattle.mdr_headings.specs.Annotations.{is_integer, is_integer_by, as_length, entity_constant, named_constant, entity_global, named_global, sibling_named, has_sibling, no_length, or_global, or_sibling, or_constant, array_length, field_suits, sentinel_at, field_named, sentinel_among, target_by, array_on, sentinel_of, sentinel_on, is_character_by, is_character_kind, points_to_characters, is_data_pointer, is_data_pointer_by, suits_if, annotated}
 use Rattle.mdr_sound_code.proofs.Rights.{same_right, chosen_right, not_right}
-use Rattle.mdr_sound_code.specs.Knowing.{IsKnownGlobal, IsKnownEntity}
+use Rattle.mdr_sound_code.specs.Knowing.{IsKnownGlobal}
 use Rattle.mdr_sound_code.proofs.Alike.{left_of, right_of}
 use Rattle.mdr_sound_files.specs.Declared.{SeesSiblings}
 use Rattle.mdr_sound_files.specs.Standing.{Stands, IsScalarField}

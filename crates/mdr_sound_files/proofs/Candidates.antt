@@ -1,5 +1,5 @@
 -- What annotations see of a declaration.
-use Rattle.std.proofs.Common.{◌≡◌, ◌&&◌, Bool, true, false, not, is_some, Ok, refl, sym, ap, ◌∙◌}
+use Rattle.std.proofs.Common.{◌≡◌, ◌&&◌, not, is_some, ap}
 use Rattle.mdr_core.specs.declared.types.Ty.{Ty}
 use Rattle.mdr_core.specs.Types.{is_scalar}
 use Rattle.mdr_syntax.specs.declared.tree.Decl.{Decl, out-Decl}

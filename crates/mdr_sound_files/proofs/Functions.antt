@@ -1,7 +1,6 @@
 -- Functions of a program, from what stands before their bodies.
-use Rattle.std.proofs.Common.{◌≡◌, ℕ, zero, suc, ◌+◌, Bool, true, false, List, [], ◌∷◌, map, length, Option, Some, None, slice_get, refl, sym, ap, subst, ◌∙◌, eqb-true}
-use Rattle.std.specs.Prelude.{◌&&◌, ◌==◌}
-use Rattle.mdr_core.specs.declared.program.Func.{Func}
+use Rattle.std.proofs.Common.{◌≡◌, ℕ, zero, suc, ◌+◌, Bool, true, List, [], ◌∷◌, map, length, Option, Some, None, slice_get, refl, sym, ap, subst, ◌∙◌, eqb-true}
+use Rattle.std.specs.Prelude.{◌&&◌}
 use Rattle.mdr_core.specs.declared.program.Local.{Local}
 use Rattle.mdr_core.specs.declared.program.Param.{Param}
 use Rattle.mdr_core.specs.declared.program.Program.{Program}
@@ -12,7 +11,7 @@ use Rattle.mdr_core.specs.declared.types.LenOf.TheVariants as len
 use Rattle.mdr_core.specs.declared.types.Ty.{Ty}
 use Rattle.mdr_core.specs.declared.types.Ty.TheVariants as type
 use Rattle.mdr_core.specs.Sound.{Sibling, sibling_param, Annotates, IsSoundFunc, IsSoundLocal, IsSoundParam, HasTypedBody}
-use Rattle.mdr_core.specs.Types.{HasNumber, Scalar, sort_of}
+use Rattle.mdr_core.specs.Types.{HasNumber, sort_of}
 use Rattle.mdr_core.specs.Typing.{function_type}
 use Rattle.mdr_core.proofs.Viewed.{some_same}
 use Rattle.mdr_faults.specs.Alike.{is_alike}

@@ -1,14 +1,12 @@
 -- What stands before a function's body is sound.
-use Rattle.std.proofs.Common.{◌≡◌, ℕ, ◌⊎◌, inl, inr, Bool, true, false, not, IsTrue, List, [], ◌∷◌, ◌++◌, map, length, Option, Some, None, is_some, slice_get, refl, sym, ap, subst, ◌∙◌}
+use Rattle.std.proofs.Common.{◌≡◌, ℕ, ◌⊎◌, Bool, true, not, List, [], ◌∷◌, map, length, Some, is_some, slice_get, refl, sym, ap, subst, ◌∙◌}
 use Rattle.std.specs.Prelude.{◌&&◌, ◌==◌}
 use Rattle.std.specs.List.{list_any}
-use Rattle.mdr_core.specs.declared.place.Place.{Place}
 use Rattle.mdr_core.specs.declared.program.Param.{Param}
 use Rattle.mdr_core.specs.declared.program.Program.{Program}
-use Rattle.mdr_core.specs.declared.types.Ann.{Ann}
 use Rattle.mdr_core.specs.declared.types.Ty.{Ty}
 use Rattle.mdr_core.specs.declared.types.Ty.TheVariants as type
-use Rattle.mdr_core.specs.Sound.{Sibling, sibling_param, Annotates, IsSoundParam}
+use Rattle.mdr_core.specs.Sound.{sibling_param}
 use Rattle.mdr_core.specs.Types.{Scalar, HasNumber, sort_of, is_scalar}
 use Rattle.mdr_syntax.specs.declared.tree.Decl.{Decl, out-Decl}
 use Rattle.mdr_syntax.specs.declared.tree.Decl.TheOpen.{Decl-F}
@@ -19,22 +17,22 @@ use Rattle.mdr_faults.specs.declared.scope.Candidate.{Candidate}
 use Rattle.mdr_faults.specs.declared.scope.Scope.{Scope}
 use Rattle.mdr_faults.specs.declared.scope.Signature.{Signature}
 use Rattle.mdr_faults.specs.Declarations.{Declarator, declarator, declarator_layer, declarator_type, is_same_name, parameter_among, parameter_list, parameter_type, result_type, type_named}
-use Rattle.mdr_faults.specs.Faults.{Checked, Right, after, both, demand, next}
+use Rattle.mdr_faults.specs.Faults.{Right}
 use Rattle.mdr_headings.specs.declared.head.Given.{Given}
 use Rattle.mdr_headings.specs.declared.head.Heading.{Heading}
 use Rattle.mdr_headings.specs.Annotations.{annotated, candidate, is_integer}
 use Rattle.mdr_headings.specs.Heads.{param_of, annotated_param, param_among, params_behind, given_by, annotated_result, head_result, given, heading_of, heading}
 use Rattle.mdr_headings.specs.Source.{signature, signature_by}
-use Rattle.mdr_sound_code.proofs.Rights.{After, after_right, Both, both_right, same_right, Demanded, demand_right, chosen_right, not_right}
+use Rattle.mdr_sound_code.proofs.Rights.{after_right, both_right, same_right, demand_right, chosen_right}
 use Rattle.mdr_sound_code.proofs.Alike.{left_of}
 use Rattle.mdr_sound_files.specs.Declared.{SeesSiblings, IsSoundHeading}
 use Rattle.mdr_sound_files.specs.Standing.{Stands}
 use Rattle.mdr_sound_files.proofs.Reading.{get_map, get_mapped}
-use Rattle.mdr_sound_files.proofs.NamedTypes.{AreNumbered, IsGoodDeclarator, declarator_good, type_named_some, result_type_is, parameter_list_is}
+use Rattle.mdr_sound_files.proofs.NamedTypes.{AreNumbered, declarator_good, type_named_some, result_type_is, parameter_list_is}
 use Rattle.mdr_sound_files.proofs.Sorts.{is_result, handle_sort}
 use Rattle.mdr_sound_files.proofs.Objects.{tags_numbered}
 use Rattle.mdr_sound_files.proofs.Annotating.{annotation_sound, integer}
-use Rattle.mdr_sound_files.proofs.Gathering.{Pairwise, Pair, pair_of_left, pair_of_right, gathered}
+use Rattle.mdr_sound_files.proofs.Gathering.{Pairwise, pair_of_left, pair_of_right, gathered}
 use Rattle.mdr_sound_files.proofs.Candidates.{candidate_integer, same_declarator}
 
 -- ---- parameters, as they are declared

@@ -1,25 +1,24 @@
 -- What the types of a file's declarations are.
-use Rattle.std.proofs.Common.{◌≡◌, ℕ, zero, suc, ◌<◌, ◌⊎◌, inl, inr, Bool, true, false, not, IsTrue, List, [], ◌∷◌, ◌++◌, map, Option, Some, None, is_some, refl, sym, ap, subst, ◌∙◌, option_map}
+use Rattle.std.proofs.Common.{◌≡◌, ℕ, zero, suc, ◌<◌, ◌⊎◌, Bool, true, not, List, [], ◌∷◌, ◌++◌, map, Option, Some, None, is_some, refl, sym, ap, subst, ◌∙◌, option_map}
 use Rattle.std.specs.Prelude.{◌&&◌, ◌||◌, ◌==◌, length}
 use Rattle.std.specs.List.{list_all, list_any}
 use Rattle.mdr_core.specs.declared.place.Place.{Place}
 use Rattle.mdr_core.specs.declared.types.Ty.{Ty}
 use Rattle.mdr_core.specs.declared.types.Ty.TheVariants as type
-use Rattle.mdr_core.specs.Layout.{chosen}
-use Rattle.mdr_core.specs.Types.{Sort, Wrong, Empty, Locks, Aggregate, Scalar, sort_of, is_result_sort, is_scalar_sort, is_scalar}
+use Rattle.mdr_core.specs.Types.{Sort, Scalar, sort_of, is_scalar_sort, is_scalar}
 use Rattle.mdr_syntax.specs.declared.tree.Base.{Base}
 use Rattle.mdr_syntax.specs.declared.tree.Base.TheVariants as base
-use Rattle.mdr_syntax.specs.declared.tree.Decl.{Decl, out-Decl}
+use Rattle.mdr_syntax.specs.declared.tree.Decl.{Decl}
 use Rattle.mdr_syntax.specs.declared.tree.Decl.TheOpen.{Decl-F}
 use Rattle.mdr_syntax.specs.declared.tree.Decl.TheFolds.{ind-Decl, map-Decl, fold-roll-Decl}
 use Rattle.mdr_faults.specs.declared.fault.FaultKind.TheVariants.{Redefined, Mismatch, Limit}
 use Rattle.mdr_faults.specs.declared.scope.Scope.{Scope}
 use Rattle.mdr_faults.specs.declared.scope.Tag.{Tag}
-use Rattle.mdr_faults.specs.Declarations.{Declarator, declarator, declarator_by, declarator_layer, declarator_type, base_type, struct_named, starred, pointer_to, type_named, result_type, parameter_type, function_type, parameter_among, parameter_list, is_same_name, is_void}
-use Rattle.mdr_faults.specs.Faults.{Checked, Right, refuse, after, both, next}
+use Rattle.mdr_faults.specs.Declarations.{Declarator, declarator, declarator_by, declarator_layer, declarator_type, base_type, struct_named, starred, pointer_to, type_named, result_type, parameter_type, parameter_among, parameter_list, is_same_name, is_void}
+use Rattle.mdr_faults.specs.Faults.{Checked, Right, after}
 use Rattle.mdr_faults.specs.Scopes.{tag_named}
 use Rattle.mdr_sound_code.proofs.Alike.{left_of}
-use Rattle.mdr_sound_code.proofs.Rights.{After, after_right, Both, both_right, same_right, demand_right, chosen_right, not_right}
+use Rattle.mdr_sound_code.proofs.Rights.{after_right, both_right, same_right, demand_right, chosen_right, not_right}
 use Rattle.mdr_sound_files.specs.Declared.{IsSomeSort}
 use Rattle.mdr_sound_code.proofs.Layers.{sort_int, sort_lock}
 use Rattle.mdr_sound_files.proofs.Sorts.{struct_aggregate, void_sort, pointer_some, scalar_sort, result_sort, is_result, handle_sort}

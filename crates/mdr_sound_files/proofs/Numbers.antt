@@ -1,8 +1,6 @@
 -- Each type that occurs has its number in the type table.
-use Rattle.std.proofs.Common.{◌≡◌, ℕ, zero, suc, ◌+◌, ◌<◌, ◌≤◌, ◌⊎◌, inl, inr, Bool, true, false, List, [], ◌∷◌, ◌++◌, map, length, Option, Some, None, slice_get, IsTrue, refl, sym, ap, subst, ◌∙◌, arith}
-use Rattle.std.proofs.lemmas.List.{length-append}
+use Rattle.std.proofs.Common.{◌≡◌, ℕ, suc, ◌+◌, ◌≤◌, inl, inr, true, List, [], ◌∷◌, ◌++◌, length, Some, slice_get, IsTrue, refl, sym, ap, subst, ◌∙◌, arith}
 use Rattle.std.proofs.lemmas.Option.{slice_get_within}
-use Rattle.mdr_core.specs.declared.kind.Kind.{Kind}
 use Rattle.mdr_core.specs.declared.program.Program.{Program}
 use Rattle.mdr_core.specs.declared.program.StructDef.{StructDef}
 use Rattle.mdr_core.specs.declared.types.Ty.{Ty, out-Ty, roll-Ty, roll-out-Ty}
@@ -14,10 +12,9 @@ use Rattle.mdr_core.specs.Sound.{IsObjectSort}
 use Rattle.mdr_core.specs.TypeText.{text_of}
 use Rattle.mdr_core.specs.Types.{HasNumber, sort_of, first_types, is_pointer, is_pointer_by}
 use Rattle.mdr_core.proofs.Laid.{struct_within}
-use Rattle.mdr_core.proofs.Viewed.{some_same}
 use Rattle.mdr_check.specs.declared.table.TextedType.{TextedType}
 use Rattle.mdr_check.specs.Tables.{struct_types, types_alone, type_table}
-use Rattle.mdr_program.specs.Orders.{IsAmong, HasText, IsTexted, AreTexted, IsInOrder, HasFirstNumbers}
+use Rattle.mdr_program.specs.Orders.{IsAmong, HasText}
 use Rattle.mdr_program.proofs.Rising.{tables_are_in_order}
 use Rattle.mdr_program.proofs.FirstNumbers.{tables_have_first_numbers}
 use Rattle.mdr_sound_files.specs.Telling.{AreToldApart}

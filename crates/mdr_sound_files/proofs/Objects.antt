@@ -1,14 +1,13 @@
 -- What fields, globals and locals are declared as.
-use Rattle.std.proofs.Common.{◌≡◌, ℕ, zero, suc, ◌*◌, ◌<◌, ◌≤◌, Bool, true, false, nat_lt, IsTrue, ℤ, pos, negsuc, List, length, Option, Some, None, is_some, Ok, slice_get, refl, sym, ap, subst, ◌∙◌, arith}
+use Rattle.std.proofs.Common.{◌≡◌, ℕ, zero, suc, ◌*◌, ◌<◌, ◌≤◌, Bool, true, false, nat_lt, ℤ, pos, negsuc, List, length, Option, Some, None, is_some, Ok, slice_get, refl, sym, ap, subst, arith}
 use Rattle.std.specs.Prelude.{◌||◌}
 use Rattle.std.proofs.lemmas.Option.{slice_get_within}
 use Rattle.mdr_core.specs.declared.place.Place.{Place}
 use Rattle.mdr_core.specs.declared.program.Program.{Program}
 use Rattle.mdr_core.specs.declared.types.Ty.{Ty, out-Ty}
 use Rattle.mdr_core.specs.declared.types.Ty.TheOpen.{Ty-F}
-use Rattle.mdr_core.specs.Layout.{chosen, Leaf, Home, Alone, leaves, leaves_by, cells, struct_by, struct_of, struct_cells as cells_of_struct}
-use Rattle.mdr_core.specs.Sound.{IsObjectSort, IsCount, all_cells}
-use Rattle.mdr_core.specs.Types.{sort_of}
+use Rattle.mdr_core.specs.Layout.{Leaf, Home, Alone, leaves, leaves_by, cells, struct_by, struct_of, struct_cells as cells_of_struct}
+use Rattle.mdr_core.specs.Sound.{IsCount}
 use Rattle.mdr_core.proofs.Lying.{length-repeated}
 use Rattle.mdr_core.proofs.Viewed.{some_same}
 use Rattle.mdr_syntax.specs.declared.tree.Const.{Const}
@@ -17,13 +16,13 @@ use Rattle.mdr_faults.specs.declared.fault.FaultKind.TheVariants.{Limit}
 use Rattle.mdr_faults.specs.declared.scope.Object.{Object}
 use Rattle.mdr_faults.specs.declared.scope.Scope.{Scope}
 use Rattle.mdr_faults.specs.declared.scope.StructEntry.{StructEntry}
-use Rattle.mdr_faults.specs.Declarations.{Declarator, declarator, constant, element_count, count_of, struct_cells, cells_by, cells_of, sized, object_of, object_declared, is_void, is_void_by}
-use Rattle.mdr_faults.specs.Faults.{Checked, Right, again, after}
-use Rattle.mdr_sound_code.proofs.Rights.{After, after_right, Both, both_right, same_right, refused_right, again_right, not_right}
-use Rattle.mdr_sound_files.specs.Declared.{IsSomeSort, IsSoundObject}
+use Rattle.mdr_faults.specs.Declarations.{declarator, constant, element_count, count_of, struct_cells, cells_by, cells_of, sized, object_of, object_declared, is_void, is_void_by}
+use Rattle.mdr_faults.specs.Faults.{Right}
+use Rattle.mdr_sound_code.proofs.Rights.{after_right, both_right, same_right, refused_right, again_right, not_right}
+use Rattle.mdr_sound_files.specs.Declared.{IsSoundObject}
 use Rattle.mdr_sound_files.specs.Standing.{Stands}
 use Rattle.mdr_sound_files.proofs.Sorts.{object_sort}
-use Rattle.mdr_sound_files.proofs.NamedTypes.{AreNumbered, IsGoodDeclarator, declarator_good}
+use Rattle.mdr_sound_files.proofs.NamedTypes.{AreNumbered, declarator_good}
 
 -- ---- the parts of a declaration
 

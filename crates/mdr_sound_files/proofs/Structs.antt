@@ -1,43 +1,32 @@
 -- Structs that a file declares are sound.
-use Rattle.std.proofs.Common.{◌≡◌, ℕ, zero, suc, ◌+◌, ◌*◌, ◌<◌, ◌≤◌, Bool, true, false, not, nat_lt, IsTrue, List, [], ◌∷◌, ◌++◌, map, length, Option, Some, None, is_some, Ok, slice_get, refl, sym, ap, subst, ◌∙◌, arith}
+use Rattle.std.proofs.Common.{◌≡◌, ℕ, suc, ◌+◌, ◌<◌, ◌≤◌, Bool, true, false, not, nat_lt, List, [], ◌∷◌, ◌++◌, map, length, Some, is_some, slice_get, refl, sym, ap, subst, ◌∙◌, arith}
 use Rattle.std.specs.Prelude.{◌&&◌, ◌==◌}
 use Rattle.std.specs.List.{list_any}
-use Rattle.std.proofs.lemmas.Option.{slice_get_within}
 use Rattle.std.proofs.lemmas.List.{length-append}
 use Rattle.mdr_core.specs.declared.place.Place.{Place}
 use Rattle.mdr_core.specs.declared.program.Field.{Field}
 use Rattle.mdr_core.specs.declared.program.Program.{Program}
-use Rattle.mdr_core.specs.declared.program.StructDef.{StructDef}
 use Rattle.mdr_core.specs.declared.types.Ann.{Ann}
-use Rattle.mdr_core.specs.declared.types.Ty.{Ty, out-Ty}
-use Rattle.mdr_core.specs.declared.types.Ty.TheOpen.{Ty-F}
-use Rattle.mdr_core.specs.Layout.{Leaf, Home, Within, leaves, leaves_below, field_leaves, fields_of, repeated, struct_cells as cells_of_struct}
-use Rattle.mdr_core.specs.Sound.{Sibling, sibling_field, IsIntegerSibling, IsSoundField, IsSoundStruct}
-use Rattle.mdr_core.specs.Types.{HasNumber, sort_of, is_scalar}
-use Rattle.mdr_core.proofs.Lying.{length-repeated, is_below}
-use Rattle.mdr_core.proofs.Viewed.{some_same}
+use Rattle.mdr_core.specs.Sound.{Sibling, sibling_field, IsSoundField, IsSoundStruct}
+use Rattle.mdr_core.specs.Types.{HasNumber}
 use Rattle.mdr_syntax.specs.declared.tree.Decl.{Decl, out-Decl}
 use Rattle.mdr_faults.specs.declared.fault.FaultKind.TheVariants.{Redefined, Limit}
 use Rattle.mdr_faults.specs.declared.scope.Candidate.{Candidate}
-use Rattle.mdr_faults.specs.declared.scope.Member.{Member}
 use Rattle.mdr_faults.specs.declared.scope.Object.{Object}
 use Rattle.mdr_faults.specs.declared.scope.Scope.{Scope}
-use Rattle.mdr_faults.specs.declared.scope.StructEntry.{StructEntry}
-use Rattle.mdr_faults.specs.Declarations.{declarator, struct_cells, cells_by, cells_of, is_same_name, object_declared}
-use Rattle.mdr_faults.specs.Faults.{Checked, Right, after, demand, next, told}
+use Rattle.mdr_faults.specs.Declarations.{declarator, is_same_name, object_declared}
+use Rattle.mdr_faults.specs.Faults.{Right, after}
 use Rattle.mdr_headings.specs.Annotations.{annotated, candidate, is_integer}
-use Rattle.mdr_headings.specs.Structs.{field_of, annotated_field, field_among, fields_behind, number_or_zero, cells_of_fields, within_limit, struct_size, struct_rule, struct_fields, member, struct_entry}
-use Rattle.mdr_sound_code.specs.Knowing.{IsKnownField}
-use Rattle.mdr_sound_code.proofs.Rights.{After, after_right, Both, both_right, same_right, Demanded, demand_right, refused_right, told_right, not_right}
+use Rattle.mdr_headings.specs.Structs.{field_of, annotated_field, field_among, fields_behind, cells_of_fields, struct_size, struct_rule, struct_fields}
+use Rattle.mdr_sound_code.proofs.Rights.{after_right, both_right, same_right, demand_right, refused_right, not_right}
 use Rattle.mdr_sound_code.proofs.Alike.{left_of, right_of}
-use Rattle.mdr_sound_files.specs.Declared.{SeesSiblings, IsSoundObject, IsKnownStruct}
-use Rattle.mdr_sound_files.specs.Standing.{Stands, IsScalarField}
+use Rattle.mdr_sound_files.specs.Declared.{SeesSiblings}
+use Rattle.mdr_sound_files.specs.Standing.{Stands}
 use Rattle.mdr_sound_files.proofs.Reading.{get_map, get_mapped}
-use Rattle.mdr_sound_files.proofs.Sorts.{scalar_sort, object_is_some}
-use Rattle.mdr_sound_files.proofs.Objects.{IsDeclaredAs, declared_as, object_sound, KnowsSizes, sized_is}
+use Rattle.mdr_sound_files.proofs.Objects.{declared_as, object_sound}
 use Rattle.mdr_sound_files.proofs.Annotating.{annotation_sound, integer}
-use Rattle.mdr_sound_files.proofs.Gathering.{Pairwise, Pair, pair_of_left, pair_of_right, gathered}
-use Rattle.mdr_sound_files.proofs.Candidates.{candidate_integer, candidate_scalar}
+use Rattle.mdr_sound_files.proofs.Gathering.{Pairwise, pair_of_left, pair_of_right, gathered}
+use Rattle.mdr_sound_files.proofs.Candidates.{candidate_integer}
 
 -- ---- fields, as they are declared
 

@@ -1,5 +1,5 @@
 -- What is known behind a struct is so.
-use Rattle.std.proofs.Common.{◌≡◌, ℕ, zero, suc, ◌+◌, ◌*◌, ◌<◌, ◌≤◌, ◌⊎◌, inl, inr, Bool, true, false, not, nat_lt, IsTrue, List, [], ◌∷◌, ◌++◌, map, length, Option, Some, None, is_some, Ok, slice_get, refl, sym, ap, subst, ◌∙◌, arith}
+use Rattle.std.proofs.Common.{◌≡◌, ℕ, zero, suc, ◌+◌, ◌*◌, ◌<◌, ◌⊎◌, inl, inr, true, not, nat_lt, List, [], ◌∷◌, ◌++◌, map, length, Option, Some, None, is_some, Ok, slice_get, refl, sym, ap, subst, ◌∙◌, arith}
 use Rattle.std.specs.Prelude.{◌&&◌}
 use Rattle.std.proofs.lemmas.Option.{slice_get_within}
 use Rattle.std.proofs.lemmas.List.{length-append, length-map}
@@ -18,21 +18,21 @@ use Rattle.mdr_faults.specs.declared.scope.Member.{Member}
 use Rattle.mdr_faults.specs.declared.scope.Object.{Object}
 use Rattle.mdr_faults.specs.declared.scope.Scope.{Scope}
 use Rattle.mdr_faults.specs.declared.scope.StructEntry.{StructEntry}
-use Rattle.mdr_faults.specs.Declarations.{declarator, struct_cells, cells_by, cells_of, object_declared}
-use Rattle.mdr_faults.specs.Faults.{Checked, Right, after, told}
+use Rattle.mdr_faults.specs.Declarations.{struct_cells, cells_by, cells_of, object_declared}
+use Rattle.mdr_faults.specs.Faults.{Right, after}
 use Rattle.mdr_headings.specs.Annotations.{candidate}
-use Rattle.mdr_headings.specs.Structs.{field_of, number_or_zero, cells_of_fields, struct_size, struct_fields, member, struct_entry}
-use Rattle.mdr_sound_code.specs.Knowing.{Knows, IsKnownField}
-use Rattle.mdr_sound_code.proofs.Rights.{After, after_right, same_right, refused_right, told_right, not_right}
+use Rattle.mdr_headings.specs.Structs.{number_or_zero, cells_of_fields, struct_size, struct_fields, member, struct_entry}
+use Rattle.mdr_sound_code.specs.Knowing.{IsKnownField}
+use Rattle.mdr_sound_code.proofs.Rights.{same_right, refused_right, told_right, not_right}
 use Rattle.mdr_sound_code.proofs.Alike.{left_of, right_of}
 use Rattle.mdr_sound_files.specs.Declared.{IsSomeSort, IsKnownStruct}
 use Rattle.mdr_sound_files.specs.Standing.{Stands, IsScalarField}
 use Rattle.mdr_sound_files.proofs.Reading.{get_mapped}
 use Rattle.mdr_sound_files.proofs.Sorts.{scalar_sort, object_is_some}
 use Rattle.mdr_sound_files.proofs.Objects.{declared_as, object_sound, KnowsSizes, sized_is}
-use Rattle.mdr_sound_files.proofs.Gathering.{Pairwise, Pair, pair_of_left, pairwise_length}
+use Rattle.mdr_sound_files.proofs.Gathering.{Pairwise, pair_of_left, pairwise_length}
 use Rattle.mdr_sound_files.proofs.Candidates.{candidate_scalar}
-use Rattle.mdr_sound_files.proofs.Structs.{IsFieldOf, IsStructOf, struct_as, IsMade, field_made, not_true}
+use Rattle.mdr_sound_files.proofs.Structs.{IsFieldOf, struct_as, field_made, not_true}
 
 -- ---- how many cells a struct has
 

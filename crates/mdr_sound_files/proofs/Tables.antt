@@ -1,5 +1,5 @@
 -- Type tables are sound.
-use Rattle.std.proofs.Common.{◌≡◌, ℕ, zero, suc, ◌+◌, ◌<◌, ◌⊎◌, inl, inr, Bool, true, false, nat_lt, List, [], ◌∷◌, ◌++◌, map, length, Option, Some, None, slice_get, IsTrue, refl, sym, ap, subst, ◌∙◌, arith}
+use Rattle.std.proofs.Common.{◌≡◌, ℕ, zero, suc, ◌+◌, ◌<◌, ◌⊎◌, inl, inr, Bool, true, false, nat_lt, List, [], ◌∷◌, ◌++◌, length, Some, slice_get, IsTrue, refl, sym, ap, subst, ◌∙◌, arith}
 use Rattle.std.proofs.lemmas.List.{length-append}
 use Rattle.mdr_core.specs.declared.kind.Kind.{Kind}
 use Rattle.mdr_core.specs.declared.kind.Kind.TheVariants.{U8, U16, U32, U64, S8, S16, S32, S64}
@@ -12,14 +12,14 @@ use Rattle.mdr_core.specs.Kinds.{kind_number}
 use Rattle.mdr_core.specs.Layout.{chosen}
 use Rattle.mdr_core.specs.Sound.{IsObjectSort, IsTable}
 use Rattle.mdr_core.specs.TypeText.{text_of, is_before}
-use Rattle.mdr_core.specs.Types.{Scalar, Locks, Aggregate, sort_of, first_types, is_pointer, is_pointer_by}
+use Rattle.mdr_core.specs.Types.{sort_of, first_types, is_pointer, is_pointer_by}
 use Rattle.mdr_core.proofs.Viewed.{some_same}
 use Rattle.mdr_check.specs.declared.table.TextedType.{TextedType}
 use Rattle.mdr_check.specs.Tables.{struct_types, types_alone, type_table}
-use Rattle.mdr_program.specs.Orders.{StandsAbove, Rise, IsAmong, IsTexted, AreTexted, IsInOrder, HasFirstNumbers}
+use Rattle.mdr_program.specs.Orders.{Rise, IsAmong, IsTexted, AreTexted, IsInOrder}
 use Rattle.mdr_program.proofs.Rising.{tables_are_in_order}
 use Rattle.mdr_program.proofs.FirstNumbers.{tables_have_first_numbers}
-use Rattle.mdr_sound_files.proofs.Reading.{Mapped, get_mapped}
+use Rattle.mdr_sound_files.proofs.Reading.{get_mapped}
 use Rattle.mdr_sound_code.proofs.Layers.{sort_int, sort_lock}
 use Rattle.mdr_sound_files.proofs.Sorts.{struct_aggregate}
 

@@ -1,10 +1,9 @@
 -- Pointer types with one text are one type.
-use Rattle.std.proofs.Common.{◌≡◌, ℕ, zero, suc, ◌+◌, ◌<◌, ◌⊎◌, inl, inr, Bool, true, false, nat_lt, cond, List, [], ◌∷◌, ◌++◌, map, length, Option, Some, None, slice_get, IsTrue, codes, refl, sym, ap, subst, ◌∙◌, arith}
+use Rattle.std.proofs.Common.{◌≡◌, ℕ, zero, suc, ◌+◌, ◌<◌, inl, inr, Bool, true, false, nat_lt, cond, List, [], ◌∷◌, ◌++◌, map, length, Option, Some, None, slice_get, IsTrue, codes, refl, sym, ap, subst, ◌∙◌, arith}
 use Rattle.std.specs.Prelude.{◌&&◌, ◌||◌}
 use Rattle.std.specs.List.{list_all, prefix_len}
 use Rattle.std.specs.Str.{bytes_eq}
 use Rattle.std.proofs.lemmas.Slice.Eq.{bytes_eq-Decides}
-use Rattle.std.proofs.lemmas.Option.{slice_get_cases}
 use Rattle.mdr_core.specs.declared.kind.Kind.{Kind}
 use Rattle.mdr_core.specs.declared.program.StructDef.{StructDef}
 use Rattle.mdr_core.specs.declared.types.Ty.{Ty, out-Ty, roll-Ty}
@@ -20,7 +19,7 @@ use Rattle.mdr_core.proofs.Viewed.{some_same}
 use Rattle.mdr_syntax.specs.Bytes.{is_name_byte}
 use Rattle.mdr_plan.specs.Naming.{Naming}
 use Rattle.mdr_plan.specs.TypeReading.{pointer_of}
-use Rattle.mdr_plan.specs.TypeTexts.{Written, AreParams, IsPointerText, is_result, is_void_by, text}
+use Rattle.mdr_plan.specs.TypeTexts.{Written, AreParams, is_result, is_void_by, text}
 use Rattle.mdr_plan.specs.TypeTexts.Written.{OfInt, OfLock, OfStruct, OfVoid, OfPtr, OfFun}
 use Rattle.mdr_plan.specs.TypeTexts.AreParams.{NoParams, Param}
 use Rattle.mdr_plan.proofs.TypesRead.{pointer_again}
@@ -28,8 +27,8 @@ use Rattle.mdr_faults.specs.Declarations.{pointer_by, pointer_to}
 use Rattle.mdr_sound_code.proofs.Alike.{left_of, right_of}
 use Rattle.mdr_sound_files.specs.Declared.{IsSomeSort}
 use Rattle.mdr_sound_files.specs.Telling.{AreToldApart}
-use Rattle.mdr_sound_code.proofs.Layers.{sort_int, sort_struct, sort_ptr}
-use Rattle.mdr_sound_files.proofs.Sorts.{function_sort_is, void_sort, object_is_some}
+use Rattle.mdr_sound_code.proofs.Layers.{sort_struct, sort_ptr}
+use Rattle.mdr_sound_files.proofs.Sorts.{function_sort_is, object_is_some}
 
 -- ---- the numbers of structs by their names
 
