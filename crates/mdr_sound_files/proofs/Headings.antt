@@ -25,10 +25,10 @@ use Rattle.mdr_headings.specs.Heads.{param_of, annotated_param, param_among, par
 use Rattle.mdr_headings.specs.Source.{signature, signature_by}
 use Rattle.mdr_sound_code.proofs.Rights.{after_right, both_right, same_right, demand_right, chosen_right}
 use Rattle.mdr_sound_code.proofs.Alike.{left_of}
-use Rattle.mdr_sound_files.specs.Declared.{SeesSiblings, IsSoundHeading}
+use Rattle.mdr_sound_files.specs.Declared.{SeesSiblings, IsSoundHeading, AreNumbered, IsSignatureOf}
 use Rattle.mdr_sound_files.specs.Standing.{Stands}
 use Rattle.mdr_sound_files.proofs.Reading.{get_map, get_mapped}
-use Rattle.mdr_sound_files.proofs.NamedTypes.{AreNumbered, declarator_good, type_named_some, result_type_is, parameter_list_is}
+use Rattle.mdr_sound_files.proofs.NamedTypes.{declarator_good, type_named_some, result_type_is, parameter_list_is}
 use Rattle.mdr_sound_files.proofs.Sorts.{is_result, handle_sort}
 use Rattle.mdr_sound_files.proofs.Objects.{tags_numbered}
 use Rattle.mdr_sound_files.proofs.Annotating.{annotation_sound, integer}
@@ -161,13 +161,6 @@ same_result : (scope other : Scope) (h : Head) → scope.tags ≡ other.tags →
 unfolding head_result
 same_result scope other h e = λ i. head_result (record scope { tags = e i }) h
 
--- a function's type from its head
-pub record IsSignatureOf (n : ℕ) (is_defined : Bool) (s : Signature) (result : Ty) (params : List Ty) : Type 0 where
-  pub number : s.number ≡ n
-  pub defined : s.is_defined ≡ is_defined
-  pub result_is : s.result ≡ result
-  pub params_are : s.params ≡ params
-
 record IsSignatureRight (scope : Scope) (n : ℕ) (is_defined : Bool) (h : Head) (s : Signature) : Type 0 where
   result : head_result scope h ≡ Right s.result
   params : parameter_list [] (map (declarator scope) h.params) ≡ Right s.params
@@ -182,7 +175,7 @@ signature_as scope n is_defined h s e =
     subst (IsSignatureRight scope n is_defined h) same (record { result = b.first; params = b.second; number = refl; defined = refl })
 
 -- a head has the types of its signature, which comes from a place with the same structs' names
-pub signature_of_heading : (scope other : Scope) (n : ℕ) (is_defined : Bool) (h : Head) (s : Signature) (x : Heading) → scope.tags ≡ other.tags → signature scope n is_defined h ≡ Right s → heading other h ≡ Right x → IsSignatureOf n is_defined s x.result (map (λ (p : Param). p.ty) x.params)
+pub signature_of_heading : (scope other : Scope) (n : ℕ) (is_defined : Bool) (h : Head) (s : Signature) (x : Heading) → scope.tags ≡ other.tags → signature scope n is_defined h ≡ Right s → heading other h ≡ Right x → IsSignatureOf n is_defined s x
 signature_of_heading scope other n is_defined h s x tags e f =
     let a = signature_as scope n is_defined h s e in
     let b = heading_as other h x f in

@@ -12,3 +12,5 @@ pub mod Tables
 pub mod TextsTell
 pub mod Numbers
 pub mod Functions
+pub mod Outlines
+pub mod NamesApart

@@ -1,6 +1,5 @@
 -- What is known behind a struct is so.
-use Rattle.std.proofs.Common.{◌≡◌, ℕ, zero, suc, ◌+◌, ◌*◌, ◌<◌, ◌⊎◌, inl, inr, true, not, nat_lt, List, [], ◌∷◌, ◌++◌, map, length, Option, Some, None, is_some, Ok, slice_get, refl, sym, ap, subst, ◌∙◌, arith}
-use Rattle.std.specs.Prelude.{◌&&◌}
+use Rattle.std.proofs.Common.{◌≡◌, ℕ, zero, suc, ◌+◌, ◌*◌, ◌<◌, ◌⊎◌, inl, inr, nat_lt, List, [], ◌∷◌, ◌++◌, map, length, Option, Some, None, Ok, slice_get, refl, sym, ap, subst, ◌∙◌, arith}
 use Rattle.std.proofs.lemmas.Option.{slice_get_within}
 use Rattle.std.proofs.lemmas.List.{length-append, length-map}
 use Rattle.mdr_core.specs.declared.place.Place.{Place}
@@ -9,7 +8,6 @@ use Rattle.mdr_core.specs.declared.program.Program.{Program}
 use Rattle.mdr_core.specs.declared.types.Ty.{Ty, out-Ty}
 use Rattle.mdr_core.specs.declared.types.Ty.TheOpen.{Ty-F}
 use Rattle.mdr_core.specs.Layout.{Leaf, Home, Within, leaves, leaves_below, field_leaves, fields_of, repeated, struct_cells as cells_of_struct}
-use Rattle.mdr_core.specs.Types.{sort_of, is_scalar}
 use Rattle.mdr_core.proofs.Lying.{length-repeated, is_below}
 use Rattle.mdr_syntax.specs.declared.tree.Decl.{Decl, out-Decl}
 use Rattle.mdr_faults.specs.declared.fault.FaultKind.TheVariants.{Limit}
@@ -24,15 +22,12 @@ use Rattle.mdr_headings.specs.Annotations.{candidate}
 use Rattle.mdr_headings.specs.Structs.{number_or_zero, cells_of_fields, struct_size, struct_fields, member, struct_entry}
 use Rattle.mdr_sound_code.specs.Knowing.{IsKnownField}
 use Rattle.mdr_sound_code.proofs.Rights.{same_right, refused_right, told_right, not_right}
-use Rattle.mdr_sound_code.proofs.Alike.{left_of, right_of}
-use Rattle.mdr_sound_files.specs.Declared.{IsSomeSort, IsKnownStruct}
-use Rattle.mdr_sound_files.specs.Standing.{Stands, IsScalarField}
+use Rattle.mdr_sound_files.specs.Declared.{IsKnownStruct}
+use Rattle.mdr_sound_files.specs.Standing.{Stands}
 use Rattle.mdr_sound_files.proofs.Reading.{get_mapped}
-use Rattle.mdr_sound_files.proofs.Sorts.{scalar_sort, object_is_some}
 use Rattle.mdr_sound_files.proofs.Objects.{declared_as, object_sound, KnowsSizes, sized_is}
 use Rattle.mdr_sound_files.proofs.Gathering.{Pairwise, pair_of_left, pairwise_length}
-use Rattle.mdr_sound_files.proofs.Candidates.{candidate_scalar}
-use Rattle.mdr_sound_files.proofs.Structs.{IsFieldOf, struct_as, field_made, not_true}
+use Rattle.mdr_sound_files.proofs.Structs.{IsFieldOf, struct_as}
 
 -- ---- how many cells a struct has
 
@@ -125,26 +120,6 @@ known_field program scope p ds xs s f o st fields is m =
       formed = (object_sound program scope p m.decl o st m.declared).sort;
     }
 
--- ---- what annotations see of it
-
-scalar_field : (program : Program) (scope : Scope) (p : Place) (ds : List Decl) (xs : List Field) (s f : ℕ) (c : Candidate) → Stands program scope → Pairwise (IsFieldOf scope p (map (candidate scope) ds)) ds xs → fields_of program.structs s ≡ xs → slice_get (map (candidate scope) ds) f ≡ Some c → c.is_scalar ≡ true → IsScalarField program s f
-scalar_field program scope p ds xs s f c st fields is n e =
-    let m = get_mapped (candidate scope) ds f c n in
-    let r = pair_of_left (IsFieldOf scope p (map (candidate scope) ds)) ds xs f m.item fields m.names in
-    let x = r.0 in
-    let h = (r.1).related in
-    let made = field_made scope p (map (candidate scope) ds) m.item x h in
-    let size = is_some (out-Decl m.item).size in
-    let both : (is_scalar x.ty && not size) ≡ true = sym (candidate_scalar scope m.item x.ty made.whole) ∙ ap (λ (y : Candidate). y.is_scalar) m.made ∙ e in
-    let sort = (object_sound program scope p m.item h.object st h.declared).sort in
-    let some = subst (λ (y : Field). IsSomeSort (sort_of (length program.structs) y.ty)) h.made (object_is_some (sort_of (length program.structs) h.object.ty) sort) in
-    record {
-      field = x;
-      names = ap (λ (ys : List Field). slice_get ys f) is ∙ (r.1).right;
-      single = sym made.array ∙ not_true size (right_of (is_scalar x.ty) (not size) both);
-      scalar = scalar_sort (length program.structs) x.ty (left_of (is_scalar x.ty) (not size) both) some;
-    }
-
 -- ---- all of it
 
 pub struct_known : (program : Program) (scope : Scope) (p : Place) (ds : List Decl) (xs : List Field) → Stands program scope → struct_fields scope p ds ≡ Right xs → fields_of program.structs (length scope.structs) ≡ xs → IsKnownStruct program scope p ds (length scope.structs)
@@ -157,7 +132,6 @@ struct_known program scope p ds xs st e is =
       many = entry_members scope p ds ∙ pairwise_length (IsFieldOf scope p (map (candidate scope) ds)) ds xs a.fields ∙ ap length (sym is);
       size = λ n f. struct_length program scope p ds xs st e is ∙ entry_cells scope p ds xs n e f;
       members = λ f m o n g. known_field program scope p ds xs s f o st a.fields is (member_of scope p ds f m o n g);
-      outline = λ f c n g. scalar_field program scope p ds xs s f c st a.fields is n g;
     }
 
 -- a program knows what is behind the struct

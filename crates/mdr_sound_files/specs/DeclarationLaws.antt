@@ -1,11 +1,12 @@
 -- What holds of all declarations in which no fault is found.
-use Rattle.std.specs.Prelude.{◌≡◌, ℕ, ◌≤◌, List, length, Option, Some, slice_get, IsTrue}
+use Rattle.std.specs.Prelude.{◌≡◌, ℕ, ◌≤◌, Bool, List, ◌∷◌, map, length, Option, Some, slice_get, IsTrue}
 use Rattle.mdr_core.specs.declared.place.Place.{Place}
 use Rattle.mdr_core.specs.declared.program.Field.{Field}
 use Rattle.mdr_core.specs.declared.program.Param.{Param}
 use Rattle.mdr_core.specs.declared.program.Program.{Program}
 use Rattle.mdr_core.specs.declared.types.Ann.{Ann}
 use Rattle.mdr_core.specs.declared.types.Ty.{Ty}
+use Rattle.mdr_core.specs.declared.types.Ty.TheVariants as type
 use Rattle.mdr_core.specs.Layout.{fields_of}
 use Rattle.mdr_core.specs.Sound.{Sibling, Annotates, IsObjectSort, IsSoundStruct, IsTable}
 use Rattle.mdr_core.specs.Types.{HasNumber, Scalar, sort_of, is_pointer}
@@ -15,15 +16,17 @@ use Rattle.mdr_syntax.specs.declared.tree.Head.{Head}
 use Rattle.mdr_faults.specs.declared.scope.Candidate.{Candidate}
 use Rattle.mdr_faults.specs.declared.scope.Object.{Object}
 use Rattle.mdr_faults.specs.declared.scope.Scope.{Scope}
+use Rattle.mdr_faults.specs.declared.scope.Signature.{Signature}
 use Rattle.mdr_faults.specs.Declarations.{declarator, object_declared}
 use Rattle.mdr_faults.specs.Faults.{Right}
 use Rattle.mdr_headings.specs.declared.head.Heading.{Heading}
-use Rattle.mdr_headings.specs.Annotations.{annotated}
+use Rattle.mdr_headings.specs.Annotations.{annotated, candidate}
 use Rattle.mdr_headings.specs.Heads.{heading}
+use Rattle.mdr_headings.specs.Source.{signature}
 use Rattle.mdr_headings.specs.Structs.{struct_fields}
 use Rattle.mdr_check.specs.Tables.{type_table}
 use Rattle.mdr_program.specs.Orders.{IsAmong}
-use Rattle.mdr_sound_files.specs.Declared.{IsSomeType, IsSoundObject, SeesSiblings, IsKnownStruct, IsSoundHeading}
+use Rattle.mdr_sound_files.specs.Declared.{IsSomeType, AreNumbered, IsSoundObject, SeesSiblings, IsKnownStruct, IsOutline, IsSoundHeading, IsSignatureOf}
 use Rattle.mdr_sound_files.specs.Standing.{Stands}
 use Rattle.mdr_sound_files.specs.Telling.{AreToldApart}
 
@@ -49,9 +52,23 @@ abbrev pub StructsAreKnown : Type 0
 StructsAreKnown = (program : Program) (scope : Scope) (p : Place) (ds : List Decl) (xs : List Field)
     → Stands program scope → struct_fields scope p ds ≡ Right xs → fields_of program.structs (length scope.structs) ≡ xs → IsKnownStruct program scope p ds (length scope.structs)
 
+-- wherever annotations stand, and wherever the struct stands
+abbrev pub OutlinesAreSo : Type 0
+OutlinesAreSo = (program : Program) (scope other : Scope) (p : Place) (ds : List Decl) (xs : List Field) (s : ℕ)
+    → AreNumbered scope (length program.structs) → scope.tags ≡ other.tags → struct_fields scope p ds ≡ Right xs → fields_of program.structs s ≡ xs → IsOutline program s (map (candidate other) ds)
+
 abbrev pub HeadingsAreSound : Type 0
 HeadingsAreSound = (program : Program) (scope : Scope) (h : Head) (x : Heading)
     → Stands program scope → ((i : ℕ) (p : Param) → slice_get x.params i ≡ Some p → HasNumber program p.ty) → heading scope h ≡ Right x → IsSoundHeading program x
+
+-- a heading has the types that uses of the function see, and a pointer to the function is one to a function
+pub record HasSignature (program : Program) (n : ℕ) (is_defined : Bool) (s : Signature) (x : Heading) : Type 0 where
+  pub signature : IsSignatureOf n is_defined s x
+  pub formed : sort_of (length program.structs) (type.Fun (s.result ∷ s.params)) ≡ Scalar
+
+abbrev pub HeadingsHaveSignatures : Type 0
+HeadingsHaveSignatures = (program : Program) (scope other : Scope) (n : ℕ) (is_defined : Bool) (h : Head) (s : Signature) (x : Heading)
+    → AreNumbered scope (length program.structs) → scope.tags ≡ other.tags → signature scope n is_defined h ≡ Right s → heading other h ≡ Right x → HasSignature program n is_defined s x
 
 -- a table of types of objects
 abbrev pub TablesAreSound : Type 0

@@ -1,6 +1,6 @@
 // What holds of declarations in which no fault is found.
 
-ghost use Rattle.mdr_sound_files.specs.DeclarationLaws.{DeclaratorsHaveTypes, ObjectsAreSound, AnnotationsAreSound, StructsAreSound, StructsAreKnown, HeadingsAreSound, TablesAreSound, TypesHaveNumbers};
+ghost use Rattle.mdr_sound_files.specs.DeclarationLaws.{DeclaratorsHaveTypes, ObjectsAreSound, AnnotationsAreSound, StructsAreSound, StructsAreKnown, OutlinesAreSo, HeadingsAreSound, HeadingsHaveSignatures, TablesAreSound, TypesHaveNumbers};
 
 /// A declarator's type is `void` or a type of objects, and as that of a parameter a scalar.
 pub fn declarators_have_types()
@@ -27,10 +27,20 @@ pub fn structs_are_known()
     ensures { StructsAreKnown }
 {}
 
+/// What annotations see of a struct is so of the program, where the struct has these fields there.
+pub fn outlines_are_so()
+    ensures { OutlinesAreSo }
+{}
+
 /// A function's result and parameters keep to the rules of sound programs, where the types of the parameters have numbers
 /// in the type table.
 pub fn headings_are_sound()
     ensures { HeadingsAreSound }
+{}
+
+/// A heading has the types that uses of the function see, and a pointer to the function has a type of the program.
+pub fn headings_have_signatures()
+    ensures { HeadingsHaveSignatures }
 {}
 
 /// A type table keeps to the rules of sound programs, where the pointers of which it is made are types of objects.

@@ -4,6 +4,7 @@
 mod declaration_laws;
 
 pub use declaration_laws::{
-    annotations_are_sound, declarators_have_types, headings_are_sound, objects_are_sound,
-    structs_are_known, structs_are_sound, tables_are_sound, types_have_numbers,
+    annotations_are_sound, declarators_have_types, headings_are_sound, headings_have_signatures,
+    objects_are_sound, outlines_are_so, structs_are_known, structs_are_sound, tables_are_sound,
+    types_have_numbers,
 };
