@@ -1,0 +1,10 @@
+pub mod Filled
+pub mod Fielded
+pub mod ZeroFilled
+pub mod TypeNumbers
+pub mod SingleValues
+pub mod Initialised
+pub mod Membered
+pub mod Counted
+pub mod Initials
+pub mod SoundGlobals
