@@ -1,3 +1,14 @@
+pub mod Sorts
+pub mod NamedTypes
+pub mod Objects
+pub mod Reading
+pub mod Annotating
+pub mod Gathering
+pub mod Candidates
+pub mod Structs
+pub mod StructsKnown
+pub mod Headings
+pub mod Tables
 pub mod Filled
 pub mod Fielded
 pub mod ZeroFilled
@@ -7,4 +18,5 @@ pub mod Initialised
 pub mod Membered
 pub mod Counted
 pub mod Initials
+pub mod BehindNames
 pub mod SoundGlobals

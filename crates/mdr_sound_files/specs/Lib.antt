@@ -1,3 +1,4 @@
-pub mod Standing
-pub mod Globals
+pub mod Declared
 pub mod GlobalLaws
+pub mod Globals
+pub mod Standing
