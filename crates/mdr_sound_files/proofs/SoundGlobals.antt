@@ -1,12 +1,12 @@
 -- A global in which no fault is found is sound (C99 6.7, 6.9.2).
-use Rattle.std.proofs.Common.{◌≡◌, ℕ, zero, suc, ◌==◌, not, is_some, List, [], ◌∷◌, Option, Some, Ok, slice_get, refl, sym, ap, ◌∙◌, subst}
+use Rattle.std.proofs.Common.{◌≡◌, Bool, ℕ, zero, suc, ◌==◌, not, is_some, List, [], ◌∷◌, Option, Some, Ok, slice_get, refl, sym, ap, ◌∙◌, subst}
 use Rattle.mdr_core.specs.declared.program.GlobalDef.{GlobalDef}
 use Rattle.mdr_core.specs.declared.program.Program.{Program}
 use Rattle.mdr_core.specs.declared.program.StructDef.{StructDef}
 use Rattle.mdr_core.specs.declared.types.Ann.{Ann}
 use Rattle.mdr_core.specs.declared.types.Ty.{Ty}
 use Rattle.mdr_core.specs.Layout.{cells}
-use Rattle.mdr_core.specs.Sound.{Annotates, IsSoundGlobal}
+use Rattle.mdr_core.specs.Sound.{Annotates, IsCount, IsSoundGlobal}
 use Rattle.mdr_syntax.specs.declared.tree.Decl.{Decl, out-Decl}
 use Rattle.mdr_syntax.specs.declared.tree.Init.{Init}
 use Rattle.mdr_check.specs.declared.initialiser.First.{First}
@@ -34,13 +34,13 @@ use Rattle.mdr_sound_files.proofs.BehindNames.{stands_behind_name}
 use Rattle.mdr_sound_files.proofs.Filled.{fills_length, fills_each}
 use Rattle.mdr_sound_files.proofs.Initialised.{IsInitialised}
 use Rattle.mdr_sound_files.proofs.Initials.{first_initialises}
-use Rattle.mdr_sound_files.proofs.Objects.{object_sound}
+use Rattle.mdr_sound_files.proofs.Objects.{count_is, declared_as, object_sound}
 
 -- what the global's rule found
-record IsDeclared (scope : Scope) (own : ℕ) (d : Decl) (init : Option Init) (v : Variable) : Type 0 where
-  object : global_object scope d ≡ Right v.object
-  annotation : annotated (behind_global scope own d) [] (out-Decl d).place v.object.ty (out-Decl d).ann ≡ Right v.ann
-  first : first_value (behind_global scope own d) own (out-Decl d).place init v.object ≡ Right v.first
+pub record IsDeclared (scope : Scope) (own : ℕ) (d : Decl) (init : Option Init) (v : Variable) : Type 0 where
+  pub object : global_object scope d ≡ Right v.object
+  pub annotation : annotated (behind_global scope own d) [] (out-Decl d).place v.object.ty (out-Decl d).ann ≡ Right v.ann
+  pub first : first_value (behind_global scope own d) own (out-Decl d).place init v.object ≡ Right v.first
 
 -- a global of this object, with this annotation and these first values
 made_of : (scope : Scope) (own : ℕ) (d : Decl) (init : Option Init) (o : Object) (a : Ann) (xs : List First) (v : Variable) → global_object scope d ≡ Right o → annotated (behind_global scope own d) [] (out-Decl d).place o.ty (out-Decl d).ann ≡ Right a → first_value (behind_global scope own d) own (out-Decl d).place init o ≡ Right xs → variable_of (name_or_none (out-Decl d).name) o a xs ≡ Right v → IsDeclared scope own d init v
@@ -55,7 +55,7 @@ made_of scope own d init o a xs v object annotation values e =
       first = ap (first_value (behind_global scope own d) own (out-Decl d).place init) (sym object_is) ∙ values ∙ ap Right first_is;
     }
 
-declared : (scope : Scope) (own : ℕ) (d : Decl) (init : Option Init) (v : Variable) → global scope own d init ≡ Right v → IsDeclared scope own d init v
+pub declared : (scope : Scope) (own : ℕ) (d : Decl) (init : Option Init) (v : Variable) → global scope own d init ≡ Right v → IsDeclared scope own d init v
 unfolding global variable
 declared scope own d init v e =
     let p = (out-Decl d).place in
@@ -66,6 +66,13 @@ declared scope own d init v e =
     let whole = after_right (global_object scope d) (variable inner own d init) v few.right in
     let parts = both_right (annotated inner [] p whole.value.ty (out-Decl d).ann) (first_value inner own p init whole.value) (variable_of (name_or_none (out-Decl d).name) whole.value) v whole.made in
     made_of scope own d init whole.value parts.left parts.right v whole.right parts.first parts.second parts.made
+
+-- whatever stands before it, a global has 1 or more elements, and without brackets one
+pub global_count : (scope : Scope) (own : ℕ) (d : Decl) (init : Option Init) (v : Variable) → global scope own d init ≡ Right v → IsCount v.object.array v.object.count
+global_count scope own d init v e =
+    let found = declared scope own d init v e in
+    let object = declared_as scope (out-Decl d).place d v.object found.object in
+    subst (λ (b : Bool). IsCount b v.object.count) object.array (count_is scope (out-Decl d).place (out-Decl d).size v.object.count object.counted)
 
 kept_global : (program : Program) (scope : Scope) (vs : List Variable) (own : ℕ) (v : Variable) → HasVariables program vs → slice_get vs own ≡ Some v → IsSoundObject program scope v.object → Annotates program [] v.object.ty v.ann → IsInitialised program vs own v.object v.first → IsSoundGlobal program own (global_def program.types program.structs vs v)
 unfolding cells
