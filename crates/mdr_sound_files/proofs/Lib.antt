@@ -14,3 +14,14 @@ pub mod Numbers
 pub mod Functions
 pub mod Outlines
 pub mod NamesApart
+pub mod Filled
+pub mod Fielded
+pub mod ZeroFilled
+pub mod TypeNumbers
+pub mod SingleValues
+pub mod Initialised
+pub mod Membered
+pub mod Counted
+pub mod Initials
+pub mod BehindNames
+pub mod SoundGlobals

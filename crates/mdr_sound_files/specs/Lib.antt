@@ -1,4 +1,6 @@
 pub mod DeclarationLaws
 pub mod Declared
+pub mod GlobalLaws
+pub mod Globals
 pub mod Standing
 pub mod Telling
