@@ -25,3 +25,4 @@ pub mod Counted
 pub mod Initials
 pub mod BehindNames
 pub mod SoundGlobals
+pub mod BehindStructs

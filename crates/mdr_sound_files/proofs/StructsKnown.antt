@@ -135,7 +135,7 @@ struct_known program scope p ds xs st e is =
     }
 
 -- a program knows what is behind the struct
-at_end : {A : Type 0} (xs : List A) (y x : A) (i : ℕ) → slice_get (xs ++ y ∷ []) i ≡ Some x → (slice_get xs i ≡ Some x) ⊎ ((length xs ≡ i) × (y ≡ x))
+pub at_end : {A : Type 0} (xs : List A) (y x : A) (i : ℕ) → slice_get (xs ++ y ∷ []) i ≡ Some x → (slice_get xs i ≡ Some x) ⊎ ((length xs ≡ i) × (y ≡ x))
 at_end [] y x zero e = inr (refl, cc)
 at_end [] y x (suc i) e = cc
 at_end (z ∷ zs) y x zero e = inl e
