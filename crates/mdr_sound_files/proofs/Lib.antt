@@ -9,11 +9,7 @@ pub mod Structs
 pub mod StructsKnown
 pub mod Headings
 pub mod Tables
-pub mod TextsTell
-pub mod Numbers
 pub mod Functions
-pub mod Outlines
-pub mod NamesApart
 pub mod Filled
 pub mod Fielded
 pub mod ZeroFilled

@@ -19,7 +19,8 @@ use Rattle.mdr_faults.specs.Faults.{Checked, Right, after}
 use Rattle.mdr_faults.specs.Scopes.{tag_named}
 use Rattle.mdr_sound_code.proofs.Alike.{left_of}
 use Rattle.mdr_sound_code.proofs.Rights.{after_right, both_right, same_right, demand_right, chosen_right, not_right}
-use Rattle.mdr_sound_files.specs.Declared.{IsSomeSort, AreNumbered}
+use Rattle.mdr_sound_files.specs.Declared.{IsSomeSort}
+pub use Rattle.mdr_sound_files.specs.Declared.{AreNumbered}
 use Rattle.mdr_sound_code.proofs.Layers.{sort_int, sort_lock}
 use Rattle.mdr_sound_files.proofs.Sorts.{struct_aggregate, void_sort, pointer_some, scalar_sort, result_sort, is_result, handle_sort}
 

@@ -1,5 +1,5 @@
 -- What holds of all declarations in which no fault is found.
-use Rattle.std.specs.Prelude.{◌≡◌, ℕ, ◌≤◌, Bool, List, ◌∷◌, map, length, Option, Some, slice_get, IsTrue}
+use Rattle.std.specs.Prelude.{◌≡◌, ℕ, Bool, List, ◌∷◌, length, Option, Some, slice_get, IsTrue}
 use Rattle.mdr_core.specs.declared.place.Place.{Place}
 use Rattle.mdr_core.specs.declared.program.Field.{Field}
 use Rattle.mdr_core.specs.declared.program.Param.{Param}
@@ -20,15 +20,14 @@ use Rattle.mdr_faults.specs.declared.scope.Signature.{Signature}
 use Rattle.mdr_faults.specs.Declarations.{declarator, object_declared}
 use Rattle.mdr_faults.specs.Faults.{Right}
 use Rattle.mdr_headings.specs.declared.head.Heading.{Heading}
-use Rattle.mdr_headings.specs.Annotations.{annotated, candidate}
+use Rattle.mdr_headings.specs.Annotations.{annotated}
 use Rattle.mdr_headings.specs.Heads.{heading}
 use Rattle.mdr_headings.specs.Source.{signature}
 use Rattle.mdr_headings.specs.Structs.{struct_fields}
 use Rattle.mdr_check.specs.Tables.{type_table}
 use Rattle.mdr_program.specs.Orders.{IsAmong}
-use Rattle.mdr_sound_files.specs.Declared.{IsSomeType, AreNumbered, IsSoundObject, SeesSiblings, IsKnownStruct, IsOutline, IsSoundHeading, IsSignatureOf}
+use Rattle.mdr_sound_files.specs.Declared.{IsSomeType, AreNumbered, IsSoundObject, SeesSiblings, IsKnownStruct, IsSoundHeading, IsSignatureOf}
 use Rattle.mdr_sound_files.specs.Standing.{Stands}
-use Rattle.mdr_sound_files.specs.Telling.{AreToldApart}
 
 -- a declarator's type is one; as that of a parameter it is a scalar
 abbrev pub DeclaratorsHaveTypes : Type 0
@@ -52,11 +51,6 @@ abbrev pub StructsAreKnown : Type 0
 StructsAreKnown = (program : Program) (scope : Scope) (p : Place) (ds : List Decl) (xs : List Field)
     → Stands program scope → struct_fields scope p ds ≡ Right xs → fields_of program.structs (length scope.structs) ≡ xs → IsKnownStruct program scope p ds (length scope.structs)
 
--- wherever annotations stand, and wherever the struct stands
-abbrev pub OutlinesAreSo : Type 0
-OutlinesAreSo = (program : Program) (scope other : Scope) (p : Place) (ds : List Decl) (xs : List Field) (s : ℕ)
-    → AreNumbered scope (length program.structs) → scope.tags ≡ other.tags → struct_fields scope p ds ≡ Right xs → fields_of program.structs s ≡ xs → IsOutline program s (map (candidate other) ds)
-
 abbrev pub HeadingsAreSound : Type 0
 HeadingsAreSound = (program : Program) (scope : Scope) (h : Head) (x : Heading)
     → Stands program scope → ((i : ℕ) (p : Param) → slice_get x.params i ≡ Some p → HasNumber program p.ty) → heading scope h ≡ Right x → IsSoundHeading program x
@@ -74,8 +68,3 @@ HeadingsHaveSignatures = (program : Program) (scope other : Scope) (n : ℕ) (is
 abbrev pub TablesAreSound : Type 0
 TablesAreSound = (program : Program) (occurring : List Ty)
     → program.types ≡ type_table program.structs occurring → ((t : Ty) → IsAmong t occurring → IsTrue (is_pointer t) → IsObjectSort (sort_of (length program.structs) t)) → IsTable program
-
--- where the texts of types tell them apart
-abbrev pub TypesHaveNumbers : Type 0
-TypesHaveNumbers = (program : Program) (occurring : List Ty) (t : Ty)
-    → program.types ≡ type_table program.structs occurring → length program.types ≤ 4294967296 → AreToldApart program.structs → ((u : Ty) → IsAmong u occurring → IsObjectSort (sort_of (length program.structs) u)) → IsAmong t occurring → HasNumber program t

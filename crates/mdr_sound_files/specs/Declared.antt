@@ -19,7 +19,6 @@ use Rattle.mdr_faults.specs.Scopes.{tag_named}
 use Rattle.mdr_headings.specs.declared.head.Heading.{Heading}
 use Rattle.mdr_headings.specs.Structs.{struct_entry}
 use Rattle.mdr_sound_code.specs.Knowing.{IsKnownField}
-use Rattle.mdr_sound_files.specs.Standing.{IsScalarField}
 
 -- `void`, or a type of objects
 abbrev pub IsSomeSort : Sort → Type 0
@@ -54,10 +53,6 @@ pub record IsKnownStruct (program : Program) (scope : Scope) (p : Place) (ds : L
   pub size : (n : ℕ) → (struct_entry scope p ds).cells ≡ Ok n → length (struct_cells program.structs s) ≡ n
   pub many : length (struct_entry scope p ds).members ≡ length (fields_of program.structs s)
   pub members : (f : ℕ) (m : Member) (o : Object) → slice_get (struct_entry scope p ds).members f ≡ Some m → m.means ≡ Ok o → IsKnownField program s f o
-
--- what annotations see of struct s is so
-pub record IsOutline (program : Program) (s : ℕ) (fields : List Candidate) : Type 0 where
-  pub scalars : (f : ℕ) (c : Candidate) → slice_get fields f ≡ Some c → c.is_scalar ≡ true → IsScalarField program s f
 
 -- a function's result and parameters
 pub record IsSoundHeading (program : Program) (x : Heading) : Type 0 where

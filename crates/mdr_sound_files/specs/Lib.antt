@@ -3,4 +3,3 @@ pub mod Declared
 pub mod GlobalLaws
 pub mod Globals
 pub mod Standing
-pub mod Telling

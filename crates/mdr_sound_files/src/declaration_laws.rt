@@ -1,6 +1,6 @@
 // What holds of declarations in which no fault is found.
 
-ghost use Rattle.mdr_sound_files.specs.DeclarationLaws.{DeclaratorsHaveTypes, ObjectsAreSound, AnnotationsAreSound, StructsAreSound, StructsAreKnown, OutlinesAreSo, HeadingsAreSound, HeadingsHaveSignatures, TablesAreSound, TypesHaveNumbers};
+ghost use Rattle.mdr_sound_files.specs.DeclarationLaws.{DeclaratorsHaveTypes, ObjectsAreSound, AnnotationsAreSound, StructsAreSound, StructsAreKnown, HeadingsAreSound, HeadingsHaveSignatures, TablesAreSound};
 
 /// A declarator's type is `void` or a type of objects, and as that of a parameter a scalar.
 pub fn declarators_have_types()
@@ -27,11 +27,6 @@ pub fn structs_are_known()
     ensures { StructsAreKnown }
 {}
 
-/// What annotations see of a struct is so of the program, where the struct has these fields there.
-pub fn outlines_are_so()
-    ensures { OutlinesAreSo }
-{}
-
 /// A function's result and parameters keep to the rules of sound programs, where the types of the parameters have numbers
 /// in the type table.
 pub fn headings_are_sound()
@@ -46,10 +41,4 @@ pub fn headings_have_signatures()
 /// A type table keeps to the rules of sound programs, where the pointers of which it is made are types of objects.
 pub fn tables_are_sound()
     ensures { TablesAreSound }
-{}
-
-/// Each type of which a type table is made has its number there, where all these are types of objects, the names of
-/// structs are words, no two of them are one, and the table's numbers have 32 bits.
-pub fn types_have_numbers()
-    ensures { TypesHaveNumbers }
 {}
