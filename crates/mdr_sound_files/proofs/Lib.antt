@@ -1,3 +1,4 @@
 pub mod Declaring
 pub mod Named
 pub mod Counted
+pub mod Extending
