@@ -195,7 +195,7 @@ body_counts known ps items h hd f false q c =
 
 -- ---- the names of functions stay taken
 
-last_or_before : {A : Type 0} (xs : List A) (y : A) (i : ℕ) (z : A) → slice_get (xs ++ y ∷ []) i ≡ Some z → (slice_get xs i ≡ Some z) ⊎ (y ≡ z)
+pub last_or_before : {A : Type 0} (xs : List A) (y : A) (i : ℕ) (z : A) → slice_get (xs ++ y ∷ []) i ≡ Some z → (slice_get xs i ≡ Some z) ⊎ (y ≡ z)
 last_or_before [] y zero z e = inr cc
 last_or_before [] y (suc i) z e = absurd cc
 last_or_before (x ∷ xs) y zero z e = inl e
