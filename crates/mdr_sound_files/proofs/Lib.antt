@@ -3,3 +3,13 @@ pub mod Named
 pub mod Counted
 pub mod Extending
 pub mod Tagged
+pub mod Sorts
+pub mod NamedTypes
+pub mod Objects
+pub mod Reading
+pub mod Annotating
+pub mod Gathering
+pub mod Candidates
+pub mod Structs
+pub mod StructsKnown
+pub mod Headings

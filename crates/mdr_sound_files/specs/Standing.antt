@@ -1,9 +1,9 @@
 -- What is known at a place of a file, as of the program that the file comes to (C99 6.2.1, 6.7.2.1).
-use Rattle.std.specs.Prelude.{◌≡◌, ℕ, true, false, List, length, Ok, Some, slice_get, IsTrue}
+use Rattle.std.specs.Prelude.{◌≡◌, ℕ, true, false, List, length, Ok, Some, slice_get}
 use Rattle.mdr_core.specs.declared.program.Field.{Field}
 use Rattle.mdr_core.specs.declared.program.Program.{Program}
 use Rattle.mdr_core.specs.Layout.{fields_of, struct_cells}
-use Rattle.mdr_core.specs.Types.{is_scalar}
+use Rattle.mdr_core.specs.Types.{Scalar, sort_of}
 use Rattle.mdr_faults.specs.declared.scope.Candidate.{Candidate}
 use Rattle.mdr_faults.specs.declared.scope.Scope.{Scope}
 use Rattle.mdr_faults.specs.declared.scope.StructEntry.{StructEntry}
@@ -14,7 +14,7 @@ pub record IsScalarField (program : Program) (s f : ℕ) : Type 0 where
   pub field : Field
   pub names : slice_get (fields_of program.structs s) f ≡ Some field
   pub single : field.array ≡ false
-  pub scalar : IsTrue (is_scalar field.ty)
+  pub scalar : sort_of (length program.structs) field.ty ≡ Scalar
 
 pub record Stands (program : Program) (scope : Scope) : Type 0 where
   pub knows : Knows program scope
