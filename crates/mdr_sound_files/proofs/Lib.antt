@@ -3,6 +3,7 @@ pub mod Named
 pub mod Counted
 pub mod Extending
 pub mod Tagged
+pub mod Passing
 pub mod Sorts
 pub mod NamedTypes
 pub mod Objects
