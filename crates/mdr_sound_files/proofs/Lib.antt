@@ -14,3 +14,4 @@ pub mod Candidates
 pub mod Structs
 pub mod StructsKnown
 pub mod Headings
+pub mod Tables
