@@ -4,6 +4,7 @@ pub mod Counted
 pub mod Extending
 pub mod Tagged
 pub mod Passing
+pub mod Outlined
 pub mod Sorts
 pub mod NamedTypes
 pub mod Objects

@@ -1,3 +1,4 @@
 pub mod Declared
 pub mod Standing
 pub mod Counting
+pub mod Whole
