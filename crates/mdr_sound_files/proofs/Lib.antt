@@ -5,6 +5,7 @@ pub mod Extending
 pub mod Tagged
 pub mod Passing
 pub mod Outlined
+pub mod Entities
 pub mod Sorts
 pub mod NamedTypes
 pub mod Objects
