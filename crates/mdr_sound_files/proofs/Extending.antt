@@ -19,7 +19,7 @@ use Rattle.mdr_program.specs.declared.parts.Parts.{Parts}
 use Rattle.mdr_program.specs.Parts.{behind_piece, parts_behind}
 use Rattle.mdr_sound_code.proofs.Rights.{Both, both_right, same_right}
 use Rattle.mdr_sound_files.specs.Counting.{AreDeclaredAs, IsDeclaredAs, Counts, Begins}
-use Rattle.mdr_sound_files.proofs.Counted.{counted_by}
+use Rattle.mdr_sound_files.proofs.CountedItems.{counted_by}
 use Rattle.mdr_sound_files.proofs.Declaring.{declared_at}
 
 -- ---- lists that begin others
@@ -110,12 +110,3 @@ unfolding pieces_behind
 pieces_parted body items before known i is xs e =
     let b = both_right (item_piece body items before known i.place i.what) (pieces_behind body items (behind_item items known i.what) (before ++ i ∷ []) is) (λ x ys. Right (x ∷ ys)) xs e in
     record { first = b.left; rest = b.right; one = b.first; others = b.second; all = sym (same_right (b.left ∷ b.right) xs b.made) }
-
--- behind all items everything is counted
-pub counts_all : (body : BodyRule) (items before : List Item) (known : Known) (is : List Item) (xs : List Piece) (ps : Parts) → Counts known ps → pieces_behind body items known before is ≡ Right xs → Counts (known_behind items known is) (parts_behind ps xs)
-unfolding pieces_behind known_behind parts_behind
-counts_all body items before known [] xs ps c e = subst (λ ys. Counts known (parts_behind ps ys)) (same_right [] xs e) c
-counts_all body items before known (i ∷ is) xs ps c e =
-    let p = pieces_parted body items before known i is xs e in
-    subst (λ ys. Counts (known_behind items (behind_item items known i.what) is) (parts_behind ps ys)) (sym p.all)
-    (counts_all body items (before ++ i ∷ []) (behind_item items known i.what) is p.rest (behind_piece ps p.first) (counted_by body items before known i.place i.what p.first ps c p.one) p.others)

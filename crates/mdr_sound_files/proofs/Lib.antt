@@ -1,11 +1,12 @@
 pub mod Declaring
 pub mod Named
-pub mod Counted
+pub mod CountedItems
 pub mod Extending
 pub mod Tagged
 pub mod Passing
 pub mod Outlined
 pub mod Entities
+pub mod Along
 pub mod Sorts
 pub mod NamedTypes
 pub mod Objects
@@ -17,3 +18,13 @@ pub mod Structs
 pub mod StructsKnown
 pub mod Headings
 pub mod Tables
+pub mod Filled
+pub mod Fielded
+pub mod ZeroFilled
+pub mod TypeNumbers
+pub mod SingleValues
+pub mod Initialised
+pub mod Membered
+pub mod Counted
+pub mod Initials
+pub mod SoundGlobals

@@ -2,3 +2,5 @@ pub mod Declared
 pub mod Standing
 pub mod Counting
 pub mod Whole
+pub mod Globals
+pub mod GlobalLaws
