@@ -1,5 +1,5 @@
 -- Along all items of a file: what holds at its begin and goes on behind each item holds at its end.
-use Rattle.std.proofs.Common.{◌≡◌, ℕ, zero, suc, ◌+◌, Bool, List, [], ◌∷◌, ◌++◌, length, Option, Some, None, refl, sym, ap, ◌∙◌, subst, append_assoc}
+use Rattle.std.proofs.Common.{◌≡◌, ℕ, zero, suc, ◌+◌, Bool, List, [], ◌∷◌, ◌++◌, length, Option, Some, None, refl, sym, ap, ◌∙◌, subst, append_assoc, append-nil}
 use Rattle.mdr_syntax.specs.declared.tree.Item.{Item}
 use Rattle.mdr_faults.specs.Faults.{Right}
 use Rattle.mdr_headings.specs.declared.function.Declared.{Declared}
@@ -77,6 +77,13 @@ module _ (body : BodyRule) (items : List Item) (whole : Parts) (functions : List
       subst (λ k. Q k whole) (known_next known i is)
       (along_from Q on (before ++ i ∷ []) (behind_item items known i.what) is p.rest (behind_piece ps p.first) (front_behind before known i is xs ps f p) (on.behind before known i p.first ps (place_at before known i is xs ps f p) q))
 
+  at_end : (before : List Item) (known : Known) (is : List Item) (xs : List Piece) (ps : Parts) → Front before known is xs ps → IsAt items items (known_behind items known is)
+  unfolding known_behind
+  at_end before known [] xs ps f = subst (λ bs. IsAt items bs known) (sym (f.all ∙ append-nil before)) f.at
+  at_end before known (i ∷ is) xs ps f =
+      let p = pieces_parted body items before known i is xs f.right in
+      at_end (before ++ i ∷ []) (behind_item items known i.what) is p.rest (behind_piece ps p.first) (front_behind before known i is xs ps f p)
+
 -- nothing is counted at the begin
 first_counts : (items : List Item) → Counts (first_known items) no_parts
 unfolding first_known
@@ -91,3 +98,7 @@ along body items xs Q right on first =
 -- behind all items everything is counted
 pub counted_all : (body : BodyRule) (items : List Item) (xs : List Piece) → pieces_behind body items (first_known items) [] items ≡ Right xs → Counts (known_behind items (first_known items) items) (parts_behind no_parts xs)
 counted_all body items xs right = along body items xs Counts right (record { behind = λ before known i x ps place c. counted_by body items before known i.place i.what x ps c place.one }) (first_counts items)
+
+-- and all that the file has is there
+pub at_all : (body : BodyRule) (items : List Item) (xs : List Piece) → pieces_behind body items (first_known items) [] items ≡ Right xs → IsAt items items (known_behind items (first_known items) items)
+at_all body items xs right = at_end body items (parts_behind no_parts xs) (known_behind items (first_known items) items).functions [] (first_known items) items xs no_parts (record { at = first_at items; counts = first_counts items; all = refl; right = right; parts = refl; declared = refl })

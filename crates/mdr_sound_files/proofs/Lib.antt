@@ -7,6 +7,7 @@ pub mod Passing
 pub mod Outlined
 pub mod Entities
 pub mod Along
+pub mod Outlines
 pub mod Sorts
 pub mod NamedTypes
 pub mod Objects
