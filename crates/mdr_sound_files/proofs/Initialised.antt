@@ -26,7 +26,8 @@ use Rattle.mdr_sound_code.proofs.Alike.{left_of as left_holds, right_of as right
 use Rattle.mdr_sound_code.proofs.Rights.{not_right, same_right, after_right, both_right, chosen_right, demand_right}
 use Rattle.mdr_sound_files.proofs.Filled.{Fills, fills_append, fills_sole, fills_as, fills_values, types_of, repeated_once, repeated_apart, fills_repeated, fills_none}
 use Rattle.mdr_sound_files.proofs.SingleValues.{IsSingle}
-use Rattle.mdr_sound_files.proofs.ZeroFilled.{object_zero, is_int}
+use Rattle.mdr_sound_files.proofs.Sorts.{integer_is}
+use Rattle.mdr_sound_files.proofs.ZeroFilled.{object_zero}
 
 -- the cells of an object may begin with these values
 pub record IsInitialised (program : Program) (vs : List Variable) (own : ℕ) (o : Object) (xs : List First) : Type 0 where
@@ -129,7 +130,7 @@ characters_fill program vs own k ty (b ∷ bs) q =
     let v = value.Int k (converted k (pos b)) in
     fills_values program own (types_of (repeated (suc (length bs)) cells)) (v ∷ [] ++ first_values program.types program.structs vs (characters k bs)) (first_values program.types program.structs vs (first.Integer k (converted k (pos b)) ∷ characters k bs)) (sym (more_values program.types program.structs vs (first.Integer k (converted k (pos b))) (characters k bs)))
     (fills_repeated program own (length bs) cells (v ∷ []) (first_values program.types program.structs vs (characters k bs))
-    (fills_as program own (ty ∷ []) (types_of cells) (v ∷ []) (sym (ap types_of one)) (fills_sole program own ty v (is_int ty k q, converted-in_range k (pos b))))
+    (fills_as program own (ty ∷ []) (types_of cells) (v ∷ []) (sym (ap types_of one)) (fills_sole program own ty v (integer_is ty k q, converted-in_range k (pos b))))
     (characters_fill program vs own k ty bs q))
 
 text_by_initialises : (program : Program) (vs : List Variable) (own : ℕ) (p : Place) (bytes : List ℕ) (o : Object) (xs : List First) (l : Ty-F Ty) → out-Ty o.ty ≡ l → length bytes ≤ o.count → text_by p bytes o l ≡ Right xs → IsInitialised program vs own o xs

@@ -28,4 +28,5 @@ pub mod Initialised
 pub mod Membered
 pub mod Counted
 pub mod Initials
+pub mod BehindNames
 pub mod SoundGlobals

@@ -39,7 +39,8 @@ use Rattle.mdr_sound_code.proofs.Alike.{alike_same, alikes_same, left_of, right_
 use Rattle.mdr_sound_code.proofs.Rights.{not_right, same_right, after_right, chosen_right, again_right}
 use Rattle.mdr_sound_files.specs.Globals.{HasVariables}
 use Rattle.mdr_sound_files.proofs.TypeNumbers.{numbered_there}
-use Rattle.mdr_sound_files.proofs.ZeroFilled.{is_int, is_ptr, is_void_ptr, is_fun, is_pointer_of}
+use Rattle.mdr_sound_files.proofs.Sorts.{integer_is, pointer_is, void_pointer_is}
+use Rattle.mdr_sound_files.proofs.ZeroFilled.{is_fun, is_pointer_of}
 
 -- one value, for a cell of this type
 pub record IsSingle (program : Program) (vs : List Variable) (own : ℕ) (ty : Ty) (x : First) : Type 0 where
@@ -54,7 +55,7 @@ null_known program vs own ty x p true h e = subst (IsSingle program vs own ty) (
 null_known program vs own ty x p false h e = not_right _ x e
 
 pub number_known : (program : Program) (vs : List Variable) (own : ℕ) (ty : Ty) (x : First) (p : Place) (is_null : Bool) (c : Constant) (l : Ty-F Ty) → out-Ty ty ≡ l → number_first p is_null c l ≡ Right x → IsSingle program vs own ty x
-number_known program vs own ty x p is_null c (Ty-F.Int k) q e = subst (IsSingle program vs own ty) (same_right (first.Integer k (converted k c.number)) x e) (record { value = value.Int k (converted k c.number); made = refl; fits = (is_int ty k q, converted-in_range k c.number) })
+number_known program vs own ty x p is_null c (Ty-F.Int k) q e = subst (IsSingle program vs own ty) (same_right (first.Integer k (converted k c.number)) x e) (record { value = value.Int k (converted k c.number); made = refl; fits = (integer_is ty k q, converted-in_range k c.number) })
 number_known program vs own ty x p is_null c Ty-F.Lock q e = not_right _ x e
 number_known program vs own ty x p is_null c (Ty-F.Struct s) q e = not_right _ x e
 number_known program vs own ty x p is_null c (Ty-F.Ptr t) q e = null_known program vs own ty x p is_null (λ h. is_pointer_of ty (Ty-F.Ptr t) q refl) e
@@ -133,7 +134,7 @@ earlier_known program vs own g o has known test =
       def = known.def;
       names = known.names;
       ty = known.ty;
-      single = sym counts ∙ (has.kept g found.variable found.names).count.single (arrays ∙ known.array ∙ flat);
+      single = sym counts ∙ (has.counts g found.variable found.names).single (arrays ∙ known.array ∙ flat);
       variable = found.variable;
       varies = found.names;
       number = numbered_there program.types found.variable.object.ty table.number table.names ∙ ap Some (types ∙ known.ty);
@@ -163,11 +164,11 @@ address_known program vs own g o ty x p (Ty-F.Struct s) has known q e = not_righ
 address_known program vs own g o ty x p (Ty-F.Ptr t) has known q e =
     address_if_known program vs own g ty x p ((nat_lt g own && not o.array) && is_alike t o.ty)
     (λ h. names_earlier program vs own g o ty (earlier_known program vs own g o has known (left_of (nat_lt g own && not o.array) (is_alike t o.ty) h))
-    (inl (is_ptr ty t q ∙ ap type.Ptr (alike_same t o.ty (right_of (nat_lt g own && not o.array) (is_alike t o.ty) h)))))
+    (inl (pointer_is ty t q ∙ ap type.Ptr (alike_same t o.ty (right_of (nat_lt g own && not o.array) (is_alike t o.ty) h)))))
     e
 address_known program vs own g o ty x p Ty-F.VoidPtr has known q e =
     address_if_known program vs own g ty x p (nat_lt g own && not o.array)
-    (λ h. names_earlier program vs own g o ty (earlier_known program vs own g o has known h) (inr (is_void_ptr ty q)))
+    (λ h. names_earlier program vs own g o ty (earlier_known program vs own g o has known h) (inr (void_pointer_is ty q)))
     e
 address_known program vs own g o ty x p (Ty-F.Fun ts) has known q e = not_right _ x e
 address_known program vs own g o ty x p Ty-F.Void has known q e = not_right _ x e

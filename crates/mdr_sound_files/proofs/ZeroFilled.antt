@@ -16,21 +16,13 @@ use Rattle.mdr_core.specs.Types.{is_pointer, is_pointer_by}
 use Rattle.mdr_core.proofs.Ranges.{in_range-from, least-le-zero, zero-le-greatest}
 use Rattle.mdr_faults.specs.declared.scope.Object.{Object}
 use Rattle.mdr_program.specs.Values.{zeros, object_cells}
+use Rattle.mdr_sound_files.proofs.Sorts.{integer_is}
 use Rattle.mdr_sound_files.proofs.Filled.{Fills, Done, fills_append, fills_sole, fills_as, fills_values, types_of}
 
 -- ---- a type by its form
 
-pub is_int : (t : Ty) (k : Kind) → out-Ty t ≡ Ty-F.Int k → t ≡ type.Int k
-is_int t k e = sym (roll-out-Ty t) ∙ ap roll-Ty e ∙ rolls-Int k
-
 pub is_lock : (t : Ty) → out-Ty t ≡ Ty-F.Lock → t ≡ type.Lock
 is_lock t e = sym (roll-out-Ty t) ∙ ap roll-Ty e ∙ rolls-Lock
-
-pub is_ptr : (t u : Ty) → out-Ty t ≡ Ty-F.Ptr u → t ≡ type.Ptr u
-is_ptr t u e = sym (roll-out-Ty t) ∙ ap roll-Ty e ∙ rolls-Ptr u
-
-pub is_void_ptr : (t : Ty) → out-Ty t ≡ Ty-F.VoidPtr → t ≡ type.VoidPtr
-is_void_ptr t e = sym (roll-out-Ty t) ∙ ap roll-Ty e ∙ rolls-VoidPtr
 
 pub is_fun : (t : Ty) (ts : List Ty) → out-Ty t ≡ Ty-F.Fun ts → t ≡ type.Fun ts
 is_fun t ts e = sym (roll-out-Ty t) ∙ ap roll-Ty e ∙ rolls-Fun ts
@@ -65,7 +57,7 @@ sole_zero : (program : Program) (g : ℕ) (home : Home) (ty : Ty) (l : Ty-F Ty) 
 sole_zero program g home ty l e first = record { by = fills_sole program g ty (zero_value ty) (subst (λ (x : Ty-F Ty). IsFirstValue program g ty (zero_by x)) (sym e) first) }
 
 leaf_zero : (program : Program) (g : ℕ) (known : ℕ → List Leaf) (home : Home) (ty : Ty) (l : Ty-F Ty) → ((s : ℕ) → ZeroFills program g (known s)) → out-Ty ty ≡ l → ZeroFills program g (leaves_by known home ty l)
-leaf_zero program g known home ty (Ty-F.Int k) h e = sole_zero program g home ty (Ty-F.Int k) e (is_int ty k e, zero_in_range k)
+leaf_zero program g known home ty (Ty-F.Int k) h e = sole_zero program g home ty (Ty-F.Int k) e (integer_is ty k e, zero_in_range k)
 leaf_zero program g known home ty Ty-F.Lock h e = sole_zero program g home ty Ty-F.Lock e (is_lock ty e, refl)
 leaf_zero program g known home ty (Ty-F.Struct s) h e = h s
 leaf_zero program g known home ty (Ty-F.Ptr t) h e = sole_zero program g home ty (Ty-F.Ptr t) e (is_pointer_of ty (Ty-F.Ptr t) e refl)
