@@ -1,5 +1,5 @@
 -- How the scope of a file goes on from item to item: what holds in the whole file stays, and each struct completes the next name.
-use Rattle.std.proofs.Common.{◌≡◌, ℕ, zero, suc, ◌+◌, Bool, true, false, not, ◌==◌, List, [], ◌∷◌, ◌++◌, length, map, Option, Some, None, refl, sym, ap, ◌∙◌, subst, slice_get, append-nil, append_assoc, length-append, arith, is_some}
+use Rattle.std.proofs.Common.{◌≡◌, ℕ, zero, suc, ◌+◌, Bool, true, false, not, ◌==◌, List, [], ◌∷◌, ◌++◌, length, map, Option, Some, None, refl, sym, ap, ◌∙◌, subst, slice_get, append-nil, append_assoc, length-append, arith, is_some, ◌⊎◌, inl, inr}
 use Rattle.std.specs.List.{find}
 use Rattle.std.specs.Str.{bytes_eq}
 use Rattle.mdr_core.specs.declared.place.Place.{Place}
@@ -75,7 +75,7 @@ unfolding tags_from
 tags_more tags [] ys = refl
 tags_more tags (x ∷ xs) ys = tags_more (tags_behind tags x.what) xs ys
 
-outlines_more : (scope : Scope) (os : List (List Candidate)) (xs ys : List Item) → outlines_from scope os (xs ++ ys) ≡ outlines_from scope (outlines_from scope os xs) ys
+pub outlines_more : (scope : Scope) (os : List (List Candidate)) (xs ys : List Item) → outlines_from scope os (xs ++ ys) ≡ outlines_from scope (outlines_from scope os xs) ys
 unfolding outlines_from
 outlines_more scope os [] ys = refl
 outlines_more scope os (x ∷ xs) ys = outlines_more scope (outlines_behind scope os x.what) xs ys
@@ -128,12 +128,12 @@ struct_sizes first scope tags os name ds entry false true true h t s z = record 
   fields = length-append scope.structs (entry ∷ []) ∙ ap (λ n. n + 1) z.fields ∙ sym (length-append os (map (candidate first) ds ∷ []));
 }
 
-enumerators_structs : (scope : Scope) (before : _) (es : List Enumerator) → (behind_enumerators scope before es).structs ≡ scope.structs
+pub enumerators_structs : (scope : Scope) (before : _) (es : List Enumerator) → (behind_enumerators scope before es).structs ≡ scope.structs
 unfolding behind_enumerators
 enumerators_structs scope before [] = refl
 enumerators_structs scope before (e ∷ es) = enumerators_structs (behind_enumerator scope before e) (told (value_behind scope before e)) es
 
-function_structs : (t : Bool) (scope : Scope) (n : ℕ) (d : Bool) (h : Head) → (with_function_unless t scope n d h).structs ≡ scope.structs
+pub function_structs : (t : Bool) (scope : Scope) (n : ℕ) (d : Bool) (h : Head) → (with_function_unless t scope n d h).structs ≡ scope.structs
 function_structs true scope n d h = refl
 function_structs false scope n d h = refl
 
@@ -198,3 +198,20 @@ at_behind body items before known i x a b e =
       structs = z.structs ∙ ap length (sym (tags_more [] before (i ∷ [])));
       fields = z.fields ∙ ap length (sym (outlines_more (first_scope items) [] before (i ∷ [])));
     }
+
+-- ---- which items complete structs
+
+pub record IsStructItem (what : ItemWhat) : Type 0 where
+  pub at : Place
+  pub name : List ℕ
+  pub decls : List Decl
+  pub is : what ≡ item.Struct at name decls
+
+pub struct_or_not : (items : List Item) (known : Known) (what : ItemWhat) → IsStructItem what ⊎ ((behind_item items known what).scope.structs ≡ known.scope.structs)
+unfolding behind_function behind_global
+struct_or_not items known (item.Define name is_negative n k) = inr refl
+struct_or_not items known (item.Struct at name ds) = inl (record { at = at; name = name; decls = ds; is = refl })
+struct_or_not items known (item.Enum es) = inr (enumerators_structs known.scope before_first es)
+struct_or_not items known (item.Global d init) = inr refl
+struct_or_not items known (item.Proto h is_remote) = inr (function_structs (is_taken known.scope h.name) known.scope (length known.functions) (is_defined items h.name) h)
+struct_or_not items known (item.Func h is_critical nodes) = inr (function_structs (is_taken known.scope h.name) known.scope (length known.functions) (is_defined items h.name) h)
