@@ -119,13 +119,13 @@ enumerators_behind scope before (e ∷ es) = further (enumerators_behind (behind
 -- ---- functions
 
 -- what a declaration of a function keeps to
-record Ruled (scope : Scope) (fs : List Declared) (items : List Item) (h : Head) (hd : Heading) : Type 0 where
-  again : Bool
-  may : may_stand (is_taken scope h.name) (function_named fs h.name) again ≡ true
-  right : function_heading scope fs items h ≡ Right hd
-  agree : agrees_with (function_named fs h.name) (Ok hd) ≡ true
+pub record Ruled (scope : Scope) (fs : List Declared) (items : List Item) (h : Head) (hd : Heading) : Type 0 where
+  pub again : Bool
+  pub may : may_stand (is_taken scope h.name) (function_named fs h.name) again ≡ true
+  pub right : function_heading scope fs items h ≡ Right hd
+  pub agree : agrees_with (function_named fs h.name) (Ok hd) ≡ true
 
-ruled : (scope : Scope) (fs : List Declared) (items before : List Item) (h : Head) (is_body : Bool) (hd : Heading) → function_declared scope fs items before h is_body ≡ Right hd → Ruled scope fs items h hd
+pub ruled : (scope : Scope) (fs : List Declared) (items before : List Item) (h : Head) (is_body : Bool) (hd : Heading) → function_declared scope fs items before h is_body ≡ Right hd → Ruled scope fs items h hd
 unfolding function_declared function_rule
 ruled scope fs items before h is_body hd e =
     let first = demand_right h.place Redefined _ _ hd e in
@@ -160,7 +160,7 @@ not_named scope fs name (Some d) e taken free =
     let is : is_some (entity_among scope.names name) ≡ true = subst (λ n. is_some (entity_among scope.names n) ≡ true) (same_bytes d.name name there.passes) (taken there.number d there.names) in
     sym is ∙ free
 
-abbrev new_declared : Scope → List Declared → List Item → Head → Declared
+abbrev pub new_declared : Scope → List Declared → List Item → Head → Declared
 new_declared scope fs items h = record { name = h.name; place = h.place; heading = told (function_heading scope fs items h) }
 
 is_declared : (scope : Scope) (fs : List Declared) (items : List Item) (h : Head) (hd : Heading) (f : Func) → Ruled scope fs items h hd → f.name ≡ h.name → function_type f ≡ heading_type hd → IsDeclaredAs (new_declared scope fs items h) f

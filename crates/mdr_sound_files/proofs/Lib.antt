@@ -8,6 +8,7 @@ pub mod Outlined
 pub mod Entities
 pub mod Along
 pub mod Outlines
+pub mod Scopes
 pub mod Sorts
 pub mod NamedTypes
 pub mod Objects
