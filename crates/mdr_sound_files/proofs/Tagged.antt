@@ -38,11 +38,11 @@ tags_begin tags [] = begins_itself tags
 tags_begin tags (i ∷ is) = begins_behind tags (tags_behind tags i.what) (tags_from (tags_behind tags i.what) is) (tags_one tags i.what) (tags_begin (tags_behind tags i.what) is)
 
 -- one behind a list, with its place
-record Last {A : Type 0} (xs : List A) (y : A) (i : ℕ) (z : A) : Type 0 where
-  is : y ≡ z
-  place : i ≡ length xs
+pub record Last {A : Type 0} (xs : List A) (y : A) (i : ℕ) (z : A) : Type 0 where
+  pub is : y ≡ z
+  pub place : i ≡ length xs
 
-last_place : {A : Type 0} (xs : List A) (y : A) (i : ℕ) (z : A) → slice_get (xs ++ y ∷ []) i ≡ Some z → (slice_get xs i ≡ Some z) ⊎ Last xs y i z
+pub last_place : {A : Type 0} (xs : List A) (y : A) (i : ℕ) (z : A) → slice_get (xs ++ y ∷ []) i ≡ Some z → (slice_get xs i ≡ Some z) ⊎ Last xs y i z
 last_place [] y zero z e = inr (record { is = cc; place = refl })
 last_place [] y (suc i) z e = absurd cc
 last_place (x ∷ xs) y zero z e = inl e
