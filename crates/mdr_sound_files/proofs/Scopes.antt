@@ -293,3 +293,29 @@ module _ (program : Program) (body : BodyRule) (items : List Item) (xs : List Pi
   stands_behind before known i x ps (item.Global d init) is place st low = stands_named program known.scope (name_or_none (out-Decl d).name) (global_means known.globals (told (global_object known.scope d))) st (λ e m. known_global before known i x ps d init is place st e m)
   stands_behind before known i x ps (item.Proto h is_remote) is place st low = function_stands known h (prototype_headed before known i x ps h is_remote is place) st low
   stands_behind before known i x ps (item.Func h is_critical nodes) is place st low = function_stands known h (body_headed before known i x ps h is_critical nodes is place) st low
+
+  -- ---- structs that are sound
+
+  field_in_table : (s : ℕ) (def : StructDef) → slice_get program.structs s ≡ Some def → (f : ℕ) (x : Field) → slice_get def.fields f ≡ Some x → HasNumber program x.ty
+  field_in_table s def there f x e = in_table x.ty (OfField s f def x there e refl)
+
+  sound_next : (known : Known) (at : Place) (name : List ℕ) (ds : List Decl) (fields : List Field) → Completes program body items xs right made known at name ds fields → Stands program known.scope → IsSoundStruct program (length known.scope.structs) (record { name = name; fields = fields })
+  sound_next known at name ds fields k st = struct_sound program known.scope at name ds fields st (field_in_table (length known.scope.structs) (record { name = name; fields = fields }) k.def) k.listed
+
+  sound_struct : (known : Known) (at : Place) (name : List ℕ) (ds : List Decl) (fields : List Field) (s : ℕ) (def : StructDef) → Completes program body items xs right made known at name ds fields → IsStanding known no_parts → (s < length known.scope.structs) ⊎ (s ≡ length known.scope.structs) → slice_get program.structs s ≡ Some def → IsSoundStruct program s def
+  sound_struct known at name ds fields s def k q (inl less) e = q.sound s def less e
+  sound_struct known at name ds fields s def k q (inr last) e =
+      let same : record { name = name; fields = fields } ≡ def = some_same (sym k.def ∙ ap (slice_get program.structs) (sym last) ∙ e) in
+      let sound = sound_next known at name ds fields k q.stands in
+      subst (λ n. IsSoundStruct program n def) (sym last) (subst (IsSoundStruct program (length known.scope.structs)) same sound)
+    where
+      some_same : {a b : StructDef} → Some a ≡ Some b → a ≡ b
+      some_same q = cc
+
+  struct_members : (known : Known) (at : Place) (name : List ℕ) (ds : List Decl) (fields : List Field) (s : ℕ) (entry : StructEntry) → Completes program body items xs right made known at name ds fields → IsStanding known no_parts → (slice_get known.scope.structs s ≡ Some entry) ⊎ IsLast known.scope.structs (struct_entry known.scope at ds) s entry → length entry.members ≡ length (fields_of program.structs s)
+  struct_members known at name ds fields s entry k q (inl old) = q.members s entry old
+  struct_members known at name ds fields s entry k q (inr new) =
+      ap (λ (e : StructEntry). length e.members) (sym new.is)
+      ∙ members_counted known.scope at ds fields k.listed
+      ∙ ap length (sym k.fields_are)
+      ∙ ap (λ n. length (fields_of program.structs n)) (sym new.place)
