@@ -9,3 +9,5 @@ pub mod Joined
 pub mod Formed
 pub mod TypesWritten
 pub mod Assigned
+pub mod GivenArguments
+pub mod FunctionCalls
