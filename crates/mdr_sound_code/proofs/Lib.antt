@@ -11,3 +11,4 @@ pub mod TypesWritten
 pub mod Assigned
 pub mod GivenArguments
 pub mod FunctionCalls
+pub mod ServiceCalls
