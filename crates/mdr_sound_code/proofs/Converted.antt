@@ -1,9 +1,8 @@
 -- A known operand as a value of another type has that type.
 use Rattle.std.specs.Prelude.{◌≡◌, Bool, true, false, List, length, Option, Some, None}
-use Rattle.std.proofs.Common.{inl, refl, ap, sym, ◌∙◌, subst}
+use Rattle.std.proofs.Common.{refl, ap, sym, ◌∙◌, subst}
 use Rattle.std.proofs.lemmas.Option.{none-some, same_Some}
 use Rattle.mdr_core.specs.declared.code.Expr.{Expr}
-use Rattle.mdr_core.specs.declared.code.Expr.TheVariants as expr
 use Rattle.mdr_core.specs.declared.kind.Kind.{Kind}
 use Rattle.mdr_core.specs.declared.place.Place.{Place}
 use Rattle.mdr_core.specs.declared.program.Program.{Program}
@@ -11,17 +10,17 @@ use Rattle.mdr_core.specs.declared.types.Ty.{Ty, out-Ty}
 use Rattle.mdr_core.specs.declared.types.Ty.TheOpen.{Ty-F}
 use Rattle.mdr_core.specs.declared.types.Ty.TheVariants as type
 use Rattle.mdr_core.specs.Layout.{chosen}
-use Rattle.mdr_core.specs.Types.{Scalar as ScalarSort, is_pointer, is_pointer_by, sort_of}
+use Rattle.mdr_core.specs.Types.{Scalar as ScalarSort, is_pointer_by, sort_of}
 use Rattle.mdr_core.specs.Typing.{Slot}
 use Rattle.mdr_core.proofs.Coded.{to_void_is, from_void_is}
 use Rattle.mdr_faults.specs.Alike.{is_alike, are_alike}
-use Rattle.mdr_faults.specs.Faults.{Checked, Right}
+use Rattle.mdr_faults.specs.Faults.{Right}
 use Rattle.mdr_operand.specs.declared.operand.Operand.{Operand}
 use Rattle.mdr_operand.specs.declared.operand.Scalar.{Scalar}
 use Rattle.mdr_operand.specs.declared.operand.Scalar.TheVariants as scalar
 use Rattle.mdr_operand.specs.declared.room.LocalName.{LocalName}
 use Rattle.mdr_operand.specs.Converting.{number_as, pointer_as, opaque_as, handle_as, scalar_as, null_by, null_as, value_as, first_of, cast_as, constant_as, operand_as, converted_at}
-use Rattle.mdr_operand.specs.Forms.{value_of, null_pointer, is_null, at_kind, needed}
+use Rattle.mdr_operand.specs.Forms.{value_of, is_null}
 use Rattle.mdr_operand.specs.Written.{Written}
 use Rattle.mdr_sound_code.specs.Operands.{IsOf, IsPointer, IsHandle, IsKnownValue, IsKnown}
 use Rattle.mdr_sound_code.proofs.Alike.{alike_same, alikes_same}
@@ -60,7 +59,7 @@ module _ (program : Program) (slots : List Slot) where
       subst (IsOf program slots e) (sym (ptr_from t v is)) (subst (λ x. IsOf program slots e (type.Ptr x)) (alike_same u v c.holds) (subst (λ x. IsOf program slots x (type.Ptr u)) c.same h.value))
   pointed_known d u t Ty-F.VoidPtr e is h q =
       subst (IsOf program slots e) (sym (void_ptr_from t is)) (subst (λ x. IsOf program slots x type.VoidPtr) (same_Some _ _ q)
-          (of_term program slots _ _ type.VoidPtr (to_void_is d) (record { type = u; pointer = h.value; is = refl })))
+      (of_term program slots _ _ type.VoidPtr (to_void_is d) (record { type = u; pointer = h.value; is = refl })))
   pointed_known d u t (Ty-F.Int m) e is h q = absurd (none-some e q)
   pointed_known d u t Ty-F.Lock e is h q = absurd (none-some e q)
   pointed_known d u t (Ty-F.Struct s) e is h q = absurd (none-some e q)
@@ -71,7 +70,7 @@ module _ (program : Program) (slots : List Slot) where
   opaque_known d t (Ty-F.Ptr u) e is f h q =
       let same : t ≡ type.Ptr u = ptr_from t u is in
       subst (IsOf program slots e) (sym same) (subst (λ x. IsOf program slots x (type.Ptr u)) (same_Some _ _ q)
-          (of_term program slots _ _ (type.Ptr u) (from_void_is u d) (record { pointer = h; formed = subst Scalars same f; is = refl })))
+      (of_term program slots _ _ (type.Ptr u) (from_void_is u d) (record { pointer = h; formed = subst Scalars same f; is = refl })))
   opaque_known d t Ty-F.VoidPtr e is f h q = subst (IsOf program slots e) (sym (void_ptr_from t is)) (subst (λ x. IsOf program slots x type.VoidPtr) (same_Some _ _ q) h)
   opaque_known d t (Ty-F.Int m) e is f h q = absurd (none-some e q)
   opaque_known d t Ty-F.Lock e is f h q = absurd (none-some e q)

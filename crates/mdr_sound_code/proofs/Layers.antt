@@ -1,6 +1,6 @@
 -- A type from one level of it, and its sort.
-use Rattle.std.specs.Prelude.{◌≡◌, ◌⊎◌, ℕ, ◌<◌, Bool, true, false, nat_lt, List, [], ◌∷◌, map, IsTrue}
-use Rattle.std.proofs.Common.{inl, inr, refl, ap, sym, ◌∙◌, subst, arith}
+use Rattle.std.specs.Prelude.{◌≡◌, ℕ, Bool, true, false, nat_lt, List, [], ◌∷◌, map, IsTrue}
+use Rattle.std.proofs.Common.{inl, inr, refl, ap, sym, ◌∙◌, subst}
 use Rattle.mdr_core.specs.declared.kind.Kind.{Kind}
 use Rattle.mdr_core.specs.declared.types.Ty.{Ty, out-Ty, roll-Ty, roll-out-Ty}
 use Rattle.mdr_core.specs.declared.types.Ty.TheFolds.{map-Ty}
@@ -15,9 +15,6 @@ use Rattle.mdr_core.proofs.Laid.{sort_is}
 
 pub int_from : (t : Ty) (k : Kind) → out-Ty t ≡ Ty-F.Int k → t ≡ type.Int k
 int_from t k e = sym (roll-out-Ty t) ∙ ap roll-Ty e ∙ type.rolls-Int k
-
-pub lock_from : (t : Ty) → out-Ty t ≡ Ty-F.Lock → t ≡ type.Lock
-lock_from t e = sym (roll-out-Ty t) ∙ ap roll-Ty e ∙ type.rolls-Lock
 
 pub struct_from : (t : Ty) (s : ℕ) → out-Ty t ≡ Ty-F.Struct s → t ≡ type.Struct s
 struct_from t s e = sym (roll-out-Ty t) ∙ ap roll-Ty e ∙ type.rolls-Struct s

@@ -1,6 +1,6 @@
 -- The value of what is known is known, with its type.
-use Rattle.std.specs.Prelude.{◌≡◌, ◌⊎◌, ℕ, Bool, true, false, List, length, Option, Some, None, IsTrue, pos, ◌==◌}
-use Rattle.std.proofs.Common.{inl, inr, refl, ap, sym, ◌∙◌, subst, eqb-true}
+use Rattle.std.specs.Prelude.{◌≡◌, Bool, true, false, List, length, Some, IsTrue, pos}
+use Rattle.std.proofs.Common.{refl, sym, subst}
 use Rattle.std.proofs.lemmas.Option.{none-some, same_Some}
 use Rattle.mdr_core.specs.declared.code.Expr.{Expr}
 use Rattle.mdr_core.specs.declared.code.Expr.TheVariants as expr
@@ -11,16 +11,15 @@ use Rattle.mdr_core.specs.declared.program.Program.{Program}
 use Rattle.mdr_core.specs.declared.types.Ty.{Ty, out-Ty}
 use Rattle.mdr_core.specs.declared.types.Ty.TheOpen.{Ty-F}
 use Rattle.mdr_core.specs.declared.types.Ty.TheVariants as type
-use Rattle.mdr_core.specs.declared.value.Value.{Value}
 use Rattle.mdr_core.specs.declared.value.Value.TheVariants as value
 use Rattle.mdr_core.specs.Code.{Term}
-use Rattle.mdr_core.specs.Folds.{term_of, lvalue_of}
+use Rattle.mdr_core.specs.Folds.{term_of}
 use Rattle.mdr_core.specs.Kinds.{is_in_range, is_same_kind}
-use Rattle.mdr_core.specs.Types.{is_scalar, is_scalar_by, is_pointer, is_pointer_by, sort_of}
-use Rattle.mdr_core.specs.Typing.{Slot, One, Many, Has, Literal, Designates, IsCondition, IsConversion, IsLoad, IsDecay}
+use Rattle.mdr_core.specs.Types.{is_scalar, is_scalar_by, is_pointer, is_pointer_by}
+use Rattle.mdr_core.specs.Typing.{Slot, Has, IsCondition}
 use Rattle.mdr_core.proofs.Coded.{lit_is, load_is, decay_is, conv_is}
 use Rattle.mdr_core.proofs.Ranges.{in_range-from, least-le-zero, zero-le-greatest}
-use Rattle.mdr_faults.specs.Faults.{Checked, Right, after}
+use Rattle.mdr_faults.specs.Faults.{Right}
 use Rattle.mdr_operand.specs.declared.operand.Integer.{Integer}
 use Rattle.mdr_operand.specs.declared.operand.Operand.{Operand}
 use Rattle.mdr_operand.specs.declared.operand.Operand.TheVariants as operand
@@ -54,7 +53,6 @@ pub zero_in_range : (k : Kind) → is_in_range k (pos 0) ≡ true
 zero_in_range k = in_range-from k (pos 0) (least-le-zero k) (zero-le-greatest k)
 
 module _ (program : Program) (slots : List Slot) where
-
   -- an expression has a type if its plain data has
   pub of_term : (e : Expr) (d : Term) (t : Ty) → term_of e ≡ d → Has program slots d t → IsOf program slots e t
   of_term e d t is h = subst (λ x. Has program slots x t) (sym is) h
@@ -112,7 +110,6 @@ module _ (program : Program) (slots : List Slot) where
   -- ---- the value of an operand
 
   module _ (names : List LocalName) (w : Written) where
-
     pub loaded_known : (l : Lval) (t : Ty) (v : Scalar) → IsKnownObject program slots names w l t → scalar_of (expr.Load l) t ≡ Some v → IsKnownValue program slots v
     unfolding scalar_of
     loaded_known l t v h q = scalar_by_known (expr.Load l) t (out-Ty t) v refl (λ s. of_term _ _ t (load_is l) (record { object = h.designates; scalar = s })) h.formed q
