@@ -1,5 +1,5 @@
 -- Types of objects and of functions that are formed.
-use Rattle.std.proofs.Common.{◌≡◌, inl, inr, ℕ, Bool, true, false, ◌&&◌, IsTrue, List, [], ◌∷◌, length, map, refl, sym, ap, ◌∙◌, subst}
+use Rattle.std.proofs.Common.{◌≡◌, ℕ, Bool, true, false, IsTrue, List, [], ◌∷◌, length, map, refl, sym, ap, ◌∙◌, subst}
 use Rattle.std.specs.List.{list_all}
 use Rattle.mdr_core.specs.declared.program.Program.{Program}
 use Rattle.mdr_core.specs.declared.types.Ty.{Ty, out-Ty}
@@ -8,7 +8,7 @@ use Rattle.mdr_core.specs.declared.types.Ty.TheOpen.{Ty-F}
 use Rattle.mdr_core.specs.declared.types.Ty.TheVariants as type
 use Rattle.mdr_core.specs.Layout.{chosen}
 use Rattle.mdr_core.specs.Sound.{IsObjectSort}
-use Rattle.mdr_core.specs.Types.{Sort, Wrong, Empty, Locks, Aggregate, Scalar, is_result_sort, is_scalar_sort, function_sort, pointer_sort, is_scalar, is_scalar_by, sort_layer, sort_of}
+use Rattle.mdr_core.specs.Types.{Sort, Wrong, Empty, Locks, Aggregate, Scalar, is_scalar_sort, function_sort, is_scalar, is_scalar_by, sort_layer, sort_of}
 use Rattle.mdr_core.proofs.Laid.{sort_is}
 use Rattle.mdr_sound_code.specs.Knowing.{IsFormed}
 use Rattle.mdr_sound_code.proofs.Alike.{right_of, left_of}

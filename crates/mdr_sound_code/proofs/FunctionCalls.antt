@@ -1,5 +1,5 @@
 -- A call of a function, by its name or through a pointer, is one of the program (C99 6.5.2.2).
-use Rattle.std.proofs.Common.{◌≡◌, ℕ, Bool, true, false, List, [], ◌∷◌, length, map, Option, Some, None, refl, ap, sym, ◌∙◌, subst}
+use Rattle.std.proofs.Common.{◌≡◌, ℕ, List, ◌∷◌, length, map, Option, Some, None, refl, ap, sym, ◌∙◌, subst}
 use Rattle.std.proofs.lemmas.Option.{none-some, same_Some}
 use Rattle.mdr_core.specs.declared.code.Callee.{Callee}
 use Rattle.mdr_core.specs.declared.code.Callee.TheVariants as callee
@@ -13,7 +13,7 @@ use Rattle.mdr_core.specs.declared.types.Ty.TheOpen.{Ty-F}
 use Rattle.mdr_core.specs.declared.types.Ty.TheVariants as type
 use Rattle.mdr_core.specs.Folds.{term_of, call_of}
 use Rattle.mdr_core.specs.Types.{Scalar as ScalarSort, sort_of}
-use Rattle.mdr_core.specs.Typing.{Slot, CallGives, HaveAll, function_type}
+use Rattle.mdr_core.specs.Typing.{Slot, CallGives, HaveAll}
 use Rattle.mdr_call.specs.declared.parts.Argument.{Argument}
 use Rattle.mdr_call.specs.declared.parts.Callable.{Callable}
 use Rattle.mdr_call.specs.declared.parts.Handle.{Handle}
@@ -39,7 +39,6 @@ pub same_functions : (ts us : List Ty) → type.Fun ts ≡ type.Fun us → ts �
 same_functions ts us e = let layers : Ty-F.Fun ts ≡ Ty-F.Fun us = sym (type.outs-Fun ts) ∙ ap out-Ty e ∙ type.outs-Fun us in cc
 
 module _ (program : Program) (slots : List Slot) (names : List LocalName) where
-
   -- ---- what can be called
 
   abbrev IsCalled : Callee → List Ty → Type 0
@@ -104,7 +103,6 @@ module _ (program : Program) (slots : List Slot) (names : List LocalName) where
   called_formed (callee.Service n) ts h = absurd h
 
   module _ (p : Place) (args : List Argument) (known : AreKnownArguments program slots names args) (call : TypedCall) where
-
     call_by_types : (c : Callee) (ts : List Ty) (r : Ty) (params : List Ty) → ts ≡ r ∷ params → AreScalars (length program.structs) params → IsCalled c ts → call_with p args (record { callee = c; types = ts }) ≡ Right call → IsKnownCall call
     unfolding call_with
     call_by_types c ts r params is f h e =

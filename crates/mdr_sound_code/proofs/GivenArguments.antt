@@ -1,5 +1,5 @@
 -- Arguments that are known are values of the types of parameters (C99 6.5.2.2).
-use Rattle.std.proofs.Common.{◌≡◌, ℕ, suc, ◌+◌, Bool, true, false, List, [], ◌∷◌, length, map, Option, Some, None, slice_get, ◌==◌, arith, refl, ap, sym, ◌∙◌, subst, eqb-true}
+use Rattle.std.proofs.Common.{◌≡◌, ℕ, suc, ◌+◌, List, [], ◌∷◌, length, map, Option, Some, slice_get, ◌==◌, arith, ap, ◌∙◌, subst, eqb-true}
 use Rattle.mdr_core.specs.declared.code.Expr.{Expr}
 use Rattle.mdr_core.specs.declared.place.Place.{Place}
 use Rattle.mdr_core.specs.declared.program.Program.{Program}
@@ -21,7 +21,6 @@ use Rattle.mdr_sound_code.proofs.Rights.{not_right, same_right, both_right, chos
 use Rattle.mdr_sound_code.proofs.TypesWritten.{IsWritten}
 
 module _ (program : Program) (slots : List Slot) (names : List LocalName) where
-
   -- what an argument comes to is known
   abbrev pub IsKnownArgument : Argument → Type 0
   IsKnownArgument (argument.Value x) = (w : Written) × IsKnown program slots names w x

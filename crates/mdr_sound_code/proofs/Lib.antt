@@ -19,5 +19,11 @@ pub mod Expressions
 pub mod Assigned
 pub mod GivenArguments
 pub mod FunctionCalls
+pub mod OfferedCalls
+pub mod PlainCalls
+pub mod Allocations
+pub mod Printing
+pub mod Interrupts
+pub mod CallsBack
 pub mod ServiceCalls
 pub mod WrittenCalls

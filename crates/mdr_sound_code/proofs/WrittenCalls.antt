@@ -1,5 +1,5 @@
 -- What a written call comes to is a call of the program (C99 6.5.2.2).
-use Rattle.std.proofs.Common.{◌≡◌, ℕ, Bool, true, false, ◌||◌, List, ◌∷◌, Option, Some, None, refl, ap, sym, ◌∙◌, subst}
+use Rattle.std.proofs.Common.{◌≡◌, ℕ, Bool, true, false, List, ◌∷◌, Option, Some, None, refl, ap, ◌∙◌, subst}
 use Rattle.mdr_core.specs.declared.code.Callee.{Callee}
 use Rattle.mdr_core.specs.declared.code.Callee.TheVariants as callee
 use Rattle.mdr_core.specs.declared.place.Place.{Place}
@@ -41,7 +41,6 @@ use Rattle.mdr_sound_code.proofs.Values.{scalar_known}
 -- ---- parts of lists take no address of a slot
 
 module _ (names : List LocalName) (w : Written) (ws : Writtens) (h : TakeNoSlot names (Writtens.Then w ws)) where
-
   first_inside : TakesNoSlot names w
   first_inside = record { slots = λ name n named at. left_fails _ _ (h.slots name n named at) }
 
@@ -49,7 +48,6 @@ module _ (names : List LocalName) (w : Written) (ws : Writtens) (h : TakeNoSlot 
   rest_inside = record { slots = λ name n named at. right_fails _ _ (h.slots name n named at) }
 
 module _ (program : Program) (slots : List Slot) (scope : Scope) (names : List LocalName) (knows : Knows program scope) (locals : KnowsLocals program slots names) where
-
   -- an operand that something written comes to
   abbrev IsKnownOperand : Operand → Type 0
   IsKnownOperand x = (u : Written) × IsKnown program slots names u x
@@ -74,7 +72,6 @@ module _ (program : Program) (slots : List Slot) (scope : Scope) (names : List L
 
   -- a form with an operator in front
   module _ (p : Place) (sign : List ℕ) (a : Written) (numbers : HasNumbers a) (no_slot : TakesNoSlot names (Written.Prefix p sign a)) (x : Operand) where
-
     prefix_target : (op : Option PrefixOperator) → prefix_operator sign ≡ op → prefix_rule p op (typed scope names a) ≡ Right x → IsKnownOperand x
     prefix_target op is e = known_as (Written.Prefix p sign a) x numbers no_slot (ap (λ o. prefix_rule p o (typed scope names a)) is ∙ e)
 
@@ -161,7 +158,6 @@ module _ (program : Program) (slots : List Slot) (scope : Scope) (names : List L
   -- ---- calls
 
   module _ (p : Place) (call : TypedCall) (in_table : (t : Ty) → call.form.shape ≡ Some t → HasNumber program t) (no_back : ◌≡◌ {A = Callee} call.form.callee (callee.Service 15) → ⊥) where
-
     call_by_known : (args : List Argument) (t : Target) → AreKnownArguments program slots names args → IsKnownTarget t → call_by scope p args t ≡ Right call → IsKnownCall program slots names call
     call_by_known args (target.Service s) h i e = service_call_known program slots names scope p args s call h in_table no_back e
     call_by_known args (target.Callee x) h i e = function_call_known program slots names p args h call i.0 x i.1 e
