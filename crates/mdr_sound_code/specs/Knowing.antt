@@ -11,7 +11,7 @@ use Rattle.mdr_core.specs.declared.types.Ty.TheVariants as type
 use Rattle.mdr_core.specs.Kinds.{is_in_range}
 use Rattle.mdr_core.specs.Layout.{fields_of}
 use Rattle.mdr_core.specs.Sound.{IsObjectSort}
-use Rattle.mdr_core.specs.Types.{is_scalar, sort_of}
+use Rattle.mdr_core.specs.Types.{Scalar, is_scalar, sort_of}
 use Rattle.mdr_core.specs.Typing.{Slot, function_type}
 use Rattle.mdr_faults.specs.declared.scope.Constant.{Constant}
 use Rattle.mdr_faults.specs.declared.scope.Entity.{Entity}
@@ -52,6 +52,7 @@ pub record IsKnownFunction (program : Program) (f : Signature) : Type 0 where
   pub func : Func
   pub names : slice_get program.funcs f.number ≡ Some func
   pub types : function_type func ≡ type.Fun (f.result ∷ f.params)
+  pub formed : sort_of (length program.structs) (type.Fun (f.result ∷ f.params)) ≡ Scalar
 
 -- a constant is one of its kind. A function may be used where the file has its body
 abbrev pub IsKnownEntity : Program → Entity → Type 0

@@ -8,7 +8,7 @@ use Rattle.mdr_core.specs.declared.program.Program.{Program}
 use Rattle.mdr_core.specs.declared.types.Ty.{Ty}
 use Rattle.mdr_core.specs.declared.types.Ty.TheVariants as type
 use Rattle.mdr_core.specs.Folds.{term_of, lvalue_of}
-use Rattle.mdr_core.specs.Types.{is_scalar}
+use Rattle.mdr_core.specs.Types.{Scalar as ScalarSort, is_scalar, sort_of}
 use Rattle.mdr_core.specs.Typing.{Slot, One, Many, Has, Designates, HasAddress, function_type}
 use Rattle.mdr_operand.specs.declared.operand.Integer.{Integer}
 use Rattle.mdr_operand.specs.declared.operand.Operand.{Operand}
@@ -29,11 +29,16 @@ pub record IsPointer (program : Program) (slots : List Slot) (e : Expr) (t : Ty)
   pub value : IsOf program slots e (type.Ptr t)
   pub formed : IsFormed program t
 
+-- a pointer to a function, whose parameters are scalars
+pub record IsHandle (program : Program) (slots : List Slot) (e : Expr) (ts : List Ty) : Type 0 where
+  pub value : IsOf program slots e (type.Fun ts)
+  pub formed : sort_of (length program.structs) (type.Fun ts) ≡ ScalarSort
+
 abbrev pub IsKnownValue : Program → List Slot → Scalar → Type 0
 IsKnownValue program slots (scalar.Number e k) = IsOf program slots e (type.Int k)
 IsKnownValue program slots (scalar.Pointer e t) = IsPointer program slots e t
 IsKnownValue program slots (scalar.Opaque e) = IsOf program slots e type.VoidPtr
-IsKnownValue program slots (scalar.Handle e ts) = IsOf program slots e (type.Fun ts)
+IsKnownValue program slots (scalar.Handle e ts) = IsHandle program slots e ts
 
 -- what is written is the name of a local that lies in a slot
 pub record IsSlotNamed (names : List LocalName) (name : List ℕ) : Type 0 where
@@ -72,6 +77,7 @@ pub record IsFunctionNamed (program : Program) (f : ℕ) (ts : List Ty) : Type 0
   pub func : Func
   pub names : slice_get program.funcs f ≡ Some func
   pub types : function_type func ≡ type.Fun ts
+  pub formed : sort_of (length program.structs) (type.Fun ts) ≡ ScalarSort
 
 -- what the expression w comes to
 abbrev pub IsKnown : Program → List Slot → List LocalName → Written → Operand → Type 0
