@@ -4,3 +4,7 @@ pub mod Naming
 pub mod Scalars
 pub mod Declaring
 pub mod Going
+pub mod Coding
+pub mod Conditions
+pub mod Stating
+pub mod Heading
