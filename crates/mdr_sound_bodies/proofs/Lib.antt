@@ -8,3 +8,4 @@ pub mod Coding
 pub mod Conditions
 pub mod Stating
 pub mod Heading
+pub mod Lining
