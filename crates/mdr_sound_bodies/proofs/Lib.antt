@@ -9,3 +9,5 @@ pub mod Conditions
 pub mod Stating
 pub mod Heading
 pub mod Lining
+pub mod Coming
+pub mod Collecting
