@@ -35,7 +35,7 @@ hides_none name (Line.Local p d init) s = absurd cc
 hides_none name l s = refl
 
 -- what has its address taken is an object
-untaken_by : (t : Bool) (m : Result Object Fault) → lies_apart t m ≡ false → t ≡ false
+pub untaken_by : (t : Bool) (m : Result Object Fault) → lies_apart t m ≡ false → t ≡ false
 untaken_by t (Result.Ok o) e = or_right (is_struct o.ty) t (or_right o.array _ e)
 untaken_by t (Result.Err f) e = e
 

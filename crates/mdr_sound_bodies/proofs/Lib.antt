@@ -11,3 +11,4 @@ pub mod Heading
 pub mod Lining
 pub mod Coming
 pub mod Collecting
+pub mod Entering
