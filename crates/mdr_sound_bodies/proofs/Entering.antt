@@ -178,11 +178,10 @@ means_of i t d m = refl
 
 module _ (program : Program) (scope : Scope) (known : KnowsDeclarations program scope) (siblings : List Candidate) (body : Lines) (ds : List Decl) (ps : List Param) (right : params_behind scope siblings [] ds ≡ Right ps) (locals : List Local) where
 
-  pub slots : List Slot
+  abbrev pub slots : List Slot
   slots = map slot_of_param (marked (map (parameter_taken body) ds) 0 ps) ++ map slot_of_local locals
 
   slot_at : (i : ℕ) (d : Decl) (p : Param) → slice_get ds i ≡ Some d → slice_get ps i ≡ Some p → slice_get slots i ≡ Some (slot_of_param (record p { object = parameter_taken body d }))
-  unfolding slots
   slot_at i d p at e =
       let objects : List Bool = map (parameter_taken body) ds in
       let flag : slice_get objects (0 + i) ≡ Some (parameter_taken body d) = let number : 0 + i ≡ i = omega arith in ap (slice_get objects) number ∙ mapped_at (parameter_taken body) ds i d at in

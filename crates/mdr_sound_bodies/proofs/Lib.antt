@@ -12,3 +12,4 @@ pub mod Lining
 pub mod Coming
 pub mod Collecting
 pub mod Entering
+pub mod Making
