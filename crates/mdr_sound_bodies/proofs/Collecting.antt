@@ -19,6 +19,7 @@ use Rattle.mdr_sound_bodies.specs.Within.{KnowsDeclarations, IsDeclared, AreDecl
 use Rattle.mdr_sound_bodies.proofs.Joined.{or_left, or_right}
 use Rattle.mdr_sound_bodies.proofs.Scalars.{formed_scalar}
 use Rattle.mdr_sound_bodies.proofs.Declaring.{IsLocalObject, IsLocalOf, local_object_right, local_right, object_count, in_slot}
+use Rattle.mdr_sound_bodies.proofs.Locking.{object_no_lock}
 use Rattle.mdr_sound_bodies.proofs.Coming.{AreFrom, IsFrom}
 
 pub record IsMeant (ds : List DeclaredLocal) (i : ℕ) (l : Local) : Type 0 where
@@ -81,7 +82,7 @@ module _ (program : Program) (scope : Scope) (known : KnowsDeclarations program 
   pub local_sound : (t : Bool) (d : Decl) (o : Object) → IsLocalObject scope (struct_locks scope) d o → (is_own_object t o ≡ true → HasNumber program o.ty) → IsSoundLocal program (local_of t d o)
   local_sound t d o h numbered = record {
     sort = known.formed (out-Decl d).place d o h.object;
-    no_lock = known.no_lock o.ty h.no_lock;
+    no_lock = object_no_lock program scope known (out-Decl d).place d o h.object h.no_lock;
     count = object_count scope (out-Decl d).place d o h.object;
     small = known.small (out-Decl d).place d o h.object;
     slot = λ e. (or_left o.array (is_struct o.ty || t) e, formed_scalar program o.ty (known.formed (out-Decl d).place d o h.object) (in_slot program [] scope known (struct_locks scope) t d o h e));
