@@ -1,18 +1,17 @@
 -- Which types hold no lock: what is known of the structs so far is so in the program.
-use Rattle.std.proofs.Common.{◌≡◌, ◌⊎◌, inl, inr, ℕ, zero, suc, ◌+◌, ◌<◌, ◌≤◌, ◌||◌, ◌==◌, Bool, true, false, List, [], ◌∷◌, ◌++◌, length, Option, Some, None, Ok, refl, sym, ap, ◌∙◌, subst, slice_get, arith, is_some, nat_lt, length-append, add-zero}
+use Rattle.std.proofs.Common.{◌≡◌, ◌⊎◌, inl, inr, ℕ, zero, suc, ◌+◌, ◌<◌, ◌≤◌, Bool, true, false, List, [], ◌∷◌, ◌++◌, length, Option, Some, None, refl, sym, ap, ◌∙◌, subst, slice_get, arith, is_some, nat_lt, length-append, add-zero}
 use Rattle.std.proofs.lemmas.Option.{none-some, same_Some}
 use Rattle.mdr_core.specs.declared.place.Place.{Place}
 use Rattle.mdr_core.specs.declared.program.Field.{Field}
 use Rattle.mdr_core.specs.declared.program.Program.{Program}
-use Rattle.mdr_core.specs.declared.program.StructDef.{StructDef}
 use Rattle.mdr_core.specs.declared.types.Ty.{Ty, out-Ty}
 use Rattle.mdr_core.specs.declared.types.Ty.TheOpen.{Ty-F}
 use Rattle.mdr_core.specs.declared.types.Ty.TheVariants as type
-use Rattle.mdr_core.specs.Layout.{Leaf, Home, Alone, chosen, repeated, leaves_by, leaves, field_leaves, fields_of, leaves_below, struct_cells, cells}
+use Rattle.mdr_core.specs.Layout.{Leaf, Home, Alone, repeated, leaves_by, leaves, field_leaves, fields_of, leaves_below, struct_cells, cells}
 use Rattle.mdr_core.specs.Types.{HasNoLock}
 use Rattle.mdr_core.proofs.Lying.{is_below, not_below}
 use Rattle.mdr_syntax.specs.declared.tree.Decl.{Decl, out-Decl}
-use Rattle.mdr_faults.specs.declared.fault.FaultKind.TheVariants.{Mismatch, Limit}
+use Rattle.mdr_faults.specs.declared.fault.FaultKind.TheVariants.{Limit}
 use Rattle.mdr_faults.specs.declared.scope.Member.{Member}
 use Rattle.mdr_faults.specs.declared.scope.Object.{Object}
 use Rattle.mdr_faults.specs.declared.scope.Scope.{Scope}
@@ -21,7 +20,7 @@ use Rattle.mdr_faults.specs.Declarations.{object_declared, declarator, count_of,
 use Rattle.mdr_faults.specs.Faults.{Right}
 use Rattle.mdr_body.specs.Locals.{flag, lock_by, holds_lock, object_lock, member_lock, any_lock, locks_behind, struct_locks}
 use Rattle.mdr_sound_code.proofs.Rights.{not_right, same_right, both_right, after_right, refused_right}
-use Rattle.mdr_sound_bodies.specs.Within.{KnowsDeclarations, IsOfMember}
+use Rattle.mdr_sound_bodies.specs.Within.{KnowsDeclarations}
 use Rattle.mdr_sound_bodies.proofs.Joined.{or_left, or_right, get_front, get_last}
 
 -- ---- cells that are no locks
@@ -133,7 +132,6 @@ entry_within (s ∷ ss) zero entry e = omega arith
 entry_within (s ∷ ss) (suc i) entry e = let rest = entry_within ss i entry e in omega (arith, rest)
 
 module _ (program : Program) (scope : Scope) (known : KnowsDeclarations program scope) where
-
   -- a struct, over those before it
   one_struct : (n : ℕ) (entry : StructEntry) → slice_get scope.structs n ≡ Some entry → flag (slice_get (struct_locks scope) n) ≡ false → ((s : ℕ) → s < n → flag (slice_get (struct_locks scope) s) ≡ false → AreNoLocks (struct_cells program.structs s)) → AreNoLocks (struct_cells program.structs n)
   unfolding struct_cells
@@ -143,11 +141,11 @@ module _ (program : Program) (scope : Scope) (known : KnowsDeclarations program 
       let none : any_lock k.before entry.members ≡ false = sym (ap flag k.at) ∙ free in
       let many = k.many in
       fields_none (leaves_below program.structs n) n 0 (fields_of program.structs n)
-          (λ i x e home.
-          let m = known.fields n i entry x at e in
-          let lock : holds_lock k.before x.ty ≡ false = ap (holds_lock k.before) (sym m.ty) ∙ sym (ap (object_lock k.before) m.means) ∙ some_lock entry.members k.before i m.member none m.at in
-          leaves_none k.before (leaves_below program.structs n) home x.ty lock
-              (λ s is f. of_lower s k.before many f (λ b q. k.same s b q) (below_or s n)))
+      (λ i x e home.
+      let m = known.fields n i entry x at e in
+      let lock : holds_lock k.before x.ty ≡ false = ap (holds_lock k.before) (sym m.ty) ∙ sym (ap (object_lock k.before) m.means) ∙ some_lock entry.members k.before i m.member none m.at in
+      leaves_none k.before (leaves_below program.structs n) home x.ty lock
+      (λ s is f. of_lower s k.before many f (λ b q. k.same s b q) (below_or s n)))
     where
       of_lower : (s : ℕ) (before : List Bool) → length before ≡ n → flag (slice_get before s) ≡ false → ((b : Bool) → slice_get before s ≡ Some b → slice_get (struct_locks scope) s ≡ Some b) → (s < n) ⊎ (n ≤ s) → AreNoLocks (leaves_below program.structs n s)
       of_lower s before many f same (inl less) =

@@ -21,7 +21,7 @@ use Rattle.mdr_faults.specs.Faults.{Right}
 use Rattle.mdr_headings.specs.Heads.{head_result}
 use Rattle.mdr_operand.specs.declared.room.LocalName.{LocalName}
 use Rattle.mdr_operand.specs.Rooms.{local_named}
-use Rattle.mdr_operand.specs.Written.{Written, Line, Lines}
+use Rattle.mdr_operand.specs.Written.{Written, Line}
 use Rattle.mdr_body.specs.declared.here.DeclaredLocal.{DeclaredLocal}
 use Rattle.mdr_body.specs.declared.here.Here.{Here}
 use Rattle.mdr_body.specs.declared.mention.Mention.TheVariants.{Address}
