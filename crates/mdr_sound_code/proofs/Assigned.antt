@@ -1,9 +1,7 @@
 -- What is assigned has the type of the object that takes it (C99 6.5.16).
-use Rattle.std.specs.Prelude.{◌≡◌, Bool, true, false, List, length, Option, Some, None, IsTrue, pos}
-use Rattle.std.proofs.Common.{refl, sym, subst}
+use Rattle.std.specs.Prelude.{◌≡◌, List, Option, Some, None, IsTrue, pos}
+use Rattle.std.proofs.Common.{refl, subst}
 use Rattle.mdr_core.specs.declared.code.BinOp.{BinOp}
-use Rattle.mdr_core.specs.declared.code.Expr.{Expr}
-use Rattle.mdr_core.specs.declared.code.Expr.TheVariants as expr
 use Rattle.mdr_core.specs.declared.code.Lval.{Lval}
 use Rattle.mdr_core.specs.declared.kind.Kind.TheVariants.{S32}
 use Rattle.mdr_core.specs.declared.place.Place.{Place}
@@ -38,7 +36,6 @@ use Rattle.mdr_sound_code.proofs.Rights.{not_right, same_right, after_right, bot
 use Rattle.mdr_sound_code.proofs.Values.{of_term}
 
 module _ (program : Program) (slots : List Slot) (names : List LocalName) where
-
   -- ---- the left side
 
   -- a scalar object
@@ -74,7 +71,6 @@ module _ (program : Program) (slots : List Slot) (names : List LocalName) where
       subst IsMade (same_right _ _ a.made) (record { type = d.ty; scalar = h.scalar; object = h.object.designates; value = has })
 
   module _ (scope : Scope) (p : Place) where
-
     compound_known : (u v : Written) (op : BinOp) (d : Destination) (y : Operand) (made : Assignment) → IsDestination u d → IsKnown program slots names v y → compound_at scope p op d y ≡ Right made → IsMade made
     unfolding compound_at
     compound_known u v op d y made h i e =

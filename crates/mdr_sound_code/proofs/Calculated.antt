@@ -18,8 +18,7 @@ use Rattle.mdr_core.specs.Typing.{Slot, Has, RightOperand}
 use Rattle.mdr_core.proofs.Coded as coded
 use Rattle.mdr_faults.specs.declared.fault.FaultKind.TheVariants.{Mismatch}
 use Rattle.mdr_faults.specs.declared.scope.Scope.{Scope}
-use Rattle.mdr_faults.specs.Alike.{is_alike}
-use Rattle.mdr_faults.specs.Faults.{Right, refuse}
+use Rattle.mdr_faults.specs.Faults.{Right}
 use Rattle.mdr_operand.specs.declared.operand.Integer.{Integer}
 use Rattle.mdr_operand.specs.declared.operand.Operand.{Operand}
 use Rattle.mdr_operand.specs.declared.operand.Pointer.{Pointer}
@@ -33,7 +32,6 @@ use Rattle.mdr_sound_code.proofs.Alike.{left_of, alike_same}
 use Rattle.mdr_sound_code.proofs.Values.{of_term, integer_known, pointer_known, at_kind_known}
 
 module _ (program : Program) (slots : List Slot) (names : List LocalName) (w : Written) where
-
   -- ---- numbers
 
   -- each operator takes a right operand of its own kind
@@ -119,7 +117,6 @@ module _ (program : Program) (slots : List Slot) (names : List LocalName) (w : W
   -- ---- of two operands
 
   module _ (scope : Scope) (p : Place) (u v : Written) where
-
     numbers_calculated_known : (op : BinOp) (x y z : Operand) → IsKnown program slots names u x → IsKnown program slots names v y → numbers_calculated op p x y ≡ Right z → IsKnown program slots names w z
     unfolding numbers_calculated
     numbers_calculated_known op x y z h i e =
@@ -134,7 +131,6 @@ module _ (program : Program) (slots : List Slot) (names : List LocalName) (w : W
       moved_pointer_known scope p back b.left b.right z (pointer_known program slots names u p x b.left h b.first) (integer_known program slots names v p y b.right i b.second) b.made
 
   module _ (scope : Scope) (p : Place) (u v : Written) where
-
     difference_known : (x y z : Operand) → IsKnown program slots names u x → IsKnown program slots names v y → difference scope p x y ≡ Right z → IsKnown program slots names w z
     unfolding difference
     difference_known x y z h i e =

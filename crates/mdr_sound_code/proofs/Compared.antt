@@ -19,7 +19,7 @@ use Rattle.mdr_core.specs.Types.{is_pointer, is_pointer_by, is_object_pointer, i
 use Rattle.mdr_core.specs.Typing.{Slot, Compares}
 use Rattle.mdr_core.proofs.Coded as coded
 use Rattle.mdr_faults.specs.declared.fault.FaultKind.TheVariants.{Mismatch}
-use Rattle.mdr_faults.specs.Faults.{Right, refuse}
+use Rattle.mdr_faults.specs.Faults.{Right}
 use Rattle.mdr_operand.specs.declared.operand.Integer.{Integer}
 use Rattle.mdr_operand.specs.declared.operand.Operand.{Operand}
 use Rattle.mdr_operand.specs.declared.operand.Scalar.{Scalar}
@@ -31,7 +31,7 @@ use Rattle.mdr_binary.specs.Binaries.{integers_compared, numbers_compared, addre
 use Rattle.mdr_sound_code.specs.Operands.{IsOf, IsKnownValue, IsKnown}
 use Rattle.mdr_sound_code.proofs.Alike.{alike_same, alikes_same}
 use Rattle.mdr_sound_code.proofs.Rights.{same_right, after_right, both_right, needed_right, chosen_right, refused_right}
-use Rattle.mdr_sound_code.proofs.Values.{of_term, type_of, value_has, null_known, scalar_known, integer_known, at_kind_known}
+use Rattle.mdr_sound_code.proofs.Values.{of_term, null_known, scalar_known, integer_known, at_kind_known}
 
 -- ---- which types are compared
 
@@ -72,7 +72,6 @@ orders Gt t h = h
 orders Ge t h = h
 
 module _ (program : Program) (slots : List Slot) (names : List LocalName) (w : Written) where
-
   -- two expressions of one type that an operator compares
   record AreOf (op : RelOp) (e f : Expr) : Type 0 where
     one : Ty
@@ -202,7 +201,6 @@ module _ (program : Program) (slots : List Slot) (names : List LocalName) (w : W
   -- ---- two operands
 
   module _ (p : Place) (u v : Written) (x y : Operand) (known_left : IsKnown program slots names u x) (known_right : IsKnown program slots names v y) (op : RelOp) (z : Operand) where
-
     numbers_compared_known : numbers_compared op p x y ≡ Right z → IsKnown program slots names w z
     unfolding numbers_compared
     numbers_compared_known e =

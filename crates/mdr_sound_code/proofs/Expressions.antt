@@ -34,16 +34,16 @@ use Rattle.mdr_sound_code.proofs.Values.{of_term}
 
 -- ---- parts take no address of a slot
 
-left_fails : (x y : Bool) → (x || y) ≡ false → x ≡ false
+pub left_fails : (x y : Bool) → (x || y) ≡ false → x ≡ false
 left_fails true y e = e
 left_fails false y e = refl
 
-right_fails : (x y : Bool) → (x || y) ≡ false → y ≡ false
+pub right_fails : (x y : Bool) → (x || y) ≡ false → y ≡ false
 right_fails true y e = absurd cc
 right_fails false y e = e
 
 module _ (names : List LocalName) where
-  inside_prefix : (p : Place) (op : List ℕ) (a : Written) → TakesNoSlot names (Written.Prefix p op a) → TakesNoSlot names a
+  pub inside_prefix : (p : Place) (op : List ℕ) (a : Written) → TakesNoSlot names (Written.Prefix p op a) → TakesNoSlot names a
   inside_prefix p op a h = record { slots = λ name n named at. right_fails _ _ (h.slots name n named at) }
 
   inside_cast : (p : Place) (b : Base) (n : ℕ) (a : Written) → TakesNoSlot names (Written.Cast p b n a) → TakesNoSlot names a

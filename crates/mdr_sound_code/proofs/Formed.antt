@@ -1,7 +1,6 @@
 -- Types of objects and of functions that are formed.
-use Rattle.std.proofs.Common.{◌≡◌, inl, inr, ℕ, Bool, true, false, ◌&&◌, IsTrue, List, [], ◌∷◌, length, map, Some, slice_get, zero, suc, refl, sym, ap, ◌∙◌, subst}
+use Rattle.std.proofs.Common.{◌≡◌, ℕ, Bool, true, false, IsTrue, List, [], ◌∷◌, length, map, refl, sym, ap, ◌∙◌, subst}
 use Rattle.std.specs.List.{list_all}
-use Rattle.std.proofs.lemmas.Option.{none-some, same_Some}
 use Rattle.mdr_core.specs.declared.program.Program.{Program}
 use Rattle.mdr_core.specs.declared.types.Ty.{Ty, out-Ty}
 use Rattle.mdr_core.specs.declared.types.Ty.TheFolds.{map-Ty}
@@ -9,7 +8,7 @@ use Rattle.mdr_core.specs.declared.types.Ty.TheOpen.{Ty-F}
 use Rattle.mdr_core.specs.declared.types.Ty.TheVariants as type
 use Rattle.mdr_core.specs.Layout.{chosen}
 use Rattle.mdr_core.specs.Sound.{IsObjectSort}
-use Rattle.mdr_core.specs.Types.{Sort, Wrong, Empty, Locks, Aggregate, Scalar, is_result_sort, is_scalar_sort, function_sort, pointer_sort, is_scalar, is_scalar_by, sort_layer, sort_of}
+use Rattle.mdr_core.specs.Types.{Sort, Wrong, Empty, Locks, Aggregate, Scalar, is_scalar_sort, function_sort, is_scalar, is_scalar_by, sort_layer, sort_of}
 use Rattle.mdr_core.proofs.Laid.{sort_is}
 use Rattle.mdr_sound_code.specs.Knowing.{IsFormed}
 use Rattle.mdr_sound_code.proofs.Alike.{right_of, left_of}
@@ -43,10 +42,14 @@ scalar_sort Locks h = absurd cc
 scalar_sort Aggregate h = absurd cc
 scalar_sort Scalar h = refl
 
-all_scalars : (n : ℕ) (ts : List Ty) → list_all is_scalar_sort (map (sort_of n) ts) ≡ true → (i : ℕ) (t : Ty) → slice_get ts i ≡ Some t → sort_of n t ≡ Scalar
-all_scalars n [] h i t e = absurd (none-some t e)
-all_scalars n (u ∷ us) h zero t e = subst (λ v. sort_of n v ≡ Scalar) (same_Some _ _ e) (scalar_sort (sort_of n u) (left_of _ _ h))
-all_scalars n (u ∷ us) h (suc i) t e = all_scalars n us (right_of _ _ h) i t e
+-- each of the types is one of scalars
+abbrev pub AreScalars : ℕ → List Ty → Type 0
+AreScalars n [] = Unit {0}
+AreScalars n (t ∷ ts) = (sort_of n t ≡ Scalar) × AreScalars n ts
+
+all_scalars : (n : ℕ) (ts : List Ty) → list_all is_scalar_sort (map (sort_of n) ts) ≡ true → AreScalars n ts
+all_scalars n [] h = tt
+all_scalars n (t ∷ ts) h = (scalar_sort (sort_of n t) (left_of _ _ h), all_scalars n ts (right_of _ _ h))
 
 chosen_scalar : (b : Bool) → chosen b Scalar Wrong ≡ Scalar → b ≡ true
 chosen_scalar true e = refl
@@ -57,7 +60,7 @@ pub record IsFunction (n : ℕ) (ts : List Ty) : Type 0 where
   pub result : Ty
   pub params : List Ty
   pub is : ts ≡ result ∷ params
-  pub scalars : (i : ℕ) (t : Ty) → slice_get params i ≡ Some t → sort_of n t ≡ Scalar
+  pub scalars : AreScalars n params
 
 function_at : (n : ℕ) (ts : List Ty) → function_sort (map (sort_of n) ts) ≡ Scalar → IsFunction n ts
 function_at n [] e = absurd cc

@@ -1,7 +1,6 @@
 -- What an operator between two operands gives is known (C99 6.5.5 to 6.5.14).
 use Rattle.std.specs.Prelude.{◌≡◌, List, Option, Some, None}
 use Rattle.std.proofs.Common.{refl, subst}
-use Rattle.mdr_core.specs.declared.code.Expr.TheVariants as expr
 use Rattle.mdr_core.specs.declared.kind.Kind.TheVariants.{S32}
 use Rattle.mdr_core.specs.declared.place.Place.{Place}
 use Rattle.mdr_core.specs.declared.program.Program.{Program}
@@ -25,7 +24,6 @@ use Rattle.mdr_sound_code.proofs.Rights.{not_right, same_right, both_right}
 use Rattle.mdr_sound_code.proofs.Values.{of_term, scalar_known, value_tested}
 
 module _ (program : Program) (slots : List Slot) (names : List LocalName) (w : Written) where
-
   -- ---- `&&` and `||`
 
   both_true_known : (u v : Scalar) → IsKnownValue program slots u → IsKnownValue program slots v → IsKnown program slots names w (both_true u v)
@@ -35,7 +33,6 @@ module _ (program : Program) (slots : List Slot) (names : List LocalName) (w : W
   either_true_known u v h i = of_term program slots _ _ (type.Int S32) (coded.or_is (expression_of u) (expression_of v)) (record { left = value_tested program slots u h; right = value_tested program slots v i; is = refl })
 
   module _ (scope : Scope) (p : Place) (u v : Written) where
-
     conjunction_known : (x y z : Operand) → IsKnown program slots names u x → IsKnown program slots names v y → conjunction p x y ≡ Right z → IsKnown program slots names w z
     unfolding conjunction
     conjunction_known x y z h i e =

@@ -14,6 +14,16 @@ pub mod Members
 pub mod Elements
 pub mod Formed
 pub mod TypesWritten
-pub mod Assigned
 pub mod Casts
 pub mod Expressions
+pub mod Assigned
+pub mod GivenArguments
+pub mod FunctionCalls
+pub mod OfferedCalls
+pub mod PlainCalls
+pub mod Allocations
+pub mod Printing
+pub mod Interrupts
+pub mod CallsBack
+pub mod ServiceCalls
+pub mod WrittenCalls

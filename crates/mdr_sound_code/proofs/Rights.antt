@@ -1,7 +1,6 @@
 -- What stands behind a rule that found nothing wrong.
 use Rattle.std.specs.Prelude.{◌≡◌, Bool, true, false, Option, Some, None, Result, Ok, Err}
 use Rattle.std.proofs.Common.{refl, ap, sym, subst}
-use Rattle.std.proofs.lemmas.Option.{none-some, same_Some}
 use Rattle.mdr_core.specs.declared.place.Place.{Place}
 use Rattle.mdr_core.specs.Layout.{chosen}
 use Rattle.mdr_faults.specs.declared.fault.Fault.{Fault}

@@ -6,8 +6,7 @@ use Rattle.mdr_core.specs.declared.types.Ty.{Ty, out-Ty}
 use Rattle.mdr_core.specs.declared.types.Ty.TheOpen.{Ty-F}
 use Rattle.mdr_core.specs.declared.types.Ty.TheVariants as type
 use Rattle.mdr_core.specs.Layout.{chosen}
-use Rattle.mdr_core.specs.Sound.{IsObjectSort}
-use Rattle.mdr_core.specs.Types.{Sort, Wrong, Aggregate, sort_of}
+use Rattle.mdr_core.specs.Types.{Wrong, Aggregate}
 use Rattle.mdr_syntax.specs.declared.tree.Base.{Base}
 use Rattle.mdr_syntax.specs.declared.tree.Base.TheVariants as base
 use Rattle.mdr_faults.specs.declared.scope.Scope.{Scope}
@@ -63,7 +62,6 @@ tag_written program p None t low e = not_right _ t e
 tag_written program p (Some g) t low e = subst (IsWritten program) (same_right _ _ e) (struct_written program g.number (low g refl))
 
 module _ (program : Program) (scope : Scope) (knows : Knows program scope) where
-
   base_written : (b : Base) (t : Ty) → base_type scope b ≡ Right t → IsWritten program t
   base_written (base.Int k) t e = subst (IsWritten program) (same_right _ _ e) (inl (inl (sort_int (length program.structs) k)))
   base_written (base.Struct p name) t e = tag_written program p (tag_named scope name) t (knows.tags name) e

@@ -1,7 +1,5 @@
 -- What a scope and the names of locals say of a program (C99 6.2.1): each name that means something stands for what the program has.
-use Rattle.std.specs.Prelude.{◌≡◌, ℕ, ◌<◌, ◌≤◌, Bool, true, false, List, ◌∷◌, length, Option, Some, Ok, slice_get, IsTrue, pos}
-use Rattle.mdr_core.specs.declared.kind.Kind.{Kind}
-use Rattle.mdr_core.specs.declared.place.Place.{Place}
+use Rattle.std.specs.Prelude.{◌≡◌, ℕ, ◌<◌, ◌≤◌, true, false, List, ◌∷◌, length, Some, Ok, slice_get, IsTrue, pos}
 use Rattle.mdr_core.specs.declared.program.Field.{Field}
 use Rattle.mdr_core.specs.declared.program.Func.{Func}
 use Rattle.mdr_core.specs.declared.program.GlobalDef.{GlobalDef}
@@ -13,7 +11,6 @@ use Rattle.mdr_core.specs.Layout.{fields_of}
 use Rattle.mdr_core.specs.Sound.{IsObjectSort}
 use Rattle.mdr_core.specs.Types.{Scalar, is_scalar, sort_of}
 use Rattle.mdr_core.specs.Typing.{Slot, function_type}
-use Rattle.mdr_faults.specs.declared.scope.Constant.{Constant}
 use Rattle.mdr_faults.specs.declared.scope.Entity.{Entity}
 use Rattle.mdr_faults.specs.declared.scope.Entity.TheVariants as entity
 use Rattle.mdr_faults.specs.declared.scope.Member.{Member}

@@ -1,8 +1,7 @@
 -- What an expression comes to, as something of a program: with the types that the program's own rules give it (C99 6.5).
-use Rattle.std.specs.Prelude.{◌≡◌, ◌⊎◌, ℕ, Bool, true, false, List, length, Option, Some, None, slice_get, IsTrue}
+use Rattle.std.specs.Prelude.{◌≡◌, ◌⊎◌, ℕ, false, List, length, Some, slice_get, IsTrue}
 use Rattle.mdr_core.specs.declared.code.Expr.{Expr}
 use Rattle.mdr_core.specs.declared.code.Lval.{Lval}
-use Rattle.mdr_core.specs.declared.kind.Kind.{Kind}
 use Rattle.mdr_core.specs.declared.program.Func.{Func}
 use Rattle.mdr_core.specs.declared.program.Program.{Program}
 use Rattle.mdr_core.specs.declared.types.Ty.{Ty}
@@ -10,10 +9,8 @@ use Rattle.mdr_core.specs.declared.types.Ty.TheVariants as type
 use Rattle.mdr_core.specs.Folds.{term_of, lvalue_of}
 use Rattle.mdr_core.specs.Types.{Scalar as ScalarSort, is_scalar, sort_of}
 use Rattle.mdr_core.specs.Typing.{Slot, One, Many, Has, Designates, HasAddress, function_type}
-use Rattle.mdr_operand.specs.declared.operand.Integer.{Integer}
 use Rattle.mdr_operand.specs.declared.operand.Operand.{Operand}
 use Rattle.mdr_operand.specs.declared.operand.Operand.TheVariants as operand
-use Rattle.mdr_operand.specs.declared.operand.Pointer.{Pointer}
 use Rattle.mdr_operand.specs.declared.operand.Scalar.{Scalar}
 use Rattle.mdr_operand.specs.declared.operand.Scalar.TheVariants as scalar
 use Rattle.mdr_operand.specs.declared.room.LocalName.{LocalName}

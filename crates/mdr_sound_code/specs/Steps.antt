@@ -20,12 +20,11 @@ use Rattle.mdr_operand.specs.declared.room.LocalName.{LocalName}
 use Rattle.mdr_operand.specs.Written.{Written, Writtens}
 use Rattle.mdr_express.specs.Expressions.{typed}
 use Rattle.mdr_sound_code.specs.Knowing.{Knows, KnowsLocals, HasNumbers, HaveNumbers, TakesNoSlot, TakeNoSlot}
-use Rattle.mdr_sound_code.specs.Laws.{ExpressionsAreKnown}
 
 -- what an assignment comes to is one of the program (C99 6.5.16)
 abbrev pub AssignmentsAreKnown : Type 0
 AssignmentsAreKnown = (program : Program) (slots : List Slot) (scope : Scope) (names : List LocalName) (p : Place) (op : Option AssignmentOperator) (a b : Written) (made : Assignment)
-    → ExpressionsAreKnown → Knows program scope → KnowsLocals program slots names
+    → Knows program scope → KnowsLocals program slots names
     → HasNumbers a → TakesNoSlot names a → HasNumbers b → TakesNoSlot names b
     → assignment_rule scope p op (typed scope names a) (typed scope names b) ≡ Right made
     → IsAssignment program slots (lvalue_of made.left) (term_of made.right)
@@ -33,7 +32,7 @@ AssignmentsAreKnown = (program : Program) (slots : List Slot) (scope : Scope) (n
 -- and so is a `++` or `--` that stands alone (6.5.2.4, 6.5.3.1)
 abbrev pub StepsAreKnown : Type 0
 StepsAreKnown = (program : Program) (slots : List Slot) (scope : Scope) (names : List LocalName) (p : Place) (op : Option BinOp) (a : Written) (made : Assignment)
-    → ExpressionsAreKnown → Knows program scope → KnowsLocals program slots names
+    → Knows program scope → KnowsLocals program slots names
     → HasNumbers a → TakesNoSlot names a
     → step_rule scope p op (typed scope names a) ≡ Right made
     → IsAssignment program slots (lvalue_of made.left) (term_of made.right)
@@ -41,7 +40,7 @@ StepsAreKnown = (program : Program) (slots : List Slot) (scope : Scope) (names :
 -- what a call comes to is one of the program (6.5.2.2), if the type that it names is in the type table. The service that calls back, of number 15, is in no sound program
 abbrev pub CallsAreKnown : Type 0
 CallsAreKnown = (program : Program) (slots : List Slot) (scope : Scope) (names : List LocalName) (p : Place) (f : Written) (args : Writtens) (call : TypedCall)
-    → ExpressionsAreKnown → Knows program scope → KnowsLocals program slots names
+    → Knows program scope → KnowsLocals program slots names
     → HasNumbers f → TakesNoSlot names f → HaveNumbers args → TakeNoSlot names args
     → written_call (typed scope names) scope p f args ≡ Right call
     → ((t : Ty) → call.form.shape ≡ Some t → HasNumber program t) → (◌≡◌ {A = Callee} call.form.callee (callee.Service 15) → ⊥)

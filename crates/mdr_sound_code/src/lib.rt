@@ -3,4 +3,4 @@
 
 mod laws;
 
-pub use laws::{assignments_are_known, expressions_are_known, steps_are_known};
+pub use laws::{assignments_are_known, calls_are_known, expressions_are_known, steps_are_known};

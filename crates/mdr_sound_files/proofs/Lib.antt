@@ -1,3 +1,14 @@
+pub mod Declaring
+pub mod Named
+pub mod CountedItems
+pub mod Extending
+pub mod Tagged
+pub mod Passing
+pub mod Outlined
+pub mod Entities
+pub mod Along
+pub mod Outlines
+pub mod Scopes
 pub mod Sorts
 pub mod NamedTypes
 pub mod Objects

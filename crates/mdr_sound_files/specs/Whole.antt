@@ -1,0 +1,11 @@
+-- A program and the parts of the file that it comes from.
+use Rattle.std.specs.Prelude.{◌≡◌}
+use Rattle.mdr_core.specs.declared.program.Program.{Program}
+use Rattle.mdr_program.specs.declared.parts.Parts.{Parts}
+use Rattle.mdr_program.specs.Programs.{global_defs}
+
+-- the program has these structs, globals and functions
+pub record IsMadeOf (program : Program) (ps : Parts) : Type 0 where
+  pub structs : program.structs ≡ ps.structs
+  pub globals : program.globals ≡ global_defs program.types ps.structs ps.variables ps.variables
+  pub funcs : program.funcs ≡ ps.funcs
