@@ -102,7 +102,7 @@ module _ (program : Program) (body : BodyRule) (items : List Item) (xs : List Pi
       let begins : Begins (os ++ map (candidate first) ds ∷ []) Outlines = subst (λ l. Begins l Outlines) one (prefix_outlines first (before ++ i ∷ []) items place.begins) in
       ap (slice_get Outlines) (place.at).fields ∙ begins_last os Outlines (map (candidate first) ds) begins
 
-  same_or_less : (s n : ℕ) → s < n + 1 → (s < n) ⊎ (s ≡ n)
+  pub same_or_less : (s n : ℕ) → s < n + 1 → (s < n) ⊎ (s ≡ n)
   same_or_less s n h = by (nat_lt s n) refl
     where
       by : (b : Bool) → nat_lt s n ≡ b → (s < n) ⊎ (s ≡ n)

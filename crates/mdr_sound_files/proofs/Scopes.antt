@@ -13,7 +13,7 @@ use Rattle.mdr_core.specs.declared.program.StructDef.{StructDef}
 use Rattle.mdr_core.specs.declared.types.Ty.{Ty}
 use Rattle.mdr_core.specs.declared.types.Ty.TheVariants as type
 use Rattle.mdr_core.specs.Kinds.{is_in_range}
-use Rattle.mdr_core.specs.Layout.{fields_of}
+use Rattle.mdr_core.specs.Layout.{fields_of, struct_cells}
 use Rattle.mdr_core.specs.Sound.{IsSoundStruct}
 use Rattle.mdr_core.specs.Typing.{function_type}
 use Rattle.mdr_core.specs.Types.{HasNumber}
@@ -40,7 +40,7 @@ use Rattle.mdr_headings.specs.declared.function.Declared.{Declared}
 use Rattle.mdr_headings.specs.declared.head.Heading.{Heading}
 use Rattle.mdr_headings.specs.Functions.{is_taken, is_defined, with_function_unless, behind_function, declared_unless, function_heading, function_declared, function_means, functions_behind}
 use Rattle.mdr_headings.specs.Source.{tags_from, defines_from, defines_behind, defined_constant, is_numbered, with_struct_if, before_first, signature}
-use Rattle.mdr_headings.specs.Structs.{struct_fields, struct_entry, name_or_none}
+use Rattle.mdr_headings.specs.Structs.{struct_fields, struct_entry, member, name_or_none}
 use Rattle.mdr_check.specs.declared.file.Known.{Known}
 use Rattle.mdr_check.specs.declared.file.Piece.{Piece}
 use Rattle.mdr_check.specs.declared.file.Piece.TheVariants as piece
@@ -66,10 +66,14 @@ use Rattle.mdr_sound_files.proofs.Headings.{signature_of_heading, signature_form
 use Rattle.mdr_sound_files.proofs.Named.{FoundAt, found_at}
 use Rattle.mdr_sound_files.proofs.NamedTypes.{AreNumbered}
 use Rattle.mdr_sound_files.proofs.Objects.{object_sound}
-use Rattle.mdr_sound_files.proofs.Outlines.{names_structs, outlines_hold, Completes, completes, one_struct_more}
+use Rattle.mdr_sound_files.proofs.Outlines.{names_structs, outlines_hold, Completes, completes, same_or_less, one_struct_more}
 use Rattle.mdr_sound_files.proofs.Passing.{IsAt, IsStructItem, struct_or_not}
 use Rattle.mdr_sound_files.proofs.SoundGlobals.{IsDeclared, declared}
-use Rattle.mdr_sound_files.proofs.Structs.{struct_sound}
+use Rattle.mdr_headings.specs.Annotations.{candidate}
+use Rattle.mdr_sound_bodies.specs.Within.{IsOfMember}
+use Rattle.mdr_sound_files.proofs.Gathering.{pair_of_right}
+use Rattle.mdr_sound_files.proofs.Reading.{get_map}
+use Rattle.mdr_sound_files.proofs.Structs.{IsFieldOf, struct_as, struct_sound}
 use Rattle.mdr_sound_files.proofs.Tagged.{Last as IsLast, last_place}
 use Rattle.mdr_sound_files.proofs.StructsKnown.{struct_known, stands_behind_struct}
 
@@ -178,6 +182,9 @@ module _ (program : Program) (body : BodyRule) (items : List Item) (xs : List Pi
     pub stands : Stands program known.scope
     pub sound : (s : ℕ) (def : StructDef) → s < length known.scope.structs → slice_get program.structs s ≡ Some def → IsSoundStruct program s def
     pub members : (s : ℕ) (entry : StructEntry) → slice_get known.scope.structs s ≡ Some entry → length entry.members ≡ length (fields_of program.structs s)
+    pub fields : (s f : ℕ) (entry : StructEntry) (x : Field) → slice_get known.scope.structs s ≡ Some entry → slice_get (fields_of program.structs s) f ≡ Some x → IsOfMember entry f x
+    pub small : (s : ℕ) → s < length known.scope.structs → length (struct_cells program.structs s) ≤ 65536
+    pub few : (s : ℕ) → s < length known.scope.structs → length (fields_of program.structs s) ≤ 64
 
   -- ---- at the begin
 
@@ -196,7 +203,14 @@ module _ (program : Program) (body : BodyRule) (items : List Item) (xs : List Pi
 
   begins : IsStanding (first_known items) no_parts
   unfolding first_known
-  begins = record { stands = no_names; sound = λ s def less e. absurd (omega (arith, less)); members = λ s entry e. absurd cc }
+  begins = record {
+    stands = no_names;
+    sound = λ s def less e. absurd (omega (arith, less));
+    members = λ s entry e. absurd cc;
+    fields = λ s f entry x e g. absurd cc;
+    small = λ s less. absurd (omega (arith, less));
+    few = λ s less. absurd (omega (arith, less));
+  }
 
   -- ---- behind a global
 
@@ -319,3 +333,73 @@ module _ (program : Program) (body : BodyRule) (items : List Item) (xs : List Pi
       ∙ members_counted known.scope at ds fields k.listed
       ∙ ap length (sym k.fields_are)
       ∙ ap (λ n. length (fields_of program.structs n)) (sym new.place)
+
+  -- a field of the struct that an item completes comes from its member
+  field_member : (known : Known) (at : Place) (name : List ℕ) (ds : List Decl) (fields : List Field) (f : ℕ) (x : Field) → Completes program body items xs right made known at name ds fields → slice_get fields f ≡ Some x → IsOfMember (struct_entry known.scope at ds) f x
+  unfolding struct_entry member
+  field_member known at name ds fields f x k e =
+      let a = struct_as known.scope at ds fields k.listed in
+      let r = pair_of_right (IsFieldOf known.scope at (map (candidate known.scope) ds)) ds fields f x a.fields e in
+      let h = (r.1).related in
+      record {
+        member = member known.scope at r.0;
+        at = get_map (member known.scope at) ds f r.0 (r.1).left;
+        object = h.object;
+        means = ap told h.declared;
+        ty = ap (λ (y : Field). y.ty) h.made;
+      }
+
+  struct_fields_of : (known : Known) (at : Place) (name : List ℕ) (ds : List Decl) (fields : List Field) (s f : ℕ) (entry : StructEntry) (x : Field) → Completes program body items xs right made known at name ds fields → IsStanding known no_parts → (slice_get known.scope.structs s ≡ Some entry) ⊎ IsLast known.scope.structs (struct_entry known.scope at ds) s entry → slice_get (fields_of program.structs s) f ≡ Some x → IsOfMember entry f x
+  struct_fields_of known at name ds fields s f entry x k q (inl old) e = q.fields s f entry x old e
+  struct_fields_of known at name ds fields s f entry x k q (inr new) e =
+      let there : slice_get fields f ≡ Some x = ap (λ (ys : List Field). slice_get ys f) (sym k.fields_are) ∙ ap (λ n. slice_get (fields_of program.structs n) f) (sym new.place) ∙ e in
+      subst (λ (y : StructEntry). IsOfMember y f x) new.is (field_member known at name ds fields f x k there)
+
+  bounded : (P : ℕ → Type 0) (known : Known) (s : ℕ) → ((s : ℕ) → s < length known.scope.structs → P s) → P (length known.scope.structs) → (s < length known.scope.structs) ⊎ (s ≡ length known.scope.structs) → P s
+  bounded P known s h last (inl less) = h s less
+  bounded P known s h last (inr is) = subst P (sym is) last
+
+  any_parts : (known : Known) (ps qs : Parts) → IsStanding known ps → IsStanding known qs
+  any_parts known ps qs q = record { stands = q.stands; sound = q.sound; members = q.members; fields = q.fields; small = q.small; few = q.few }
+
+  -- behind an item that completes no struct
+  standing_same : (before : List Item) (known : Known) (i : Item) (x : Piece) (ps : Parts) → Turn before known i x ps → IsStanding known no_parts → Stands program (behind_item items known i.what).scope → (behind_item items known i.what).scope.structs ≡ known.scope.structs → IsStanding (behind_item items known i.what) no_parts
+  standing_same before known i x ps place q st same = record {
+    stands = st;
+    sound = λ s def less e. q.sound s def (subst (λ n. s < n) (ap length same) less) e;
+    members = λ s entry e. q.members s entry (ap (λ es. slice_get es s) (sym same) ∙ e);
+    fields = λ s f entry y e g. q.fields s f entry y (ap (λ es. slice_get es s) (sym same) ∙ e) g;
+    small = λ s less. q.small s (subst (λ n. s < n) (ap length same) less);
+    few = λ s less. q.few s (subst (λ n. s < n) (ap length same) less);
+  }
+
+  -- behind a struct
+  standing_more : (before : List Item) (known : Known) (i : Item) (x : Piece) (ps : Parts) → Turn before known i x ps → IsStanding known no_parts → Stands program (behind_item items known i.what).scope → IsStructItem i.what → IsStanding (behind_item items known i.what) no_parts
+  standing_more before known i x ps place q st v =
+      let k = completes program body items xs right made before known i x ps v.at v.name v.decls v.is place in
+      let is = struct_known program known.scope v.at v.decls k.0 q.stands (k.1).listed (k.1).fields_are in
+      let more = one_struct_more program body items xs right made known i.what v.at v.name v.decls v.is (k.1).numbered in
+      let many = ap length more ∙ length-append known.scope.structs (struct_entry known.scope v.at v.decls ∷ []) in
+      let which : (s : ℕ) → s < length (behind_item items known i.what).scope.structs → (s < length known.scope.structs) ⊎ (s ≡ length known.scope.structs) = λ s less. same_or_less program body items xs right made s (length known.scope.structs) (subst (λ n. s < n) many less) in
+      record {
+        stands = st;
+        sound = λ s def less e. sound_struct known v.at v.name v.decls k.0 s def k.1 q (which s less) e;
+        members = λ s entry e. struct_members known v.at v.name v.decls k.0 s entry k.1 q (last_place known.scope.structs (struct_entry known.scope v.at v.decls) s entry (ap (λ es. slice_get es s) (sym more) ∙ e));
+        fields = λ s f entry y e g. struct_fields_of known v.at v.name v.decls k.0 s f entry y k.1 q (last_place known.scope.structs (struct_entry known.scope v.at v.decls) s entry (ap (λ es. slice_get es s) (sym more) ∙ e)) g;
+        small = λ s less. bounded (λ n. length (struct_cells program.structs n) ≤ 65536) known s q.small is.small (which s less);
+        few = λ s less. bounded (λ n. length (fields_of program.structs n) ≤ 64) known s q.few is.few (which s less);
+      }
+
+  pub standing_goes_on : GoesOn body items Whole Last.functions IsStanding
+  standing_goes_on = record { behind = λ before known i x ps place q. any_parts (behind_item items known i.what) no_parts (behind_piece ps x) (by before known i x ps place (any_parts known ps no_parts q) (stands_behind before known i x ps i.what refl place q.stands (names_structs program body items xs right made known.scope (place.at).tags)) (struct_or_not items known i.what)) }
+    where
+      by : (before : List Item) (known : Known) (i : Item) (x : Piece) (ps : Parts) → Turn before known i x ps → IsStanding known no_parts → Stands program (behind_item items known i.what).scope → IsStructItem i.what ⊎ ((behind_item items known i.what).scope.structs ≡ known.scope.structs) → IsStanding (behind_item items known i.what) no_parts
+      by before known i x ps place q st (inl v) = standing_more before known i x ps place q st v
+      by before known i x ps place q st (inr same) = standing_same before known i x ps place q st same
+
+  pub first_standing : IsStanding (first_known items) no_parts
+  first_standing = begins
+
+  -- at the end of the file
+  pub standing_all : IsStanding Last Whole
+  standing_all = along body items xs IsStanding right standing_goes_on first_standing
