@@ -55,7 +55,7 @@ use Rattle.mdr_sound_code.proofs.Rights.{After, after_right, Both, both_right, D
 use Rattle.mdr_sound_files.specs.Counting.{heading_type, IsDeclaredAs, AreDeclaredAs, Counts, Begins}
 use Rattle.mdr_sound_files.specs.Declared.{IsSoundObject}
 use Rattle.mdr_sound_files.specs.Standing.{Stands}
-use Rattle.mdr_sound_files.specs.Whole.{IsMadeOf}
+use Rattle.mdr_sound_files.specs.Whole.{HasAll, IsMadeOf}
 use Rattle.mdr_sound_files.proofs.Along.{IsPlace, GoesOn, along, at_all, counted_all}
 use Rattle.mdr_sound_files.proofs.Counted.{members_counted}
 use Rattle.mdr_sound_files.proofs.CountedItems.{last_or_before, Ruled, ruled, new_declared}
@@ -163,7 +163,7 @@ found_define program names name entry e a found m = by (entity_among names name)
 
 -- ---- the scope at each place
 
-module _ (program : Program) (body : BodyRule) (items : List Item) (xs : List Piece) (right : pieces_behind body items (first_known items) [] items ≡ Right xs) (made : IsMadeOf program (parts_behind no_parts xs)) (ranges : AreDefinesInRange items) (in_table : (t : Ty) → Occurs program t → HasNumber program t) where
+module _ (program : Program) (body : BodyRule) (items : List Item) (xs : List Piece) (right : pieces_behind body items (first_known items) [] items ≡ Right xs) (made : IsMadeOf program (parts_behind no_parts xs)) (ranges : AreDefinesInRange items) where
   abbrev Whole : Parts
   Whole = parts_behind no_parts xs
 
@@ -180,7 +180,7 @@ module _ (program : Program) (body : BodyRule) (items : List Item) (xs : List Pi
   -- what is known of structs at a place
   pub record IsStanding (known : Known) (ps : Parts) : Type 0 where
     pub stands : Stands program known.scope
-    pub sound : (s : ℕ) (def : StructDef) → s < length known.scope.structs → slice_get program.structs s ≡ Some def → IsSoundStruct program s def
+    pub sound : HasAll program → (s : ℕ) (def : StructDef) → s < length known.scope.structs → slice_get program.structs s ≡ Some def → IsSoundStruct program s def
     pub members : (s : ℕ) (entry : StructEntry) → slice_get known.scope.structs s ≡ Some entry → length entry.members ≡ length (fields_of program.structs s)
     pub fields : (s f : ℕ) (entry : StructEntry) (x : Field) → slice_get known.scope.structs s ≡ Some entry → slice_get (fields_of program.structs s) f ≡ Some x → IsOfMember entry f x
     pub small : (s : ℕ) → s < length known.scope.structs → length (struct_cells program.structs s) ≤ 65536
@@ -205,7 +205,7 @@ module _ (program : Program) (body : BodyRule) (items : List Item) (xs : List Pi
   unfolding first_known
   begins = record {
     stands = no_names;
-    sound = λ s def less e. absurd (omega (arith, less));
+    sound = λ all s def less e. absurd (omega (arith, less));
     members = λ s entry e. absurd cc;
     fields = λ s f entry x e g. absurd cc;
     small = λ s less. absurd (omega (arith, less));
@@ -310,17 +310,17 @@ module _ (program : Program) (body : BodyRule) (items : List Item) (xs : List Pi
 
   -- ---- structs that are sound
 
-  field_in_table : (s : ℕ) (def : StructDef) → slice_get program.structs s ≡ Some def → (f : ℕ) (x : Field) → slice_get def.fields f ≡ Some x → HasNumber program x.ty
-  field_in_table s def there f x e = in_table x.ty (OfField s f def x there e refl)
+  field_in_table : HasAll program → (s : ℕ) (def : StructDef) → slice_get program.structs s ≡ Some def → (f : ℕ) (x : Field) → slice_get def.fields f ≡ Some x → HasNumber program x.ty
+  field_in_table all s def there f x e = all x.ty (OfField s f def x there e refl)
 
-  sound_next : (known : Known) (at : Place) (name : List ℕ) (ds : List Decl) (fields : List Field) → Completes program body items xs right made known at name ds fields → Stands program known.scope → IsSoundStruct program (length known.scope.structs) (record { name = name; fields = fields })
-  sound_next known at name ds fields k st = struct_sound program known.scope at name ds fields st (field_in_table (length known.scope.structs) (record { name = name; fields = fields }) k.def) k.listed
+  sound_next : HasAll program → (known : Known) (at : Place) (name : List ℕ) (ds : List Decl) (fields : List Field) → Completes program body items xs right made known at name ds fields → Stands program known.scope → IsSoundStruct program (length known.scope.structs) (record { name = name; fields = fields })
+  sound_next all known at name ds fields k st = struct_sound program known.scope at name ds fields st (field_in_table all (length known.scope.structs) (record { name = name; fields = fields }) k.def) k.listed
 
-  sound_struct : (known : Known) (at : Place) (name : List ℕ) (ds : List Decl) (fields : List Field) (s : ℕ) (def : StructDef) → Completes program body items xs right made known at name ds fields → IsStanding known no_parts → (s < length known.scope.structs) ⊎ (s ≡ length known.scope.structs) → slice_get program.structs s ≡ Some def → IsSoundStruct program s def
-  sound_struct known at name ds fields s def k q (inl less) e = q.sound s def less e
-  sound_struct known at name ds fields s def k q (inr last) e =
+  sound_struct : HasAll program → (known : Known) (at : Place) (name : List ℕ) (ds : List Decl) (fields : List Field) (s : ℕ) (def : StructDef) → Completes program body items xs right made known at name ds fields → IsStanding known no_parts → (s < length known.scope.structs) ⊎ (s ≡ length known.scope.structs) → slice_get program.structs s ≡ Some def → IsSoundStruct program s def
+  sound_struct all known at name ds fields s def k q (inl less) e = q.sound all s def less e
+  sound_struct all known at name ds fields s def k q (inr last) e =
       let same : record { name = name; fields = fields } ≡ def = some_same (sym k.def ∙ ap (slice_get program.structs) (sym last) ∙ e) in
-      let sound = sound_next known at name ds fields k q.stands in
+      let sound = sound_next all known at name ds fields k q.stands in
       subst (λ n. IsSoundStruct program n def) (sym last) (subst (IsSoundStruct program (length known.scope.structs)) same sound)
     where
       some_same : {a b : StructDef} → Some a ≡ Some b → a ≡ b
@@ -366,7 +366,7 @@ module _ (program : Program) (body : BodyRule) (items : List Item) (xs : List Pi
   standing_same : (before : List Item) (known : Known) (i : Item) (x : Piece) (ps : Parts) → Turn before known i x ps → IsStanding known no_parts → Stands program (behind_item items known i.what).scope → (behind_item items known i.what).scope.structs ≡ known.scope.structs → IsStanding (behind_item items known i.what) no_parts
   standing_same before known i x ps place q st same = record {
     stands = st;
-    sound = λ s def less e. q.sound s def (subst (λ n. s < n) (ap length same) less) e;
+    sound = λ all s def less e. q.sound all s def (subst (λ n. s < n) (ap length same) less) e;
     members = λ s entry e. q.members s entry (ap (λ es. slice_get es s) (sym same) ∙ e);
     fields = λ s f entry y e g. q.fields s f entry y (ap (λ es. slice_get es s) (sym same) ∙ e) g;
     small = λ s less. q.small s (subst (λ n. s < n) (ap length same) less);
@@ -383,7 +383,7 @@ module _ (program : Program) (body : BodyRule) (items : List Item) (xs : List Pi
       let which : (s : ℕ) → s < length (behind_item items known i.what).scope.structs → (s < length known.scope.structs) ⊎ (s ≡ length known.scope.structs) = λ s less. same_or_less program body items xs right made s (length known.scope.structs) (subst (λ n. s < n) many less) in
       record {
         stands = st;
-        sound = λ s def less e. sound_struct known v.at v.name v.decls k.0 s def k.1 q (which s less) e;
+        sound = λ all s def less e. sound_struct all known v.at v.name v.decls k.0 s def k.1 q (which s less) e;
         members = λ s entry e. struct_members known v.at v.name v.decls k.0 s entry k.1 q (last_place known.scope.structs (struct_entry known.scope v.at v.decls) s entry (ap (λ es. slice_get es s) (sym more) ∙ e));
         fields = λ s f entry y e g. struct_fields_of known v.at v.name v.decls k.0 s f entry y k.1 q (last_place known.scope.structs (struct_entry known.scope v.at v.decls) s entry (ap (λ es. slice_get es s) (sym more) ∙ e)) g;
         small = λ s less. bounded (λ n. length (struct_cells program.structs n) ≤ 65536) known s q.small is.small (which s less);

@@ -1,6 +1,9 @@
 -- A program and the parts of the file that it comes from.
 use Rattle.std.specs.Prelude.{◌≡◌}
 use Rattle.mdr_core.specs.declared.program.Program.{Program}
+use Rattle.mdr_core.specs.declared.types.Ty.{Ty}
+use Rattle.mdr_core.specs.Types.{HasNumber}
+use Rattle.mdr_core.specs.TypeText.{Occurs}
 use Rattle.mdr_program.specs.declared.parts.Parts.{Parts}
 use Rattle.mdr_program.specs.Programs.{global_defs}
 
@@ -9,3 +12,7 @@ pub record IsMadeOf (program : Program) (ps : Parts) : Type 0 where
   pub structs : program.structs ≡ ps.structs
   pub globals : program.globals ≡ global_defs program.types ps.structs ps.variables ps.variables
   pub funcs : program.funcs ≡ ps.funcs
+
+-- each type that occurs stands in the type table
+abbrev pub HasAll : Program → Type 0
+HasAll program = (t : Ty) → Occurs program t → HasNumber program t

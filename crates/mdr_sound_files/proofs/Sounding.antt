@@ -1,0 +1,134 @@
+-- Globals and functions of a file are sound, each in its place.
+use Rattle.std.proofs.Common.{◌≡◌, ℕ, zero, suc, ◌+◌, ◌<◌, ◌≤◌, Bool, true, false, cond, not, List, [], ◌∷◌, ◌++◌, length, map, Option, Some, None, refl, sym, ap, ◌∙◌, subst, slice_get, arith, ◌⊎◌, inl, inr, length-append}
+use Rattle.std.specs.Str.{bytes_eq}
+use Rattle.std.proofs.lemmas.Option.{slice_get_within}
+use Rattle.mdr_core.specs.declared.place.Place.{Place}
+use Rattle.mdr_core.specs.declared.code.Stmt.{Stmt}
+use Rattle.mdr_core.specs.declared.program.Func.{Func}
+use Rattle.mdr_core.specs.declared.program.GlobalDef.{GlobalDef}
+use Rattle.mdr_core.specs.declared.program.Local.{Local}
+use Rattle.mdr_core.specs.declared.program.Param.{Param}
+use Rattle.mdr_core.specs.declared.program.Program.{Program}
+use Rattle.mdr_core.specs.declared.program.StructDef.{StructDef}
+use Rattle.mdr_core.specs.declared.types.Ty.{Ty}
+use Rattle.mdr_core.specs.Code.{Codes}
+use Rattle.mdr_core.specs.Folds.{codes_of}
+use Rattle.mdr_core.specs.Sound.{IsCount, IsSoundStruct, IsSoundGlobal, IsSoundFunc}
+use Rattle.mdr_core.specs.Types.{HasNumber}
+use Rattle.mdr_core.specs.TypeText.{Occurs, OfGlobal}
+use Rattle.mdr_syntax.specs.declared.tree.Decl.{Decl, out-Decl}
+use Rattle.mdr_syntax.specs.declared.tree.Head.{Head}
+use Rattle.mdr_syntax.specs.declared.tree.Init.{Init}
+use Rattle.mdr_syntax.specs.declared.tree.Item.{Item}
+use Rattle.mdr_syntax.specs.declared.tree.ItemWhat.{ItemWhat}
+use Rattle.mdr_syntax.specs.declared.tree.ItemWhat.TheVariants as item
+use Rattle.mdr_syntax.specs.declared.tree.Node.{Node}
+use Rattle.mdr_faults.specs.declared.scope.Object.{Object}
+use Rattle.mdr_faults.specs.declared.scope.Scope.{Scope}
+use Rattle.mdr_faults.specs.Faults.{Right}
+use Rattle.mdr_headings.specs.declared.body.Body.{Body}
+use Rattle.mdr_headings.specs.declared.head.Heading.{Heading}
+use Rattle.mdr_headings.specs.Functions.{function_declared, function_heading}
+use Rattle.mdr_headings.specs.Heads.{heading}
+use Rattle.mdr_check.specs.declared.file.Known.{Known}
+use Rattle.mdr_check.specs.declared.file.Piece.{Piece}
+use Rattle.mdr_check.specs.declared.file.Piece.TheVariants as piece
+use Rattle.mdr_check.specs.declared.variable.Variable.{Variable}
+use Rattle.mdr_check.specs.Files.{BodyRule, item_piece, behind_item, known_behind, first_known, pieces_behind, body_scope, global_of, prototype_of, function_of}
+use Rattle.mdr_check.specs.Globals.{global}
+use Rattle.mdr_operand.specs.Written.{lines_of}
+use Rattle.mdr_body.specs.Bodies.{body_rule}
+use Rattle.mdr_body.specs.Statements.{Rules}
+use Rattle.mdr_program.specs.declared.parts.Parts.{Parts}
+use Rattle.mdr_program.specs.Parts.{flagged, marked, remote, whole, number_among, declared, defined, behind_piece, parts_behind, no_parts}
+use Rattle.mdr_program.specs.Programs.{global_def, global_defs}
+use Rattle.mdr_sound_code.specs.Knowing.{Knows}
+use Rattle.mdr_sound_code.proofs.Rights.{After, after_right, Both, both_right, same_right}
+use Rattle.mdr_sound_bodies.specs.Grounded.{AreGrounded}
+use Rattle.mdr_sound_bodies.specs.Rules.{AreSoundRules}
+use Rattle.mdr_sound_bodies.specs.Within.{KnowsDeclarations}
+use Rattle.mdr_sound_bodies.specs.Written.{AreNamed, AreProper}
+use Rattle.mdr_sound_bodies.specs.Bodies.{IsMade, HasSoundBody}
+use Rattle.mdr_sound_bodies.proofs.Making.{made_sound}
+use Rattle.mdr_sound_files.specs.Counting.{Counts, Begins}
+use Rattle.mdr_sound_files.specs.Declared.{IsSoundHeading, IsSoundObject}
+use Rattle.mdr_sound_files.specs.Globals.{HasVariables, StandsAmong}
+use Rattle.mdr_sound_files.specs.Standing.{Stands}
+use Rattle.mdr_sound_files.specs.Whole.{HasAll, IsMadeOf}
+use Rattle.mdr_sound_files.proofs.Along.{IsPlace, GoesOn, along, counted_all}
+use Rattle.mdr_sound_files.proofs.CountedItems.{last_or_before, Ruled, ruled}
+use Rattle.mdr_sound_files.proofs.Declaring.{put_named, keep_named, defined_put, declared_keep}
+use Rattle.mdr_sound_files.proofs.Extending.{begins_last}
+use Rattle.mdr_sound_files.proofs.Functions.{whole_sound, remote_sound, marked_types}
+use Rattle.mdr_sound_files.proofs.Headings.{heading_sound}
+use Rattle.mdr_sound_files.proofs.NamedTypes.{AreNumbered, declarator_good}
+use Rattle.mdr_sound_files.proofs.Objects.{object_sound, tags_numbered}
+use Rattle.mdr_sound_files.proofs.Outlines.{names_structs}
+use Rattle.mdr_sound_files.proofs.Passing.{IsAt}
+use Rattle.mdr_sound_files.proofs.Reading.{get_map, Mapped, get_mapped}
+use Rattle.mdr_sound_files.proofs.Scopes.{AreDefinesInRange, IsStanding, standing_goes_on, first_standing, standing_all, function_stands, IsHeaded, prototype_headed, body_headed, global_there}
+use Rattle.mdr_sound_files.proofs.SoundGlobals.{global_count, sound_globals}
+
+-- ---- functions among those before them
+
+-- one of the functions so far, or the new one
+put_either : (fs : List Func) (f g : Func) (i : ℕ) → slice_get (put_named fs f) i ≡ Some g → (slice_get fs i ≡ Some g) ⊎ (f ≡ g)
+put_either [] f g zero e = inr cc
+put_either [] f g (suc i) e = absurd cc
+put_either (h ∷ hs) f g i e = by (bytes_eq h.name f.name) i e (λ j. put_either hs f g j)
+  where
+    by : (t : Bool) (i : ℕ) → slice_get (cond t (f ∷ hs) (h ∷ put_named hs f)) i ≡ Some g → ((j : ℕ) → slice_get (put_named hs f) j ≡ Some g → (slice_get hs j ≡ Some g) ⊎ (f ≡ g)) → (slice_get (h ∷ hs) i ≡ Some g) ⊎ (f ≡ g)
+    by true zero e rest = inr cc
+    by true (suc j) e rest = inl e
+    by false zero e rest = inl e
+    by false (suc j) e rest = rest j e
+
+keep_either : (fs : List Func) (f g : Func) (i : ℕ) → slice_get (keep_named fs f) i ≡ Some g → (slice_get fs i ≡ Some g) ⊎ (f ≡ g)
+keep_either [] f g zero e = inr cc
+keep_either [] f g (suc i) e = absurd cc
+keep_either (h ∷ hs) f g i e = by (bytes_eq h.name f.name) i e (λ j. keep_either hs f g j)
+  where
+    by : (t : Bool) (i : ℕ) → slice_get (cond t (h ∷ hs) (h ∷ keep_named hs f)) i ≡ Some g → ((j : ℕ) → slice_get (keep_named hs f) j ≡ Some g → (slice_get hs j ≡ Some g) ⊎ (f ≡ g)) → (slice_get (h ∷ hs) i ≡ Some g) ⊎ (f ≡ g)
+    by true zero e rest = inl e
+    by true (suc j) e rest = inl e
+    by false zero e rest = inl e
+    by false (suc j) e rest = rest j e
+
+-- ---- the source of bodies
+
+-- a function's body and parameters are written as the grammar writes them
+abbrev pub IsBodyProper : ItemWhat → Type 0
+IsBodyProper (item.Define name is_negative n k) = Unit {0}
+IsBodyProper (item.Struct p name ds) = Unit {0}
+IsBodyProper (item.Enum es) = Unit {0}
+IsBodyProper (item.Global d init) = Unit {0}
+IsBodyProper (item.Proto h is_remote) = Unit {0}
+IsBodyProper (item.Func h is_critical nodes) = AreNamed h.params × AreProper (lines_of nodes)
+
+abbrev pub AreBodiesProper : List Item → Type 0
+AreBodiesProper [] = Unit {0}
+AreBodiesProper (i ∷ is) = IsBodyProper i.what × AreBodiesProper is
+
+proper_at : (before more : List Item) (i : Item) → AreBodiesProper ((before ++ i ∷ []) ++ more) → IsBodyProper i.what
+proper_at [] more i all = all.0
+proper_at (b ∷ bs) more i all = proper_at bs more i all.1
+
+-- ---- a function's types in the table
+
+abbrev IsBodyGrounded : Program → Option (List Stmt) → Type 0
+IsBodyGrounded program None = Unit {0}
+IsBodyGrounded program (Some body) = AreGrounded program (codes_of body)
+
+-- the types of a function are in the table, and it calls nothing back
+pub record IsPlaced (program : Program) (f : Func) : Type 0 where
+  pub params : (i : ℕ) (p : Param) → slice_get f.params i ≡ Some p → HasNumber program p.ty
+  pub locals : (i : ℕ) (l : Local) → slice_get f.locals i ≡ Some l → l.object ≡ true → HasNumber program l.ty
+  pub body : IsBodyGrounded program f.body
+
+-- the parameters that a body marks have the types of its head
+head_params : (program : Program) (objects : List Bool) (ps : List Param) → ((i : ℕ) (p : Param) → slice_get (marked objects 0 ps) i ≡ Some p → HasNumber program p.ty) → (i : ℕ) (p : Param) → slice_get ps i ≡ Some p → HasNumber program p.ty
+head_params program objects ps h i p e =
+    let there : slice_get (map (λ (p : Param). p.ty) ps) i ≡ Some p.ty = get_map (λ (p : Param). p.ty) ps i p e in
+    let also : slice_get (map (λ (p : Param). p.ty) (marked objects 0 ps)) i ≡ Some p.ty = ap (λ (ts : List Ty). slice_get ts i) (marked_types objects 0 ps) ∙ there in
+    let m = get_mapped (λ (p : Param). p.ty) (marked objects 0 ps) i p.ty also in
+    subst (HasNumber program) m.made (h i m.item m.names)
