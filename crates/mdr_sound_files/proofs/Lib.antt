@@ -9,6 +9,7 @@ pub mod Entities
 pub mod Along
 pub mod Outlines
 pub mod Scopes
+pub mod Viewed
 pub mod Sounding
 pub mod Sorts
 pub mod NamedTypes

@@ -14,8 +14,10 @@ use Rattle.mdr_core.specs.declared.types.Ty.{Ty}
 use Rattle.mdr_core.specs.Code.{Codes}
 use Rattle.mdr_core.specs.Folds.{codes_of}
 use Rattle.mdr_core.specs.Sound.{IsCount, IsSoundStruct, IsSoundGlobal, IsSoundFunc}
+use Rattle.mdr_core.specs.Typing.{Slot}
 use Rattle.mdr_core.specs.Types.{HasNumber}
-use Rattle.mdr_core.specs.TypeText.{Occurs, OfGlobal}
+use Rattle.mdr_core.specs.TypeText.{Occurs}
+use Rattle.mdr_core.specs.TypeText as occurs
 use Rattle.mdr_syntax.specs.declared.tree.Decl.{Decl, out-Decl}
 use Rattle.mdr_syntax.specs.declared.tree.Head.{Head}
 use Rattle.mdr_syntax.specs.declared.tree.Init.{Init}
@@ -67,6 +69,7 @@ use Rattle.mdr_sound_files.proofs.Outlines.{names_structs}
 use Rattle.mdr_sound_files.proofs.Passing.{IsAt}
 use Rattle.mdr_sound_files.proofs.Reading.{get_map, Mapped, get_mapped}
 use Rattle.mdr_sound_files.proofs.Scopes.{AreDefinesInRange, IsStanding, standing_goes_on, first_standing, standing_all, function_stands, IsHeaded, prototype_headed, body_headed, global_there}
+use Rattle.mdr_sound_files.proofs.Viewed.{Comes, OfDefine, OfStruct, OfEnum, OfGlobal, OfPrototype, OfFunction, comes_to}
 use Rattle.mdr_sound_files.proofs.SoundGlobals.{global_count, sound_globals}
 
 -- ---- functions among those before them
@@ -132,3 +135,62 @@ head_params program objects ps h i p e =
     let also : slice_get (map (λ (p : Param). p.ty) (marked objects 0 ps)) i ≡ Some p.ty = ap (λ (ts : List Ty). slice_get ts i) (marked_types objects 0 ps) ∙ there in
     let m = get_mapped (λ (p : Param). p.ty) (marked objects 0 ps) i p.ty also in
     subst (HasNumber program) m.made (h i m.item m.names)
+
+-- ---- a whole file
+
+module _ (program : Program) (rules : Rules) (items : List Item) (xs : List Piece) (right : pieces_behind (body_rule rules) items (first_known items) [] items ≡ Right xs) (made : IsMadeOf program (parts_behind no_parts xs)) (ranges : AreDefinesInRange items) (proper : AreBodiesProper items) (all : HasAll program) (sound_rules : (scope : Scope) → Knows program scope → (slots : List Slot) → AreSoundRules program slots scope rules) where
+  abbrev Whole : Parts
+  Whole = parts_behind no_parts xs
+
+  abbrev Last : Known
+  Last = known_behind items (first_known items) items
+
+  abbrev Turn : List Item → Known → Item → Piece → Parts → Type 0
+  Turn = IsPlace (body_rule rules) items Whole Last.functions
+
+  abbrev AtRest : Known → Parts → Type 0
+  AtRest = IsStanding program (body_rule rules) items xs right made ranges
+
+  -- ---- how many elements globals have
+
+  record AreCounted (known : Known) (ps : Parts) : Type 0 where
+    each : (g : ℕ) (v : Variable) → slice_get ps.variables g ≡ Some v → IsCount v.object.array v.object.count
+
+  counted_one : (known : Known) (ps : Parts) (v : Variable) → AreCounted known ps → IsCount v.object.array v.object.count → (g : ℕ) (w : Variable) → (slice_get ps.variables g ≡ Some w) ⊎ (v ≡ w) → IsCount w.object.array w.object.count
+  counted_one known ps v c own g w (inl old) = c.each g w old
+  counted_one known ps v c own g w (inr new) = subst (λ (u : Variable). IsCount u.object.array u.object.count) new own
+
+  counted_behind : (before : List Item) (known : Known) (ps : Parts) (what : ItemWhat) (x : Piece) → Comes (body_rule rules) items before known what x → AreCounted known ps → AreCounted (behind_item items known what) (behind_piece ps x)
+  counted_behind before known ps _ _ (OfDefine name is_negative n k) c = record { each = c.each }
+  counted_behind before known ps _ _ (OfStruct at name ds fields) c = record { each = c.each }
+  counted_behind before known ps _ _ (OfEnum es) c = record { each = c.each }
+  counted_behind before known ps _ _ (OfGlobal d init v e) c = record { each = λ g w n. counted_one known ps v c (global_count known.scope known.globals d init v e) g w (last_or_before ps.variables v g w n) }
+  counted_behind before known ps _ _ (OfPrototype h is_remote g e) c = record { each = c.each }
+  counted_behind before known ps _ _ (OfFunction h is_critical nodes g b e f) c = record { each = c.each }
+
+  all_counted : AreCounted Last Whole
+  all_counted = along (body_rule rules) items xs AreCounted right (record { behind = λ before known i x ps place c. counted_behind before known ps i.what x (comes_to (body_rule rules) items before known i.place i.what x place.one) c }) (record { each = λ g v e. absurd cc })
+
+  -- ---- the program's globals
+
+  globals_are : program.globals ≡ global_defs program.types program.structs Whole.variables Whole.variables
+  globals_are = made.globals ∙ ap (λ ds. global_defs program.types ds Whole.variables Whole.variables) (sym made.structs)
+
+  variables : HasVariables program Whole.variables
+  variables = record {
+    globals = globals_are;
+    counts = all_counted.each;
+    in_table = λ g v e. all v.object.ty (occurs.OfGlobal g (global_def program.types program.structs Whole.variables v) (ap (λ gs. slice_get gs g) globals_are ∙ global_there program.types program.structs Whole.variables Whole.variables g v e) refl);
+  }
+
+  all_standing : AtRest Last Whole
+  all_standing = standing_all program (body_rule rules) items xs right made ranges
+
+  structs_many : length Last.scope.structs ≡ length program.structs
+  structs_many = (counted_all (body_rule rules) items xs right).structs ∙ ap length (sym made.structs)
+
+  structs_sound : (s : ℕ) (def : StructDef) → slice_get program.structs s ≡ Some def → IsSoundStruct program s def
+  structs_sound s def e = all_standing.sound all s def (subst (λ n. s < n) (sym structs_many) (slice_get_within program.structs s def e)) e
+
+  among : (known : Known) (ps : Parts) → AtRest known ps → StandsAmong program known.scope Whole.variables
+  among known ps q = record { stands = q.stands; variables = variables; structs = structs_sound; members = q.members }
