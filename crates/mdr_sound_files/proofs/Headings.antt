@@ -108,7 +108,7 @@ heading_as scope h x e =
       params = params_are scope candidates h.params b.right b.second;
     })
 
-head_result_is : (scope : Scope) (n : ℕ) (h : Head) (t : Ty) → AreNumbered scope n → head_result scope h ≡ Right t → (sort_of n t ≡ Scalar) ⊎ (t ≡ type.Void)
+pub head_result_is : (scope : Scope) (n : ℕ) (h : Head) (t : Ty) → AreNumbered scope n → head_result scope h ≡ Right t → (sort_of n t ≡ Scalar) ⊎ (t ≡ type.Void)
 unfolding head_result
 head_result_is scope n h t low e =
     let a = after_right (type_named scope h.base h.stars) (result_type h.place) t e in
