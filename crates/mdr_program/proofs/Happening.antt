@@ -81,7 +81,7 @@ mutual
   allocates t (Code.Return n e) h = h
   allocates t (Code.Jump n way) h = h
 
-  allocates_in : (t : Ty) (cs : Codes) → IsAmong t (allocated_in cs) → AllocatesIn t cs
+  pub allocates_in : (t : Ty) (cs : Codes) → IsAmong t (allocated_in cs) → AllocatesIn t cs
   allocates_in t Codes.End h = h
   allocates_in t (Codes.Then c cs) h = either (allocates t c) (allocates_in t cs) (among_parts t (allocated c) (allocated_in cs) h)
 

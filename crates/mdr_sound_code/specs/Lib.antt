@@ -1,0 +1,4 @@
+pub mod Knowing
+pub mod Operands
+pub mod Laws
+pub mod Steps

@@ -1,0 +1,11 @@
+//! What the rules of declarations make keeps to the rules of sound programs.
+#![tactic(auto)]
+
+mod declaration_laws;
+mod global_laws;
+
+pub use declaration_laws::{
+    annotations_are_sound, declarators_have_types, headings_are_sound, headings_have_signatures,
+    objects_are_sound, structs_are_known, structs_are_sound, tables_are_sound,
+};
+pub use global_laws::globals_are_sound;
