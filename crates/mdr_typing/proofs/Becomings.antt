@@ -3,7 +3,7 @@ use Rattle.std.proofs.Common.{◌≡◌, Bool, true, false, ◌&&◌, refl, sym,
 use Rattle.std.specs.Prelude.{◌||◌}
 use Rattle.mdr_core.specs.declared.types.Ty.{Ty, out-Ty, roll-Ty, roll-out-Ty}
 use Rattle.mdr_core.specs.declared.types.Ty.TheOpen.{Ty-F}
-use Rattle.mdr_core.specs.Types.{Becomes, becomes_by, is_object_pointer_by}
+use Rattle.mdr_core.specs.Types.{becomes_by, is_object_pointer_by}
 use Rattle.mdr_faults.specs.Alike.{is_alike}
 use Rattle.mdr_typing.specs.Becoming.{is_integer_by, is_opaque_by, becomes, BecomesExactly}
 use Rattle.mdr_typing.proofs.Exact.{alike_are_one, alike_itself}

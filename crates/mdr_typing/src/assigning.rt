@@ -14,7 +14,7 @@ ghost use Rattle.mdr_typing.specs.Sources.{assigning, source_stored, call_assign
 ghost use Rattle.mdr_typing.specs.Profile.{assigned, calling, stepped, called};
 
 use crate::calls::call_at;
-use crate::source::{Source, source, source_stored};
+use crate::source::{Source, right_side, source_stored};
 use mdr_assign::{
     Assignment, Destination, assignment_rule, destination_at, step_operator, step_rule,
     told_instead,
@@ -173,7 +173,7 @@ pub fn assigned(
     ensures { IfOk result (λ r. r ≡ told (assigned scope.now locals.now at operator.now (written_of left.now) (written_of right.now))) }
 {
     let x = expression(alloc, scope, locals, left);
-    let y = source(alloc, scope, locals, right);
+    let y = right_side(alloc, scope, locals, right);
     sides_assigned(alloc, scope, at, assignment_operator(operator), x, y)
 }
 

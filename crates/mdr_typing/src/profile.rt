@@ -8,7 +8,7 @@ ghost use Rattle.mdr_typing.specs.Sources.{source_stored, source_returned};
 ghost use Rattle.mdr_typing.specs.Profile.{stored, returned};
 
 use crate::assigning::{assigned, called};
-use crate::source::{Source, source, source_returned, source_stored};
+use crate::source::{Source, right_side, source_returned, source_stored};
 use mdr_assign::told_instead;
 use mdr_body::Typing;
 use mdr_core::{Lval, OutOfMemory, Place, Step, Ty};
@@ -62,7 +62,7 @@ fn stored(
 ) -> Result<Result<Step, Fault>, OutOfMemory>
     ensures { IfOk result (λ r. r ≡ told (stored scope.now locals.now place object ty.now (written_of form.now))) }
 {
-    let found = source(alloc, scope, locals, form);
+    let found = right_side(alloc, scope, locals, form);
     stored_where(alloc, place, object, ty, found)
 }
 
@@ -93,7 +93,7 @@ fn returned(
 ) -> Result<Result<Step, Fault>, OutOfMemory>
     ensures { IfOk result (λ r. r ≡ told (returned scope.now locals.now place ty.now (written_of form.now))) }
 {
-    let found = source(alloc, scope, locals, form)?;
+    let found = right_side(alloc, scope, locals, form)?;
     Ok(returned_after(alloc, place, ty, found)?)
 }
 

@@ -108,7 +108,7 @@ fn source_at(
 }
 
 /// What a right side comes to, in a scope and among the locals so far.
-pub fn source(
+pub fn right_side(
     alloc: Global,
     scope: &Scope,
     locals: &[LocalName],
