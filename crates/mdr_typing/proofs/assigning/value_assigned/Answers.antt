@@ -1,0 +1,6 @@
+use Rattle.std.proofs.Common.{refl}
+use Rattle.mdr_faults.specs.Faults.{Right}
+use Rattle.mdr_typing.proofs.assigning.value_assigned.Goals as goal
+
+pub returns : goal.returns
+returns c = c.assigning.ensures _ (c.assignment_rule.ensures (Right c.args.x) (Right c.args.y) refl refl)
