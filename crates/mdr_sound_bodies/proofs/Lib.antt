@@ -1,0 +1,15 @@
+pub mod Joined
+pub mod Growing
+pub mod Naming
+pub mod Scalars
+pub mod Declaring
+pub mod Going
+pub mod Coding
+pub mod Conditions
+pub mod Stating
+pub mod Heading
+pub mod Lining
+pub mod Coming
+pub mod Collecting
+pub mod Entering
+pub mod Making

@@ -1,0 +1,125 @@
+-- A function that is made of a head and a body keeps to the rules of sound programs.
+use Rattle.std.proofs.Common.{◌≡◌, ◌⊎◌, ℕ, suc, Bool, true, false, List, [], ◌∷◌, ◌++◌, length, map, Option, Some, None, Ok, refl, sym, ap, ◌∙◌, subst, slice_get}
+use Rattle.mdr_core.specs.declared.code.Stmt.{Stmt}
+use Rattle.mdr_core.specs.declared.program.Func.{Func}
+use Rattle.mdr_core.specs.declared.program.Local.{Local}
+use Rattle.mdr_core.specs.declared.program.Param.{Param}
+use Rattle.mdr_core.specs.declared.program.Program.{Program}
+use Rattle.mdr_core.specs.declared.types.Ty.{Ty}
+use Rattle.mdr_core.specs.Folds.{codes_of}
+use Rattle.mdr_core.specs.Sound.{IsSoundLocal}
+use Rattle.mdr_core.specs.Types.{HasNumber}
+use Rattle.mdr_core.specs.Typing.{Slot, AreTyped, slot_of_param, slot_of_local}
+use Rattle.mdr_syntax.specs.declared.tree.Decl.{Decl}
+use Rattle.mdr_syntax.specs.declared.tree.Head.{Head}
+use Rattle.mdr_syntax.specs.declared.tree.Node.{Node}
+use Rattle.mdr_faults.specs.declared.scope.Candidate.{Candidate}
+use Rattle.mdr_faults.specs.declared.scope.Scope.{Scope}
+use Rattle.mdr_faults.specs.Faults.{Checked, Right, both, told}
+use Rattle.mdr_headings.specs.declared.body.Body.{Body}
+use Rattle.mdr_headings.specs.declared.head.Given.{Given}
+use Rattle.mdr_headings.specs.declared.head.Heading.{Heading}
+use Rattle.mdr_headings.specs.Annotations.{annotated, candidate}
+use Rattle.mdr_headings.specs.Heads.{params_behind, given_by, annotated_result, head_result, given, heading_of, heading}
+use Rattle.mdr_operand.specs.Written.{Line, Lines, lines_of}
+use Rattle.mdr_body.specs.declared.here.DeclaredLocal.{DeclaredLocal}
+use Rattle.mdr_body.specs.declared.here.Frame.{Frame}
+use Rattle.mdr_body.specs.declared.here.Here.{Here}
+use Rattle.mdr_body.specs.Bodies.{declared_locals, frame_of, body_of, body_by, body_rule}
+use Rattle.mdr_body.specs.Locals.{struct_locks, parameter_taken, first_here}
+use Rattle.mdr_body.specs.Statements.{Rules, lines_behind, lines_made}
+use Rattle.mdr_program.specs.Parts.{marked, whole}
+use Rattle.mdr_sound_code.proofs.Rights.{same_right, after_right, both_right}
+use Rattle.mdr_sound_bodies.specs.Bodies.{IsMade, HasSoundBody, BodiesAreSound}
+use Rattle.mdr_sound_bodies.specs.Grounded.{AreGrounded}
+use Rattle.mdr_sound_bodies.specs.Rules.{AreSoundRules}
+use Rattle.mdr_sound_bodies.specs.Within.{KnowsDeclarations, AreDeclared}
+use Rattle.mdr_sound_bodies.specs.Written.{AreNamed, AreProper}
+use Rattle.mdr_sound_bodies.proofs.Collecting.{meant, all_declared, declared_sound}
+use Rattle.mdr_sound_bodies.proofs.Coming.{AreFrom, from_none, from_lines}
+use Rattle.mdr_sound_bodies.proofs.Entering.{slots, parameters_here, params_many, marked_many}
+use Rattle.mdr_sound_bodies.proofs.Lining.{lines_typed}
+
+-- ---- a head
+
+pub record IsHeaded (scope : Scope) (siblings : List Candidate) (h : Head) (g : Heading) : Type 0 where
+  pub result : head_result scope h ≡ Right g.result
+  pub params : params_behind scope siblings [] h.params ≡ Right g.params
+
+given_right : (scope : Scope) (siblings : List Candidate) (h : Head) (v : Given) → given scope siblings h ≡ Right v → head_result scope h ≡ Right v.ty
+unfolding given
+given_right scope siblings h v e =
+    let a = after_right (head_result scope h) (annotated_result scope siblings h.place h.ann) v e in
+    let b = after_right (annotated scope siblings h.place a.value h.ann) (given_by a.value) v a.made in
+    a.right ∙ ap (λ (x : Given). Right x.ty) (same_right (record { ty = a.value; ann = b.value }) v b.made)
+
+heading_right : (scope : Scope) (h : Head) (g : Heading) → heading scope h ≡ Right g → IsHeaded scope (map (candidate scope) h.params) h g
+unfolding heading
+heading_right scope h g e =
+    let siblings = map (candidate scope) h.params in
+    let b = both_right (given scope siblings h) (params_behind scope siblings [] h.params) heading_of g e in
+    subst (λ x. IsHeaded scope siblings h x) (same_right (record { result = b.left.ty; ann = b.left.ann; params = b.right }) g b.made)
+        (record { result = given_right scope siblings h b.left b.first; params = b.second })
+
+-- ---- a body
+
+pub record IsBodied (rules : Rules) (scope : Scope) (frame : Frame) (here : Here) (objects : List Bool) (ls : Lines) (body : Body) : Type 0 where
+  pub locals : declared_locals (lines_behind scope frame here ls).locals ≡ Right body.locals
+  pub statements : lines_made rules scope frame false here ls ≡ Right body.statements
+  pub marks : objects ≡ body.objects
+
+body_right : (rules : Rules) (scope : Scope) (frame : Frame) (here : Here) (objects : List Bool) (ls : Lines) (body : Body) → body_by rules scope frame here objects ls ≡ Right body → IsBodied rules scope frame here objects ls body
+body_right rules scope frame here objects ls body e =
+    let b = both_right (declared_locals (lines_behind scope frame here ls).locals) (lines_made rules scope frame false here ls) (body_of objects) body e in
+    subst (λ x. IsBodied rules scope frame here objects ls x) (same_right (record { objects = objects; locals = b.left; statements = b.right }) body b.made)
+        (record { locals = b.first; statements = b.second; marks = refl })
+
+mapped_many : {A B : Type 0} (f : A → B) (xs : List A) → length (map f xs) ≡ length xs
+mapped_many f [] = refl
+mapped_many f (x ∷ xs) = ap suc (mapped_many f xs)
+
+module _ (program : Program) (rules : Rules) (scope : Scope) (h : Head) (nodes : List Node) (known : KnowsDeclarations program scope) where
+
+  made_locals : (body : Body) (here : Here) → IsBodied rules scope (frame_of scope h) here body.objects (lines_of nodes) body → AreFrom scope (struct_locks scope) here.locals → ((i : ℕ) (l : Local) → slice_get body.locals i ≡ Some l → l.object ≡ true → HasNumber program l.ty) → (i : ℕ) (l : Local) → slice_get body.locals i ≡ Some l → IsSoundLocal program l
+  unfolding frame_of
+  made_locals body here b from numbered i l at =
+      let all : List DeclaredLocal = (lines_behind scope (frame_of scope h) here (lines_of nodes)).locals in
+      let m = meant all body.locals i l b.locals at in
+      declared_sound program scope known m.declared l ((from_lines scope (frame_of scope h) here (lines_of nodes) from).each i m.declared m.at) m.means (numbered i l at)
+
+  first_from : AreFrom scope (struct_locks scope) (first_here scope (lines_of nodes) h.params).locals
+  unfolding first_here
+  first_from = from_none scope (struct_locks scope)
+
+  result_told : (t : Ty) → head_result scope h ≡ Right t → (frame_of scope h).result ≡ Ok t
+  unfolding frame_of
+  result_told t e = ap told e
+
+  made_typed : (g : Heading) (siblings : List Candidate) (locals : List Local) (ss : List Stmt) → IsHeaded scope siblings h g → ((slots : List Slot) → AreSoundRules program slots scope rules) → AreNamed h.params → AreProper (lines_of nodes) → AreGrounded program (codes_of ss) → declared_locals (lines_behind scope (frame_of scope h) (first_here scope (lines_of nodes) h.params) (lines_of nodes)).locals ≡ Right locals → lines_made rules scope (frame_of scope h) false (first_here scope (lines_of nodes) h.params) (lines_of nodes) ≡ Right ss → AreTyped program (map slot_of_param (marked (map (parameter_taken (lines_of nodes)) h.params) 0 g.params) ++ map slot_of_local locals) g.result false (codes_of ss)
+  made_typed g siblings locals ss headed sound named proper grounded declared made =
+      let ls : Lines = lines_of nodes in
+      let here : Here = first_here scope ls h.params in
+      let front : List Slot = map slot_of_param (marked (map (parameter_taken ls) h.params) 0 g.params) in
+      let all : List Slot = front ++ map slot_of_local locals in
+      let base : length front ≡ length h.params = mapped_many slot_of_param (marked (map (parameter_taken ls) h.params) 0 g.params) ∙ marked_many (map (parameter_taken ls) h.params) 0 g.params ∙ params_many scope siblings [] h.params g.params headed.params in
+      let are = subst (λ k. AreDeclared all k (lines_behind scope (frame_of scope h) here ls).locals) base (all_declared front (lines_behind scope (frame_of scope h) here ls).locals locals declared) in
+      lines_typed program all (length h.params) scope (frame_of scope h) known rules (sound all) g.result (result_told g.result headed.result) (known.results h g.result headed.result) here false ls ss
+          (parameters_here program scope known siblings ls h.params g.params headed.params locals named) proper are grounded made
+
+-- ---- the function
+
+rule_right : (rules : Rules) (scope : Scope) (h : Head) (nodes : List Node) (body : Body) → body_rule rules scope h nodes ≡ Right body → IsBodied rules scope (frame_of scope h) (first_here scope (lines_of nodes) h.params) (map (parameter_taken (lines_of nodes)) h.params) (lines_of nodes) body
+unfolding body_rule
+rule_right rules scope h nodes body e = body_right rules scope (frame_of scope h) (first_here scope (lines_of nodes) h.params) (map (parameter_taken (lines_of nodes)) h.params) (lines_of nodes) body e
+
+pub bodies_are_sound : BodiesAreSound
+bodies_are_sound program rules scope h nodes g body name is_critical known sound made =
+    let here : Here = first_here scope (lines_of nodes) h.params in
+    let b = rule_right rules scope h nodes body made.body_is in
+    let headed = heading_right scope h g made.heading_is in
+    let marks = subst (λ os. IsBodied rules scope (frame_of scope h) here os (lines_of nodes) body) b.marks b in
+    record {
+      locals = made_locals program rules scope h nodes known body here marks (first_from program rules scope h nodes known) made.in_table;
+      body = subst (λ os. AreTyped program (map slot_of_param (marked os 0 g.params) ++ map slot_of_local body.locals) g.result false (codes_of body.statements)) b.marks
+          (made_typed program rules scope h nodes known g (map (candidate scope) h.params) body.locals body.statements headed sound made.named made.proper made.grounded b.locals b.statements);
+    }

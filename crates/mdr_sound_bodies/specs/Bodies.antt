@@ -1,0 +1,42 @@
+-- Bodies that keep to the rules of sound programs (C99 6.9.1).
+use Rattle.std.specs.Prelude.{◌≡◌, ℕ, Bool, true, List, Some, slice_get}
+use Rattle.mdr_core.specs.declared.program.Func.{Func}
+use Rattle.mdr_core.specs.declared.program.Local.{Local}
+use Rattle.mdr_core.specs.declared.program.Program.{Program}
+use Rattle.mdr_core.specs.Folds.{codes_of}
+use Rattle.mdr_core.specs.Sound.{IsSoundLocal, HasTypedBody}
+use Rattle.mdr_core.specs.Types.{HasNumber}
+use Rattle.mdr_core.specs.Typing.{Slot}
+use Rattle.mdr_syntax.specs.declared.tree.Head.{Head}
+use Rattle.mdr_syntax.specs.declared.tree.Node.{Node}
+use Rattle.mdr_faults.specs.declared.scope.Scope.{Scope}
+use Rattle.mdr_faults.specs.Faults.{Right}
+use Rattle.mdr_headings.specs.declared.body.Body.{Body}
+use Rattle.mdr_headings.specs.declared.head.Heading.{Heading}
+use Rattle.mdr_headings.specs.Heads.{heading}
+use Rattle.mdr_operand.specs.Written.{lines_of}
+use Rattle.mdr_body.specs.Bodies.{body_rule}
+use Rattle.mdr_body.specs.Statements.{Rules}
+use Rattle.mdr_program.specs.Parts.{whole}
+use Rattle.mdr_sound_bodies.specs.Grounded.{AreGrounded}
+use Rattle.mdr_sound_bodies.specs.Rules.{AreSoundRules}
+use Rattle.mdr_sound_bodies.specs.Within.{KnowsDeclarations}
+use Rattle.mdr_sound_bodies.specs.Written.{AreNamed, AreProper}
+
+-- a body with its head: both are right in the scope behind the function's name, and their types stand in the table of the program
+pub record IsMade (program : Program) (rules : Rules) (scope : Scope) (h : Head) (nodes : List Node) (g : Heading) (body : Body) : Type 0 where
+  pub heading_is : heading scope h ≡ Right g
+  pub body_is : body_rule rules scope h nodes ≡ Right body
+  pub named : AreNamed h.params
+  pub proper : AreProper (lines_of nodes)
+  pub in_table : (i : ℕ) (l : Local) → slice_get body.locals i ≡ Some l → l.object ≡ true → HasNumber program l.ty
+  pub grounded : AreGrounded program (codes_of body.statements)
+
+-- what a sound function is, its parameters and its result aside
+pub record HasSoundBody (program : Program) (func : Func) : Type 0 where
+  pub locals : (i : ℕ) (l : Local) → slice_get func.locals i ≡ Some l → IsSoundLocal program l
+  pub body : HasTypedBody program func func.body
+
+-- a function that is made of a head and a body has locals and statements as a sound program has, if the rules of what stands in statements are sound
+abbrev pub BodiesAreSound : Type 0
+BodiesAreSound = (program : Program) (rules : Rules) (scope : Scope) (h : Head) (nodes : List Node) (g : Heading) (body : Body) (name : List ℕ) (is_critical : Bool) → KnowsDeclarations program scope → ((slots : List Slot) → AreSoundRules program slots scope rules) → IsMade program rules scope h nodes g body → HasSoundBody program (whole name is_critical g body)

@@ -1,0 +1,5 @@
+pub mod Grounded
+pub mod Rules
+pub mod Written
+pub mod Within
+pub mod Bodies

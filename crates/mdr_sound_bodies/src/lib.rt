@@ -1,0 +1,2 @@
+//! What the rule of bodies makes keeps to the rules of sound programs, where the rules of what stands in statements do.
+#![tactic(auto)]
