@@ -112,8 +112,8 @@ rule_right : (rules : Rules) (scope : Scope) (h : Head) (nodes : List Node) (bod
 unfolding body_rule
 rule_right rules scope h nodes body e = body_right rules scope (frame_of scope h) (first_here scope (lines_of nodes) h.params) (map (parameter_taken (lines_of nodes)) h.params) (lines_of nodes) body e
 
-pub bodies_are_sound : BodiesAreSound
-bodies_are_sound program rules scope h nodes g body name is_critical known sound made =
+pub made_sound : BodiesAreSound
+made_sound program rules scope h nodes g body name is_critical known sound made =
     let here : Here = first_here scope (lines_of nodes) h.params in
     let b = rule_right rules scope h nodes body made.body_is in
     let headed = heading_right scope h g made.heading_is in
