@@ -58,5 +58,5 @@ returned scope locals p t w = after (source_of scope locals w) (source_returned 
 
 -- ---- all of them
 
-pub profile_rules : Rules
+abbrev pub profile_rules : Rules
 profile_rules = record { typed = typed; assigned = assigned; called = called; stored = stored; returned = returned }
