@@ -1,7 +1,6 @@
 -- Code that is joined: its types, and what it asks of the type table.
-use Rattle.std.proofs.Common.{◌≡◌, ◌⊎◌, inl, inr, ⊎_elim, ℕ, ◌≤◌, ◌||◌, Bool, true, false, List, [], ◌∷◌, ◌++◌, map, Option, Some, None, refl, sym, ap, ◌∙◌, subst}
+use Rattle.std.proofs.Common.{◌⊎◌, inl, inr, ⊎_elim, ℕ, ◌≤◌, Bool, true, false, List, [], ◌∷◌, ◌++◌, map, Option, refl, sym, ◌∙◌, subst}
 use Rattle.mdr_core.specs.declared.code.Expr.{Expr}
-use Rattle.mdr_core.specs.declared.code.Step.{Step}
 use Rattle.mdr_core.specs.declared.code.Step.TheVariants as step
 use Rattle.mdr_core.specs.declared.code.Stmt.{Stmt}
 use Rattle.mdr_core.specs.declared.program.Program.{Program}
@@ -33,7 +32,6 @@ among_one t (x ∷ xs) ys (inl e) = inl (inl e)
 among_one t (x ∷ xs) ys (inr h) = ⊎_elim (λ l. inl (inr l)) (λ r. inr r) (among_one t xs ys h)
 
 module _ (program : Program) where
-
   -- ---- what code asks of the table, by its parts
 
   pub grounded_head : (c : Code) (cs : Codes) → AreGrounded program (Codes.Then c cs) → IsGrounded program c
@@ -111,7 +109,6 @@ module _ (program : Program) where
   -- ---- types of code
 
   module _ (slots : List Slot) (result : Ty) where
-
     pub typed_both : (b : Bool) (xs ys : List Stmt) → AreTyped program slots result b (codes_of xs) → AreTyped program slots result b (codes_of ys) → AreTyped program slots result b (codes_of (xs ++ ys))
     typed_both b [] ys h k = k
     typed_both b (x ∷ xs) ys h k = (h.0, typed_both b xs ys h.1 k)

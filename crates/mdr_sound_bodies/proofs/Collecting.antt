@@ -1,6 +1,6 @@
 -- The locals of a body: all are right, and each is sound.
-use Rattle.std.proofs.Common.{◌≡◌, ◌⊎◌, inl, inr, ℕ, zero, suc, ◌+◌, ◌||◌, Bool, true, false, List, [], ◌∷◌, ◌++◌, length, map, Option, Some, None, Ok, refl, sym, ap, ◌∙◌, subst, slice_get}
-use Rattle.std.proofs.lemmas.Option.{none-some, same_Some, slice_get-map}
+use Rattle.std.proofs.Common.{◌≡◌, ℕ, zero, suc, ◌||◌, Bool, true, List, [], ◌∷◌, ◌++◌, length, map, Some, None, Ok, refl, sym, ap, ◌∙◌, subst, slice_get}
+use Rattle.std.proofs.lemmas.Option.{none-some, same_Some}
 use Rattle.mdr_core.specs.declared.program.Local.{Local}
 use Rattle.mdr_core.specs.declared.program.Program.{Program}
 use Rattle.mdr_core.specs.Sound.{IsSoundLocal}
@@ -10,16 +10,17 @@ use Rattle.mdr_core.proofs.Lying.{get-append_right}
 use Rattle.mdr_syntax.specs.declared.tree.Decl.{Decl, out-Decl}
 use Rattle.mdr_faults.specs.declared.scope.Object.{Object}
 use Rattle.mdr_faults.specs.declared.scope.Scope.{Scope}
-use Rattle.mdr_faults.specs.Faults.{Checked, Right, again, each, both}
+use Rattle.mdr_faults.specs.Faults.{Right, each}
 use Rattle.mdr_body.specs.declared.here.DeclaredLocal.{DeclaredLocal}
 use Rattle.mdr_body.specs.Bodies.{local_again, declared_locals}
 use Rattle.mdr_body.specs.Locals.{struct_locks, local_of, is_own_object, is_struct}
 use Rattle.mdr_sound_code.proofs.Rights.{same_right, both_right, again_right, told_right}
-use Rattle.mdr_sound_bodies.specs.Within.{KnowsDeclarations, IsDeclared, AreDeclared}
-use Rattle.mdr_sound_bodies.proofs.Joined.{or_left, or_right}
+use Rattle.mdr_sound_bodies.specs.Within.{KnowsDeclarations, AreDeclared}
+use Rattle.mdr_sound_bodies.proofs.Joined.{or_left}
 use Rattle.mdr_sound_bodies.proofs.Scalars.{formed_scalar}
-use Rattle.mdr_sound_bodies.proofs.Declaring.{IsLocalObject, IsLocalOf, local_object_right, local_right, object_count, in_slot}
-use Rattle.mdr_sound_bodies.proofs.Coming.{AreFrom, IsFrom}
+use Rattle.mdr_sound_bodies.proofs.Declaring.{IsLocalObject, local_object_right, local_right, object_count, in_slot}
+use Rattle.mdr_sound_bodies.proofs.Locking.{object_no_lock}
+use Rattle.mdr_sound_bodies.proofs.Coming.{IsFrom}
 
 pub record IsMeant (ds : List DeclaredLocal) (i : ℕ) (l : Local) : Type 0 where
   pub declared : DeclaredLocal
@@ -76,12 +77,11 @@ all_declared front ds ls e = record {
     mapped (y ∷ ys) (suc i) x h = mapped ys i x h
 
 module _ (program : Program) (scope : Scope) (known : KnowsDeclarations program scope) where
-
   -- a local as its declaration says
   pub local_sound : (t : Bool) (d : Decl) (o : Object) → IsLocalObject scope (struct_locks scope) d o → (is_own_object t o ≡ true → HasNumber program o.ty) → IsSoundLocal program (local_of t d o)
   local_sound t d o h numbered = record {
     sort = known.formed (out-Decl d).place d o h.object;
-    no_lock = known.no_lock o.ty h.no_lock;
+    no_lock = object_no_lock program scope known (out-Decl d).place d o h.object h.no_lock;
     count = object_count scope (out-Decl d).place d o h.object;
     small = known.small (out-Decl d).place d o h.object;
     slot = λ e. (or_left o.array (is_struct o.ty || t) e, formed_scalar program o.ty (known.formed (out-Decl d).place d o h.object) (in_slot program [] scope known (struct_locks scope) t d o h e));

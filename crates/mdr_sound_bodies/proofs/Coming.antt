@@ -1,7 +1,6 @@
 -- Where the locals of a body come from: each is what a declaration came to.
-use Rattle.std.proofs.Common.{◌≡◌, ◌⊎◌, inl, inr, ⊎_elim, ℕ, zero, suc, Bool, true, false, List, [], ◌∷◌, ◌++◌, length, Option, Some, None, Ok, refl, sym, ap, ◌∙◌, subst, slice_get}
+use Rattle.std.proofs.Common.{◌≡◌, ℕ, zero, suc, Bool, false, List, [], ◌∷◌, ◌++◌, Option, Some, refl, subst, slice_get}
 use Rattle.std.proofs.lemmas.Option.{none-some, same_Some}
-use Rattle.mdr_core.specs.declared.program.Local.{Local}
 use Rattle.mdr_syntax.specs.declared.tree.Decl.{Decl}
 use Rattle.mdr_faults.specs.declared.scope.Scope.{Scope}
 use Rattle.mdr_faults.specs.Faults.{told}
@@ -9,7 +8,7 @@ use Rattle.mdr_operand.specs.Written.{Written, Line, Lines}
 use Rattle.mdr_body.specs.declared.here.DeclaredLocal.{DeclaredLocal}
 use Rattle.mdr_body.specs.declared.here.Frame.{Frame}
 use Rattle.mdr_body.specs.declared.here.Here.{Here}
-use Rattle.mdr_body.specs.Locals.{local_declared, with_local, is_taken, entered, left, numbered}
+use Rattle.mdr_body.specs.Locals.{local_declared, with_local, is_taken, entered, numbered}
 use Rattle.mdr_body.specs.Statements.{simple_behind, head_taken, heads_behind, steps_behind, behind_head, line_behind, perhaps_behind, lines_behind}
 
 pub record IsFrom (scope : Scope) (locks : List Bool) (m : DeclaredLocal) : Type 0 where
@@ -32,7 +31,6 @@ front_or_last P (z ∷ xs) y h k zero x e = subst P (same_Some z x e) (h zero z 
 front_or_last P (z ∷ xs) y h k (suc i) x e = front_or_last P xs y (λ j v q. h (suc j) v q) k i x e
 
 module _ (scope : Scope) (frame : Frame) where
-
   from_local : (t : Bool) (d : Decl) (a : Here) → AreFrom scope frame.locks a.locals → AreFrom scope frame.locks (with_local scope frame.locks t d a).locals
   unfolding with_local
   from_local t d a h = record {

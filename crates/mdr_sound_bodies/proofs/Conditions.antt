@@ -1,5 +1,5 @@
 -- What a condition comes to is tested by the rules of sound programs.
-use Rattle.std.proofs.Common.{◌≡◌, ℕ, Bool, List, Option, Some, None, refl, sym, ap, ◌∙◌, subst}
+use Rattle.std.proofs.Common.{◌≡◌, List, Option, Some, None, refl, subst}
 use Rattle.mdr_core.specs.declared.code.Expr.{Expr}
 use Rattle.mdr_core.specs.declared.kind.Kind.TheVariants.{S32}
 use Rattle.mdr_core.specs.declared.place.Place.{Place}
@@ -21,7 +21,6 @@ use Rattle.mdr_sound_code.proofs.Values.{condition_known}
 use Rattle.mdr_sound_bodies.specs.Rules.{IsRight, AreSoundRules}
 
 module _ (program : Program) (slots : List Slot) (scope : Scope) (rules : Rules) (sound : AreSoundRules program slots scope rules) where
-
   pub condition_typed : (here : Here) (p : Place) (w : Written) (e : Expr) → KnowsLocals program slots here.names → IsRight here.names w → condition rules scope here p w ≡ Right e → IsCondition (Has program slots (term_of e))
   unfolding condition condition_at
   condition_typed here p w e known right is =

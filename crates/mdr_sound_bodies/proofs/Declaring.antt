@@ -1,27 +1,24 @@
 -- A local as it is declared, at its slot.
-use Rattle.std.proofs.Common.{◌≡◌, ◌⊎◌, inl, inr, ℕ, zero, suc, ◌+◌, ◌≤◌, ◌||◌, ◌==◌, not, Bool, true, false, List, [], ◌∷◌, ◌++◌, length, Option, Some, None, Ok, IsTrue, is_some, refl, sym, ap, ◌∙◌, subst, arith, slice_get, pos, negsuc}
+use Rattle.std.proofs.Common.{◌≡◌, ℕ, zero, suc, ◌+◌, ◌≤◌, not, Bool, false, List, [], ◌∷◌, ◌++◌, length, Option, Some, None, Ok, IsTrue, is_some, refl, sym, ap, ◌∙◌, subst, arith, slice_get, pos, negsuc}
 use Rattle.std.specs.Prelude.{ℤ}
 use Rattle.mdr_core.specs.declared.place.Place.{Place}
 use Rattle.mdr_core.specs.declared.program.Local.{Local}
 use Rattle.mdr_core.specs.declared.program.Program.{Program}
-use Rattle.mdr_core.specs.declared.types.Ty.{Ty}
 use Rattle.mdr_core.specs.Sound.{IsCount}
 use Rattle.mdr_core.specs.Types.{is_scalar}
 use Rattle.mdr_core.specs.Typing.{Slot, slot_of_local}
 use Rattle.mdr_syntax.specs.declared.tree.Const.{Const}
 use Rattle.mdr_syntax.specs.declared.tree.Decl.{Decl, out-Decl}
 use Rattle.mdr_faults.specs.declared.fault.FaultKind.TheVariants.{Redefined, Mismatch, Limit}
-use Rattle.mdr_faults.specs.declared.scope.Constant.{Constant}
 use Rattle.mdr_faults.specs.declared.scope.Object.{Object}
 use Rattle.mdr_faults.specs.declared.scope.Scope.{Scope}
-use Rattle.mdr_faults.specs.Declarations.{object_declared, object_of, sized, cells_of, count_of, constant, element_count, declarator}
+use Rattle.mdr_faults.specs.Declarations.{object_declared, sized, cells_of, count_of, constant, element_count, declarator}
 use Rattle.mdr_faults.specs.Faults.{Checked, Right, told, demand}
-use Rattle.mdr_operand.specs.declared.room.LocalName.{LocalName}
 use Rattle.mdr_body.specs.declared.here.DeclaredLocal.{DeclaredLocal}
 use Rattle.mdr_body.specs.declared.here.Here.{Here}
 use Rattle.mdr_body.specs.Locals.{holds_lock, without_lock, local_object, local_declared, local_whole, local_of, is_own_object, is_again, has_place, has_no_size, name_of, lies_apart, named_local, is_struct, with_local}
-use Rattle.mdr_sound_code.specs.Knowing.{IsKnownLocal, KnowsLocals}
-use Rattle.mdr_sound_code.proofs.Rights.{not_right, same_right, not_ok, same_ok, told_right, after_right, both_right, demand_right, refused_right}
+use Rattle.mdr_sound_code.specs.Knowing.{IsKnownLocal}
+use Rattle.mdr_sound_code.proofs.Rights.{not_right, same_right, same_ok, told_right, after_right, both_right, demand_right, refused_right}
 use Rattle.mdr_sound_bodies.specs.Within.{KnowsDeclarations, IsDeclared, AreDeclared}
 use Rattle.mdr_sound_bodies.proofs.Joined.{or_left, or_right, get_front, get_last}
 use Rattle.mdr_sound_bodies.proofs.Scalars.{scalar_in_slot}
@@ -103,7 +100,6 @@ local_at slots base scope locks here t d is h =
     record { object = l.object; right = l.right; names = ap (slice_get slots) is ∙ last.names ∙ ap (λ (x : Local). Some (slot_of_local x)) (sym l.is) }
 
 module _ (program : Program) (slots : List Slot) (scope : Scope) (known : KnowsDeclarations program scope) where
-
   pub in_slot : (locks : List Bool) (t : Bool) (d : Decl) (o : Object) → IsLocalObject scope locks d o → is_own_object t o ≡ false → IsTrue (is_scalar o.ty)
   in_slot locks t d o h e = scalar_in_slot program locks o.ty (known.formed (out-Decl d).place d o h.object) (or_left (is_struct o.ty) t (or_right o.array _ e)) h.no_lock
 

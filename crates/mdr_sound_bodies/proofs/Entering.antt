@@ -1,5 +1,5 @@
 -- What is known in front of a body: its parameters.
-use Rattle.std.proofs.Common.{◌≡◌, ◌⊎◌, inl, inr, ℕ, zero, suc, ◌+◌, ◌<◌, ◌||◌, Bool, true, false, List, [], ◌∷◌, ◌++◌, length, map, Option, Some, None, Ok, Result, IsTrue, refl, sym, ap, ◌∙◌, subst, slice_get, arith, bytes_eq, nat_lt, add-zero}
+use Rattle.std.proofs.Common.{◌≡◌, ◌⊎◌, inl, inr, ℕ, zero, suc, ◌+◌, ◌||◌, Bool, true, false, List, [], ◌∷◌, ◌++◌, length, map, Option, Some, None, Ok, Result, IsTrue, refl, sym, ap, ◌∙◌, subst, slice_get, arith, bytes_eq, nat_lt, add-zero}
 use Rattle.std.proofs.lemmas.Option.{none-some, same_Some}
 use Rattle.std.proofs.lemmas.Slice.Eq.{bytes_eq-Decides}
 use Rattle.mdr_core.specs.declared.program.Local.{Local}
@@ -18,15 +18,14 @@ use Rattle.mdr_faults.specs.declared.fault.FaultKind.TheVariants.{Redefined, Lim
 use Rattle.mdr_faults.specs.declared.scope.Candidate.{Candidate}
 use Rattle.mdr_faults.specs.declared.scope.Object.{Object}
 use Rattle.mdr_faults.specs.declared.scope.Scope.{Scope}
-use Rattle.mdr_faults.specs.Declarations.{Declarator, declarator, is_same_name, parameter_among}
-use Rattle.mdr_faults.specs.Faults.{Checked, Right, after, demand, told}
+use Rattle.mdr_faults.specs.Declarations.{Declarator, declarator, parameter_among}
+use Rattle.mdr_faults.specs.Faults.{Right, demand, told}
 use Rattle.mdr_headings.specs.Annotations.{annotated}
 use Rattle.mdr_headings.specs.Heads.{param_of, annotated_param, param_among, params_behind}
 use Rattle.mdr_headings.specs.Structs.{name_or_none}
 use Rattle.mdr_operand.specs.declared.room.LocalName.{LocalName}
 use Rattle.mdr_operand.specs.Rooms.{local_from, local_named}
 use Rattle.mdr_operand.specs.Written.{Lines}
-use Rattle.mdr_body.specs.declared.here.Here.{Here}
 use Rattle.mdr_body.specs.declared.mention.Mention.TheVariants.{Address}
 use Rattle.mdr_body.specs.Locals.{takes, lies_apart, is_own_object, is_struct, is_struct_by, named_local, name_of, parameter_object, parameter_means, parameter_taken, parameters_from, first_here}
 use Rattle.mdr_body.specs.Mentions.{have}
@@ -35,7 +34,7 @@ use Rattle.mdr_sound_code.specs.Knowing.{IsFormed, IsKnownLocal, KnowsLocals}
 use Rattle.mdr_sound_code.proofs.Rights.{same_right, after_right, both_right, demand_right, told_right}
 use Rattle.mdr_sound_bodies.specs.Written.{IsNamed, AreNamed}
 use Rattle.mdr_sound_bodies.specs.Within.{KnowsDeclarations, IsHere}
-use Rattle.mdr_sound_bodies.proofs.Joined.{or_right, get_front}
+use Rattle.mdr_sound_bodies.proofs.Joined.{get_front}
 use Rattle.mdr_sound_bodies.proofs.Going.{untaken_by}
 
 -- ---- the name that is meant is one of those that are there
@@ -52,6 +51,7 @@ found_from found (m ∷ ns) name n e = on (found_from (chosen (bytes_eq m.name n
   this : (b : Bool) → bytes_eq m.name name ≡ b → chosen b (Some m) found ≡ Some n → (found ≡ Some n) ⊎ Stands (m ∷ ns) name n
   this true is q = inr (record { index = 0; at = q; same = ap (λ (x : LocalName). bytes_eq x.name name) (sym (same_Some m n q)) ∙ is })
   this false is q = inl q
+
   on : (chosen (bytes_eq m.name name) (Some m) found ≡ Some n) ⊎ Stands ns name n → (found ≡ Some n) ⊎ Stands (m ∷ ns) name n
   on (inl q) = this (bytes_eq m.name name) refl q
   on (inr s) = inr (record { index = suc s.index; at = s.at; same = s.same })
@@ -177,7 +177,6 @@ means_of i t d m = refl
 -- ---- what is known in front of the body
 
 module _ (program : Program) (scope : Scope) (known : KnowsDeclarations program scope) (siblings : List Candidate) (body : Lines) (ds : List Decl) (ps : List Param) (right : params_behind scope siblings [] ds ≡ Right ps) (locals : List Local) where
-
   abbrev pub slots : List Slot
   slots = map slot_of_param (marked (map (parameter_taken body) ds) 0 ps) ++ map slot_of_local locals
 

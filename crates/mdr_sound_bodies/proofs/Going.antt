@@ -1,5 +1,5 @@
 -- What is known in front of a statement, and behind it.
-use Rattle.std.proofs.Common.{◌≡◌, ℕ, ◌+◌, ◌≤◌, ◌||◌, ◌&&◌, not, Bool, true, false, List, [], ◌∷◌, ◌++◌, length, Option, Some, None, Ok, Result, refl, sym, ap, ◌∙◌, subst, arith, bytes_eq, length-append, le_trans}
+use Rattle.std.proofs.Common.{◌≡◌, ℕ, ◌+◌, ◌||◌, ◌&&◌, not, Bool, true, false, List, length, Option, Some, Result, refl, sym, ap, ◌∙◌, subst, arith, bytes_eq, length-append, le_trans}
 use Rattle.std.proofs.lemmas.List.{length_push}
 use Rattle.std.proofs.lemmas.Slice.Eq.{bytes_eq-Decides}
 use Rattle.mdr_core.specs.declared.place.Place.{Place}
@@ -14,20 +14,19 @@ use Rattle.mdr_faults.specs.Faults.{told}
 use Rattle.mdr_headings.specs.Structs.{name_or_none}
 use Rattle.mdr_operand.specs.declared.room.LocalName.{LocalName}
 use Rattle.mdr_operand.specs.Rooms.{local_named}
-use Rattle.mdr_operand.specs.Written.{Written, Line, Lines}
+use Rattle.mdr_operand.specs.Written.{Written, Line}
 use Rattle.mdr_body.specs.declared.here.Frame.{Frame}
 use Rattle.mdr_body.specs.declared.here.Here.{Here}
 use Rattle.mdr_body.specs.declared.mention.Mention.TheVariants.{Address}
-use Rattle.mdr_body.specs.Locals.{local_object, lies_apart, is_own_object, is_struct, named_local, name_of, with_local, entered, numbered}
-use Rattle.mdr_body.specs.Mentions.{mentions, perhaps_mentions, is_declared_by, has, hides}
-use Rattle.mdr_body.specs.Statements.{line_behind, simple_behind}
+use Rattle.mdr_body.specs.Locals.{local_object, lies_apart, is_struct, named_local, name_of, with_local, entered, numbered}
+use Rattle.mdr_body.specs.Mentions.{mentions, perhaps_mentions, is_declared_by, hides}
 use Rattle.mdr_sound_code.specs.Knowing.{KnowsLocals, TakesNoSlot}
-use Rattle.mdr_sound_bodies.specs.Written.{IsNamed, IsStatement, IsProper}
+use Rattle.mdr_sound_bodies.specs.Written.{IsNamed, IsStatement}
 use Rattle.mdr_sound_bodies.specs.Within.{KnowsDeclarations, AreDeclared, in_front, takes_behind, IsTold, IsHere}
 use Rattle.mdr_sound_bodies.proofs.Joined.{or_left, or_right, or_both, and_behind}
-use Rattle.mdr_sound_bodies.proofs.Growing.{Grows, line_grows, names_keep}
+use Rattle.mdr_sound_bodies.proofs.Growing.{Grows}
 use Rattle.mdr_sound_bodies.proofs.Naming.{by_last, knows_more}
-use Rattle.mdr_sound_bodies.proofs.Declaring.{IsAt, local_at, local_known}
+use Rattle.mdr_sound_bodies.proofs.Declaring.{local_at, local_known}
 
 -- what declares nothing hides nothing
 pub hides_none : (name : List ℕ) (l : Line) → IsStatement l → hides name l ≡ false
@@ -40,7 +39,6 @@ untaken_by t (Result.Ok o) e = or_right (is_struct o.ty) t (or_right o.array _ e
 untaken_by t (Result.Err f) e = e
 
 module _ (program : Program) (slots : List Slot) (base : ℕ) where
-
   pub here_less : (here : Here) (r q : List ℕ → Bool) → IsHere program slots base here r → ((name : List ℕ) → r name ≡ false → q name ≡ false) → IsHere program slots base here q
   here_less here r q h less = record { knows = h.knows; untaken = λ name n e o. less name (h.untaken name n e o); slot = h.slot; number = h.number }
 
@@ -63,7 +61,6 @@ module _ (program : Program) (slots : List Slot) (base : ℕ) where
   takes_no_slot here r w h less = record { slots = λ name n e o. less name (h.untaken name n e o) }
 
   module _ (scope : Scope) (frame : Frame) (known : KnowsDeclarations program scope) where
-
     -- behind a declarator, in front of its initialiser
     last_untaken : (d : Decl) (nm name : List ℕ) (init : Option Written) (behind : List ℕ → Bool) (t : Bool) → (out-Decl d).name ≡ Some nm → t ≡ takes_behind (out-Decl d).name init behind → bytes_eq (name_of d) name ≡ true → t ≡ false → (perhaps_mentions Address name init || behind name) ≡ false
     last_untaken d nm name init behind t is told same e =
@@ -76,8 +73,8 @@ module _ (program : Program) (slots : List Slot) (base : ℕ) where
         let declared : name_of d ≡ nm = ap name_or_none is in
         let apart : is_declared_by name d ≡ false = ap (λ o. is_same_name o (Some name)) is ∙ ap (λ x. bytes_eq x name) (sym declared) ∙ other in
         or_both (perhaps_mentions Address name init) (behind name)
-            (and_behind (is_declared_by name d) (perhaps_mentions Address name init) apart (or_left (not (is_declared_by name d) && perhaps_mentions Address name init) (not (is_declared_by name d) && behind name) e))
-            (and_behind (is_declared_by name d) (behind name) apart (or_right (not (is_declared_by name d) && perhaps_mentions Address name init) (not (is_declared_by name d) && behind name) e))
+        (and_behind (is_declared_by name d) (perhaps_mentions Address name init) apart (or_left (not (is_declared_by name d) && perhaps_mentions Address name init) (not (is_declared_by name d) && behind name) e))
+        (and_behind (is_declared_by name d) (behind name) apart (or_right (not (is_declared_by name d) && perhaps_mentions Address name init) (not (is_declared_by name d) && behind name) e))
 
     pub here_local : (here : Here) (t : Bool) (p : Place) (d : Decl) (init : Option Written) (behind : List ℕ → Bool) → IsHere program slots base here (in_front (Line.Local p d init) behind) → IsNamed d → IsTold t (Line.Local p d init) behind → AreDeclared slots base (with_local scope frame.locks t d here).locals → IsHere program slots base (with_local scope frame.locks t d here) (λ name. perhaps_mentions Address name init || behind name)
     unfolding with_local named_local

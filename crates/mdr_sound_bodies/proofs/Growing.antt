@@ -1,5 +1,5 @@
 -- What is known behind a statement: names and locals stand behind those before it.
-use Rattle.std.proofs.Common.{◌≡◌, ℕ, ◌+◌, ◌≤◌, Bool, true, false, List, [], ◌∷◌, ◌++◌, length, take, Option, Some, None, refl, sym, ap, ◌∙◌, arith, append_assoc, append-nil, length-append, le_refl, le_trans, add-zero}
+use Rattle.std.proofs.Common.{◌≡◌, ◌+◌, ◌≤◌, Bool, false, List, [], ◌++◌, length, take, Option, refl, sym, ap, ◌∙◌, arith, append_assoc, append-nil, length-append, le_refl, le_trans, add-zero}
 use Rattle.mdr_syntax.specs.declared.tree.Decl.{Decl}
 use Rattle.mdr_faults.specs.declared.scope.Scope.{Scope}
 use Rattle.mdr_operand.specs.declared.room.LocalName.{LocalName}
@@ -8,7 +8,6 @@ use Rattle.mdr_body.specs.declared.here.DeclaredLocal.{DeclaredLocal}
 use Rattle.mdr_body.specs.declared.here.Frame.{Frame}
 use Rattle.mdr_body.specs.declared.here.Here.{Here}
 use Rattle.mdr_body.specs.Locals.{with_local, is_taken, entered, left, numbered}
-use Rattle.mdr_body.specs.Simple.{declares}
 use Rattle.mdr_body.specs.Statements.{simple_behind, head_taken, heads_behind, steps_behind, behind_head, line_behind, perhaps_behind, lines_behind}
 use Rattle.mdr_sound_bodies.specs.Written.{IsStatement, AreStatements, IsProper, AreProper}
 use Rattle.mdr_sound_bodies.proofs.Joined.{take_front}
@@ -48,7 +47,6 @@ pub grows_left : (a b : Here) → Grows (entered a) b → Grows a (left a b)
 grows_left a b g = record { names = []; names_are = left_keeps a b g ∙ sym (append-nil a.names); locals = g.locals; locals_are = g.locals_are; slot = g.slot; number = g.number }
 
 module _ (scope : Scope) (frame : Frame) where
-
   grows_local : (t : Bool) (d : Decl) (a : Here) → Grows a (with_local scope frame.locks t d a)
   unfolding with_local
   grows_local t d a = record { names = _; names_are = refl; locals = _; locals_are = refl; slot = refl; number = le_refl a.number }

@@ -1,15 +1,13 @@
 -- The head of a `for` keeps to the rules of sound programs.
-use Rattle.std.proofs.Common.{◌≡◌, ◌⊎◌, ℕ, ◌≤◌, ◌||◌, ◌&&◌, not, Bool, true, false, List, [], ◌∷◌, ◌++◌, length, Option, Some, None, Ok, refl, sym, ap, ◌∙◌, subst, true≢false}
-use Rattle.mdr_core.specs.declared.code.Expr.{Expr}
+use Rattle.std.proofs.Common.{◌≡◌, ◌⊎◌, ℕ, ◌||◌, Bool, false, List, [], length, Option, Some, None, Ok, refl, sym, ap, ◌∙◌, subst, true≢false}
 use Rattle.mdr_core.specs.declared.code.Stmt.{Stmt}
-use Rattle.mdr_core.specs.declared.place.Place.{Place}
 use Rattle.mdr_core.specs.declared.program.Program.{Program}
 use Rattle.mdr_core.specs.declared.types.Ty.{Ty}
 use Rattle.mdr_core.specs.declared.types.Ty.TheVariants as type
-use Rattle.mdr_core.specs.Folds.{codes_of, term_of, test_of}
+use Rattle.mdr_core.specs.Folds.{codes_of}
 use Rattle.mdr_core.specs.Types.{Scalar, sort_of}
-use Rattle.mdr_core.specs.Typing.{Slot, Has, IsCondition, AreTyped}
-use Rattle.mdr_syntax.specs.declared.tree.Decl.{Decl, out-Decl}
+use Rattle.mdr_core.specs.Typing.{Slot, AreTyped}
+use Rattle.mdr_syntax.specs.declared.tree.Decl.{out-Decl}
 use Rattle.mdr_faults.specs.declared.scope.Scope.{Scope}
 use Rattle.mdr_faults.specs.Faults.{Checked, Right, both}
 use Rattle.mdr_operand.specs.Written.{Written, Line, Lines}
@@ -17,15 +15,15 @@ use Rattle.mdr_body.specs.declared.here.Frame.{Frame}
 use Rattle.mdr_body.specs.declared.here.Here.{Here}
 use Rattle.mdr_body.specs.declared.mention.Mention.TheVariants.{Address}
 use Rattle.mdr_body.specs.Locals.{with_local, takes, is_taken}
-use Rattle.mdr_body.specs.Mentions.{perhaps_mentions, has, have, hides}
+use Rattle.mdr_body.specs.Mentions.{perhaps_mentions, has, have}
 use Rattle.mdr_body.specs.Statements.{Rules, appended, pair, taken_behind, head_taken, simple_made, simple_behind, heads_made, heads_behind, steps_made, steps_behind}
 use Rattle.mdr_sound_code.proofs.Rights.{same_right, both_right}
 use Rattle.mdr_sound_bodies.specs.Grounded.{AreGrounded}
 use Rattle.mdr_sound_bodies.specs.Rules.{AreSoundRules}
 use Rattle.mdr_sound_bodies.specs.Written.{IsStatement, AreStatements, IsProper, AreProper}
 use Rattle.mdr_sound_bodies.specs.Within.{KnowsDeclarations, AreDeclared, in_front, takes_behind, IsTold, IsHere}
-use Rattle.mdr_sound_bodies.proofs.Joined.{or_left, or_right}
-use Rattle.mdr_sound_bodies.proofs.Growing.{simple_grows, heads_grow}
+use Rattle.mdr_sound_bodies.proofs.Joined.{or_right}
+use Rattle.mdr_sound_bodies.proofs.Growing.{heads_grow}
 use Rattle.mdr_sound_bodies.proofs.Declaring.{declared_before}
 use Rattle.mdr_sound_bodies.proofs.Going.{here_less, here_local}
 use Rattle.mdr_sound_bodies.proofs.Coding.{grounded_left, grounded_right, typed_both}
@@ -77,7 +75,6 @@ steps_same scope frame here (Lines.Then l ls) s = on l s.0 where
   on l s = refl
 
 module _ (program : Program) (slots : List Slot) (base : ℕ) (scope : Scope) (frame : Frame) (known : KnowsDeclarations program scope) where
-
   simple_here : (here : Here) (t : Bool) (l : Line) (behind : List ℕ → Bool) → IsHere program slots base here (in_front l behind) → IsProper l → IsTold t l behind → AreDeclared slots base (simple_behind scope frame here t l).locals → IsHere program slots base (simple_behind scope frame here t l) behind
   simple_here here t (Line.Local p d init) behind h proper told declared =
       here_less program slots base (with_local scope frame.locks t d here) _ behind (here_local program slots base scope frame known here t p d init behind h proper.0 told declared) (λ name e. or_right (perhaps_mentions Address name init) (behind name) e)
@@ -93,7 +90,6 @@ module _ (program : Program) (slots : List Slot) (base : ℕ) (scope : Scope) (f
       heads_here b test step body ls (simple_here here t l (λ n. have Address n ls (tail test step body n)) h proper.0 (told_head l ls test step body) first) proper.1 declared
 
   module _ (rules : Rules) (sound : AreSoundRules program slots scope rules) (result : Ty) (gives : frame.result ≡ Ok result) (given : (sort_of (length program.structs) result ≡ Scalar) ⊎ (result ≡ type.Void)) where
-
     pub heads_typed : (b : Bool) (here : Here) (test : Option Written) (step : Lines) (body : Line) (ls : Lines) (ss : List Stmt) → IsHere program slots base here (λ n. have Address n ls (tail test step body n)) → AreProper ls → AreDeclared slots base (heads_behind scope frame here test step body ls).locals → AreGrounded program (codes_of ss) → heads_made rules scope frame here test step body ls ≡ Right ss → AreTyped program slots result b (codes_of ss)
     unfolding heads_behind heads_made
     heads_typed b here test step body Lines.End ss h proper declared g e = subst (λ xs. AreTyped program slots result b (codes_of xs)) (same_right [] ss e) tt

@@ -2,6 +2,7 @@ pub mod Joined
 pub mod Growing
 pub mod Naming
 pub mod Scalars
+pub mod Locking
 pub mod Declaring
 pub mod Going
 pub mod Coding

@@ -1,43 +1,40 @@
 -- A function that is made of a head and a body keeps to the rules of sound programs.
-use Rattle.std.proofs.Common.{◌≡◌, ◌⊎◌, ℕ, suc, Bool, true, false, List, [], ◌∷◌, ◌++◌, length, map, Option, Some, None, Ok, refl, sym, ap, ◌∙◌, subst, slice_get}
+use Rattle.std.proofs.Common.{◌≡◌, ℕ, suc, Bool, true, false, List, [], ◌∷◌, ◌++◌, length, map, Some, Ok, refl, ap, ◌∙◌, subst, slice_get}
 use Rattle.mdr_core.specs.declared.code.Stmt.{Stmt}
-use Rattle.mdr_core.specs.declared.program.Func.{Func}
 use Rattle.mdr_core.specs.declared.program.Local.{Local}
-use Rattle.mdr_core.specs.declared.program.Param.{Param}
 use Rattle.mdr_core.specs.declared.program.Program.{Program}
 use Rattle.mdr_core.specs.declared.types.Ty.{Ty}
 use Rattle.mdr_core.specs.Folds.{codes_of}
 use Rattle.mdr_core.specs.Sound.{IsSoundLocal}
 use Rattle.mdr_core.specs.Types.{HasNumber}
 use Rattle.mdr_core.specs.Typing.{Slot, AreTyped, slot_of_param, slot_of_local}
-use Rattle.mdr_syntax.specs.declared.tree.Decl.{Decl}
 use Rattle.mdr_syntax.specs.declared.tree.Head.{Head}
 use Rattle.mdr_syntax.specs.declared.tree.Node.{Node}
 use Rattle.mdr_faults.specs.declared.scope.Candidate.{Candidate}
 use Rattle.mdr_faults.specs.declared.scope.Scope.{Scope}
-use Rattle.mdr_faults.specs.Faults.{Checked, Right, both, told}
+use Rattle.mdr_faults.specs.Faults.{Right, told}
 use Rattle.mdr_headings.specs.declared.body.Body.{Body}
 use Rattle.mdr_headings.specs.declared.head.Given.{Given}
 use Rattle.mdr_headings.specs.declared.head.Heading.{Heading}
 use Rattle.mdr_headings.specs.Annotations.{annotated, candidate}
 use Rattle.mdr_headings.specs.Heads.{params_behind, given_by, annotated_result, head_result, given, heading_of, heading}
-use Rattle.mdr_operand.specs.Written.{Line, Lines, lines_of}
+use Rattle.mdr_operand.specs.Written.{Lines, lines_of}
 use Rattle.mdr_body.specs.declared.here.DeclaredLocal.{DeclaredLocal}
 use Rattle.mdr_body.specs.declared.here.Frame.{Frame}
 use Rattle.mdr_body.specs.declared.here.Here.{Here}
 use Rattle.mdr_body.specs.Bodies.{declared_locals, frame_of, body_of, body_by, body_rule}
 use Rattle.mdr_body.specs.Locals.{struct_locks, parameter_taken, first_here}
 use Rattle.mdr_body.specs.Statements.{Rules, lines_behind, lines_made}
-use Rattle.mdr_program.specs.Parts.{marked, whole}
+use Rattle.mdr_program.specs.Parts.{marked}
 use Rattle.mdr_sound_code.proofs.Rights.{same_right, after_right, both_right}
-use Rattle.mdr_sound_bodies.specs.Bodies.{IsMade, HasSoundBody, BodiesAreSound}
+use Rattle.mdr_sound_bodies.specs.Bodies.{BodiesAreSound}
 use Rattle.mdr_sound_bodies.specs.Grounded.{AreGrounded}
 use Rattle.mdr_sound_bodies.specs.Rules.{AreSoundRules}
 use Rattle.mdr_sound_bodies.specs.Within.{KnowsDeclarations, AreDeclared}
 use Rattle.mdr_sound_bodies.specs.Written.{AreNamed, AreProper}
 use Rattle.mdr_sound_bodies.proofs.Collecting.{meant, all_declared, declared_sound}
 use Rattle.mdr_sound_bodies.proofs.Coming.{AreFrom, from_none, from_lines}
-use Rattle.mdr_sound_bodies.proofs.Entering.{slots, parameters_here, params_many, marked_many}
+use Rattle.mdr_sound_bodies.proofs.Entering.{parameters_here, params_many, marked_many}
 use Rattle.mdr_sound_bodies.proofs.Lining.{lines_typed}
 
 -- ---- a head
@@ -59,7 +56,7 @@ heading_right scope h g e =
     let siblings = map (candidate scope) h.params in
     let b = both_right (given scope siblings h) (params_behind scope siblings [] h.params) heading_of g e in
     subst (λ x. IsHeaded scope siblings h x) (same_right (record { result = b.left.ty; ann = b.left.ann; params = b.right }) g b.made)
-        (record { result = given_right scope siblings h b.left b.first; params = b.second })
+    (record { result = given_right scope siblings h b.left b.first; params = b.second })
 
 -- ---- a body
 
@@ -72,14 +69,13 @@ body_right : (rules : Rules) (scope : Scope) (frame : Frame) (here : Here) (obje
 body_right rules scope frame here objects ls body e =
     let b = both_right (declared_locals (lines_behind scope frame here ls).locals) (lines_made rules scope frame false here ls) (body_of objects) body e in
     subst (λ x. IsBodied rules scope frame here objects ls x) (same_right (record { objects = objects; locals = b.left; statements = b.right }) body b.made)
-        (record { locals = b.first; statements = b.second; marks = refl })
+    (record { locals = b.first; statements = b.second; marks = refl })
 
 mapped_many : {A B : Type 0} (f : A → B) (xs : List A) → length (map f xs) ≡ length xs
 mapped_many f [] = refl
 mapped_many f (x ∷ xs) = ap suc (mapped_many f xs)
 
 module _ (program : Program) (rules : Rules) (scope : Scope) (h : Head) (nodes : List Node) (known : KnowsDeclarations program scope) where
-
   made_locals : (body : Body) (here : Here) → IsBodied rules scope (frame_of scope h) here body.objects (lines_of nodes) body → AreFrom scope (struct_locks scope) here.locals → ((i : ℕ) (l : Local) → slice_get body.locals i ≡ Some l → l.object ≡ true → HasNumber program l.ty) → (i : ℕ) (l : Local) → slice_get body.locals i ≡ Some l → IsSoundLocal program l
   unfolding frame_of
   made_locals body here b from numbered i l at =
@@ -104,7 +100,7 @@ module _ (program : Program) (rules : Rules) (scope : Scope) (h : Head) (nodes :
       let base : length front ≡ length h.params = mapped_many slot_of_param (marked (map (parameter_taken ls) h.params) 0 g.params) ∙ marked_many (map (parameter_taken ls) h.params) 0 g.params ∙ params_many scope siblings [] h.params g.params headed.params in
       let are = subst (λ k. AreDeclared all k (lines_behind scope (frame_of scope h) here ls).locals) base (all_declared front (lines_behind scope (frame_of scope h) here ls).locals locals declared) in
       lines_typed program all (length h.params) scope (frame_of scope h) known rules (sound all) g.result (result_told g.result headed.result) (known.results h g.result headed.result) here false ls ss
-          (parameters_here program scope known siblings ls h.params g.params headed.params locals named) proper are grounded made
+      (parameters_here program scope known siblings ls h.params g.params headed.params locals named) proper are grounded made
 
 -- ---- the function
 
@@ -112,8 +108,8 @@ rule_right : (rules : Rules) (scope : Scope) (h : Head) (nodes : List Node) (bod
 unfolding body_rule
 rule_right rules scope h nodes body e = body_right rules scope (frame_of scope h) (first_here scope (lines_of nodes) h.params) (map (parameter_taken (lines_of nodes)) h.params) (lines_of nodes) body e
 
-pub bodies_are_sound : BodiesAreSound
-bodies_are_sound program rules scope h nodes g body name is_critical known sound made =
+pub made_sound : BodiesAreSound
+made_sound program rules scope h nodes g body name is_critical known sound made =
     let here : Here = first_here scope (lines_of nodes) h.params in
     let b = rule_right rules scope h nodes body made.body_is in
     let headed = heading_right scope h g made.heading_is in

@@ -1,24 +1,18 @@
 -- Statements without parts keep to the rules of sound programs.
-use Rattle.std.proofs.Common.{◌≡◌, ◌⊎◌, inl, inr, ⊎_elim, ℕ, ◌+◌, ◌≤◌, ◌||◌, ◌&&◌, not, nat_lt, Bool, true, false, List, [], ◌∷◌, ◌++◌, length, map, Option, Some, None, Ok, IsTrue, refl, sym, ap, ◌∙◌, subst, arith, slice_get}
-use Rattle.std.specs.Option.{option_map}
+use Rattle.std.proofs.Common.{◌≡◌, ◌⊎◌, inl, inr, ℕ, ◌≤◌, ◌&&◌, not, nat_lt, Bool, true, false, List, [], ◌∷◌, length, Option, Some, None, Ok, IsTrue, refl, sym, ap, ◌∙◌, subst, arith, slice_get}
 use Rattle.std.proofs.lemmas.Option.{none-some, same_Some}
-use Rattle.mdr_core.specs.declared.code.Expr.{Expr}
-use Rattle.mdr_core.specs.declared.code.Lval.{Lval}
-use Rattle.mdr_core.specs.declared.code.Lval.TheVariants as lval
 use Rattle.mdr_core.specs.declared.code.Step.{Step}
 use Rattle.mdr_core.specs.declared.code.Step.TheVariants as step
 use Rattle.mdr_core.specs.declared.code.Stmt.{Stmt}
 use Rattle.mdr_core.specs.declared.kind.Kind.{Kind}
-use Rattle.mdr_core.specs.declared.kind.Kind.TheVariants.{U8, U16, U32, U64, S8, S16, S32, S64}
+use Rattle.mdr_core.specs.declared.kind.Kind.TheVariants.{U8, S8}
 use Rattle.mdr_core.specs.declared.place.Place.{Place}
-use Rattle.mdr_core.specs.declared.program.Local.{Local}
 use Rattle.mdr_core.specs.declared.program.Program.{Program}
 use Rattle.mdr_core.specs.declared.types.Ty.{Ty, out-Ty, roll-Ty, roll-out-Ty}
 use Rattle.mdr_core.specs.declared.types.Ty.TheOpen.{Ty-F}
 use Rattle.mdr_core.specs.declared.types.Ty.TheVariants as type
-use Rattle.mdr_core.specs.Code.{Lvalue, Code, Codes, Way}
-use Rattle.mdr_core.specs.Folds.{code_of, codes_of, lvalue_of, term_of}
-use Rattle.mdr_core.specs.Layout.{chosen}
+use Rattle.mdr_core.specs.Code.{Code, Codes, Way}
+use Rattle.mdr_core.specs.Folds.{code_of, codes_of, lvalue_of}
 use Rattle.mdr_core.specs.Types.{Scalar, is_scalar, sort_of}
 use Rattle.mdr_core.specs.Typing.{Slot, One, Designates, IsLocal, TakesText, IsTyped, AreTyped, extent, slot_of_local}
 use Rattle.mdr_core.proofs.Coded.{code_is, declare_is, text_is, return_is, break_is, continue_is, empty_is, slot_is, object_is}
@@ -27,26 +21,26 @@ use Rattle.mdr_faults.specs.declared.fault.FaultKind.TheVariants.{Mismatch}
 use Rattle.mdr_faults.specs.declared.scope.Object.{Object}
 use Rattle.mdr_faults.specs.declared.scope.Scope.{Scope}
 use Rattle.mdr_faults.specs.Declarations.{is_void, is_void_by}
-use Rattle.mdr_faults.specs.Faults.{Checked, Right, refuse, again, after}
+use Rattle.mdr_faults.specs.Faults.{Checked, Right, again}
 use Rattle.mdr_headings.specs.Annotations.{is_character, is_character_by, is_character_kind}
 use Rattle.mdr_operand.specs.declared.room.LocalName.{LocalName}
-use Rattle.mdr_operand.specs.Written.{Written, Line, Lines}
+use Rattle.mdr_operand.specs.Written.{Written, Line}
 use Rattle.mdr_body.specs.declared.here.Frame.{Frame}
 use Rattle.mdr_body.specs.declared.here.Here.{Here}
 use Rattle.mdr_body.specs.declared.mention.Mention.TheVariants.{Address}
 use Rattle.mdr_body.specs.Locals.{local_object, local_of, is_own_object, with_local}
-use Rattle.mdr_body.specs.Mentions.{mentions, perhaps_mentions, has, hides}
-use Rattle.mdr_body.specs.Statements.{Rules, stmt, single, stated, text_of, takes_text, is_single, own_place, initial_by, initial_step, declared_then, local_made, jumped, bare_return, value_return, return_by, return_step, simple_made, simple_behind}
+use Rattle.mdr_body.specs.Mentions.{mentions, perhaps_mentions, has}
+use Rattle.mdr_body.specs.Statements.{Rules, stmt, single, stated, text_of, takes_text, is_single, own_place, initial_by, initial_step, declared_then, local_made, jumped, return_by, return_step, simple_made, simple_behind}
 use Rattle.mdr_sound_code.specs.Knowing.{KnowsLocals, HasNumbers, IsFormed}
 use Rattle.mdr_sound_code.proofs.Layers.{int_from}
 use Rattle.mdr_sound_code.proofs.Rights.{not_right, same_right, same_ok, again_right, after_right, chosen_right, refused_right}
-use Rattle.mdr_sound_bodies.specs.Grounded.{IsGrounded, AreGrounded}
+use Rattle.mdr_sound_bodies.specs.Grounded.{AreGrounded}
 use Rattle.mdr_sound_bodies.specs.Rules.{IsSoundStep, IsRight, AreSoundRules}
-use Rattle.mdr_sound_bodies.specs.Written.{PerhapsHasNumbers, IsNamed, IsProper}
-use Rattle.mdr_sound_bodies.specs.Within.{KnowsDeclarations, AreDeclared, in_front, takes_behind, IsTold, IsHere}
+use Rattle.mdr_sound_bodies.specs.Written.{PerhapsHasNumbers, IsProper}
+use Rattle.mdr_sound_bodies.specs.Within.{KnowsDeclarations, AreDeclared, in_front, IsTold, IsHere}
 use Rattle.mdr_sound_bodies.proofs.Joined.{or_left, or_right}
 use Rattle.mdr_sound_bodies.proofs.Scalars.{formed_scalar}
-use Rattle.mdr_sound_bodies.proofs.Declaring.{IsAt, IsLocalObject, local_at, local_object_right}
+use Rattle.mdr_sound_bodies.proofs.Declaring.{IsAt, local_at, local_object_right}
 use Rattle.mdr_sound_bodies.proofs.Going.{here_local, takes_no_slot}
 use Rattle.mdr_sound_bodies.proofs.Coding.{grounded_head, grounded_tail}
 
@@ -89,7 +83,6 @@ within count n e = on (nat_lt count n) refl e where
   on false is f = grind (arith, is)
 
 module _ (program : Program) (slots : List Slot) (result : Ty) where
-
   -- a statement of a step that is sound
   pub step_typed : (n : ℕ) (s : Step) (ss : List Stmt) (b : Bool) → IsSoundStep program slots result s → 1 ≤ n → single n s ≡ Right ss → AreGrounded program (codes_of ss) → AreTyped program slots result b (codes_of ss)
   step_typed n s ss b sound some is g = subst (λ xs. AreGrounded program (codes_of xs) → AreTyped program slots result b (codes_of xs)) (same_right _ _ is) (λ h. (sound n b some (grounded_head program (code_of (stmt n s)) Codes.End h), tt)) g
@@ -155,7 +148,6 @@ pub at_object : (slots : List Slot) (scope : Scope) (locks : List Bool) (i : ℕ
 at_object slots scope locks i t d o h e = h.names ∙ ap (λ x. Some (slot_of_local (local_of t d x))) (same_right _ _ (sym h.right ∙ e))
 
 module _ (program : Program) (slots : List Slot) (base : ℕ) (scope : Scope) (frame : Frame) (known : KnowsDeclarations program scope) (rules : Rules) (sound : AreSoundRules program slots scope rules) (result : Ty) where
-
   -- ---- returns
 
   scalar_result : (t : Ty) → (sort_of (length program.structs) t ≡ Scalar) ⊎ (t ≡ type.Void) → is_void t ≡ false → sort_of (length program.structs) t ≡ Scalar
@@ -202,9 +194,9 @@ module _ (program : Program) (slots : List Slot) (base : ℕ) (scope : Scope) (f
       let c = chosen_right (is_single o) (rules.stored scope names p (own_place (is_own_object t o) i) o.ty w) p Mismatch s e in
       let single = not_false o.array (and_second (is_scalar o.ty) (not o.array) c.holds) in
       sound.stored names p (own_place (is_own_object t o) i) o.ty w s result knows right
-          (own_by i t d o (is_own_object t o) refl single at)
-          (formed_scalar program o.ty formed (and_first (is_scalar o.ty) (not o.array) c.holds))
-          c.right
+      (own_by i t d o (is_own_object t o) refl single at)
+      (formed_scalar program o.ty formed (and_first (is_scalar o.ty) (not o.array) c.holds))
+      c.right
 
   initial_sound : (here : Here) (t : Bool) (d : Decl) (w : Written) (s : Step) → IsAt slots scope frame.locks here.slot t d → KnowsLocals program slots (with_local scope frame.locks t d here).names → IsRight (with_local scope frame.locks t d here).names w → initial_step rules scope frame here t d w ≡ Right s → IsSoundStep program slots result s
   unfolding initial_step
@@ -213,7 +205,7 @@ module _ (program : Program) (slots : List Slot) (base : ℕ) (scope : Scope) (f
       let a = after_right (local_object scope frame.locks d) (initial_by rules scope names (out-Decl d).place here.slot t w (text_of w)) s e in
       let object = local_object_right scope frame.locks d a.value a.right in
       initial_by_sound names (out-Decl d).place here.slot t d w (text_of w) a.value s knows right (known.formed (out-Decl d).place d a.value object.object)
-          (at_object slots scope frame.locks here.slot t d a.value at a.right) a.made
+      (at_object slots scope frame.locks here.slot t d a.value at a.right) a.made
 
   local_typed : (here : Here) (t b : Bool) (d : Decl) (init : Option Written) (ss : List Stmt) → 1 ≤ here.number → IsAt slots scope frame.locks here.slot t d → KnowsLocals program slots (with_local scope frame.locks t d here).names → ((v : Written) → init ≡ Some v → IsRight (with_local scope frame.locks t d here).names v) → AreGrounded program (codes_of ss) → local_made rules scope frame here t d init ≡ Right ss → AreTyped program slots result b (codes_of ss)
   unfolding local_made
@@ -223,11 +215,11 @@ module _ (program : Program) (slots : List Slot) (base : ℕ) (scope : Scope) (f
       let first : Stmt = stmt here.number (step.Declare here.slot) in
       let second : Stmt = stmt here.number a.value in
       subst (λ xs. AreGrounded program (codes_of xs) → AreTyped program slots result b (codes_of xs)) (same_right _ _ a.made)
-          (λ h. (
-            declare_sound program slots result here.slot (is_local here.slot t d at) here.number b some (grounded_head program (code_of first) (codes_of (second ∷ [])) h),
-            (initial_sound here t d w a.value at knows (right w refl) a.right here.number b some (grounded_head program (code_of second) Codes.End (grounded_tail program (code_of first) (codes_of (second ∷ [])) h)), tt)
-          ))
-          g
+      (λ h. (
+        declare_sound program slots result here.slot (is_local here.slot t d at) here.number b some (grounded_head program (code_of first) (codes_of (second ∷ [])) h),
+        (initial_sound here t d w a.value at knows (right w refl) a.right here.number b some (grounded_head program (code_of second) Codes.End (grounded_tail program (code_of first) (codes_of (second ∷ [])) h)), tt),
+      ))
+      g
 
   -- ---- any of them
 
@@ -251,8 +243,8 @@ module _ (program : Program) (slots : List Slot) (base : ℕ) (scope : Scope) (f
   simple_typed here in_loop t b (Line.Local p d init) behind ss gives given inside h proper told declared g e =
       let behind_it = here_local program slots base scope frame known here t p d init behind h proper.0 told declared in
       local_typed here t b d init ss h.number (local_at slots base scope frame.locks here t d h.slot declared) behind_it.knows
-          (perhaps_right (with_local scope frame.locks t d here) _ init behind_it (λ name n. or_left (perhaps_mentions Address name init) (behind name) n) proper.1)
-          g e
+      (perhaps_right (with_local scope frame.locks t d here) _ init behind_it (λ name n. or_left (perhaps_mentions Address name init) (behind name) n) proper.1)
+      g e
   simple_typed here in_loop t b (Line.Assign p at op x y) behind ss gives given inside h proper told declared g e =
       let first = written_right here _ x h (λ name n. or_left (mentions Address name x) _ (or_left (has Address name (Line.Assign p at op x y)) _ n)) proper.0 in
       let second = written_right here _ y h (λ name n. or_right (mentions Address name x) _ (or_left (has Address name (Line.Assign p at op x y)) _ n)) proper.1 in

@@ -1,8 +1,8 @@
 -- What code asks of the type table, and of the services that are built.
-use Rattle.std.specs.Prelude.{◌≡◌, ℕ, ◌==◌, ◌||◌, Bool, false}
+use Rattle.std.specs.Prelude.{◌≡◌, ◌==◌, ◌||◌, Bool, false}
 use Rattle.mdr_core.specs.declared.program.Program.{Program}
 use Rattle.mdr_core.specs.declared.types.Ty.{Ty}
-use Rattle.mdr_core.specs.Code.{Called, CallOf, Code, Codes}
+use Rattle.mdr_core.specs.Code.{Called, Code, Codes}
 use Rattle.mdr_core.specs.Types.{HasNumber}
 use Rattle.mdr_program.specs.Occurring.{allocated, allocated_in}
 use Rattle.mdr_program.specs.Orders.{IsAmong}

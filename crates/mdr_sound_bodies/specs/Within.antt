@@ -1,31 +1,42 @@
 -- What is known at a place of a body, as of the slots of the finished function (C99 6.2.1, 6.2.4).
 use Rattle.std.specs.Prelude.{◌≡◌, ◌⊎◌, ℕ, ◌+◌, ◌≤◌, ◌||◌, ◌&&◌, not, Bool, false, List, length, Option, Some, None, Ok, slice_get}
 use Rattle.mdr_core.specs.declared.place.Place.{Place}
+use Rattle.mdr_core.specs.declared.program.Field.{Field}
 use Rattle.mdr_core.specs.declared.program.Local.{Local}
 use Rattle.mdr_core.specs.declared.program.Program.{Program}
 use Rattle.mdr_core.specs.declared.types.Ty.{Ty}
 use Rattle.mdr_core.specs.declared.types.Ty.TheVariants as type
+use Rattle.mdr_core.specs.Layout.{fields_of}
 use Rattle.mdr_core.specs.Sound.{all_cells}
-use Rattle.mdr_core.specs.Types.{Scalar, HasNoLock, sort_of}
+use Rattle.mdr_core.specs.Types.{Scalar, sort_of}
 use Rattle.mdr_core.specs.Typing.{Slot, slot_of_local}
 use Rattle.mdr_syntax.specs.declared.tree.Decl.{Decl, out-Decl}
 use Rattle.mdr_syntax.specs.declared.tree.Head.{Head}
+use Rattle.mdr_faults.specs.declared.scope.Member.{Member}
 use Rattle.mdr_faults.specs.declared.scope.Object.{Object}
 use Rattle.mdr_faults.specs.declared.scope.Scope.{Scope}
+use Rattle.mdr_faults.specs.declared.scope.StructEntry.{StructEntry}
 use Rattle.mdr_faults.specs.Declarations.{declarator, object_declared}
 use Rattle.mdr_faults.specs.Faults.{Right}
 use Rattle.mdr_headings.specs.Heads.{head_result}
 use Rattle.mdr_operand.specs.declared.room.LocalName.{LocalName}
 use Rattle.mdr_operand.specs.Rooms.{local_named}
-use Rattle.mdr_operand.specs.Written.{Written, Line, Lines}
+use Rattle.mdr_operand.specs.Written.{Written, Line}
 use Rattle.mdr_body.specs.declared.here.DeclaredLocal.{DeclaredLocal}
 use Rattle.mdr_body.specs.declared.here.Here.{Here}
 use Rattle.mdr_body.specs.declared.mention.Mention.TheVariants.{Address}
-use Rattle.mdr_body.specs.Locals.{holds_lock, struct_locks}
 use Rattle.mdr_body.specs.Mentions.{perhaps_mentions, has, hides}
 use Rattle.mdr_sound_code.specs.Knowing.{IsFormed, KnowsLocals}
 
 -- ---- declarations
+
+-- a field is what a member of its struct came to
+pub record IsOfMember (entry : StructEntry) (f : ℕ) (x : Field) : Type 0 where
+  pub member : Member
+  pub at : slice_get entry.members f ≡ Some member
+  pub object : Object
+  pub means : member.means ≡ Ok object
+  pub ty : object.ty ≡ x.ty
 
 -- what is declared in a scope keeps to the rules of the program
 pub record KnowsDeclarations (program : Program) (scope : Scope) : Type 0 where
@@ -34,8 +45,8 @@ pub record KnowsDeclarations (program : Program) (scope : Scope) : Type 0 where
   pub small : (limit : Place) (d : Decl) (o : Object) → object_declared scope limit d ≡ Right o → length (all_cells program o.ty o.count) ≤ 65536
   pub parameters : (d : Decl) (t : Ty) → (declarator scope d).parameter ≡ Right t → sort_of (length program.structs) t ≡ Scalar
   pub results : (h : Head) (t : Ty) → head_result scope h ≡ Right t → (sort_of (length program.structs) t ≡ Scalar) ⊎ (t ≡ type.Void)
-  -- what a scope says of locks is so
-  pub no_lock : (t : Ty) → holds_lock (struct_locks scope) t ≡ false → HasNoLock program t
+  -- a struct that is complete has no other fields than its members
+  pub fields : (s f : ℕ) (entry : StructEntry) (x : Field) → slice_get scope.structs s ≡ Some entry → slice_get (fields_of program.structs s) f ≡ Some x → IsOfMember entry f x
 
 -- ---- locals
 

@@ -1,2 +1,6 @@
 //! What the rule of bodies makes keeps to the rules of sound programs, where the rules of what stands in statements do.
 #![tactic(auto)]
+
+mod laws;
+
+pub use laws::bodies_are_sound;
