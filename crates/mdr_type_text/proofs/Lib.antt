@@ -1,0 +1,4 @@
+pub mod Levels
+pub mod Numbered
+pub mod Formed
+pub mod Apart
