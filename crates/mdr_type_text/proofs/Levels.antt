@@ -1,12 +1,12 @@
 -- The sort and the text of a type from one level of it, and what the sort tells.
-use Rattle.std.proofs.Common.{◌≡◌, ℕ, Bool, true, false, ◌&&◌, ◌||◌, nat_lt, List, IsTrue, refl, sym, ap, ◌∙◌}
+use Rattle.std.proofs.Common.{◌≡◌, ℕ, Bool, true, false, ◌&&◌, ◌||◌, nat_lt, List, [], ◌∷◌, map, IsTrue, refl, sym, ap, ◌∙◌}
 use Rattle.mdr_core.specs.declared.types.Ty.{Ty, out-Ty}
 use Rattle.mdr_core.specs.declared.types.Ty.TheOpen.{Ty-F}
 use Rattle.mdr_core.specs.declared.types.Ty.TheFolds.{map-Ty, fold_out-Ty}
 use Rattle.mdr_core.specs.declared.program.StructDef.{StructDef}
 use Rattle.mdr_core.specs.Layout.{chosen}
 use Rattle.mdr_core.specs.TypeText.{Text, text_layer, text_of}
-use Rattle.mdr_core.specs.Types.{Sort, Wrong, Empty, Locks, Aggregate, Scalar, is_scalar_sort, is_result_sort, sort_layer, sort_of, is_scalar, is_scalar_by}
+use Rattle.mdr_core.specs.Types.{Sort, Wrong, Empty, Locks, Aggregate, Scalar, pointer_sort, function_sort, is_scalar_sort, is_result_sort, sort_layer, sort_of, is_scalar, is_scalar_by, is_pointer, is_pointer_by}
 use Rattle.mdr_core.proofs.Laid.{sort_is}
 use Rattle.mdr_plan.specs.TypeTexts.{is_void_by, is_result}
 
@@ -78,3 +78,33 @@ result_by n Ty-F.Void h = refl
 
 pub result_of : (n : ℕ) (t : Ty) → is_result_sort (sort_of n t) ≡ true → IsTrue (is_result t)
 result_of n t h = result_by n (out-Ty t) (ap is_result_sort (sym (sort_is n t)) ∙ h)
+
+-- ---- pointers
+
+pointer_by : (s : Sort) → (pointer_sort s ≡ Wrong → ⊥) → pointer_sort s ≡ Scalar
+pointer_by Wrong h = absurd (h refl)
+pointer_by Empty h = absurd (h refl)
+pointer_by Locks h = refl
+pointer_by Aggregate h = refl
+pointer_by Scalar h = refl
+
+function_by : (b : Bool) → (chosen b Scalar Wrong ≡ Wrong → ⊥) → chosen b Scalar Wrong ≡ Scalar
+function_by true h = refl
+function_by false h = absurd (h refl)
+
+signature_by : (ss : List Sort) → (function_sort ss ≡ Wrong → ⊥) → function_sort ss ≡ Scalar
+signature_by [] h = absurd (h refl)
+signature_by (r ∷ ps) h = function_by _ h
+
+pointer_layer : (n : ℕ) (l : Ty-F Ty) → IsTrue (is_pointer_by l) → (sort_layer n (map-Ty Ty Sort (sort_of n) l) ≡ Wrong → ⊥) → sort_layer n (map-Ty Ty Sort (sort_of n) l) ≡ Scalar
+pointer_layer n (Ty-F.Int k) p h = refl
+pointer_layer n Ty-F.Lock p h = absurd cc
+pointer_layer n (Ty-F.Struct s) p h = absurd cc
+pointer_layer n (Ty-F.Ptr t) p h = pointer_by (sort_of n t) h
+pointer_layer n Ty-F.VoidPtr p h = refl
+pointer_layer n (Ty-F.Fun ts) p h = signature_by (map (sort_of n) ts) h
+pointer_layer n Ty-F.Void p h = absurd cc
+
+-- a pointer type that is formed is a scalar
+pub pointer_scalar : (n : ℕ) (t : Ty) → IsTrue (is_pointer t) → (sort_of n t ≡ Wrong → ⊥) → sort_of n t ≡ Scalar
+pointer_scalar n t p h = sort_is n t ∙ pointer_layer n (out-Ty t) p (λ e. h (sort_is n t ∙ e))

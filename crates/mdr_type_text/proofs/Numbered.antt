@@ -2,7 +2,7 @@
 use Rattle.std.proofs.Common.{◌≡◌, ℕ, zero, suc, ◌+◌, ◌<◌, ◌≤◌, ◌^◌, Bool, true, false, not, cond, nat_lt, List, [], ◌∷◌, length, Option, Some, None, slice_get, refl, ap, ◌∙◌, arith, option_map}
 use Rattle.std.specs.List.{position, prefix_len, list_all}
 use Rattle.std.specs.Str.{bytes_eq}
-use Rattle.std.proofs.lemmas.Option.{slice_get-map}
+use Rattle.std.proofs.lemmas.Option.{slice_get-map, slice_get_within}
 use Rattle.std.proofs.lemmas.Slice.Eq.{bytes_eq-Decides}
 use Rattle.mdr_core.specs.declared.program.StructDef.{StructDef}
 use Rattle.mdr_syntax.specs.Bytes.{is_name_byte}
@@ -43,18 +43,13 @@ first_at : (name : List ℕ) (xs : List (List ℕ)) (s : ℕ) → slice_get xs s
 first_at name [] s e once = absurd cc
 first_at name (x ∷ xs) s e once = first_step x name xs s (bytes_eq x name) refl (first_at name xs) e once
 
-inside : {A : Type 0} (xs : List A) (s : ℕ) (x : A) → slice_get xs s ≡ Some x → s < length xs
-inside [] s x e = absurd cc
-inside (y ∷ ys) zero x e = omega arith
-inside (y ∷ ys) (suc s) x e = let h = inside ys s x e in omega (arith, h)
-
 less_true : (a b : ℕ) → a < b → nat_lt a b ≡ true
 less_true a b lt = grind (arith, lt)
 
 position_at : (name : List ℕ) (xs : List (List ℕ)) (s : ℕ) → slice_get xs s ≡ Some name → ((r : ℕ) → slice_get xs r ≡ Some name → r ≡ s) → position (is_named name) xs ≡ Some s
 position_at name xs s e once =
     let at : prefix_len (differs name) xs ≡ s = first_at name xs s e once in
-    let lt : nat_lt s (length xs) ≡ true = less_true s (length xs) (inside xs s name e) in
+    let lt : nat_lt s (length xs) ≡ true = less_true s (length xs) (slice_get_within xs s name e) in
     ap (λ (k : ℕ). cond (nat_lt k (length xs)) (Some k) None) at ∙ ap (λ (b : Bool). cond b (Some s) None) lt
 
 -- ---- structs
@@ -79,5 +74,5 @@ small_by s false e = absurd cc
 pub number_of : (structs : List StructDef) → AreNamed structs → length structs ≤ 2 ^ 32 → (s : ℕ) (def : StructDef) → slice_get structs s ≡ Some def → struct_number (names_of structs) def.name ≡ Some s
 unfolding struct_number
 number_of structs h few s def e =
-    let lt : s < length structs = inside structs s def e in
+    let lt : s < length structs = slice_get_within structs s def e in
     ap (λ (o : Option ℕ). o >>= small) (place_of structs h s def e) ∙ small_by s (nat_lt s (2 ^ 32)) (less_true s (2 ^ 32) (omega (arith, lt, few)))
