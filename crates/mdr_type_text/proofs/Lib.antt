@@ -2,3 +2,4 @@ pub mod Levels
 pub mod Numbered
 pub mod Formed
 pub mod Apart
+pub mod WorkedTexts

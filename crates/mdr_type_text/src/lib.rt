@@ -3,4 +3,4 @@
 
 mod laws;
 
-pub use laws::{pointer_texts_are_read, texts_tell_types_apart};
+pub use laws::{pointer_texts_are_read, texts_tell_types_apart, worked_texts};
