@@ -1,0 +1,4 @@
+pub mod RightParts
+pub mod Scoped
+pub mod StructNames
+pub mod FuncNames
