@@ -1,5 +1,5 @@
 -- The keys of a plan rise, and are those of what is there.
-use Rattle.std.proofs.Common.{◌≡◌, ℕ, zero, suc, ◌<◌, ◌≤◌, ◌^◌, ◌==◌, ◌⊎◌, inl, inr, Bool, true, false, ◌&&◌, ◌||◌, nat_lt, List, [], ◌∷◌, length, Option, Some, None, slice_get, IsTrue, refl, sym, ap, subst, arith}
+use Rattle.std.proofs.Common.{◌≡◌, ℕ, zero, suc, ◌<◌, ◌^◌, ◌==◌, ◌⊎◌, inl, inr, Bool, true, false, ◌&&◌, ◌||◌, nat_lt, List, [], ◌∷◌, length, Option, Some, None, slice_get, IsTrue, refl, sym, ap, subst, arith}
 use Rattle.std.specs.List.{list_any}
 use Rattle.std.proofs.lemmas.Option.{slice_get_within}
 use Rattle.mdr_core.specs.declared.plan.Half.{Half}
@@ -10,13 +10,14 @@ use Rattle.mdr_core.specs.declared.program.Field.{Field as AnyField}
 use Rattle.mdr_core.specs.declared.program.Program.{Program}
 use Rattle.mdr_core.specs.declared.program.StructDef.{StructDef}
 use Rattle.mdr_core.specs.declared.types.Ty.{Ty}
-use Rattle.mdr_core.specs.Layout.{AreFew, fields_of}
+use Rattle.mdr_core.specs.Layout.{fields_of}
 use Rattle.mdr_core.specs.Suited.{is_key, is_no_lock, global_type, field_type}
 use Rattle.std.specs.Option.{option_map}
 use Rattle.mdr_paths.specs.Paths.{Rises, is_in}
 use Rattle.mdr_access.specs.KeyOrder.{keys, same_key, same_itself, IsBefore}
 use Rattle.mdr_plan.specs.Lines.{is_there, is_after, IsSmall}
 use Rattle.mdr_texts.specs.Canonical.{AreKeys, AreKeyed}
+use Rattle.mdr_canonical.specs.Plannable.{HasShortNumbers}
 use Rattle.mdr_texts.specs.Canonical.AreKeys.{NoKeys, Behind}
 use Rattle.mdr_texts.specs.Canonical.AreKeyed.{NoFunctions, OfKernel, OfUser}
 
@@ -42,25 +43,24 @@ struct_there [] s f x e = absurd cc
 struct_there (d ∷ ds) zero f x e = omega arith
 struct_there (d ∷ ds) (suc s) f x e = let lt = struct_there ds s f x e in omega (arith, lt)
 
-pub key_there : (program : Program) → length program.structs ≤ 2 ^ 32 → AreFew program.structs → length program.globals ≤ 2 ^ 32 → length program.types ≤ 2 ^ 32
-    → (k : Key) → IsTrue (is_key program k) → IsThere (length program.structs) (length program.types) k
+pub key_there : (program : Program) → HasShortNumbers program → (k : Key) → IsTrue (is_key program k) → IsThere (length program.structs) (length program.types) k
 unfolding is_key is_there
-key_there program structs fields globals types (Global g) h =
+key_there program short (Global g) h =
     let x = mapped_some global_type (slice_get program.globals g) h in
     let lt : g < length program.globals = slice_get_within program.globals g x.0 x.1 in
-    record { there = refl; small = omega (arith, lt, globals) }
-key_there program structs fields globals types (Field s f) h =
+    record { there = refl; small = (let few = short.globals in omega (arith, lt, few)) }
+key_there program short (Field s f) h =
     let x = mapped_some field_type (slice_get (fields_of program.structs s) f) h in
     let lt : s < length program.structs = struct_there program.structs s f x.0 x.1 in
-    let few = fields.within s in
+    let few = short.fields.within s in
     let inside : f < length (fields_of program.structs s) = slice_get_within (fields_of program.structs s) f x.0 x.1 in
-    let one : s < 2 ^ 32 = omega (arith, lt, structs) in
+    let one : s < 2 ^ 32 = (let many = short.structs in omega (arith, lt, many)) in
     let other : f < 2 ^ 32 = omega (arith, inside, few) in
     record { there = less_true s (length program.structs) lt; small = (one, other) }
-key_there program structs fields globals types (Elem t) h =
+key_there program short (Elem t) h =
     let x = type_some (slice_get program.types t) h in
     let lt : t < length program.types = slice_get_within program.types t x.0 x.1 in
-    record { there = less_true t (length program.types) lt; small = omega (arith, lt, types) }
+    record { there = less_true t (length program.types) lt; small = (let few = short.types in omega (arith, lt, few)) }
 
 -- ---- keys that rise
 

@@ -57,7 +57,7 @@ all_new names h = new_on [] names h
 
 -- ---- structs of such names
 
-letters : (name : List ℕ) → IsTrue (is_name name) → IsTrue (list_all is_name_byte name)
+pub letters : (name : List ℕ) → IsTrue (is_name name) → IsTrue (list_all is_name_byte name)
 unfolding is_name
 letters name h = (parts_of (begins_name name) (list_all is_name_byte name) (parts_of (begins_name name && list_all is_name_byte name) (not (is_reserved name)) h).0).1
 

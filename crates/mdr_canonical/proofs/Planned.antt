@@ -54,7 +54,7 @@ module _ (program : Program) (h : IsPlannable program) where
   text_read : (i : ℕ) (t : Ty) → slice_get rest i ≡ Some t → IsPointerText (struct_number (struct_names program)) t (text_of program.structs t).bytes
   text_read i t e =
       let sort = h.table.table.formed (9 + length program.structs + i) t (sym (rest_at i) ∙ e) in
-      pointer_texts_are_read program.structs t (are_named program.structs h.structs) h.few_structs (record { formed = formed_by (sort_of (length program.structs) t) sort }) (pointer i t e)
+      pointer_texts_are_read program.structs t (are_named program.structs h.structs) h.short.structs (record { formed = formed_by (sort_of (length program.structs) t) sort }) (pointer i t e)
 
   texts_rise : (i : ℕ) (t u : Ty) → slice_get rest i ≡ Some t → slice_get rest (suc i) ≡ Some u → IsTrue (is_before (text_of program.structs t).bytes (text_of program.structs u).bytes)
   texts_rise i t u e f =
@@ -80,15 +80,15 @@ module _ (program : Program) (h : IsPlannable program) where
 user_keys : (program : Program) (halves : Halves) (plan : Plan) → IsPlannable program → IsPlan program halves plan → (f : ℕ) (ks : List Key) → slice_get halves.halves f ≡ Some User → slice_get plan.keys f ≡ Some ks → AreKeys (length program.structs) (length program.types) None ks
 user_keys program halves plan h is f ks user at =
     let own = is.user f ks user at in
-    keys_are (length program.structs) (length program.types) ks own.rises (λ k e. key_there program h.few_structs h.few_fields h.few_globals h.few_types k ((own.exact k).0 e).kept)
+    keys_are (length program.structs) (length program.types) ks own.rises (λ k e. key_there program h.short k ((own.exact k).0 e).kept)
 
 pub plans_are_canonical : PlansAreCanonical
 plans_are_canonical program halves plan h each is =
     let count : length (func_names program) ≡ length program.funcs = length-map program.funcs (λ (func : Func). func.name) in
     let names : length plan.names ≡ length program.funcs = ap length is.names ∙ count in
-    let few = h.few_funcs in
+    let few = h.short.funcs in
     let structs = name_count program h in
-    let few_structs = h.few_structs in
+    let few_structs = h.short.structs in
     let lists : length plan.keys ≡ length halves.halves = is.lists ∙ sym each.halves_size in
     let of_halves : AreKeyed (length program.structs) (length program.types) halves.halves plan.keys =
     keyed (length program.structs) (length program.types) halves.halves plan.keys lists is.kernel (user_keys program halves plan h is) in

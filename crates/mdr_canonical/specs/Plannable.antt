@@ -21,16 +21,20 @@ pub record AreNames (names : List (List ℕ)) : Type 0 where
 abbrev pub func_names : Program → List (List ℕ)
 func_names program = map (λ (func : Func). func.name) program.funcs
 
--- structs and functions have names of their own, the type table is in order, and what is numbered has numbers of 32 bits
+-- what is numbered has numbers of 32 bits, and functions of 64
+pub record HasShortNumbers (program : Program) : Type 0 where
+  pub structs : length program.structs ≤ 2 ^ 32
+  pub fields : AreFew program.structs
+  pub globals : length program.globals ≤ 2 ^ 32
+  pub types : length program.types ≤ 2 ^ 32
+  pub funcs : length program.funcs ≤ 2 ^ 64
+
+-- structs and functions have names of their own, and the type table is in order
 pub record IsPlannable (program : Program) : Type 0 where
   pub table : IsOrderedTable program
   pub structs : AreNames (struct_names program)
   pub funcs : AreNames (func_names program)
-  pub few_structs : length program.structs ≤ 2 ^ 32
-  pub few_fields : AreFew program.structs
-  pub few_globals : length program.globals ≤ 2 ^ 32
-  pub few_types : length program.types ≤ 2 ^ 32
-  pub few_funcs : length program.funcs ≤ 2 ^ 64
+  pub short : HasShortNumbers program
 
 abbrev pub PlansAreCanonical : Type 0
 PlansAreCanonical = (program : Program) (halves : Halves) (plan : Plan) → IsPlannable program → HasEach program halves → IsPlan program halves plan → IsCanonical (struct_names program) plan

@@ -2,3 +2,4 @@ pub mod RightParts
 pub mod Scoped
 pub mod StructNames
 pub mod FuncNames
+pub mod WholeFiles

@@ -4,6 +4,6 @@
 mod laws;
 
 pub use laws::{
-    functions_have_names_of_their_own, structs_have_names_of_their_own,
+    functions_have_names_of_their_own, names_are_those_of_items, structs_have_names_of_their_own,
     tables_of_files_are_in_order,
 };

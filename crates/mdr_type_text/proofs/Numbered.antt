@@ -57,7 +57,7 @@ position_at name xs s e once =
 pub name_at : (structs : List StructDef) (s : ℕ) (def : StructDef) → slice_get structs s ≡ Some def → slice_get (names_of structs) s ≡ Some def.name
 name_at structs s def e = slice_get-map (λ (d : StructDef). d.name) structs s ∙ ap (option_map (λ (d : StructDef). d.name)) e
 
-struct_of_name : (structs : List StructDef) (r : ℕ) (name : List ℕ) → slice_get (names_of structs) r ≡ Some name → (def : StructDef) × (slice_get structs r ≡ Some def) × (def.name ≡ name)
+pub struct_of_name : (structs : List StructDef) (r : ℕ) (name : List ℕ) → slice_get (names_of structs) r ≡ Some name → (def : StructDef) × (slice_get structs r ≡ Some def) × (def.name ≡ name)
 struct_of_name [] r name e = absurd cc
 struct_of_name (d ∷ ds) zero name e = (d, refl, cc)
 struct_of_name (d ∷ ds) (suc r) name e = struct_of_name ds r name e

@@ -1,4 +1,4 @@
-use Rattle.mdr_file_names.proofs.StructNames.{structs_are_named}
+use Rattle.mdr_file_names.proofs.WholeFiles.{structs_are_named}
 use Rattle.mdr_file_names.proofs.laws.structs_have_names_of_their_own.Goals as goal
 
 pub returns : goal.returns

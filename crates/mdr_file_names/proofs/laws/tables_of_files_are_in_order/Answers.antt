@@ -1,4 +1,4 @@
-use Rattle.mdr_file_names.proofs.StructNames.{tables_of_files_are_in_order}
+use Rattle.mdr_file_names.proofs.WholeFiles.{tables_of_files_are_in_order}
 use Rattle.mdr_file_names.proofs.laws.tables_of_files_are_in_order.Goals as goal
 
 pub returns : goal.returns
