@@ -1,0 +1,4 @@
+pub mod NewNames
+pub mod KeyLists
+pub mod PointerLists
+pub mod Planned

@@ -1,0 +1,5 @@
+pub mod RightParts
+pub mod Scoped
+pub mod StructNames
+pub mod FuncNames
+pub mod WholeFiles

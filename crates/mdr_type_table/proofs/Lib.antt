@@ -1,0 +1,4 @@
+pub mod Among
+pub mod Before
+pub mod Placed
+pub mod Tabled

@@ -1,0 +1,5 @@
+pub mod Levels
+pub mod Numbered
+pub mod Formed
+pub mod Apart
+pub mod WorkedTexts
