@@ -1,9 +1,7 @@
 -- Behind each item the structs, globals and functions are counted as the file numbers them.
-use Rattle.std.proofs.Common.{◌≡◌, ℕ, zero, suc, ◌+◌, Bool, true, false, not, ◌&&◌, ◌||◌, cond, List, [], ◌∷◌, ◌++◌, map, length, Option, Some, None, Result, Ok, Err, refl, sym, ap, ◌∙◌, subst, slice_get, is_some, ◌==◌, append-nil, append_assoc, length-append, ◌⊎◌, inl, inr}
-use Rattle.std.specs.List.{find}
+use Rattle.std.proofs.Common.{◌≡◌, ℕ, zero, suc, ◌+◌, Bool, true, false, not, ◌&&◌, List, [], ◌∷◌, ◌++◌, map, length, Option, Some, None, Result, Ok, refl, sym, ap, ◌∙◌, subst, slice_get, is_some, ◌==◌, append-nil, append_assoc, length-append, ◌⊎◌, inl, inr}
 use Rattle.std.specs.Str.{bytes_eq}
 use Rattle.mdr_core.specs.declared.place.Place.{Place}
-use Rattle.mdr_core.specs.declared.program.Field.{Field}
 use Rattle.mdr_core.specs.declared.program.Func.{Func}
 use Rattle.mdr_core.specs.declared.program.Param.{Param}
 use Rattle.mdr_core.specs.declared.types.Ty.{Ty}
@@ -19,18 +17,17 @@ use Rattle.mdr_faults.specs.declared.fault.FaultKind.TheVariants.{Redefined, Mis
 use Rattle.mdr_faults.specs.declared.scope.Constant.{Constant}
 use Rattle.mdr_faults.specs.declared.scope.Named.{Named as Entry}
 use Rattle.mdr_faults.specs.declared.scope.Scope.{Scope}
-use Rattle.mdr_faults.specs.Alike.{is_alike}
 use Rattle.mdr_faults.specs.declared.scope.Entity.TheVariants as entity
 use Rattle.mdr_faults.specs.Declarations.{number_constant}
 use Rattle.mdr_faults.specs.Enums.{with_name, enumerators, behind_enumerator, behind_enumerators, value_behind}
-use Rattle.mdr_faults.specs.Faults.{Checked, Right, told, after, both, demand}
+use Rattle.mdr_faults.specs.Faults.{Right, told, after, demand}
 use Rattle.mdr_faults.specs.Scopes.{entity_among, tag_named}
 use Rattle.mdr_headings.specs.declared.function.Declared.{Declared}
 use Rattle.mdr_headings.specs.declared.head.Heading.{Heading}
-use Rattle.mdr_headings.specs.Functions.{is_same_ann, is_same_param, are_same_params, is_same_heading, agrees, agrees_with, function_named, may_stand, is_taken, with_function_unless, behind_function, declared_unless, function_rule, function_heading, function_declared, functions_behind, is_defined, has_body}
+use Rattle.mdr_headings.specs.Functions.{is_same_param, are_same_params, is_same_heading, agrees, agrees_with, function_named, may_stand, is_taken, with_function_unless, behind_function, declared_unless, function_rule, function_heading, function_declared, functions_behind, is_defined, has_body}
 use Rattle.mdr_headings.specs.Structs.{name_or_none, struct_fields, struct_entry}
-use Rattle.mdr_syntax.specs.declared.tree.Decl.{Decl, out-Decl}
-use Rattle.mdr_headings.specs.Source.{is_numbered, before_first, behind_struct, with_struct_if}
+use Rattle.mdr_syntax.specs.declared.tree.Decl.{out-Decl}
+use Rattle.mdr_headings.specs.Source.{is_numbered, before_first, with_struct_if}
 use Rattle.mdr_check.specs.declared.file.Known.{Known}
 use Rattle.mdr_check.specs.declared.file.Piece.{Piece}
 use Rattle.mdr_check.specs.declared.file.Piece.TheVariants as piece
@@ -39,10 +36,10 @@ use Rattle.mdr_check.specs.Globals.{global, global_object, global_means, behind_
 use Rattle.mdr_program.specs.declared.parts.Parts.{Parts}
 use Rattle.mdr_program.specs.Parts.{flagged, marked, remote, whole, number_among, declared, defined, behind_piece}
 use Rattle.mdr_sound_code.proofs.Alike.{alike_same, left_of, right_of}
-use Rattle.mdr_sound_code.proofs.Rights.{After, after_right, Both, both_right, Demanded, demand_right, same_right, not_right}
+use Rattle.mdr_sound_code.proofs.Rights.{after_right, both_right, demand_right, same_right}
 use Rattle.mdr_sound_files.specs.Counting.{heading_type, IsDeclaredAs, AreDeclaredAs, Counts}
 use Rattle.mdr_sound_files.proofs.Declaring.{Agrees, defined_again, declared_again, defined_first, declared_first}
-use Rattle.mdr_sound_files.proofs.Named.{FoundAt, found_at, found_more, found_last, same_bytes, bytes_same}
+use Rattle.mdr_sound_files.proofs.Named.{found_at, found_more, found_last, same_bytes, bytes_same}
 
 -- ---- types of functions
 
@@ -147,9 +144,9 @@ agree_types d h hd entry found told e =
 agreeing : (scope : Scope) (fs : List Declared) (items : List Item) (h : Head) (hd : Heading) (f : Func) → Ruled scope fs items h hd → f.name ≡ h.name → function_type f ≡ heading_type hd → Agrees fs f
 agreeing scope fs items h hd f r named types = record {
   types = λ d old found told.
-    let there = found_at (λ (x : Declared). bytes_eq x.name f.name) fs d found in
-    let entry : function_named fs h.name ≡ Some d = subst (λ n. function_named fs n ≡ Some d) named found in
-    record { name = sym (same_bytes d.name f.name there.passes); heading = old; told = told; types = types ∙ agree_types d old hd (function_named fs h.name) entry told r.agree };
+      let there = found_at (λ (x : Declared). bytes_eq x.name f.name) fs d found in
+      let entry : function_named fs h.name ≡ Some d = subst (λ n. function_named fs n ≡ Some d) named found in
+      record { name = sym (same_bytes d.name f.name there.passes); heading = old; told = told; types = types ∙ agree_types d old hd (function_named fs h.name) entry told r.agree };
 }
 
 -- where a name isn't taken no function has it

@@ -1,7 +1,7 @@
 -- Functions get their numbers by their first declarations, and keep their types.
-use Rattle.std.proofs.Common.{◌≡◌, ℕ, zero, suc, ◌<◌, Bool, true, false, not, nat_lt, cond, List, [], ◌∷◌, ◌++◌, map, length, Option, Some, None, Ok, refl, sym, ap, ◌∙◌, subst, slice_get, slice_set, is_some, ◌+◌, arith}
+use Rattle.std.proofs.Common.{◌≡◌, ℕ, zero, suc, Bool, true, false, not, nat_lt, cond, List, [], ◌∷◌, ◌++◌, length, Option, Some, None, Ok, refl, sym, ap, ◌∙◌, subst, slice_get, is_some, ◌+◌, arith}
 use Rattle.std.proofs.lemmas.Bool.{ltb-true, ltb-false, lt-ltb}
-use Rattle.std.specs.List.{find, position, position_or_len}
+use Rattle.std.specs.List.{position, position_or_len}
 use Rattle.std.specs.Option.{option_map}
 use Rattle.std.specs.Str.{bytes_eq}
 use Rattle.mdr_core.specs.declared.program.Func.{Func}
@@ -9,7 +9,7 @@ use Rattle.mdr_headings.specs.declared.function.Declared.{Declared}
 use Rattle.mdr_headings.specs.declared.head.Heading.{Heading}
 use Rattle.mdr_headings.specs.Functions.{function_named}
 use Rattle.mdr_program.specs.Parts.{number_among, declared, defined}
-use Rattle.mdr_sound_files.specs.Counting.{heading_type, IsDeclaredAs, AreDeclaredAs}
+use Rattle.mdr_sound_files.specs.Counting.{IsDeclaredAs, AreDeclaredAs}
 
 -- ---- places by recursion
 

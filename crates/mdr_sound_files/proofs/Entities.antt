@@ -1,13 +1,11 @@
 -- A scope that stands goes on to stand behind each declaration.
-use Rattle.std.proofs.Common.{◌≡◌, ℕ, zero, suc, ◌+◌, ◌<◌, ◌≤◌, Bool, true, false, cond, not, ◌||◌, ◌==◌, nat_lt, List, [], ◌∷◌, ◌++◌, length, map, Option, Some, None, Result, Ok, Err, refl, sym, ap, ◌∙◌, subst, slice_get, arith, is_some, ◌⊎◌, inl, inr, IsTrue, ℤ, pos, negsuc, ◌+ℤ◌}
+use Rattle.std.proofs.Common.{◌≡◌, ℕ, Bool, true, false, cond, List, [], ◌∷◌, ◌++◌, Option, Some, None, Result, Ok, Err, refl, sym, ap, ◌∙◌, subst, ◌⊎◌, inl, inr, IsTrue, ℤ, pos, ◌+ℤ◌}
 use Rattle.std.specs.List.{find}
 use Rattle.std.specs.Str.{bytes_eq}
-use Rattle.mdr_core.specs.declared.kind.Kind.{Kind}
 use Rattle.mdr_core.specs.declared.kind.Kind.TheVariants.{S32}
 use Rattle.mdr_core.specs.declared.place.Place.{Place}
 use Rattle.mdr_core.specs.declared.program.Program.{Program}
 use Rattle.mdr_core.specs.Kinds.{is_in_range}
-use Rattle.mdr_core.specs.Layout.{chosen}
 use Rattle.mdr_syntax.specs.declared.tree.Const.{Const}
 use Rattle.mdr_syntax.specs.declared.tree.Enumerator.{Enumerator}
 use Rattle.mdr_faults.specs.declared.fault.Fault.{Fault}
@@ -19,10 +17,10 @@ use Rattle.mdr_faults.specs.declared.scope.Named.{Named as Entry}
 use Rattle.mdr_faults.specs.declared.scope.Scope.{Scope}
 use Rattle.mdr_faults.specs.Declarations.{constant, enumerated, enumerator_value}
 use Rattle.mdr_faults.specs.Enums.{with_name, constant_means, value_behind, behind_enumerator, behind_enumerators}
-use Rattle.mdr_faults.specs.Faults.{Checked, Right, Wrong, again, after, refuse, told}
+use Rattle.mdr_faults.specs.Faults.{Checked, Right, again, told}
 use Rattle.mdr_faults.specs.Scopes.{or_else, entity_among, entity_named}
-use Rattle.mdr_sound_code.specs.Knowing.{IsKnownEntity, Knows}
-use Rattle.mdr_sound_code.proofs.Rights.{After, after_right, Demanded, chosen_right, same_right, not_right, told_right}
+use Rattle.mdr_sound_code.specs.Knowing.{IsKnownEntity}
+use Rattle.mdr_sound_code.proofs.Rights.{after_right, chosen_right, same_right, told_right}
 use Rattle.mdr_sound_files.specs.Standing.{Stands}
 
 -- ---- a name more

@@ -1,26 +1,20 @@
 -- What is known at a place of a file stands in the whole program under the same number.
-use Rattle.std.proofs.Common.{◌≡◌, ℕ, zero, suc, ◌+◌, Bool, true, false, List, [], ◌∷◌, ◌++◌, length, Option, Some, None, refl, sym, ap, ◌∙◌, subst, slice_get, append-nil, append_assoc}
-use Rattle.mdr_core.specs.declared.program.Func.{Func}
-use Rattle.mdr_core.specs.declared.program.StructDef.{StructDef}
-use Rattle.mdr_syntax.specs.declared.tree.Enumerator.{Enumerator}
+use Rattle.std.proofs.Common.{◌≡◌, ℕ, zero, suc, Bool, true, false, List, [], ◌∷◌, ◌++◌, length, Some, refl, sym, ap, ◌∙◌, subst, slice_get, append-nil, append_assoc}
 use Rattle.mdr_syntax.specs.declared.tree.Head.{Head}
 use Rattle.mdr_syntax.specs.declared.tree.Item.{Item}
 use Rattle.mdr_syntax.specs.declared.tree.ItemWhat.{ItemWhat}
 use Rattle.mdr_syntax.specs.declared.tree.ItemWhat.TheVariants as item
-use Rattle.mdr_faults.specs.Faults.{Checked, Right, told, next}
+use Rattle.mdr_faults.specs.Faults.{Right, told}
 use Rattle.mdr_headings.specs.declared.function.Declared.{Declared}
 use Rattle.mdr_headings.specs.Functions.{is_taken, declared_unless, function_heading, functions_behind}
 use Rattle.mdr_check.specs.declared.file.Known.{Known}
 use Rattle.mdr_check.specs.declared.file.Piece.{Piece}
 use Rattle.mdr_check.specs.declared.file.Piece.TheVariants as piece
-use Rattle.mdr_check.specs.declared.variable.Variable.{Variable}
 use Rattle.mdr_check.specs.Files.{BodyRule, item_piece, behind_item, pieces_behind, known_behind}
 use Rattle.mdr_program.specs.declared.parts.Parts.{Parts}
 use Rattle.mdr_program.specs.Parts.{behind_piece, parts_behind}
-use Rattle.mdr_sound_code.proofs.Rights.{Both, both_right, same_right}
-use Rattle.mdr_sound_files.specs.Counting.{AreDeclaredAs, IsDeclaredAs, Counts, Begins}
-use Rattle.mdr_sound_files.proofs.CountedItems.{counted_by}
-use Rattle.mdr_sound_files.proofs.Declaring.{declared_at}
+use Rattle.mdr_sound_code.proofs.Rights.{both_right, same_right}
+use Rattle.mdr_sound_files.specs.Counting.{Begins}
 
 -- ---- lists that begin others
 

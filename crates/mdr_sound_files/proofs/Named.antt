@@ -1,12 +1,8 @@
 -- What is found by its name, in a list that grows.
-use Rattle.std.proofs.Common.{◌≡◌, ℕ, zero, suc, Bool, true, false, cond, List, [], ◌∷◌, ◌++◌, Option, Some, None, refl, sym, ap, ◌∙◌, subst, slice_get, is_some}
+use Rattle.std.proofs.Common.{◌≡◌, ℕ, suc, Bool, true, false, cond, List, [], ◌∷◌, ◌++◌, Some, None, refl, sym, ap, ◌∙◌, subst, slice_get, is_some}
 use Rattle.std.specs.List.{find}
 use Rattle.std.specs.Str.{bytes_eq}
 use Rattle.std.proofs.lemmas.Slice.Eq.{bytes_eq-Decides}
-use Rattle.mdr_faults.specs.declared.scope.Named.{Named as Entry}
-use Rattle.mdr_faults.specs.Scopes.{entity_among}
-use Rattle.mdr_headings.specs.declared.function.Declared.{Declared}
-use Rattle.mdr_headings.specs.Functions.{function_named}
 
 -- one of a list that passes a test
 pub record FoundAt {A : Type 0} (test : A → Bool) (xs : List A) (x : A) : Type 0 where
@@ -23,6 +19,7 @@ found_at {A = A} test (y ∷ ys) x e = by (test y) refl (found_at test ys x)
   where
     same : {y x : A} → Some y ≡ Some x → y ≡ x
     same q = cc
+
     by : (t : Bool) → test y ≡ t → (find test ys ≡ Some x → FoundAt test ys x) → FoundAt test (y ∷ ys) x
     by true q rest =
         let is : y ≡ x = same (sym (ap (λ (t : Bool). cond t (Some y) (find test ys)) q) ∙ e) in

@@ -1,19 +1,13 @@
 -- What annotations see of a struct is so, wherever in the file it is defined.
-use Rattle.std.proofs.Common.{◌≡◌, ℕ, zero, suc, ◌+◌, ◌<◌, ◌≤◌, Bool, true, false, not, ◌&&◌, ◌==◌, List, [], ◌∷◌, ◌++◌, length, map, Option, Some, None, refl, sym, ap, ◌∙◌, subst, slice_get, arith, is_some, ◌⊎◌, inl, inr}
-use Rattle.std.proofs.lemmas.Option.{slice_get_within}
+use Rattle.std.proofs.Common.{◌≡◌, ℕ, true, not, ◌&&◌, List, length, map, Some, sym, ap, ◌∙◌, slice_get, is_some}
 use Rattle.mdr_core.specs.declared.place.Place.{Place}
 use Rattle.mdr_core.specs.declared.program.Field.{Field}
 use Rattle.mdr_core.specs.declared.program.Program.{Program}
-use Rattle.mdr_core.specs.declared.program.StructDef.{StructDef}
-use Rattle.mdr_core.specs.Layout.{fields_of, fields_or}
-use Rattle.mdr_core.specs.Types.{is_scalar, sort_of}
+use Rattle.mdr_core.specs.Layout.{fields_of}
+use Rattle.mdr_core.specs.Types.{is_scalar}
 use Rattle.mdr_syntax.specs.declared.tree.Decl.{Decl, out-Decl}
-use Rattle.mdr_syntax.specs.declared.tree.Item.{Item}
-use Rattle.mdr_syntax.specs.declared.tree.ItemWhat.{ItemWhat}
-use Rattle.mdr_syntax.specs.declared.tree.ItemWhat.TheVariants as item
 use Rattle.mdr_faults.specs.declared.scope.Candidate.{Candidate}
 use Rattle.mdr_faults.specs.declared.scope.Scope.{Scope}
-use Rattle.mdr_faults.specs.Declarations.{declarator}
 use Rattle.mdr_faults.specs.Faults.{Right}
 use Rattle.mdr_headings.specs.Annotations.{candidate}
 use Rattle.mdr_headings.specs.Structs.{struct_fields}

@@ -1,5 +1,5 @@
 -- All that annotations see of a file's structs is so.
-use Rattle.std.proofs.Common.{◌≡◌, ℕ, zero, suc, ◌+◌, ◌<◌, ◌≤◌, Bool, true, false, List, [], ◌∷◌, ◌++◌, length, map, Option, Some, None, refl, sym, ap, ◌∙◌, subst, slice_get, arith, ◌⊎◌, inl, inr, length-append, nat_lt}
+use Rattle.std.proofs.Common.{◌≡◌, ℕ, ◌+◌, ◌<◌, Bool, true, false, List, [], ◌∷◌, ◌++◌, length, map, Some, refl, sym, ap, ◌∙◌, subst, slice_get, arith, ◌⊎◌, inl, inr, length-append, nat_lt}
 use Rattle.std.proofs.lemmas.Bool.{ltb-true, ltb-false}
 use Rattle.std.specs.List.{find}
 use Rattle.std.specs.Str.{bytes_eq}
@@ -18,26 +18,23 @@ use Rattle.mdr_faults.specs.declared.scope.Scope.{Scope}
 use Rattle.mdr_faults.specs.declared.scope.Tag.{Tag}
 use Rattle.mdr_faults.specs.Faults.{Right}
 use Rattle.mdr_faults.specs.Scopes.{tag_named}
-use Rattle.mdr_headings.specs.declared.function.Declared.{Declared}
 use Rattle.mdr_headings.specs.Annotations.{candidate}
 use Rattle.mdr_headings.specs.Source.{tags_from, is_numbered, with_struct_if}
 use Rattle.mdr_check.specs.declared.file.Known.{Known}
 use Rattle.mdr_check.specs.declared.file.Piece.{Piece}
-use Rattle.mdr_check.specs.declared.file.Piece.TheVariants as piece
 use Rattle.mdr_headings.specs.Structs.{struct_fields, struct_entry}
 use Rattle.mdr_check.specs.Files.{BodyRule, item_piece, behind_item, known_behind, first_known, pieces_behind, outlines_from, outlines_behind, with_outline_if, first_scope}
 use Rattle.mdr_program.specs.declared.parts.Parts.{Parts}
 use Rattle.mdr_program.specs.Parts.{behind_piece, parts_behind, no_parts}
-use Rattle.mdr_sound_files.specs.Counting.{Counts, Begins}
+use Rattle.mdr_sound_files.specs.Counting.{Begins}
 use Rattle.mdr_sound_files.specs.Standing.{IsScalarField}
 use Rattle.mdr_sound_files.specs.Whole.{IsMadeOf}
 use Rattle.mdr_sound_files.proofs.Along.{IsPlace, GoesOn, along, at_all, counted_all}
-use Rattle.mdr_sound_files.proofs.Extending.{begins_at, begins_last}
-use Rattle.mdr_sound_files.proofs.Named.{FoundAt, found_at}
+use Rattle.mdr_sound_files.proofs.Extending.{begins_last}
+use Rattle.mdr_sound_files.proofs.Named.{found_at}
 use Rattle.mdr_sound_files.proofs.NamedTypes.{AreNumbered}
 use Rattle.mdr_sound_files.proofs.Outlined.{outline_is}
-use Rattle.mdr_sound_files.proofs.Passing.{IsAt, IsNext, struct_next, all_tags_numbered, prefix_outlines, outlines_more, IsStructItem, struct_or_not}
-use Rattle.mdr_sound_files.proofs.Tagged as tagged
+use Rattle.mdr_sound_files.proofs.Passing.{struct_next, all_tags_numbered, prefix_outlines, outlines_more, IsStructItem, struct_or_not}
 
 module _ (program : Program) (body : BodyRule) (items : List Item) (xs : List Piece) (right : pieces_behind body items (first_known items) [] items ≡ Right xs) (made : IsMadeOf program (parts_behind no_parts xs)) where
   abbrev Whole : Parts

@@ -1,5 +1,5 @@
 -- How the scope of a file goes on from item to item: what holds in the whole file stays, and each struct completes the next name.
-use Rattle.std.proofs.Common.{◌≡◌, ℕ, zero, suc, ◌+◌, Bool, true, false, not, ◌==◌, List, [], ◌∷◌, ◌++◌, length, map, Option, Some, None, refl, sym, ap, ◌∙◌, subst, slice_get, append-nil, append_assoc, length-append, arith, is_some, ◌⊎◌, inl, inr}
+use Rattle.std.proofs.Common.{◌≡◌, ℕ, ◌+◌, Bool, true, false, not, ◌==◌, List, [], ◌∷◌, ◌++◌, length, map, Some, refl, sym, ap, ◌∙◌, subst, slice_get, length-append, ◌⊎◌, inl, inr}
 use Rattle.std.specs.List.{find}
 use Rattle.std.specs.Str.{bytes_eq}
 use Rattle.mdr_core.specs.declared.place.Place.{Place}
@@ -13,24 +13,23 @@ use Rattle.mdr_syntax.specs.declared.tree.ItemWhat.{ItemWhat}
 use Rattle.mdr_syntax.specs.declared.tree.ItemWhat.TheVariants as item
 use Rattle.mdr_faults.specs.declared.fault.FaultKind.TheVariants.{Redefined, Limit}
 use Rattle.mdr_faults.specs.declared.scope.Candidate.{Candidate}
-use Rattle.mdr_faults.specs.declared.scope.Named.{Named as Entry}
 use Rattle.mdr_faults.specs.declared.scope.Scope.{Scope}
 use Rattle.mdr_faults.specs.declared.scope.Tag.{Tag}
-use Rattle.mdr_faults.specs.Enums.{with_name, behind_enumerator, behind_enumerators, value_behind}
-use Rattle.mdr_faults.specs.Faults.{Checked, Right, told, after, demand}
+use Rattle.mdr_faults.specs.Enums.{behind_enumerator, behind_enumerators, value_behind}
+use Rattle.mdr_faults.specs.Faults.{Right, told, after, demand}
 use Rattle.mdr_faults.specs.Scopes.{tag_named}
 use Rattle.mdr_headings.specs.Annotations.{candidate}
 use Rattle.mdr_headings.specs.Functions.{is_taken, is_defined, with_function_unless, behind_function}
-use Rattle.mdr_headings.specs.Source.{has_tag, with_tag, tags_behind, tags_from, defines_from, is_numbered, with_struct_if, behind_struct, before_first}
+use Rattle.mdr_headings.specs.Source.{has_tag, tags_behind, tags_from, defines_from, is_numbered, with_struct_if, before_first}
 use Rattle.mdr_headings.specs.Structs.{struct_fields, struct_entry}
 use Rattle.mdr_check.specs.declared.file.Known.{Known}
 use Rattle.mdr_check.specs.declared.file.Piece.{Piece}
 use Rattle.mdr_check.specs.declared.file.Piece.TheVariants as piece
 use Rattle.mdr_check.specs.Files.{BodyRule, item_piece, behind_item, struct_piece, struct_of, with_outline_if, outlines_behind, outlines_from, first_scope, first_known}
 use Rattle.mdr_check.specs.Globals.{behind_global}
-use Rattle.mdr_sound_code.proofs.Rights.{After, after_right, Demanded, demand_right, same_right}
+use Rattle.mdr_sound_code.proofs.Rights.{after_right, demand_right, same_right}
 use Rattle.mdr_sound_files.specs.Counting.{Begins}
-use Rattle.mdr_sound_files.proofs.Extending.{begins_itself, begins_behind, begins_more, begins_at, begins_last}
+use Rattle.mdr_sound_files.proofs.Extending.{begins_itself, begins_behind, begins_more}
 use Rattle.mdr_sound_files.proofs.Tagged.{AreNumbered, all_numbered, tags_begin, is_first}
 
 -- ---- what holds in the whole file

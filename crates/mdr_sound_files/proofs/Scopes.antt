@@ -1,13 +1,10 @@
 -- The scope at each place of a file stands, and its structs are sound.
-use Rattle.std.proofs.Common.{◌≡◌, ℕ, zero, suc, ◌+◌, ◌<◌, ◌≤◌, Bool, true, false, not, ◌==◌, nat_lt, List, [], ◌∷◌, ◌++◌, length, map, Option, Some, None, Result, Ok, Err, refl, sym, ap, ◌∙◌, subst, slice_get, arith, ◌⊎◌, inl, inr, length-append, is_some, IsTrue, pos}
-use Rattle.std.specs.List.{find}
+use Rattle.std.proofs.Common.{◌≡◌, ℕ, zero, suc, ◌<◌, ◌≤◌, Bool, true, false, List, [], ◌∷◌, ◌++◌, length, map, Option, Some, None, Result, Ok, Err, refl, sym, ap, ◌∙◌, subst, slice_get, arith, ◌⊎◌, inl, inr, length-append, IsTrue}
 use Rattle.std.specs.Str.{bytes_eq}
 use Rattle.std.proofs.lemmas.Option.{slice_get_within}
 use Rattle.mdr_core.specs.declared.place.Place.{Place}
 use Rattle.mdr_core.specs.declared.program.Field.{Field}
 use Rattle.mdr_core.specs.declared.program.Func.{Func}
-use Rattle.mdr_core.specs.declared.program.GlobalDef.{GlobalDef}
-use Rattle.mdr_core.specs.declared.program.Param.{Param}
 use Rattle.mdr_core.specs.declared.program.Program.{Program}
 use Rattle.mdr_core.specs.declared.program.StructDef.{StructDef}
 use Rattle.mdr_core.specs.declared.types.Ty.{Ty}
@@ -17,7 +14,7 @@ use Rattle.mdr_core.specs.Layout.{fields_of, struct_cells}
 use Rattle.mdr_core.specs.Sound.{IsSoundStruct}
 use Rattle.mdr_core.specs.Typing.{function_type}
 use Rattle.mdr_core.specs.Types.{HasNumber}
-use Rattle.mdr_core.specs.TypeText.{Occurs, OfField}
+use Rattle.mdr_core.specs.TypeText.{OfField}
 use Rattle.mdr_syntax.specs.declared.tree.Decl.{Decl, out-Decl}
 use Rattle.mdr_syntax.specs.declared.tree.Head.{Head}
 use Rattle.mdr_syntax.specs.declared.tree.Init.{Init}
@@ -29,46 +26,42 @@ use Rattle.mdr_faults.specs.declared.scope.Entity.{Entity}
 use Rattle.mdr_faults.specs.declared.scope.Entity.TheVariants as entity
 use Rattle.mdr_faults.specs.declared.scope.Named.{Named as Entry}
 use Rattle.mdr_faults.specs.declared.scope.Object.{Object}
-use Rattle.mdr_faults.specs.declared.scope.Scope.{Scope}
 use Rattle.mdr_faults.specs.declared.scope.Signature.{Signature}
 use Rattle.mdr_faults.specs.declared.scope.StructEntry.{StructEntry}
 use Rattle.mdr_faults.specs.Declarations.{number_constant}
-use Rattle.mdr_faults.specs.Enums.{with_name, behind_enumerators}
-use Rattle.mdr_faults.specs.Faults.{Checked, Right, told}
-use Rattle.mdr_faults.specs.Scopes.{or_else, entity_among, entity_named, tag_named}
-use Rattle.mdr_headings.specs.declared.function.Declared.{Declared}
+use Rattle.mdr_faults.specs.Faults.{Right, told}
+use Rattle.mdr_faults.specs.Scopes.{or_else, entity_among}
 use Rattle.mdr_headings.specs.declared.head.Heading.{Heading}
 use Rattle.mdr_headings.specs.Functions.{is_taken, is_defined, with_function_unless, behind_function, declared_unless, function_heading, function_declared, function_means, functions_behind}
-use Rattle.mdr_headings.specs.Source.{tags_from, defines_from, defines_behind, defined_constant, is_numbered, with_struct_if, before_first, signature}
-use Rattle.mdr_headings.specs.Structs.{struct_fields, struct_entry, member, name_or_none}
+use Rattle.mdr_headings.specs.Source.{defines_from, defines_behind, defined_constant, with_struct_if, before_first, signature}
+use Rattle.mdr_headings.specs.Structs.{struct_entry, member, name_or_none}
 use Rattle.mdr_check.specs.declared.file.Known.{Known}
 use Rattle.mdr_check.specs.declared.file.Piece.{Piece}
 use Rattle.mdr_check.specs.declared.file.Piece.TheVariants as piece
 use Rattle.mdr_check.specs.declared.variable.Variable.{Variable}
-use Rattle.mdr_check.specs.Files.{BodyRule, item_piece, behind_item, known_behind, first_known, pieces_behind, first_scope, with_scope, body_scope, behind_head, global_of, prototype_of, function_of}
+use Rattle.mdr_check.specs.Files.{BodyRule, item_piece, behind_item, known_behind, first_known, pieces_behind, first_scope, body_scope, global_of, prototype_of, function_of}
 use Rattle.mdr_check.specs.Globals.{global, global_object, global_means, behind_global}
 use Rattle.mdr_program.specs.declared.parts.Parts.{Parts}
 use Rattle.mdr_program.specs.Parts.{behind_piece, parts_behind, no_parts}
 use Rattle.mdr_program.specs.Programs.{global_def, global_defs}
-use Rattle.mdr_sound_code.specs.Knowing.{IsFormed, IsKnownEntity, IsKnownGlobal, IsKnownFunction, Knows}
-use Rattle.mdr_sound_code.proofs.Rights.{After, after_right, Both, both_right, Demanded, demand_right, same_right, told_right}
-use Rattle.mdr_sound_files.specs.Counting.{heading_type, IsDeclaredAs, AreDeclaredAs, Counts, Begins}
-use Rattle.mdr_sound_files.specs.Declared.{IsSoundObject}
+use Rattle.mdr_sound_code.specs.Knowing.{IsKnownEntity, IsKnownGlobal, IsKnownFunction}
+use Rattle.mdr_sound_code.proofs.Rights.{after_right, both_right, same_right, told_right}
+use Rattle.mdr_sound_files.specs.Counting.{AreDeclaredAs, Begins}
 use Rattle.mdr_sound_files.specs.Standing.{Stands}
 use Rattle.mdr_sound_files.specs.Whole.{HasAll, IsMadeOf}
-use Rattle.mdr_sound_files.proofs.Along.{IsPlace, GoesOn, along, at_all, counted_all}
+use Rattle.mdr_sound_files.proofs.Along.{IsPlace, GoesOn, along, counted_all}
 use Rattle.mdr_sound_files.proofs.Counted.{members_counted}
-use Rattle.mdr_sound_files.proofs.CountedItems.{last_or_before, Ruled, ruled, new_declared}
+use Rattle.mdr_sound_files.proofs.CountedItems.{last_or_before, ruled, new_declared}
 use Rattle.mdr_sound_files.proofs.Declaring.{declared_at}
 use Rattle.mdr_sound_files.proofs.Entities.{stands_named, stands_enumerated}
-use Rattle.mdr_sound_files.proofs.Extending.{begins_at, begins_last}
+use Rattle.mdr_sound_files.proofs.Extending.{begins_last}
 use Rattle.mdr_sound_files.proofs.Headings.{signature_of_heading, signature_formed}
-use Rattle.mdr_sound_files.proofs.Named.{FoundAt, found_at}
+use Rattle.mdr_sound_files.proofs.Named.{found_at}
 use Rattle.mdr_sound_files.proofs.NamedTypes.{AreNumbered}
 use Rattle.mdr_sound_files.proofs.Objects.{object_sound}
 use Rattle.mdr_sound_files.proofs.Outlines.{names_structs, outlines_hold, Completes, completes, same_or_less, one_struct_more}
-use Rattle.mdr_sound_files.proofs.Passing.{IsAt, IsStructItem, struct_or_not}
-use Rattle.mdr_sound_files.proofs.SoundGlobals.{IsDeclared, declared}
+use Rattle.mdr_sound_files.proofs.Passing.{IsStructItem, struct_or_not}
+use Rattle.mdr_sound_files.proofs.SoundGlobals.{declared}
 use Rattle.mdr_headings.specs.Annotations.{candidate}
 use Rattle.mdr_sound_bodies.specs.Within.{IsOfMember}
 use Rattle.mdr_sound_files.proofs.Gathering.{pair_of_right}
@@ -137,6 +130,7 @@ known_more program names name is_negative n k h a = record { known = λ i entry 
   where
     same : {x y : Entity} → ◌≡◌ {A = Result Entity Fault} (Ok x) (Ok y) → x ≡ y
     same q = cc
+
     by : (i : ℕ) (entry : Entry) (e : Entity) → entry.means ≡ Ok e → (slice_get names i ≡ Some entry) ⊎ (defined_constant name (number_constant is_negative n k) ≡ entry) → IsKnownEntity program e
     by i entry e m (inl old) = a.known i entry e old m
     by i entry e m (inr new) = subst (IsKnownEntity program) (same (ap (λ (x : Entry). x.means) new ∙ m)) h

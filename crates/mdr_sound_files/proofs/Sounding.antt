@@ -1,8 +1,7 @@
 -- Globals and functions of a file are sound, each in its place.
-use Rattle.std.proofs.Common.{◌≡◌, ℕ, zero, suc, ◌+◌, ◌<◌, ◌≤◌, Bool, true, false, cond, not, List, [], ◌∷◌, ◌++◌, length, map, Option, Some, None, refl, sym, ap, ◌∙◌, subst, slice_get, arith, ◌⊎◌, inl, inr, length-append}
+use Rattle.std.proofs.Common.{◌≡◌, ℕ, zero, suc, ◌<◌, ◌≤◌, Bool, true, false, cond, List, [], ◌∷◌, ◌++◌, length, map, Option, Some, None, refl, sym, ap, ◌∙◌, subst, slice_get, arith, ◌⊎◌, inl, inr}
 use Rattle.std.specs.Str.{bytes_eq}
 use Rattle.std.proofs.lemmas.Option.{slice_get_within}
-use Rattle.mdr_core.specs.declared.place.Place.{Place}
 use Rattle.mdr_core.specs.declared.code.Stmt.{Stmt}
 use Rattle.mdr_core.specs.declared.program.Func.{Func}
 use Rattle.mdr_core.specs.declared.program.GlobalDef.{GlobalDef}
@@ -11,7 +10,6 @@ use Rattle.mdr_core.specs.declared.program.Param.{Param}
 use Rattle.mdr_core.specs.declared.program.Program.{Program}
 use Rattle.mdr_core.specs.declared.program.StructDef.{StructDef}
 use Rattle.mdr_core.specs.declared.types.Ty.{Ty}
-use Rattle.mdr_core.specs.Code.{Codes}
 use Rattle.mdr_core.specs.Folds.{codes_of}
 use Rattle.mdr_core.specs.declared.program.Field.{Field}
 use Rattle.mdr_core.specs.Layout.{AreSmall, AreFew, fields_or, fields_of, field_leaves, leaves_below, struct_cells}
@@ -20,58 +18,53 @@ use Rattle.mdr_core.specs.Typing.{Slot}
 use Rattle.mdr_core.specs.Types.{HasNumber}
 use Rattle.mdr_core.specs.TypeText.{Occurs}
 use Rattle.mdr_core.specs.TypeText as occurs
-use Rattle.mdr_syntax.specs.declared.tree.Decl.{Decl, out-Decl}
+use Rattle.mdr_syntax.specs.declared.tree.Decl.{Decl}
 use Rattle.mdr_syntax.specs.declared.tree.Head.{Head}
 use Rattle.mdr_syntax.specs.declared.tree.Init.{Init}
 use Rattle.mdr_syntax.specs.declared.tree.Item.{Item}
 use Rattle.mdr_syntax.specs.declared.tree.ItemWhat.{ItemWhat}
 use Rattle.mdr_syntax.specs.declared.tree.ItemWhat.TheVariants as item
 use Rattle.mdr_syntax.specs.declared.tree.Node.{Node}
-use Rattle.mdr_faults.specs.declared.scope.Object.{Object}
 use Rattle.mdr_faults.specs.declared.scope.Scope.{Scope}
 use Rattle.mdr_faults.specs.Faults.{Right}
 use Rattle.mdr_headings.specs.declared.body.Body.{Body}
 use Rattle.mdr_headings.specs.declared.head.Heading.{Heading}
-use Rattle.mdr_headings.specs.Functions.{function_declared, function_heading, functions_behind, behind_function, is_taken, is_defined}
-use Rattle.mdr_headings.specs.Heads.{heading}
+use Rattle.mdr_headings.specs.Functions.{function_declared, functions_behind, behind_function, is_taken, is_defined}
 use Rattle.mdr_check.specs.declared.file.Known.{Known}
 use Rattle.mdr_check.specs.declared.file.Piece.{Piece}
-use Rattle.mdr_check.specs.declared.file.Piece.TheVariants as piece
 use Rattle.mdr_check.specs.declared.variable.Variable.{Variable}
-use Rattle.mdr_check.specs.Files.{BodyRule, item_piece, behind_item, known_behind, first_known, pieces_behind, body_scope, global_of, prototype_of, function_of}
+use Rattle.mdr_check.specs.Files.{behind_item, known_behind, first_known, pieces_behind, body_scope}
 use Rattle.mdr_check.specs.Globals.{global}
 use Rattle.mdr_operand.specs.Written.{lines_of}
 use Rattle.mdr_body.specs.Bodies.{body_rule}
 use Rattle.mdr_body.specs.Statements.{Rules}
 use Rattle.mdr_program.specs.declared.parts.Parts.{Parts}
-use Rattle.mdr_program.specs.Parts.{flagged, marked, remote, whole, number_among, declared, defined, behind_piece, parts_behind, no_parts}
+use Rattle.mdr_program.specs.Parts.{marked, remote, whole, behind_piece, parts_behind, no_parts}
 use Rattle.mdr_program.specs.Programs.{global_def, global_defs}
 use Rattle.mdr_program.proofs.Happening.{allocates_in}
 use Rattle.mdr_sound_code.specs.Knowing.{Knows}
-use Rattle.mdr_sound_code.proofs.Rights.{After, after_right, Both, both_right, same_right}
 use Rattle.mdr_sound_bodies.specs.Grounded.{AreGrounded}
 use Rattle.mdr_sound_bodies.specs.Rules.{AreSoundRules}
 use Rattle.mdr_sound_bodies.specs.Within.{KnowsDeclarations}
 use Rattle.mdr_sound_bodies.specs.Written.{AreNamed, AreProper}
-use Rattle.mdr_sound_bodies.specs.Bodies.{IsMade, HasSoundBody}
+use Rattle.mdr_sound_bodies.specs.Bodies.{IsMade}
 use Rattle.mdr_sound_bodies.proofs.Making.{made_sound}
-use Rattle.mdr_sound_files.specs.Counting.{Counts, Begins}
-use Rattle.mdr_sound_files.specs.Declared.{IsSoundHeading, IsSoundObject}
+use Rattle.mdr_sound_files.specs.Counting.{Begins}
+use Rattle.mdr_sound_files.specs.Declared.{IsSoundHeading}
 use Rattle.mdr_sound_files.specs.Globals.{HasVariables, StandsAmong}
 use Rattle.mdr_sound_files.specs.Standing.{Stands}
 use Rattle.mdr_sound_files.specs.Whole.{HasAll, IsMadeOf, CallsNothingBack}
 use Rattle.mdr_sound_files.proofs.Along.{IsPlace, GoesOn, along, counted_all}
-use Rattle.mdr_sound_files.proofs.CountedItems.{last_or_before, Ruled, ruled}
+use Rattle.mdr_sound_files.proofs.CountedItems.{last_or_before, ruled}
 use Rattle.mdr_sound_files.proofs.Declaring.{put_named, keep_named, defined_put, declared_keep}
-use Rattle.mdr_sound_files.proofs.Extending.{begins_last}
 use Rattle.mdr_sound_files.proofs.Functions.{whole_sound, remote_sound, marked_types}
 use Rattle.mdr_sound_files.proofs.Headings.{heading_sound, head_result_is}
 use Rattle.mdr_sound_files.proofs.NamedTypes.{AreNumbered, declarator_good}
 use Rattle.mdr_sound_files.proofs.Objects.{object_sound, tags_numbered}
 use Rattle.mdr_sound_files.proofs.Outlines.{names_structs}
-use Rattle.mdr_sound_files.proofs.Passing.{IsAt, function_structs}
-use Rattle.mdr_sound_files.proofs.Reading.{get_map, Mapped, get_mapped}
-use Rattle.mdr_sound_files.proofs.Scopes.{AreDefinesInRange, IsStanding, standing_goes_on, first_standing, standing_all, function_stands, IsHeaded, prototype_headed, body_headed, global_there}
+use Rattle.mdr_sound_files.proofs.Passing.{function_structs}
+use Rattle.mdr_sound_files.proofs.Reading.{get_map, get_mapped}
+use Rattle.mdr_sound_files.proofs.Scopes.{AreDefinesInRange, IsStanding, standing_goes_on, first_standing, standing_all, function_stands, IsHeaded, global_there}
 use Rattle.mdr_sound_files.proofs.Tagged.{Last as IsLast, last_place}
 use Rattle.mdr_sound_files.proofs.Viewed.{Comes, OfDefine, OfStruct, OfEnum, OfGlobal, OfPrototype, OfFunction, comes_to}
 use Rattle.mdr_sound_files.proofs.SoundGlobals.{global_count, sound_globals}
@@ -280,14 +273,16 @@ module _ (program : Program) (rules : Rules) (items : List Item) (xs : List Piec
   }
 
   sound_goes_on : GoesOn (body_rule rules) items Whole Last.functions IsSoundFile
-  sound_goes_on = record { behind = λ before known i x ps place q.
-      sound_behind before known ps i.what x (comes_to (body_rule rules) items before known i.place i.what x place.one)
-      (proper_at before (place.begins).more i (subst AreBodiesProper (place.begins).whole proper))
-      place.declared
-      (names_structs program (body_rule rules) items xs right made known.scope (place.at).tags)
-      (place.counts).globals
-      ((standing_goes_on program (body_rule rules) items xs right made ranges).behind before known i x ps place q.rests)
-      q }
+  sound_goes_on = record {
+    behind = λ before known i x ps place q.
+        sound_behind before known ps i.what x (comes_to (body_rule rules) items before known i.place i.what x place.one)
+        (proper_at before (place.begins).more i (subst AreBodiesProper (place.begins).whole proper))
+        place.declared
+        (names_structs program (body_rule rules) items xs right made known.scope (place.at).tags)
+        (place.counts).globals
+        ((standing_goes_on program (body_rule rules) items xs right made ranges).behind before known i x ps place q.rests)
+        q;
+  }
 
   all_sound : IsSoundFile Last Whole
   all_sound = along (body_rule rules) items xs IsSoundFile right sound_goes_on (record { rests = first_standing program (body_rule rules) items xs right made ranges; globals = λ g v e. absurd cc; funcs = λ i f e. absurd cc })

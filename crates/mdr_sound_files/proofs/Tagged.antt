@@ -1,20 +1,17 @@
 -- Structs are numbered by their definitions: a file has as many structs as names of structs.
-use Rattle.std.proofs.Common.{◌≡◌, ℕ, zero, suc, ◌+◌, ◌<◌, ◌≤◌, Bool, true, false, cond, ◌==◌, not, eqb-true, List, [], ◌∷◌, ◌++◌, length, Option, Some, None, refl, sym, ap, ◌∙◌, subst, slice_get, append-nil, append_assoc, length-append, is_some, arith, ◌⊎◌, inl, inr, ◌||◌}
+use Rattle.std.proofs.Common.{◌≡◌, ℕ, zero, suc, ◌<◌, Bool, true, false, cond, ◌==◌, eqb-true, List, [], ◌∷◌, ◌++◌, length, Some, refl, sym, ap, ◌∙◌, subst, slice_get, arith, ◌⊎◌, inl, inr, ◌||◌}
 use Rattle.std.proofs.lemmas.Option.{slice_get_within}
 use Rattle.std.specs.List.{find, list_any}
 use Rattle.std.specs.Str.{bytes_eq}
 use Rattle.mdr_core.specs.Layout.{chosen}
-use Rattle.mdr_syntax.specs.declared.tree.Enumerator.{Enumerator}
 use Rattle.mdr_syntax.specs.declared.tree.Item.{Item}
 use Rattle.mdr_syntax.specs.declared.tree.ItemWhat.{ItemWhat}
 use Rattle.mdr_syntax.specs.declared.tree.ItemWhat.TheVariants as item
-use Rattle.mdr_faults.specs.declared.scope.Scope.{Scope}
 use Rattle.mdr_faults.specs.declared.scope.Tag.{Tag}
-use Rattle.mdr_faults.specs.Scopes.{tag_named}
-use Rattle.mdr_headings.specs.Source.{has_tag, with_tag, tags_behind, tags_from, is_numbered}
+use Rattle.mdr_headings.specs.Source.{has_tag, tags_behind, tags_from, is_numbered}
 use Rattle.mdr_sound_files.specs.Counting.{Begins}
 use Rattle.mdr_sound_files.proofs.Extending.{begins_itself, begins_behind, begins_more, begins_at}
-use Rattle.mdr_sound_files.proofs.Named.{FoundAt, found_at}
+use Rattle.mdr_sound_files.proofs.Named.{FoundAt}
 
 -- each struct has the number of its place
 pub record AreNumbered (tags : List Tag) : Type 0 where

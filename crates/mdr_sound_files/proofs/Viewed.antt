@@ -1,5 +1,5 @@
 -- What each item of a file comes to.
-use Rattle.std.proofs.Common.{◌≡◌, ℕ, Bool, true, false, not, ◌==◌, List, length, Option, refl, sym, ap, ◌∙◌, subst, is_some}
+use Rattle.std.proofs.Common.{◌≡◌, ℕ, Bool, true, false, not, List, Option, sym, subst, is_some}
 use Rattle.mdr_core.specs.declared.place.Place.{Place}
 use Rattle.mdr_core.specs.declared.kind.Kind.{Kind}
 use Rattle.mdr_core.specs.declared.program.Field.{Field}
@@ -25,8 +25,8 @@ use Rattle.mdr_check.specs.declared.file.Piece.TheVariants as piece
 use Rattle.mdr_check.specs.declared.variable.Variable.{Variable}
 use Rattle.mdr_check.specs.Files.{BodyRule, item_piece, body_scope, global_of, prototype_of, function_of}
 use Rattle.mdr_check.specs.Globals.{global}
-use Rattle.mdr_sound_code.proofs.Rights.{After, after_right, Both, both_right, Demanded, demand_right, same_right}
-use Rattle.mdr_sound_files.proofs.Passing.{IsNext, struct_next}
+use Rattle.mdr_sound_code.proofs.Rights.{after_right, both_right, demand_right, same_right}
+use Rattle.mdr_sound_files.proofs.Passing.{struct_next}
 
 -- an item behind others, of which this is known, and what it comes to
 pub data Comes (body : BodyRule) (items before : List Item) (known : Known) : ItemWhat → Piece → Type 0 where
