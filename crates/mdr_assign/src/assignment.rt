@@ -31,7 +31,8 @@ pub struct Assignment {
     pub right: Expr,
 }
 
-fn told_instead<A: Drop, B: Drop>(fault: Fault, _x: A) -> Result<B, Fault>
+/// A fault in place of what was made.
+pub fn told_instead<A: Drop, B: Drop>(fault: Fault, _x: A) -> Result<B, Fault>
     ensures { result ≡ Err fault }
 {
     Err(fault)

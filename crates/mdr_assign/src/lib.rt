@@ -4,5 +4,5 @@
 mod assignment;
 mod step;
 
-pub use assignment::{Assignment, Destination, assignment_rule, destination_at};
+pub use assignment::{Assignment, Destination, assignment_rule, destination_at, told_instead};
 pub use step::{step_operator, step_rule};

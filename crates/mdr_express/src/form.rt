@@ -1,6 +1,6 @@
 // What each expression comes to (C99 6.5).
 
-ghost use Rattle.std.specs.Prelude.{◌≡◌, IfOk, Err};
+ghost use Rattle.std.specs.Prelude.{◌≡◌, IfOk};
 ghost use Rattle.mdr_faults.specs.Faults.{Checked, told};
 ghost use Rattle.mdr_operand.specs.declared.operand.Operand.{Operand};
 ghost use Rattle.mdr_binary.specs.Binaries.{binary_rule};
@@ -8,6 +8,7 @@ ghost use Rattle.mdr_postfix.specs.Subscripts.{subscript_rule};
 ghost use Rattle.mdr_operand.specs.Written.{Written, written_of, written_what};
 ghost use Rattle.mdr_express.specs.Expressions.{signed_rule, typed};
 
+use crate::parts::both_made;
 use mdr_binary::binary_rule;
 use mdr_core::{Name, OutOfMemory, Place};
 use mdr_faults::{Fault, Scope, mismatch};
@@ -62,22 +63,6 @@ fn cast_form(
     Ok(cast(alloc, scope, place, base, stars, x)?)
 }
 
-/// Both operands of a form, where there was memory for both.
-fn both_sides(
-    a: Result<Result<Operand, Fault>, OutOfMemory>,
-    b: Result<Result<Operand, Fault>, OutOfMemory>,
-) -> Result<Sides, OutOfMemory>
-    ensures { (c d : Checked Operand) → IfOk a (λ x. x ≡ told c) → IfOk b (λ y. y ≡ told d) → IfOk result (λ s. (s.left ≡ told c) × (s.right ≡ told d)) }
-{
-    match a {
-        Ok(left) => match b {
-            Ok(right) => Ok(Sides { left, right }),
-            Err(error) => left_over(error, left),
-        },
-        Err(error) => left_over(error, b),
-    }
-}
-
 fn binary_operands(
     alloc: Global,
     scope: &Scope,
@@ -88,8 +73,8 @@ fn binary_operands(
 ) -> Result<Result<Operand, Fault>, OutOfMemory>
     ensures { (c d : Checked Operand) → IfOk a (λ x. x ≡ told c) → IfOk b (λ y. y ≡ told d) → IfOk result (λ r. r ≡ told (binary_rule scope.now place op c d)) }
 {
-    let sides = both_sides(a, b)?;
-    Ok(binary_rule(alloc, scope, place, op, sides.left, sides.right)?)
+    let sides = both_made(a, b)?;
+    Ok(binary_rule(alloc, scope, place, op, sides.0, sides.1)?)
 }
 
 #[tactic(auto, unfolding(crate::specs::Expressions::signed_rule))]
@@ -116,8 +101,8 @@ fn subscript_form(
 ) -> Result<Result<Operand, Fault>, OutOfMemory>
     ensures { (c d : Checked Operand) → IfOk a (λ x. x ≡ told c) → IfOk b (λ y. y ≡ told d) → IfOk result (λ r. r ≡ told (subscript_rule scope.now place c d)) }
 {
-    let sides = both_sides(a, b)?;
-    Ok(subscript_rule(alloc, scope, place, sides.left, sides.right)?)
+    let sides = both_made(a, b)?;
+    Ok(subscript_rule(alloc, scope, place, sides.0, sides.1)?)
 }
 
 #[cycle(expression)]
@@ -179,18 +164,4 @@ fn expression_at(
         }
         FormWhat::Text(_) | FormWhat::Base(_, _) => Ok(mismatch(place)),
     }
-}
-
-/// The left operand is let go where memory was wanting for the right one.
-fn left_over<A: Drop, B: Drop>(error: OutOfMemory, _left: A) -> Result<B, OutOfMemory>
-    ensures { result ≡ Err error }
-{
-    Err(error)
-}
-
-/// What the two operands of a form come to.
-#[derive(Drop)]
-struct Sides {
-    left: Result<Operand, Fault>,
-    right: Result<Operand, Fault>,
 }

@@ -160,7 +160,7 @@ scalar_by n (Ty-F.Struct s) h = on (nat_lt s n) h where
   on true e = absurd cc
   on false e = absurd cc
 
-scalar_is : (n : ℕ) (t : Ty) → sort_of n t ≡ Scalar → IsTrue (is_scalar t)
+pub scalar_is : (n : ℕ) (t : Ty) → sort_of n t ≡ Scalar → IsTrue (is_scalar t)
 scalar_is n t h = scalar_by n (out-Ty t) (sym (sort_is n t) ∙ h)
 
 no_struct_by : (t : Ty-F Ty) → IsTrue (is_scalar_by t) → is_struct_by t ≡ false

@@ -1,0 +1,2 @@
+pub mod Becomings
+pub mod Exact

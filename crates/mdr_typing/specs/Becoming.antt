@@ -1,8 +1,8 @@
 -- Which types' values become values of which others (C99 6.5.16.1, 6.3).
-use Rattle.std.specs.Prelude.{Bool, true, false, ◌&&◌, ◌||◌}
+use Rattle.std.specs.Prelude.{◌≡◌, ◌↔◌, Bool, true, false, ◌&&◌, ◌||◌}
 use Rattle.mdr_core.specs.declared.types.Ty.{Ty, out-Ty}
 use Rattle.mdr_core.specs.declared.types.Ty.TheOpen.{Ty-F}
-use Rattle.mdr_core.specs.Types.{is_object_pointer}
+use Rattle.mdr_core.specs.Types.{Becomes, is_object_pointer}
 use Rattle.mdr_faults.specs.Alike.{is_alike}
 
 abbrev pub is_integer_by : Ty-F Ty → Bool
@@ -40,3 +40,7 @@ are_pointers t u = is_opaque t && is_object_pointer u
 -- as if by assignment: integers convert, pointers to objects convert to and from `void *`, and all other values keep their type
 unfoldable pub becomes : (from to : Ty) → Bool
 becomes from to = are_integers from to || (are_pointers from to || (are_pointers to from || is_alike from to))
+
+-- what becomes what in a sound program
+abbrev pub BecomesExactly : Type 0
+BecomesExactly = (from to : Ty) → (becomes from to ≡ true) ↔ Becomes from to

@@ -1,2 +1,4 @@
 pub mod Becoming
 pub mod Calling
+pub mod Profile
+pub mod Sources

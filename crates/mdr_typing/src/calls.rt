@@ -1,6 +1,6 @@
 // Calls as they are written (C99 6.5.2.2).
 
-ghost use Rattle.std.specs.Prelude.{◌≡◌, IfOk, Err, List, map};
+ghost use Rattle.std.specs.Prelude.{◌≡◌, IfOk, List, map};
 ghost use Rattle.mdr_faults.specs.Faults.{Checked, Right, told, extended};
 ghost use Rattle.mdr_operand.specs.declared.operand.Operand.{Operand};
 ghost use Rattle.mdr_operand.specs.Signs.{prefix_operator};
@@ -17,34 +17,11 @@ use mdr_call::{
     Argument, Service, Target, TypedCall, argument, call_rule, callee_behind, service_named,
 };
 use mdr_core::{Items, Name, OutOfMemory, Place};
-use mdr_express::expression;
+use mdr_express::{both_made, expression, left_over};
 use mdr_faults::{Fault, Scope, extended};
 use mdr_operand::{LocalName, Operand, prefix_operator};
 use mdr_syntax::{Form, FormWhat};
 use std::alloc::Global;
-
-/// A part is let go where memory was wanting for another.
-pub fn left_over<A: Drop, B: Drop>(error: OutOfMemory, _part: A) -> Result<B, OutOfMemory>
-    ensures { result ≡ Err error }
-{
-    Err(error)
-}
-
-/// Two parts of a form, where there was memory for both.
-pub fn both_made<A: Drop, B: Drop>(
-    a: Result<Result<A, Fault>, OutOfMemory>,
-    b: Result<Result<B, Fault>, OutOfMemory>,
-) -> Result<(Result<A, Fault>, Result<B, Fault>), OutOfMemory>
-    ensures { (c : Checked A) (d : Checked B) → IfOk a (λ x. x ≡ told c) → IfOk b (λ y. y ≡ told d) → IfOk result (λ s. (s.0 ≡ told c) × (s.1 ≡ told d)) }
-{
-    match a {
-        Ok(x) => match b {
-            Ok(y) => Ok((x, y)),
-            Err(error) => left_over(error, x),
-        },
-        Err(error) => left_over(error, b),
-    }
-}
 
 // ---- what is called
 

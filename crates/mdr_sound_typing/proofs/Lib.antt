@@ -1,0 +1,5 @@
+pub mod Parts
+pub mod Stepping
+pub mod Standing
+pub mod Giving
+pub mod Stating

@@ -1,0 +1,68 @@
+-- Steps keep to the rules of sound programs, by their forms.
+use Rattle.std.proofs.Common.{◌≡◌, ℕ, true, false, List, Option, Some, refl, sym, ap, ◌∙◌, subst, inl}
+use Rattle.mdr_core.specs.declared.code.CallForm.{CallForm}
+use Rattle.mdr_core.specs.declared.code.Callee.{Callee}
+use Rattle.mdr_core.specs.declared.code.Callee.TheVariants as callee
+use Rattle.mdr_core.specs.declared.code.Expr.{Expr}
+use Rattle.mdr_core.specs.declared.code.Lval.{Lval}
+use Rattle.mdr_core.specs.declared.code.Step.{Step}
+use Rattle.mdr_core.specs.declared.code.Step.TheVariants as step
+use Rattle.mdr_core.specs.declared.program.Program.{Program}
+use Rattle.mdr_core.specs.declared.types.Ty.{Ty}
+use Rattle.mdr_core.specs.Code.{Goal, Code}
+use Rattle.mdr_core.specs.Folds.{code_of, call_of, called_of, goal_of, lvalue_of, term_of}
+use Rattle.mdr_core.specs.Types.{HasNumber}
+use Rattle.mdr_core.specs.Typing.{Slot, CallGives, GoesTo, IsAssignment, IsTyped, Returns}
+use Rattle.mdr_core.proofs.Coded.{code_is, assign_is, call_is, return_is, return_call_is}
+use Rattle.mdr_body.specs.Statements.{stmt}
+use Rattle.mdr_program.specs.Occurring.{shape_types}
+use Rattle.mdr_program.specs.Orders.{IsAmong}
+use Rattle.mdr_sound_bodies.specs.Grounded.{is_back, IsGrounded}
+use Rattle.mdr_sound_bodies.specs.Rules.{IsSoundStep}
+use Rattle.mdr_sound_bodies.proofs.Stating.{step_is}
+
+-- ---- what a call asks of the program
+
+-- the type that it names is in the table, and nothing is called back
+pub record IsSettled (program : Program) (form : CallForm) : Type 0 where
+  pub in_table : (t : Ty) → form.shape ≡ Some t → HasNumber program t
+  pub no_back : ◌≡◌ {A = Callee} form.callee (callee.Service 15) → ⊥
+
+not_back : (c : Callee) → is_back (called_of c) ≡ false → ◌≡◌ {A = Callee} c (callee.Service 15) → ⊥
+not_back c h e =
+    let q : true ≡ false = sym (ap (λ (x : Callee). is_back (called_of x)) e) ∙ h in
+    absurd cc
+
+pub settled : (program : Program) (n : ℕ) (goal : Goal) (form : CallForm) → IsGrounded program (Code.Call n goal (call_of form)) → IsSettled program form
+settled program n goal form g = record {
+  in_table = λ t is. g.types t (subst (λ (o : Option Ty). IsAmong t (shape_types o)) (sym is) (inl refl));
+  no_back = not_back form.callee g.no_back;
+}
+
+-- what is called takes these arguments and gives a value of the type, if the call is settled
+pub record Calls (program : Program) (slots : List Slot) (form : CallForm) (given : Ty) : Type 0 where
+  pub gives : IsSettled program form → CallGives program slots (call_of form) given
+
+-- ---- steps
+
+module _ (program : Program) (slots : List Slot) (result : Ty) where
+  pub assign_sound : (l : Lval) (e : Expr) → IsAssignment program slots (lvalue_of l) (term_of e) → IsSoundStep program slots result (step.Assign l e)
+  assign_sound l e h =
+      step_is program slots result (step.Assign l e) (λ n. Code.Assign n (lvalue_of l) (term_of e)) (λ n. code_is (stmt n (step.Assign l e)) (step.Assign l e) refl ∙ assign_is n l e)
+      (λ n b some. record { numbered = some; right = h })
+
+  pub return_sound : (e : Expr) → Returns program slots result (Some (term_of e)) → IsSoundStep program slots result (step.Return (Some e))
+  return_sound e h =
+      step_is program slots result (step.Return (Some e)) (λ n. Code.Return n (Some (term_of e))) (λ n. code_is (stmt n (step.Return (Some e))) (step.Return (Some e)) refl ∙ return_is n (Some e))
+      (λ n b some. record { numbered = some; right = h })
+
+  -- a step whose code is a call is right where the call is settled
+  by_call : (s : Step) (goal : Goal) (form : CallForm) → ((n : ℕ) → code_of (stmt n s) ≡ Code.Call n goal (call_of form)) → (IsSettled program form → GoesTo program slots result goal (call_of form)) → IsSoundStep program slots result s
+  by_call s goal form is h n b some g =
+      subst (IsTyped program slots result b) (sym (is n)) (record { numbered = some; right = h (settled program n goal form (subst (IsGrounded program) (is n) g)) })
+
+  pub call_sound : (target : Option Lval) (form : CallForm) → (IsSettled program form → GoesTo program slots result (goal_of target) (call_of form)) → IsSoundStep program slots result (step.Call target form)
+  call_sound target form h = by_call (step.Call target form) (goal_of target) form (λ n. code_is (stmt n (step.Call target form)) (step.Call target form) refl ∙ call_is n target form) h
+
+  pub return_call_sound : (form : CallForm) → (IsSettled program form → GoesTo program slots result Goal.Back (call_of form)) → IsSoundStep program slots result (step.ReturnCall form)
+  return_call_sound form h = by_call (step.ReturnCall form) Goal.Back form (λ n. code_is (stmt n (step.ReturnCall form)) (step.ReturnCall form) refl ∙ return_call_is n form) h

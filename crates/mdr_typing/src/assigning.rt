@@ -1,0 +1,259 @@
+// Assignments of values and of what calls give, and statements that are expressions (C99 6.5.16, 6.8.3).
+
+ghost use Rattle.std.specs.Prelude.{◌≡◌, IfOk, map};
+ghost use Rattle.mdr_faults.specs.Faults.{Checked, Right, told, after, both};
+ghost use Rattle.mdr_operand.specs.declared.operand.Operand.{Operand};
+ghost use Rattle.mdr_operand.specs.Written.{Written, written_of, written_what, written_list};
+ghost use Rattle.mdr_call.specs.declared.parts.TypedCall.{TypedCall};
+ghost use Rattle.mdr_assign.specs.declared.assignment.Assignment.{Assignment};
+ghost use Rattle.mdr_assign.specs.declared.assignment.Destination.{Destination};
+ghost use Rattle.mdr_assign.specs.Assignments.{assignment_rule, destination_at};
+ghost use Rattle.mdr_typing.specs.declared.source.Source.{Source};
+ghost use Rattle.mdr_typing.specs.declared.source.Source.TheVariants as source;
+ghost use Rattle.mdr_typing.specs.Sources.{assigning, source_stored, call_assigned, source_assigned};
+ghost use Rattle.mdr_typing.specs.Profile.{assigned, calling, stepped, called};
+
+use crate::calls::call_at;
+use crate::source::{Source, source, source_stored};
+use mdr_assign::{
+    Assignment, Destination, assignment_rule, destination_at, step_operator, step_rule,
+    told_instead,
+};
+use mdr_call::TypedCall;
+use mdr_core::{Name, OutOfMemory, Place, Step};
+use mdr_express::{both_made, expression};
+use mdr_faults::{Fault, FaultKind, Scope, both, mismatch};
+use mdr_operand::{AssignmentOperator, LocalName, Operand, assignment_operator, both_given_up};
+use mdr_syntax::{Form, FormWhat};
+use std::alloc::{AllocError, Global};
+
+// ---- assignments
+
+fn assigning(
+    assignment: Result<Result<Assignment, Fault>, AllocError>,
+) -> Result<Result<Step, Fault>, AllocError>
+    ensures { (c : Checked Assignment) → IfOk assignment (λ a. a ≡ told c) → IfOk result (λ r. r ≡ told (after c assigning)) }
+{
+    match assignment {
+        Ok(Ok(a)) => Ok(Ok(Step::Assign(a.left, a.right))),
+        Ok(Err(fault)) => Ok(Err(fault)),
+        Err(error) => Err(error),
+    }
+}
+
+fn value_assigned(
+    alloc: Global,
+    scope: &Scope,
+    place: Place,
+    op: Option<AssignmentOperator>,
+    x: Operand,
+    y: Operand,
+) -> Result<Result<Step, Fault>, AllocError>
+    ensures { IfOk result (λ r. r ≡ told (after (assignment_rule scope.now place op (Right x) (Right y)) assigning)) }
+{
+    assigning(assignment_rule(alloc, scope, place, op, Ok(x), Ok(y)))
+}
+
+fn call_stored(
+    alloc: Global,
+    place: Place,
+    call: TypedCall,
+    d: Destination,
+) -> Result<Result<Step, Fault>, AllocError>
+    ensures { IfOk result (λ r. r ≡ told (source_stored place d.object d.ty (source.Call call))) }
+{
+    source_stored(alloc, place, d.object, &d.ty, Source::Call(call))
+}
+
+#[tactic(auto, unfolding(crate::specs::Sources::call_assigned))]
+fn call_assigned(
+    alloc: Global,
+    place: Place,
+    op: Option<AssignmentOperator>,
+    call: TypedCall,
+    d: Destination,
+) -> Result<Result<Step, Fault>, AllocError>
+    ensures { IfOk result (λ r. r ≡ told (call_assigned place op call d)) }
+{
+    match op {
+        Some(AssignmentOperator::Plain) => call_stored(alloc, place, call, d),
+        Some(AssignmentOperator::Compound(_)) => {
+            Ok(both_given_up(place, FaultKind::Mismatch, call, d))
+        }
+        None => Ok(both_given_up(place, FaultKind::Mismatch, call, d)),
+    }
+}
+
+fn call_given(
+    alloc: Global,
+    place: Place,
+    op: Option<AssignmentOperator>,
+    call: TypedCall,
+    d: Result<Destination, Fault>,
+) -> Result<Result<Step, Fault>, AllocError>
+    ensures { (c : Checked Destination) → d ≡ told c → IfOk result (λ r. r ≡ told (after c (call_assigned place op call))) }
+{
+    match d {
+        Ok(d) => call_assigned(alloc, place, op, call, d),
+        Err(fault) => Ok(told_instead(fault, call)),
+    }
+}
+
+fn call_at_left(
+    alloc: Global,
+    place: Place,
+    op: Option<AssignmentOperator>,
+    x: Operand,
+    call: TypedCall,
+) -> Result<Result<Step, Fault>, AllocError>
+    ensures { IfOk result (λ r. r ≡ told (after (destination_at place x) (call_assigned place op call))) }
+{
+    let d = destination_at(place, x);
+    call_given(alloc, place, op, call, d)
+}
+
+#[tactic(auto, unfolding(crate::specs::Sources::source_assigned))]
+fn source_assigned(
+    alloc: Global,
+    scope: &Scope,
+    place: Place,
+    op: Option<AssignmentOperator>,
+    x: Operand,
+    source: Source,
+) -> Result<Result<Step, Fault>, AllocError>
+    ensures { IfOk result (λ r. r ≡ told (source_assigned scope.now place op x source)) }
+{
+    match source {
+        Source::Value(y) => value_assigned(alloc, scope, place, op, x, y),
+        Source::Call(call) => call_at_left(alloc, place, op, x, call),
+    }
+}
+
+fn side_assigned(
+    alloc: Global,
+    scope: &Scope,
+    place: Place,
+    op: Option<AssignmentOperator>,
+    x: Result<Operand, Fault>,
+    source: Result<Source, Fault>,
+) -> Result<Result<Step, Fault>, AllocError>
+    ensures { (c : Checked Operand) (d : Checked Source) → x ≡ told c → source ≡ told d → IfOk result (λ r. r ≡ told (both c d (source_assigned scope.now place op))) }
+{
+    match both(x, source) {
+        Ok((x, source)) => source_assigned(alloc, scope, place, op, x, source),
+        Err(fault) => Ok(Err(fault)),
+    }
+}
+
+fn sides_assigned(
+    alloc: Global,
+    scope: &Scope,
+    place: Place,
+    op: Option<AssignmentOperator>,
+    x: Result<Result<Operand, Fault>, OutOfMemory>,
+    source: Result<Result<Source, Fault>, OutOfMemory>,
+) -> Result<Result<Step, Fault>, OutOfMemory>
+    ensures { (c : Checked Operand) (d : Checked Source) → IfOk x (λ x. x ≡ told c) → IfOk source (λ s. s ≡ told d) → IfOk result (λ r. r ≡ told (both c d (source_assigned scope.now place op))) }
+{
+    let sides = both_made(x, source)?;
+    Ok(side_assigned(alloc, scope, place, op, sides.0, sides.1)?)
+}
+
+/// An assignment, at its operator's place.
+#[tactic(auto, unfolding(crate::specs::Profile::assigned))]
+pub fn assigned(
+    alloc: Global,
+    scope: &Scope,
+    locals: &[LocalName],
+    at: Place,
+    operator: &[u8],
+    left: &Form,
+    right: &Form,
+) -> Result<Result<Step, Fault>, OutOfMemory>
+    ensures { IfOk result (λ r. r ≡ told (assigned scope.now locals.now at operator.now (written_of left.now) (written_of right.now))) }
+{
+    let x = expression(alloc, scope, locals, left);
+    let y = source(alloc, scope, locals, right);
+    sides_assigned(alloc, scope, at, assignment_operator(operator), x, y)
+}
+
+// ---- statements that are expressions
+
+fn calling(call: Result<TypedCall, Fault>) -> Result<Step, Fault>
+    ensures { (c : Checked TypedCall) → call ≡ told c → result ≡ told (after c calling) }
+{
+    match call {
+        Ok(call) => Ok(Step::Call(None, call.form)),
+        Err(fault) => Err(fault),
+    }
+}
+
+fn call_statement(
+    alloc: Global,
+    scope: &Scope,
+    locals: &[LocalName],
+    place: Place,
+    f: &Form,
+    args: &[Form],
+) -> Result<Result<Step, Fault>, OutOfMemory>
+    ensures { IfOk result (λ r. r ≡ told (called scope.now locals.now (Written.Call place (written_of f.now) (written_list (map written_of args.now))))) }
+{
+    let call = call_at(alloc, scope, locals, place, f, args)?;
+    Ok(calling(call))
+}
+
+#[tactic(auto, unfolding(crate::specs::Profile::stepped))]
+fn stepped(
+    alloc: Global,
+    scope: &Scope,
+    locals: &[LocalName],
+    place: Place,
+    sign: &Name,
+    a: &Form,
+) -> Result<Result<Step, Fault>, OutOfMemory>
+    ensures { IfOk result (λ r. r ≡ told (stepped scope.now locals.now place sign.now (written_of a.now))) }
+{
+    let x = expression(alloc, scope, locals, a)?;
+    let step = step_operator(sign.as_slice());
+    Ok(assigning(step_rule(alloc, scope, place, step, x))?)
+}
+
+fn called_at(
+    alloc: Global,
+    scope: &Scope,
+    locals: &[LocalName],
+    place: Place,
+    what: &FormWhat,
+) -> Result<Result<Step, Fault>, OutOfMemory>
+    ensures { IfOk result (λ r. r ≡ told (called scope.now locals.now (written_what what.now place))) }
+{
+    match what {
+        FormWhat::Call(f, args) => {
+            call_statement(alloc, scope, locals, place, f.get(), args.as_slice())
+        }
+        FormWhat::Prefix(sign, a) => stepped(alloc, scope, locals, place, sign, a.get()),
+        FormWhat::Post(sign, a) => stepped(alloc, scope, locals, place, sign, a.get()),
+        FormWhat::Number(_, _) => Ok(mismatch(place)),
+        FormWhat::Null => Ok(mismatch(place)),
+        FormWhat::Name(_) => Ok(mismatch(place)),
+        FormWhat::Cast(_, _, _) => Ok(mismatch(place)),
+        FormWhat::Binary(_, _, _) => Ok(mismatch(place)),
+        FormWhat::Choice(_, _, _) => Ok(mismatch(place)),
+        FormWhat::Subscript(_, _) => Ok(mismatch(place)),
+        FormWhat::Member(_, _, _, _) => Ok(mismatch(place)),
+        FormWhat::Text(_) => Ok(mismatch(place)),
+        FormWhat::Base(_, _) => Ok(mismatch(place)),
+    }
+}
+
+/// A statement that is an expression.
+pub fn called(
+    alloc: Global,
+    scope: &Scope,
+    locals: &[LocalName],
+    form: &Form,
+) -> Result<Result<Step, Fault>, OutOfMemory>
+    ensures { IfOk result (λ r. r ≡ told (called scope.now locals.now (written_of form.now))) }
+{
+    called_at(alloc, scope, locals, form.place, &form.what)
+}

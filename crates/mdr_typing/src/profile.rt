@@ -1,0 +1,168 @@
+// The rules of the profile for what stands in statements (C99 6.5, 6.7.8, 6.8.3, 6.8.6.4).
+
+ghost use Rattle.std.specs.Prelude.{◌≡◌, IfOk};
+ghost use Rattle.mdr_faults.specs.Faults.{Checked, told, after};
+ghost use Rattle.mdr_operand.specs.Written.{written_of};
+ghost use Rattle.mdr_typing.specs.declared.source.Source.{Source};
+ghost use Rattle.mdr_typing.specs.Sources.{source_stored, source_returned};
+ghost use Rattle.mdr_typing.specs.Profile.{stored, returned};
+
+use crate::assigning::{assigned, called};
+use crate::source::{Source, source, source_returned, source_stored};
+use mdr_assign::told_instead;
+use mdr_body::Typing;
+use mdr_core::{Lval, OutOfMemory, Place, Step, Ty};
+use mdr_express::{expression, left_over};
+use mdr_faults::{Fault, Scope};
+use mdr_operand::{LocalName, Operand};
+use mdr_syntax::Form;
+use std::alloc::{AllocError, Global};
+
+// ---- given to an object
+
+fn stored_after(
+    alloc: Global,
+    place: Place,
+    object: Lval,
+    ty: &Ty,
+    source: Result<Source, Fault>,
+) -> Result<Result<Step, Fault>, AllocError>
+    ensures { (c : Checked Source) → source ≡ told c → IfOk result (λ r. r ≡ told (after c (source_stored place object ty.now))) }
+{
+    match source {
+        Ok(source) => source_stored(alloc, place, object, ty, source),
+        Err(fault) => Ok(told_instead(fault, object)),
+    }
+}
+
+fn stored_where(
+    alloc: Global,
+    place: Place,
+    object: Lval,
+    ty: &Ty,
+    source: Result<Result<Source, Fault>, OutOfMemory>,
+) -> Result<Result<Step, Fault>, OutOfMemory>
+    ensures { (c : Checked Source) → IfOk source (λ s. s ≡ told c) → IfOk result (λ r. r ≡ told (after c (source_stored place object ty.now))) }
+{
+    match source {
+        Ok(source) => Ok(stored_after(alloc, place, object, ty, source)?),
+        Err(error) => left_over(error, object),
+    }
+}
+
+#[tactic(auto, unfolding(crate::specs::Profile::stored))]
+fn stored(
+    alloc: Global,
+    scope: &Scope,
+    locals: &[LocalName],
+    place: Place,
+    object: Lval,
+    ty: &Ty,
+    form: &Form,
+) -> Result<Result<Step, Fault>, OutOfMemory>
+    ensures { IfOk result (λ r. r ≡ told (stored scope.now locals.now place object ty.now (written_of form.now))) }
+{
+    let found = source(alloc, scope, locals, form);
+    stored_where(alloc, place, object, ty, found)
+}
+
+// ---- given to the caller
+
+fn returned_after(
+    alloc: Global,
+    place: Place,
+    ty: &Ty,
+    source: Result<Source, Fault>,
+) -> Result<Result<Step, Fault>, AllocError>
+    ensures { (c : Checked Source) → source ≡ told c → IfOk result (λ r. r ≡ told (after c (source_returned place ty.now))) }
+{
+    match source {
+        Ok(source) => source_returned(alloc, place, ty, source),
+        Err(fault) => Ok(Err(fault)),
+    }
+}
+
+#[tactic(auto, unfolding(crate::specs::Profile::returned))]
+fn returned(
+    alloc: Global,
+    scope: &Scope,
+    locals: &[LocalName],
+    place: Place,
+    ty: &Ty,
+    form: &Form,
+) -> Result<Result<Step, Fault>, OutOfMemory>
+    ensures { IfOk result (λ r. r ≡ told (returned scope.now locals.now place ty.now (written_of form.now))) }
+{
+    let found = source(alloc, scope, locals, form)?;
+    Ok(returned_after(alloc, place, ty, found)?)
+}
+
+// ---- the rules
+
+/// The rules of the C that drivers are written in. It holds nothing.
+#[derive(Clone, Copy, Debug, PartialEq, Eq)]
+pub struct ProfileRules;
+
+impl Typing for ProfileRules {
+    ghost use Rattle.mdr_typing.specs.Profile.{profile_rules};
+
+    ghost rules = { λ s. profile_rules };
+
+    fn typed(
+        &self,
+        alloc: Global,
+        scope: &Scope,
+        names: &[LocalName],
+        form: &Form,
+    ) -> Result<Result<Operand, Fault>, OutOfMemory> {
+        expression(alloc, scope, names, form)
+    }
+
+    fn assigned(
+        &self,
+        alloc: Global,
+        scope: &Scope,
+        names: &[LocalName],
+        at: Place,
+        operator: &[u8],
+        left: &Form,
+        right: &Form,
+    ) -> Result<Result<Step, Fault>, OutOfMemory> {
+        assigned(alloc, scope, names, at, operator, left, right)
+    }
+
+    fn called(
+        &self,
+        alloc: Global,
+        scope: &Scope,
+        names: &[LocalName],
+        form: &Form,
+    ) -> Result<Result<Step, Fault>, OutOfMemory> {
+        called(alloc, scope, names, form)
+    }
+
+    fn stored(
+        &self,
+        alloc: Global,
+        scope: &Scope,
+        names: &[LocalName],
+        place: Place,
+        object: Lval,
+        ty: &Ty,
+        form: &Form,
+    ) -> Result<Result<Step, Fault>, OutOfMemory> {
+        stored(alloc, scope, names, place, object, ty, form)
+    }
+
+    fn returned(
+        &self,
+        alloc: Global,
+        scope: &Scope,
+        names: &[LocalName],
+        place: Place,
+        ty: &Ty,
+        form: &Form,
+    ) -> Result<Result<Step, Fault>, OutOfMemory> {
+        returned(alloc, scope, names, place, ty, form)
+    }
+}
