@@ -14,3 +14,5 @@ pub mod Coming
 pub mod Collecting
 pub mod Entering
 pub mod Making
+pub mod AllocatingCode
+pub mod AllocatingLines

@@ -49,7 +49,7 @@ pub record IsHead (rules : Rules) (scope : Scope) (frame : Frame) (here : Here) 
   pub condition : perhaps_condition rules scope (heads_behind scope frame here test step body init) p test ≡ Right head.0.1
   pub stepped : steps_made rules scope frame (heads_behind scope frame here test step body init) step ≡ Right head.1
 
-head_right : (rules : Rules) (scope : Scope) (frame : Frame) (here : Here) (p : Place) (init : Lines) (test : Option Written) (step : Lines) (body : Line) (head : ForHead) → for_head rules scope frame here p init test step body ≡ Right head → IsHead rules scope frame here p init test step body head
+pub head_right : (rules : Rules) (scope : Scope) (frame : Frame) (here : Here) (p : Place) (init : Lines) (test : Option Written) (step : Lines) (body : Line) (head : ForHead) → for_head rules scope frame here p init test step body ≡ Right head → IsHead rules scope frame here p init test step body head
 unfolding for_head
 head_right rules scope frame here p init test step body head e =
     let made = heads_made rules scope frame here test step body init in

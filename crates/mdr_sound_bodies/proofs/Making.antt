@@ -104,7 +104,7 @@ module _ (program : Program) (rules : Rules) (scope : Scope) (h : Head) (nodes :
 
 -- ---- the function
 
-rule_right : (rules : Rules) (scope : Scope) (h : Head) (nodes : List Node) (body : Body) → body_rule rules scope h nodes ≡ Right body → IsBodied rules scope (frame_of scope h) (first_here scope (lines_of nodes) h.params) (map (parameter_taken (lines_of nodes)) h.params) (lines_of nodes) body
+pub rule_right : (rules : Rules) (scope : Scope) (h : Head) (nodes : List Node) (body : Body) → body_rule rules scope h nodes ≡ Right body → IsBodied rules scope (frame_of scope h) (first_here scope (lines_of nodes) h.params) (map (parameter_taken (lines_of nodes)) h.params) (lines_of nodes) body
 unfolding body_rule
 rule_right rules scope h nodes body e = body_right rules scope (frame_of scope h) (first_here scope (lines_of nodes) h.params) (map (parameter_taken (lines_of nodes)) h.params) (lines_of nodes) body e
 

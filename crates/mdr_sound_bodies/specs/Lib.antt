@@ -3,3 +3,4 @@ pub mod Rules
 pub mod Written
 pub mod Within
 pub mod Bodies
+pub mod Allocating

@@ -3,4 +3,4 @@
 
 mod laws;
 
-pub use laws::bodies_are_sound;
+pub use laws::{allocations_are_formed, bodies_are_sound};

@@ -1,11 +1,10 @@
 -- An allocation is a call of the program, if the type that it names is in the type table (C99 6.2.5).
-use Rattle.std.proofs.Common.{◌≡◌, inl, inr, ℕ, true, List, [], ◌∷◌, length, map, Option, Some, None, slice_get, ◌==◌, refl, ap, sym, ◌∙◌, subst}
+use Rattle.std.proofs.Common.{◌≡◌, ℕ, List, [], ◌∷◌, length, map, Option, Some, None, slice_get, ◌==◌, refl, ap, sym, subst}
 use Rattle.std.proofs.lemmas.Option.{none-some, same_Some}
 use Rattle.mdr_core.specs.declared.kind.Kind.TheVariants.{U64}
 use Rattle.mdr_core.specs.declared.place.Place.{Place}
 use Rattle.mdr_core.specs.declared.program.Program.{Program}
-use Rattle.mdr_core.specs.declared.types.Ty.{Ty, out-Ty}
-use Rattle.mdr_core.specs.declared.types.Ty.TheOpen.{Ty-F}
+use Rattle.mdr_core.specs.declared.types.Ty.{Ty}
 use Rattle.mdr_core.specs.declared.types.Ty.TheVariants as type
 use Rattle.mdr_core.specs.Code.{Term}
 use Rattle.mdr_core.specs.Folds.{term_of}
@@ -19,36 +18,21 @@ use Rattle.mdr_call.specs.Arguments.{arguments_as, first_off}
 use Rattle.mdr_call.specs.Services.{type_argument, allocated, allocation_of, kzalloc, counted, counted_by, kcalloc}
 use Rattle.mdr_faults.specs.declared.fault.FaultKind.TheVariants.{BadArity}
 use Rattle.mdr_faults.specs.declared.scope.Scope.{Scope}
-use Rattle.mdr_faults.specs.Declarations.{cells_by, cells_of, is_void, is_void_by}
+use Rattle.mdr_faults.specs.Declarations.{cells_of}
 use Rattle.mdr_faults.specs.Faults.{Right, after}
 use Rattle.mdr_operand.specs.declared.room.LocalName.{LocalName}
 use Rattle.mdr_operand.specs.Forms.{needed}
-use Rattle.mdr_sound_code.specs.Knowing.{IsFormed}
 use Rattle.mdr_sound_code.proofs.Formed.{AreScalars}
 use Rattle.mdr_sound_code.proofs.FunctionCalls.{IsKnownCall}
 use Rattle.mdr_sound_code.proofs.GivenArguments.{IsKnownArgument, AreKnownArguments, arguments_as_known}
 use Rattle.mdr_sound_code.proofs.Layers.{sort_int, pointer_formed}
 use Rattle.mdr_sound_code.proofs.Rights.{not_right, same_right, after_right, needed_right, chosen_right}
-use Rattle.mdr_sound_code.proofs.TypesWritten.{IsWritten}
+use Rattle.mdr_sound_code.proofs.TypesWritten.{IsWritten, has_cells}
 use Rattle.mdr_sound_code.proofs.OfferedCalls.{first_known, service_known}
 
 module _ (program : Program) (slots : List Slot) (names : List LocalName) where
   abbrev structs : ℕ
   structs = length program.structs
-
-  -- there are no objects of `void`
-  cells_not_void : (scope : Scope) (p : Place) (l : Ty-F Ty) (n : ℕ) → cells_by scope p l ≡ Right n → is_void_by l ≡ true → ⊥
-  cells_not_void scope p (Ty-F.Int k) n e v = cc
-  cells_not_void scope p Ty-F.Lock n e v = cc
-  cells_not_void scope p (Ty-F.Struct s) n e v = cc
-  cells_not_void scope p (Ty-F.Ptr t) n e v = cc
-  cells_not_void scope p Ty-F.VoidPtr n e v = cc
-  cells_not_void scope p (Ty-F.Fun ts) n e v = cc
-  cells_not_void scope p Ty-F.Void n e v = not_right _ n e
-
-  has_cells : (scope : Scope) (p : Place) (t : Ty) (n : ℕ) → IsWritten program t → cells_of scope p t ≡ Right n → IsFormed program t
-  has_cells scope p t n (inl f) e = f
-  has_cells scope p t n (inr void) e = absurd (cells_not_void scope p (out-Ty t) n e (ap is_void void ∙ ap is_void_by type.outs-Void))
 
   module _ (scope : Scope) (p : Place) (call : TypedCall) (in_table : (t : Ty) → call.form.shape ≡ Some t → HasNumber program t) where
     allocation_known : (s : CoreService) (n : ℕ) (counts : List Ty) (args : List Argument) (t : Ty) → service_numbered n ≡ Some s → offered s (Some t) None ≡ Some (record { params = counts; result = type.Ptr t })
@@ -60,7 +44,7 @@ module _ (program : Program) (slots : List Slot) (names : List LocalName) where
         let b = after_right (arguments_as p (type.Void ∷ counts) args) (λ es. Right (allocated n t es)) call a.made in
         let all = arguments_as_known program slots names p type.Void counts args b.value count f h b.right in
         let made : allocated n t b.value ≡ call = same_right _ _ b.made in
-        let object : NamesObject program (Some t) = record { formed = pointer_formed structs t (has_cells scope p t a.value written a.right); in_table = in_table t (ap (λ (c : TypedCall). c.form.shape) (sym made)) } in
+        let object : NamesObject program (Some t) = record { formed = pointer_formed structs t (has_cells program scope p t a.value written a.right); in_table = in_table t (ap (λ (c : TypedCall). c.form.shape) (sym made)) } in
         subst (IsKnownCall program slots names) made (service_known program slots names s n b.value (Some t) None counts (type.Ptr t) numbered offers all (names_handler (map term_of b.value)) object)
 
     type_known : (o : Option Argument) (t : Ty) → ((a : Argument) → o ≡ Some a → IsKnownArgument program slots names a) → type_argument o ≡ Some t → IsWritten program t

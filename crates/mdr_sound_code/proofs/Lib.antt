@@ -25,5 +25,6 @@ pub mod Allocations
 pub mod Printing
 pub mod Interrupts
 pub mod CallsBack
+pub mod NamedTypes
 pub mod ServiceCalls
 pub mod WrittenCalls

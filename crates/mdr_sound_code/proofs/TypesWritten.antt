@@ -11,7 +11,7 @@ use Rattle.mdr_syntax.specs.declared.tree.Base.{Base}
 use Rattle.mdr_syntax.specs.declared.tree.Base.TheVariants as base
 use Rattle.mdr_faults.specs.declared.scope.Scope.{Scope}
 use Rattle.mdr_faults.specs.declared.scope.Tag.{Tag}
-use Rattle.mdr_faults.specs.Declarations.{struct_named, base_type, pointer_by, pointer_to, starred, type_named, is_void_by}
+use Rattle.mdr_faults.specs.Declarations.{struct_named, base_type, pointer_by, pointer_to, starred, type_named, cells_by, cells_of, is_void, is_void_by}
 use Rattle.mdr_faults.specs.Faults.{Right}
 use Rattle.mdr_faults.specs.Scopes.{tag_named}
 use Rattle.mdr_sound_code.specs.Knowing.{IsFormed, Knows}
@@ -72,3 +72,20 @@ module _ (program : Program) (scope : Scope) (knows : Knows program scope) where
   type_named_written b n t e =
       let a = after_right (base_type scope b) (λ u. Right (starred n u)) t e in
       subst (IsWritten program) (same_right _ _ a.made) (starred_written program n a.value (base_written b a.value a.right))
+
+-- ---- sizes
+
+-- there are no objects of `void`
+cells_not_void : (scope : Scope) (p : Place) (l : Ty-F Ty) (n : ℕ) → cells_by scope p l ≡ Right n → is_void_by l ≡ true → ⊥
+cells_not_void scope p (Ty-F.Int k) n e v = cc
+cells_not_void scope p Ty-F.Lock n e v = cc
+cells_not_void scope p (Ty-F.Struct s) n e v = cc
+cells_not_void scope p (Ty-F.Ptr t) n e v = cc
+cells_not_void scope p Ty-F.VoidPtr n e v = cc
+cells_not_void scope p (Ty-F.Fun ts) n e v = cc
+cells_not_void scope p Ty-F.Void n e v = not_right _ n e
+
+-- a type that is written, and whose size is known, is one of objects
+pub has_cells : (program : Program) (scope : Scope) (p : Place) (t : Ty) (n : ℕ) → IsWritten program t → cells_of scope p t ≡ Right n → IsFormed program t
+has_cells program scope p t n (inl f) e = f
+has_cells program scope p t n (inr void) e = absurd (cells_not_void scope p (out-Ty t) n e (ap is_void void ∙ ap is_void_by type.outs-Void))

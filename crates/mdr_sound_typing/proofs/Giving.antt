@@ -30,11 +30,11 @@ use Rattle.mdr_sound_typing.proofs.Standing.{IsKnownSource}
 use Rattle.mdr_sound_typing.proofs.Stepping.{assign_sound, return_sound, call_sound, return_call_sound}
 
 -- a call whose value becomes one of the type
-record IsCallAs (t : Ty) (call : TypedCall) (form : CallForm) : Type 0 where
-  becomes : Becomes call.result t
-  same : call.form ≡ form
+pub record IsCallAs (t : Ty) (call : TypedCall) (form : CallForm) : Type 0 where
+  pub becomes : Becomes call.result t
+  pub same : call.form ≡ form
 
-call_as_right : (p : Place) (t : Ty) (call : TypedCall) (form : CallForm) → call_as p t call ≡ Right form → IsCallAs t call form
+pub call_as_right : (p : Place) (t : Ty) (call : TypedCall) (form : CallForm) → call_as p t call ≡ Right form → IsCallAs t call form
 unfolding call_as
 call_as_right p t call form e =
     let c = chosen_right (becomes call.result t) (Right call.form) p Mismatch form e in

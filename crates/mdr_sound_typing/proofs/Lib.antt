@@ -3,3 +3,4 @@ pub mod Stepping
 pub mod Standing
 pub mod Giving
 pub mod Stating
+pub mod Allocating

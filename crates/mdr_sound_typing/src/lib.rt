@@ -3,4 +3,4 @@
 
 mod laws;
 
-pub use laws::profile_rules_are_sound;
+pub use laws::{profile_rules_are_sound, profile_steps_are_formed};
