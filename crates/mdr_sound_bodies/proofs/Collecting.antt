@@ -20,6 +20,7 @@ use Rattle.mdr_sound_bodies.proofs.Joined.{or_left}
 use Rattle.mdr_sound_bodies.proofs.Scalars.{formed_scalar}
 use Rattle.mdr_sound_bodies.proofs.Declaring.{IsLocalObject, local_object_right, local_right, object_count, in_slot}
 use Rattle.mdr_sound_bodies.proofs.Locking.{object_no_lock}
+use Rattle.mdr_sound_code.specs.Knowing.{IsFormed}
 use Rattle.mdr_sound_bodies.proofs.Coming.{IsFrom}
 
 pub record IsMeant (ds : List DeclaredLocal) (i : ℕ) (l : Local) : Type 0 where
@@ -93,3 +94,10 @@ module _ (program : Program) (scope : Scope) (known : KnowsDeclarations program 
       let made = local_right scope (struct_locks scope) h.here h.is_taken h.decl l (told_right _ l (sym h.is ∙ means)) in
       let object = local_object_right scope (struct_locks scope) h.decl made.object made.right in
       subst (λ (x : Local). (x.object ≡ true → HasNumber program x.ty) → IsSoundLocal program x) made.is (local_sound h.is_taken h.decl made.object object) numbered
+
+  -- and its type is one of objects, whatever stands in the type table
+  pub declared_formed : (m : DeclaredLocal) (l : Local) → IsFrom scope (struct_locks scope) m → m.means ≡ Ok l → IsFormed program l.ty
+  declared_formed m l h means =
+      let made = local_right scope (struct_locks scope) h.here h.is_taken h.decl l (told_right _ l (sym h.is ∙ means)) in
+      let object = local_object_right scope (struct_locks scope) h.decl made.object made.right in
+      subst (λ (x : Local). IsFormed program x.ty) made.is (known.formed (out-Decl h.decl).place h.decl made.object object.object)

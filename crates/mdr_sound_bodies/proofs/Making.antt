@@ -32,8 +32,9 @@ use Rattle.mdr_sound_bodies.specs.Grounded.{AreGrounded}
 use Rattle.mdr_sound_bodies.specs.Rules.{AreSoundRules}
 use Rattle.mdr_sound_bodies.specs.Within.{KnowsDeclarations, AreDeclared}
 use Rattle.mdr_sound_bodies.specs.Written.{AreNamed, AreProper}
-use Rattle.mdr_sound_bodies.proofs.Collecting.{meant, all_declared, declared_sound}
-use Rattle.mdr_sound_bodies.proofs.Coming.{AreFrom, from_none, from_lines}
+use Rattle.mdr_sound_bodies.proofs.Collecting.{meant, all_declared, declared_sound, declared_formed}
+use Rattle.mdr_sound_code.specs.Knowing.{IsFormed}
+use Rattle.mdr_sound_bodies.proofs.Coming.{IsFrom, AreFrom, from_none, from_lines}
 use Rattle.mdr_sound_bodies.proofs.Entering.{parameters_here, params_many, marked_many}
 use Rattle.mdr_sound_bodies.proofs.Lining.{lines_typed}
 
@@ -87,6 +88,10 @@ module _ (program : Program) (rules : Rules) (scope : Scope) (h : Head) (nodes :
   unfolding first_here
   first_from = from_none scope (struct_locks scope)
 
+  told_from : (i : ℕ) (d : DeclaredLocal) → slice_get (lines_behind scope (frame_of scope h) (first_here scope (lines_of nodes) h.params) (lines_of nodes)).locals i ≡ Some d → IsFrom scope (struct_locks scope) d
+  unfolding frame_of
+  told_from i d at = (from_lines scope (frame_of scope h) (first_here scope (lines_of nodes) h.params) (lines_of nodes) first_from).each i d at
+
   result_told : (t : Ty) → head_result scope h ≡ Right t → (frame_of scope h).result ≡ Ok t
   unfolding frame_of
   result_told t e = ap told e
@@ -119,3 +124,11 @@ made_sound program rules scope h nodes g body name is_critical known sound made 
       body = subst (λ os. AreTyped program (map slot_of_param (marked os 0 g.params) ++ map slot_of_local body.locals) g.result false (codes_of body.statements)) b.marks
           (made_typed program rules scope h nodes known g (map (candidate scope) h.params) body.locals body.statements headed sound made.named made.proper made.grounded b.locals b.statements);
     }
+
+-- the types of a body's locals are types of objects, whatever stands in the type table
+pub locals_formed : (program : Program) (rules : Rules) (scope : Scope) (h : Head) (nodes : List Node) (body : Body) → KnowsDeclarations program scope → body_rule rules scope h nodes ≡ Right body → (i : ℕ) (l : Local) → slice_get body.locals i ≡ Some l → IsFormed program l.ty
+locals_formed program rules scope h nodes body known e i l at =
+    let here : Here = first_here scope (lines_of nodes) h.params in
+    let b = rule_right rules scope h nodes body e in
+    let m = meant (lines_behind scope (frame_of scope h) here (lines_of nodes)).locals body.locals i l b.locals at in
+    declared_formed program scope known m.declared l (told_from program rules scope h nodes known i m.declared m.at) m.means
