@@ -191,3 +191,10 @@ pub signature_formed : (scope : Scope) (m n : ℕ) (is_defined : Bool) (h : Head
 signature_formed scope m n is_defined h s low e =
     let a = signature_as scope n is_defined h s e in
     handle_sort m s.result s.params (is_result m s.result (head_result_is scope m h s.result low a.result)) (parameter_list_is scope m h.params s.params low a.params)
+
+-- the parameters of a head are scalars, whatever stands in the type table
+pub heading_params : (scope : Scope) (n : ℕ) (h : Head) (x : Heading) → AreNumbered scope n → heading scope h ≡ Right x → (i : ℕ) (p : Param) → slice_get x.params i ≡ Some p → sort_of n p.ty ≡ Scalar
+heading_params scope n h x low e i p at =
+    let a = heading_as scope h x e in
+    let r = pair_of_right (IsParamOf scope (map (candidate scope) h.params)) h.params x.params i p a.params at in
+    (declarator_good scope n r.0 low).parameter p.ty (r.1).related.type

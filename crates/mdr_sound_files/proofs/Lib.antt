@@ -11,6 +11,7 @@ pub mod Outlines
 pub mod Scopes
 pub mod Viewed
 pub mod Sounding
+pub mod Forming
 pub mod Sorts
 pub mod NamedTypes
 pub mod Objects

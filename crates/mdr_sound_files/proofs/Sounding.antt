@@ -72,7 +72,7 @@ use Rattle.mdr_sound_files.proofs.SoundGlobals.{global_count, sound_globals}
 -- ---- functions among those before them
 
 -- one of the functions so far, or the new one
-put_either : (fs : List Func) (f g : Func) (i : ℕ) → slice_get (put_named fs f) i ≡ Some g → (slice_get fs i ≡ Some g) ⊎ (f ≡ g)
+pub put_either : (fs : List Func) (f g : Func) (i : ℕ) → slice_get (put_named fs f) i ≡ Some g → (slice_get fs i ≡ Some g) ⊎ (f ≡ g)
 put_either [] f g zero e = inr cc
 put_either [] f g (suc i) e = absurd cc
 put_either (h ∷ hs) f g i e = by (bytes_eq h.name f.name) i e (λ j. put_either hs f g j)
@@ -83,7 +83,7 @@ put_either (h ∷ hs) f g i e = by (bytes_eq h.name f.name) i e (λ j. put_eithe
     by false zero e rest = inl e
     by false (suc j) e rest = rest j e
 
-keep_either : (fs : List Func) (f g : Func) (i : ℕ) → slice_get (keep_named fs f) i ≡ Some g → (slice_get fs i ≡ Some g) ⊎ (f ≡ g)
+pub keep_either : (fs : List Func) (f g : Func) (i : ℕ) → slice_get (keep_named fs f) i ≡ Some g → (slice_get fs i ≡ Some g) ⊎ (f ≡ g)
 keep_either [] f g zero e = inr cc
 keep_either [] f g (suc i) e = absurd cc
 keep_either (h ∷ hs) f g i e = by (bytes_eq h.name f.name) i e (λ j. keep_either hs f g j)
