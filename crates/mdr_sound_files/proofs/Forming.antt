@@ -50,7 +50,7 @@ use Rattle.mdr_sound_files.specs.Counting.{Counts, Begins}
 use Rattle.mdr_sound_files.specs.Standing.{Stands}
 use Rattle.mdr_sound_files.specs.Whole.{IsMadeOf}
 use Rattle.mdr_sound_files.proofs.Along.{IsPlace, GoesOn, along, counted_all}
-use Rattle.mdr_sound_files.proofs.CountedItems.{last_or_before}
+use Rattle.mdr_sound_files.proofs.CountedItems.{last_or_before, Ruled, ruled}
 use Rattle.mdr_sound_files.proofs.Declaring.{put_named, keep_named, defined_put, declared_keep}
 use Rattle.mdr_sound_files.proofs.Functions.{marked_types}
 use Rattle.mdr_sound_files.proofs.Headings.{head_result_is, heading_params}
@@ -80,3 +80,104 @@ marked_formed program objects ps h i p e =
     let also : slice_get (map (λ (p : Param). p.ty) ps) i ≡ Some p.ty = ap (λ (ts : List Ty). slice_get ts i) (sym (marked_types objects 0 ps)) ∙ there in
     let m = get_mapped (λ (p : Param). p.ty) ps i p.ty also in
     subst (IsFormed program) m.made (h i m.item m.names)
+
+module _ (program : Program) (rules : Rules) (items : List Item) (xs : List Piece) (right : pieces_behind (body_rule rules) items (first_known items) [] items ≡ Right xs) (made : IsMadeOf program (parts_behind no_parts xs)) (ranges : AreDefinesInRange items) (steps : (scope : Scope) → Knows program scope → AreFormedSteps program scope rules) where
+  abbrev Whole : Parts
+  Whole = parts_behind no_parts xs
+
+  abbrev Last : Known
+  Last = known_behind items (first_known items) items
+
+  abbrev Turn : List Item → Known → Item → Piece → Parts → Type 0
+  Turn = IsPlace (body_rule rules) items Whole Last.functions
+
+  abbrev AtRest : Known → Parts → Type 0
+  AtRest = IsStanding program (body_rule rules) items xs right made ranges
+
+  -- the types of globals and functions so far
+  record AreFormedParts (known : Known) (ps : Parts) : Type 0 where
+    rests : AtRest known ps
+    globals : (g : ℕ) (v : Variable) → slice_get ps.variables g ≡ Some v → IsFormed program v.object.ty
+    funcs : (i : ℕ) (f : Func) → slice_get ps.funcs i ≡ Some f → IsFormedFunc program f
+
+  -- ---- one function
+
+  scope_structs : (known : Known) (h : Head) → (body_scope items known h).structs ≡ known.scope.structs
+  unfolding behind_function
+  scope_structs known h = function_structs (is_taken known.scope h.name) known.scope (length known.functions) (is_defined items h.name) h
+
+  knows_there : (known : Known) (ps : Parts) (scope : Scope) → AtRest known ps → Stands program scope → scope.structs ≡ known.scope.structs → KnowsDeclarations program scope
+  knows_there known ps scope q st same =
+      let low : AreNumbered scope (length program.structs) = tags_numbered program scope st in
+      record {
+        formed = λ limit d o e. (object_sound program scope limit d o st e).sort;
+        small = λ limit d o e. (object_sound program scope limit d o st e).small;
+        parameters = λ d t e. (declarator_good scope (length program.structs) d low).parameter t e;
+        results = λ h t e. head_result_is scope (length program.structs) h t low e;
+        fields = λ s f entry x e g. q.fields s f entry x (ap (λ es. slice_get es s) (sym same) ∙ e) g;
+      }
+
+  scope_stands : (before : List Item) (known : Known) (ps : Parts) (h : Head) (is_body : Bool) (g : Heading) → function_declared known.scope known.functions items before h is_body ≡ Right g → Begins (functions_behind known.scope known.functions items h) Last.functions → AtRest known ps → AreNumbered known.scope (length program.structs) → Stands program (body_scope items known h)
+  scope_stands before known ps h is_body g e b q low =
+      function_stands program (body_rule rules) items xs right made ranges known h (record { heading = g; listed = (ruled known.scope known.functions items before h is_body g e).right; begins = b }) q.stands low
+
+  heading_formed : (before : List Item) (known : Known) (ps : Parts) (h : Head) (is_body : Bool) (g : Heading) → function_declared known.scope known.functions items before h is_body ≡ Right g → Begins (functions_behind known.scope known.functions items h) Last.functions → AtRest known ps → AreNumbered known.scope (length program.structs) → (i : ℕ) (p : Param) → slice_get g.params i ≡ Some p → IsFormed program p.ty
+  heading_formed before known ps h is_body g e b q low i p at =
+      let scope = body_scope items known h in
+      let st = scope_stands before known ps h is_body g e b q low in
+      let listed : heading scope h ≡ Right g = (ruled known.scope known.functions items before h is_body g e).right in
+      inl (heading_params scope (length program.structs) h g (tags_numbered program scope st) listed i p at)
+
+  prototype_formed : (before : List Item) (known : Known) (ps : Parts) (h : Head) (g : Heading) → function_declared known.scope known.functions items before h false ≡ Right g → Begins (functions_behind known.scope known.functions items h) Last.functions → AtRest known ps → AreNumbered known.scope (length program.structs) → IsFormedFunc program (remote h.name g)
+  prototype_formed before known ps h g e b q low = record {
+    params = heading_formed before known ps h false g e b q low;
+    locals = λ i l n. absurd cc;
+    body = tt;
+  }
+
+  body_formed : (before : List Item) (known : Known) (ps : Parts) (h : Head) (is_critical : Bool) (nodes : List Node) (g : Heading) (body : Body) → function_declared known.scope known.functions items before h true ≡ Right g → body_rule rules (body_scope items known h) h nodes ≡ Right body → Begins (functions_behind known.scope known.functions items h) Last.functions → AtRest known ps → AreNumbered known.scope (length program.structs) → IsFormedFunc program (whole h.name is_critical g body)
+  body_formed before known ps h is_critical nodes g body e f b q low =
+      let scope = body_scope items known h in
+      let st = scope_stands before known ps h true g e b q low in
+      record {
+        params = marked_formed program body.objects g.params (heading_formed before known ps h true g e b q low);
+        locals = locals_formed program rules scope h nodes body (knows_there known ps scope q st (scope_structs known h)) f;
+        body = (allocations_formed program scope rules (steps scope st.knows)).bodies h nodes body f;
+      }
+
+  one_formed : (fs : List Func) (f g : Func) → ((i : ℕ) (f : Func) → slice_get fs i ≡ Some f → IsFormedFunc program f) → IsFormedFunc program f → (i : ℕ) → (slice_get fs i ≡ Some g) ⊎ (f ≡ g) → IsFormedFunc program g
+  one_formed fs f g h own i (inl old) = h i g old
+  one_formed fs f g h own i (inr new) = subst (IsFormedFunc program) new own
+
+  one_global : (vs : List Variable) (v w : Variable) → ((g : ℕ) (v : Variable) → slice_get vs g ≡ Some v → IsFormed program v.object.ty) → IsFormed program v.object.ty → (g : ℕ) → (slice_get vs g ≡ Some w) ⊎ (v ≡ w) → IsFormed program w.object.ty
+  one_global vs v w h own g (inl old) = h g w old
+  one_global vs v w h own g (inr new) = subst (λ (u : Variable). IsFormed program u.object.ty) new own
+
+  formed_behind : (before : List Item) (known : Known) (ps : Parts) (what : ItemWhat) (x : Piece) → Comes (body_rule rules) items before known what x → Begins (behind_item items known what).functions Last.functions → AreNumbered known.scope (length program.structs) → AtRest (behind_item items known what) (behind_piece ps x) → AreFormedParts known ps → AreFormedParts (behind_item items known what) (behind_piece ps x)
+  formed_behind before known ps _ _ (OfDefine name is_negative n k) begins low rests q = record { rests = rests; globals = q.globals; funcs = q.funcs }
+  formed_behind before known ps _ _ (OfStruct at name ds fields) begins low rests q = record { rests = rests; globals = q.globals; funcs = q.funcs }
+  formed_behind before known ps _ _ (OfEnum es) begins low rests q = record { rests = rests; globals = q.globals; funcs = q.funcs }
+  formed_behind before known ps _ _ (OfGlobal d init v e) begins low rests q =
+      let own = (object_sound program known.scope (out-Decl d).place d v.object (q.rests).stands (declared known.scope known.globals d init v e).object).sort in
+      record { rests = rests; globals = λ g w n. one_global ps.variables v w q.globals own g (last_or_before ps.variables v g w n); funcs = q.funcs }
+  formed_behind before known ps _ _ (OfPrototype h is_remote g e) begins low rests q = record {
+    rests = rests;
+    globals = q.globals;
+    funcs = λ i f n. one_formed ps.funcs (remote h.name g) f q.funcs (prototype_formed before known ps h g e begins q.rests low) i (keep_either ps.funcs (remote h.name g) f i (ap (λ fs. slice_get fs i) (sym (declared_keep ps.funcs (remote h.name g))) ∙ n));
+  }
+  formed_behind before known ps _ _ (OfFunction h is_critical nodes g b e f) begins low rests q = record {
+    rests = rests;
+    globals = q.globals;
+    funcs = λ i k n. one_formed ps.funcs (whole h.name is_critical g b) k q.funcs (body_formed before known ps h is_critical nodes g b e f begins q.rests low) i (put_either ps.funcs (whole h.name is_critical g b) k i (ap (λ fs. slice_get fs i) (sym (defined_put ps.funcs (whole h.name is_critical g b))) ∙ n));
+  }
+
+  formed_goes_on : GoesOn (body_rule rules) items Whole Last.functions AreFormedParts
+  formed_goes_on = record { behind = λ before known i x ps place q.
+      formed_behind before known ps i.what x (comes_to (body_rule rules) items before known i.place i.what x place.one)
+      place.declared
+      (names_structs program (body_rule rules) items xs right made known.scope (place.at).tags)
+      ((standing_goes_on program (body_rule rules) items xs right made ranges).behind before known i x ps place q.rests)
+      q }
+
+  all_formed : AreFormedParts Last Whole
+  all_formed = along (body_rule rules) items xs AreFormedParts right formed_goes_on (record { rests = first_standing program (body_rule rules) items xs right made ranges; globals = λ g v e. absurd cc; funcs = λ i f e. absurd cc })
