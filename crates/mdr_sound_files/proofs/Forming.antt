@@ -1,5 +1,5 @@
 -- The types that occur in a file are types of objects, whatever stands in the type table.
-use Rattle.std.proofs.Common.{◌≡◌, ℕ, zero, suc, ◌+◌, ◌<◌, Bool, true, false, List, [], ◌∷◌, ◌++◌, length, map, Option, Some, None, refl, sym, ap, ◌∙◌, subst, slice_get, ◌⊎◌, inl, inr}
+use Rattle.std.proofs.Common.{◌≡◌, ℕ, zero, suc, ◌+◌, ◌<◌, Bool, true, false, List, [], ◌∷◌, ◌++◌, length, map, Option, Some, None, refl, sym, ap, ◌∙◌, subst, slice_get, ◌⊎◌, inl, inr, arith}
 use Rattle.std.proofs.lemmas.Option.{slice_get_within}
 use Rattle.mdr_core.specs.declared.place.Place.{Place}
 use Rattle.mdr_core.specs.declared.code.Stmt.{Stmt}
@@ -11,11 +11,11 @@ use Rattle.mdr_core.specs.declared.program.Param.{Param}
 use Rattle.mdr_core.specs.declared.program.Program.{Program}
 use Rattle.mdr_core.specs.declared.program.StructDef.{StructDef}
 use Rattle.mdr_core.specs.declared.types.Ty.{Ty}
-use Rattle.mdr_core.specs.Code.{Codes}
+use Rattle.mdr_core.specs.Code.{Code, Codes}
 use Rattle.mdr_core.specs.Folds.{codes_of}
 use Rattle.mdr_core.specs.Layout.{fields_or, fields_of}
 use Rattle.mdr_core.specs.Types.{Scalar, sort_of}
-use Rattle.mdr_core.specs.TypeText.{Occurs}
+use Rattle.mdr_core.specs.TypeText.{Occurs, Allocates, AllocatesIn}
 use Rattle.mdr_core.specs.TypeText as occurs
 use Rattle.mdr_syntax.specs.declared.tree.Decl.{Decl, out-Decl}
 use Rattle.mdr_syntax.specs.declared.tree.Head.{Head}
@@ -40,6 +40,8 @@ use Rattle.mdr_body.specs.Bodies.{body_rule}
 use Rattle.mdr_body.specs.Statements.{Rules}
 use Rattle.mdr_program.specs.declared.parts.Parts.{Parts}
 use Rattle.mdr_program.specs.Parts.{marked, remote, whole, behind_piece, parts_behind, no_parts}
+use Rattle.mdr_program.specs.Occurring.{shape_types, allocated, allocated_in}
+use Rattle.mdr_program.specs.Orders.{IsAmong}
 use Rattle.mdr_program.specs.Programs.{global_def, global_defs}
 use Rattle.mdr_sound_code.specs.Knowing.{IsFormed, Knows}
 use Rattle.mdr_sound_bodies.specs.Allocating.{AllocateFormed, AreFormedSteps}
@@ -59,7 +61,7 @@ use Rattle.mdr_sound_files.proofs.Objects.{object_sound, tags_numbered}
 use Rattle.mdr_sound_files.proofs.Outlines.{names_structs}
 use Rattle.mdr_sound_files.proofs.Passing.{IsAt, function_structs}
 use Rattle.mdr_sound_files.proofs.Reading.{get_map, get_mapped}
-use Rattle.mdr_sound_files.proofs.Scopes.{AreDefinesInRange, IsStanding, standing_goes_on, first_standing, standing_all, function_stands, IsHeaded}
+use Rattle.mdr_sound_files.proofs.Scopes.{AreDefinesInRange, IsStanding, standing_goes_on, first_standing, standing_all, function_stands, IsHeaded, global_from}
 use Rattle.mdr_sound_files.proofs.SoundGlobals.{IsDeclared, declared}
 use Rattle.mdr_sound_files.proofs.Sounding.{put_either, keep_either}
 use Rattle.mdr_sound_files.proofs.Viewed.{Comes, OfDefine, OfStruct, OfEnum, OfGlobal, OfPrototype, OfFunction, comes_to}
@@ -80,6 +82,42 @@ marked_formed program objects ps h i p e =
     let also : slice_get (map (λ (p : Param). p.ty) ps) i ≡ Some p.ty = ap (λ (ts : List Ty). slice_get ts i) (sym (marked_types objects 0 ps)) ∙ there in
     let m = get_mapped (λ (p : Param). p.ty) ps i p.ty also in
     subst (IsFormed program) m.made (h i m.item m.names)
+
+either : {A B C D : Type 0} → (A → C) → (B → D) → A ⊎ B → C ⊎ D
+either f g (inl a) = inl (f a)
+either f g (inr b) = inr (g b)
+
+-- what is among one of two lists
+in_parts : (t : Ty) (ts us : List Ty) → IsAmong t ts ⊎ IsAmong t us → IsAmong t (ts ++ us)
+in_parts t [] us (inl m) = absurd m
+in_parts t [] us (inr m) = m
+in_parts t (x ∷ ts) us (inl (inl e)) = inl e
+in_parts t (x ∷ ts) us (inl (inr m)) = inr (in_parts t ts us (inl m))
+in_parts t (x ∷ ts) us (inr m) = inr (in_parts t ts us (inr m))
+
+shape_among : (t : Ty) (shape : Option Ty) → shape ≡ Some t → IsAmong t (shape_types shape)
+shape_among t None e = absurd cc
+shape_among t (Some u) e = inl (same e)
+  where
+    same : {a b : Ty} → Some a ≡ Some b → a ≡ b
+    same q = cc
+
+-- the types that code allocates
+mutual
+  allocated_among : (t : Ty) (c : Code) → Allocates t c → IsAmong t (allocated c)
+  allocated_among t (Code.Declare n i) h = h
+  allocated_among t (Code.Text n i bytes) h = h
+  allocated_among t (Code.Assign n p e) h = h
+  allocated_among t (Code.Call n goal call) h = shape_among t call.shape h
+  allocated_among t (Code.If n e one other) h = in_parts t (allocated_in one) (allocated_in other) (either (allocated_in_among t one) (allocated_in_among t other) h)
+  allocated_among t (Code.Loop n e step body) h = in_parts t (allocated_in step) (allocated_in body) (either (allocated_in_among t step) (allocated_in_among t body) h)
+  allocated_among t (Code.Block body) h = allocated_in_among t body h
+  allocated_among t (Code.Return n e) h = h
+  allocated_among t (Code.Jump n way) h = h
+
+  allocated_in_among : (t : Ty) (cs : Codes) → AllocatesIn t cs → IsAmong t (allocated_in cs)
+  allocated_in_among t Codes.End h = h
+  allocated_in_among t (Codes.Then c cs) h = in_parts t (allocated c) (allocated_in cs) (either (allocated_among t c) (allocated_in_among t cs) h)
 
 module _ (program : Program) (rules : Rules) (items : List Item) (xs : List Piece) (right : pieces_behind (body_rule rules) items (first_known items) [] items ≡ Right xs) (made : IsMadeOf program (parts_behind no_parts xs)) (ranges : AreDefinesInRange items) (steps : (scope : Scope) → Knows program scope → AreFormedSteps program scope rules) where
   abbrev Whole : Parts
@@ -181,3 +219,37 @@ module _ (program : Program) (rules : Rules) (items : List Item) (xs : List Piec
 
   all_formed : AreFormedParts Last Whole
   all_formed = along (body_rule rules) items xs AreFormedParts right formed_goes_on (record { rests = first_standing program (body_rule rules) items xs right made ranges; globals = λ g v e. absurd cc; funcs = λ i f e. absurd cc })
+
+  -- ---- the program
+
+  there_is : {A : Type 0} (xs : List A) (i : ℕ) → i < length xs → (x : A) × (slice_get xs i ≡ Some x)
+  there_is [] i less = absurd (omega (arith, less))
+  there_is (x ∷ rest) zero less = (x, refl)
+  there_is (x ∷ rest) (suc i) less = there_is rest i (omega (arith, less))
+
+  structs_many : length Last.scope.structs ≡ length program.structs
+  structs_many = (counted_all (body_rule rules) items xs right).structs ∙ ap length (sym made.structs)
+
+  field_formed : (s f : ℕ) (def : StructDef) (x : Field) → slice_get program.structs s ≡ Some def → slice_get def.fields f ≡ Some x → IsFormed program x.ty
+  field_formed s f def x names e =
+      let inside = slice_get_within program.structs s def names in
+      let entry = there_is Last.scope.structs s (subst (λ n. s < n) (sym structs_many) inside) in
+      let at : slice_get (fields_of program.structs s) f ≡ Some x = ap (λ (o : Option StructDef). slice_get (fields_or o) f) names ∙ e in
+      let m = (all_formed.rests).fields s f entry.0 x entry.1 at in
+      subst (IsFormed program) m.ty (((all_formed.rests).stands.knows).members s f entry.0 m.member m.object entry.1 m.at m.means).formed
+
+  func_at : (f : ℕ) (func : Func) → slice_get program.funcs f ≡ Some func → IsFormedFunc program func
+  func_at f func e = all_formed.funcs f func (ap (λ fs. slice_get fs f) (sym made.funcs) ∙ e)
+
+  body_at : (f : ℕ) (func : Func) (body : List Stmt) → slice_get program.funcs f ≡ Some func → func.body ≡ Some body → AllocateFormed program (codes_of body)
+  body_at f func body e is = subst (IsBodyFormed program) is (func_at f func e).body
+
+  -- each type that occurs in the program of a file without faults is a type of objects
+  pub types_formed : (t : Ty) → Occurs program t → IsFormed program t
+  types_formed t (occurs.OfField s f def x names e is) = subst (IsFormed program) is (field_formed s f def x names e)
+  types_formed t (occurs.OfGlobal g def names is) =
+      let v = global_from program.types Whole.structs Whole.variables Whole.variables g def (ap (λ gs. slice_get gs g) (sym made.globals) ∙ names) in
+      subst (IsFormed program) (ap (λ (d : GlobalDef). d.ty) v.2 ∙ is) (all_formed.globals g v.0 v.1)
+  types_formed t (occurs.OfParam f i func p names e is) = subst (IsFormed program) is ((func_at f func names).params i p e)
+  types_formed t (occurs.OfLocal f i func l names e is) = subst (IsFormed program) is ((func_at f func names).locals i l e)
+  types_formed t (occurs.OfAllocation f func body names is m) = body_at f func body names is t (allocated_in_among t (codes_of body) m)

@@ -5,6 +5,7 @@ use Rattle.std.proofs.lemmas.Option.{slice_get_within}
 use Rattle.mdr_core.specs.declared.place.Place.{Place}
 use Rattle.mdr_core.specs.declared.program.Field.{Field}
 use Rattle.mdr_core.specs.declared.program.Func.{Func}
+use Rattle.mdr_core.specs.declared.program.GlobalDef.{GlobalDef}
 use Rattle.mdr_core.specs.declared.program.Program.{Program}
 use Rattle.mdr_core.specs.declared.program.StructDef.{StructDef}
 use Rattle.mdr_core.specs.declared.types.Ty.{Ty}
@@ -81,6 +82,16 @@ unfolding global_defs
 global_there types structs vs [] g v e = absurd cc
 global_there types structs vs (w ∷ ws) zero v e = ap (option_some (global_def types structs vs)) e
 global_there types structs vs (w ∷ ws) (suc g) v e = global_there types structs vs ws g v e
+
+-- each global of a program comes from a variable
+pub global_from : (types : List Ty) (structs : List StructDef) (vs rest : List Variable) (g : ℕ) (def : GlobalDef) → slice_get (global_defs types structs vs rest) g ≡ Some def → (v : Variable) × (slice_get rest g ≡ Some v) × (global_def types structs vs v ≡ def)
+unfolding global_defs
+global_from types structs vs [] g def e = absurd cc
+global_from types structs vs (w ∷ ws) zero def e = (w, refl, same e)
+  where
+    same : {a b : GlobalDef} → Some a ≡ Some b → a ≡ b
+    same q = cc
+global_from types structs vs (w ∷ ws) (suc g) def e = global_from types structs vs ws g def e
 
 -- a global's name means its object
 record MeansGlobal (own : ℕ) (r : Result Object Fault) (e : Entity) : Type 0 where

@@ -64,7 +64,7 @@ use Rattle.mdr_sound_files.proofs.Objects.{object_sound, tags_numbered}
 use Rattle.mdr_sound_files.proofs.Outlines.{names_structs}
 use Rattle.mdr_sound_files.proofs.Passing.{function_structs}
 use Rattle.mdr_sound_files.proofs.Reading.{get_map, get_mapped}
-use Rattle.mdr_sound_files.proofs.Scopes.{AreDefinesInRange, IsStanding, standing_goes_on, first_standing, standing_all, function_stands, IsHeaded, global_there}
+use Rattle.mdr_sound_files.proofs.Scopes.{AreDefinesInRange, IsStanding, standing_goes_on, first_standing, standing_all, function_stands, IsHeaded, global_there, global_from}
 use Rattle.mdr_sound_files.proofs.Tagged.{Last as IsLast, last_place}
 use Rattle.mdr_sound_files.proofs.Viewed.{Comes, OfDefine, OfStruct, OfEnum, OfGlobal, OfPrototype, OfFunction, comes_to}
 use Rattle.mdr_sound_files.proofs.SoundGlobals.{global_count, sound_globals}
@@ -289,18 +289,9 @@ module _ (program : Program) (rules : Rules) (items : List Item) (xs : List Piec
 
   -- ---- the program
 
-  variable_at : (vs rest : List Variable) (g : ℕ) (def : GlobalDef) → slice_get (global_defs program.types program.structs vs rest) g ≡ Some def → (v : Variable) × (slice_get rest g ≡ Some v) × (global_def program.types program.structs vs v ≡ def)
-  unfolding global_defs
-  variable_at vs [] g def e = absurd cc
-  variable_at vs (w ∷ ws) zero def e = (w, refl, same e)
-    where
-      same : {a b : GlobalDef} → Some a ≡ Some b → a ≡ b
-      same q = cc
-  variable_at vs (w ∷ ws) (suc g) def e = variable_at vs ws g def e
-
   globals_sound : (g : ℕ) (def : GlobalDef) → slice_get program.globals g ≡ Some def → IsSoundGlobal program g def
   globals_sound g def e =
-      let v = variable_at Whole.variables Whole.variables g def (ap (λ gs. slice_get gs g) (sym globals_are) ∙ e) in
+      let v = global_from program.types program.structs Whole.variables Whole.variables g def (ap (λ gs. slice_get gs g) (sym globals_are) ∙ e) in
       subst (IsSoundGlobal program g) v.2 (all_sound.globals g v.0 v.1 v.1)
 
   func_placed : (f : ℕ) (func : Func) → slice_get program.funcs f ≡ Some func → CallsNothingBack program → IsPlaced program func
