@@ -50,7 +50,7 @@ use Rattle.mdr_sound_bodies.proofs.AllocatingLines.{allocations_formed}
 use Rattle.mdr_sound_bodies.proofs.Making.{locals_formed}
 use Rattle.mdr_sound_files.specs.Counting.{Counts, Begins}
 use Rattle.mdr_sound_files.specs.Standing.{Stands}
-use Rattle.mdr_sound_files.specs.Whole.{IsMadeOf}
+use Rattle.mdr_sound_files.specs.Whole.{IsMadeOf, AreDefinesInRange}
 use Rattle.mdr_sound_files.proofs.Along.{IsPlace, GoesOn, along, counted_all}
 use Rattle.mdr_sound_files.proofs.CountedItems.{last_or_before, Ruled, ruled}
 use Rattle.mdr_sound_files.proofs.Declaring.{put_named, keep_named, defined_put, declared_keep}
@@ -61,7 +61,7 @@ use Rattle.mdr_sound_files.proofs.Objects.{object_sound, tags_numbered}
 use Rattle.mdr_sound_files.proofs.Outlines.{names_structs}
 use Rattle.mdr_sound_files.proofs.Passing.{IsAt, function_structs}
 use Rattle.mdr_sound_files.proofs.Reading.{get_map, get_mapped}
-use Rattle.mdr_sound_files.proofs.Scopes.{AreDefinesInRange, IsStanding, standing_goes_on, first_standing, standing_all, function_stands, IsHeaded, global_from}
+use Rattle.mdr_sound_files.proofs.Scopes.{IsStanding, standing_goes_on, first_standing, standing_all, function_stands, IsHeaded, global_from}
 use Rattle.mdr_sound_files.proofs.SoundGlobals.{IsDeclared, declared}
 use Rattle.mdr_sound_files.proofs.Sounding.{put_either, keep_either}
 use Rattle.mdr_sound_files.proofs.Viewed.{Comes, OfDefine, OfStruct, OfEnum, OfGlobal, OfPrototype, OfFunction, comes_to}

@@ -12,6 +12,7 @@ pub mod Scopes
 pub mod Viewed
 pub mod Sounding
 pub mod Forming
+pub mod Filed
 pub mod Sorts
 pub mod NamedTypes
 pub mod Objects

@@ -49,7 +49,7 @@ use Rattle.mdr_sound_code.specs.Knowing.{IsKnownEntity, IsKnownGlobal, IsKnownFu
 use Rattle.mdr_sound_code.proofs.Rights.{after_right, both_right, same_right, told_right}
 use Rattle.mdr_sound_files.specs.Counting.{AreDeclaredAs, Begins}
 use Rattle.mdr_sound_files.specs.Standing.{Stands}
-use Rattle.mdr_sound_files.specs.Whole.{HasAll, IsMadeOf}
+use Rattle.mdr_sound_files.specs.Whole.{HasAll, IsMadeOf, IsDefineInRange, AreDefinesInRange}
 use Rattle.mdr_sound_files.proofs.Along.{IsPlace, GoesOn, along, counted_all}
 use Rattle.mdr_sound_files.proofs.Counted.{members_counted}
 use Rattle.mdr_sound_files.proofs.CountedItems.{last_or_before, ruled, new_declared}
@@ -114,19 +114,6 @@ means_function (Ok s) e m = record { signature = s; told = refl; is = cc }
 means_function (Err f) e m = absurd cc
 
 -- ---- constants of the file
-
--- a `#define` has a number of its kind
-abbrev pub IsDefineInRange : ItemWhat → Type 0
-IsDefineInRange (item.Define name is_negative n k) = IsTrue (is_in_range (number_constant is_negative n k).kind (number_constant is_negative n k).number)
-IsDefineInRange (item.Struct p name ds) = Unit {0}
-IsDefineInRange (item.Enum es) = Unit {0}
-IsDefineInRange (item.Global d init) = Unit {0}
-IsDefineInRange (item.Proto h is_remote) = Unit {0}
-IsDefineInRange (item.Func h is_critical nodes) = Unit {0}
-
-abbrev pub AreDefinesInRange : List Item → Type 0
-AreDefinesInRange [] = Unit {0}
-AreDefinesInRange (i ∷ is) = IsDefineInRange i.what × AreDefinesInRange is
 
 define_at : (before more : List Item) (i : Item) → AreDefinesInRange ((before ++ i ∷ []) ++ more) → IsDefineInRange i.what
 define_at [] more i all = all.0

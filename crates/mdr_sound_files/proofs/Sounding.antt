@@ -53,7 +53,7 @@ use Rattle.mdr_sound_files.specs.Counting.{Begins}
 use Rattle.mdr_sound_files.specs.Declared.{IsSoundHeading}
 use Rattle.mdr_sound_files.specs.Globals.{HasVariables, StandsAmong}
 use Rattle.mdr_sound_files.specs.Standing.{Stands}
-use Rattle.mdr_sound_files.specs.Whole.{HasAll, IsMadeOf, CallsNothingBack}
+use Rattle.mdr_sound_files.specs.Whole.{HasAll, IsMadeOf, CallsNothingBack, AreDefinesInRange, IsBodyProper, AreBodiesProper}
 use Rattle.mdr_sound_files.proofs.Along.{IsPlace, GoesOn, along, counted_all}
 use Rattle.mdr_sound_files.proofs.CountedItems.{last_or_before, ruled}
 use Rattle.mdr_sound_files.proofs.Declaring.{put_named, keep_named, defined_put, declared_keep}
@@ -64,7 +64,7 @@ use Rattle.mdr_sound_files.proofs.Objects.{object_sound, tags_numbered}
 use Rattle.mdr_sound_files.proofs.Outlines.{names_structs}
 use Rattle.mdr_sound_files.proofs.Passing.{function_structs}
 use Rattle.mdr_sound_files.proofs.Reading.{get_map, get_mapped}
-use Rattle.mdr_sound_files.proofs.Scopes.{AreDefinesInRange, IsStanding, standing_goes_on, first_standing, standing_all, function_stands, IsHeaded, global_there, global_from}
+use Rattle.mdr_sound_files.proofs.Scopes.{IsStanding, standing_goes_on, first_standing, standing_all, function_stands, IsHeaded, global_there, global_from}
 use Rattle.mdr_sound_files.proofs.Tagged.{Last as IsLast, last_place}
 use Rattle.mdr_sound_files.proofs.Viewed.{Comes, OfDefine, OfStruct, OfEnum, OfGlobal, OfPrototype, OfFunction, comes_to}
 use Rattle.mdr_sound_files.proofs.SoundGlobals.{global_count, sound_globals}
@@ -95,19 +95,6 @@ keep_either (h ∷ hs) f g i e = by (bytes_eq h.name f.name) i e (λ j. keep_eit
     by false (suc j) e rest = rest j e
 
 -- ---- the source of bodies
-
--- a function's body and parameters are written as the grammar writes them
-abbrev pub IsBodyProper : ItemWhat → Type 0
-IsBodyProper (item.Define name is_negative n k) = Unit {0}
-IsBodyProper (item.Struct p name ds) = Unit {0}
-IsBodyProper (item.Enum es) = Unit {0}
-IsBodyProper (item.Global d init) = Unit {0}
-IsBodyProper (item.Proto h is_remote) = Unit {0}
-IsBodyProper (item.Func h is_critical nodes) = AreNamed h.params × AreProper (lines_of nodes)
-
-abbrev pub AreBodiesProper : List Item → Type 0
-AreBodiesProper [] = Unit {0}
-AreBodiesProper (i ∷ is) = IsBodyProper i.what × AreBodiesProper is
 
 proper_at : (before more : List Item) (i : Item) → AreBodiesProper ((before ++ i ∷ []) ++ more) → IsBodyProper i.what
 proper_at [] more i all = all.0

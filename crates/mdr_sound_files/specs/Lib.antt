@@ -5,3 +5,4 @@ pub mod Counting
 pub mod Whole
 pub mod Globals
 pub mod GlobalLaws
+pub mod FileLaws

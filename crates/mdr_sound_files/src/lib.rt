@@ -2,10 +2,12 @@
 #![tactic(auto)]
 
 mod declaration_laws;
+mod file_laws;
 mod global_laws;
 
 pub use declaration_laws::{
     annotations_are_sound, declarators_have_types, headings_are_sound, headings_have_signatures,
     objects_are_sound, structs_are_known, structs_are_sound, tables_are_sound,
 };
+pub use file_laws::{files_are_sound, types_of_files_are_formed};
 pub use global_laws::globals_are_sound;
