@@ -1,0 +1,5 @@
+pub mod Loops
+pub mod Firsts
+pub mod OneThing
+pub mod Whose
+mod Stages
