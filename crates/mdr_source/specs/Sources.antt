@@ -1,5 +1,5 @@
 -- What the bytes of a source come to: its tree and its program, or the one thing for which it is refused. Stage by stage, with one constructor for each reason.
-use Rattle.std.specs.Prelude.{◌≡◌, ◌≤◌, ℕ, true, false, List, length, Option, Some, None, slice_get, Result, Ok, Err}
+use Rattle.std.specs.Prelude.{◌≡◌, ◌≤◌, ◌<◌, ℕ, true, false, List, length, Option, Some, None, slice_get, Result, Ok, Err}
 use Rattle.mdr_core.specs.declared.place.Place.{Place}
 use Rattle.mdr_core.specs.declared.program.Program.{Program}
 use Rattle.mdr_syntax.specs.declared.error.LexError.TheVariants as lex
@@ -70,3 +70,15 @@ pub record IsSource (bytes : List ℕ) (source : Source) : Type 0 where
   pub judged : typed_tree source.tree ≡ Right source.program
   pub no_back : functions_call_back source.program.funcs ≡ false
   pub types : length source.program.types ≤ 4294967296
+
+-- the program of bytes would be right, and has more types than 32 bits number
+pub record IsTooLarge (bytes : List ℕ) : Type 0 where
+  pub tokens : List Token
+  pub are_tokens : tokens_of bytes ≡ Ok tokens
+  pub tree : Tree
+  pub reads : Reads false tokens tree
+  pub built : waits tree.items ≡ false
+  pub program : Program
+  pub judged : typed_tree tree ≡ Right program
+  pub no_back : functions_call_back program.funcs ≡ false
+  pub types : 4294967296 < length program.types

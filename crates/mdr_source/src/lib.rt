@@ -11,7 +11,10 @@ mod unbuilt;
 mod whole;
 
 pub use backs::functions_call_back;
-pub use laws::{bytes_come_to_one_thing, bytes_come_to_their_source, some_statements_wait};
+pub use laws::{
+    bytes_come_to_one_thing, bytes_come_to_something, bytes_come_to_their_source,
+    some_statements_wait,
+};
 pub use lines::refusal_line;
 pub use outcome::Source;
 pub use refusal::Refusal;
