@@ -17,6 +17,7 @@ pub use laws::{
 };
 pub use lines::refusal_line;
 pub use outcome::Source;
+pub use put::{put_bytes, put_newline, put_number, put_word};
 pub use refusal::Refusal;
 pub use unbuilt::waits;
 pub use whole::source;

@@ -1,4 +1,4 @@
-// What the line of a refusal is put together from.
+// What printed lines are put together from.
 
 ghost use Rattle.std.specs.Prelude.{◌≡◌, ◌++◌, OnOk, codes, decimal};
 
@@ -6,7 +6,7 @@ use mdr_core::OutOfMemory;
 use std::alloc::Global;
 
 /// A word as it is.
-pub(crate) fn put_word(out: &mut Vec<u8>, word: &str) -> Result<(), OutOfMemory>
+pub fn put_word(out: &mut Vec<u8>, word: &str) -> Result<(), OutOfMemory>
     ensures { OnOk result (out.new.items ≡ out.old.items ++ word.now) }
 {
     out.extend_from_slice(word.as_bytes())?;
@@ -14,7 +14,7 @@ pub(crate) fn put_word(out: &mut Vec<u8>, word: &str) -> Result<(), OutOfMemory>
 }
 
 /// Bytes as they are.
-pub(crate) fn put_bytes(out: &mut Vec<u8>, bytes: &[u8]) -> Result<(), OutOfMemory>
+pub fn put_bytes(out: &mut Vec<u8>, bytes: &[u8]) -> Result<(), OutOfMemory>
     ensures { OnOk result (out.new.items ≡ out.old.items ++ bytes.now) }
 {
     out.extend_from_slice(bytes)?;
@@ -22,7 +22,7 @@ pub(crate) fn put_bytes(out: &mut Vec<u8>, bytes: &[u8]) -> Result<(), OutOfMemo
 }
 
 /// A number in decimal digits.
-pub(crate) fn put_number(alloc: Global, out: &mut Vec<u8>, n: u32) -> Result<(), OutOfMemory>
+pub fn put_number(alloc: Global, out: &mut Vec<u8>, n: u32) -> Result<(), OutOfMemory>
     ensures { OnOk result (out.new.items ≡ out.old.items ++ decimal n) }
 {
     let digits = n.to_string(alloc)?;
@@ -30,7 +30,7 @@ pub(crate) fn put_number(alloc: Global, out: &mut Vec<u8>, n: u32) -> Result<(),
 }
 
 /// The end of a line.
-pub(crate) fn put_newline(out: &mut Vec<u8>) -> Result<(), OutOfMemory>
+pub fn put_newline(out: &mut Vec<u8>) -> Result<(), OutOfMemory>
     ensures { OnOk result (out.new.items ≡ out.old.items ++ codes "\n") }
 {
     out.push(b'\n')?;
