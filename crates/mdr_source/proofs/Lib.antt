@@ -1,0 +1,7 @@
+pub mod Loops
+pub mod Firsts
+pub mod OneThing
+pub mod Whose
+mod Stages
+mod Lexed
+mod Something

@@ -1,0 +1,48 @@
+-- Statements that are built, and statements that aren't yet.
+use Rattle.std.specs.Prelude.{ℕ, List, [], ◌∷◌, Some, codes}
+use Rattle.mdr_core.specs.declared.kind.Kind.TheVariants.{S32}
+use Rattle.mdr_core.specs.declared.place.Place.{Place}
+use Rattle.mdr_operand.specs.Written.{Written, Writtens, Line, Lines}
+
+abbrev pub here : Place
+here = record { line = 1; column = 1 }
+
+abbrev pub one : Written
+one = Written.Number here 1 S32
+
+abbrev pub x : Written
+x = Written.Name here (codes "x")
+
+abbrev pub call : Writtens → Written
+call args = Written.Call here (Written.Name here (codes "f")) args
+
+abbrev pub with : Written → Writtens
+with w = Writtens.Then w Writtens.End
+
+-- `x++` and `++x`
+abbrev pub behind : Written
+behind = Written.Post here (codes "++") x
+
+abbrev pub in_front : Written
+in_front = Written.Prefix here (codes "++") x
+
+abbrev pub assign : (operator : List ℕ) → Written → Line
+assign op w = Line.Assign here here op x w
+
+abbrev pub choice : Written
+choice = Written.Choice here x one one
+
+-- `f();` `f(1);` `x = f();` `return f();` `x++;` `++x;` `x += 1;` `for (x = f(); x; x++) f();`
+abbrev pub built : List Line
+built =
+    Line.Plain here (call Writtens.End) ∷ Line.Plain here (call (with one)) ∷ assign (codes "=") (call Writtens.End) ∷ Line.Return here (Some (call Writtens.End))
+    ∷ Line.Plain here behind ∷ Line.Plain here in_front ∷ assign (codes "+=") one
+    ∷ Line.For here (Lines.Then (assign (codes "=") (call Writtens.End)) Lines.End) (Some x) (Lines.Then (Line.Plain here behind) Lines.End) (Line.Plain here (call Writtens.End)) ∷ []
+
+-- `f(f());` `x = f() + 1;` `x += f();` `return -f();` `x = x++;` `x = ++x;` `if (f()) ;` `while (x++) ;` `x = x ? 1 : 1;` `do ; while (x);` `switch (x) { }`
+abbrev pub unbuilt : List Line
+unbuilt =
+    Line.Plain here (call (with (call Writtens.End))) ∷ assign (codes "=") (Written.Binary here (codes "+") (call Writtens.End) one) ∷ assign (codes "+=") (call Writtens.End)
+    ∷ Line.Return here (Some (Written.Prefix here (codes "-") (call Writtens.End))) ∷ assign (codes "=") behind ∷ assign (codes "=") in_front
+    ∷ Line.If here (call Writtens.End) (Line.Empty here) Lines.End ∷ Line.While here behind (Line.Empty here) ∷ assign (codes "=") choice
+    ∷ Line.Do here (Line.Empty here) x ∷ Line.Switch here x ∷ []
