@@ -15,11 +15,12 @@ use Rattle.mdr_syntax.specs.Sources.{program_of}
 use Rattle.mdr_model.specs.declared.command.Command.{Command}
 use Rattle.mdr_top.specs.Commands.{commands_of}
 use Rattle.mdr_user.specs.Honest.{IsHonest}
-use Rattle.mdr_top.specs.declared.status.Status.{Status}
-use Rattle.mdr_top.specs.declared.status.Status.TheVariants as status
+use Rattle.mdr_due.specs.declared.status.Status.{Status}
+use Rattle.mdr_due.specs.declared.status.Status.TheVariants as status
 use Rattle.mdr_top.specs.Words.{command_of}
-use Rattle.mdr_top.specs.Statuses.{Counts, HasReadCause}
-use Rattle.mdr_top.specs.Answers.{Files, longest_source, longest_script, Unread, NoProgram, HasProgram, Ran, Called, Scripted, Compiled, Sourced, Answered, Prints}
+use Rattle.mdr_due.specs.Statuses.{Counts, HasReadCause}
+use Rattle.mdr_due.specs.Reads.{Files, longest_source}
+use Rattle.mdr_top.specs.Answers.{longest_script, Unread, NoProgram, HasProgram, Ran, Called, Scripted, Compiled, Sourced, Answered, Prints}
 use Rattle.mdr_top.specs.Headline.{IsMeaning, IsAccepted, Rests, AreTold, EndsAsMeant, Completes}
 use Rattle.mdr_top.proofs.Programs.{some_same, ok_same, same_program}
 use Rattle.mdr_top.proofs.Headline.{ran_means}

@@ -19,10 +19,12 @@ use Rattle.mdr_outside.specs.declared.far.LoadAnswer.TheVariants as loads
 use Rattle.mdr_outside.specs.declared.far.Loaded.{Loaded}
 use Rattle.mdr_outside.specs.declared.far.Exchange.{Exchange}
 use Rattle.mdr_user.specs.Honest.{IsHonest}
-use Rattle.mdr_top.specs.declared.status.Status.{Status}
-use Rattle.mdr_top.specs.declared.status.Status.TheVariants as status
-use Rattle.mdr_top.specs.Answers.{Files, longest_source, longest_script, default_ticks, status_of, Unread, HasProgram, Ran, Called, Scripted, Compiled, Sourced, Answered, Prints}
-use Rattle.mdr_top.specs.Done.{IsUnread, UnreadBy, SentPart, LoadedOnce, LoadedPart, Done, Does}
+use Rattle.mdr_due.specs.declared.status.Status.{Status}
+use Rattle.mdr_due.specs.declared.status.Status.TheVariants as status
+use Rattle.mdr_due.specs.Reads.{Files, longest_source}
+use Rattle.mdr_top.specs.Answers.{longest_script, default_ticks, status_of, Unread, HasProgram, Ran, Called, Scripted, Compiled, Sourced, Answered, Prints}
+use Rattle.mdr_due.specs.Reads.{IsUnread, UnreadBy}
+use Rattle.mdr_top.specs.Done.{SentPart, LoadedOnce, LoadedPart, Done, Does}
 use Rattle.mdr_top.specs.Headline.{meant, IsMeaning, MeansBy, Means}
 use Rattle.mdr_top.proofs.Headline.{honest_load, began_means, nothing_end, IsEarly, source_early, own_never}
 

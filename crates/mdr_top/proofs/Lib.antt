@@ -1,4 +1,3 @@
-pub mod StageSteps
 pub mod Bound
 pub mod Programs
 pub mod Meanings

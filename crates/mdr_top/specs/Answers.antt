@@ -29,19 +29,14 @@ use Rattle.mdr_outside.specs.declared.far.Loaded.{Loaded}
 use Rattle.mdr_outside.specs.declared.far.Exchange.{Exchange}
 use Rattle.mdr_outside.specs.Far.{loaded_with}
 use Rattle.mdr_kernel.specs.Runs.{IsRun}
-use Rattle.mdr_top.specs.declared.status.Status.{Status}
-use Rattle.mdr_top.specs.declared.status.Status.TheVariants as status
-use Rattle.mdr_top.specs.Lines.{usage_line, source_line, begin, fault_line, parse_line, script_line, file_line}
+use Rattle.mdr_due.specs.declared.status.Status.{Status}
+use Rattle.mdr_due.specs.declared.status.Status.TheVariants as status
+use Rattle.mdr_due.specs.Lines.{file_line}
+use Rattle.mdr_due.specs.Reads.{Files, longest_source}
+use Rattle.mdr_top.specs.Lines.{usage_line, source_line, begin, fault_line, parse_line, script_line}
 use Rattle.mdr_top.specs.Words.{command_of}
 
--- the files as functions of their names, told or not
-abbrev pub Files : Type 0
-Files = Option (List ℕ → Option (List ℕ))
-
--- a source has at most 1 MiB, a script 256 KiB
-abbrev pub longest_source : ℕ
-longest_source = 1048576
-
+-- a script has at most 256 KiB
 abbrev pub longest_script : ℕ
 longest_script = 262144
 

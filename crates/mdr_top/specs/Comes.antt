@@ -19,10 +19,11 @@ use Rattle.mdr_model.specs.Legal.{kernel_in}
 use Rattle.mdr_kernel.specs.Runs.{run_over, IsRun}
 use Rattle.mdr_kernel.specs.HalfState.{IsAsBefore}
 use Rattle.mdr_user.specs.Honest.{program_of_text}
-use Rattle.mdr_top.specs.declared.status.Status.{Status}
-use Rattle.mdr_top.specs.declared.status.Status.TheVariants as status
+use Rattle.mdr_due.specs.declared.status.Status.{Status}
+use Rattle.mdr_due.specs.declared.status.Status.TheVariants as status
 use Rattle.mdr_top.specs.Words.{command_of}
-use Rattle.mdr_top.specs.Answers.{Files, longest_source, longest_script, default_ticks, status_of, HasProgram}
+use Rattle.mdr_due.specs.Reads.{Files, longest_source}
+use Rattle.mdr_top.specs.Answers.{longest_script, default_ticks, status_of, HasProgram}
 use Rattle.mdr_top.specs.Headline.{IsAccepted}
 
 -- the words name a source, which is read

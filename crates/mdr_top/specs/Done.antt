@@ -1,44 +1,19 @@
 -- What a run does to the shelf and to the far side, and what is due for it: one constructor for each way that it goes.
-use Rattle.std.specs.Prelude.{◌≡◌, ◌≤◌, ℕ, List, [], ◌++◌, length, take, codes, Option, Some, None}
+use Rattle.std.specs.Prelude.{◌≡◌, ◌≤◌, ℕ, List, [], ◌++◌, length, take, Option, Some, None}
 use Rattle.mdr_core.specs.declared.program.Program.{Program}
 use Rattle.mdr_model.specs.declared.command.Command.{Command}
-use Rattle.mdr_outside.specs.Calls.{ShelfCall, Read, FarCall, Loads, and_then}
-use Rattle.mdr_outside.specs.Shelf.{ReadsFrom}
-use Rattle.mdr_outside.specs.declared.shelf.ReadAnswer.{ReadAnswer}
+use Rattle.mdr_outside.specs.Calls.{ShelfCall, FarCall, Loads, and_then}
 use Rattle.mdr_outside.specs.declared.shelf.ReadAnswer.TheVariants as reads
 use Rattle.mdr_outside.specs.declared.far.Loaded.{Loaded}
 use Rattle.mdr_outside.specs.declared.far.Exchange.{Exchange}
 use Rattle.mdr_kernel.specs.Runs.{sent_of}
 use Rattle.mdr_kernel.specs.Calls.{sends, IsPart}
-use Rattle.mdr_top.specs.declared.status.Status.{Status}
-use Rattle.mdr_top.specs.declared.status.Status.TheVariants as status
-use Rattle.mdr_top.specs.Lines.{usage_line, file_line}
+use Rattle.mdr_due.specs.declared.status.Status.{Status}
+use Rattle.mdr_due.specs.declared.status.Status.TheVariants as status
+use Rattle.mdr_top.specs.Lines.{usage_line}
 use Rattle.mdr_top.specs.Words.{command_of}
-use Rattle.mdr_top.specs.Answers.{Files, longest_source, longest_script, default_ticks, NoProgram, HasProgram, HasScript, NoScript, Ran, Adds}
-
--- ---- files
-
--- the one call of the shelf is a read of this name with this limit, and this is its answer
-pub record IsRead (files : Files) (name : List ℕ) (limit : ℕ) (old new : List ShelfCall) (answer : ReadAnswer) : Type 0 where
-  pub called : new ≡ and_then old (Read name limit answer)
-  pub told : ReadsFrom files name limit answer
-
--- the same, whatever was answered
-pub record WasRead (files : Files) (name : List ℕ) (limit : ℕ) (old new : List ShelfCall) : Type 0 where
-  pub answer : ReadAnswer
-  pub read : IsRead files name limit old new answer
-
--- what is due for an answer without bytes
-pub data IsUnread (name : List ℕ) (answer : ReadAnswer) (s : Status) (text : List ℕ) : Type 0 where
-  missing : answer ≡ reads.Missing → s ≡ status.Missing → text ≡ file_line (codes "missing ") name → IsUnread name answer s text
-  long : answer ≡ reads.TooLarge → s ≡ status.TooLarge → text ≡ file_line (codes "too large ") name → IsUnread name answer s text
-  failed : answer ≡ reads.Failed → s ≡ status.ReadFault → text ≡ file_line (codes "read fault ") name → IsUnread name answer s text
-
--- this very read gave no bytes
-pub record UnreadBy (files : Files) (name : List ℕ) (limit : ℕ) (old new : List ShelfCall) (s : Status) (text : List ℕ) : Type 0 where
-  pub answer : ReadAnswer
-  pub read : IsRead files name limit old new answer
-  pub why : IsUnread name answer s text
+use Rattle.mdr_due.specs.Reads.{Files, IsRead, WasRead, UnreadBy, longest_source}
+use Rattle.mdr_top.specs.Answers.{longest_script, default_ticks, NoProgram, HasProgram, HasScript, NoScript, Ran, Adds}
 
 -- ---- the far side
 

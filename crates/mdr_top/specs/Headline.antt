@@ -14,10 +14,11 @@ use Rattle.mdr_outside.specs.Calls.{ShelfCall, Read, and_then}
 use Rattle.mdr_outside.specs.Far.{loaded_with}
 use Rattle.mdr_outside.specs.Count.{Rose}
 use Rattle.mdr_outside.specs.Shelf.{ReadsFrom}
-use Rattle.mdr_top.specs.declared.status.Status.{Status}
-use Rattle.mdr_top.specs.declared.status.Status.TheVariants as status
+use Rattle.mdr_due.specs.declared.status.Status.{Status}
+use Rattle.mdr_due.specs.declared.status.Status.TheVariants as status
 use Rattle.mdr_top.specs.Words.{command_of}
-use Rattle.mdr_top.specs.Answers.{Files, longest_source, longest_script, default_ticks, status_of, HasProgram, HasScript, Reported, Adds}
+use Rattle.mdr_due.specs.Reads.{Files, longest_source}
+use Rattle.mdr_top.specs.Answers.{longest_script, default_ticks, status_of, HasProgram, HasScript, Reported, Adds}
 
 -- the outcome of the one-memory meaning
 abbrev pub meant : Program → List Command → Outcome

@@ -2,19 +2,17 @@
 
 ghost use Rattle.std.specs.Prelude.{◌≡◌, IfOk, OnErr, map, string_bytes};
 ghost use Rattle.mdr_outside.specs.Count.{Rose};
-ghost use Rattle.mdr_top.specs.declared.status.Status.TheVariants as status;
-ghost use Rattle.mdr_top.specs.Statuses.{HasReadCause};
+ghost use Rattle.mdr_due.specs.declared.status.Status.TheVariants as status;
+ghost use Rattle.mdr_due.specs.Statuses.{HasReadCause};
 ghost use Rattle.mdr_top.specs.Done.{Done, DonePart};
 
-use crate::due::{Due, Stage};
-use crate::files::file;
 use crate::lines::usage_line;
 use crate::program::program;
 use crate::script::calls;
 use crate::split::ran;
-use crate::status::Status;
 use crate::words::command;
 use mdr_core::OutOfMemory;
+use mdr_due::{Due, Stage, Status, file};
 use mdr_outside::{Far, Shelf};
 use std::alloc::Global;
 

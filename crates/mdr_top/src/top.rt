@@ -4,8 +4,8 @@ ghost use Rattle.std.specs.Prelude.{◌≡◌, ◌≤◌, false, length, drop, m
 ghost use Rattle.mdr_outside.specs.Count.{Rose};
 ghost use Rattle.mdr_outside.specs.Sink.{Takes};
 ghost use Rattle.mdr_outside.specs.declared.sink.SinkAnswer.TheVariants as sinks;
-ghost use Rattle.mdr_top.specs.declared.status.Status.TheVariants as status;
-ghost use Rattle.mdr_top.specs.Statuses.{HasReadCause};
+ghost use Rattle.mdr_due.specs.declared.status.Status.TheVariants as status;
+ghost use Rattle.mdr_due.specs.Statuses.{HasReadCause};
 ghost use Rattle.mdr_user.specs.Honest.{IsHonest};
 ghost use Rattle.mdr_top.specs.Answers.{Prints, AddsPart};
 ghost use Rattle.mdr_top.specs.Done.{Does};
@@ -14,7 +14,7 @@ ghost use Rattle.mdr_top.specs.Comes.{Comes, IsExact};
 ghost use Rattle.mdr_top.specs.Words.{command_of};
 
 use crate::answer::answered;
-use crate::status::Status;
+use mdr_due::Status;
 use mdr_outside::{Far, Shelf, Sink, SinkAnswer};
 use std::alloc::Global;
 
