@@ -1,4 +1,5 @@
 pub mod Bound
+pub mod CutLaws
 pub mod Programs
 pub mod Meanings
 pub mod Headline

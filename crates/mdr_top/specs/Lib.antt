@@ -1,6 +1,7 @@
 pub mod Words
 pub mod Lines
 pub mod Commands
+pub mod Cuts
 pub mod Answers
 pub mod Done
 pub mod Meanings

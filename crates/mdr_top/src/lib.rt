@@ -2,6 +2,7 @@
 #![tactic(auto)]
 
 mod answer;
+mod cutting;
 mod laws;
 mod lines;
 mod program;
