@@ -17,11 +17,15 @@ use Rattle.mdr_outside.specs.declared.far.Loaded.{Loaded}
 use Rattle.mdr_outside.specs.declared.far.Exchange.{Exchange}
 use Rattle.mdr_outside.specs.Shelf.{ReadsFrom}
 use Rattle.mdr_user.specs.Honest.{program_of_tokens, program_of_text}
-use Rattle.mdr_top.specs.declared.status.Status.{Status}
-use Rattle.mdr_top.specs.declared.status.Status.TheVariants as status
-use Rattle.mdr_top.specs.Words.{command_of}
-use Rattle.mdr_top.specs.Answers.{Files, longest_source, longest_script, default_ticks, status_of, Unread, NoSource, NoProgram, HasProgram, Ran, Called, Scripted, Compiled, Sourced, Answered, Prints}
-use Rattle.mdr_top.specs.Comes.{IsWanted, IsDueToFar, Ends, IsEnd, Comes}
+use Rattle.mdr_due.specs.declared.status.Status.{Status}
+use Rattle.mdr_due.specs.declared.status.Status.TheVariants as status
+use Rattle.mdr_top.specs.declared.words.Cutting.{Cutting}
+use Rattle.mdr_top.specs.declared.words.Cutting.TheVariants as cutting
+use Rattle.mdr_top.specs.Words.{Cut, Run, command_of}
+use Rattle.mdr_top.specs.Cuts.{IsSplit, IsCut}
+use Rattle.mdr_due.specs.Reads.{Files, longest_source}
+use Rattle.mdr_top.specs.Answers.{longest_script, default_ticks, status_of, Unread, NoSource, NoProgram, HasProgram, Ran, Called, Scripted, Compiled, Sourced, CutAnswered, Answered, Prints}
+use Rattle.mdr_top.specs.Comes.{IsWanted, IsDueToFar, Ends, IsEnd, IsRefused, WasCut, IsDone, Comes}
 use Rattle.mdr_top.proofs.Headline.{nothing_end}
 
 pub no_program : (source : List ℕ) (s : Status) (text : List ℕ) → NoProgram source s text → program_of_text source ≡ None
@@ -65,7 +69,7 @@ module _ (words : List (List ℕ)) (files : Files) (loaded : Option Loaded) (es 
   unread_comes name limit s text w (Unread.failed e t) = subst (Comes words files loaded es) (sym e) (record { name = name; limit = limit; wanted = w; answers = failed_reads files name limit })
 
   end_comes : (end : End) → IsEnd words files loaded es (status_of end) → Comes words files loaded es (status_of end)
-  end_comes ends.Ok h = h
+  end_comes ends.Ok h = IsDone.ran h
   end_comes (ends.Stop kind at) h = h
   end_comes (ends.Refused exchange cause number) h = h
   end_comes (ends.FarFault exchange) h = h
@@ -76,7 +80,7 @@ module _ (words : List (List ℕ)) (files : Files) (loaded : Option Loaded) (es 
   end_of program source calls s text (Ran.refused cause is r) = (ends.Refused 0 refusal.Load 0, Ends.refused cause is refl, r.status_is ∙ ap status_of (nothing_end program (ends.Refused 0 refusal.Load 0)))
   end_of program source calls s text (Ran.failed is r) = (ends.FarFault 0, Ends.failed is refl, r.status_is ∙ ap status_of (nothing_end program (ends.FarFault 0)))
 
-  scripted_comes : (name script_name source : List ℕ) (program : Program) (s : Status) (text : List ℕ) → command_of words ≡ Some (name, script_name) → ReadsFrom files name longest_source (reads.Ok source) → HasProgram source program
+  scripted_comes : (name script_name source : List ℕ) (program : Program) (s : Status) (text : List ℕ) → command_of words ≡ Some (Run name script_name) → ReadsFrom files name longest_source (reads.Ok source) → HasProgram source program
       → Scripted files script_name program source loaded es s text → Comes words files loaded es s
   scripted_comes name script_name source program s text e r h (Scripted.unread u) = unread_comes script_name longest_script s text (IsWanted.as_script name source program e r h refl) u
   scripted_comes name script_name source program s text e r h (Scripted.read script r' (Called.refused n)) =
@@ -105,16 +109,31 @@ module _ (words : List (List ℕ)) (files : Files) (loaded : Option Loaded) (es 
         status_is = refl;
       }))
 
-  sourced_comes : (name script_name : List ℕ) (s : Status) (text : List ℕ) → command_of words ≡ Some (name, script_name) → Sourced files name script_name loaded es s text → Comes words files loaded es s
+  sourced_comes : (name script_name : List ℕ) (s : Status) (text : List ℕ) → command_of words ≡ Some (Run name script_name) → Sourced files name script_name loaded es s text → Comes words files loaded es s
   sourced_comes name script_name s text e (Sourced.unread u) = unread_comes name longest_source s text (IsWanted.as_source script_name e refl) u
   sourced_comes name script_name s text e (Sourced.read source r (Compiled.refused n)) = source_comes n
     where
       source_comes : NoProgram source s text → Comes words files loaded es s
-      source_comes n = subst (Comes words files loaded es) (sym (source_is source s text n)) (record { source = source; named = record { name = name; script_name = script_name; command = e; read = r }; none = no_program source s text n })
+      source_comes n = subst (Comes words files loaded es) (sym (source_is source s text n)) (IsRefused.no_program (record { source = source; named = record { name = name; script_name = script_name; command = e; read = r }; none = no_program source s text n }))
   sourced_comes name script_name s text e (Sourced.read source r (Compiled.accepted program h c)) = scripted_comes name script_name source program s text e r h c
+
+  cut_comes : (how : Cutting) (name : List ℕ) (s : Status) (text : List ℕ) → command_of words ≡ Some (Cut how name) → CutAnswered how files name s text → Comes words files loaded es s
+  cut_comes how name s text e (CutAnswered.unread u) = unread_comes name longest_source s text (IsWanted.as_cut how e refl) u
+  cut_comes how name s text e (CutAnswered.refused bytes r n) =
+      subst (Comes words files loaded es) (sym n.status_is) (IsRefused.no_cut (record { bytes = bytes; named = record { how = how; name = name; command = e; read = r }; refusal = n.refusal; refused = n.comes }))
+  cut_comes how name s text e (CutAnswered.accepted bytes source r h c) = of how c
+    where
+      was : WasCut words files
+      was = record { bytes = bytes; named = record { how = how; name = name; command = e; read = r }; source = source; has = h }
+
+      of : (k : Cutting) → IsCut k name source s text → Comes words files loaded es s
+      of cutting.Split (IsSplit.whole texts are is t) = subst (Comes words files loaded es) (sym is) (IsDone.cut was)
+      of cutting.Split (IsSplit.failed texts i file are at is t) = subst (Comes words files loaded es) (sym is) tt
+      of cutting.Report reported = subst (Comes words files loaded es) (sym reported.status_is) (IsDone.cut was)
 
   answered_comes : (s : Status) (text : List ℕ) → Answered words files loaded es s text → Comes words files loaded es s
   answered_comes s text (Answered.usage e is t) = subst (Comes words files loaded es) (sym is) e
+  answered_comes s text (Answered.cut how name e c) = cut_comes how name s text e c
   answered_comes s text (Answered.command name script_name e c) = sourced_comes name script_name s text e c
 
   pub prints_comes : (old new : Option (List ℕ)) (s : Status) → Prints words files loaded es old new s → Comes words files loaded es s

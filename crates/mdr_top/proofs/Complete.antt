@@ -15,11 +15,14 @@ use Rattle.mdr_syntax.specs.Sources.{program_of}
 use Rattle.mdr_model.specs.declared.command.Command.{Command}
 use Rattle.mdr_top.specs.Commands.{commands_of}
 use Rattle.mdr_user.specs.Honest.{IsHonest}
-use Rattle.mdr_top.specs.declared.status.Status.{Status}
-use Rattle.mdr_top.specs.declared.status.Status.TheVariants as status
-use Rattle.mdr_top.specs.Words.{command_of}
-use Rattle.mdr_top.specs.Statuses.{Counts, HasReadCause}
-use Rattle.mdr_top.specs.Answers.{Files, longest_source, longest_script, Unread, NoProgram, HasProgram, Ran, Called, Scripted, Compiled, Sourced, Answered, Prints}
+use Rattle.mdr_due.specs.declared.status.Status.{Status}
+use Rattle.mdr_due.specs.declared.status.Status.TheVariants as status
+use Rattle.mdr_top.specs.Words.{Task, Cut, Run, command_of}
+use Rattle.mdr_top.specs.Cuts.{WriteCause}
+use Rattle.mdr_top.proofs.CutLaws.{cut_no_run}
+use Rattle.mdr_due.specs.Statuses.{Counts, HasReadCause}
+use Rattle.mdr_due.specs.Reads.{Files, longest_source}
+use Rattle.mdr_top.specs.Answers.{longest_script, Unread, NoProgram, HasProgram, Ran, Called, Scripted, Compiled, Sourced, Answered, Prints}
 use Rattle.mdr_top.specs.Headline.{IsMeaning, IsAccepted, Rests, AreTold, EndsAsMeant, Completes}
 use Rattle.mdr_top.proofs.Programs.{some_same, ok_same, same_program}
 use Rattle.mdr_top.proofs.Headline.{ran_means}
@@ -50,6 +53,23 @@ pub not_refused : (source : List ℕ) (program : Program) (s : Status) (text : L
 not_refused source program s text h (NoProgram.fault e r is t) = not_ok (tokens_of source) h.tokens e h.read r
 not_refused source program s text h (NoProgram.undeclared ts r none why) =
     not_some (program_of (whats ts)) program (ap (λ (us : List Token). program_of (whats us)) (ok_same (tokens_of source) ts h.tokens r h.read) ∙ h.declared) none
+
+-- the names in a task
+abbrev source_in : Task → List ℕ
+source_in (Cut how name) = name
+source_in (Run source_name script_name) = source_name
+
+abbrev script_in : Task → List ℕ
+script_in (Cut how name) = name
+script_in (Run source_name script_name) = script_name
+
+-- of a run, a write fault is the output's
+of_output : (w w' u u' : ℕ) (command : Option Task) (source_name script_name : List ℕ) → command ≡ Some (Run source_name script_name) → WriteCause command w w' u u' → Rose w w'
+of_output w w' u u' command source_name script_name e cause = of (subst (λ (c : Option Task). WriteCause c w w' u u') e cause)
+  where
+    of : WriteCause (Some (Run source_name script_name)) w w' u u' → Rose w w'
+    of (inl r) = r
+    of (inr none) = absurd none
 
 -- ---- what is accepted runs
 
@@ -93,21 +113,22 @@ module _ (words : List (List ℕ)) (files : Files) (loaded : Option Loaded) (es 
       compiled_runs script_name script told h r' c (subst (λ (b : List ℕ). Compiled files b script_name loaded es s text) same d)
 
   pub accepted_runs : AreTold files → IsAccepted words files source program calls → Answered words files loaded es s text → (s ≡ status.ReadFault) ⊎ RanOn source program calls loaded es s text
-  accepted_runs told a (Answered.usage e is t) = absurd (not_some (command_of words) (a.source_name, a.script_name) a.command e)
+  accepted_runs told a (Answered.usage e is t) = absurd (not_some (command_of words) (Run a.source_name a.script_name) a.command e)
+  accepted_runs told a (Answered.cut how name e d) = absurd (cut_no_run (command_of words) how name a.source_name a.script_name e a.command)
   accepted_runs told a (Answered.command name script_name e d) =
-      let same : (a.source_name, a.script_name) ≡ (name, script_name) = some_same (command_of words) (a.source_name, a.script_name) (name, script_name) a.command e in
+      let same : Run a.source_name a.script_name ≡ Run name script_name = some_same (command_of words) (Run a.source_name a.script_name) (Run name script_name) a.command e in
       sourced_runs name script_name a.script told
-      (subst (λ (x : List ℕ × List ℕ). ReadsFrom files x.0 longest_source (reads.Ok source)) same a.source_read) a.compiled
-      (subst (λ (x : List ℕ × List ℕ). ReadsFrom files x.1 longest_script (reads.Ok a.script)) same a.script_read) a.called.read d
+      (subst (λ (x : Task). ReadsFrom files (source_in x) longest_source (reads.Ok source)) same a.source_read) a.compiled
+      (subst (λ (x : Task). ReadsFrom files (script_in x) longest_script (reads.Ok a.script)) same a.script_read) a.called.read d
 
 -- ---- and ends as is meant
 
-pub completes : (words : List (List ℕ)) (files : Files) (loaded : Option Loaded) (es : List Exchange) (old new : Option (List ℕ)) (s : Status) (before after : Counts) (w w' f f' : ℕ)
-    → Prints words files loaded es old new s → HasReadCause before after s → (s ≡ status.WriteFault → Rose w w') → (s ≡ status.FarFault → Rose f f')
+pub completes : (words : List (List ℕ)) (files : Files) (loaded : Option Loaded) (es : List Exchange) (old new : Option (List ℕ)) (s : Status) (before after : Counts) (w w' u u' f f' : ℕ)
+    → Prints words files loaded es old new s → HasReadCause before after s → (s ≡ status.WriteFault → WriteCause (command_of words) w w' u u') → (s ≡ status.FarFault → Rose f f')
     → Rests before.faults after.faults → Rests w w' → Rests f f' → IsHonest loaded es → Completes words files s
-completes words files loaded es old new s before after w w' f f' (Prints.cut due text n is a within adds) reads_cause writes_cause far_cause reads_rest writes_rest far_rest honest source program calls told accepted = absurd (writes_rest (writes_cause is))
-completes words files loaded es old new s before after w w' f f' (Prints.nothing is same) reads_cause writes_cause far_cause reads_rest writes_rest far_rest honest source program calls told accepted = inl is
-completes words files loaded es old new s before after w w' f f' (Prints.whole text a adds) reads_cause writes_cause far_cause reads_rest writes_rest far_rest honest source program calls told accepted =
+completes words files loaded es old new s before after w w' u u' f f' (Prints.cut due text n is a within adds) reads_cause writes_cause far_cause reads_rest writes_rest far_rest honest source program calls told accepted = absurd (writes_rest (of_output w w' u u' (command_of words) accepted.source_name accepted.script_name accepted.command (writes_cause is)))
+completes words files loaded es old new s before after w w' u u' f f' (Prints.nothing is same) reads_cause writes_cause far_cause reads_rest writes_rest far_rest honest source program calls told accepted = inl is
+completes words files loaded es old new s before after w w' u u' f f' (Prints.whole text a adds) reads_cause writes_cause far_cause reads_rest writes_rest far_rest honest source program calls told accepted =
     of (accepted_runs words files loaded es s text source program calls told accepted a)
   where
     ended : (s ≡ status.FarFault) ⊎ IsMeaning program calls es s text → (s ≡ status.OutOfMemory) ⊎ EndsAsMeant program calls s

@@ -11,7 +11,6 @@ use Rattle.mdr_kernel.specs.HalfState.{HalfState}
 use Rattle.mdr_kernel.specs.Calls.{sends, IsPart, IsStopped}
 use Rattle.mdr_kernel.proofs.Stops.{part_taken}
 use Rattle.mdr_outside.specs.Calls.{ShelfCall, Read, FarCall, Loads, and_then}
-use Rattle.mdr_outside.specs.Shelf.{ReadsFrom}
 use Rattle.mdr_outside.specs.Far.{loaded_with}
 use Rattle.mdr_outside.specs.declared.shelf.ReadAnswer.{ReadAnswer}
 use Rattle.mdr_outside.specs.declared.shelf.ReadAnswer.TheVariants as reads
@@ -19,26 +18,25 @@ use Rattle.mdr_outside.specs.declared.far.LoadAnswer.TheVariants as loads
 use Rattle.mdr_outside.specs.declared.far.Loaded.{Loaded}
 use Rattle.mdr_outside.specs.declared.far.Exchange.{Exchange}
 use Rattle.mdr_user.specs.Honest.{IsHonest}
-use Rattle.mdr_top.specs.declared.status.Status.{Status}
-use Rattle.mdr_top.specs.declared.status.Status.TheVariants as status
-use Rattle.mdr_top.specs.Answers.{Files, longest_source, longest_script, default_ticks, status_of, Unread, HasProgram, Ran, Called, Scripted, Compiled, Sourced, Answered, Prints}
-use Rattle.mdr_top.specs.Done.{IsUnread, UnreadBy, SentPart, LoadedOnce, LoadedPart, Done, Does}
+use Rattle.mdr_due.specs.declared.status.Status.{Status}
+use Rattle.mdr_due.specs.declared.status.Status.TheVariants as status
+use Rattle.mdr_due.specs.Reads.{Files, longest_source}
+use Rattle.mdr_top.specs.Answers.{longest_script, default_ticks, status_of, HasProgram, Ran, Called, Scripted, Compiled, Sourced, Answered, Prints}
+use Rattle.mdr_due.specs.Reads.{IsUnread}
+use Rattle.mdr_top.specs.Done.{SentPart, LoadedOnce, LoadedPart, Done, Does}
 use Rattle.mdr_top.specs.Headline.{meant, IsMeaning, MeansBy, Means}
+use Rattle.mdr_top.specs.declared.words.Cutting.{Cutting}
+use Rattle.mdr_top.specs.Words.{Cut, command_of}
+use Rattle.mdr_top.specs.Cuts.{IsOfCut}
+use Rattle.mdr_top.proofs.CutLaws.{cut_no_run, cut_so, cut_status, unread_so}
 use Rattle.mdr_top.proofs.Headline.{honest_load, began_means, nothing_end, IsEarly, source_early, own_never}
 
 -- ---- what is printed
 
-unread_so : (files : Files) (name : List ℕ) (limit : ℕ) (old new : List ShelfCall) (s : Status) (text : List ℕ) → UnreadBy files name limit old new s text → Unread files name limit s text
-unread_so files name limit old new s text u = of u.why u.read.told
-  where
-    of : IsUnread name u.answer s text → ReadsFrom files name limit u.answer → Unread files name limit s text
-    of (IsUnread.missing a e t) r = Unread.missing (subst (ReadsFrom files name limit) a r) e t
-    of (IsUnread.long a e t) r = Unread.long (subst (ReadsFrom files name limit) a r) e t
-    of (IsUnread.failed a e t) r = Unread.failed e t
-
-module _ (words : List (List ℕ)) (files : Files) (shelf shelf' : List ShelfCall) (far far' : List FarCall) (loaded : Option Loaded) (es : List Exchange) where
-  answered_so : (s : Status) (text : List ℕ) → Done words files shelf shelf' far far' loaded es s text → Answered words files loaded es s text
+module _ (words : List (List ℕ)) (files files' : Files) (shelf shelf' : List ShelfCall) (far far' : List FarCall) (loaded : Option Loaded) (es : List Exchange) where
+  answered_so : (s : Status) (text : List ℕ) → Done words files files' shelf shelf' far far' loaded es s text → Answered words files loaded es s text
   answered_so s text (Done.usage e r f is t) = Answered.usage e is t
+  answered_so s text (Done.cut how name e d f) = Answered.cut how name e (cut_so how files files' name shelf shelf' s text d)
   answered_so s text (Done.source_unread name script_name e u f) = Answered.command name script_name e (Sourced.unread (unread_so files name longest_source shelf shelf' s text u))
   answered_so s text (Done.source_refused name script_name source e r n f) = Answered.command name script_name e (Sourced.read source r.told (Compiled.refused n))
   answered_so s text (Done.script_unread name script_name source program between e r h u f) =
@@ -48,7 +46,7 @@ module _ (words : List (List ℕ)) (files : Files) (shelf shelf' : List ShelfCal
   answered_so s text (Done.ran name script_name source script calls program between e r h r' c f run') =
       Answered.command name script_name e (Sourced.read source r.told (Compiled.accepted program h (Scripted.read script r'.told (Called.accepted calls c run'))))
 
-  pub prints_so : (old new : Option (List ℕ)) (s : Status) → Does words files shelf shelf' far far' loaded es old new s → Prints words files loaded es old new s
+  pub prints_so : (old new : Option (List ℕ)) (s : Status) → Does words files files' shelf shelf' far far' loaded es old new s → Prints words files loaded es old new s
   prints_so old new s (Does.whole text d adds) = Prints.whole text (answered_so s text d) adds
   prints_so old new s (Does.cut due text n is d within adds) = Prints.cut due text n is (answered_so due text d) within adds
   prints_so old new s (Does.nothing is d same) = Prints.nothing is same
@@ -75,28 +73,32 @@ unread_early name answer s text (IsUnread.missing a e t) = subst IsEarly (sym e)
 unread_early name answer s text (IsUnread.long a e t) = subst IsEarly (sym e) tt
 unread_early name answer s text (IsUnread.failed a e t) = subst IsEarly (sym e) tt
 
-module _ (words : List (List ℕ)) (files : Files) (shelf shelf' : List ShelfCall) (far far' : List FarCall) (loaded : Option Loaded) (es : List Exchange) (old new : Option (List ℕ)) (s : Status) where
+module _ (words : List (List ℕ)) (files files' : Files) (shelf shelf' : List ShelfCall) (far far' : List FarCall) (loaded : Option Loaded) (es : List Exchange) (old new : Option (List ℕ)) (s : Status) where
   abbrev MeansIt : Type 0
   MeansIt = Means words files shelf shelf' loaded es old new s
 
   early_means : IsEarly s → MeansIt
-  early_means early = record { never = λ e. subst IsEarly e early; means = of }
+  early_means early = record { never = λ e. subst IsEarly e early; means = λ source_name script_name named. of }
     where
       of : (s ≡ status.Done) ⊎ (s ≡ status.Stopped) → MeansBy words files shelf shelf' loaded es old new s
       of (inl e) = absurd (subst IsEarly e early)
       of (inr e) = absurd (subst IsEarly e early)
 
   fault_means : s ≡ status.FarFault → MeansIt
-  fault_means is = record { never = λ e. let no : status.FarFault ≡ status.Marshal = sym is ∙ e in Prim.cc; means = of }
+  fault_means is = record { never = λ e. let no : status.FarFault ≡ status.Marshal = sym is ∙ e in Prim.cc; means = λ source_name script_name named. of }
     where
       of : (s ≡ status.Done) ⊎ (s ≡ status.Stopped) → MeansBy words files shelf shelf' loaded es old new s
       of (inl e) = let no : status.FarFault ≡ status.Done = sym is ∙ e in absurd (Prim.cc)
       of (inr e) = let no : status.FarFault ≡ status.Stopped = sym is ∙ e in absurd (Prim.cc)
 
-  pub does_mean : Does words files shelf shelf' far far' loaded es old new s → IsHonest loaded es → MeansIt
+  cut_means : (how : Cutting) (name : List ℕ) → command_of words ≡ Some (Cut how name) → IsOfCut s → MeansIt
+  cut_means how name e own = record { never = λ is. subst IsOfCut is own; means = λ source_name script_name named is. absurd (cut_no_run (command_of words) how name source_name script_name e named) }
+
+  pub does_mean : Does words files files' shelf shelf' far far' loaded es old new s → IsHonest loaded es → MeansIt
   does_mean (Does.cut due text n e d within adds) honest = early_means (subst IsEarly (sym e) tt)
   does_mean (Does.nothing e d same) honest = early_means (subst IsEarly (sym e) tt)
   does_mean (Does.whole text (Done.usage e r f is t) adds) honest = early_means (subst IsEarly (sym is) tt)
+  does_mean (Does.whole text (Done.cut how name e d f) adds) honest = cut_means how name e (cut_status how files files' name shelf shelf' s text d)
   does_mean (Does.whole text (Done.source_unread name script_name e u f) adds) honest = early_means (unread_early name u.answer s text u.why)
   does_mean (Does.whole text (Done.source_refused name script_name source e r n f) adds) honest = early_means (source_early source s text n)
   does_mean (Does.whole text (Done.script_unread name script_name source program between e r h u f) adds) honest = early_means (unread_early script_name u.answer s text u.why)
@@ -107,7 +109,7 @@ module _ (words : List (List ℕ)) (files : Files) (shelf shelf' : List ShelfCal
       of (inl is) = fault_means is
       of (inr m) = record {
         never = λ is. own_never (meant program calls).end m.meaning.own (sym m.meaning.reported.status_is ∙ is);
-        means = λ is. record {
+        means = λ source_name other_name named is. record {
           source = source;
           program = program;
           calls = calls;

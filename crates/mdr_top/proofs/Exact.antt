@@ -10,11 +10,18 @@ use Rattle.mdr_outside.specs.declared.far.Exchange.{Exchange}
 use Rattle.mdr_model.specs.declared.command.Command.{Command}
 use Rattle.mdr_top.specs.Commands.{commands_of}
 use Rattle.mdr_user.specs.Honest.{program_of_text}
-use Rattle.mdr_top.specs.declared.status.Status.{Status}
-use Rattle.mdr_top.specs.declared.status.Status.TheVariants as status
-use Rattle.mdr_top.specs.Words.{command_of}
-use Rattle.mdr_top.specs.Answers.{Files, longest_source, longest_script, status_of, Unread, Called, Scripted, Compiled, Sourced, Answered, Prints}
-use Rattle.mdr_top.specs.Comes.{sized, calls_due, script_due, program_due, source_due, due_of, IsOfRun, IsDueTo, IsDueOrFault, IsExact}
+use Rattle.mdr_due.specs.declared.status.Status.{Status}
+use Rattle.mdr_due.specs.declared.status.Status.TheVariants as status
+use Rattle.mdr_top.specs.declared.words.Cutting.{Cutting}
+use Rattle.mdr_top.specs.declared.words.Cutting.TheVariants as cutting
+use Rattle.mdr_top.specs.Words.{Task, command_of}
+use Rattle.mdr_due.specs.Statuses.{Counts, HasReadCause}
+use Rattle.mdr_outside.specs.Count.{Rose}
+use Rattle.mdr_top.specs.Cuts.{IsSplit, IsCut, CutCause, WriteCause}
+use Rattle.mdr_top.specs.Headline.{Rests}
+use Rattle.mdr_due.specs.Reads.{Files, longest_source}
+use Rattle.mdr_top.specs.Answers.{longest_script, status_of, Unread, Called, Scripted, Compiled, Sourced, CutAnswered, Answered, Prints}
+use Rattle.mdr_top.specs.Comes.{sized, calls_due, script_due, program_due, source_due, IsOfRun, IsDueTo, IsCutDue, IsDueFor, IsDueOrFault, IsExact, CutCompletes}
 use Rattle.mdr_top.proofs.Headline.{text_of}
 use Rattle.mdr_top.proofs.Comes.{no_program, source_is, end_of}
 
@@ -68,17 +75,34 @@ module _ (words : List (List ℕ)) (f : List ℕ → Option (List ℕ)) (loaded 
       subst (λ (o : Option (List ℕ)). Dues (source_due o (f script_name)) s) (sym r.0)
       (fits source longest_source (program_due (program_of_text source) (f script_name)) s r.1 (compiled_due script_name source c))
 
-  answered_due : Answered words (Some f) loaded es s text → Dues (due_of (command_of words) f) s
-  answered_due (Answered.usage e is t) = inr (subst (λ (c : Option (List ℕ × List ℕ)). IsDueTo (due_of c f) s) (sym e) is)
-  answered_due (Answered.command name script_name e c) = subst (λ (c : Option (List ℕ × List ℕ)). Dues (due_of c f) s) (sym e) (sourced_due name script_name c)
-
-  or_fault : (due : Option Status) → Dues due s → IsDueOrFault due s
+  or_fault : (due : Option Status) → Dues due s → IsDueOrFault (IsDueTo due s) s
   or_fault due (inl e) = inl e
   or_fault due (inr d) = inr (inr (inr d))
 
+  cut_due : (how : Cutting) (name : List ℕ) → CutAnswered how (Some f) name s text → IsDueOrFault (IsCutDue (f name) s) s
+  cut_due how name (CutAnswered.unread (Unread.missing r e t)) = inr (inr (inr (IsCutDue.missing r e)))
+  cut_due how name (CutAnswered.unread (Unread.long r e t)) = inr (inr (inr (of (f name) refl r)))
+    where
+      of : (o : Option (List ℕ)) → f name ≡ o → IsSomeAnd o (λ bytes. longest_source < length bytes) → IsCutDue (f name) s
+      of None is h = elim h [ ]
+      of (Some bytes) is h = IsCutDue.long bytes is h e
+  cut_due how name (CutAnswered.unread (Unread.failed e t)) = inl e
+  cut_due how name (CutAnswered.refused bytes r n) = inr (inr (inr (IsCutDue.refused bytes n.refusal r.0 r.1 n.comes n.status_is)))
+  cut_due how name (CutAnswered.accepted bytes source r h c) = of how c
+    where
+      of : (k : Cutting) → IsCut k name source s text → IsDueOrFault (IsCutDue (f name) s) s
+      of cutting.Split (IsSplit.whole texts are is t) = inr (inr (inr (IsCutDue.accepted bytes source r.0 r.1 h.comes is)))
+      of cutting.Split (IsSplit.failed texts i file are at is t) = inr (inl is)
+      of cutting.Report reported = inr (inr (inr (IsCutDue.accepted bytes source r.0 r.1 h.comes reported.status_is)))
+
+  answered_due : Answered words (Some f) loaded es s text → IsDueOrFault (IsDueFor (command_of words) f s) s
+  answered_due (Answered.usage e is t) = inr (inr (inr (subst (λ (c : Option Task). IsDueFor c f s) (sym e) is)))
+  answered_due (Answered.cut how name e c) = subst (λ (d : Option Task). IsDueOrFault (IsDueFor d f s) s) (sym e) (cut_due how name c)
+  answered_due (Answered.command name script_name e c) = subst (λ (d : Option Task). IsDueOrFault (IsDueFor d f s) s) (sym e) (or_fault (source_due (f name) (f script_name)) (sourced_due name script_name c))
+
 pub prints_exactly : (words : List (List ℕ)) (files : Files) (loaded : Option Loaded) (es : List Exchange) (old new : Option (List ℕ)) (s : Status) → Prints words files loaded es old new s → IsExact words files s
 prints_exactly words None loaded es old new s p = tt
-prints_exactly words (Some f) loaded es old new s (Prints.whole text a adds) = or_fault words f loaded es s text (due_of (command_of words) f) (answered_due words f loaded es s text a)
+prints_exactly words (Some f) loaded es old new s (Prints.whole text a adds) = answered_due words f loaded es s text a
 prints_exactly words (Some f) loaded es old new s (Prints.cut due text n is a within adds) = inr (inl is)
 prints_exactly words (Some f) loaded es old new s (Prints.nothing is same) = inr (inr (inl is))
 
@@ -89,6 +113,25 @@ usage_comes words files loaded es old new s (Prints.whole text a adds) none = of
   where
     of : Answered words files loaded es s text → (s ≡ status.Usage) ⊎ ((s ≡ status.WriteFault) ⊎ (s ≡ status.OutOfMemory))
     of (Answered.usage e is t) = inl is
+    of (Answered.cut how name e c) = absurd (Prim.cc)
     of (Answered.command name script_name e c) = absurd (Prim.cc)
 usage_comes words files loaded es old new s (Prints.cut due text n is a within adds) none = inr (inl is)
 usage_comes words files loaded es old new s (Prints.nothing is same) none = inr (inr is)
+
+-- ---- where nothing outside fails
+
+pub cut_completes : (words : List (List ℕ)) (files : Files) (s : Status) (before after : Counts) (w w' u u' : ℕ) → IsExact words files s → HasReadCause before after s → (s ≡ status.WriteFault → WriteCause (command_of words) w w' u u')
+    → Rests before.faults after.faults → Rests u u' → Rests w w' → CutCompletes words files s
+cut_completes words None s before after w w' u u' exact cause wrote reads_rest shelf_rest out_rest how name e = tt
+cut_completes words (Some f) s before after w w' u u' exact cause wrote reads_rest shelf_rest out_rest how name e = of exact
+  where
+    by_cause : (k : Cutting) → Rose w w' ⊎ CutCause k u u' → ⊥
+    by_cause k (inl r) = out_rest r
+    by_cause cutting.Split (inr r) = shelf_rest r
+    by_cause cutting.Report (inr r) = r
+
+    of : IsDueOrFault (IsDueFor (command_of words) f s) s → (s ≡ status.OutOfMemory) ⊎ IsCutDue (f name) s
+    of (inl is) = absurd (reads_rest (subst (HasReadCause before after) is cause))
+    of (inr (inl is)) = absurd (by_cause how (subst (λ (c : Option Task). WriteCause c w w' u u') e (wrote is)))
+    of (inr (inr (inl is))) = inl is
+    of (inr (inr (inr due))) = inr (subst (λ (c : Option Task). IsDueFor c f s) e due)

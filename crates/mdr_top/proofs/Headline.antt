@@ -10,7 +10,6 @@ use Rattle.mdr_model.specs.Runnable.{IsBound}
 use Rattle.mdr_model.specs.Watched.{watched}
 use Rattle.mdr_model.specs.Outcome.{outcome_of}
 use Rattle.mdr_model.specs.Law.{IsOwn}
-use Rattle.mdr_outside.specs.declared.shelf.ReadAnswer.TheVariants as reads
 use Rattle.mdr_outside.specs.declared.far.LoadAnswer.{LoadAnswer}
 use Rattle.mdr_outside.specs.declared.far.LoadAnswer.TheVariants as loads
 use Rattle.mdr_outside.specs.declared.far.Loaded.{Loaded}
@@ -18,8 +17,8 @@ use Rattle.mdr_outside.specs.declared.far.Exchange.{Exchange}
 use Rattle.mdr_outside.specs.Far.{loaded_with}
 use Rattle.mdr_kernel.specs.Runs.{IsFarFault}
 use Rattle.mdr_user.specs.Honest.{program_of_tokens, program_of_text, IsHonestLoad, IsServed, IsHonestSince, IsHonest}
-use Rattle.mdr_top.specs.declared.status.Status.{Status}
-use Rattle.mdr_top.specs.declared.status.Status.TheVariants as status
+use Rattle.mdr_due.specs.declared.status.Status.{Status}
+use Rattle.mdr_due.specs.declared.status.Status.TheVariants as status
 use Rattle.mdr_top.specs.Meanings.{IsMeant}
 use Rattle.mdr_top.specs.Answers.{default_ticks, status_of, nothing_ran, NoSource, NoProgram, HasProgram, Reported, Began, Ran}
 use Rattle.mdr_top.specs.Headline.{IsMeaning}

@@ -1,5 +1,5 @@
-pub mod StageSteps
 pub mod Bound
+pub mod CutLaws
 pub mod Programs
 pub mod Meanings
 pub mod Headline

@@ -10,9 +10,9 @@ use Rattle.mdr_syntax.specs.Sources.{program_of}
 use Rattle.mdr_syntax.proofs.Soundness.{is_sound}
 use Rattle.mdr_user.proofs.SoundSources.{program_is_sound, program_is_built}
 use Rattle.mdr_top.specs.Answers.{HasProgram, NoProgram, NoSource}
-use Rattle.mdr_top.specs.Stages.{StageIs}
-use Rattle.mdr_top.specs.declared.due.Stage.{Stage}
-use Rattle.mdr_top.specs.declared.due.Stage.TheVariants as stage
+use Rattle.mdr_due.specs.Stages.{StageIs}
+use Rattle.mdr_due.specs.declared.due.Stage.{Stage}
+use Rattle.mdr_due.specs.declared.due.Stage.TheVariants as stage
 
 pub has_program : (bytes : List ℕ) (ts : List Token) (program : Program) → tokens_of bytes ≡ Ok ts → program_of (whats ts) ≡ Some program → HasProgram bytes program
 has_program bytes ts program e d = record { tokens = ts; read = e; declared = d; sound = program_is_sound program (is_sound (whats ts) program d); built = program_is_built program (is_sound (whats ts) program d) }

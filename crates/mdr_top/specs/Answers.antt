@@ -29,19 +29,18 @@ use Rattle.mdr_outside.specs.declared.far.Loaded.{Loaded}
 use Rattle.mdr_outside.specs.declared.far.Exchange.{Exchange}
 use Rattle.mdr_outside.specs.Far.{loaded_with}
 use Rattle.mdr_kernel.specs.Runs.{IsRun}
-use Rattle.mdr_top.specs.declared.status.Status.{Status}
-use Rattle.mdr_top.specs.declared.status.Status.TheVariants as status
-use Rattle.mdr_top.specs.Lines.{usage_line, source_line, begin, fault_line, parse_line, script_line, file_line}
-use Rattle.mdr_top.specs.Words.{command_of}
+use Rattle.mdr_due.specs.declared.status.Status.{Status}
+use Rattle.mdr_due.specs.declared.status.Status.TheVariants as status
+use Rattle.mdr_due.specs.Lines.{file_line}
+use Rattle.mdr_due.specs.Reads.{Files, longest_source}
+use Rattle.mdr_top.specs.Lines.{usage_line, source_line, begin, fault_line, parse_line, script_line}
+use Rattle.mdr_source.specs.declared.outcome.Source.{Source}
+use Rattle.mdr_slicer.specs.Slicing.{HasSource, NoSource as NoCutSource}
+use Rattle.mdr_top.specs.declared.words.Cutting.{Cutting}
+use Rattle.mdr_top.specs.Words.{Cut, Run, command_of}
+use Rattle.mdr_top.specs.Cuts.{IsCut}
 
--- the files as functions of their names, told or not
-abbrev pub Files : Type 0
-Files = Option (List ℕ → Option (List ℕ))
-
--- a source has at most 1 MiB, a script 256 KiB
-abbrev pub longest_source : ℕ
-longest_source = 1048576
-
+-- a script has at most 256 KiB
 abbrev pub longest_script : ℕ
 longest_script = 262144
 
@@ -136,10 +135,17 @@ pub data Sourced (files : Files) (name script : List ℕ) (loaded : Option Loade
   unread : Unread files name longest_source s text → Sourced files name script loaded es s text
   read : (source : List ℕ) → ReadsFrom files name longest_source (reads.Ok source) → Compiled files source script loaded es s text → Sourced files name script loaded es s text
 
+-- a source that is cut
+pub data CutAnswered (how : Cutting) (files : Files) (name : List ℕ) (s : Status) (text : List ℕ) : Type 0 where
+  unread : Unread files name longest_source s text → CutAnswered how files name s text
+  refused : (bytes : List ℕ) → ReadsFrom files name longest_source (reads.Ok bytes) → NoCutSource bytes s text → CutAnswered how files name s text
+  accepted : (bytes : List ℕ) (source : Source) → ReadsFrom files name longest_source (reads.Ok bytes) → HasSource bytes source → IsCut how name source s text → CutAnswered how files name s text
+
 -- the words: the status and the text that are due
 pub data Answered (words : List (List ℕ)) (files : Files) (loaded : Option Loaded) (es : List Exchange) (s : Status) (text : List ℕ) : Type 0 where
   usage : command_of words ≡ None → s ≡ status.Usage → text ≡ usage_line → Answered words files loaded es s text
-  command : (source script : List ℕ) → command_of words ≡ Some (source, script) → Sourced files source script loaded es s text → Answered words files loaded es s text
+  cut : (how : Cutting) (name : List ℕ) → command_of words ≡ Some (Cut how name) → CutAnswered how files name s text → Answered words files loaded es s text
+  command : (source script : List ℕ) → command_of words ≡ Some (Run source script) → Sourced files source script loaded es s text → Answered words files loaded es s text
 
 -- ---- what is printed
 

@@ -1,5 +1,5 @@
 -- Where each status comes.
-use Rattle.std.specs.Prelude.{◌≡◌, ℕ, Bool, true, false, nat_lt, ◌⊎◌, List, [], length, Option, None, Some, IfSome, Result, Ok, Err}
+use Rattle.std.specs.Prelude.{◌≡◌, ℕ, ◌<◌, ◌≤◌, Bool, true, false, nat_lt, ◌⊎◌, List, [], length, Option, None, Some, IfSome, Result, Ok, Err}
 use Rattle.mdr_core.specs.declared.program.Program.{Program}
 use Rattle.mdr_core.specs.declared.program.Func.{Func}
 use Rattle.mdr_core.specs.declared.refusal.RefuseKind.TheVariants as refusal
@@ -19,23 +19,30 @@ use Rattle.mdr_model.specs.Legal.{kernel_in}
 use Rattle.mdr_kernel.specs.Runs.{run_over, IsRun}
 use Rattle.mdr_kernel.specs.HalfState.{IsAsBefore}
 use Rattle.mdr_user.specs.Honest.{program_of_text}
-use Rattle.mdr_top.specs.declared.status.Status.{Status}
-use Rattle.mdr_top.specs.declared.status.Status.TheVariants as status
-use Rattle.mdr_top.specs.Words.{command_of}
-use Rattle.mdr_top.specs.Answers.{Files, longest_source, longest_script, default_ticks, status_of, HasProgram}
+use Rattle.mdr_due.specs.declared.status.Status.{Status}
+use Rattle.mdr_due.specs.declared.status.Status.TheVariants as status
+use Rattle.mdr_source.specs.declared.outcome.Source.{Source}
+use Rattle.mdr_source.specs.declared.refusal.Refusal.{Refusal}
+use Rattle.mdr_source.specs.Sources.{Comes as ComesTo}
+use Rattle.mdr_slicer.specs.Slicing.{HasSource}
+use Rattle.mdr_top.specs.declared.words.Cutting.{Cutting}
+use Rattle.mdr_top.specs.Words.{Task, Cut, Run, command_of}
+use Rattle.mdr_due.specs.Reads.{Files, longest_source}
+use Rattle.mdr_top.specs.Answers.{longest_script, default_ticks, status_of, HasProgram}
 use Rattle.mdr_top.specs.Headline.{IsAccepted}
 
 -- the words name a source, which is read
 pub record IsSource (words : List (List ℕ)) (files : Files) (source : List ℕ) : Type 0 where
   pub name : List ℕ
   pub script_name : List ℕ
-  pub command : command_of words ≡ Some (name, script_name)
+  pub command : command_of words ≡ Some (Run name script_name)
   pub read : ReadsFrom files name longest_source (reads.Ok source)
 
--- a file that the words name: the source, and the script once the source is a program
+-- a file that the words name: a source, and the script once its source is a program
 pub data IsWanted (words : List (List ℕ)) (files : Files) (name : List ℕ) (limit : ℕ) : Type 0 where
-  as_source : (script_name : List ℕ) → command_of words ≡ Some (name, script_name) → limit ≡ longest_source → IsWanted words files name limit
-  as_script : (source_name source : List ℕ) (program : Program) → command_of words ≡ Some (source_name, name) → ReadsFrom files source_name longest_source (reads.Ok source) → HasProgram source program → limit ≡ longest_script → IsWanted words files name limit
+  as_cut : (how : Cutting) → command_of words ≡ Some (Cut how name) → limit ≡ longest_source → IsWanted words files name limit
+  as_source : (script_name : List ℕ) → command_of words ≡ Some (Run name script_name) → limit ≡ longest_source → IsWanted words files name limit
+  as_script : (source_name source : List ℕ) (program : Program) → command_of words ≡ Some (Run source_name name) → ReadsFrom files source_name longest_source (reads.Ok source) → HasProgram source program → limit ≡ longest_script → IsWanted words files name limit
 
 -- a file that the words name is answered so
 pub record IsAnswered (words : List (List ℕ)) (files : Files) (answer : ReadAnswer) : Type 0 where
@@ -50,13 +57,38 @@ pub record IsNoProgram (words : List (List ℕ)) (files : Files) : Type 0 where
   pub named : IsSource words files source
   pub none : program_of_text source ≡ None
 
+-- a source that is cut, and what its bytes come to
+pub record IsCutSource (words : List (List ℕ)) (files : Files) (bytes : List ℕ) : Type 0 where
+  pub how : Cutting
+  pub name : List ℕ
+  pub command : command_of words ≡ Some (Cut how name)
+  pub read : ReadsFrom files name longest_source (reads.Ok bytes)
+
+-- it is refused
+pub record IsNoCut (words : List (List ℕ)) (files : Files) : Type 0 where
+  pub bytes : List ℕ
+  pub named : IsCutSource words files bytes
+  pub refusal : Refusal
+  pub refused : ComesTo bytes (Err refusal)
+
+-- it is accepted
+pub record WasCut (words : List (List ℕ)) (files : Files) : Type 0 where
+  pub bytes : List ℕ
+  pub named : IsCutSource words files bytes
+  pub source : Source
+  pub has : HasSource bytes source
+
+pub data IsRefused (words : List (List ℕ)) (files : Files) : Type 0 where
+  no_program : IsNoProgram words files → IsRefused words files
+  no_cut : IsNoCut words files → IsRefused words files
+
 -- a line of the script is no call of a function of the program
 pub record IsNoScript (words : List (List ℕ)) (files : Files) : Type 0 where
   pub source : List ℕ
   pub program : Program
   pub source_name : List ℕ
   pub script_name : List ℕ
-  pub command : command_of words ≡ Some (source_name, script_name)
+  pub command : command_of words ≡ Some (Run source_name script_name)
   pub source_read : ReadsFrom files source_name longest_source (reads.Ok source)
   pub compiled : HasProgram source program
   pub script : List ℕ
@@ -84,15 +116,20 @@ pub record IsEnd (words : List (List ℕ)) (files : Files) (loaded : Option Load
   pub ends : Ends program source calls loaded es end
   pub status_is : s ≡ status_of end
 
+-- a run ended by itself, or a source was cut
+pub data IsDone (words : List (List ℕ)) (files : Files) (loaded : Option Loaded) (es : List Exchange) : Type 0 where
+  ran : IsEnd words files loaded es status.Done → IsDone words files loaded es
+  cut : WasCut words files → IsDone words files loaded es
+
 -- what holds where a status comes
 abbrev pub Comes : List (List ℕ) → Files → Option Loaded → List Exchange → Status → Type 0
 Comes words files loaded es status.Usage = command_of words ≡ None
 Comes words files loaded es status.Missing = IsAnswered words files reads.Missing
 Comes words files loaded es status.TooLarge = IsAnswered words files reads.TooLarge
 Comes words files loaded es status.ReadFault = IsAnswered words files reads.Failed
-Comes words files loaded es status.SourceRefused = IsNoProgram words files
+Comes words files loaded es status.SourceRefused = IsRefused words files
 Comes words files loaded es status.ScriptRefused = IsNoScript words files
-Comes words files loaded es status.Done = IsEnd words files loaded es status.Done
+Comes words files loaded es status.Done = IsDone words files loaded es
 Comes words files loaded es status.Stopped = IsEnd words files loaded es status.Stopped
 Comes words files loaded es status.Marshal = IsEnd words files loaded es status.Marshal
 Comes words files loaded es status.FarFault = IsEnd words files loaded es status.FarFault
@@ -122,11 +159,6 @@ abbrev pub source_due : Option (List ℕ) → Option (List ℕ) → Option Statu
 source_due None script = Some status.Missing
 source_due (Some source) script = sized (nat_lt longest_source (length source)) (program_due (program_of_text source) script)
 
--- the status that words and files give where nothing fails, or none where they give a run
-abbrev pub due_of : Option (List ℕ × List ℕ) → (List ℕ → Option (List ℕ)) → Option Status
-due_of None f = Some status.Usage
-due_of (Some names) f = source_due (f names.0) (f names.1)
-
 -- a status that a run ends with
 abbrev pub IsOfRun : Status → Type 0
 IsOfRun status.Done = Unit {0}
@@ -146,10 +178,27 @@ abbrev pub IsDueTo : Option Status → Status → Type 0
 IsDueTo (Some due) s = s ≡ due
 IsDueTo None s = IsOfRun s
 
+-- what the bytes of a source that is cut give
+pub data IsCutDue (file : Option (List ℕ)) (s : Status) : Type 0 where
+  missing : file ≡ None → s ≡ status.Missing → IsCutDue file s
+  long : (bytes : List ℕ) → file ≡ Some bytes → longest_source < length bytes → s ≡ status.TooLarge → IsCutDue file s
+  refused : (bytes : List ℕ) (refusal : Refusal) → file ≡ Some bytes → length bytes ≤ longest_source → ComesTo bytes (Err refusal) → s ≡ status.SourceRefused → IsCutDue file s
+  accepted : (bytes : List ℕ) (source : Source) → file ≡ Some bytes → length bytes ≤ longest_source → ComesTo bytes (Ok source) → s ≡ status.Done → IsCutDue file s
+
+-- what words and files give where nothing fails
+abbrev pub IsDueFor : Option Task → (List ℕ → Option (List ℕ)) → Status → Type 0
+IsDueFor None f s = s ≡ status.Usage
+IsDueFor (Some (Cut how name)) f s = IsCutDue (f name) s
+IsDueFor (Some (Run source_name script_name)) f s = IsDueTo (source_due (f source_name) (f script_name)) s
+
 -- the status is what words and files give, but a read or a write may fail, and memory may be wanting
-abbrev pub IsDueOrFault : Option Status → Status → Type 0
-IsDueOrFault due s = (s ≡ status.ReadFault) ⊎ ((s ≡ status.WriteFault) ⊎ ((s ≡ status.OutOfMemory) ⊎ IsDueTo due s))
+abbrev pub IsDueOrFault : (Due : Type 0) → Status → Type 0
+IsDueOrFault Due s = (s ≡ status.ReadFault) ⊎ ((s ≡ status.WriteFault) ⊎ ((s ≡ status.OutOfMemory) ⊎ Due))
 
 -- where the files are told
 abbrev pub IsExact : List (List ℕ) → Files → Status → Type 0
-IsExact words files s = IfSome files (λ f. IsDueOrFault (due_of (command_of words) f) s)
+IsExact words files s = IfSome files (λ f. IsDueOrFault (IsDueFor (command_of words) f s) s)
+
+-- where a source is cut, over files that are told, the status is what its bytes give, or memory was wanting
+abbrev pub CutCompletes : List (List ℕ) → Files → Status → Type 0
+CutCompletes words files s = (how : Cutting) (name : List ℕ) → command_of words ≡ Some (Cut how name) → IfSome files (λ f. (s ≡ status.OutOfMemory) ⊎ IsCutDue (f name) s)

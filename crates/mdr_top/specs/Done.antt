@@ -1,44 +1,21 @@
 -- What a run does to the shelf and to the far side, and what is due for it: one constructor for each way that it goes.
-use Rattle.std.specs.Prelude.{◌≡◌, ◌≤◌, ℕ, List, [], ◌++◌, length, take, codes, Option, Some, None}
+use Rattle.std.specs.Prelude.{◌≡◌, ◌≤◌, ℕ, List, [], ◌++◌, length, take, Option, Some, None}
 use Rattle.mdr_core.specs.declared.program.Program.{Program}
 use Rattle.mdr_model.specs.declared.command.Command.{Command}
-use Rattle.mdr_outside.specs.Calls.{ShelfCall, Read, FarCall, Loads, and_then}
-use Rattle.mdr_outside.specs.Shelf.{ReadsFrom}
-use Rattle.mdr_outside.specs.declared.shelf.ReadAnswer.{ReadAnswer}
+use Rattle.mdr_outside.specs.Calls.{ShelfCall, FarCall, Loads, and_then}
 use Rattle.mdr_outside.specs.declared.shelf.ReadAnswer.TheVariants as reads
 use Rattle.mdr_outside.specs.declared.far.Loaded.{Loaded}
 use Rattle.mdr_outside.specs.declared.far.Exchange.{Exchange}
 use Rattle.mdr_kernel.specs.Runs.{sent_of}
 use Rattle.mdr_kernel.specs.Calls.{sends, IsPart}
-use Rattle.mdr_top.specs.declared.status.Status.{Status}
-use Rattle.mdr_top.specs.declared.status.Status.TheVariants as status
-use Rattle.mdr_top.specs.Lines.{usage_line, file_line}
-use Rattle.mdr_top.specs.Words.{command_of}
-use Rattle.mdr_top.specs.Answers.{Files, longest_source, longest_script, default_ticks, NoProgram, HasProgram, HasScript, NoScript, Ran, Adds}
-
--- ---- files
-
--- the one call of the shelf is a read of this name with this limit, and this is its answer
-pub record IsRead (files : Files) (name : List ℕ) (limit : ℕ) (old new : List ShelfCall) (answer : ReadAnswer) : Type 0 where
-  pub called : new ≡ and_then old (Read name limit answer)
-  pub told : ReadsFrom files name limit answer
-
--- the same, whatever was answered
-pub record WasRead (files : Files) (name : List ℕ) (limit : ℕ) (old new : List ShelfCall) : Type 0 where
-  pub answer : ReadAnswer
-  pub read : IsRead files name limit old new answer
-
--- what is due for an answer without bytes
-pub data IsUnread (name : List ℕ) (answer : ReadAnswer) (s : Status) (text : List ℕ) : Type 0 where
-  missing : answer ≡ reads.Missing → s ≡ status.Missing → text ≡ file_line (codes "missing ") name → IsUnread name answer s text
-  long : answer ≡ reads.TooLarge → s ≡ status.TooLarge → text ≡ file_line (codes "too large ") name → IsUnread name answer s text
-  failed : answer ≡ reads.Failed → s ≡ status.ReadFault → text ≡ file_line (codes "read fault ") name → IsUnread name answer s text
-
--- this very read gave no bytes
-pub record UnreadBy (files : Files) (name : List ℕ) (limit : ℕ) (old new : List ShelfCall) (s : Status) (text : List ℕ) : Type 0 where
-  pub answer : ReadAnswer
-  pub read : IsRead files name limit old new answer
-  pub why : IsUnread name answer s text
+use Rattle.mdr_due.specs.declared.status.Status.{Status}
+use Rattle.mdr_due.specs.declared.status.Status.TheVariants as status
+use Rattle.mdr_top.specs.Lines.{usage_line}
+use Rattle.mdr_top.specs.declared.words.Cutting.{Cutting}
+use Rattle.mdr_top.specs.Words.{Cut, Run, command_of}
+use Rattle.mdr_top.specs.Cuts.{CutDone, CutPart}
+use Rattle.mdr_due.specs.Reads.{Files, IsRead, WasRead, UnreadBy, longest_source}
+use Rattle.mdr_top.specs.Answers.{longest_script, default_ticks, NoProgram, HasProgram, HasScript, NoScript, Ran, Adds}
 
 -- ---- the far side
 
@@ -60,26 +37,28 @@ pub record LoadedPart (program : Program) (source : List ℕ) (calls : List Comm
 
 -- ---- all of it
 
-module _ (words : List (List ℕ)) (files : Files) (shelf shelf' : List ShelfCall) (far far' : List FarCall) (loaded : Option Loaded) (es : List Exchange) where
-  -- the files of the words are read in their order, up to the first that isn't taken; the far side is left alone, or it is loaded once and gets the run's messages
+module _ (words : List (List ℕ)) (files files' : Files) (shelf shelf' : List ShelfCall) (far far' : List FarCall) (loaded : Option Loaded) (es : List Exchange) where
+  -- a source is cut; or the files of the words are read in their order, up to the first that isn't taken. The far side is left alone, or it is loaded once and gets the run's messages
   pub data Done (s : Status) (text : List ℕ) : Type 0 where
     usage : command_of words ≡ None → shelf' ≡ shelf → far' ≡ far → s ≡ status.Usage → text ≡ usage_line → Done s text
-    source_unread : (source_name script_name : List ℕ) → command_of words ≡ Some (source_name, script_name) → UnreadBy files source_name longest_source shelf shelf' s text → far' ≡ far → Done s text
-    source_refused : (source_name script_name source : List ℕ) → command_of words ≡ Some (source_name, script_name) → IsRead files source_name longest_source shelf shelf' (reads.Ok source) → NoProgram source s text → far' ≡ far → Done s text
-    script_unread : (source_name script_name source : List ℕ) (program : Program) (between : List ShelfCall) → command_of words ≡ Some (source_name, script_name) → IsRead files source_name longest_source shelf between (reads.Ok source) → HasProgram source program
+    cut : (how : Cutting) (name : List ℕ) → command_of words ≡ Some (Cut how name) → CutDone how files files' name shelf shelf' s text → far' ≡ far → Done s text
+    source_unread : (source_name script_name : List ℕ) → command_of words ≡ Some (Run source_name script_name) → UnreadBy files source_name longest_source shelf shelf' s text → far' ≡ far → Done s text
+    source_refused : (source_name script_name source : List ℕ) → command_of words ≡ Some (Run source_name script_name) → IsRead files source_name longest_source shelf shelf' (reads.Ok source) → NoProgram source s text → far' ≡ far → Done s text
+    script_unread : (source_name script_name source : List ℕ) (program : Program) (between : List ShelfCall) → command_of words ≡ Some (Run source_name script_name) → IsRead files source_name longest_source shelf between (reads.Ok source) → HasProgram source program
         → UnreadBy files script_name longest_script between shelf' s text → far' ≡ far → Done s text
-    script_refused : (source_name script_name source script : List ℕ) (program : Program) (between : List ShelfCall) → command_of words ≡ Some (source_name, script_name) → IsRead files source_name longest_source shelf between (reads.Ok source) → HasProgram source program
+    script_refused : (source_name script_name source script : List ℕ) (program : Program) (between : List ShelfCall) → command_of words ≡ Some (Run source_name script_name) → IsRead files source_name longest_source shelf between (reads.Ok source) → HasProgram source program
         → IsRead files script_name longest_script between shelf' (reads.Ok script) → NoScript program script s text → far' ≡ far → Done s text
-    ran : (source_name script_name source script : List ℕ) (calls : List Command) (program : Program) (between : List ShelfCall) → command_of words ≡ Some (source_name, script_name) → IsRead files source_name longest_source shelf between (reads.Ok source) → HasProgram source program
+    ran : (source_name script_name source script : List ℕ) (calls : List Command) (program : Program) (between : List ShelfCall) → command_of words ≡ Some (Run source_name script_name) → IsRead files source_name longest_source shelf between (reads.Ok source) → HasProgram source program
         → IsRead files script_name longest_script between shelf' (reads.Ok script) → HasScript program script calls → LoadedOnce source far far' (sent_of es) → Ran program source calls loaded es s text → Done s text
 
   -- as much of it was done as memory was there for
   pub data DonePart : Type 0 where
     nothing : shelf' ≡ shelf → far' ≡ far → DonePart
-    source_read : (source_name script_name : List ℕ) → command_of words ≡ Some (source_name, script_name) → WasRead files source_name longest_source shelf shelf' → far' ≡ far → DonePart
-    script_read : (source_name script_name source : List ℕ) (program : Program) (between : List ShelfCall) → command_of words ≡ Some (source_name, script_name) → IsRead files source_name longest_source shelf between (reads.Ok source) → HasProgram source program
+    cut_part : (how : Cutting) (name : List ℕ) → command_of words ≡ Some (Cut how name) → CutPart how files files' name shelf shelf' → far' ≡ far → DonePart
+    source_read : (source_name script_name : List ℕ) → command_of words ≡ Some (Run source_name script_name) → WasRead files source_name longest_source shelf shelf' → far' ≡ far → DonePart
+    script_read : (source_name script_name source : List ℕ) (program : Program) (between : List ShelfCall) → command_of words ≡ Some (Run source_name script_name) → IsRead files source_name longest_source shelf between (reads.Ok source) → HasProgram source program
         → WasRead files script_name longest_script between shelf' → far' ≡ far → DonePart
-    ran_part : (source_name script_name source script : List ℕ) (calls : List Command) (program : Program) (between : List ShelfCall) → command_of words ≡ Some (source_name, script_name) → IsRead files source_name longest_source shelf between (reads.Ok source) → HasProgram source program
+    ran_part : (source_name script_name source script : List ℕ) (calls : List Command) (program : Program) (between : List ShelfCall) → command_of words ≡ Some (Run source_name script_name) → IsRead files source_name longest_source shelf between (reads.Ok source) → HasProgram source program
         → IsRead files script_name longest_script between shelf' (reads.Ok script) → HasScript program script calls → LoadedPart program source calls far far' es → DonePart
 
   -- all of it was done and the whole text printed; or a part of the text, where the output failed; or memory was wanting, and nothing was printed

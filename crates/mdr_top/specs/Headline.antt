@@ -14,10 +14,11 @@ use Rattle.mdr_outside.specs.Calls.{ShelfCall, Read, and_then}
 use Rattle.mdr_outside.specs.Far.{loaded_with}
 use Rattle.mdr_outside.specs.Count.{Rose}
 use Rattle.mdr_outside.specs.Shelf.{ReadsFrom}
-use Rattle.mdr_top.specs.declared.status.Status.{Status}
-use Rattle.mdr_top.specs.declared.status.Status.TheVariants as status
-use Rattle.mdr_top.specs.Words.{command_of}
-use Rattle.mdr_top.specs.Answers.{Files, longest_source, longest_script, default_ticks, status_of, HasProgram, HasScript, Reported, Adds}
+use Rattle.mdr_due.specs.declared.status.Status.{Status}
+use Rattle.mdr_due.specs.declared.status.Status.TheVariants as status
+use Rattle.mdr_top.specs.Words.{Run, command_of}
+use Rattle.mdr_due.specs.Reads.{Files, longest_source}
+use Rattle.mdr_top.specs.Answers.{longest_script, default_ticks, status_of, HasProgram, HasScript, Reported, Adds}
 
 -- the outcome of the one-memory meaning
 abbrev pub meant : Program → List Command → Outcome
@@ -33,7 +34,7 @@ pub record IsMeaning (program : Program) (calls : List Command) (es : List Excha
 pub record IsAccepted (words : List (List ℕ)) (files : Files) (source : List ℕ) (program : Program) (calls : List Command) : Type 0 where
   pub source_name : List ℕ
   pub script_name : List ℕ
-  pub command : command_of words ≡ Some (source_name, script_name)
+  pub command : command_of words ≡ Some (Run source_name script_name)
   pub source_read : ReadsFrom files source_name longest_source (reads.Ok source)
   pub compiled : HasProgram source program
   pub script : List ℕ
@@ -52,10 +53,10 @@ pub record MeansBy (words : List (List ℕ)) (files : Files) (shelf shelf' : Lis
   pub printed : Adds old new text
   pub meaning : IsMeaning program calls es s text
 
--- no reply is refused, and a run that ends by itself is what its source and its script mean
+-- no reply is refused, and where the words name a source and a script a run that ends by itself is what its source and its script mean
 pub record Means (words : List (List ℕ)) (files : Files) (shelf shelf' : List ShelfCall) (loaded : Option Loaded) (es : List Exchange) (old new : Option (List ℕ)) (s : Status) : Type 0 where
   pub never : s ≢ status.Marshal
-  pub means : (s ≡ status.Done) ⊎ (s ≡ status.Stopped) → MeansBy words files shelf shelf' loaded es old new s
+  pub means : (source_name script_name : List ℕ) → command_of words ≡ Some (Run source_name script_name) → (s ≡ status.Done) ⊎ (s ≡ status.Stopped) → MeansBy words files shelf shelf' loaded es old new s
 
 -- ---- nothing outside fails
 

@@ -1,10 +1,9 @@
-pub mod Statuses
 pub mod Words
 pub mod Lines
 pub mod Commands
+pub mod Cuts
 pub mod Answers
 pub mod Done
-pub mod Stages
 pub mod Meanings
 pub mod Headline
 pub mod Comes

@@ -1,7 +1,7 @@
 -- The lines that are printed where there is no report.
 use Rattle.std.specs.Prelude.{ℕ, List, [], ◌++◌, codes, decimal}
 use Rattle.mdr_core.specs.declared.place.Place.{Place}
-use Rattle.mdr_model.specs.Report.{newline}
+use Rattle.mdr_due.specs.Lines.{newline}
 use Rattle.mdr_parse.specs.declared.error.ParseError.{ParseError}
 use Rattle.mdr_parse.specs.declared.error.ParseError.TheVariants as parse
 use Rattle.mdr_syntax.specs.declared.error.LexError.{LexError}
@@ -39,7 +39,3 @@ parse_line parse.OutOfMemory = []
 -- a script that is refused: the line and the kind
 unfoldable pub script_line : ℕ → List ℕ → List ℕ
 script_line line kind = codes "script refused " ++ (decimal line ++ (codes " " ++ (kind ++ newline)))
-
--- what there is to say of a file
-unfoldable pub file_line : List ℕ → List ℕ → List ℕ
-file_line what name = what ++ (name ++ newline)

@@ -2,20 +2,17 @@
 #![tactic(auto)]
 
 mod answer;
-mod due;
-mod files;
+mod cutting;
 mod laws;
 mod lines;
 mod program;
-mod put;
 mod script;
 mod split;
-mod status;
 mod top;
 mod words;
 
 pub use laws::run_is_meaning;
-pub use status::Status;
+pub use mdr_due::Status;
 pub use top::run;
 
 #[cfg(test)]

@@ -1,10 +1,10 @@
 // The lines that are printed where there is no report.
 
 ghost use Rattle.std.specs.Prelude.{◌≡◌, IfOk, codes};
-ghost use Rattle.mdr_top.specs.Lines.{usage_line, source_line, left_out, script_line, file_line};
+ghost use Rattle.mdr_top.specs.Lines.{usage_line, source_line, left_out, script_line};
 
-use crate::put::{put_bytes, put_newline, put_number, put_word};
 use mdr_core::{Name, OutOfMemory, Place};
+use mdr_due::{put_bytes, put_newline, put_number, put_word};
 use std::alloc::Global;
 
 /// How the program is called.
@@ -76,18 +76,6 @@ pub(crate) fn script_line(alloc: Global, line: u32, kind: &str) -> Result<Vec<u8
     put_number(alloc, &mut out, line)?;
     put_word(&mut out, " ")?;
     put_word(&mut out, kind)?;
-    put_newline(&mut out)?;
-    Ok(out)
-}
-
-/// What there is to say of a file.
-#[tactic(auto, unfolding(crate::specs::Lines::file_line))]
-pub(crate) fn file_line(alloc: Global, what: &str, name: &str) -> Result<Vec<u8>, OutOfMemory>
-    ensures { IfOk result (λ text. text.items ≡ file_line what.now name.now) }
-{
-    let mut out = Vec::new(alloc);
-    put_word(&mut out, what)?;
-    put_word(&mut out, name)?;
     put_newline(&mut out)?;
     Ok(out)
 }

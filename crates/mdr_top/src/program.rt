@@ -3,13 +3,12 @@
 ghost use Rattle.std.specs.Prelude.{◌≡◌, IfOk};
 ghost use Rattle.mdr_top.specs.Answers.{HasProgram, NoProgram, NoSource};
 ghost use Rattle.mdr_top.specs.Lines.{source_line, left_out};
-ghost use Rattle.mdr_top.specs.Stages.{StageIs, IsDue};
-ghost use Rattle.mdr_top.specs.declared.status.Status.TheVariants as status;
+ghost use Rattle.mdr_due.specs.Stages.{StageIs, IsDue};
+ghost use Rattle.mdr_due.specs.declared.status.Status.TheVariants as status;
 
-use crate::due::{Due, Stage};
 use crate::lines::{left_out_line, source_line};
-use crate::status::Status;
 use mdr_core::{Name, OutOfMemory, Place, Program};
+use mdr_due::{Due, Stage, Status};
 use mdr_parse::{ParseError, parse};
 use mdr_syntax::{LexError, SourceError, Token, read_source, tokens};
 use std::alloc::Global;

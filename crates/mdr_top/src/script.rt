@@ -5,12 +5,11 @@ ghost use Rattle.mdr_core.specs.Sound.{IsSound};
 ghost use Rattle.mdr_model.specs.Built.{IsBuilt};
 ghost use Rattle.mdr_top.specs.Commands.{call_of};
 ghost use Rattle.mdr_top.specs.Answers.{HasScript, NoScript};
-ghost use Rattle.mdr_top.specs.Stages.{StageIs};
+ghost use Rattle.mdr_due.specs.Stages.{StageIs};
 
-use crate::due::{Due, Stage};
 use crate::lines::script_line;
-use crate::status::Status;
 use mdr_core::{Items, OutOfMemory, Program};
+use mdr_due::{Due, Stage, Status};
 use mdr_model::Command;
 use mdr_syntax::{ScriptError, read_script};
 use std::alloc::Global;

@@ -4,17 +4,19 @@ ghost use Rattle.std.specs.Prelude.{◌≡◌, ◌≤◌, false, length, drop, m
 ghost use Rattle.mdr_outside.specs.Count.{Rose};
 ghost use Rattle.mdr_outside.specs.Sink.{Takes};
 ghost use Rattle.mdr_outside.specs.declared.sink.SinkAnswer.TheVariants as sinks;
-ghost use Rattle.mdr_top.specs.declared.status.Status.TheVariants as status;
-ghost use Rattle.mdr_top.specs.Statuses.{HasReadCause};
+ghost use Rattle.mdr_due.specs.declared.status.Status.TheVariants as status;
+ghost use Rattle.mdr_due.specs.Statuses.{HasReadCause};
 ghost use Rattle.mdr_user.specs.Honest.{IsHonest};
 ghost use Rattle.mdr_top.specs.Answers.{Prints, AddsPart};
 ghost use Rattle.mdr_top.specs.Done.{Does};
+ghost use Rattle.mdr_slicer.specs.Slicing.{SourcesAreSound};
+ghost use Rattle.mdr_top.specs.Cuts.{WriteCause};
 ghost use Rattle.mdr_top.specs.Headline.{Rests, Means, Completes};
-ghost use Rattle.mdr_top.specs.Comes.{Comes, IsExact};
+ghost use Rattle.mdr_top.specs.Comes.{Comes, IsExact, CutCompletes};
 ghost use Rattle.mdr_top.specs.Words.{command_of};
 
 use crate::answer::answered;
-use crate::status::Status;
+use mdr_due::Status;
 use mdr_outside::{Far, Shelf, Sink, SinkAnswer};
 use std::alloc::Global;
 
@@ -51,10 +53,11 @@ fn printed<S: Shelf, O: Sink, F: Far>(
     out: &mut O,
     far: &mut F,
 ) -> Status
-    ensures does { Does (map string_bytes words.now.items) (S.files shelf.old) (S.calls shelf.old) (S.calls shelf.new) (F.calls far.old) (F.calls far.new) (F.loaded far.new) (F.exchanges far.new) (O.written out.old) (O.written out.new) result }
+    requires { SourcesAreSound }
+    ensures does { Does (map string_bytes words.now.items) (S.files shelf.old) (S.files shelf.new) (S.calls shelf.old) (S.calls shelf.new) (F.calls far.old) (F.calls far.new) (F.loaded far.new) (F.exchanges far.new) (O.written out.old) (O.written out.new) result }
     ensures read_cause { HasReadCause (record { faults = S.faults shelf.old; absent = S.absent shelf.old; long = S.long shelf.old }) (record { faults = S.faults shelf.new; absent = S.absent shelf.new; long = S.long shelf.new }) result }
     ensures far_cause { result ≡ status.FarFault → Rose (F.faults far.old) (F.faults far.new) }
-    ensures write_cause { result ≡ status.WriteFault → Rose (O.faults out.old) (O.faults out.new) }
+    ensures write_cause { result ≡ status.WriteFault → WriteCause (command_of (map string_bytes words.now.items)) (O.faults out.old) (O.faults out.new) (S.unwritten shelf.old) (S.unwritten shelf.new) }
 {
     match answered(alloc, words.as_slice(), shelf, far) {
         Ok(due) => {
@@ -68,8 +71,9 @@ fn printed<S: Shelf, O: Sink, F: Far>(
     }
 }
 
-/// Does what the words say: reads the source and the script from the shelf, runs the script over the far side,
-/// and writes the report, or why there is none. Nothing is written before all of it is made.
+/// Does what the words say: reads a source from the shelf, and writes its texts to files, or reports on it, or runs a
+/// script over the far side; and prints what came of it, or why there is nothing. Nothing is printed before all of it
+/// is made.
 pub fn run<S: Shelf, O: Sink, F: Far>(
     alloc: Global,
     words: &Vec<String>,
@@ -78,15 +82,16 @@ pub fn run<S: Shelf, O: Sink, F: Far>(
     far: &mut F,
 ) -> Status
     ensures prints { Prints (map string_bytes words.now.items) (S.files shelf.old) (F.loaded far.new) (F.exchanges far.new) (O.written out.old) (O.written out.new) result }
-    ensures does { Does (map string_bytes words.now.items) (S.files shelf.old) (S.calls shelf.old) (S.calls shelf.new) (F.calls far.old) (F.calls far.new) (F.loaded far.new) (F.exchanges far.new) (O.written out.old) (O.written out.new) result }
+    ensures does { Does (map string_bytes words.now.items) (S.files shelf.old) (S.files shelf.new) (S.calls shelf.old) (S.calls shelf.new) (F.calls far.old) (F.calls far.new) (F.loaded far.new) (F.exchanges far.new) (O.written out.old) (O.written out.new) result }
     ensures read_cause { HasReadCause (record { faults = S.faults shelf.old; absent = S.absent shelf.old; long = S.long shelf.old }) (record { faults = S.faults shelf.new; absent = S.absent shelf.new; long = S.long shelf.new }) result }
     ensures far_cause { result ≡ status.FarFault → Rose (F.faults far.old) (F.faults far.new) }
-    ensures write_cause { result ≡ status.WriteFault → Rose (O.faults out.old) (O.faults out.new) }
+    ensures write_cause { result ≡ status.WriteFault → WriteCause (command_of (map string_bytes words.now.items)) (O.faults out.old) (O.faults out.new) (S.unwritten shelf.old) (S.unwritten shelf.new) }
     ensures meaning { IsHonest (F.loaded far.new) (F.exchanges far.new) → Means (map string_bytes words.now.items) (S.files shelf.old) (S.calls shelf.old) (S.calls shelf.new) (F.loaded far.new) (F.exchanges far.new) (O.written out.old) (O.written out.new) result }
     ensures comes { Comes (map string_bytes words.now.items) (S.files shelf.old) (F.loaded far.new) (F.exchanges far.new) result }
     ensures exact { IsExact (map string_bytes words.now.items) (S.files shelf.old) result }
     ensures usage { command_of (map string_bytes words.now.items) ≡ None → (result ≡ status.Usage) ⊎ ((result ≡ status.WriteFault) ⊎ (result ≡ status.OutOfMemory)) }
     ensures complete { Rests (S.faults shelf.old) (S.faults shelf.new) → Rests (O.faults out.old) (O.faults out.new) → Rests (F.faults far.old) (F.faults far.new) → IsHonest (F.loaded far.new) (F.exchanges far.new) → Completes (map string_bytes words.now.items) (S.files shelf.old) result }
+    ensures cut_complete { Rests (S.faults shelf.old) (S.faults shelf.new) → Rests (S.unwritten shelf.old) (S.unwritten shelf.new) → Rests (O.faults out.old) (O.faults out.new) → CutCompletes (map string_bytes words.now.items) (S.files shelf.old) result }
 {
     printed(alloc, words, shelf, out, far)
 }

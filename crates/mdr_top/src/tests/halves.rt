@@ -7,9 +7,9 @@ ghost use Rattle.mdr_outside.specs.Far.{IsLoaded};
 
 use super::BUMP;
 use super::answers::{FIRST, FOURTH, SECOND, THIRD, answers_of};
-use crate::due::Stage;
 use crate::program::program;
 use mdr_core::{Items, Program};
+use mdr_due::Stage;
 use mdr_kernel::KernelHalf;
 use mdr_model::{Command, End, Wire};
 use mdr_outside::{Far, LoadAnswer, LyingFar};

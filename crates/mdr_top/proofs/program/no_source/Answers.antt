@@ -4,8 +4,8 @@ use Rattle.mdr_parse.specs.Parsing.{Parses}
 use Rattle.mdr_top.specs.Answers.{NoSource}
 use Rattle.mdr_top.specs.Answers.NoSource.{unparsed, unbuilt}
 use Rattle.mdr_top.specs.Lines.{source_line, left_out, parse_line, begin}
-use Rattle.mdr_top.specs.declared.status.Status.TheVariants as status
-use Rattle.mdr_top.proofs.StageSteps.{due_for}
+use Rattle.mdr_due.specs.declared.status.Status.TheVariants as status
+use Rattle.mdr_due.proofs.StageSteps.{due_for}
 use Rattle.mdr_top.proofs.program.no_source.Goals as goal
 
 pub returns-in-Ok : goal.returns-in-Ok

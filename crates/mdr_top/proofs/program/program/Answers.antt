@@ -11,9 +11,9 @@ use Rattle.mdr_syntax.specs.Sources.{program_of}
 use Rattle.mdr_top.specs.Answers.{HasProgram, NoProgram, NoSource}
 use Rattle.mdr_top.specs.Answers.NoProgram.{fault}
 use Rattle.mdr_top.specs.Lines.{source_line}
-use Rattle.mdr_top.specs.Stages.{StageIs}
-use Rattle.mdr_top.specs.declared.status.Status.TheVariants as status
-use Rattle.mdr_top.proofs.StageSteps.{due_for}
+use Rattle.mdr_due.specs.Stages.{StageIs}
+use Rattle.mdr_due.specs.declared.status.Status.TheVariants as status
+use Rattle.mdr_due.proofs.StageSteps.{due_for}
 use Rattle.mdr_top.proofs.Programs.{has_program, no_program_for}
 use Rattle.mdr_top.proofs.program.program.Goals as goal
 

@@ -1,7 +1,7 @@
 use Rattle.std.proofs.Common.{◌≡◌, sym, ◌∙◌}
 use Rattle.std.proofs.lemmas.Result.{IfOk-weaker}
 use Rattle.mdr_model.specs.Outcome.{outcome_of}
-use Rattle.mdr_top.specs.declared.status.Status.TheVariants as status
+use Rattle.mdr_due.specs.declared.status.Status.TheVariants as status
 use Rattle.mdr_top.specs.Answers.Ran.{refused}
 use Rattle.mdr_top.proofs.split.ran.Goals as goal
 

@@ -1,24 +1,30 @@
+use Rattle.std.proofs.Common.{map}
+use Rattle.std.specs.Prelude.{string_bytes}
 use Rattle.mdr_top.proofs.DoneLaws.{prints_so, does_mean}
 use Rattle.mdr_top.proofs.Complete.{completes}
 use Rattle.mdr_top.proofs.Comes.{prints_comes}
-use Rattle.mdr_top.proofs.Exact.{prints_exactly, usage_comes}
+use Rattle.mdr_top.proofs.Exact.{cut_completes, prints_exactly, usage_comes}
 use Rattle.mdr_top.proofs.top.run.Goals as goal
 
 pub returns-clause-prints : goal.returns-clause-prints
-returns-clause-prints g c = prints_so _ _ _ _ _ _ _ _ _ _ _ c.printed.ensures.does
+returns-clause-prints g c = prints_so _ _ _ _ _ _ _ _ _ _ _ _ c.printed.ensures.does
 
 pub returns-clause-meaning : goal.returns-clause-meaning
-returns-clause-meaning g c = λ honest. does_mean _ _ _ _ _ _ _ _ _ _ _ c.printed.ensures.does honest
+returns-clause-meaning g c = λ honest. does_mean _ _ _ _ _ _ _ _ _ _ _ _ c.printed.ensures.does honest
 
 pub returns-clause-complete : goal.returns-clause-complete
 returns-clause-complete g c = λ reads writes far honest source program calls told accepted.
-    completes _ _ _ _ _ _ _ _ _ _ _ _ _ (prints_so _ _ _ _ _ _ _ _ _ _ _ c.printed.ensures.does) c.printed.ensures.read_cause c.printed.ensures.write_cause c.printed.ensures.far_cause reads writes far honest source program calls told accepted
+    completes _ _ _ _ _ _ _ _ _ _ _ _ _ _ _ (prints_so _ _ _ _ _ _ _ _ _ _ _ _ c.printed.ensures.does) c.printed.ensures.read_cause c.printed.ensures.write_cause c.printed.ensures.far_cause reads writes far honest source program calls told accepted
 
 pub returns-clause-comes : goal.returns-clause-comes
-returns-clause-comes g c = prints_comes _ _ _ _ _ _ _ (prints_so _ _ _ _ _ _ _ _ _ _ _ c.printed.ensures.does)
+returns-clause-comes g c = prints_comes _ _ _ _ _ _ _ (prints_so _ _ _ _ _ _ _ _ _ _ _ _ c.printed.ensures.does)
 
 pub returns-clause-exact : goal.returns-clause-exact
-returns-clause-exact g c = prints_exactly _ _ _ _ _ _ _ (prints_so _ _ _ _ _ _ _ _ _ _ _ c.printed.ensures.does)
+returns-clause-exact g c = prints_exactly _ _ _ _ _ _ _ (prints_so _ _ _ _ _ _ _ _ _ _ _ _ c.printed.ensures.does)
 
 pub returns-clause-usage : goal.returns-clause-usage
-returns-clause-usage g c = λ none. usage_comes _ _ _ _ _ _ _ (prints_so _ _ _ _ _ _ _ _ _ _ _ c.printed.ensures.does) none
+returns-clause-usage g c = λ none. usage_comes _ _ _ _ _ _ _ (prints_so _ _ _ _ _ _ _ _ _ _ _ _ c.printed.ensures.does) none
+
+pub returns-clause-cut_complete : goal.returns-clause-cut_complete
+returns-clause-cut_complete g c = λ reads shelf writes.
+    cut_completes (map string_bytes c.args.words.now.items) _ _ _ _ _ _ _ _ (prints_exactly (map string_bytes c.args.words.now.items) _ _ _ _ _ _ (prints_so (map string_bytes c.args.words.now.items) _ _ _ _ _ _ _ _ _ _ _ c.printed.ensures.does)) c.printed.ensures.read_cause c.printed.ensures.write_cause reads shelf writes

@@ -2,8 +2,8 @@
 
 ghost use Rattle.std.specs.Prelude.{◌≡◌, ◌≤◌, IfOk, OnErr};
 ghost use Rattle.mdr_outside.specs.declared.shelf.ReadAnswer.TheVariants as reads;
-ghost use Rattle.mdr_top.specs.Done.{IsRead, WasRead, UnreadBy};
-ghost use Rattle.mdr_top.specs.Stages.{StageIs, HasStageCause};
+ghost use Rattle.mdr_due.specs.Reads.{IsRead, WasRead, UnreadBy};
+ghost use Rattle.mdr_due.specs.Stages.{StageIs, HasStageCause};
 
 use crate::due::{Due, Stage};
 use crate::lines::file_line;
@@ -13,7 +13,7 @@ use mdr_outside::{ReadAnswer, Shelf};
 use std::alloc::Global;
 
 /// The bytes of a file of at most `limit` bytes, or what is due where there is none.
-pub(crate) fn file<S: Shelf>(
+pub fn file<S: Shelf>(
     alloc: Global,
     shelf: &mut S,
     name: &str,
@@ -26,6 +26,7 @@ pub(crate) fn file<S: Shelf>(
     ensures faults_later { S.faults shelf.old ≤ S.faults shelf.new }
     ensures absent_later { S.absent shelf.old ≤ S.absent shelf.new }
     ensures long_later { S.long shelf.old ≤ S.long shelf.new }
+    ensures unwritten_same { S.unwritten shelf.new ≡ S.unwritten shelf.old }
 {
     match shelf.read(alloc, name, limit) {
         ReadAnswer::Ok(bytes) => Ok(Stage::Goes(bytes)),

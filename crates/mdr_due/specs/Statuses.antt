@@ -1,8 +1,8 @@
 -- The numbers of statuses, and what their causes are.
 use Rattle.std.specs.Prelude.{ℕ}
 use Rattle.mdr_outside.specs.Count.{Rose}
-use Rattle.mdr_top.specs.declared.status.Status.{Status}
-use Rattle.mdr_top.specs.declared.status.Status.TheVariants as status
+use Rattle.mdr_due.specs.declared.status.Status.{Status}
+use Rattle.mdr_due.specs.declared.status.Status.TheVariants as status
 
 abbrev pub number_of : Status → ℕ
 number_of status.Done = 0

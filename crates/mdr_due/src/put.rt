@@ -1,13 +1,13 @@
 // What lines are put together from.
 
 ghost use Rattle.std.specs.Prelude.{◌≡◌, ◌++◌, OnOk, decimal};
-ghost use Rattle.mdr_model.specs.Report.{newline};
+ghost use Rattle.mdr_due.specs.Lines.{newline};
 
 use mdr_core::OutOfMemory;
 use std::alloc::Global;
 
 /// A word as it is.
-pub(crate) fn put_word(out: &mut Vec<u8>, word: &str) -> Result<(), OutOfMemory>
+pub fn put_word(out: &mut Vec<u8>, word: &str) -> Result<(), OutOfMemory>
     ensures { OnOk result (out.new.items ≡ out.old.items ++ word.now) }
 {
     out.extend_from_slice(word.as_bytes())?;
@@ -15,7 +15,7 @@ pub(crate) fn put_word(out: &mut Vec<u8>, word: &str) -> Result<(), OutOfMemory>
 }
 
 /// Bytes as they are.
-pub(crate) fn put_bytes(out: &mut Vec<u8>, bytes: &[u8]) -> Result<(), OutOfMemory>
+pub fn put_bytes(out: &mut Vec<u8>, bytes: &[u8]) -> Result<(), OutOfMemory>
     ensures { OnOk result (out.new.items ≡ out.old.items ++ bytes.now) }
 {
     out.extend_from_slice(bytes)?;
@@ -23,7 +23,7 @@ pub(crate) fn put_bytes(out: &mut Vec<u8>, bytes: &[u8]) -> Result<(), OutOfMemo
 }
 
 /// A number in decimal digits.
-pub(crate) fn put_number(alloc: Global, out: &mut Vec<u8>, n: u32) -> Result<(), OutOfMemory>
+pub fn put_number(alloc: Global, out: &mut Vec<u8>, n: u32) -> Result<(), OutOfMemory>
     ensures { OnOk result (out.new.items ≡ out.old.items ++ decimal n) }
 {
     let digits = n.to_string(alloc)?;
@@ -31,7 +31,7 @@ pub(crate) fn put_number(alloc: Global, out: &mut Vec<u8>, n: u32) -> Result<(),
 }
 
 /// The end of a line.
-pub(crate) fn put_newline(out: &mut Vec<u8>) -> Result<(), OutOfMemory>
+pub fn put_newline(out: &mut Vec<u8>) -> Result<(), OutOfMemory>
     ensures { OnOk result (out.new.items ≡ out.old.items ++ newline) }
 {
     out.push(b'\n')?;

@@ -1,7 +1,7 @@
 // How the program ends.
 
 ghost use Rattle.std.specs.Prelude.{◌≡◌};
-ghost use Rattle.mdr_top.specs.Statuses.{number_of};
+ghost use Rattle.mdr_due.specs.Statuses.{number_of};
 
 /// How the program ends. Its number is what the program gives to the system.
 #[derive(Clone, Copy, Debug, PartialEq, Eq)]

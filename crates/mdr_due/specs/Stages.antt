@@ -1,9 +1,9 @@
 -- What a stage of the work says: what it goes on with, or what is due.
 use Rattle.std.specs.Prelude.{◌≡◌, ℕ, List}
-use Rattle.mdr_top.specs.declared.due.Stage.{Stage}
-use Rattle.mdr_top.specs.declared.due.Stage.TheVariants as stage
-use Rattle.mdr_top.specs.declared.status.Status.{Status}
-use Rattle.mdr_top.specs.Statuses.{Counts, HasReadCause}
+use Rattle.mdr_due.specs.declared.due.Stage.{Stage}
+use Rattle.mdr_due.specs.declared.due.Stage.TheVariants as stage
+use Rattle.mdr_due.specs.declared.status.Status.{Status}
+use Rattle.mdr_due.specs.Statuses.{Counts, HasReadCause}
 
 -- what it goes on with has a property, and status and text that are due another
 abbrev pub StageIs : {T : Type 0} → (T → Type 0) → (Status → List ℕ → Type 0) → Stage T → Type 0

@@ -2,16 +2,15 @@
 use Rattle.std.proofs.Common.{◌≡◌, ℕ, List, Result, Ok, Err, subst}
 use Rattle.std.specs.Prelude.{IfOk, OnErr}
 use Rattle.mdr_core.specs.declared.memory_error.OutOfMemory.{OutOfMemory}
-use Rattle.mdr_top.specs.declared.due.Due.{Due}
-use Rattle.mdr_top.specs.declared.due.Stage.{Stage}
-use Rattle.mdr_top.specs.declared.due.Stage.TheVariants as stage
-use Rattle.mdr_top.specs.declared.status.Status.{Status}
-use Rattle.mdr_top.specs.Stages.{StageIs, IsDue}
+use Rattle.mdr_due.specs.declared.due.Due.{Due}
+use Rattle.mdr_due.specs.declared.due.Stage.{Stage}
+use Rattle.mdr_due.specs.declared.due.Stage.TheVariants as stage
+use Rattle.mdr_due.specs.declared.status.Status.{Status}
+use Rattle.mdr_due.specs.Stages.{StageIs, IsDue}
 use Rattle.mdr_outside.specs.Calls.{ShelfCall, Read, and_then}
 use Rattle.mdr_outside.specs.Shelf.{ReadsFrom}
 use Rattle.mdr_outside.specs.declared.shelf.ReadAnswer.{ReadAnswer}
-use Rattle.mdr_top.specs.Answers.{Files}
-use Rattle.mdr_top.specs.Done.{WasRead}
+use Rattle.mdr_due.specs.Reads.{Files, WasRead}
 
 -- what is due is so for the reason that there is
 pub due_for : {T : Type 0} (P : T → Type 0) (Q : Status → List ℕ → Type 0) (s : Status) (text : List ℕ) (r : Result (Stage T) OutOfMemory)
@@ -39,3 +38,7 @@ with_both (Err e) P Q R f p q = tt
 pub err_weaker : {A E : Type 0} (r : Result A E) (P Q : Type 0) → (P → Q) → OnErr r P → OnErr r Q
 err_weaker (Ok x) P Q f p = tt
 err_weaker (Err e) P Q f p = f p
+
+pub on_err : {A E : Type 0} (r : Result A E) {P : Type 0} → P → OnErr r P
+on_err (Ok x) p = tt
+on_err (Err e) p = p

@@ -1,0 +1,4 @@
+pub mod Statuses
+pub mod Stages
+pub mod Lines
+pub mod Reads

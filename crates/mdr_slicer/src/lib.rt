@@ -1,0 +1,11 @@
+//! The commands that cut a source: its texts, written to files, and its report.
+#![tactic(auto)]
+
+mod cutting;
+mod outputs;
+mod reporting;
+mod sources;
+mod writing;
+
+pub use cutting::split;
+pub use reporting::report;

@@ -1,0 +1,114 @@
+-- What is done with a source that is cut is what is due for it.
+use Rattle.std.proofs.Common.{◌≡◌, ℕ, suc, List, ◌∷◌, Option, Some, None, Result, Ok, Err, slice_get, codes, refl, sym, ap, ◌∙◌, subst}
+use Rattle.std.specs.Prelude.{IfOk}
+use Rattle.mdr_core.specs.declared.memory_error.OutOfMemory.{OutOfMemory}
+use Rattle.mdr_outside.specs.Calls.{ShelfCall}
+use Rattle.mdr_due.specs.declared.due.Due.{Due}
+use Rattle.mdr_outside.specs.Shelf.{ReadsFrom}
+use Rattle.mdr_due.specs.declared.status.Status.{Status}
+use Rattle.mdr_due.specs.declared.status.Status.TheVariants as status
+use Rattle.mdr_due.specs.Lines.{file_line}
+use Rattle.mdr_due.specs.Reads.{Files, IsUnread, UnreadBy, longest_source}
+use Rattle.mdr_slicer.specs.Outputs.{NamedBytes, outputs, length_lines}
+use Rattle.mdr_slicer.specs.Writes.{Writes}
+use Rattle.mdr_slicer.specs.Slicing.{NoSourceOf, Splits, Reports}
+use Rattle.mdr_top.specs.declared.words.Cutting.{Cutting}
+use Rattle.mdr_top.specs.declared.words.Cutting.TheVariants as cutting
+use Rattle.mdr_top.specs.Words.{Task, Cut, Run, cut_of, run_of, command_by, command_of}
+use Rattle.mdr_top.specs.Cuts.{CutDone, IsSplit, IsOfCut}
+use Rattle.mdr_top.specs.Answers.{Unread, CutAnswered}
+
+-- ---- words
+
+pub cut_command : (words : List (List ℕ)) (how : Cutting) (name : List ℕ) → Some (how, name) ≡ cut_of words → command_of words ≡ Some (Cut how name)
+cut_command words how name e = ap (λ (c : Option (Cutting × List ℕ)). command_by c (run_of words)) (sym e)
+
+pub run_command : (words : List (List ℕ)) (source_name script_name : List ℕ) → None ≡ cut_of words → Some (source_name, script_name) ≡ run_of words → command_of words ≡ Some (Run source_name script_name)
+run_command words source_name script_name none e = λ i. command_by (sym none i) (sym e i)
+
+pub no_command : (words : List (List ℕ)) → None ≡ cut_of words → None ≡ run_of words → command_of words ≡ None
+no_command words none nothing = λ i. command_by (sym none i) (sym nothing i)
+
+pub cut_no_run : (command : Option Task) (how : Cutting) (name source_name script_name : List ℕ) → command ≡ Some (Cut how name) → command ≡ Some (Run source_name script_name) → ⊥
+cut_no_run command how name source_name script_name e f = Prim.cc
+
+-- ---- files
+
+pub unread_so : (files : Files) (name : List ℕ) (limit : ℕ) (old new : List ShelfCall) (s : Status) (text : List ℕ) → UnreadBy files name limit old new s text → Unread files name limit s text
+unread_so files name limit old new s text u = of u.why u.read.told
+  where
+    of : IsUnread name u.answer s text → ReadsFrom files name limit u.answer → Unread files name limit s text
+    of (IsUnread.missing a e t) r = Unread.missing (subst (ReadsFrom files name limit) a r) e t
+    of (IsUnread.long a e t) r = Unread.long (subst (ReadsFrom files name limit) a r) e t
+    of (IsUnread.failed a e t) r = Unread.failed e t
+
+-- how writing files ended
+data WritesEnd (lines : List ℕ) (all : List NamedBytes) (s : Status) (text : List ℕ) : Type 0 where
+  whole : s ≡ status.Done → text ≡ lines → WritesEnd lines all s text
+  failed : (i : ℕ) (file : NamedBytes) → slice_get all i ≡ Some file → s ≡ status.WriteFault → text ≡ file_line (codes "write fault ") file.0 → WritesEnd lines all s text
+
+later_end : (lines : List ℕ) (file : NamedBytes) (rest : List NamedBytes) (s : Status) (text : List ℕ) → WritesEnd lines rest s text → WritesEnd lines (file ∷ rest) s text
+later_end lines file rest s text (WritesEnd.whole e t) = WritesEnd.whole e t
+later_end lines file rest s text (WritesEnd.failed i f at e t) = WritesEnd.failed (suc i) f at e t
+
+writes_end : (lines : List ℕ) (all : List NamedBytes) (files files' : Files) (old new : List ShelfCall) (s : Status) (text : List ℕ) → Writes lines all files files' old new s text → WritesEnd lines all s text
+writes_end lines _ files files' old new s text (Writes.all f c e t) = WritesEnd.whole e t
+writes_end lines _ files files' old new s text (Writes.fails file rest u) = WritesEnd.failed 0 file refl u.status_is u.text_is
+writes_end lines _ files files' old new s text (Writes.next file rest later between put w) = later_end lines file rest s text (writes_end lines rest later files' between new s text w)
+
+-- ---- what is due
+
+source_so : (how : Cutting) (files : Files) (name : List ℕ) (old new : List ShelfCall) (s : Status) (text : List ℕ) → NoSourceOf files name old new s text → CutAnswered how files name s text
+source_so how files name old new s text (NoSourceOf.unread u) = CutAnswered.unread (unread_so files name longest_source old new s text u)
+source_so how files name old new s text (NoSourceOf.refused bytes read none) = CutAnswered.refused bytes read.told none
+
+split_so : (files files' : Files) (name : List ℕ) (old new : List ShelfCall) (s : Status) (text : List ℕ) → Splits files files' name old new s text → CutAnswered cutting.Split files name s text
+split_so files files' name old new s text (Splits.no_source kept n) = source_so cutting.Split files name old new s text n
+split_so files files' name old new s text (Splits.written source texts between read are w) =
+    CutAnswered.accepted read.bytes source read.read.told read.has (of (writes_end (length_lines (outputs name texts)) (outputs name texts) files files' between new s text w))
+  where
+    of : WritesEnd (length_lines (outputs name texts)) (outputs name texts) s text → IsSplit name source s text
+    of (WritesEnd.whole e t) = IsSplit.whole texts are e t
+    of (WritesEnd.failed i f at e t) = IsSplit.failed texts i f are at e t
+
+report_so : (files : Files) (name : List ℕ) (old new : List ShelfCall) (s : Status) (text : List ℕ) → Reports files name old new s text → CutAnswered cutting.Report files name s text
+report_so files name old new s text (Reports.no_source n) = source_so cutting.Report files name old new s text n
+report_so files name old new s text (Reports.reported source read r) = CutAnswered.accepted read.bytes source read.read.told read.has r
+
+pub cut_so : (how : Cutting) (files files' : Files) (name : List ℕ) (old new : List ShelfCall) (s : Status) (text : List ℕ) → CutDone how files files' name old new s text → CutAnswered how files name s text
+cut_so cutting.Split files files' name old new s text d = split_so files files' name old new s text d
+cut_so cutting.Report files files' name old new s text d = report_so files name old new s text d.1
+
+-- ---- statuses
+
+of_cut : (s t : Status) → s ≡ t → IsOfCut t → IsOfCut s
+of_cut s t e h = subst IsOfCut (sym e) h
+
+answered_status : (how : Cutting) (files : Files) (name : List ℕ) (s : Status) (text : List ℕ) → CutAnswered how files name s text → IsOfCut s
+answered_status how files name s text (CutAnswered.unread (Unread.missing r e t)) = of_cut s status.Missing e tt
+answered_status how files name s text (CutAnswered.unread (Unread.long r e t)) = of_cut s status.TooLarge e tt
+answered_status how files name s text (CutAnswered.unread (Unread.failed e t)) = of_cut s status.ReadFault e tt
+answered_status how files name s text (CutAnswered.refused bytes r n) = of_cut s status.SourceRefused n.status_is tt
+answered_status cutting.Split files name s text (CutAnswered.accepted bytes source r h (IsSplit.whole texts are e t)) = of_cut s status.Done e tt
+answered_status cutting.Split files name s text (CutAnswered.accepted bytes source r h (IsSplit.failed texts i f are at e t)) = of_cut s status.WriteFault e tt
+answered_status cutting.Report files name s text (CutAnswered.accepted bytes source r h c) = of_cut s status.Done c.status_is tt
+
+pub cut_status : (how : Cutting) (files files' : Files) (name : List ℕ) (old new : List ShelfCall) (s : Status) (text : List ℕ) → CutDone how files files' name old new s text → IsOfCut s
+cut_status how files files' name old new s text d = answered_status how files name s text (cut_so how files files' name old new s text d)
+
+-- a report writes to no file
+report_never : (files : Files) (name : List ℕ) (s : Status) (text : List ℕ) → CutAnswered cutting.Report files name s text → s ≡ status.WriteFault → ⊥
+report_never files name s text (CutAnswered.unread (Unread.missing r e t)) is = let differ : status.Missing ≡ status.WriteFault = sym e ∙ is in absurd (Prim.cc)
+report_never files name s text (CutAnswered.unread (Unread.long r e t)) is = let differ : status.TooLarge ≡ status.WriteFault = sym e ∙ is in absurd (Prim.cc)
+report_never files name s text (CutAnswered.unread (Unread.failed e t)) is = let differ : status.ReadFault ≡ status.WriteFault = sym e ∙ is in absurd (Prim.cc)
+report_never files name s text (CutAnswered.refused bytes r n) is = let differ : status.SourceRefused ≡ status.WriteFault = sym n.status_is ∙ is in absurd (Prim.cc)
+report_never files name s text (CutAnswered.accepted bytes source r h c) is = let differ : status.Done ≡ status.WriteFault = sym c.status_is ∙ is in absurd (Prim.cc)
+
+pub reports_write_nothing : (files : Files) (name : List ℕ) (old new : List ShelfCall) (s : Status) (text : List ℕ) → Reports files name old new s text → s ≡ status.WriteFault → ⊥
+reports_write_nothing files name old new s text r is = report_never files name s text (report_so files name old new s text r) is
+
+-- a report leaves the files as they are
+pub with_files : (r : Result Due OutOfMemory) (how : Cutting) (files files' : Files) (name : List ℕ) (old new : List ShelfCall) → how ≡ cutting.Report → files' ≡ files
+    → IfOk r (λ due. Reports files name old new due.status due.text.items) → IfOk r (λ due. CutDone how files files' name old new due.status due.text.items)
+with_files (Ok due) how files files' name old new is kept h = subst (λ (k : Cutting). CutDone k files files' name old new due.status due.text.items) (sym is) (kept, h)
+with_files (Err e) how files files' name old new is kept h = tt
