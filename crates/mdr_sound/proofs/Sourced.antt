@@ -92,6 +92,7 @@ module _ (program : Program) (uses : UseRule) (items : List Item) (right : typed
   named = structs_are_named (body_rule profile_rules) uses items program (words_of items proper) right
 
   numbered_in : (p : Program) (xs : List Piece) → p ≡ program_of xs → AreNamed p.structs → HasFormedPointers p → length p.types ≤ 4294967296 → (t : Ty) → Occurs p t → IsObjectSort (sort_of (length p.structs) t) → HasNumber p t
+  unfolding made
   numbered_in p xs is = subst (λ (p : Program). AreNamed p.structs → HasFormedPointers p → length p.types ≤ 4294967296 → (t : Ty) → Occurs p t → IsObjectSort (sort_of (length p.structs) t) → HasNumber p t) (sym is) (of_pieces xs)
     where
       of_pieces : (xs : List Piece) → AreNamed (program_of xs).structs → HasFormedPointers (program_of xs) → length (program_of xs).types ≤ 4294967296 → (t : Ty) → Occurs (program_of xs) t → IsObjectSort (sort_of (length (program_of xs).structs) t) → HasNumber (program_of xs) t

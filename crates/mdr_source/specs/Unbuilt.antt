@@ -1,4 +1,4 @@
--- The forms of sources that aren't built yet: `?:`, `switch`, `do`, and calls, `++` and `--` as parts of expressions (C99 6.5.15, 6.8.4.2, 6.8.5.2, 6.5.2.2, 6.5.2.4, 6.5.3.1).
+-- The forms of sources that aren't built yet: `?:`, `switch`, `do`, `++`, `--`, and calls as parts of expressions (C99 6.5.15, 6.8.4.2, 6.8.5.2, 6.5.2.2, 6.5.2.4, 6.5.3.1).
 use Rattle.std.specs.Prelude.{ℕ, ◌||◌, Bool, true, false, List, [], ◌∷◌, Option, Some, None, codes}
 use Rattle.std.specs.Str.{bytes_eq}
 use Rattle.mdr_core.specs.Layout.{chosen}
@@ -37,7 +37,7 @@ abbrev pub perhaps_part_waits : Option Written → Bool
 perhaps_part_waits None = false
 perhaps_part_waits (Some w) = part_waits w
 
--- what stands alone as an initialiser, behind `=` or behind `return`: a call is built there
+-- what stands alone as an initialiser, behind `=`, behind `return` or as a statement: a call is built there
 abbrev pub whole_waits : Written → Bool
 whole_waits (Written.Call p f args) = part_waits f || any_part_waits args
 whole_waits w = part_waits w
@@ -50,13 +50,6 @@ perhaps_whole_waits (Some w) = whole_waits w
 abbrev pub right_waits : (operator : List ℕ) → Written → Bool
 right_waits op w = chosen (bytes_eq op (codes "=")) (whole_waits w) (part_waits w)
 
--- what stands alone as a statement: calls, `++` and `--` are built there
-abbrev pub plain_waits : Written → Bool
-plain_waits (Written.Call p f args) = part_waits f || any_part_waits args
-plain_waits (Written.Prefix p op a) = part_waits a
-plain_waits (Written.Post p op a) = part_waits a
-plain_waits w = part_waits w
-
 -- ---- statements
 
 abbrev mutual
@@ -65,7 +58,7 @@ abbrev mutual
   line_waits (Line.Block p ls) = lines_wait ls
   line_waits (Line.Local p d init) = perhaps_whole_waits init
   line_waits (Line.Assign p at op a b) = part_waits a || right_waits op b
-  line_waits (Line.Plain p w) = plain_waits w
+  line_waits (Line.Plain p w) = whole_waits w
   line_waits (Line.If p e one other) = part_waits e || (line_waits one || lines_wait other)
   line_waits (Line.While p e body) = part_waits e || line_waits body
   line_waits (Line.For p init test step body) = lines_wait init || (perhaps_part_waits test || (lines_wait step || line_waits body))

@@ -4,7 +4,7 @@ ghost use Rattle.std.specs.Prelude.{◌≡◌, ◌||◌, map};
 ghost use Rattle.std.specs.Option.{option_map};
 ghost use Rattle.mdr_operand.specs.Written.{written_of, written_what, written_list, line_of, lines_of, perhaps};
 ghost use Rattle.mdr_body.specs.Mentions.{line_what};
-ghost use Rattle.mdr_source.specs.Unbuilt.{is_step, part_waits, any_part_waits, perhaps_part_waits, whole_waits, perhaps_whole_waits, right_waits, plain_waits, line_waits, lines_wait, item_waits, waits};
+ghost use Rattle.mdr_source.specs.Unbuilt.{is_step, part_waits, any_part_waits, perhaps_part_waits, whole_waits, perhaps_whole_waits, right_waits, line_waits, lines_wait, item_waits, waits};
 
 use mdr_core::{Boxed, Place};
 use mdr_syntax::{Form, FormWhat, Item, ItemWhat, Node, NodeWhat};
@@ -74,7 +74,7 @@ fn call_waits(f: &Form, args: &[Form]) -> bool
     part_waits(f) || any_part_waits(args)
 }
 
-/// What stands alone on a right side, if `part` is what is to be said of it as a part.
+/// What stands alone on a right side or as a statement, if `part` is what is to be said of it as a part.
 fn whole_waits_at(place: Place, what: &FormWhat, part: bool) -> bool
     ensures { part ≡ part_waits (written_what what.now place) → result ≡ whole_waits (written_what what.now place) }
 {
@@ -121,33 +121,6 @@ fn right_waits(operator: &[u8], form: &Form) -> bool
     }
 }
 
-/// What stands alone as a statement, if `part` is what is to be said of it as a part.
-fn plain_waits_at(place: Place, what: &FormWhat, part: bool) -> bool
-    ensures { part ≡ part_waits (written_what what.now place) → result ≡ plain_waits (written_what what.now place) }
-{
-    match what {
-        FormWhat::Call(f, args) => call_waits(f.get(), args.as_slice()),
-        FormWhat::Prefix(_, a) => part_waits(a.get()),
-        FormWhat::Post(_, a) => part_waits(a.get()),
-        FormWhat::Number(_, _) => part,
-        FormWhat::Null => part,
-        FormWhat::Name(_) => part,
-        FormWhat::Cast(_, _, _) => part,
-        FormWhat::Binary(_, _, _) => part,
-        FormWhat::Choice(_, _, _) => part,
-        FormWhat::Subscript(_, _) => part,
-        FormWhat::Member(_, _, _, _) => part,
-        FormWhat::Text(_) => part,
-        FormWhat::Base(_, _) => part,
-    }
-}
-
-fn plain_waits(form: &Form) -> bool
-    ensures { result ≡ plain_waits (written_of form.now) }
-{
-    plain_waits_at(form.place, &form.what, part_waits(form))
-}
-
 // ---- statements
 
 /// Whether a form that isn't built stands in a statement.
@@ -169,7 +142,7 @@ fn line_waits_at(place: Place, what: &NodeWhat) -> bool
         NodeWhat::Assign(_, operator, a, b) => {
             part_waits(a) || right_waits(operator.as_slice(), b)
         }
-        NodeWhat::Plain(form) => plain_waits(form),
+        NodeWhat::Plain(form) => whole_waits(form),
         NodeWhat::If(e, one, other) => {
             part_waits(e) || line_waits(one.get()) || perhaps_line_waits(other)
         }
