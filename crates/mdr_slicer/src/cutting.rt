@@ -4,7 +4,7 @@ ghost use Rattle.std.specs.Prelude.{◌≡◌, IfOk, OnErr};
 ghost use Rattle.mdr_outside.specs.Count.{Rose};
 ghost use Rattle.mdr_due.specs.Statuses.{HasReadCause};
 ghost use Rattle.mdr_due.specs.declared.status.Status.TheVariants as status;
-ghost use Rattle.mdr_slicer.specs.Slicing.{SourcesAreSound, Splits, SplitsPart};
+ghost use Rattle.mdr_slicer.specs.Slicing.{Splits, SplitsPart};
 
 use crate::outputs::{Cut, made};
 use crate::sources::source_of;
@@ -17,7 +17,6 @@ use std::alloc::Global;
 /// Reads a source, and writes the texts of its halves and of its plan to files that are named after it. All of them are
 /// made before the first is written.
 pub fn split<S: Shelf>(alloc: Global, shelf: &mut S, name: &str) -> Result<Due, OutOfMemory>
-    requires { SourcesAreSound }
     ensures done { IfOk result (λ due. Splits (S.files shelf.old) (S.files shelf.new) name.now (S.calls shelf.old) (S.calls shelf.new) due.status due.text.items) }
     ensures part { OnErr result (SplitsPart (S.files shelf.old) (S.files shelf.new) name.now (S.calls shelf.old) (S.calls shelf.new)) }
     ensures read { IfOk result (λ due. HasReadCause (record { faults = S.faults shelf.old; absent = S.absent shelf.old; long = S.long shelf.old }) (record { faults = S.faults shelf.new; absent = S.absent shelf.new; long = S.long shelf.new }) due.status) }

@@ -4,7 +4,7 @@ ghost use Rattle.std.specs.Prelude.{◌≡◌, IfOk, OnErr};
 ghost use Rattle.mdr_core.specs.Sound.{IsSound};
 ghost use Rattle.mdr_due.specs.Reads.{WasRead, longest_source};
 ghost use Rattle.mdr_due.specs.Statuses.{HasReadCause};
-ghost use Rattle.mdr_slicer.specs.Slicing.{SourcesAreSound, Reports, IsReported};
+ghost use Rattle.mdr_slicer.specs.Slicing.{Reports, IsReported};
 
 use crate::sources::source_of;
 use mdr_core::{OutOfMemory, Program};
@@ -26,7 +26,6 @@ fn reported(alloc: Global, program: &Program) -> Result<Due, OutOfMemory>
 
 /// Reads a source, and tells which functions each of its functions may call, and its plan.
 pub fn report<S: Shelf>(alloc: Global, shelf: &mut S, name: &str) -> Result<Due, OutOfMemory>
-    requires { SourcesAreSound }
     ensures done { IfOk result (λ due. Reports (S.files shelf.old) name.now (S.calls shelf.old) (S.calls shelf.new) due.status due.text.items) }
     ensures part { OnErr result (WasRead (S.files shelf.old) name.now longest_source (S.calls shelf.old) (S.calls shelf.new)) }
     ensures kept { S.files shelf.new ≡ S.files shelf.old }

@@ -3,7 +3,7 @@
 ghost use Rattle.std.specs.Prelude.{◌≡◌, IfOk, OnErr};
 ghost use Rattle.mdr_due.specs.Reads.{WasRead, longest_source};
 ghost use Rattle.mdr_due.specs.Stages.{StageIs, HasStageCause};
-ghost use Rattle.mdr_slicer.specs.Slicing.{SourcesAreSound, HasSource, NoSource, IsSourceOf, NoSourceOf};
+ghost use Rattle.mdr_slicer.specs.Slicing.{HasSource, NoSource, IsSourceOf, NoSourceOf};
 
 use mdr_core::OutOfMemory;
 use mdr_due::{Due, Stage, Status, file};
@@ -16,7 +16,6 @@ const LONGEST_SOURCE: u64 = 1_048_576;
 
 /// The tree and the program of a source's bytes, or what is due where it is refused.
 fn compiled(alloc: Global, bytes: &[u8]) -> Result<Stage<Source>, OutOfMemory>
-    requires { SourcesAreSound }
     ensures { IfOk result (StageIs (HasSource bytes.now) (NoSource bytes.now)) }
 {
     match source(alloc, bytes)? {
@@ -34,7 +33,6 @@ pub(crate) fn source_of<S: Shelf>(
     shelf: &mut S,
     name: &str,
 ) -> Result<Stage<Source>, OutOfMemory>
-    requires { SourcesAreSound }
     ensures read { IfOk result (StageIs (IsSourceOf (S.files shelf.old) name.now (S.calls shelf.old) (S.calls shelf.new)) (NoSourceOf (S.files shelf.old) name.now (S.calls shelf.old) (S.calls shelf.new))) }
     ensures part { OnErr result (WasRead (S.files shelf.old) name.now longest_source (S.calls shelf.old) (S.calls shelf.new)) }
     ensures kept { S.files shelf.new ≡ S.files shelf.old }

@@ -210,12 +210,14 @@ module _ (program : Program) (rules : Rules) (items : List Item) (xs : List Piec
   }
 
   formed_goes_on : GoesOn (body_rule rules) items Whole Last.functions AreFormedParts
-  formed_goes_on = record { behind = λ before known i x ps place q.
-      formed_behind before known ps i.what x (comes_to (body_rule rules) items before known i.place i.what x place.one)
-      place.declared
-      (names_structs program (body_rule rules) items xs right made known.scope (place.at).tags)
-      ((standing_goes_on program (body_rule rules) items xs right made ranges).behind before known i x ps place q.rests)
-      q }
+  formed_goes_on = record {
+    behind = λ before known i x ps place q.
+        formed_behind before known ps i.what x (comes_to (body_rule rules) items before known i.place i.what x place.one)
+        place.declared
+        (names_structs program (body_rule rules) items xs right made known.scope (place.at).tags)
+        ((standing_goes_on program (body_rule rules) items xs right made ranges).behind before known i x ps place q.rests)
+        q;
+  }
 
   all_formed : AreFormedParts Last Whole
   all_formed = along (body_rule rules) items xs AreFormedParts right formed_goes_on (record { rests = first_standing program (body_rule rules) items xs right made ranges; globals = λ g v e. absurd cc; funcs = λ i f e. absurd cc })

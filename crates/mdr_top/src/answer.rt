@@ -4,7 +4,6 @@ ghost use Rattle.std.specs.Prelude.{◌≡◌, ℕ, IfOk, List, OnErr, Some, map
 ghost use Rattle.mdr_outside.specs.Count.{Rose};
 ghost use Rattle.mdr_due.specs.declared.status.Status.TheVariants as status;
 ghost use Rattle.mdr_due.specs.Statuses.{HasReadCause};
-ghost use Rattle.mdr_slicer.specs.Slicing.{SourcesAreSound};
 ghost use Rattle.mdr_top.specs.Words.{Run, command_of};
 ghost use Rattle.mdr_top.specs.Cuts.{WroteCause};
 ghost use Rattle.mdr_top.specs.Done.{Done, DonePart};
@@ -65,7 +64,6 @@ pub(crate) fn answered<S: Shelf, F: Far>(
     shelf: &mut S,
     far: &mut F,
 ) -> Result<Due, OutOfMemory>
-    requires { SourcesAreSound }
     ensures done { IfOk result (λ due. Done (map string_bytes words.now) (S.files shelf.old) (S.files shelf.new) (S.calls shelf.old) (S.calls shelf.new) (F.calls far.old) (F.calls far.new) (F.loaded far.new) (F.exchanges far.new) due.status due.text.items) }
     ensures part { OnErr result (DonePart (map string_bytes words.now) (S.files shelf.old) (S.files shelf.new) (S.calls shelf.old) (S.calls shelf.new) (F.calls far.old) (F.calls far.new) (F.loaded far.new) (F.exchanges far.new)) }
     ensures read { IfOk result (λ due. HasReadCause (record { faults = S.faults shelf.old; absent = S.absent shelf.old; long = S.long shelf.old }) (record { faults = S.faults shelf.new; absent = S.absent shelf.new; long = S.long shelf.new }) due.status) }

@@ -3,7 +3,6 @@
 ghost use Rattle.std.specs.Prelude.{◌≡◌, IfOk, OnErr};
 ghost use Rattle.mdr_due.specs.Statuses.{HasReadCause};
 ghost use Rattle.mdr_due.specs.declared.status.Status.TheVariants as status;
-ghost use Rattle.mdr_slicer.specs.Slicing.{SourcesAreSound};
 ghost use Rattle.mdr_top.specs.Cuts.{CutDone, CutPart, CutCause, IsOfCut};
 
 use crate::words::Cutting;
@@ -20,7 +19,6 @@ pub(crate) fn cut<S: Shelf>(
     shelf: &mut S,
     name: &str,
 ) -> Result<Due, OutOfMemory>
-    requires { SourcesAreSound }
     ensures done { IfOk result (λ due. CutDone how (S.files shelf.old) (S.files shelf.new) name.now (S.calls shelf.old) (S.calls shelf.new) due.status due.text.items) }
     ensures part { OnErr result (CutPart how (S.files shelf.old) (S.files shelf.new) name.now (S.calls shelf.old) (S.calls shelf.new)) }
     ensures read { IfOk result (λ due. HasReadCause (record { faults = S.faults shelf.old; absent = S.absent shelf.old; long = S.long shelf.old }) (record { faults = S.faults shelf.new; absent = S.absent shelf.new; long = S.long shelf.new }) due.status) }

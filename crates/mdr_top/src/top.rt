@@ -9,7 +9,6 @@ ghost use Rattle.mdr_due.specs.Statuses.{HasReadCause};
 ghost use Rattle.mdr_user.specs.Honest.{IsHonest};
 ghost use Rattle.mdr_top.specs.Answers.{Prints, AddsPart};
 ghost use Rattle.mdr_top.specs.Done.{Does};
-ghost use Rattle.mdr_slicer.specs.Slicing.{SourcesAreSound};
 ghost use Rattle.mdr_top.specs.Cuts.{WriteCause};
 ghost use Rattle.mdr_top.specs.Headline.{Rests, Means, Completes};
 ghost use Rattle.mdr_top.specs.Comes.{Comes, IsExact, CutCompletes};
@@ -53,7 +52,6 @@ fn printed<S: Shelf, O: Sink, F: Far>(
     out: &mut O,
     far: &mut F,
 ) -> Status
-    requires { SourcesAreSound }
     ensures does { Does (map string_bytes words.now.items) (S.files shelf.old) (S.files shelf.new) (S.calls shelf.old) (S.calls shelf.new) (F.calls far.old) (F.calls far.new) (F.loaded far.new) (F.exchanges far.new) (O.written out.old) (O.written out.new) result }
     ensures read_cause { HasReadCause (record { faults = S.faults shelf.old; absent = S.absent shelf.old; long = S.long shelf.old }) (record { faults = S.faults shelf.new; absent = S.absent shelf.new; long = S.long shelf.new }) result }
     ensures far_cause { result ≡ status.FarFault → Rose (F.faults far.old) (F.faults far.new) }
