@@ -1,6 +1,7 @@
 // Runs of the top call over files and output in memory.
 
 mod answers;
+mod cuts;
 mod drivers;
 mod files;
 mod grammar;

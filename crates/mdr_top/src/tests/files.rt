@@ -14,7 +14,8 @@ fn other_words_print_the_usage(rt: HostRuntime) -> Result<(), Fail> {
     for words in [
         no_words,
         &["run"],
-        &["split", "bump.c"],
+        &["split"],
+        &["report", "bump.c", "open.script"],
         &["run", "split", "bump.c"],
         &["run", "whole", "bump.c", "open.script"],
         &["run", "split", "bump.c", "open.script", "--wire"],
