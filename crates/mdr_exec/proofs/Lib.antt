@@ -19,3 +19,6 @@ pub mod BeginningLaws
 pub mod StoringLaws
 pub mod NextLaws
 pub mod WentLaws
+mod DoneLaws
+mod DeclaringLaws
+mod TextLaws
