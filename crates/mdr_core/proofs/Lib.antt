@@ -6,6 +6,5 @@ pub mod Operators
 pub mod Ranges
 pub mod Residues
 pub mod Viewed
-pub mod Begun
 pub mod WorkedProofs
 pub mod WorkedSound

@@ -28,10 +28,10 @@ some_same e = cc
 
 -- ---- where fields begin and end
 
-pub looks_at : (structs : List StructDef) (s f : ℕ) (x : Field) → slice_get (fields_of structs s) f ≡ Some x → Looks structs s f x (length (leaves (leaves_below structs s) Alone x.ty))
+looks_at : (structs : List StructDef) (s f : ℕ) (x : Field) → slice_get (fields_of structs s) f ≡ Some x → Looks structs s f x (length (leaves (leaves_below structs s) Alone x.ty))
 looks_at structs s f x e = looks structs s (fields_of structs s) f x (length (leaves (leaves_below structs s) Alone x.ty)) refl (slice_get_within (fields_of structs s) f x e) (sym (get_or_from_slice_get (fields_of structs s) f x x e)) refl
 
-pub start_next : (structs : List StructDef) (s f : ℕ) (x : Field) (size : ℕ) → Looks structs s f x size → field_start structs s (f + 1) ≡ field_start structs s f + x.count * size
+start_next : (structs : List StructDef) (s f : ℕ) (x : Field) (size : ℕ) → Looks structs s f x size → field_start structs s (f + 1) ≡ field_start structs s f + x.count * size
 start_next structs s f x size l =
     let here = start_and_rest structs s f in
     let next = start_and_rest structs s (f + 1) in

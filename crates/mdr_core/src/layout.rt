@@ -2,7 +2,7 @@
 
 ghost use Rattle.std.specs.Prelude.{◌≡◌, ◌<◌, ℕ, length, IsSomeAnd, slice_get, Option, Some};
 ghost use Rattle.std.specs.Option.{option_map};
-ghost use Rattle.mdr_core.specs.Layout.{AreSmall, AreFew, field_start, fields_of, leaves, leaves_below, struct_cells, struct_of, Alone, Within, cells_at, key_at, key_by, zero_at, zero_value};
+ghost use Rattle.mdr_core.specs.Layout.{AreSmall, AreFew, fields_of, leaves, leaves_below, struct_cells, struct_of, Alone, Within, cells_at, key_at, key_by, zero_at, zero_value};
 ghost use Rattle.mdr_core.specs.Fields.{IsInField};
 ghost use Rattle.mdr_core.specs.Sound.{IsSound};
 
@@ -53,25 +53,6 @@ fn size_below(structs: &[StructDef], below: u32, ty: &Ty) -> u32
         Ty::Void => 0,
         Ty::Int(_) | Ty::Lock | Ty::Ptr(_) | Ty::VoidPtr | Ty::Fun(_) => 1,
     }
-}
-
-/// How many cells of a struct lie before a field: all of them where it has no field of that number. The time is that of
-/// `cells_of` for each field before it.
-pub fn field_start(structs: &[StructDef], s: u32, f: u32) -> u32
-    requires small { AreSmall structs.now }
-    requires few { AreFew structs.now }
-    ensures { result ≡ field_start structs.now s f }
-{
-    let mut total = 0;
-    let mut number = 0;
-    for field in fields(structs, s) {
-        if number == f {
-            return total;
-        }
-        total += field.count * size_below(structs, s, &field.ty);
-        number += 1;
-    }
-    total
 }
 
 /// A field, by its number, and a cell of it, counted from its first one.

@@ -25,7 +25,7 @@ pub use boxed::Boxed;
 pub use code::{BinOp, CallForm, Callee, Expr, Lval, RelOp, Step, Stmt};
 pub use items::{Items, Name};
 pub use kind::Kind;
-pub use layout::{cells_of, field_start, fields, key_of, struct_named, zero_of};
+pub use layout::{cells_of, key_of, zero_of};
 pub use memory_error::OutOfMemory;
 pub use place::{At, Place};
 pub use plan::{Half, Key, Plan};

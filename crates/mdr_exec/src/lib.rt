@@ -22,6 +22,7 @@ mod event;
 mod frame;
 mod halt;
 mod laws;
+mod layout;
 mod leave;
 mod members;
 mod memory;

@@ -11,10 +11,9 @@ ghost use Rattle.mdr_exec.specs.Evaluation.{after_value};
 ghost use Rattle.mdr_exec.specs.Outcomes.{wired};
 
 use crate::halt::Halt;
+use crate::layout::{field_start, fields, struct_named};
 use crate::pointers::{cell_fits, number_fits, number_in, position};
-use mdr_core::{
-    Block, Field, Program, StopKind, StructDef, Value, View, field_start, fields, struct_named,
-};
+use mdr_core::{Block, Field, Program, StopKind, StructDef, Value, View};
 
 /// A pointer to the first of all elements of a field that begins at a cell.
 fn pointer_to(block: Block, first: u32, ty: u32, count: u32) -> Value

@@ -1,8 +1,8 @@
 -- The proof of `field_start`.
 use Rattle.std.proofs.Common.{arith}
 use Rattle.mdr_core.proofs.Lying.{looks, looks-few}
-use Rattle.mdr_core.proofs.Begun.{begun_first, begun_small, begun_few, begun_more, begun_here, begun_all}
-use Rattle.mdr_core.proofs.layout.field_start.Goals as goal
+use Rattle.mdr_exec.proofs.Begun.{begun_first, begun_small, begun_few, begun_more, begun_here, begun_all}
+use Rattle.mdr_exec.proofs.layout.field_start.Goals as goal
 
 pub overflow_mul-total : goal.overflow_mul-total
 overflow_mul-total c =

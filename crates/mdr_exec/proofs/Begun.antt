@@ -1,10 +1,20 @@
 -- Where a field begins, counted field by field.
-use Rattle.std.proofs.Common.{◌≡◌, ℕ, ◌+◌, ◌*◌, ◌<◌, ◌≤◌, List, length, get_or, drop, refl, sym, ap, ◌∙◌, arith}
+use Rattle.std.proofs.Common.{◌≡◌, ℕ, ◌+◌, ◌*◌, ◌<◌, ◌≤◌, List, length, drop, refl, sym, ap, ◌∙◌, arith}
+use Rattle.std.proofs.lemmas.List.{length-append}
 use Rattle.mdr_core.specs.declared.program.Field.{Field}
 use Rattle.mdr_core.specs.declared.program.StructDef.{StructDef}
-use Rattle.mdr_core.specs.Layout.{AreFew, AreSmall, Alone, field_leaves, field_start, fields_of, leaves, leaves_below, struct_cells}
-use Rattle.mdr_core.proofs.Lying.{Looks, looks, start_and_rest, fields_over}
-use Rattle.mdr_core.proofs.Viewed.{start_next}
+use Rattle.mdr_core.specs.Layout.{AreFew, AreSmall, Home, field_leaves, field_start, fields_of, leaves, leaves_below, repeated}
+use Rattle.mdr_core.proofs.Lying.{Looks, start_and_rest, fields_over}
+
+-- a field ends where the next one begins
+start_next : (structs : List StructDef) (s f : ℕ) (x : Field) (size : ℕ) → Looks structs s f x size → field_start structs s (f + 1) ≡ field_start structs s f + x.count * size
+start_next structs s f x size l =
+    let here = start_and_rest structs s f in
+    let next = start_and_rest structs s (f + 1) in
+    let own = repeated x.count (leaves (leaves_below structs s) (Home.Within s f) x.ty) in
+    let parts : length (field_leaves (leaves_below structs s) s f (drop f (fields_of structs s))) ≡ length own + length (field_leaves (leaves_below structs s) s (f + 1) (drop (f + 1) (fields_of structs s))) = ap length l.all ∙ length-append own (field_leaves (leaves_below structs s) s (f + 1) (drop (f + 1) (fields_of structs s))) in
+    let size_is = l.size_is in
+    omega arith
 
 -- so many cells lie before field i, which isn't behind field f
 pub record Begun (structs : List StructDef) (s f i number total : ℕ) : Type 0 where
