@@ -19,3 +19,7 @@ pub mod BeginningLaws
 pub mod StoringLaws
 pub mod NextLaws
 pub mod WentLaws
+mod Begun
+mod DoneLaws
+mod DeclaringLaws
+mod TextLaws

@@ -21,6 +21,13 @@ abbrev pub after_value : {A B : Type 0} → Result A StopKind → (A → Result 
 after_value (Ok x) go = go x
 after_value (Err kind) go = Err kind
 
+-- `&&` and `||`, in which the right operand counts where the left one doesn't decide (6.5.13, 6.5.14)
+abbrev pub and_of : (left right : Result Wire StopKind) → Result Wire StopKind
+and_of left right = after_value left (λ v. after_value (chosen (is_true v) right (Ok (truth false))) (λ w. Ok (truth (is_true w))))
+
+abbrev pub or_of : (left right : Result Wire StopKind) → Result Wire StopKind
+or_of left right = after_value left (λ v. after_value (chosen (is_true v) (Ok (truth true)) right) (λ w. Ok (truth (is_true w))))
+
 module _ {M : Type 0} (a : Accesses M) (m : M) where
   -- what a slot holds is read (6.2.4, paragraph 2)
   abbrev pub fresh_of : Wire → Result Wire StopKind
@@ -46,8 +53,8 @@ module _ {M : Type 0} (a : Accesses M) (m : M) where
       value_of (Term.Bin op kind x y) =
           after_value (value_of x) (λ v. after_value (value_of y) (λ w. at_kind kind (operated op kind (integer v) (integer w))))
       value_of (Term.Rel op x y) = after_value (value_of x) (λ v. after_value (value_of y) (λ w. related known.program op v w))
-      value_of (Term.And x y) = after_value (value_of x) (λ v. after_value (chosen (is_true v) (value_of y) (Ok (truth false))) (λ w. Ok (truth (is_true w))))
-      value_of (Term.Or x y) = after_value (value_of x) (λ v. after_value (chosen (is_true v) (Ok (truth true)) (value_of y)) (λ w. Ok (truth (is_true w))))
+      value_of (Term.And x y) = and_of (value_of x) (value_of y)
+      value_of (Term.Or x y) = or_of (value_of x) (value_of y)
       value_of (Term.Conv kind e) = after_value (value_of e) (λ x. Ok (wire.Int kind (converted kind (integer x))))
       value_of (Term.ToVoid e) = value_of e
       value_of (Term.FromVoid ty e) = after_value (value_of e) (λ x. cast known ty x)

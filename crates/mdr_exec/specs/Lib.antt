@@ -16,3 +16,5 @@ pub mod Closing
 pub mod Beginning
 pub mod Storing
 pub mod Went
+pub mod Events
+pub mod Declaring

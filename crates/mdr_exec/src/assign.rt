@@ -26,7 +26,7 @@ use crate::memory::Memory;
 use mdr_core::{Expr, Items, Lval, Program, StopKind, Value};
 
 /// A value is stored where a pointer says, if it was found.
-fn stored<C: Memory>(
+pub(crate) fn stored<C: Memory>(
     memory: &mut C,
     place: Result<Value, StopKind>,
     value: Value,

@@ -10,8 +10,11 @@ ghost use Rattle.mdr_exec.specs.Holding.{wires_of};
 ghost use Rattle.mdr_exec.specs.Outcomes.{wired};
 
 use crate::halt::Halt;
+use crate::members::member;
 use crate::memory::Memory;
-use crate::operators::{both, combined, converted, either, flipped, inverted, negated};
+use crate::operators::{
+    as_truth, both_by, combined, converted, either_by, flipped, inverted, negated,
+};
 use crate::pointers::{cast, difference, global, moved, related};
 use crate::values::slot_at;
 use mdr_core::{Expr, Lval, Program, StopKind, Value};
@@ -55,7 +58,7 @@ fn loaded_by<C: Memory>(
     }
 }
 
-/// The value of an expression, or the first stop from left to right. Members of structs aren't built.
+/// The value of an expression, or the first stop from left to right.
 #[cycle(evaluate)]
 #[tactic(auto, unfolding(crate::specs::Evaluation::value_of))]
 pub(crate) fn evaluated<C: Memory>(
@@ -108,13 +111,23 @@ pub(crate) fn evaluated<C: Memory>(
         }
         Expr::And(x, y) => {
             let left = evaluated(program, memory, slots, x.get())?;
-            let right = evaluated(program, memory, slots, y.get())?;
-            Ok(both(left, right))
+            match both_by(left) {
+                Some(result) => Ok(result),
+                None => {
+                    let right = evaluated(program, memory, slots, y.get())?;
+                    Ok(as_truth(right))
+                }
+            }
         }
         Expr::Or(x, y) => {
             let left = evaluated(program, memory, slots, x.get())?;
-            let right = evaluated(program, memory, slots, y.get())?;
-            Ok(either(left, right))
+            match either_by(left) {
+                Some(result) => Ok(result),
+                None => {
+                    let right = evaluated(program, memory, slots, y.get())?;
+                    Ok(as_truth(right))
+                }
+            }
         }
         Expr::Conv(kind, e) => {
             let x = evaluated(program, memory, slots, e.get())?;
@@ -164,7 +177,11 @@ pub(crate) fn located<C: Memory>(
             let pointer = evaluated(program, memory, slots, e.get())?;
             Ok(pointer)
         }
-        Lval::Member(_, _) => Err(Halt::Unfit),
+        Lval::Member(p, f) => {
+            let pointer = located(program, memory, slots, p.get())?;
+            let result = member(program, pointer, *f)?;
+            Ok(result)
+        }
         Lval::Index(p, e) => {
             let pointer = located(program, memory, slots, p.get())?;
             let count = evaluated(program, memory, slots, e.get())?;

@@ -8,30 +8,37 @@
 //!
 //! Of the `Machine` there are `new`, `start`, `resume` and `active`, with contracts about the tree of the work that it
 //! holds, the search for the code at a place, and the way into a list of a statement. Its steps are functions with
-//! contracts by those laws, over any `Memory`: expressions and lvalues are evaluated (members of structs are not), `if`,
-//! loops, assignments, `return`, jumps and blocks begin, lists of statements and functions are left, and objects are born and die. Not there yet:
-//! declarations, texts, calls, and `go`, which runs the machine.
+//! contracts by those laws, over any `Memory`: expressions and lvalues are evaluated, `if`, loops, declarations, texts,
+//! assignments, `return`, jumps and blocks begin, lists of statements and functions are left, and objects are born and
+//! die. Not there yet: calls, where their values go, the objects of parameters, and `go`, which runs the machine.
 #![tactic(auto)]
 
 mod assign;
 mod begin;
 mod close;
+mod declare;
 mod evaluate;
+mod event;
 mod frame;
 mod halt;
 mod laws;
+mod layout;
 mod leave;
+mod members;
 mod memory;
 mod next;
 mod operators;
 mod places;
 mod pointers;
 mod run;
+mod slots;
 mod start;
 mod step;
+mod text;
 mod unwind;
 mod values;
 
+pub use event::{Asked, Crossing, Event};
 pub use frame::{Flow, Frame, Front, Machine, Side, Suspended, Until};
 pub use halt::Halt;
 pub use laws::{

@@ -1,11 +1,13 @@
 // The memory that code runs on.
 
-use mdr_core::{StopKind, Value};
+use mdr_core::{Items, StopKind, Value};
+use mdr_meaning::Shape64;
+use std::alloc::{AllocError, Global};
 
 /// A memory, as code sees it. `accesses` is what is done to it, and what that comes to. A pointer's slot is where its
 /// block was seen last: it makes an access fast, and an access with any other slot comes to the same.
 pub trait Memory {
-    ghost use Rattle.std.specs.Prelude.{◌≡◌, OnErr};
+    ghost use Rattle.std.specs.Prelude.{◌≡◌, IfOk, OnErr, OnOk};
     ghost use Rattle.mdr_meaning.specs.Values.{wire_of};
     ghost use Rattle.mdr_meaning.specs.Walk.{Accesses};
     ghost use Rattle.mdr_exec.specs.Holding.{wires_of};
@@ -25,6 +27,11 @@ pub trait Memory {
     fn store(&mut self, pointer: Value, value: Value) -> Result<(), StopKind>
         ensures made { accesses.store self.old (wire_of pointer) (wire_of value) ≡ when_made result self.new }
         ensures kept { OnErr result (self.new ≡ self.old) };
+
+    /// Objects are born, with a pointer to each. Where memory is wanting, nothing is promised of this one.
+    fn birth(&mut self, alloc: Global, shapes: &[Shape64]) -> Result<Items<Value>, AllocError>
+        ensures pointers { IfOk result (λ ps. wires_of ps ≡ (accesses.birth self.old shapes.now).pointers) }
+        ensures memory { OnOk result (self.new ≡ (accesses.birth self.old shapes.now).memory) };
 
     /// Ends the objects that these pointers name.
     fn death(&mut self, pointers: &[Value])

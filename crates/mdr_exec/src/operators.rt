@@ -1,12 +1,13 @@
 // Operators on values in hand, or on the stops that these came to.
 
-ghost use Rattle.std.specs.Prelude.{◌≡◌, IfOk, Ok, not, true, false};
+ghost use Rattle.std.specs.Prelude.{◌≡◌, IfOk, MatchOption, Ok, Result, not};
 ghost use Rattle.mdr_core.specs.Conversions.{converted};
-ghost use Rattle.mdr_core.specs.Layout.{chosen};
 ghost use Rattle.mdr_core.specs.Operators.{flipped, is_right_operand, negated, operated};
+ghost use Rattle.mdr_core.specs.declared.stop.StopKind.{StopKind};
+ghost use Rattle.mdr_meaning.specs.declared.wire.Wire.{Wire};
 ghost use Rattle.mdr_meaning.specs.declared.wire.Wire.TheVariants as wire;
 ghost use Rattle.mdr_meaning.specs.Values.{at_kind, integer, is_true, truth, wire_of};
-ghost use Rattle.mdr_exec.specs.Evaluation.{after_value};
+ghost use Rattle.mdr_exec.specs.Evaluation.{after_value, and_of, or_of};
 ghost use Rattle.mdr_exec.specs.Outcomes.{wired};
 
 use crate::halt::Halt;
@@ -146,7 +147,7 @@ pub(crate) fn combined(
 }
 
 /// 1 or 0, as an operand is.
-fn as_truth(operand: Result<Value, StopKind>) -> Result<Value, StopKind>
+pub(crate) fn as_truth(operand: Result<Value, StopKind>) -> Result<Value, StopKind>
     ensures { wired result ≡ after_value (wired operand) (λ w. Ok (truth (is_true w))) }
 {
     match operand {
@@ -155,40 +156,36 @@ fn as_truth(operand: Result<Value, StopKind>) -> Result<Value, StopKind>
     }
 }
 
-/// `&&`, in which the right operand counts where the left one holds.
-pub(crate) fn both(
-    left: Result<Value, StopKind>,
-    right: Result<Value, StopKind>,
-) -> Result<Value, StopKind>
-    ensures { wired result ≡ after_value (wired left) (λ v. after_value (chosen (is_true v) (wired right) (Ok (truth false))) (λ w. Ok (truth (is_true w)))) }
+/// `&&` by its left operand, where that decides or stops. Where there is none the right operand is evaluated, and
+/// its truth counts.
+pub(crate) fn both_by(left: Result<Value, StopKind>) -> Option<Result<Value, StopKind>>
+    ensures { MatchOption result ((right : Result Wire StopKind) → and_of (wired left) right ≡ after_value right (λ w. Ok (truth (is_true w)))) (λ r. (right : Result Wire StopKind) → and_of (wired left) right ≡ wired r) }
 {
     match left {
         Ok(value) => {
             if is_true(value) {
-                as_truth(right)
+                None
             } else {
-                Ok(truth(false))
+                Some(Ok(truth(false)))
             }
         }
-        Err(stop) => Err(stop),
+        Err(stop) => Some(Err(stop)),
     }
 }
 
-/// `||`, in which the right operand counts where the left one doesn't hold.
-pub(crate) fn either(
-    left: Result<Value, StopKind>,
-    right: Result<Value, StopKind>,
-) -> Result<Value, StopKind>
-    ensures { wired result ≡ after_value (wired left) (λ v. after_value (chosen (is_true v) (Ok (truth true)) (wired right)) (λ w. Ok (truth (is_true w)))) }
+/// `||` by its left operand, where that decides or stops. Where there is none the right operand is evaluated, and
+/// its truth counts.
+pub(crate) fn either_by(left: Result<Value, StopKind>) -> Option<Result<Value, StopKind>>
+    ensures { MatchOption result ((right : Result Wire StopKind) → or_of (wired left) right ≡ after_value right (λ w. Ok (truth (is_true w)))) (λ r. (right : Result Wire StopKind) → or_of (wired left) right ≡ wired r) }
 {
     match left {
         Ok(value) => {
             if is_true(value) {
-                Ok(truth(true))
+                Some(Ok(truth(true)))
             } else {
-                as_truth(right)
+                None
             }
         }
-        Err(stop) => Err(stop),
+        Err(stop) => Some(Err(stop)),
     }
 }

@@ -19,7 +19,8 @@ use mdr_core::{
 
 // ---- moved
 
-fn at_index(view: View, index: u32) -> Value
+/// A pointer to another element of what is viewed.
+pub(crate) fn at_index(view: View, index: u32) -> Value
     ensures { wire_of result ≡ wire.Ptr (at_index (wire_view view) index) }
 {
     Value::Ptr(View {
@@ -154,8 +155,9 @@ fn is_same_type(a: &Ty, b: &Ty) -> bool
     same_type(a, b)
 }
 
+/// The first place of a type in a list; behind its end where it isn't there.
 #[tactic(auto, unfolding(mdr_meaning::specs::Numbers::number_in))]
-fn number_in(types: &[Ty], ty: &Ty) -> usize
+pub(crate) fn number_in(types: &[Ty], ty: &Ty) -> usize
     ensures { result ≡ number_in types.now ty.now }
 {
     for i in 0..types.len() {
@@ -201,13 +203,23 @@ pub(crate) fn cast(
 
 // ---- globals
 
-fn number_fits(number: usize) -> Result<u32, Halt>
+pub(crate) fn number_fits(number: usize) -> Result<u32, Halt>
     ensures { IfOk result (λ n. n ≡ number) }
 {
     if number > 4294967295 {
         return Err(Halt::Unfit);
     }
     Ok(number as u32)
+}
+
+/// A cell of a block: each has a number of 32 bits.
+pub(crate) fn cell_fits(cell: u64) -> Result<u32, Halt>
+    ensures { IfOk result (λ n. n ≡ cell) }
+{
+    if cell > 4294967295 {
+        return Err(Halt::Unfit);
+    }
+    Ok(cell as u32)
 }
 
 fn global_pointer(program: &Program, slot: u32, number: u32, def: &GlobalDef) -> Result<Value, Halt>
@@ -257,7 +269,8 @@ fn size(program: &Program, ty: u32) -> u32
     }
 }
 
-fn position(program: &Program, view: View) -> u64
+/// The cell that a pointer points to.
+pub(crate) fn position(program: &Program, view: View) -> u64
     requires { IsSound program.now }
     ensures { result ≡ position (without_funcs program.now) (wire_view view) }
 {

@@ -6,7 +6,7 @@ ghost use Rattle.mdr_meaning.specs.Bodies.{body_of, started};
 ghost use Rattle.mdr_meaning.specs.Cut.{cut};
 ghost use Rattle.mdr_meaning.specs.Sides.{Body, Side as AnySide, framed};
 ghost use Rattle.mdr_meaning.specs.Tree.{Tree};
-ghost use Rattle.mdr_meaning.specs.Values.{first_of, wire_of};
+ghost use Rattle.mdr_meaning.specs.Values.{wire_of};
 ghost use Rattle.mdr_exec.specs.declared.frame.Frame.{Frame as AnyFrame};
 ghost use Rattle.mdr_exec.specs.Held.{tree};
 ghost use Rattle.mdr_exec.specs.Holding.{FitQuestion, front_in, held_of, here_of, slots_by, waits, wires_of};
@@ -15,19 +15,10 @@ ghost use Rattle.mdr_exec.specs.Steps.{child};
 
 use crate::frame::{Flow, Frame, Front, Machine, Side, Suspended, Until};
 use crate::start::slots_for;
+use crate::values::first;
 use mdr_core::{Items, Program, Value};
 use std::alloc::{AllocError, Global};
 use std::mem;
-
-/// The first result; a call that has none has no value.
-fn first(results: &[Value]) -> Value
-    ensures { wire_of result ≡ first_of (wires_of results.now) }
-{
-    match results.first() {
-        Some(value) => *value,
-        None => Value::NoValue,
-    }
-}
 
 fn filled(room: Vec<Value>, results: &[Value]) -> Items<Value>
     requires { length results.now ≡ length room.items }

@@ -12,7 +12,7 @@ use mdr_core::{Func, Items, Local, LockState, Param, Ty, Value};
 use std::alloc::{AllocError, Global};
 
 /// What a slot holds before its declaration runs.
-fn before_declared(ty: &Ty, object: bool) -> Value
+pub(crate) fn before_declared(ty: &Ty, object: bool) -> Value
     ensures { wire_of result ≡ before_declared ty.now object }
 {
     if object {

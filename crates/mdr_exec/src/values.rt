@@ -2,7 +2,7 @@
 
 ghost use Rattle.std.specs.Prelude.{◌≡◌};
 ghost use Rattle.mdr_meaning.specs.Expressions.{slot_of};
-ghost use Rattle.mdr_meaning.specs.Values.{at_kind, integer, is_true, stop_of, truth, wire_of};
+ghost use Rattle.mdr_meaning.specs.Values.{at_kind, first_of, integer, is_true, stop_of, truth, wire_of};
 ghost use Rattle.mdr_exec.specs.Holding.{wires_of};
 ghost use Rattle.mdr_exec.specs.Outcomes.{wired};
 
@@ -70,6 +70,16 @@ pub(crate) fn slot_at(slots: &[Value], i: u32) -> Value
     ensures { wire_of result ≡ slot_of (wires_of slots.now) i }
 {
     match slots.get(i as usize) {
+        Some(value) => *value,
+        None => Value::NoValue,
+    }
+}
+
+/// The first result; a call that has none has no value.
+pub(crate) fn first(results: &[Value]) -> Value
+    ensures { wire_of result ≡ first_of (wires_of results.now) }
+{
+    match results.first() {
         Some(value) => *value,
         None => Value::NoValue,
     }

@@ -1,0 +1,132 @@
+// A declared array of characters is given a text (C99 6.7.8, paragraph 14).
+
+ghost use Rattle.std.specs.Prelude.{◌≡◌, ◌<◌, ℕ, true, IfOk, Some, pos, slice_get};
+ghost use Rattle.std.specs.Option.{option_map};
+ghost use Rattle.mdr_core.specs.Code.{Code};
+ghost use Rattle.mdr_core.specs.Conversions.{converted};
+ghost use Rattle.mdr_meaning.specs.declared.wire.Wire.TheVariants as wire;
+ghost use Rattle.mdr_meaning.specs.Sides.{Locals, Side as AnySide, Ends, in_here};
+ghost use Rattle.mdr_core.specs.declared.types.Ty.{out-Ty};
+ghost use Rattle.mdr_meaning.specs.Statements.{characters, element, kind_by};
+ghost use Rattle.mdr_meaning.specs.Values.{wire_of};
+ghost use Rattle.mdr_exec.specs.Beginning.{came_of};
+ghost use Rattle.mdr_exec.specs.Declaring.{slot_as};
+ghost use Rattle.mdr_exec.specs.Effects.{did, stored, texts_of};
+ghost use Rattle.mdr_exec.specs.Holding.{block_of, held_of, is_running};
+ghost use Rattle.mdr_exec.specs.Leaving.{here_in};
+ghost use Rattle.mdr_exec.specs.Outcomes.{when_made};
+ghost use Rattle.mdr_exec.specs.Places.{code_at};
+ghost use Rattle.mdr_exec.specs.Steps.{Ticks};
+
+use crate::assign::stored;
+use crate::frame::{Flow, Machine};
+use crate::halt::Halt;
+use crate::leave::go_past;
+use crate::memory::Memory;
+use crate::pointers::{at_index, cell_fits};
+use crate::slots::{Declared, slot_in};
+use crate::values::slot_at;
+use mdr_arith::conv;
+use mdr_core::{Kind, Program, StopKind, Ty, Value};
+
+/// The kind of the characters of an array of this type.
+fn kind_by(ty: &Ty) -> Kind
+    ensures { result ≡ kind_by (out-Ty ty.now) }
+{
+    match ty {
+        Ty::Int(kind) => *kind,
+        Ty::Lock | Ty::Struct(_) | Ty::Ptr(_) | Ty::VoidPtr | Ty::Fun(_) | Ty::Void => Kind::U8,
+    }
+}
+
+/// The kind of an array's characters.
+fn characters<'a>(declared: Option<Declared<'a>>) -> Kind
+    ensures { result ≡ characters (option_map slot_as declared.entry) }
+{
+    match declared {
+        Some(declared) => kind_by(declared.ty),
+        None => Kind::U8,
+    }
+}
+
+/// Element i of an array.
+fn element(pointer: Value, i: usize) -> Result<Value, Halt>
+    ensures { IfOk result (λ v. wire_of v ≡ element (wire_of pointer) i) }
+{
+    if i > 4294967295 {
+        return Err(Halt::Unfit);
+    }
+    match pointer {
+        Value::Ptr(view) => {
+            let index = cell_fits(view.index as u64 + i as u64)?;
+            Ok(at_index(view, index))
+        }
+        _ => Ok(pointer),
+    }
+}
+
+/// A character is stored in an element.
+fn put_byte<C: Memory>(
+    memory: &mut C,
+    kind: Kind,
+    pointer: Value,
+    i: usize,
+    byte: u8,
+) -> Result<Result<(), StopKind>, Halt>
+    ensures { IfOk result (λ r. (l : Locals) → stored C.accesses (element (wire_of pointer) i) (wire.Int kind (converted kind (pos byte))) l memory.old ≡ did (when_made r l) memory.new) }
+{
+    let place = element(pointer, i)?;
+    let done = stored(
+        memory,
+        Ok(place),
+        Value::Int(kind, conv(kind, byte as i128)),
+    );
+    Ok(done)
+}
+
+/// The bytes of a text are stored in the elements from the first on, up to the first stop.
+fn put_text<C: Memory>(
+    memory: &mut C,
+    kind: Kind,
+    pointer: Value,
+    bytes: &[u8],
+) -> Result<Result<(), StopKind>, Halt>
+    ensures { IfOk result (λ r. (l : Locals) → texts_of C.accesses kind (wire_of pointer) 0 bytes.now l memory.old ≡ did (when_made r (record { flow = Ends; locals = l })) memory.new) }
+{
+    for i in 0..bytes.len() {
+        let done = put_byte(memory, kind, pointer, i, bytes[i])?;
+        match done {
+            Ok(()) => {}
+            Err(stop) => return Ok(Err(stop)),
+        }
+    }
+    Ok(Ok(()))
+}
+
+/// A text: its bytes are stored, or the first stop comes.
+pub(crate) fn begin_text<C: Memory>(
+    machine: &mut Machine,
+    program: &Program,
+    memory: &mut C,
+    i: u32,
+    bytes: &[u8],
+) -> Result<Option<StopKind>, Halt>
+    requires runs { is_running machine.old.front ≡ true }
+    requires next { machine.old.top.next < 18446744073709551615 }
+    ensures { IfOk result (λ r. (side : AnySide) (n : ℕ) → code_at (block_of program.now machine.old.top) machine.old.top.next ≡ Some (Code.Text n i bytes.now) → Ticks C.accesses side (held_of program.now machine.old) memory.old (came_of r (in_here (here_in program.now machine.old) n)) (held_of program.now machine.new) memory.new) }
+{
+    let kind = characters(slot_in(program, machine.top.func, i));
+    let done = put_text(
+        memory,
+        kind,
+        slot_at(machine.top.slots.as_slice(), i),
+        bytes,
+    )?;
+    match done {
+        Ok(()) => {
+            go_past(machine, Flow::Ends, machine.top.next + 1);
+            Ok(None)
+        }
+        Err(stop) => Ok(Some(stop)),
+    }
+}
