@@ -1,20 +1,32 @@
 -- A plan worked out: a counter that the kernel half bumps and the user half opens.
-use Rattle.std.specs.Prelude.{◌≡◌, ℕ, true, false, List, [], ◌∷◌, codes}
+use Rattle.std.specs.Prelude.{◌≡◌, ℕ, pos, Bool, true, false, List, [], ◌∷◌, codes, Some}
+use Rattle.mdr_core.specs.declared.kind.Kind.TheVariants.{U32}
+use Rattle.mdr_core.specs.declared.types.Ty.TheVariants as ty
+use Rattle.mdr_core.specs.declared.types.Ann.TheVariants.{Single}
+use Rattle.mdr_core.specs.declared.value.Value.TheVariants as value
+use Rattle.mdr_core.specs.declared.program.GlobalDef.{GlobalDef}
+use Rattle.mdr_core.specs.declared.program.Func.{Func}
 use Rattle.mdr_core.specs.declared.program.Program.{Program}
 use Rattle.mdr_core.specs.declared.plan.Plan.{Plan}
 use Rattle.mdr_core.specs.declared.plan.Half.TheVariants.{Kernel, User}
 use Rattle.mdr_core.specs.declared.plan.Key.TheVariants.{Global}
 use Rattle.mdr_core.specs.Types.{first_types}
-use Rattle.mdr_syntax.specs.Forms.{func_def, global_def}
 use Rattle.mdr_half.specs.Plans.{plan_text, calls_text}
 
+-- a u32 that begins as 0
+abbrev pub counter : GlobalDef
+counter = record { name = codes "count"; ty = ty.Int U32; count = 1; array = false; ann = Single; init = value.Int U32 (pos 0) ∷ [] }
+
 -- the plan asks only for the names of the functions here
+abbrev pub function : List ℕ → Bool → Func
+function name is_critical = record { name = name; params = []; result = ty.Void; ann = Single; locals = []; critical = is_critical; body = Some [] }
+
 abbrev pub counter_program : Program
 counter_program = record {
   types = first_types;
   structs = [];
-  globals = global_def (codes "count") ∷ [];
-  funcs = func_def (codes "bump") true [] ∷ func_def (codes "open") false [] ∷ [];
+  globals = counter ∷ [];
+  funcs = function (codes "bump") true ∷ function (codes "open") false ∷ [];
 }
 
 abbrev pub counter_plan : Plan

@@ -1,14 +1,5 @@
 pub mod Worth
 pub mod Texts
 pub mod Lexing
-pub mod Until
-pub mod Each
-pub mod Lines
 pub mod Splitting
-pub mod Again
-pub mod Found
-pub mod Spelled
-pub mod FirstCode
-pub mod Soundness
 pub mod Longest
-pub mod SoundPrograms

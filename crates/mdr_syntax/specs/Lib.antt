@@ -7,11 +7,4 @@ pub mod Gives
 pub mod Quoted
 pub mod Pieces
 pub mod Tokens
-pub mod Reading
-pub mod Grammar
-pub mod Forms
-pub mod Sources
-pub mod Scripts
 pub mod Parts
-pub mod Spelling
-pub mod Sound

@@ -1,7 +1,6 @@
 use mdr_core::{Kind, Place, Program};
-use mdr_syntax::{
-    LexError, Lexeme, ScriptError, SourceError, Token, read_script, read_source, tokens,
-};
+use mdr_first::{ScriptError, SourceError, read_script, read_source};
+use mdr_syntax::{LexError, Lexeme, Token, tokens};
 use std::alloc::{AllocError, Global};
 use std::test::*;
 

@@ -9,9 +9,9 @@ use Rattle.mdr_outside.specs.declared.far.Exchange.{Exchange}
 use Rattle.mdr_outside.specs.Count.{Rose}
 use Rattle.mdr_outside.specs.Shelf.{ReadsFrom}
 use Rattle.mdr_syntax.specs.declared.token.Token.{Token}
-use Rattle.mdr_syntax.specs.Reading.{whats}
+use Rattle.mdr_first.specs.Reading.{whats}
 use Rattle.mdr_syntax.specs.Tokens.{tokens_of}
-use Rattle.mdr_syntax.specs.Sources.{program_of}
+use Rattle.mdr_first.specs.Sources.{program_of}
 use Rattle.mdr_model.specs.declared.command.Command.{Command}
 use Rattle.mdr_top.specs.Commands.{commands_of}
 use Rattle.mdr_user.specs.Honest.{IsHonest}

@@ -4,10 +4,10 @@ use Rattle.std.specs.Prelude.{IfOk}
 use Rattle.mdr_core.specs.declared.memory_error.OutOfMemory.{OutOfMemory}
 use Rattle.mdr_core.specs.declared.program.Program.{Program}
 use Rattle.mdr_syntax.specs.declared.token.Token.{Token}
-use Rattle.mdr_syntax.specs.Reading.{whats}
+use Rattle.mdr_first.specs.Reading.{whats}
 use Rattle.mdr_syntax.specs.Tokens.{tokens_of}
-use Rattle.mdr_syntax.specs.Sources.{program_of}
-use Rattle.mdr_syntax.proofs.Soundness.{is_sound}
+use Rattle.mdr_first.specs.Sources.{program_of}
+use Rattle.mdr_first.proofs.Soundness.{is_sound}
 use Rattle.mdr_user.proofs.SoundSources.{program_is_sound, program_is_built}
 use Rattle.mdr_top.specs.Answers.{HasProgram, NoProgram, NoSource}
 use Rattle.mdr_due.specs.Stages.{StageIs}

@@ -14,9 +14,9 @@ use Rattle.mdr_model.specs.Runnable.{IsBound}
 use Rattle.mdr_syntax.specs.declared.token.Token.{Token}
 use Rattle.mdr_syntax.specs.declared.error.LexError.{LexError}
 use Rattle.mdr_syntax.specs.declared.tree.Tree.{Tree}
-use Rattle.mdr_syntax.specs.Reading.{whats}
+use Rattle.mdr_first.specs.Reading.{whats}
 use Rattle.mdr_syntax.specs.Tokens.{tokens_of}
-use Rattle.mdr_syntax.specs.Sources.{program_of}
+use Rattle.mdr_first.specs.Sources.{program_of}
 use Rattle.mdr_grammar.specs.Grammar.{Reads}
 use Rattle.mdr_parse.specs.Parsing.{end_place, error_in}
 use Rattle.mdr_grammar.specs.Running.{FirstFault}

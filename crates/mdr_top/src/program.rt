@@ -9,8 +9,9 @@ ghost use Rattle.mdr_due.specs.declared.status.Status.TheVariants as status;
 use crate::lines::{left_out_line, source_line};
 use mdr_core::{Name, OutOfMemory, Place, Program};
 use mdr_due::{Due, Stage, Status};
+use mdr_first::{SourceError, read_source};
 use mdr_parse::{ParseError, parse};
-use mdr_syntax::{LexError, SourceError, Token, read_source, tokens};
+use mdr_syntax::{LexError, Token, tokens};
 use std::alloc::Global;
 
 /// What is due where the source is refused.

@@ -10,8 +10,8 @@ ghost use Rattle.mdr_due.specs.Stages.{StageIs};
 use crate::lines::script_line;
 use mdr_core::{Items, OutOfMemory, Program};
 use mdr_due::{Due, Stage, Status};
+use mdr_first::{ScriptError, read_script};
 use mdr_model::Command;
-use mdr_syntax::{ScriptError, read_script};
 use std::alloc::Global;
 
 /// Calls of functions, each without arguments.

@@ -15,11 +15,11 @@ use Rattle.mdr_model.proofs.BuiltLaws.{runnable}
 use Rattle.mdr_syntax.specs.declared.error.LexError.{LexError}
 use Rattle.mdr_syntax.specs.declared.token.Token.{Token}
 use Rattle.mdr_syntax.specs.Tokens.{tokens_of}
-use Rattle.mdr_syntax.specs.Reading.{whats}
-use Rattle.mdr_syntax.specs.Forms.{global_def}
-use Rattle.mdr_syntax.specs.Sound.{IsSoundOperand, IsSoundSum, IsCallee, IsSoundCode, IsSoundFunc, IsSoundProgram}
-use Rattle.mdr_syntax.proofs.Soundness.{is_sound}
-use Rattle.mdr_syntax.proofs.SoundPrograms.{operand, sound_program}
+use Rattle.mdr_first.specs.Reading.{whats}
+use Rattle.mdr_first.specs.Forms.{global_def}
+use Rattle.mdr_first.specs.Sound.{IsSoundOperand, IsSoundSum, IsCallee, IsSoundCode, IsSoundFunc, IsSoundProgram}
+use Rattle.mdr_first.proofs.Soundness.{is_sound}
+use Rattle.mdr_first.proofs.SoundPrograms.{operand, sound_program}
 use Rattle.mdr_user.specs.Honest.{program_of_tokens, program_of_text}
 
 -- ---- code

@@ -9,8 +9,8 @@ use Rattle.mdr_outside.specs.declared.far.Exchange.{Exchange}
 use Rattle.mdr_syntax.specs.declared.error.LexError.{LexError}
 use Rattle.mdr_syntax.specs.declared.token.Token.{Token}
 use Rattle.mdr_syntax.specs.Tokens.{tokens_of}
-use Rattle.mdr_syntax.specs.Reading.{whats}
-use Rattle.mdr_syntax.specs.Sources.{program_of}
+use Rattle.mdr_first.specs.Reading.{whats}
+use Rattle.mdr_first.specs.Sources.{program_of}
 
 -- ---- texts
 

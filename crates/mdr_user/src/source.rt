@@ -1,13 +1,14 @@
 // The program of a source text.
 
-ghost use Rattle.mdr_syntax.specs.Reading.{whats};
-ghost use Rattle.mdr_syntax.specs.Sources.{program_of};
+ghost use Rattle.mdr_first.specs.Reading.{whats};
+ghost use Rattle.mdr_first.specs.Sources.{program_of};
 ghost use Rattle.mdr_user.specs.Honest.{program_of_text};
 ghost use Rattle.mdr_user.specs.Halves.{ReadsAs};
 
 use crate::load_error::LoadError;
 use mdr_core::Program;
-use mdr_syntax::{LexError, SourceError, Token, read_source, tokens};
+use mdr_first::{SourceError, read_source};
+use mdr_syntax::{LexError, Token, tokens};
 use std::alloc::Global;
 
 fn declared(alloc: Global, tokens: &[Token]) -> Result<Program, LoadError>

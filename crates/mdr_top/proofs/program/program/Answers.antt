@@ -3,11 +3,11 @@ use Rattle.std.specs.Prelude.{IfOk}
 use Rattle.mdr_syntax.specs.declared.token.Token.{Token}
 use Rattle.mdr_syntax.specs.declared.error.LexError.{LexError}
 use Rattle.mdr_syntax.specs.declared.error.LexError.TheVariants.{BadByte, BadNumber, OpenComment, OpenText}
-use Rattle.mdr_syntax.specs.declared.source_error.SourceError.{SourceError}
+use Rattle.mdr_first.specs.declared.source_error.SourceError.{SourceError}
 use Rattle.mdr_syntax.specs.Gives.{Fails}
-use Rattle.mdr_syntax.specs.Reading.{Refuses, whats}
+use Rattle.mdr_first.specs.Reading.{Refuses, whats}
 use Rattle.mdr_syntax.specs.Tokens.{tokens_of}
-use Rattle.mdr_syntax.specs.Sources.{program_of}
+use Rattle.mdr_first.specs.Sources.{program_of}
 use Rattle.mdr_top.specs.Answers.{HasProgram, NoProgram, NoSource}
 use Rattle.mdr_top.specs.Answers.NoProgram.{fault}
 use Rattle.mdr_top.specs.Lines.{source_line}
