@@ -121,12 +121,25 @@ address_named own at p t (Some entry) = after (again entry.means) (located_first
 
 -- ---- what takes a single value
 
-abbrev pub sole : Checked First → Checked (List First)
-sole c = after c (λ x. Right (x ∷ []))
+abbrev pub is_struct_by : Ty-F Ty → Bool
+is_struct_by (Ty-F.Int k) = false
+is_struct_by Ty-F.Lock = false
+is_struct_by (Ty-F.Struct s) = true
+is_struct_by (Ty-F.Ptr t) = false
+is_struct_by Ty-F.VoidPtr = false
+is_struct_by (Ty-F.Fun ts) = false
+is_struct_by Ty-F.Void = false
 
--- a single value is for a scalar (6.7.8, paragraph 11). Where it is for an array, a struct or a lock, what stands there isn't judged
+-- an array or a struct (6.2.5, paragraph 21). A lock is none
+abbrev pub is_aggregate : Object → Bool
+is_aggregate o = o.array || is_struct_by (out-Ty o.ty)
+
+abbrev pub sole : Place → Ty → First → Checked (List First)
+sole p t x = chosen (is_scalar t) (Right (x ∷ [])) (refuse p Mismatch)
+
+-- a single value is for a scalar (6.7.8, paragraph 11). Where it is for an array or a struct, what stands there isn't judged
 abbrev pub single : Place → Object → Checked First → Checked (List First)
-single p o c = chosen (is_scalar o.ty && not o.array) (sole c) (refuse p Mismatch)
+single p o c = chosen (is_aggregate o) (refuse p Mismatch) (after c (sole p o.ty))
 
 -- what has no initialiser of its own (6.7.8, paragraph 21): the elements behind the first n
 abbrev pub left_of : Object → ℕ → First
