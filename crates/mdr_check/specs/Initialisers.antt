@@ -31,6 +31,7 @@ use Rattle.mdr_faults.specs.declared.scope.Signature.{Signature}
 use Rattle.mdr_faults.specs.declared.scope.StructEntry.{StructEntry}
 use Rattle.mdr_faults.specs.Alike.{is_alike, are_alike}
 use Rattle.mdr_headings.specs.Annotations.{is_character}
+use Rattle.mdr_headings.specs.Structs.{is_struct}
 use Rattle.mdr_faults.specs.Declarations.{number_constant}
 use Rattle.mdr_faults.specs.Faults.{Checked, Right, refuse, again, after, both, demand, next}
 use Rattle.mdr_faults.specs.Scopes.{entity_named}
@@ -121,18 +122,9 @@ address_named own at p t (Some entry) = after (again entry.means) (located_first
 
 -- ---- what takes a single value
 
-abbrev pub is_struct_by : Ty-F Ty → Bool
-is_struct_by (Ty-F.Int k) = false
-is_struct_by Ty-F.Lock = false
-is_struct_by (Ty-F.Struct s) = true
-is_struct_by (Ty-F.Ptr t) = false
-is_struct_by Ty-F.VoidPtr = false
-is_struct_by (Ty-F.Fun ts) = false
-is_struct_by Ty-F.Void = false
-
 -- an array or a struct (6.2.5, paragraph 21). A lock is none
 abbrev pub is_aggregate : Object → Bool
-is_aggregate o = o.array || is_struct_by (out-Ty o.ty)
+is_aggregate o = o.array || is_struct o.ty
 
 abbrev pub sole : Place → Ty → First → Checked (List First)
 sole p t x = chosen (is_scalar t) (Right (x ∷ [])) (refuse p Mismatch)

@@ -9,7 +9,7 @@ ghost use Rattle.mdr_syntax.specs.declared.tree.Elem.{out-Elem};
 ghost use Rattle.mdr_faults.specs.Faults.{Checked, Right, told, refuse, demand, after};
 ghost use Rattle.mdr_faults.specs.declared.fault.FaultKind.TheVariants.{UnknownName, Mismatch};
 ghost use Rattle.mdr_faults.specs.Alike.{are_alike};
-ghost use Rattle.mdr_check.specs.Initialisers.{null_if, number_first, is_any_pointer_by, null_first, handle_first, function_first, entity_first, named_first, constant_first, address_if, address_first, located_first, address_named, is_struct_by, is_aggregate, sole, single, left_of, characters, has_room, text_by, takes_text, text_first, field_of, are_plain, are_named, is_same_field, are_once, elements_first, element_of, array_first, suits_array, numbered, part_number, placed, placed_at, placed_by, placed_parts, member_first, part_for, members_first, suits_struct, struct_first, struct_by, list_by, list_first, initial, part};
+ghost use Rattle.mdr_check.specs.Initialisers.{null_if, number_first, is_any_pointer_by, null_first, handle_first, function_first, entity_first, named_first, constant_first, address_if, address_first, located_first, address_named, is_aggregate, sole, single, left_of, characters, has_room, text_by, takes_text, text_first, field_of, are_plain, are_named, is_same_field, are_once, elements_first, element_of, array_first, suits_array, numbered, part_number, placed, placed_at, placed_by, placed_parts, member_first, part_for, members_first, suits_struct, struct_first, struct_by, list_by, list_first, initial, part};
 
 use mdr_arith::conv;
 use mdr_core::{Items, Kind, Name, Place, Ty};
@@ -18,7 +18,7 @@ use mdr_faults::{
     copied_type, demanded, entity_named, extended, followed, is_alike, is_scalar, mismatch,
     number_constant,
 };
-use mdr_headings::is_character;
+use mdr_headings::{is_character, is_struct};
 use mdr_syntax::{Const, Elem, FieldName, Init};
 use std::alloc::{AllocError, Global};
 
@@ -235,15 +235,6 @@ fn is_aggregate(o: &Object) -> bool
     ensures { result ≡ is_aggregate o.now }
 {
     o.array || is_struct(&o.ty)
-}
-
-fn is_struct(ty: &Ty) -> bool
-    ensures { result ≡ is_struct_by (out-Ty ty.now) }
-{
-    match ty {
-        Ty::Struct(_) => true,
-        Ty::Int(_) | Ty::Lock | Ty::Ptr(_) | Ty::VoidPtr | Ty::Fun(_) | Ty::Void => false,
-    }
 }
 
 /// The one value of a scalar.
