@@ -22,7 +22,6 @@ use Rattle.mdr_syntax.specs.declared.tree.Head.{Head}
 use Rattle.mdr_syntax.specs.declared.tree.Init.{Init}
 use Rattle.mdr_syntax.specs.declared.tree.Item.{Item}
 use Rattle.mdr_syntax.specs.declared.tree.ItemWhat.{ItemWhat}
-use Rattle.mdr_syntax.specs.declared.tree.ItemWhat.TheVariants as item
 use Rattle.mdr_syntax.specs.declared.tree.Node.{Node}
 use Rattle.mdr_faults.specs.declared.scope.Scope.{Scope}
 use Rattle.mdr_faults.specs.Faults.{Right}
