@@ -190,7 +190,7 @@ module _ (allowed : Cell → Bool) (program : Program) (m : Memory) (sound : IsR
 
 -- whatever goes along a tree: what it does at a value, and at a stop
 module _ {X : Type 0} (go : Tree → X) (on : Result Wire StopKind → (Wire → X) → X) (at : At) (goes : (v : Wire) (k : Wire → X) → on (Ok v) k ≡ k v)
-         (stops : (why : StopKind) (k : Wire → X) → go (Tree.Stop why at) ≡ on (Err why) k) where
+    (stops : (why : StopKind) (k : Wire → X) → go (Tree.Stop why at) ≡ on (Err why) k) where
   -- it finds this value, or this stop, and passes it on
   record Passes (f : (Wire → Tree) → Tree) (r : Result Wire StopKind) : Type 0 where
     by : (k : Wire → Tree) → go (f k) ≡ on r (λ v. go (k v))
