@@ -19,19 +19,19 @@ use Rattle.mdr_first.specs.Reading.{whats}
 use Rattle.mdr_first.specs.Forms.{global_def}
 use Rattle.mdr_first.specs.Sound.{IsSoundOperand, IsSoundSum, IsCallee, IsSoundCode, IsSoundFunc, IsSoundProgram}
 use Rattle.mdr_first.proofs.Soundness.{is_sound}
-use Rattle.mdr_first.proofs.SoundPrograms.{operand, sound_program}
+use Rattle.mdr_first.proofs.SoundPrograms.{sound_program}
 use Rattle.mdr_user.specs.Honest.{program_of_tokens, program_of_text}
 
 -- ---- code
 
-module _ (program : Program) (first : IsSoundProgram program) where
-  operand_is : (e : Term) → IsSoundOperand program.globals e → IsBuiltTerm program e
+module _ (program : Program) where
+  operand_is : (e : Term) → IsSoundOperand program.globals e → IsBuiltTerm e
   operand_is _ (IsSoundOperand.number n h) = tt
   operand_is _ (IsSoundOperand.variable g h) = tt
 
-  sum_is : (e : Term) → IsSoundSum program.globals e → IsBuiltTerm program e
+  sum_is : (e : Term) → IsSoundSum program.globals e → IsBuiltTerm e
   sum_is _ (IsSoundSum.alone e h) = operand_is e h
-  sum_is _ (IsSoundSum.plus sum e h k) = (sum_is sum h, operand_is e k, operand program first e k)
+  sum_is _ (IsSoundSum.plus sum e h k) = (sum_is sum h, operand_is e k)
 
   callee_is : (n : ℕ) → IsCallee program.funcs n → is_kernel program n ≡ true
   unfolding is_kernel
@@ -71,7 +71,7 @@ program_is_built program h = record {
   types = h.types;
   structs = h.structs;
   globals = subst (AllByRecursion (λ (g : GlobalDef). IsBuiltCell g.ty)) (sym h.globals) (globals_are h.names);
-  funcs = funcs_are program h program.funcs h.funcs;
+  funcs = funcs_are program program.funcs h.funcs;
 }
 
 pub program_is_sound : (program : Program) → IsSoundProgram program → IsSound program
