@@ -1,7 +1,6 @@
 -- A source has one program that is ready, or one refusal.
-use Rattle.std.proofs.Common.{◌≡◌, ℕ, List, Result, Ok, Err, refl, sym, ap, subst}
+use Rattle.std.proofs.Common.{◌≡◌, ℕ, List, Result, Ok, Err, refl, ap, subst}
 use Rattle.mdr_core.specs.declared.program.Program.{Program}
-use Rattle.mdr_syntax.specs.declared.tree.Tree.{Tree}
 use Rattle.mdr_model.specs.Built.{IsBuilt}
 use Rattle.mdr_source.specs.declared.outcome.Source.{Source}
 use Rattle.mdr_source.specs.declared.refusal.Refusal.{Refusal}

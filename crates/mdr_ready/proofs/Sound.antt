@@ -1,5 +1,5 @@
 -- The program of a source that isn't refused is sound, and one that is ready can be run.
-use Rattle.std.proofs.Common.{◌≡◌, ℕ, zero, suc, Bool, true, false, ◌||◌, List, [], ◌∷◌, Option, Some, None, Ok, slice_get, refl, sym, ap, ◌∙◌, subst}
+use Rattle.std.proofs.Common.{◌≡◌, ℕ, zero, suc, Bool, true, false, ◌||◌, List, [], ◌∷◌, Some, Ok, slice_get, refl, sym, ap, ◌∙◌}
 use Rattle.mdr_core.specs.declared.code.Stmt.{Stmt}
 use Rattle.mdr_core.specs.declared.program.Func.{Func}
 use Rattle.mdr_core.specs.declared.program.Program.{Program}
@@ -10,9 +10,7 @@ use Rattle.mdr_model.specs.Built.{IsBuilt}
 use Rattle.mdr_model.specs.Runnable.{IsRunnable}
 use Rattle.mdr_model.proofs.BuiltLaws.{runnable}
 use Rattle.mdr_body.specs.Mentions.{uses}
-use Rattle.mdr_source.specs.declared.outcome.Source.{Source}
 use Rattle.mdr_source.specs.Backs.{is_back, calls_back, call_back, body_calls_back, functions_call_back}
-use Rattle.mdr_source.specs.Sources.{Comes, IsSource}
 use Rattle.mdr_source.proofs.Whose.{come_source}
 use Rattle.mdr_sound_bodies.specs.Grounded as grounded
 use Rattle.mdr_sound.specs.Sources.{IsProgramOf}

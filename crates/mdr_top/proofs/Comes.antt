@@ -23,7 +23,7 @@ use Rattle.mdr_top.specs.declared.words.Cutting.TheVariants as cutting
 use Rattle.mdr_top.specs.Words.{Cut, Run, command_of}
 use Rattle.mdr_top.specs.Cuts.{IsSplit, IsCut}
 use Rattle.mdr_due.specs.Reads.{Files, longest_source}
-use Rattle.mdr_top.specs.Answers.{longest_script, status_of, Unread, NoProgram, HasProgram, Ran, Called, Scripted, Compiled, Sourced, CutAnswered, Answered, Prints}
+use Rattle.mdr_top.specs.Answers.{longest_script, status_of, Unread, HasProgram, Ran, Called, Scripted, Compiled, Sourced, CutAnswered, Answered, Prints}
 use Rattle.mdr_top.specs.Comes.{IsWanted, IsDueToFar, Ends, IsEnd, IsRefused, WasCut, IsDone, Comes}
 use Rattle.mdr_top.proofs.Headline.{nothing_end}
 
