@@ -1,5 +1,5 @@
 -- Trees of one function are alike whatever fuel stands for it, as far as the fuel goes.
-use Rattle.std.proofs.Common.{◌≡◌, ℕ, zero, suc, ◌<◌, ◌≤◌, Bool, true, false, List, [], ◌∷◌, nat_lt, Result, Ok, Err, ℤ, refl, ap, le_refl, arith}
+use Rattle.std.proofs.Common.{◌≡◌, ℕ, zero, suc, ◌<◌, ◌≤◌, Bool, true, false, not, List, [], ◌∷◌, nat_lt, Result, Ok, Err, ℤ, refl, ap, le_refl, arith}
 use mathlib.Core.Path.{fun_ext}
 use Rattle.mdr_core.specs.declared.kind.Kind.{Kind}
 use Rattle.mdr_core.specs.declared.undefined.Undefined.{Undefined}
@@ -8,13 +8,15 @@ use Rattle.mdr_core.specs.declared.place.At.{At}
 use Rattle.mdr_core.specs.declared.plan.Half.{Half}
 use Rattle.mdr_core.specs.declared.program.Program.{Program}
 use Rattle.mdr_core.specs.Code.{Term, Called, Goal, Code, Codes}
+use Rattle.mdr_core.specs.Conversions.{converted}
 use Rattle.mdr_core.specs.Folds.{codes_of}
-use Rattle.mdr_core.specs.Operators.{operated}
+use Rattle.mdr_core.specs.Layout.{chosen}
+use Rattle.mdr_core.specs.Operators.{operated, negated, flipped}
 use Rattle.mdr_meaning.specs.declared.wire.Wire.{Wire}
 use Rattle.mdr_meaning.specs.declared.wire.Wire.TheVariants as wire
-use Rattle.mdr_meaning.specs.Values.{wire_of, integer, stop_of, first_of}
+use Rattle.mdr_meaning.specs.Values.{wire_of, integer, stop_of, first_of, is_true, truth}
 use Rattle.mdr_model.specs.Tree.{Tree, cut}
-use Rattle.mdr_model.specs.Meaning.{func_at, is_own, body_of, pointer_to, given, value, values, Here, Enters, by_half, at_depth, call, keeps, statement, number_of, statements, function}
+use Rattle.mdr_model.specs.Meaning.{func_at, is_own, body_of, pointer_to, given, gives, compared, value, values, Here, Enters, by_half, at_depth, call, keeps, statement, number_of, statements, function}
 use Rattle.mdr_model.specs.Alike.{IsCongruence, FuelIsNoMatter}
 
 -- ---- any congruence
@@ -36,13 +38,35 @@ module _ (R : ℕ → Tree → Tree → Type 0) (c : IsCongruence R) where
     alike_given r (Ok n) kind at k l h = h (wire.Int kind n)
     alike_given r (Err why) kind at k l h = c.stop r (stop_of why) at
 
+    alike_chosen : (r : ℕ) (b : Bool) (f g : (Wire → Tree) → Tree) (k l : Wire → Tree) → R r (f k) (f l) → R r (g k) (g l) → R r (chosen b f g k) (chosen b f g l)
+    alike_chosen r true f g k l first second = first
+    alike_chosen r false f g k l first second = second
+
     alike_value : (r : ℕ) (e : Term) (at : At) (k l : Wire → Tree) → ((v : Wire) → R r (k v) (l v)) → R r (value program at e k) (value program at e l)
     alike_value r (Term.Lit v) at k l h = h (wire_of v)
     alike_value r (Term.Load place) at k l h = c.load r at (pointer_to program place) k l h
+    alike_value r (Term.Neg kind e) at k l h =
+        alike_value r e at (λ x. given (negated kind (integer x)) kind at k) (λ x. given (negated kind (integer x)) kind at l) (λ x. alike_given r (negated kind (integer x)) kind at k l h)
+    alike_value r (Term.Flip kind e) at k l h =
+        alike_value r e at (λ x. k (wire.Int kind (flipped kind (integer x)))) (λ x. l (wire.Int kind (flipped kind (integer x)))) (λ x. h (wire.Int kind (flipped kind (integer x))))
+    alike_value r (Term.Not e) at k l h = alike_value r e at (λ x. k (truth (not (is_true x)))) (λ x. l (truth (not (is_true x)))) (λ x. h (truth (not (is_true x))))
     alike_value r (Term.Bin op kind a b) at k l h =
         alike_value r a at (λ x. value program at b (λ y. given (operated op kind (integer x) (integer y)) kind at k)) (λ x. value program at b (λ y. given (operated op kind (integer x) (integer y)) kind at l))
         (λ x. alike_value r b at (λ y. given (operated op kind (integer x) (integer y)) kind at k) (λ y. given (operated op kind (integer x) (integer y)) kind at l)
         (λ y. alike_given r (operated op kind (integer x) (integer y)) kind at k l h))
+    alike_value r (Term.Rel op a b) at k l h =
+        alike_value r a at (λ x. value program at b (λ y. k (compared op x y))) (λ x. value program at b (λ y. l (compared op x y)))
+        (λ x. alike_value r b at (λ y. k (compared op x y)) (λ y. l (compared op x y)) (λ y. h (compared op x y)))
+    alike_value r (Term.And a b) at k l h =
+        alike_value r a at (λ x. chosen (is_true x) (value program at b) (gives (truth false)) (λ y. k (truth (is_true y)))) (λ x. chosen (is_true x) (value program at b) (gives (truth false)) (λ y. l (truth (is_true y))))
+        (λ x. alike_chosen r (is_true x) (value program at b) (gives (truth false)) (λ y. k (truth (is_true y))) (λ y. l (truth (is_true y)))
+        (alike_value r b at (λ y. k (truth (is_true y))) (λ y. l (truth (is_true y))) (λ y. h (truth (is_true y)))) (h (truth false)))
+    alike_value r (Term.Or a b) at k l h =
+        alike_value r a at (λ x. chosen (is_true x) (gives (truth true)) (value program at b) (λ y. k (truth (is_true y)))) (λ x. chosen (is_true x) (gives (truth true)) (value program at b) (λ y. l (truth (is_true y))))
+        (λ x. alike_chosen r (is_true x) (gives (truth true)) (value program at b) (λ y. k (truth (is_true y))) (λ y. l (truth (is_true y)))
+        (h (truth true)) (alike_value r b at (λ y. k (truth (is_true y))) (λ y. l (truth (is_true y))) (λ y. h (truth (is_true y)))))
+    alike_value r (Term.Conv kind e) at k l h =
+        alike_value r e at (λ x. k (wire.Int kind (converted kind (integer x)))) (λ x. l (wire.Int kind (converted kind (integer x)))) (λ x. h (wire.Int kind (converted kind (integer x))))
     alike_value r _ at k l h = c.stop r stop.NoValue at
 
     alike_values : (r : ℕ) (es : List Term) (at : At) (k l : List Wire → Tree) → ((vs : List Wire) → R r (k vs) (l vs)) → R r (values program at es k) (values program at es l)

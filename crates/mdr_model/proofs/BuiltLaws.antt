@@ -4,7 +4,7 @@ use Rattle.std.specs.Prelude.{IsTrue}
 use Rattle.std.specs.List.{AllByRecursion}
 use Rattle.std.proofs.lemmas.Bool.{and_from}
 use Rattle.mdr_core.specs.declared.kind.Kind.{Kind}
-use Rattle.mdr_core.specs.declared.kind.Kind.TheVariants.{U32}
+use Rattle.mdr_core.specs.declared.kind.Kind.TheVariants.{U32, S32}
 use Rattle.mdr_core.specs.declared.types.Ty.{Ty}
 use Rattle.mdr_core.specs.declared.types.Ty as form
 use Rattle.mdr_core.specs.declared.types.Ty.TheVariants as ty
@@ -15,18 +15,20 @@ use Rattle.mdr_core.specs.declared.program.Program.{Program}
 use Rattle.mdr_core.specs.declared.program.GlobalDef.{GlobalDef}
 use Rattle.mdr_core.specs.declared.program.Func.{Func}
 use Rattle.mdr_core.specs.declared.program.Param.{Param}
+use Rattle.mdr_core.specs.declared.code.BinOp.{BinOp}
+use Rattle.mdr_core.specs.declared.code.BinOp.TheVariants.{Add, Sub, Mul, Div, Rem, Shl, Shr, BitAnd, BitOr, BitXor}
 use Rattle.mdr_core.specs.Code.{Term, Lvalue, Called, CallOf, Goal, Code, Codes}
 use Rattle.mdr_core.specs.Folds.{codes_of}
 use Rattle.mdr_core.specs.Kinds.{kind_number, is_same_kind, is_in_range}
 use Rattle.mdr_core.specs.Layout.{Leaf, Alone, repeated, leaves, cells}
 use Rattle.mdr_core.specs.Services.{Service, Writel, Signature, offered, service_numbered}
 use Rattle.mdr_core.specs.Types.{is_scalar, is_pointer}
-use Rattle.mdr_core.specs.Typing.{int, One, extent, slots_of, IsGlobal, Has, Designates, HaveAll, gives_by, AreTyped, IsTyped}
+use Rattle.mdr_core.specs.Typing.{int, One, extent, slots_of, IsGlobal, RightOperand, IsCondition, Has, Designates, HaveAll, gives_by, AreTyped, IsTyped}
 use Rattle.mdr_core.specs.Sound.{IsFirstValue, all_cells, IsSoundGlobal, HasTypedBody, IsSound}
 use Rattle.mdr_meaning.specs.Values.{wire_of}
 use Rattle.mdr_model.specs.Values.{fits_type}
 use Rattle.mdr_model.specs.Built.{IsBuiltCell, IsBuiltLvalue, IsBuiltTerm, IsBuiltCallee, IsBuiltStep, IsBuiltBody, IsBuiltFunc, IsBuilt}
-use Rattle.mdr_model.specs.Runnable.{IsVariable, IsRunnablePlace, IsRunnableExpr, IsRunnableWritel, IsRunnableCall, IsRunnableStep, IsRunnableBody, IsRunnableFunc, IsRunnableGlobal, IsRunnable}
+use Rattle.mdr_model.specs.Runnable.{IsVariable, IsRunnablePlace, IsOfSomeKind, IsRightOperand, IsRunnableExpr, IsRunnableWritel, IsRunnableCall, IsRunnableStep, IsRunnableBody, IsRunnableFunc, IsRunnableGlobal, IsRunnable}
 use Rattle.mdr_model.proofs.HoldsLaws.{all_get}
 
 -- ---- globals
@@ -110,6 +112,19 @@ runnable_global program g def b sound =
 int_of : (k l : Kind) → int k ≡ int l → k ≡ l
 int_of k l e = Prim.cc
 
+-- the right operand, given what is to be known of an expression with a kind
+right_of : (op : BinOp) (k : Kind) (H : Ty → Type 0) (P : Kind → Type 0) → RightOperand op k H → ((m : Kind) → H (int m) → P m) → IsRightOperand op k P
+right_of Shl k H P h each = (h.0, each h.0 h.1)
+right_of Shr k H P h each = (h.0, each h.0 h.1)
+right_of Add k H P h each = each k h
+right_of Sub k H P h each = each k h
+right_of Mul k H P h each = each k h
+right_of Div k H P h each = each k h
+right_of Rem k H P h each = each k h
+right_of BitAnd k H P h each = each k h
+right_of BitOr k H P h each = each k h
+right_of BitXor k H P h each = each k h
+
 module _ (program : Program) (sound : IsSound program) (built : IsBuilt program) where
   -- a global that has a type without brackets
   variable : (g : ℕ) (t : Ty) (k : Kind) → t ≡ int k → IsGlobal program g (One t) → IsVariable program g k
@@ -124,62 +139,6 @@ module _ (program : Program) (sound : IsSound program) (built : IsBuilt program)
   runnable_place : (p : Lvalue) (t : Ty) (k : Kind) → t ≡ int k → IsBuiltLvalue p → Designates program [] p (One t) → IsRunnablePlace program p k
   runnable_place (Lvalue.Global g) t k e b h = variable g t k e h
   runnable_place _ t k e b h = elim b [ ]
-
-  runnable_expr : (e : Term) (k : Kind) → IsBuiltTerm program e → Has program [] e (int k) → IsRunnableExpr program e k
-  runnable_expr (Term.Lit v) k b h = literal v h
-    where
-      literal : (v' : Value) → Has program [] (Term.Lit v') (int k) → fits_type (int k) (wire_of v') ≡ true
-      literal (value.Int l n) h' =
-          let same : k ≡ l = int_of k l h'.0 in
-          let own : is_in_range l n ≡ true = Prim.grind (arith, h'.1) in
-          let range : is_in_range k n ≡ true = subst (λ (m : Kind). is_in_range m n ≡ true) (sym same) own in
-          subst (λ (m : Kind). fits_type (int k) (wire_of (value.Int m n)) ≡ true) same (and_from (is_same_kind k k) (is_in_range k n) (same_kind k) range)
-      literal value.Null h' = absurd (no_pointer (int k) tt h')
-      literal (value.Ptr view) h' = elim h' [ ]
-      literal value.Dead h' = elim h' [ ]
-      literal (value.Fn f) h' = elim (subst IsBuiltCell h'.2 tt) [ ]
-      literal (value.Lock s) h' = elim h' [ ]
-      literal value.NoValue h' = elim h' [ ]
-  runnable_expr (Term.Load p) k b h = runnable_place p (int k) k refl b h.object
-  runnable_expr (Term.Bin op l a c) k b h =
-      let same : k ≡ l = int_of k l h.is in
-      (sym same, runnable_expr a k b.0 (subst (λ (m : Kind). Has program [] a (int m)) (sym same) h.left), runnable_expr c k b.1 (subst (λ (m : Kind). Has program [] c (int m)) (sym same) b.2))
-  runnable_expr _ k b h = elim b [ ]
-
-  -- ---- calls
-
-  runnable_args : (args : List Term) → AllByRecursion (IsBuiltTerm program) args → HaveAll program [] args (int U32 ∷ int U32 ∷ []) → IsRunnableWritel program args
-  runnable_args [] b h = elim h [ ]
-  runnable_args (x ∷ []) b h = elim h.1 [ ]
-  runnable_args (x ∷ y ∷ []) b h = (runnable_expr x U32 b.0 h.0, runnable_expr y U32 b.1.0 h.1.0)
-  runnable_args (x ∷ y ∷ z ∷ args) b h = elim h.1.1 [ ]
-
-  -- what `writel` takes
-  writel_takes : (service : Service) (shape : Option Ty) (format : Option (List ℕ)) (s : Signature) → Writel ≡ service → offered service shape format ≡ Some s → s.params ≡ int U32 ∷ int U32 ∷ []
-  writel_takes service shape format s e h = of shape format (subst (λ (x : Service). offered x shape format ≡ Some s) (sym e) h)
-    where
-      of : (sh : Option Ty) (f : Option (List ℕ)) → offered Writel sh f ≡ Some s → s.params ≡ int U32 ∷ int U32 ∷ []
-      of None None q = let same : record { params = int U32 ∷ int U32 ∷ []; result = ty.Void } ≡ s = Prim.cc in ap (λ (x : Signature). x.params) (sym same)
-      of None (Some f) q = absurd (Prim.cc)
-      of (Some t) None q = absurd (Prim.cc)
-      of (Some t) (Some f) q = absurd (Prim.cc)
-
-  no_args : (args : List Term) (ts : List Ty) → ts ≡ [] → HaveAll program [] args ts → args ≡ []
-  no_args [] ts e h = refl
-  no_args (x ∷ args) ts e h = elim (subst (HaveAll program [] (x ∷ args)) e h) [ ]
-
-  runnable_call : (is_critical : Bool) (callee : Called) (call : CallOf) (given : Ty) → IsBuiltCallee program is_critical callee → AllByRecursion (IsBuiltTerm program) call.args
-      → gives_by callee program [] call given → IsRunnableCall program is_critical callee call.args
-  runnable_call is_critical (Called.Direct f) call given b args h =
-      let none : h.func.params ≡ [] = (all_get (IsBuiltFunc program) program.funcs f h.func built.funcs h.names).params in
-      (b.0, b.1, no_args call.args _ (ap (map (λ (p : Param). p.ty)) none) h.call_is.args)
-  runnable_call is_critical (Called.Service n) call given b args h =
-      let named : service_numbered 5 ≡ Some h.service = ap service_numbered (sym b) ∙ h.names in
-      let service : Writel ≡ h.service = Prim.cc in
-      (b, runnable_args call.args args (subst (HaveAll program [] call.args) (writel_takes h.service call.shape call.format h.signature service h.offers) h.args))
-  runnable_call is_critical (Called.Through e) call given b args h = elim b [ ]
-
-  -- ---- statements
 
   -- a global's type is of a built cell
   built_type : (g : ℕ) (t : Ty) → IsGlobal program g (One t) → IsBuiltCell t
@@ -201,7 +160,109 @@ module _ (program : Program) (sound : IsSound program) (built : IsBuilt program)
   integer_type ty.Lock b s = absurd (Prim.grind (arith, s))
   integer_type _ b s = elim b [ ]
 
-  assigned : (is_critical : Bool) (n : ℕ) (p : Lvalue) (e : Term) (t : Ty) → IsBuiltLvalue p → IsBuiltTerm program e → IsTrue (is_scalar t) → Designates program [] p (One t) → Has program [] e t
+  -- built expressions are integers
+  integer_expr : (e : Term) (t : Ty) → IsBuiltTerm e → Has program [] e t → IsInteger t
+  integer_expr (Term.Lit (value.Int k n)) t b h = record { kind = k; is = h.0 }
+  integer_expr (Term.Lit _) t b h = elim b [ ]
+  integer_expr (Term.Load (Lvalue.Global g)) t b h = integer_type t (built_type g t h.object) h.scalar
+  integer_expr (Term.Load _) t b h = elim b [ ]
+  integer_expr (Term.Neg k e) t b h = record { kind = k; is = h.is }
+  integer_expr (Term.Flip k e) t b h = record { kind = k; is = h.is }
+  integer_expr (Term.Not e) t b h = record { kind = S32; is = h.is }
+  integer_expr (Term.Bin op k a c) t b h = record { kind = k; is = h.is }
+  integer_expr (Term.Rel op a c) t b h = record { kind = S32; is = h.is }
+  integer_expr (Term.And a c) t b h = record { kind = S32; is = h.is }
+  integer_expr (Term.Or a c) t b h = record { kind = S32; is = h.is }
+  integer_expr (Term.Conv k e) t b h = record { kind = k; is = h.is }
+  integer_expr _ t b h = elim b [ ]
+
+  -- so are conditions, given what is to be known of an expression with a kind
+  some_kind : (e : Term) (P : Kind → Type 0) → IsBuiltTerm e → IsCondition (Has program [] e) → ((k : Kind) → Has program [] e (int k) → P k) → IsOfSomeKind P
+  some_kind e P b c each =
+      let i : IsInteger c.type = integer_expr e c.type b c.operand in
+      (i.kind, each i.kind (subst (Has program [] e) i.is c.operand))
+
+  runnable_expr : (e : Term) (k : Kind) → IsBuiltTerm e → Has program [] e (int k) → IsRunnableExpr program e k
+  runnable_expr (Term.Lit v) k b h = literal v h
+    where
+      literal : (v' : Value) → Has program [] (Term.Lit v') (int k) → fits_type (int k) (wire_of v') ≡ true
+      literal (value.Int l n) h' =
+          let same : k ≡ l = int_of k l h'.0 in
+          let own : is_in_range l n ≡ true = Prim.grind (arith, h'.1) in
+          let range : is_in_range k n ≡ true = subst (λ (m : Kind). is_in_range m n ≡ true) (sym same) own in
+          subst (λ (m : Kind). fits_type (int k) (wire_of (value.Int m n)) ≡ true) same (and_from (is_same_kind k k) (is_in_range k n) (same_kind k) range)
+      literal value.Null h' = absurd (no_pointer (int k) tt h')
+      literal (value.Ptr view) h' = elim h' [ ]
+      literal value.Dead h' = elim h' [ ]
+      literal (value.Fn f) h' = elim (subst IsBuiltCell h'.2 tt) [ ]
+      literal (value.Lock s) h' = elim h' [ ]
+      literal value.NoValue h' = elim h' [ ]
+  runnable_expr (Term.Load p) k b h = runnable_place p (int k) k refl b h.object
+  runnable_expr (Term.Neg l e) k b h =
+      let same : k ≡ l = int_of k l h.is in
+      (sym same, runnable_expr e k b (subst (λ (m : Kind). Has program [] e (int m)) (sym same) h.operand))
+  runnable_expr (Term.Flip l e) k b h =
+      let same : k ≡ l = int_of k l h.is in
+      (sym same, runnable_expr e k b (subst (λ (m : Kind). Has program [] e (int m)) (sym same) h.operand))
+  runnable_expr (Term.Not e) k b h = (int_of k S32 h.is, some_kind e (IsRunnableExpr program e) b h.operand (λ m g. runnable_expr e m b g))
+  runnable_expr (Term.Bin op l a c) k b h =
+      let same : k ≡ l = int_of k l h.is in (
+        sym same,
+        runnable_expr a k b.0 (subst (λ (m : Kind). Has program [] a (int m)) (sym same) h.left),
+        subst (λ (m : Kind). IsRightOperand op m (IsRunnableExpr program c)) (sym same) (right_of op l (Has program [] c) (IsRunnableExpr program c) h.right (λ m g. runnable_expr c m b.1 g)),
+      )
+  runnable_expr (Term.Rel op a c) k b h =
+      let i : IsInteger h.type = integer_expr a h.type b.0 h.left in
+      (int_of k S32 h.is, (i.kind, (runnable_expr a i.kind b.0 (subst (Has program [] a) i.is h.left), runnable_expr c i.kind b.1 (subst (Has program [] c) i.is h.right))))
+  runnable_expr (Term.And a c) k b h = (
+    int_of k S32 h.is,
+    some_kind a (IsRunnableExpr program a) b.0 h.left (λ m g. runnable_expr a m b.0 g),
+    some_kind c (IsRunnableExpr program c) b.1 h.right (λ m g. runnable_expr c m b.1 g),
+  )
+  runnable_expr (Term.Or a c) k b h = (
+    int_of k S32 h.is,
+    some_kind a (IsRunnableExpr program a) b.0 h.left (λ m g. runnable_expr a m b.0 g),
+    some_kind c (IsRunnableExpr program c) b.1 h.right (λ m g. runnable_expr c m b.1 g),
+  )
+  runnable_expr (Term.Conv l e) k b h = (sym (int_of k l h.is), (h.from, runnable_expr e h.from b h.operand))
+  runnable_expr _ k b h = elim b [ ]
+
+  -- ---- calls
+
+  runnable_args : (args : List Term) → AllByRecursion IsBuiltTerm args → HaveAll program [] args (int U32 ∷ int U32 ∷ []) → IsRunnableWritel program args
+  runnable_args [] b h = elim h [ ]
+  runnable_args (x ∷ []) b h = elim h.1 [ ]
+  runnable_args (x ∷ y ∷ []) b h = (runnable_expr x U32 b.0 h.0, runnable_expr y U32 b.1.0 h.1.0)
+  runnable_args (x ∷ y ∷ z ∷ args) b h = elim h.1.1 [ ]
+
+  -- what `writel` takes
+  writel_takes : (service : Service) (shape : Option Ty) (format : Option (List ℕ)) (s : Signature) → Writel ≡ service → offered service shape format ≡ Some s → s.params ≡ int U32 ∷ int U32 ∷ []
+  writel_takes service shape format s e h = of shape format (subst (λ (x : Service). offered x shape format ≡ Some s) (sym e) h)
+    where
+      of : (sh : Option Ty) (f : Option (List ℕ)) → offered Writel sh f ≡ Some s → s.params ≡ int U32 ∷ int U32 ∷ []
+      of None None q = let same : record { params = int U32 ∷ int U32 ∷ []; result = ty.Void } ≡ s = Prim.cc in ap (λ (x : Signature). x.params) (sym same)
+      of None (Some f) q = absurd (Prim.cc)
+      of (Some t) None q = absurd (Prim.cc)
+      of (Some t) (Some f) q = absurd (Prim.cc)
+
+  no_args : (args : List Term) (ts : List Ty) → ts ≡ [] → HaveAll program [] args ts → args ≡ []
+  no_args [] ts e h = refl
+  no_args (x ∷ args) ts e h = elim (subst (HaveAll program [] (x ∷ args)) e h) [ ]
+
+  runnable_call : (is_critical : Bool) (callee : Called) (call : CallOf) (given : Ty) → IsBuiltCallee program is_critical callee → AllByRecursion IsBuiltTerm call.args
+      → gives_by callee program [] call given → IsRunnableCall program is_critical callee call.args
+  runnable_call is_critical (Called.Direct f) call given b args h =
+      let none : h.func.params ≡ [] = (all_get (IsBuiltFunc program) program.funcs f h.func built.funcs h.names).params in
+      (b.0, b.1, no_args call.args _ (ap (map (λ (p : Param). p.ty)) none) h.call_is.args)
+  runnable_call is_critical (Called.Service n) call given b args h =
+      let named : service_numbered 5 ≡ Some h.service = ap service_numbered (sym b) ∙ h.names in
+      let service : Writel ≡ h.service = Prim.cc in
+      (b, runnable_args call.args args (subst (HaveAll program [] call.args) (writel_takes h.service call.shape call.format h.signature service h.offers) h.args))
+  runnable_call is_critical (Called.Through e) call given b args h = elim b [ ]
+
+  -- ---- statements
+
+  assigned : (is_critical : Bool) (n : ℕ) (p : Lvalue) (e : Term) (t : Ty) → IsBuiltLvalue p → IsBuiltTerm e → IsTrue (is_scalar t) → Designates program [] p (One t) → Has program [] e t
       → IsRunnableStep program is_critical (Code.Assign n p e)
   assigned is_critical n (Lvalue.Global g) e t bp be s object h =
       let i : IsInteger t = integer_type t (built_type g t object) s in

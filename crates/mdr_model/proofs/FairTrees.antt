@@ -1,6 +1,8 @@
 -- The tree of a sound function is fair, and the same whatever fuel stands for it.
 use Rattle.std.proofs.Common.{◌≡◌, ℕ, zero, suc, ◌+◌, ◌≤◌, inl, inr, Bool, true, false, not, ◌&&◌, List, [], ◌∷◌, map, length, nat_lt, slice_get, Option, Some, None, Result, Ok, Err, ℤ, refl, sym, ap, ◌∙◌, subst, eq-eqb, ltb-true, lt-ltb, unwrap_or, arith}
 use mathlib.Core.Path.{fun_ext}
+use Rattle.std.specs.Prelude.{int_lt}
+use Rattle.std.specs.Ordering.{int_eq}
 use Rattle.std.specs.List.{AllByRecursion, list_any}
 use Rattle.std.proofs.lemmas.Bool.{cond-true, or_left, or_right, and_from}
 use Rattle.mdr_core.specs.declared.kind.Kind.{Kind}
@@ -16,24 +18,30 @@ use Rattle.mdr_core.specs.declared.program.Program.{Program}
 use Rattle.mdr_core.specs.declared.program.GlobalDef.{GlobalDef}
 use Rattle.mdr_core.specs.declared.program.Func.{Func}
 use Rattle.mdr_core.specs.declared.code.Stmt.{Stmt}
+use Rattle.mdr_core.specs.declared.code.BinOp.{BinOp}
+use Rattle.mdr_core.specs.declared.code.BinOp.TheVariants.{Add, Sub, Mul, Div, Rem, Shl, Shr, BitAnd, BitOr, BitXor}
 use Rattle.mdr_core.specs.Code.{Term, Lvalue, Called, Goal, Code, Codes}
+use Rattle.mdr_core.specs.Conversions.{converted}
 use Rattle.mdr_core.specs.Folds.{codes_of}
 use Rattle.mdr_core.specs.Kinds.{kind_number, is_same_kind, is_in_range}
-use Rattle.mdr_core.specs.Operators.{operated}
-use Rattle.mdr_core.proofs.Operators.{operated-in_range}
+use Rattle.mdr_core.specs.Layout.{chosen}
+use Rattle.mdr_core.specs.Operators.{operated, negated, flipped, is_right_operand}
+use Rattle.mdr_core.proofs.Conversions.{converted-in_range}
+use Rattle.mdr_core.proofs.Operators.{result-in_range, negated-in_range, flipped-in_range}
 use Rattle.mdr_meaning.specs.declared.wire.Wire.{Wire}
 use Rattle.mdr_meaning.specs.declared.wire.Wire.TheVariants as wire
 use Rattle.mdr_model.specs.declared.message.New.{New}
 use Rattle.mdr_model.specs.declared.message.BirthKind.TheVariants.{Static}
-use Rattle.mdr_meaning.specs.Values.{wire_of, integer, stop_of}
+use Rattle.mdr_meaning.specs.Pointers.{by_order}
+use Rattle.mdr_meaning.specs.Values.{wire_of, integer, stop_of, is_true, truth}
 use Rattle.mdr_model.specs.Values.{type_number, fits_type, fits_maybe, fits, fits_result, is_view_of}
 use Rattle.mdr_model.specs.Memory.{births, global_blocks, first_memory}
 use Rattle.mdr_model.specs.Tree.{Tree}
-use Rattle.mdr_model.specs.Meaning.{func_at, critical_of, is_kernel, is_user, is_own, body_of, type_of_global, pointer_to, given, value, values, Here, Enters, by_half, at_depth, call, keeps, statement, number_of, statements, function, started}
+use Rattle.mdr_model.specs.Meaning.{func_at, critical_of, is_kernel, is_user, is_own, body_of, type_of_global, pointer_to, given, gives, compared, value, values, Here, Enters, by_half, at_depth, call, keeps, statement, number_of, statements, function, started}
 use Rattle.mdr_model.specs.Faults.{params_of, args_fault}
 use Rattle.mdr_model.specs.ReplyFaults.{callee_is, calls_func, any_calls, has_down_stub, has_number, any_has_number, is_user_place, user_stop}
 use Rattle.mdr_core.specs.Types.{first_types}
-use Rattle.mdr_model.specs.Runnable.{IsVariable, IsRunnablePlace, IsRunnableExpr, IsRunnableWritel, IsRunnableCall, IsRunnableStep, IsRunnableBody, IsRunnableFunc, IsRunnable}
+use Rattle.mdr_model.specs.Runnable.{IsVariable, IsRunnablePlace, IsRightOperand, IsRunnableExpr, IsRunnableWritel, IsRunnableCall, IsRunnableStep, IsRunnableBody, IsRunnableFunc, IsRunnable}
 use Rattle.mdr_model.proofs.Fair.{Knowledge, IsAmong, Grows, IsKnownPointer, IsValueAt, IsPlace, IsUserStop, Fair}
 use Rattle.mdr_model.proofs.Relations.{globals_of}
 use Rattle.mdr_model.proofs.HoldsLaws.{all_get, IsThere, get_inside}
@@ -117,6 +125,35 @@ number_in_range k wire.NoValue e = absurd (Prim.cc)
 
 of_kind : (k : Kind) (n : ℤ) → is_in_range k n ≡ true → IsOfKind k (wire.Int k n)
 of_kind k n e = record { fit = and_from (is_same_kind k k) (is_in_range k n) (same_kind k) e }
+
+-- and of the same kind by another name
+of_same : (k l : Kind) (v : Wire) → l ≡ k → IsOfKind l v → IsOfKind k v
+of_same k l v e h = subst (λ (m : Kind). IsOfKind m v) e h
+
+-- the truth of a test is an int
+truth_of : (k : Kind) (b : Bool) → k ≡ S32 → IsOfKind k (truth b)
+unfolding is_in_range
+truth_of k true e = of_same k S32 (truth true) (sym e) (record { fit = refl })
+truth_of k false e = of_same k S32 (truth false) (sym e) (record { fit = refl })
+
+-- a right operand has a kind, whose numbers may stand to the right of the operator
+pub record HasRight (op : BinOp) (k : Kind) (P : Kind → Type 0) : Type 0 where
+  pub kind : Kind
+  pub is : P kind
+  pub stands : (n : ℤ) → is_in_range kind n ≡ true → is_right_operand op k n ≡ true
+
+pub has_right : (op : BinOp) (k : Kind) (P : Kind → Type 0) → IsRightOperand op k P → HasRight op k P
+unfolding is_right_operand
+has_right Shl k P h = record { kind = h.0; is = h.1; stands = λ n e. refl }
+has_right Shr k P h = record { kind = h.0; is = h.1; stands = λ n e. refl }
+has_right Add k P h = record { kind = k; is = h; stands = λ n e. e }
+has_right Sub k P h = record { kind = k; is = h; stands = λ n e. e }
+has_right Mul k P h = record { kind = k; is = h; stands = λ n e. e }
+has_right Div k P h = record { kind = k; is = h; stands = λ n e. e }
+has_right Rem k P h = record { kind = k; is = h; stands = λ n e. e }
+has_right BitAnd k P h = record { kind = k; is = h; stands = λ n e. e }
+has_right BitOr k P h = record { kind = k; is = h; stands = λ n e. e }
+has_right BitXor k P h = record { kind = k; is = h; stands = λ n e. e }
 
 fits_kind : (program : Program) (k : Kind) (v : Wire) → IsRunnable program → fits program (kind_number k) v ≡ fits_type (ty.Int k) v
 unfolding fits
@@ -281,22 +318,52 @@ module _ (program : Program) (sound : IsRunnable program) (side : Half) (func : 
   given_fair (Ok n) k at next K credit place ranged later = later (wire.Int k n) (of_kind k n (ranged n refl))
   given_fair (Err why) k at next K credit place ranged later = (place, operator_stop why)
 
+  chosen_fair : (b : Bool) (f g : (Wire → Tree) → Tree) (next : Wire → Tree) (K : Knowledge) (credit : ℕ) → Fair program side func K credit (f next) → Fair program side func K credit (g next)
+      → Fair program side func K credit (chosen b f g next)
+  chosen_fair true f g next K credit first second = first
+  chosen_fair false f g next K credit first second = second
+
   value_fair : (e : Term) (k : Kind) (at : At) (next : Wire → Tree) (K : Knowledge) (credit : ℕ) → IsRunnableExpr program e k → IsPlace program side at → Grows (globals_of program) K
       → ((v : Wire) → IsOfKind k v → Fair program side func K credit (next v)) → Fair program side func K credit (value program at e next)
   value_fair (Term.Lit v) k at next K credit s place grows later = later (wire_of v) (record { fit = s })
   value_fair (Term.Load p) k at next K credit s place grows later =
       (place, known_place program p k K s grows, λ v h. later v (value_of_place program p k v sound s h))
+  value_fair (Term.Neg l e) k at next K credit s place grows later =
+      value_fair e k at (λ x. given (negated l (integer x)) l at next) K credit s.1 place grows
+      (λ x hx. given_fair (negated l (integer x)) l at next K credit place (λ n e. negated-in_range l (integer x) n e) (λ v hv. later v (of_same k l v s.0 hv)))
+  value_fair (Term.Flip l e) k at next K credit s place grows later =
+      value_fair e k at (λ x. next (wire.Int l (flipped l (integer x)))) K credit s.1 place grows
+      (λ x hx. later (wire.Int l (flipped l (integer x))) (of_same k l (wire.Int l (flipped l (integer x))) s.0 (of_kind l (flipped l (integer x)) (flipped-in_range l (integer x)))))
+  value_fair (Term.Not e) k at next K credit s place grows later =
+      value_fair e s.1.0 at (λ x. next (truth (not (is_true x)))) K credit s.1.1 place grows (λ x hx. later (truth (not (is_true x))) (truth_of k (not (is_true x)) s.0))
   value_fair (Term.Bin op l a b) k at next K credit s place grows later =
+      let right : HasRight op k (IsRunnableExpr program b) = has_right op k (IsRunnableExpr program b) s.2 in
       value_fair a k at (λ x. value program at b (λ y. given (operated op l (integer x) (integer y)) l at next)) K credit s.1 place grows
-      (λ x hx. value_fair b k at (λ y. given (operated op l (integer x) (integer y)) l at next) K credit s.2 place grows
-      (λ y hy. of x y hx hy))
+      (λ x hx. value_fair b right.kind at (λ y. given (operated op l (integer x) (integer y)) l at next) K credit right.is place grows
+      (λ y hy. of x y (number_in_range k x hx.fit) (right.stands (integer y) (number_in_range right.kind y hy.fit))))
     where
-      of : (x y : Wire) → IsOfKind k x → IsOfKind k y → Fair program side func K credit (given (operated op l (integer x) (integer y)) l at next)
+      of : (x y : Wire) → is_in_range k (integer x) ≡ true → is_right_operand op k (integer y) ≡ true → Fair program side func K credit (given (operated op l (integer x) (integer y)) l at next)
       of x y hx hy =
           let same : k ≡ l = sym s.0 in
           subst (λ (m : Kind). Fair program side func K credit (given (operated op m (integer x) (integer y)) m at next)) same
-          (given_fair (operated op k (integer x) (integer y)) k at next K credit place
-          (λ n e. operated-in_range op k (integer x) (integer y) n (number_in_range k x hx.fit) (number_in_range k y hy.fit) e) later)
+          (given_fair (operated op k (integer x) (integer y)) k at next K credit place (λ n e. result-in_range op k (integer x) (integer y) n hx hy e) later)
+  value_fair (Term.Rel op a b) k at next K credit s place grows later =
+      value_fair a s.1.0 at (λ x. value program at b (λ y. next (compared op x y))) K credit s.1.1.0 place grows
+      (λ x hx. value_fair b s.1.0 at (λ y. next (compared op x y)) K credit s.1.1.1 place grows
+      (λ y hy. later (compared op x y) (truth_of k (by_order op (int_lt (integer x) (integer y)) (int_eq (integer x) (integer y))) s.0)))
+  value_fair (Term.And a b) k at next K credit s place grows later =
+      value_fair a s.1.0 at (λ x. chosen (is_true x) (value program at b) (gives (truth false)) (λ y. next (truth (is_true y)))) K credit s.1.1 place grows
+      (λ x hx. chosen_fair (is_true x) (value program at b) (gives (truth false)) (λ y. next (truth (is_true y))) K credit
+      (value_fair b s.2.0 at (λ y. next (truth (is_true y))) K credit s.2.1 place grows (λ y hy. later (truth (is_true y)) (truth_of k (is_true y) s.0)))
+      (later (truth false) (truth_of k false s.0)))
+  value_fair (Term.Or a b) k at next K credit s place grows later =
+      value_fair a s.1.0 at (λ x. chosen (is_true x) (gives (truth true)) (value program at b) (λ y. next (truth (is_true y)))) K credit s.1.1 place grows
+      (λ x hx. chosen_fair (is_true x) (gives (truth true)) (value program at b) (λ y. next (truth (is_true y))) K credit
+      (later (truth true) (truth_of k true s.0))
+      (value_fair b s.2.0 at (λ y. next (truth (is_true y))) K credit s.2.1 place grows (λ y hy. later (truth (is_true y)) (truth_of k (is_true y) s.0))))
+  value_fair (Term.Conv l e) k at next K credit s place grows later =
+      value_fair e s.1.0 at (λ x. next (wire.Int l (converted l (integer x)))) K credit s.1.1 place grows
+      (λ x hx. later (wire.Int l (converted l (integer x))) (of_same k l (wire.Int l (converted l (integer x))) s.0 (of_kind l (converted l (integer x)) (converted-in_range l (integer x)))))
   value_fair _ k at next K credit s place grows later = elim s [ ]
 
   -- `writel` of two u32 numbers

@@ -3,6 +3,8 @@ use Rattle.std.specs.Prelude.{◌≡◌, Bool, true, false, List, [], Some}
 use Rattle.std.specs.List.{AllByRecursion}
 use Rattle.mdr_core.specs.declared.types.Ty.{Ty}
 use Rattle.mdr_core.specs.declared.types.Ty.TheVariants as ty
+use Rattle.mdr_core.specs.declared.value.Value.{Value}
+use Rattle.mdr_core.specs.declared.value.Value.TheVariants as value
 use Rattle.mdr_core.specs.declared.program.Program.{Program}
 use Rattle.mdr_core.specs.declared.program.GlobalDef.{GlobalDef}
 use Rattle.mdr_core.specs.declared.program.Func.{Func}
@@ -10,7 +12,6 @@ use Rattle.mdr_core.specs.declared.code.Stmt.{Stmt}
 use Rattle.mdr_core.specs.Code.{Term, Lvalue, Called, Goal, Code, Codes}
 use Rattle.mdr_core.specs.Folds.{codes_of}
 use Rattle.mdr_core.specs.Types.{first_types}
-use Rattle.mdr_core.specs.Typing.{int, Has}
 use Rattle.mdr_model.specs.Meaning.{is_kernel}
 
 -- cells hold integers and locks
@@ -24,12 +25,24 @@ abbrev pub IsBuiltLvalue : Lvalue → Type 0
 IsBuiltLvalue (Lvalue.Global g) = Unit {0}
 IsBuiltLvalue _ = ⊥
 
--- expressions are literals, loads and operators, whose operands are of one kind, those of shifts too
-abbrev pub IsBuiltTerm : Program → Term → Type 0
-IsBuiltTerm program (Term.Lit v) = Unit {0}
-IsBuiltTerm program (Term.Load p) = IsBuiltLvalue p
-IsBuiltTerm program (Term.Bin op k a b) = IsBuiltTerm program a × IsBuiltTerm program b × Has program [] b (int k)
-IsBuiltTerm program _ = ⊥
+-- literals are integers
+abbrev pub IsBuiltLiteral : Value → Type 0
+IsBuiltLiteral (value.Int k n) = Unit {0}
+IsBuiltLiteral _ = ⊥
+
+-- expressions are integers: literals, loads, operators and conversions
+abbrev pub IsBuiltTerm : Term → Type 0
+IsBuiltTerm (Term.Lit v) = IsBuiltLiteral v
+IsBuiltTerm (Term.Load p) = IsBuiltLvalue p
+IsBuiltTerm (Term.Neg k e) = IsBuiltTerm e
+IsBuiltTerm (Term.Flip k e) = IsBuiltTerm e
+IsBuiltTerm (Term.Not e) = IsBuiltTerm e
+IsBuiltTerm (Term.Bin op k a b) = IsBuiltTerm a × IsBuiltTerm b
+IsBuiltTerm (Term.Rel op a b) = IsBuiltTerm a × IsBuiltTerm b
+IsBuiltTerm (Term.And a b) = IsBuiltTerm a × IsBuiltTerm b
+IsBuiltTerm (Term.Or a b) = IsBuiltTerm a × IsBuiltTerm b
+IsBuiltTerm (Term.Conv k e) = IsBuiltTerm e
+IsBuiltTerm _ = ⊥
 
 -- a function of the user half calls functions of the kernel half alone, and one of the kernel half calls none; of the services there is `writel`
 abbrev pub IsBuiltCallee : Program → (is_critical : Bool) → Called → Type 0
@@ -39,8 +52,8 @@ IsBuiltCallee program is_critical (Called.Through e) = ⊥
 
 -- statements are assignments, and calls whose values go nowhere
 abbrev pub IsBuiltStep : Program → (is_critical : Bool) → Code → Type 0
-IsBuiltStep program is_critical (Code.Assign n p e) = IsBuiltLvalue p × IsBuiltTerm program e
-IsBuiltStep program is_critical (Code.Call n goal call) = (goal ≡ Goal.Nowhere) × IsBuiltCallee program is_critical call.callee × AllByRecursion (IsBuiltTerm program) call.args
+IsBuiltStep program is_critical (Code.Assign n p e) = IsBuiltLvalue p × IsBuiltTerm e
+IsBuiltStep program is_critical (Code.Call n goal call) = (goal ≡ Goal.Nowhere) × IsBuiltCallee program is_critical call.callee × AllByRecursion IsBuiltTerm call.args
 IsBuiltStep program is_critical _ = ⊥
 
 abbrev pub IsBuiltBody : Program → (is_critical : Bool) → Codes → Type 0

@@ -1,5 +1,6 @@
 -- The tree of a function's body (C99 6.8, 6.9.1). It is made by passing on what comes next. One function serves both halves: bodies of the own half are entered, a call of any other function is a crossing.
-use Rattle.std.specs.Prelude.{ℕ, zero, suc, Bool, true, false, not, ◌&&◌, List, [], ◌∷◌, length, Option, Some, None, Result, Ok, Err, ℤ, nat_lt, slice_get, unwrap_or}
+use Rattle.std.specs.Prelude.{ℕ, zero, suc, Bool, true, false, not, ◌&&◌, List, [], ◌∷◌, length, Option, Some, None, Result, Ok, Err, ℤ, nat_lt, int_lt, slice_get, unwrap_or}
+use Rattle.std.specs.Ordering.{int_eq}
 use Rattle.mdr_core.specs.declared.kind.Kind.{Kind}
 use Rattle.mdr_core.specs.declared.undefined.Undefined.{Undefined}
 use Rattle.mdr_core.specs.declared.stop.StopKind.{StopKind}
@@ -11,12 +12,16 @@ use Rattle.mdr_core.specs.declared.program.Program.{Program}
 use Rattle.mdr_core.specs.declared.program.GlobalDef.{GlobalDef}
 use Rattle.mdr_core.specs.declared.program.Func.{Func}
 use Rattle.mdr_core.specs.declared.code.Stmt.{Stmt}
+use Rattle.mdr_core.specs.declared.code.RelOp.{RelOp}
 use Rattle.mdr_core.specs.Code.{Term, Lvalue, Called, Goal, Code, Codes}
+use Rattle.mdr_core.specs.Conversions.{converted}
 use Rattle.mdr_core.specs.Folds.{codes_of}
-use Rattle.mdr_core.specs.Operators.{operated}
+use Rattle.mdr_core.specs.Layout.{chosen}
+use Rattle.mdr_core.specs.Operators.{operated, negated, flipped}
 use Rattle.mdr_meaning.specs.declared.wire.Wire.{Wire}
 use Rattle.mdr_meaning.specs.declared.wire.Wire.TheVariants as wire
-use Rattle.mdr_meaning.specs.Values.{wire_of, integer, stop_of, first_of}
+use Rattle.mdr_meaning.specs.Pointers.{by_order}
+use Rattle.mdr_meaning.specs.Values.{wire_of, integer, stop_of, first_of, is_true, truth}
 use Rattle.mdr_model.specs.Values.{type_number}
 use Rattle.mdr_model.specs.Tree.{Tree}
 
@@ -63,11 +68,32 @@ abbrev pub given : Result ℤ Undefined → Kind → At → (Wire → Tree) → 
 given (Ok n) kind at k = k (wire.Int kind n)
 given (Err why) kind at k = Tree.Stop (stop_of why) at
 
+-- a value that is there already
+abbrev pub gives : Wire → (Wire → Tree) → Tree
+gives v k = k v
+
+-- two integers compared (6.5.8, 6.5.9, paragraph 3)
+abbrev pub compared : RelOp → Wire → Wire → Wire
+compared op x y = truth (by_order op (int_lt (integer x) (integer y)) (int_eq (integer x) (integer y)))
+
 abbrev pub value : Program → At → Term → (Wire → Tree) → Tree
+-- 6.5.1
 value program at (Term.Lit v) k = k (wire_of v)
 value program at (Term.Load place) k = Tree.Load at (pointer_to program place) k
+-- 6.5.3.3
+value program at (Term.Neg kind e) k = value program at e (λ x. given (negated kind (integer x)) kind at k)
+value program at (Term.Flip kind e) k = value program at e (λ x. k (wire.Int kind (flipped kind (integer x))))
+value program at (Term.Not e) k = value program at e (λ x. k (truth (not (is_true x))))
+-- 6.5.5 to 6.5.7, 6.5.10 to 6.5.12
 value program at (Term.Bin op kind a b) k =
     value program at a (λ x. value program at b (λ y. given (operated op kind (integer x) (integer y)) kind at k))
+-- 6.5.8, 6.5.9
+value program at (Term.Rel op a b) k = value program at a (λ x. value program at b (λ y. k (compared op x y)))
+-- the right operand is evaluated only where the left doesn't decide (6.5.13, 6.5.14, paragraph 4)
+value program at (Term.And a b) k = value program at a (λ x. chosen (is_true x) (value program at b) (gives (truth false)) (λ y. k (truth (is_true y))))
+value program at (Term.Or a b) k = value program at a (λ x. chosen (is_true x) (gives (truth true)) (value program at b) (λ y. k (truth (is_true y))))
+-- 6.3.1.3
+value program at (Term.Conv kind e) k = value program at e (λ x. k (wire.Int kind (converted kind (integer x))))
 -- other expressions aren't built: no sound program has one, and it ends here
 value program at _ k = Tree.Stop stop.NoValue at
 

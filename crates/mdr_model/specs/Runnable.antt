@@ -2,13 +2,15 @@
 use Rattle.std.specs.Prelude.{◌≡◌, ℕ, ◌<◌, ◌≤◌, Bool, true, false, List, [], ◌∷◌, map, length, Some, None, slice_get}
 use Rattle.std.specs.List.{AllByRecursion}
 use Rattle.mdr_core.specs.declared.kind.Kind.{Kind}
-use Rattle.mdr_core.specs.declared.kind.Kind.TheVariants.{U32}
+use Rattle.mdr_core.specs.declared.kind.Kind.TheVariants.{U32, S32}
 use Rattle.mdr_core.specs.declared.types.Ty.TheVariants as ty
 use Rattle.mdr_core.specs.declared.value.Value.{Value}
 use Rattle.mdr_core.specs.declared.program.Program.{Program}
 use Rattle.mdr_core.specs.declared.program.GlobalDef.{GlobalDef}
 use Rattle.mdr_core.specs.declared.program.Func.{Func}
 use Rattle.mdr_core.specs.declared.code.Stmt.{Stmt}
+use Rattle.mdr_core.specs.declared.code.BinOp.{BinOp}
+use Rattle.mdr_core.specs.declared.code.BinOp.TheVariants.{Add, Sub, Mul, Div, Rem, Shl, Shr, BitAnd, BitOr, BitXor}
 use Rattle.mdr_core.specs.Code.{Term, Lvalue, Called, Goal, Code, Codes}
 use Rattle.mdr_core.specs.Folds.{codes_of}
 use Rattle.mdr_core.specs.Types.{first_types}
@@ -40,11 +42,35 @@ IsRunnablePlace program (Lvalue.Global g) k = IsVariable program g k
 -- other lvalues aren't built
 IsRunnablePlace program _ k = ⊥
 
--- an expression has this kind, and so have its parts
+-- an integer of whatever kind
+abbrev pub IsOfSomeKind : (Kind → Type 0) → Type 0
+IsOfSomeKind e = (k : Kind) × e k
+
+-- the right operand of an operator at a kind: the count of a shift has a kind of its own (C99 6.5.7, paragraph 3)
+abbrev pub IsRightOperand : BinOp → Kind → (Kind → Type 0) → Type 0
+IsRightOperand Shl k b = IsOfSomeKind b
+IsRightOperand Shr k b = IsOfSomeKind b
+IsRightOperand Add k b = b k
+IsRightOperand Sub k b = b k
+IsRightOperand Mul k b = b k
+IsRightOperand Div k b = b k
+IsRightOperand Rem k b = b k
+IsRightOperand BitAnd k b = b k
+IsRightOperand BitOr k b = b k
+IsRightOperand BitXor k b = b k
+
+-- an expression has this kind, and its parts have those that its form asks for
 abbrev pub IsRunnableExpr : Program → Term → Kind → Type 0
 IsRunnableExpr program (Term.Lit v) k = fits_type (ty.Int k) (wire_of v) ≡ true
 IsRunnableExpr program (Term.Load place) k = IsRunnablePlace program place k
-IsRunnableExpr program (Term.Bin op l a b) k = (l ≡ k) × IsRunnableExpr program a k × IsRunnableExpr program b k
+IsRunnableExpr program (Term.Neg l e) k = (l ≡ k) × IsRunnableExpr program e k
+IsRunnableExpr program (Term.Flip l e) k = (l ≡ k) × IsRunnableExpr program e k
+IsRunnableExpr program (Term.Not e) k = (k ≡ S32) × IsOfSomeKind (IsRunnableExpr program e)
+IsRunnableExpr program (Term.Bin op l a b) k = (l ≡ k) × IsRunnableExpr program a k × IsRightOperand op k (IsRunnableExpr program b)
+IsRunnableExpr program (Term.Rel op a b) k = (k ≡ S32) × IsOfSomeKind (λ l. IsRunnableExpr program a l × IsRunnableExpr program b l)
+IsRunnableExpr program (Term.And a b) k = (k ≡ S32) × IsOfSomeKind (IsRunnableExpr program a) × IsOfSomeKind (IsRunnableExpr program b)
+IsRunnableExpr program (Term.Or a b) k = (k ≡ S32) × IsOfSomeKind (IsRunnableExpr program a) × IsOfSomeKind (IsRunnableExpr program b)
+IsRunnableExpr program (Term.Conv l e) k = (l ≡ k) × IsOfSomeKind (IsRunnableExpr program e)
 -- other expressions aren't built
 IsRunnableExpr program _ k = ⊥
 
