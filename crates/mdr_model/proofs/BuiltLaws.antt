@@ -28,7 +28,7 @@ use Rattle.mdr_core.specs.Sound.{IsFirstValue, all_cells, IsSoundGlobal, HasType
 use Rattle.mdr_meaning.specs.Values.{wire_of}
 use Rattle.mdr_model.specs.Values.{fits_type}
 use Rattle.mdr_model.specs.Built.{IsBuiltCell, IsBuiltLvalue, IsBuiltTerm, IsBuiltCallee, IsBuiltStep, IsBuiltBody, IsBuiltFunc, IsBuilt}
-use Rattle.mdr_model.specs.Runnable.{IsVariable, IsRunnablePlace, IsOfSomeKind, IsRightOperand, IsRunnableExpr, IsRunnableWritel, IsRunnableCall, IsRunnableStep, IsRunnableBody, IsRunnableFunc, IsRunnableGlobal, IsRunnable}
+use Rattle.mdr_model.specs.Runnable.{IsVariable, IsRunnablePlace, IsOfSomeKind, IsRightKind, IsRunnableExpr, IsRunnableWritel, IsRunnableCall, IsRunnableStep, IsRunnableBody, IsRunnableFunc, IsRunnableGlobal, IsRunnable}
 use Rattle.mdr_model.proofs.HoldsLaws.{all_get}
 
 -- ---- globals
@@ -113,17 +113,17 @@ int_of : (k l : Kind) → int k ≡ int l → k ≡ l
 int_of k l e = Prim.cc
 
 -- the right operand, given what is to be known of an expression with a kind
-right_of : (op : BinOp) (k : Kind) (H : Ty → Type 0) (P : Kind → Type 0) → RightOperand op k H → ((m : Kind) → H (int m) → P m) → IsRightOperand op k P
-right_of Shl k H P h each = (h.0, each h.0 h.1)
-right_of Shr k H P h each = (h.0, each h.0 h.1)
-right_of Add k H P h each = each k h
-right_of Sub k H P h each = each k h
-right_of Mul k H P h each = each k h
-right_of Div k H P h each = each k h
-right_of Rem k H P h each = each k h
-right_of BitAnd k H P h each = each k h
-right_of BitOr k H P h each = each k h
-right_of BitXor k H P h each = each k h
+right_of : (op : BinOp) (k : Kind) (H : Ty → Type 0) (P : Kind → Type 0) → RightOperand op k H → ((m : Kind) → H (int m) → P m) → IsOfSomeKind (λ m. P m × IsRightKind op k m)
+right_of Shl k H P h each = (h.0, (each h.0 h.1, tt))
+right_of Shr k H P h each = (h.0, (each h.0 h.1, tt))
+right_of Add k H P h each = (k, (each k h, refl))
+right_of Sub k H P h each = (k, (each k h, refl))
+right_of Mul k H P h each = (k, (each k h, refl))
+right_of Div k H P h each = (k, (each k h, refl))
+right_of Rem k H P h each = (k, (each k h, refl))
+right_of BitAnd k H P h each = (k, (each k h, refl))
+right_of BitOr k H P h each = (k, (each k h, refl))
+right_of BitXor k H P h each = (k, (each k h, refl))
 
 module _ (program : Program) (sound : IsSound program) (built : IsBuilt program) where
   -- a global that has a type without brackets
@@ -209,7 +209,7 @@ module _ (program : Program) (sound : IsSound program) (built : IsBuilt program)
       let same : k ≡ l = int_of k l h.is in (
         sym same,
         runnable_expr a k b.0 (subst (λ (m : Kind). Has program [] a (int m)) (sym same) h.left),
-        subst (λ (m : Kind). IsRightOperand op m (IsRunnableExpr program c)) (sym same) (right_of op l (Has program [] c) (IsRunnableExpr program c) h.right (λ m g. runnable_expr c m b.1 g)),
+        subst (λ (m : Kind). IsOfSomeKind (λ n. IsRunnableExpr program c n × IsRightKind op m n)) (sym same) (right_of op l (Has program [] c) (IsRunnableExpr program c) h.right (λ m g. runnable_expr c m b.1 g)),
       )
   runnable_expr (Term.Rel op a c) k b h =
       let i : IsInteger h.type = integer_expr a h.type b.0 h.left in

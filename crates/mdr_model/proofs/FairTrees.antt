@@ -41,7 +41,7 @@ use Rattle.mdr_model.specs.Meaning.{func_at, critical_of, is_kernel, is_user, is
 use Rattle.mdr_model.specs.Faults.{params_of, args_fault}
 use Rattle.mdr_model.specs.ReplyFaults.{callee_is, calls_func, any_calls, has_down_stub, has_number, any_has_number, is_user_place, user_stop}
 use Rattle.mdr_core.specs.Types.{first_types}
-use Rattle.mdr_model.specs.Runnable.{IsVariable, IsRunnablePlace, IsRightOperand, IsRunnableExpr, IsRunnableWritel, IsRunnableCall, IsRunnableStep, IsRunnableBody, IsRunnableFunc, IsRunnable}
+use Rattle.mdr_model.specs.Runnable.{IsVariable, IsRunnablePlace, IsOfSomeKind, IsRightKind, IsRunnableExpr, IsRunnableWritel, IsRunnableCall, IsRunnableStep, IsRunnableBody, IsRunnableFunc, IsRunnable}
 use Rattle.mdr_model.proofs.Fair.{Knowledge, IsAmong, Grows, IsKnownPointer, IsValueAt, IsPlace, IsUserStop, Fair}
 use Rattle.mdr_model.proofs.Relations.{globals_of}
 use Rattle.mdr_model.proofs.HoldsLaws.{all_get, IsThere, get_inside}
@@ -142,18 +142,18 @@ pub record HasRight (op : BinOp) (k : Kind) (P : Kind → Type 0) : Type 0 where
   pub is : P kind
   pub stands : (n : ℤ) → is_in_range kind n ≡ true → is_right_operand op k n ≡ true
 
-pub has_right : (op : BinOp) (k : Kind) (P : Kind → Type 0) → IsRightOperand op k P → HasRight op k P
+pub has_right : (op : BinOp) (k : Kind) (P : Kind → Type 0) → IsOfSomeKind (λ m. P m × IsRightKind op k m) → HasRight op k P
 unfolding is_right_operand
-has_right Shl k P h = record { kind = h.0; is = h.1; stands = λ n e. refl }
-has_right Shr k P h = record { kind = h.0; is = h.1; stands = λ n e. refl }
-has_right Add k P h = record { kind = k; is = h; stands = λ n e. e }
-has_right Sub k P h = record { kind = k; is = h; stands = λ n e. e }
-has_right Mul k P h = record { kind = k; is = h; stands = λ n e. e }
-has_right Div k P h = record { kind = k; is = h; stands = λ n e. e }
-has_right Rem k P h = record { kind = k; is = h; stands = λ n e. e }
-has_right BitAnd k P h = record { kind = k; is = h; stands = λ n e. e }
-has_right BitOr k P h = record { kind = k; is = h; stands = λ n e. e }
-has_right BitXor k P h = record { kind = k; is = h; stands = λ n e. e }
+has_right Shl k P h = record { kind = h.0; is = h.1.0; stands = λ n e. refl }
+has_right Shr k P h = record { kind = h.0; is = h.1.0; stands = λ n e. refl }
+has_right Add k P h = record { kind = h.0; is = h.1.0; stands = λ n e. subst (λ m. is_in_range m n ≡ true) h.1.1 e }
+has_right Sub k P h = record { kind = h.0; is = h.1.0; stands = λ n e. subst (λ m. is_in_range m n ≡ true) h.1.1 e }
+has_right Mul k P h = record { kind = h.0; is = h.1.0; stands = λ n e. subst (λ m. is_in_range m n ≡ true) h.1.1 e }
+has_right Div k P h = record { kind = h.0; is = h.1.0; stands = λ n e. subst (λ m. is_in_range m n ≡ true) h.1.1 e }
+has_right Rem k P h = record { kind = h.0; is = h.1.0; stands = λ n e. subst (λ m. is_in_range m n ≡ true) h.1.1 e }
+has_right BitAnd k P h = record { kind = h.0; is = h.1.0; stands = λ n e. subst (λ m. is_in_range m n ≡ true) h.1.1 e }
+has_right BitOr k P h = record { kind = h.0; is = h.1.0; stands = λ n e. subst (λ m. is_in_range m n ≡ true) h.1.1 e }
+has_right BitXor k P h = record { kind = h.0; is = h.1.0; stands = λ n e. subst (λ m. is_in_range m n ≡ true) h.1.1 e }
 
 fits_kind : (program : Program) (k : Kind) (v : Wire) → IsRunnable program → fits program (kind_number k) v ≡ fits_type (ty.Int k) v
 unfolding fits

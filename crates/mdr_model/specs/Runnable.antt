@@ -10,7 +10,7 @@ use Rattle.mdr_core.specs.declared.program.GlobalDef.{GlobalDef}
 use Rattle.mdr_core.specs.declared.program.Func.{Func}
 use Rattle.mdr_core.specs.declared.code.Stmt.{Stmt}
 use Rattle.mdr_core.specs.declared.code.BinOp.{BinOp}
-use Rattle.mdr_core.specs.declared.code.BinOp.TheVariants.{Add, Sub, Mul, Div, Rem, Shl, Shr, BitAnd, BitOr, BitXor}
+use Rattle.mdr_core.specs.declared.code.BinOp.TheVariants.{Shl, Shr}
 use Rattle.mdr_core.specs.Code.{Term, Lvalue, Called, Goal, Code, Codes}
 use Rattle.mdr_core.specs.Folds.{codes_of}
 use Rattle.mdr_core.specs.Types.{first_types}
@@ -46,18 +46,11 @@ IsRunnablePlace program _ k = ⊥
 abbrev pub IsOfSomeKind : (Kind → Type 0) → Type 0
 IsOfSomeKind e = (k : Kind) × e k
 
--- the right operand of an operator at a kind: the count of a shift has a kind of its own (C99 6.5.7, paragraph 3)
-abbrev pub IsRightOperand : BinOp → Kind → (Kind → Type 0) → Type 0
-IsRightOperand Shl k b = IsOfSomeKind b
-IsRightOperand Shr k b = IsOfSomeKind b
-IsRightOperand Add k b = b k
-IsRightOperand Sub k b = b k
-IsRightOperand Mul k b = b k
-IsRightOperand Div k b = b k
-IsRightOperand Rem k b = b k
-IsRightOperand BitAnd k b = b k
-IsRightOperand BitOr k b = b k
-IsRightOperand BitXor k b = b k
+-- the kind that a right operand may have: that of the operator, but the count of a shift has one of its own (C99 6.5.7, paragraph 3)
+abbrev pub IsRightKind : BinOp → (k right : Kind) → Type 0
+IsRightKind Shl k right = Unit {0}
+IsRightKind Shr k right = Unit {0}
+IsRightKind _ k right = right ≡ k
 
 -- an expression has this kind, and its parts have those that its form asks for
 abbrev pub IsRunnableExpr : Program → Term → Kind → Type 0
@@ -66,7 +59,7 @@ IsRunnableExpr program (Term.Load place) k = IsRunnablePlace program place k
 IsRunnableExpr program (Term.Neg l e) k = (l ≡ k) × IsRunnableExpr program e k
 IsRunnableExpr program (Term.Flip l e) k = (l ≡ k) × IsRunnableExpr program e k
 IsRunnableExpr program (Term.Not e) k = (k ≡ S32) × IsOfSomeKind (IsRunnableExpr program e)
-IsRunnableExpr program (Term.Bin op l a b) k = (l ≡ k) × IsRunnableExpr program a k × IsRightOperand op k (IsRunnableExpr program b)
+IsRunnableExpr program (Term.Bin op l a b) k = (l ≡ k) × IsRunnableExpr program a k × IsOfSomeKind (λ m. IsRunnableExpr program b m × IsRightKind op k m)
 IsRunnableExpr program (Term.Rel op a b) k = (k ≡ S32) × IsOfSomeKind (λ l. IsRunnableExpr program a l × IsRunnableExpr program b l)
 IsRunnableExpr program (Term.And a b) k = (k ≡ S32) × IsOfSomeKind (IsRunnableExpr program a) × IsOfSomeKind (IsRunnableExpr program b)
 IsRunnableExpr program (Term.Or a b) k = (k ≡ S32) × IsOfSomeKind (IsRunnableExpr program a) × IsOfSomeKind (IsRunnableExpr program b)
