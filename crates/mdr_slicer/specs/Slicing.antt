@@ -18,10 +18,6 @@ use Rattle.mdr_slicer.specs.Writes.{Writes, WritesPart}
 
 -- ---- sources
 
--- where a source isn't refused its program is sound
-abbrev pub SourcesAreSound : Type 0
-SourcesAreSound = (bytes : List ℕ) (source : Source) → Comes bytes (Ok source) → IsSound source.program
-
 -- a source's bytes have this tree and this program, which is sound
 pub record HasSource (bytes : List ℕ) (source : Source) : Type 0 where
   pub comes : Comes bytes (Ok source)

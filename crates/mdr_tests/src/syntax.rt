@@ -1,5 +1,4 @@
-use mdr_core::{Kind, Place, Program};
-use mdr_first::{ScriptError, SourceError, read_script, read_source};
+use mdr_core::{Kind, Place};
 use mdr_syntax::{LexError, Lexeme, Token, tokens};
 use std::alloc::{AllocError, Global};
 use std::test::*;
@@ -131,93 +130,5 @@ fn places(rt: HostRuntime) -> Result<(), Fail> {
     assert_eq!(rt; a.place, at(1, 1));
     assert_eq!(rt; b.place, at(3, 3));
     assert_eq!(rt; end.place, at(3, 5));
-    Ok(())
-}
-
-const BUMP: &str = "u32 count; __critical void bump(void){count=count+1;} \
-    void open(void){bump(); writel(count,4); bump();}";
-
-fn program(alloc: Global, text: &str) -> Result<Program, Fail> {
-    let read = tokens(alloc, text.as_bytes()).ok().ok_or("no tokens")?;
-    let program = read_source(alloc, read.as_slice())
-        .ok()
-        .ok_or("no program")?;
-    Ok(program)
-}
-
-#[test]
-fn sources(rt: HostRuntime) -> Result<(), Fail> {
-    for text in [
-        "",
-        "u32 a; void f(void){a=a+1;}",
-        "#include <x.h>\nu32 a; u32 b; void f(void){a=b+a+0x10; writel(7, 3);}",
-        BUMP,
-    ] {
-        program(rt.alloc(), text)?;
-    }
-    let bump = program(rt.alloc(), BUMP)?;
-    assert_eq!(rt; bump.globals.len(), 1);
-    let [_, open] = bump.funcs.as_slice() else {
-        return Err("two functions".into());
-    };
-    let body = open.body.as_ref().ok_or("a body")?;
-    assert_eq!(rt; body.len(), 3);
-    Ok(())
-}
-
-#[test]
-fn unbuilt_sources(rt: HostRuntime) -> Result<(), Fail> {
-    for text in [
-        "s32 a;",
-        "u32 a; u32 a;",
-        "u32 a; void a(void){}",
-        "void f(void){a=1;} u32 a;",
-        "void f(void){g();} __critical void g(void){}",
-        "__critical void g(void){} __critical void f(void){g();}",
-        "void g(void){} void f(void){g();}",
-        "u32 a; void f(void){a=1+a;}",
-        "u32 a; void f(void){a=1u;}",
-        "u32 a; void f(void){a=2147483648;}",
-        "u32 while;",
-        "u32 a",
-        "u32 a;;",
-    ] {
-        let read = tokens(rt.alloc(), text.as_bytes()).ok().ok_or(text)?;
-        let is_unbuilt = match read_source(rt.alloc(), read.as_slice()) {
-            Err(SourceError::Unbuilt) => true,
-            _ => false,
-        };
-        assert!(rt; is_unbuilt, "at {text}");
-    }
-    Ok(())
-}
-
-#[test]
-fn scripts(rt: HostRuntime) -> Result<(), Fail> {
-    let bump = program(rt.alloc(), BUMP)?;
-    for (text, count) in [
-        ("", 0),
-        ("call open", 1),
-        ("call open\n\n# a comment\n \t\n\tcall  bump \n", 2),
-    ] {
-        let read = read_script(rt.alloc(), &bump, text.as_bytes())
-            .ok()
-            .ok_or(text)?;
-        assert_eq!(rt; read.len(), count, "at {text}");
-    }
-    for (text, line) in [
-        ("idle 3", 1),
-        ("call open\n\ncall", 3),
-        ("call open\r\n", 1),
-        ("\ncall shut\nidle", 2),
-        ("call open 1", 1),
-        (" # no comment", 1),
-    ] {
-        let is_unbuilt = match read_script(rt.alloc(), &bump, text.as_bytes()) {
-            Err(ScriptError::Unbuilt(n)) => n == line,
-            _ => false,
-        };
-        assert!(rt; is_unbuilt, "at {text}");
-    }
     Ok(())
 }

@@ -220,9 +220,15 @@ fn a_tick_that_is_wanting_is_told_as_a_stop(rt: HostRuntime) -> Result<(), Fail>
 }
 
 #[test]
-fn a_text_that_is_no_program_is_refused(rt: HostRuntime) {
+fn a_text_whose_program_is_not_ready_is_refused(rt: HostRuntime) {
     let alloc = rt.alloc();
-    for source in ["u32", "void f(void){g();}", "u32 a; u32 a;", "\u{1}"] {
+    for source in [
+        "u32",
+        "void f(void){g();}",
+        "u32 a; u32 a;",
+        "u32 *p;",
+        "\u{1}",
+    ] {
         let loaded = UserHalf::load(alloc, source.as_bytes(), &[]);
         assert!(rt; matches!(loaded, Err(LoadError::Source)), "{source}");
         let mut far = LocalFar::new();

@@ -15,9 +15,9 @@ use Rattle.mdr_model.proofs.BuiltLaws.{runnable}
 use Rattle.mdr_model.proofs.Commands.{no_params}
 use Rattle.mdr_top.specs.Commands.{call_of, each_called}
 use Rattle.mdr_top.specs.Answers.{HasScript}
-use Rattle.mdr_first.specs.declared.script.Command.{Command}
-use Rattle.mdr_first.specs.declared.script.Command.TheVariants.{Nothing, Call, Other}
-use Rattle.mdr_first.specs.Scripts.{command_of, func_number, call_or_other, with_command, calls_from, calls_of, lines_of, word_at, begins_hash, is_empty, is_call}
+use Rattle.mdr_calls.specs.declared.script.Command.{Command}
+use Rattle.mdr_calls.specs.declared.script.Command.TheVariants.{Nothing, Call, Other}
+use Rattle.mdr_calls.specs.Scripts.{command_of, func_number, call_or_other, with_command, calls_from, calls_of, lines_of, word_at, begins_hash, is_empty, is_call}
 
 found_inside : (p : Func → Bool) (funcs : List Func) (f : ℕ) → position p funcs ≡ Some f → f < length funcs
 found_inside p funcs f e = of (nat_lt (position_or_len p funcs) (length funcs)) refl e

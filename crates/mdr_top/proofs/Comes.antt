@@ -16,7 +16,6 @@ use Rattle.mdr_outside.specs.declared.shelf.ReadAnswer.TheVariants as reads
 use Rattle.mdr_outside.specs.declared.far.Loaded.{Loaded}
 use Rattle.mdr_outside.specs.declared.far.Exchange.{Exchange}
 use Rattle.mdr_outside.specs.Shelf.{ReadsFrom}
-use Rattle.mdr_user.specs.Honest.{program_of_tokens, program_of_text}
 use Rattle.mdr_due.specs.declared.status.Status.{Status}
 use Rattle.mdr_due.specs.declared.status.Status.TheVariants as status
 use Rattle.mdr_top.specs.declared.words.Cutting.{Cutting}
@@ -24,18 +23,9 @@ use Rattle.mdr_top.specs.declared.words.Cutting.TheVariants as cutting
 use Rattle.mdr_top.specs.Words.{Cut, Run, command_of}
 use Rattle.mdr_top.specs.Cuts.{IsSplit, IsCut}
 use Rattle.mdr_due.specs.Reads.{Files, longest_source}
-use Rattle.mdr_top.specs.Answers.{longest_script, default_ticks, status_of, Unread, NoSource, NoProgram, HasProgram, Ran, Called, Scripted, Compiled, Sourced, CutAnswered, Answered, Prints}
+use Rattle.mdr_top.specs.Answers.{longest_script, status_of, Unread, HasProgram, Ran, Called, Scripted, Compiled, Sourced, CutAnswered, Answered, Prints}
 use Rattle.mdr_top.specs.Comes.{IsWanted, IsDueToFar, Ends, IsEnd, IsRefused, WasCut, IsDone, Comes}
 use Rattle.mdr_top.proofs.Headline.{nothing_end}
-
-pub no_program : (source : List ℕ) (s : Status) (text : List ℕ) → NoProgram source s text → program_of_text source ≡ None
-no_program source s text (NoProgram.fault e r is t) = ap program_of_tokens r
-no_program source s text (NoProgram.undeclared ts r none why) = ap program_of_tokens r ∙ none
-
-pub source_is : (source : List ℕ) (s : Status) (text : List ℕ) → NoProgram source s text → s ≡ status.SourceRefused
-source_is source s text (NoProgram.fault e r is t) = is
-source_is source s text (NoProgram.undeclared ts r none (NoSource.unparsed n first is t)) = is
-source_is source s text (NoProgram.undeclared ts r none (NoSource.unbuilt tree reads is t)) = is
 
 -- a read that failed says nothing
 failed_reads : (files : Files) (name : List ℕ) (limit : ℕ) → ReadsFrom files name limit reads.Failed
@@ -53,12 +43,12 @@ unfolding outcome_of
 end_is f = refl
 
 -- a run's outcome shows what the far side has to do with its end
-due_to_far : (program : Program) (calls : List Command) (es : List Exchange) (o : Outcome) → IsRun program calls default_ticks es o → IsDueToFar program calls es o.end
-due_to_far program calls es o run =
-    let p : Pending = (run_over program calls default_ticks es).pending in
-    let ended : HasEnded program calls default_ticks es (finish_of p).end (kernel_in p) = record { messages = run.messages; spelled = run.spelled; ended = finish_is p; kernel = refl } in
-    subst (IsDueToFar program calls es) (sym (ap (λ (x : Outcome). x.end) run.outcome ∙ end_is (finish_of p)))
-    (as_before program calls default_ticks es (finish_of p).end (kernel_in p) ended)
+due_to_far : (program : Program) (calls : List Command) (ticks : ℕ) (es : List Exchange) (o : Outcome) → IsRun program calls ticks es o → IsDueToFar program calls ticks es o.end
+due_to_far program calls ticks es o run =
+    let p : Pending = (run_over program calls ticks es).pending in
+    let ended : HasEnded program calls ticks es (finish_of p).end (kernel_in p) = record { messages = run.messages; spelled = run.spelled; ended = finish_is p; kernel = refl } in
+    subst (IsDueToFar program calls ticks es) (sym (ap (λ (x : Outcome). x.end) run.outcome ∙ end_is (finish_of p)))
+    (as_before program calls ticks es (finish_of p).end (kernel_in p) ended)
 
 -- ---- each status
 
@@ -75,20 +65,21 @@ module _ (words : List (List ℕ)) (files : Files) (loaded : Option Loaded) (es 
   end_comes (ends.FarFault exchange) h = h
 
   -- the end of a run, and its status
-  pub end_of : (program : Program) (source : List ℕ) (calls : List Command) (s : Status) (text : List ℕ) → Ran program source calls loaded es s text → (end : End) × Ends program source calls loaded es end × (s ≡ status_of end)
-  end_of program source calls s text (Ran.began is b) = (b.outcome.end, Ends.began b.outcome is b.run_is refl (due_to_far program calls es b.outcome b.run_is), b.reported.status_is)
-  end_of program source calls s text (Ran.refused cause is r) = (ends.Refused 0 refusal.Load 0, Ends.refused cause is refl, r.status_is ∙ ap status_of (nothing_end program (ends.Refused 0 refusal.Load 0)))
-  end_of program source calls s text (Ran.failed is r) = (ends.FarFault 0, Ends.failed is refl, r.status_is ∙ ap status_of (nothing_end program (ends.FarFault 0)))
+  pub end_of : (program : Program) (source : List ℕ) (calls : List Command) (ticks : ℕ) (s : Status) (text : List ℕ) → Ran program source calls ticks loaded es s text → (end : End) × Ends program source calls ticks loaded es end × (s ≡ status_of end)
+  end_of program source calls ticks s text (Ran.began is b) = (b.outcome.end, Ends.began b.outcome is b.run_is refl (due_to_far program calls ticks es b.outcome b.run_is), b.reported.status_is)
+  end_of program source calls ticks s text (Ran.refused cause is r) = (ends.Refused 0 refusal.Load 0, Ends.refused cause is refl, r.status_is ∙ ap status_of (nothing_end program ticks (ends.Refused 0 refusal.Load 0)))
+  end_of program source calls ticks s text (Ran.failed is r) = (ends.FarFault 0, Ends.failed is refl, r.status_is ∙ ap status_of (nothing_end program ticks (ends.FarFault 0)))
 
-  scripted_comes : (name script_name source : List ℕ) (program : Program) (s : Status) (text : List ℕ) → command_of words ≡ Some (Run name script_name) → ReadsFrom files name longest_source (reads.Ok source) → HasProgram source program
-      → Scripted files script_name program source loaded es s text → Comes words files loaded es s
-  scripted_comes name script_name source program s text e r h (Scripted.unread u) = unread_comes script_name longest_script s text (IsWanted.as_script name source program e r h refl) u
-  scripted_comes name script_name source program s text e r h (Scripted.read script r' (Called.refused n)) =
+  scripted_comes : (name script_name source : List ℕ) (ticks : ℕ) (program : Program) (s : Status) (text : List ℕ) → command_of words ≡ Some (Run name script_name ticks) → ReadsFrom files name longest_source (reads.Ok source) → HasProgram source program
+      → Scripted files script_name program source ticks loaded es s text → Comes words files loaded es s
+  scripted_comes name script_name source ticks program s text e r h (Scripted.unread u) = unread_comes script_name longest_script s text (IsWanted.as_script name source ticks program e r h refl) u
+  scripted_comes name script_name source ticks program s text e r h (Scripted.read script r' (Called.refused n)) =
       subst (Comes words files loaded es) (sym n.status_is) (record {
         source = source;
         program = program;
         source_name = name;
         script_name = script_name;
+        ticks = ticks;
         command = e;
         source_read = r;
         compiled = h;
@@ -97,25 +88,24 @@ module _ (words : List (List ℕ)) (files : Files) (loaded : Option Loaded) (es 
         line = n.line;
         refused = n.refused;
       })
-  scripted_comes name script_name source program s text e r h (Scripted.read script r' (Called.accepted calls h' ran)) =
-      let end = end_of program source calls s text ran in
+  scripted_comes name script_name source ticks program s text e r h (Scripted.read script r' (Called.accepted calls h' ran)) =
+      let end = end_of program source calls ticks s text ran in
       subst (Comes words files loaded es) (sym end.2) (end_comes end.0 (record {
         source = source;
         program = program;
         calls = calls;
+        ticks = ticks;
         accepted = record { source_name = name; script_name = script_name; command = e; source_read = r; compiled = h; script = script; script_read = r'; called = h' };
         end = end.0;
         ends = end.1;
         status_is = refl;
       }))
 
-  sourced_comes : (name script_name : List ℕ) (s : Status) (text : List ℕ) → command_of words ≡ Some (Run name script_name) → Sourced files name script_name loaded es s text → Comes words files loaded es s
-  sourced_comes name script_name s text e (Sourced.unread u) = unread_comes name longest_source s text (IsWanted.as_source script_name e refl) u
-  sourced_comes name script_name s text e (Sourced.read source r (Compiled.refused n)) = source_comes n
-    where
-      source_comes : NoProgram source s text → Comes words files loaded es s
-      source_comes n = subst (Comes words files loaded es) (sym (source_is source s text n)) (IsRefused.no_program (record { source = source; named = record { name = name; script_name = script_name; command = e; read = r }; none = no_program source s text n }))
-  sourced_comes name script_name s text e (Sourced.read source r (Compiled.accepted program h c)) = scripted_comes name script_name source program s text e r h c
+  sourced_comes : (name script_name : List ℕ) (ticks : ℕ) (s : Status) (text : List ℕ) → command_of words ≡ Some (Run name script_name ticks) → Sourced files name script_name ticks loaded es s text → Comes words files loaded es s
+  sourced_comes name script_name ticks s text e (Sourced.unread u) = unread_comes name longest_source s text (IsWanted.as_source script_name ticks e refl) u
+  sourced_comes name script_name ticks s text e (Sourced.read source r (Compiled.refused n)) =
+      subst (Comes words files loaded es) (sym n.status_is) (IsRefused.no_program (record { source = source; named = record { name = name; script_name = script_name; ticks = ticks; command = e; read = r }; refusal = n.refusal; refused = n.refused }))
+  sourced_comes name script_name ticks s text e (Sourced.read source r (Compiled.accepted program h c)) = scripted_comes name script_name source ticks program s text e r h c
 
   cut_comes : (how : Cutting) (name : List ℕ) (s : Status) (text : List ℕ) → command_of words ≡ Some (Cut how name) → CutAnswered how files name s text → Comes words files loaded es s
   cut_comes how name s text e (CutAnswered.unread u) = unread_comes name longest_source s text (IsWanted.as_cut how e refl) u
@@ -134,7 +124,7 @@ module _ (words : List (List ℕ)) (files : Files) (loaded : Option Loaded) (es 
   answered_comes : (s : Status) (text : List ℕ) → Answered words files loaded es s text → Comes words files loaded es s
   answered_comes s text (Answered.usage e is t) = subst (Comes words files loaded es) (sym is) e
   answered_comes s text (Answered.cut how name e c) = cut_comes how name s text e c
-  answered_comes s text (Answered.command name script_name e c) = sourced_comes name script_name s text e c
+  answered_comes s text (Answered.command name script_name ticks e c) = sourced_comes name script_name ticks s text e c
 
   pub prints_comes : (old new : Option (List ℕ)) (s : Status) → Prints words files loaded es old new s → Comes words files loaded es s
   prints_comes old new s (Prints.whole text a adds) = answered_comes s text a

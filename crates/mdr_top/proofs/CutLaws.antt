@@ -23,14 +23,14 @@ use Rattle.mdr_top.specs.Answers.{Unread, CutAnswered}
 pub cut_command : (words : List (List ℕ)) (how : Cutting) (name : List ℕ) → Some (how, name) ≡ cut_of words → command_of words ≡ Some (Cut how name)
 cut_command words how name e = ap (λ (c : Option (Cutting × List ℕ)). command_by c (run_of words)) (sym e)
 
-pub run_command : (words : List (List ℕ)) (source_name script_name : List ℕ) → None ≡ cut_of words → Some (source_name, script_name) ≡ run_of words → command_of words ≡ Some (Run source_name script_name)
-run_command words source_name script_name none e = λ i. command_by (sym none i) (sym e i)
+pub run_command : (words : List (List ℕ)) (source_name script_name : List ℕ) (ticks : ℕ) → None ≡ cut_of words → Some (source_name, script_name, ticks) ≡ run_of words → command_of words ≡ Some (Run source_name script_name ticks)
+run_command words source_name script_name ticks none e = λ i. command_by (sym none i) (sym e i)
 
 pub no_command : (words : List (List ℕ)) → None ≡ cut_of words → None ≡ run_of words → command_of words ≡ None
 no_command words none nothing = λ i. command_by (sym none i) (sym nothing i)
 
-pub cut_no_run : (command : Option Task) (how : Cutting) (name source_name script_name : List ℕ) → command ≡ Some (Cut how name) → command ≡ Some (Run source_name script_name) → ⊥
-cut_no_run command how name source_name script_name e f = Prim.cc
+pub cut_no_run : (command : Option Task) (how : Cutting) (name source_name script_name : List ℕ) (ticks : ℕ) → command ≡ Some (Cut how name) → command ≡ Some (Run source_name script_name ticks) → ⊥
+cut_no_run command how name source_name script_name ticks e f = Prim.cc
 
 -- ---- files
 

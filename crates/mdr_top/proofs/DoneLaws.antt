@@ -21,7 +21,7 @@ use Rattle.mdr_user.specs.Honest.{IsHonest}
 use Rattle.mdr_due.specs.declared.status.Status.{Status}
 use Rattle.mdr_due.specs.declared.status.Status.TheVariants as status
 use Rattle.mdr_due.specs.Reads.{Files, longest_source}
-use Rattle.mdr_top.specs.Answers.{longest_script, default_ticks, status_of, HasProgram, Ran, Called, Scripted, Compiled, Sourced, Answered, Prints}
+use Rattle.mdr_top.specs.Answers.{longest_script, status_of, HasProgram, Ran, Called, Scripted, Compiled, Sourced, Answered, Prints}
 use Rattle.mdr_due.specs.Reads.{IsUnread}
 use Rattle.mdr_top.specs.Done.{SentPart, LoadedOnce, LoadedPart, Done, Does}
 use Rattle.mdr_top.specs.Headline.{meant, IsMeaning, MeansBy, Means}
@@ -29,7 +29,7 @@ use Rattle.mdr_top.specs.declared.words.Cutting.{Cutting}
 use Rattle.mdr_top.specs.Words.{Cut, command_of}
 use Rattle.mdr_top.specs.Cuts.{IsOfCut}
 use Rattle.mdr_top.proofs.CutLaws.{cut_no_run, cut_so, cut_status, unread_so}
-use Rattle.mdr_top.proofs.Headline.{honest_load, began_means, nothing_end, IsEarly, source_early, own_never}
+use Rattle.mdr_top.proofs.Headline.{honest_load, never_refused, began_means, nothing_end, IsEarly, source_early, own_never}
 
 -- ---- what is printed
 
@@ -37,14 +37,14 @@ module _ (words : List (List ℕ)) (files files' : Files) (shelf shelf' : List S
   answered_so : (s : Status) (text : List ℕ) → Done words files files' shelf shelf' far far' loaded es s text → Answered words files loaded es s text
   answered_so s text (Done.usage e r f is t) = Answered.usage e is t
   answered_so s text (Done.cut how name e d f) = Answered.cut how name e (cut_so how files files' name shelf shelf' s text d)
-  answered_so s text (Done.source_unread name script_name e u f) = Answered.command name script_name e (Sourced.unread (unread_so files name longest_source shelf shelf' s text u))
-  answered_so s text (Done.source_refused name script_name source e r n f) = Answered.command name script_name e (Sourced.read source r.told (Compiled.refused n))
-  answered_so s text (Done.script_unread name script_name source program between e r h u f) =
-      Answered.command name script_name e (Sourced.read source r.told (Compiled.accepted program h (Scripted.unread (unread_so files script_name longest_script between shelf' s text u))))
-  answered_so s text (Done.script_refused name script_name source script program between e r h r' n f) =
-      Answered.command name script_name e (Sourced.read source r.told (Compiled.accepted program h (Scripted.read script r'.told (Called.refused n))))
-  answered_so s text (Done.ran name script_name source script calls program between e r h r' c f run') =
-      Answered.command name script_name e (Sourced.read source r.told (Compiled.accepted program h (Scripted.read script r'.told (Called.accepted calls c run'))))
+  answered_so s text (Done.source_unread name script_name ticks e u f) = Answered.command name script_name ticks e (Sourced.unread (unread_so files name longest_source shelf shelf' s text u))
+  answered_so s text (Done.source_refused name script_name source ticks e r n f) = Answered.command name script_name ticks e (Sourced.read source r.told (Compiled.refused n))
+  answered_so s text (Done.script_unread name script_name source ticks program between e r h u f) =
+      Answered.command name script_name ticks e (Sourced.read source r.told (Compiled.accepted program h (Scripted.unread (unread_so files script_name longest_script between shelf' s text u))))
+  answered_so s text (Done.script_refused name script_name source script ticks program between e r h r' n f) =
+      Answered.command name script_name ticks e (Sourced.read source r.told (Compiled.accepted program h (Scripted.read script r'.told (Called.refused n))))
+  answered_so s text (Done.ran name script_name source script ticks calls program between e r h r' c f run') =
+      Answered.command name script_name ticks e (Sourced.read source r.told (Compiled.accepted program h (Scripted.read script r'.told (Called.accepted calls c run'))))
 
   pub prints_so : (old new : Option (List ℕ)) (s : Status) → Does words files files' shelf shelf' far far' loaded es old new s → Prints words files loaded es old new s
   prints_so old new s (Does.whole text d adds) = Prints.whole text (answered_so s text d) adds
@@ -54,19 +54,19 @@ module _ (words : List (List ℕ)) (files files' : Files) (shelf shelf' : List S
 -- ---- what is meant
 
 -- the far side was loaded with the source, and the run is what it means
-record MeansSo (program : Program) (source : List ℕ) (calls : List Command) (loaded : Option Loaded) (es : List Exchange) (s : Status) (text : List ℕ) : Type 0 where
+record MeansSo (program : Program) (source : List ℕ) (calls : List Command) (ticks : ℕ) (loaded : Option Loaded) (es : List Exchange) (s : Status) (text : List ℕ) : Type 0 where
   held : loaded ≡ Some (loaded_with source [] loads.Ok)
-  meaning : IsMeaning program calls es s text
+  meaning : IsMeaning program calls ticks es s text
 
-means_so : (program : Program) (source : List ℕ) (calls : List Command) (loaded : Option Loaded) (es : List Exchange) (s : Status) (text : List ℕ) → HasProgram source program → IsBound program calls → IsHonest loaded es
-    → Ran program source calls loaded es s text → (s ≡ status.FarFault) ⊎ MeansSo program source calls loaded es s text
-means_so program source calls loaded es s text h bound honest (Ran.began is b) = of (began_means program source calls es s text h bound (honest_load source program loaded loads.Ok es h is honest).1 b)
+means_so : (program : Program) (source : List ℕ) (calls : List Command) (ticks : ℕ) (loaded : Option Loaded) (es : List Exchange) (s : Status) (text : List ℕ) → HasProgram source program → IsBound program calls → IsHonest loaded es
+    → Ran program source calls ticks loaded es s text → (s ≡ status.FarFault) ⊎ MeansSo program source calls ticks loaded es s text
+means_so program source calls ticks loaded es s text h bound honest (Ran.began is b) = of (began_means program source calls ticks es s text h bound (honest_load source program loaded loads.Ok es h is honest).1 b)
   where
-    of : (s ≡ status.FarFault) ⊎ IsMeaning program calls es s text → (s ≡ status.FarFault) ⊎ MeansSo program source calls loaded es s text
+    of : (s ≡ status.FarFault) ⊎ IsMeaning program calls ticks es s text → (s ≡ status.FarFault) ⊎ MeansSo program source calls ticks loaded es s text
     of (inl e) = inl e
     of (inr m) = inr (record { held = is; meaning = m })
-means_so program source calls loaded es s text h bound honest (Ran.refused cause is r) = elim (honest_load source program loaded (loads.Refused cause) es h is honest).0 [ ]
-means_so program source calls loaded es s text h bound honest (Ran.failed is r) = inl (r.status_is ∙ ap status_of (nothing_end program (ends.FarFault 0)))
+means_so program source calls ticks loaded es s text h bound honest (Ran.refused cause is r) = absurd (never_refused source program loaded cause es h is honest)
+means_so program source calls ticks loaded es s text h bound honest (Ran.failed is r) = inl (r.status_is ∙ ap status_of (nothing_end program ticks (ends.FarFault 0)))
 
 unread_early : (name : List ℕ) (answer : ReadAnswer) (s : Status) (text : List ℕ) → IsUnread name answer s text → IsEarly s
 unread_early name answer s text (IsUnread.missing a e t) = subst IsEarly (sym e) tt
@@ -78,41 +78,42 @@ module _ (words : List (List ℕ)) (files files' : Files) (shelf shelf' : List S
   MeansIt = Means words files shelf shelf' loaded es old new s
 
   early_means : IsEarly s → MeansIt
-  early_means early = record { never = λ e. subst IsEarly e early; means = λ source_name script_name named. of }
+  early_means early = record { never = λ e. subst IsEarly e early; means = λ source_name script_name ticks named. of }
     where
       of : (s ≡ status.Done) ⊎ (s ≡ status.Stopped) → MeansBy words files shelf shelf' loaded es old new s
       of (inl e) = absurd (subst IsEarly e early)
       of (inr e) = absurd (subst IsEarly e early)
 
   fault_means : s ≡ status.FarFault → MeansIt
-  fault_means is = record { never = λ e. let no : status.FarFault ≡ status.Marshal = sym is ∙ e in Prim.cc; means = λ source_name script_name named. of }
+  fault_means is = record { never = λ e. let no : status.FarFault ≡ status.Marshal = sym is ∙ e in Prim.cc; means = λ source_name script_name ticks named. of }
     where
       of : (s ≡ status.Done) ⊎ (s ≡ status.Stopped) → MeansBy words files shelf shelf' loaded es old new s
       of (inl e) = let no : status.FarFault ≡ status.Done = sym is ∙ e in absurd (Prim.cc)
       of (inr e) = let no : status.FarFault ≡ status.Stopped = sym is ∙ e in absurd (Prim.cc)
 
   cut_means : (how : Cutting) (name : List ℕ) → command_of words ≡ Some (Cut how name) → IsOfCut s → MeansIt
-  cut_means how name e own = record { never = λ is. subst IsOfCut is own; means = λ source_name script_name named is. absurd (cut_no_run (command_of words) how name source_name script_name e named) }
+  cut_means how name e own = record { never = λ is. subst IsOfCut is own; means = λ source_name script_name ticks named is. absurd (cut_no_run (command_of words) how name source_name script_name ticks e named) }
 
   pub does_mean : Does words files files' shelf shelf' far far' loaded es old new s → IsHonest loaded es → MeansIt
   does_mean (Does.cut due text n e d within adds) honest = early_means (subst IsEarly (sym e) tt)
   does_mean (Does.nothing e d same) honest = early_means (subst IsEarly (sym e) tt)
   does_mean (Does.whole text (Done.usage e r f is t) adds) honest = early_means (subst IsEarly (sym is) tt)
   does_mean (Does.whole text (Done.cut how name e d f) adds) honest = cut_means how name e (cut_status how files files' name shelf shelf' s text d)
-  does_mean (Does.whole text (Done.source_unread name script_name e u f) adds) honest = early_means (unread_early name u.answer s text u.why)
-  does_mean (Does.whole text (Done.source_refused name script_name source e r n f) adds) honest = early_means (source_early source s text n)
-  does_mean (Does.whole text (Done.script_unread name script_name source program between e r h u f) adds) honest = early_means (unread_early script_name u.answer s text u.why)
-  does_mean (Does.whole text (Done.script_refused name script_name source script program between e r h r' n f) adds) honest = early_means (subst IsEarly (sym n.status_is) tt)
-  does_mean (Does.whole text (Done.ran name script_name source script calls program between e r h r' c f run') adds) honest = of (means_so program source calls loaded es s text h c.bound honest run')
+  does_mean (Does.whole text (Done.source_unread name script_name ticks e u f) adds) honest = early_means (unread_early name u.answer s text u.why)
+  does_mean (Does.whole text (Done.source_refused name script_name source ticks e r n f) adds) honest = early_means (source_early source s text n)
+  does_mean (Does.whole text (Done.script_unread name script_name source ticks program between e r h u f) adds) honest = early_means (unread_early script_name u.answer s text u.why)
+  does_mean (Does.whole text (Done.script_refused name script_name source script ticks program between e r h r' n f) adds) honest = early_means (subst IsEarly (sym n.status_is) tt)
+  does_mean (Does.whole text (Done.ran name script_name source script ticks calls program between e r h r' c f run') adds) honest = of (means_so program source calls ticks loaded es s text h c.bound honest run')
     where
-      of : (s ≡ status.FarFault) ⊎ MeansSo program source calls loaded es s text → MeansIt
+      of : (s ≡ status.FarFault) ⊎ MeansSo program source calls ticks loaded es s text → MeansIt
       of (inl is) = fault_means is
       of (inr m) = record {
-        never = λ is. own_never (meant program calls).end m.meaning.own (sym m.meaning.reported.status_is ∙ is);
-        means = λ source_name other_name named is. record {
+        never = λ is. own_never (meant program calls ticks).end m.meaning.own (sym m.meaning.reported.status_is ∙ is);
+        means = λ source_name other_name other_ticks named is. record {
           source = source;
           program = program;
           calls = calls;
+          ticks = ticks;
           accepted = record { source_name = name; script_name = script_name; command = e; source_read = r.told; compiled = h; script = script; script_read = r'.told; called = c };
           read = r'.called ∙ ap (λ (xs : List ShelfCall). and_then xs (Read script_name longest_script (reads.Ok script))) r.called;
           held = m.held;
@@ -124,20 +125,20 @@ module _ (words : List (List ℕ)) (files files' : Files) (shelf shelf' : List S
 
 -- ---- what the far side gets
 
-module _ (program : Program) (calls : List Command) (old new : List FarCall) (es : List Exchange) where
-  pub sent_none : new ≡ old → SentPart program calls old new es
+module _ (program : Program) (calls : List Command) (ticks : ℕ) (old new : List FarCall) (es : List Exchange) where
+  pub sent_none : new ≡ old → SentPart program calls ticks old new es
   sent_none same = record { sent = []; sends = same ∙ sym (append-nil old); part = record { count = 0; part = refl } }
 
-  pub sent_stopped : (h : HalfState) (p : Program) → p ≡ program → IsStopped p calls default_ticks old new es h → SentPart program calls old new es
-  sent_stopped h p same s = record { sent = s.sent; sends = s.called; part = subst (λ (q : Program). IsPart q calls default_ticks es s.sent) same s.part }
+  pub sent_stopped : (h : HalfState) (p : Program) → p ≡ program → IsStopped p calls ticks old new es h → SentPart program calls ticks old new es
+  sent_stopped h p same s = record { sent = s.sent; sends = s.called; part = subst (λ (q : Program). IsPart q calls ticks es s.sent) same s.part }
 
-  pub sent_whole : sent_of es ≡ map text (run_over program calls default_ticks es).sent → new ≡ old ++ sends (sent_of es) → SentPart program calls old new es
+  pub sent_whole : sent_of es ≡ map text (run_over program calls ticks es).sent → new ≡ old ++ sends (sent_of es) → SentPart program calls ticks old new es
   sent_whole sent called =
-      let all : List (List ℕ) = map text (run_over program calls default_ticks es).sent in
+      let all : List (List ℕ) = map text (run_over program calls ticks es).sent in
       record { sent = sent_of es; sends = called; part = record { count = length all; part = sent ∙ part_taken all [] ∙ ap (take (length all)) (append-nil all) } }
 
   -- and before that it was loaded
-  pub loaded_part : (source : List ℕ) (before : List FarCall) → old ≡ and_then before (Loads source []) → SentPart program calls old new es → LoadedPart program source calls before new es
+  pub loaded_part : (source : List ℕ) (before : List FarCall) → old ≡ and_then before (Loads source []) → SentPart program calls ticks old new es → LoadedPart program source calls ticks before new es
   loaded_part source before loaded s = record { sent = s.sent; loads = s.sends ∙ ap (λ (xs : List FarCall). xs ++ sends s.sent) loaded; part = s.part }
 
 pub loaded_once : (source : List ℕ) (before old new : List FarCall) (es : List Exchange) → old ≡ and_then before (Loads source []) → new ≡ old ++ sends (sent_of es) → LoadedOnce source before new (sent_of es)

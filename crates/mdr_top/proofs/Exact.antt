@@ -5,11 +5,12 @@ use Rattle.std.proofs.lemmas.Bool.{lt-ltb, le-ltb}
 use Rattle.mdr_core.specs.declared.program.Program.{Program}
 use Rattle.mdr_model.specs.declared.outcome.End.{End}
 use Rattle.mdr_model.specs.declared.outcome.End.TheVariants as ends
+use Rattle.mdr_outside.specs.declared.shelf.ReadAnswer.TheVariants as reads
+use Rattle.mdr_outside.specs.Shelf.{ReadsFrom}
 use Rattle.mdr_outside.specs.declared.far.Loaded.{Loaded}
 use Rattle.mdr_outside.specs.declared.far.Exchange.{Exchange}
 use Rattle.mdr_model.specs.declared.command.Command.{Command}
 use Rattle.mdr_top.specs.Commands.{commands_of}
-use Rattle.mdr_user.specs.Honest.{program_of_text}
 use Rattle.mdr_due.specs.declared.status.Status.{Status}
 use Rattle.mdr_due.specs.declared.status.Status.TheVariants as status
 use Rattle.mdr_top.specs.declared.words.Cutting.{Cutting}
@@ -21,9 +22,8 @@ use Rattle.mdr_top.specs.Cuts.{IsSplit, IsCut, CutCause, WriteCause}
 use Rattle.mdr_top.specs.Headline.{Rests}
 use Rattle.mdr_due.specs.Reads.{Files, longest_source}
 use Rattle.mdr_top.specs.Answers.{longest_script, status_of, Unread, Called, Scripted, Compiled, Sourced, CutAnswered, Answered, Prints}
-use Rattle.mdr_top.specs.Comes.{sized, calls_due, script_due, program_due, source_due, IsOfRun, IsDueTo, IsCutDue, IsDueFor, IsDueOrFault, IsExact, CutCompletes}
-use Rattle.mdr_top.proofs.Headline.{text_of}
-use Rattle.mdr_top.proofs.Comes.{no_program, source_is, end_of}
+use Rattle.mdr_top.specs.Comes.{sized, calls_due, script_due, IsOfRun, IsDueTo, IsRunDue, IsCutDue, IsDueFor, IsDueOrFault, IsExact, CutCompletes}
+use Rattle.mdr_top.proofs.Comes.{end_of}
 
 -- a read that failed, or what is due
 abbrev Dues : Option Status → Status → Type 0
@@ -51,33 +51,37 @@ unread_due f name limit given due s text none some (Unread.long r e t) = inr (of
 unread_due f name limit given due s text none some (Unread.failed e t) = inl e
 
 module _ (words : List (List ℕ)) (f : List ℕ → Option (List ℕ)) (loaded : Option Loaded) (es : List Exchange) (s : Status) (text : List ℕ) where
-  called_due : (program : Program) (source script : List ℕ) → Called program source script loaded es s text → IsDueTo (calls_due (commands_of program.funcs script)) s
-  called_due program source script (Called.refused n) = subst (λ (r : Result (List Command) ℕ). IsDueTo (calls_due r) s) (sym n.refused) n.status_is
-  called_due program source script (Called.accepted calls h ran) =
-      let end = end_of words (Some f) loaded es program source calls s text ran in
+  called_due : (program : Program) (source script : List ℕ) (ticks : ℕ) → Called program source script ticks loaded es s text → IsDueTo (calls_due (commands_of program.funcs script)) s
+  called_due program source script ticks (Called.refused n) = subst (λ (r : Result (List Command) ℕ). IsDueTo (calls_due r) s) (sym n.refused) n.status_is
+  called_due program source script ticks (Called.accepted calls h ran) =
+      let end = end_of words (Some f) loaded es program source calls ticks s text ran in
       subst (λ (r : Result (List Command) ℕ). IsDueTo (calls_due r) s) (sym h.read) (subst IsOfRun (sym end.2) (end_is end.0))
 
-  scripted_due : (name source : List ℕ) (program : Program) → Scripted (Some f) name program source loaded es s text → Dues (script_due program.funcs (f name)) s
-  scripted_due name source program (Scripted.unread u) =
+  scripted_due : (name source : List ℕ) (program : Program) (ticks : ℕ) → Scripted (Some f) name program source ticks loaded es s text → Dues (script_due program.funcs (f name)) s
+  scripted_due name source program ticks (Scripted.unread u) =
       unread_due f name longest_script (λ bytes. calls_due (commands_of program.funcs bytes)) (script_due program.funcs) s text refl (λ bytes. refl) u
-  scripted_due name source program (Scripted.read script r c) =
+  scripted_due name source program ticks (Scripted.read script r c) =
       subst (λ (o : Option (List ℕ)). Dues (script_due program.funcs o) s) (sym r.0)
-      (fits script longest_script (calls_due (commands_of program.funcs script)) s r.1 (inr (called_due program source script c)))
+      (fits script longest_script (calls_due (commands_of program.funcs script)) s r.1 (inr (called_due program source script ticks c)))
 
-  compiled_due : (name source : List ℕ) → Compiled (Some f) source name loaded es s text → Dues (program_due (program_of_text source) (f name)) s
-  compiled_due name source (Compiled.refused n) = subst (λ (v : Option Program). Dues (program_due v (f name)) s) (sym (no_program source s text n)) (inr (source_is source s text n))
-  compiled_due name source (Compiled.accepted program h c) = subst (λ (v : Option Program). Dues (program_due v (f name)) s) (sym (text_of source program h)) (scripted_due name source program c)
+  -- a source that was read, of which the script is told
+  compiled_due : (name script_name source : List ℕ) (ticks : ℕ) → ReadsFrom (Some f) name longest_source (reads.Ok source) → Compiled (Some f) source script_name ticks loaded es s text → IsDueOrFault (IsRunDue (f name) (f script_name) s) s
+  compiled_due name script_name source ticks r (Compiled.refused n) = inr (inr (inr (IsRunDue.refused source n.refusal r.0 r.1 n.refused n.status_is)))
+  compiled_due name script_name source ticks r (Compiled.accepted program h c) = of (scripted_due script_name source program ticks c)
+    where
+      of : Dues (script_due program.funcs (f script_name)) s → IsDueOrFault (IsRunDue (f name) (f script_name) s) s
+      of (inl is) = inl is
+      of (inr due) = inr (inr (inr (IsRunDue.ready source program r.0 r.1 h.ready due)))
 
-  sourced_due : (name script_name : List ℕ) → Sourced (Some f) name script_name loaded es s text → Dues (source_due (f name) (f script_name)) s
-  sourced_due name script_name (Sourced.unread u) =
-      unread_due f name longest_source (λ bytes. program_due (program_of_text bytes) (f script_name)) (λ o. source_due o (f script_name)) s text refl (λ bytes. refl) u
-  sourced_due name script_name (Sourced.read source r c) =
-      subst (λ (o : Option (List ℕ)). Dues (source_due o (f script_name)) s) (sym r.0)
-      (fits source longest_source (program_due (program_of_text source) (f script_name)) s r.1 (compiled_due script_name source c))
-
-  or_fault : (due : Option Status) → Dues due s → IsDueOrFault (IsDueTo due s) s
-  or_fault due (inl e) = inl e
-  or_fault due (inr d) = inr (inr (inr d))
+  sourced_due : (name script_name : List ℕ) (ticks : ℕ) → Sourced (Some f) name script_name ticks loaded es s text → IsDueOrFault (IsRunDue (f name) (f script_name) s) s
+  sourced_due name script_name ticks (Sourced.unread (Unread.missing r e t)) = inr (inr (inr (IsRunDue.missing r e)))
+  sourced_due name script_name ticks (Sourced.unread (Unread.long r e t)) = inr (inr (inr (of (f name) refl r)))
+    where
+      of : (o : Option (List ℕ)) → f name ≡ o → IsSomeAnd o (λ bytes. longest_source < length bytes) → IsRunDue (f name) (f script_name) s
+      of None is h = elim h [ ]
+      of (Some bytes) is h = IsRunDue.long bytes is h e
+  sourced_due name script_name ticks (Sourced.unread (Unread.failed e t)) = inl e
+  sourced_due name script_name ticks (Sourced.read source r c) = compiled_due name script_name source ticks r c
 
   cut_due : (how : Cutting) (name : List ℕ) → CutAnswered how (Some f) name s text → IsDueOrFault (IsCutDue (f name) s) s
   cut_due how name (CutAnswered.unread (Unread.missing r e t)) = inr (inr (inr (IsCutDue.missing r e)))
@@ -98,7 +102,7 @@ module _ (words : List (List ℕ)) (f : List ℕ → Option (List ℕ)) (loaded 
   answered_due : Answered words (Some f) loaded es s text → IsDueOrFault (IsDueFor (command_of words) f s) s
   answered_due (Answered.usage e is t) = inr (inr (inr (subst (λ (c : Option Task). IsDueFor c f s) (sym e) is)))
   answered_due (Answered.cut how name e c) = subst (λ (d : Option Task). IsDueOrFault (IsDueFor d f s) s) (sym e) (cut_due how name c)
-  answered_due (Answered.command name script_name e c) = subst (λ (d : Option Task). IsDueOrFault (IsDueFor d f s) s) (sym e) (or_fault (source_due (f name) (f script_name)) (sourced_due name script_name c))
+  answered_due (Answered.command name script_name ticks e c) = subst (λ (d : Option Task). IsDueOrFault (IsDueFor d f s) s) (sym e) (sourced_due name script_name ticks c)
 
 pub prints_exactly : (words : List (List ℕ)) (files : Files) (loaded : Option Loaded) (es : List Exchange) (old new : Option (List ℕ)) (s : Status) → Prints words files loaded es old new s → IsExact words files s
 prints_exactly words None loaded es old new s p = tt
@@ -114,7 +118,7 @@ usage_comes words files loaded es old new s (Prints.whole text a adds) none = of
     of : Answered words files loaded es s text → (s ≡ status.Usage) ⊎ ((s ≡ status.WriteFault) ⊎ (s ≡ status.OutOfMemory))
     of (Answered.usage e is t) = inl is
     of (Answered.cut how name e c) = absurd (Prim.cc)
-    of (Answered.command name script_name e c) = absurd (Prim.cc)
+    of (Answered.command name script_name ticks e c) = absurd (Prim.cc)
 usage_comes words files loaded es old new s (Prints.cut due text n is a within adds) none = inr (inl is)
 usage_comes words files loaded es old new s (Prints.nothing is same) none = inr (inr is)
 

@@ -8,3 +8,4 @@ pub mod Comes
 pub mod Exact
 pub mod Pieces
 pub mod DoneLaws
+pub mod Budgets

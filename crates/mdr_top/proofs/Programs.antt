@@ -1,35 +1,17 @@
--- The program of a source: there is one, and it is sound; or why there is none.
-use Rattle.std.proofs.Common.{◌≡◌, ℕ, List, Option, Some, None, Result, Ok, Err, ap, ◌∙◌}
-use Rattle.std.specs.Prelude.{IfOk}
-use Rattle.mdr_core.specs.declared.memory_error.OutOfMemory.{OutOfMemory}
+-- The program of a source: there is one, and it is sound.
+use Rattle.std.proofs.Common.{◌≡◌, ℕ, List, Ok}
 use Rattle.mdr_core.specs.declared.program.Program.{Program}
-use Rattle.mdr_syntax.specs.declared.token.Token.{Token}
-use Rattle.mdr_first.specs.Reading.{whats}
-use Rattle.mdr_syntax.specs.Tokens.{tokens_of}
-use Rattle.mdr_first.specs.Sources.{program_of}
-use Rattle.mdr_first.proofs.Soundness.{is_sound}
-use Rattle.mdr_user.proofs.SoundSources.{program_is_sound, program_is_built}
-use Rattle.mdr_top.specs.Answers.{HasProgram, NoProgram, NoSource}
-use Rattle.mdr_due.specs.Stages.{StageIs}
-use Rattle.mdr_due.specs.declared.due.Stage.{Stage}
-use Rattle.mdr_due.specs.declared.due.Stage.TheVariants as stage
+use Rattle.mdr_ready.specs.Ready.{Ready}
+use Rattle.mdr_ready.proofs.OneReason as reason
+use Rattle.mdr_ready.proofs.Sound.{ready_sound, ready_built}
+use Rattle.mdr_due.specs.declared.status.Status.{Status}
+use Rattle.mdr_top.specs.Answers.{HasProgram, NoProgram}
 
-pub has_program : (bytes : List ℕ) (ts : List Token) (program : Program) → tokens_of bytes ≡ Ok ts → program_of (whats ts) ≡ Some program → HasProgram bytes program
-has_program bytes ts program e d = record { tokens = ts; read = e; declared = d; sound = program_is_sound program (is_sound (whats ts) program d); built = program_is_built program (is_sound (whats ts) program d) }
+pub has_program : (bytes : List ℕ) (program : Program) → Ready bytes (Ok program) → HasProgram bytes program
+has_program bytes program ready = record { ready = ready; sound = ready_sound bytes program ready; built = ready_built bytes program ready }
 
--- what is said of a source's tokens is said of the source
-pub no_program_for : (bytes : List ℕ) (ts : List Token) (r : Result (Stage Program) OutOfMemory) → tokens_of bytes ≡ Ok ts → program_of (whats ts) ≡ None → IfOk r (StageIs (λ _. ⊥) (NoSource ts)) → IfOk r (StageIs (HasProgram bytes) (NoProgram bytes))
-no_program_for bytes ts (Ok (stage.Goes x)) e none h = elim h [ ]
-no_program_for bytes ts (Ok (stage.Ends due)) e none h = NoProgram.undeclared ts e none h
-no_program_for bytes ts (Err x) e none h = tt
+pub same_program : (bytes : List ℕ) (p q : Program) → HasProgram bytes p → HasProgram bytes q → p ≡ q
+same_program bytes p q h k = reason.one_program bytes p q h.ready k.ready
 
-pub some_same : {X : Type 0} (o : Option X) (x y : X) → o ≡ Some x → o ≡ Some y → x ≡ y
-some_same o x y e f = Prim.cc
-
-pub ok_same : {X Y : Type 0} (r : Result X Y) (x y : X) → r ≡ Ok x → r ≡ Ok y → x ≡ y
-ok_same r x y e f = Prim.cc
-
-pub same_program : (source : List ℕ) (p q : Program) → HasProgram source p → HasProgram source q → p ≡ q
-same_program source p q h k =
-    let same : h.tokens ≡ k.tokens = ok_same (tokens_of source) h.tokens k.tokens h.read k.read in
-    some_same (program_of (whats h.tokens)) p q h.declared (ap (λ (ts : List Token). program_of (whats ts)) same ∙ k.declared)
+pub not_refused : (bytes : List ℕ) (program : Program) (s : Status) (text : List ℕ) → HasProgram bytes program → NoProgram bytes s text → ⊥
+not_refused bytes program s text h n = reason.not_refused bytes program n.refusal h.ready n.refused

@@ -1,5 +1,5 @@
 -- What the program answers, stage by stage, with one constructor for each reason.
-use Rattle.std.specs.Prelude.{Bool, true, false, ◌≡◌, ◌≤◌, ℕ, List, [], ◌++◌, length, take, codes, Option, Some, None, option_map, slice_get, Ok, Err}
+use Rattle.std.specs.Prelude.{Bool, true, false, ◌≡◌, ◌≤◌, ℕ, List, [], ◌++◌, length, take, codes, Option, Some, None, option_map, Ok, Err}
 use Rattle.mdr_core.specs.declared.program.Program.{Program}
 use Rattle.mdr_core.specs.declared.refusal.RefuseKind.TheVariants as refusal
 use Rattle.mdr_model.specs.declared.outcome.End.{End}
@@ -11,15 +11,6 @@ use Rattle.mdr_model.specs.Report.{report}
 use Rattle.mdr_core.specs.Sound.{IsSound}
 use Rattle.mdr_model.specs.Built.{IsBuilt}
 use Rattle.mdr_model.specs.Runnable.{IsBound}
-use Rattle.mdr_syntax.specs.declared.token.Token.{Token}
-use Rattle.mdr_syntax.specs.declared.error.LexError.{LexError}
-use Rattle.mdr_syntax.specs.declared.tree.Tree.{Tree}
-use Rattle.mdr_first.specs.Reading.{whats}
-use Rattle.mdr_syntax.specs.Tokens.{tokens_of}
-use Rattle.mdr_first.specs.Sources.{program_of}
-use Rattle.mdr_grammar.specs.Grammar.{Reads}
-use Rattle.mdr_parse.specs.Parsing.{end_place, error_in}
-use Rattle.mdr_grammar.specs.Running.{FirstFault}
 use Rattle.mdr_model.specs.declared.command.Command.{Command}
 use Rattle.mdr_top.specs.Commands.{commands_of}
 use Rattle.mdr_outside.specs.declared.shelf.ReadAnswer.TheVariants as reads
@@ -33,8 +24,11 @@ use Rattle.mdr_due.specs.declared.status.Status.{Status}
 use Rattle.mdr_due.specs.declared.status.Status.TheVariants as status
 use Rattle.mdr_due.specs.Lines.{file_line}
 use Rattle.mdr_due.specs.Reads.{Files, longest_source}
-use Rattle.mdr_top.specs.Lines.{usage_line, source_line, begin, fault_line, parse_line, script_line}
+use Rattle.mdr_top.specs.Lines.{usage_line, script_line}
 use Rattle.mdr_source.specs.declared.outcome.Source.{Source}
+use Rattle.mdr_source.specs.declared.refusal.Refusal.{Refusal}
+use Rattle.mdr_source.specs.Lines.{refusal_line}
+use Rattle.mdr_ready.specs.Ready.{Ready}
 use Rattle.mdr_slicer.specs.Slicing.{HasSource, NoSource as NoCutSource}
 use Rattle.mdr_top.specs.declared.words.Cutting.{Cutting}
 use Rattle.mdr_top.specs.Words.{Cut, Run, command_of}
@@ -50,21 +44,16 @@ pub data Unread (files : Files) (name : List ℕ) (limit : ℕ) (s : Status) (te
   long : ReadsFrom files name limit reads.TooLarge → s ≡ status.TooLarge → text ≡ file_line (codes "too large ") name → Unread files name limit s text
   failed : s ≡ status.ReadFault → text ≡ file_line (codes "read fault ") name → Unread files name limit s text
 
--- what is said of tokens that aren't a program of the forms that are built: the first that no source has there, or else that they aren't built yet
-pub data NoSource (ts : List Token) (s : Status) (text : List ℕ) : Type 0 where
-  unparsed : (n : ℕ) → FirstFault false ts n → s ≡ status.SourceRefused → text ≡ parse_line (error_in (end_place ts) (slice_get ts n)) → NoSource ts s text
-  unbuilt : (tree : Tree) → Reads false ts tree → s ≡ status.SourceRefused → text ≡ source_line begin (codes "Unbuilt") → NoSource ts s text
+-- a source that is refused, and the line that tells it
+pub record NoProgram (bytes : List ℕ) (s : Status) (text : List ℕ) : Type 0 where
+  pub refusal : Refusal
+  pub refused : Ready bytes (Err refusal)
+  pub status_is : s ≡ status.SourceRefused
+  pub text_is : text ≡ refusal_line refusal
 
--- a source that is refused
-pub data NoProgram (bytes : List ℕ) (s : Status) (text : List ℕ) : Type 0 where
-  fault : (e : LexError) → tokens_of bytes ≡ Err e → s ≡ status.SourceRefused → text ≡ fault_line e → NoProgram bytes s text
-  undeclared : (ts : List Token) → tokens_of bytes ≡ Ok ts → program_of (whats ts) ≡ None → NoSource ts s text → NoProgram bytes s text
-
--- a source and the program that it declares, which is sound, and of forms that are built
+-- a source whose program is ready to run: it is sound, and of forms that are built
 pub record HasProgram (bytes : List ℕ) (program : Program) : Type 0 where
-  pub tokens : List Token
-  pub read : tokens_of bytes ≡ Ok tokens
-  pub declared : program_of (whats tokens) ≡ Some program
+  pub ready : Ready bytes (Ok program)
   pub sound : IsSound program
   pub built : IsBuilt program
 
@@ -82,10 +71,6 @@ pub record NoScript (program : Program) (bytes : List ℕ) (s : Status) (text : 
 
 -- ---- the run
 
--- a run has a million ticks
-abbrev pub default_ticks : ℕ
-default_ticks = 1000000
-
 abbrev pub status_of : End → Status
 status_of ends.Ok = status.Done
 status_of (ends.Stop kind at) = status.Stopped
@@ -93,8 +78,8 @@ status_of (ends.Refused exchange cause number) = status.Marshal
 status_of (ends.FarFault exchange) = status.FarFault
 
 -- the outcome where the far side loaded nothing: that of the empty script, with another end
-abbrev pub nothing_ran : Program → End → Outcome
-nothing_ran program end = outcome_of (finish end (first_world program default_ticks))
+abbrev pub nothing_ran : Program → (ticks : ℕ) → End → Outcome
+nothing_ran program ticks end = outcome_of (finish end (first_world program ticks))
 
 -- an outcome's status and report
 pub record Reported (program : Program) (o : Outcome) (s : Status) (text : List ℕ) : Type 0 where
@@ -102,38 +87,38 @@ pub record Reported (program : Program) (o : Outcome) (s : Status) (text : List 
   pub text_is : text ≡ report program o
 
 -- the report of a run over what the far side answered
-pub record Began (program : Program) (calls : List Command) (es : List Exchange) (s : Status) (text : List ℕ) : Type 0 where
+pub record Began (program : Program) (calls : List Command) (ticks : ℕ) (es : List Exchange) (s : Status) (text : List ℕ) : Type 0 where
   pub outcome : Outcome
-  pub run_is : IsRun program calls default_ticks es outcome
+  pub run_is : IsRun program calls ticks es outcome
   pub reported : Reported program outcome s text
 
 -- the far side holds the source with its answer to it, and what is printed is the report
-pub data Ran (program : Program) (source : List ℕ) (calls : List Command) (loaded : Option Loaded) (es : List Exchange) (s : Status) (text : List ℕ) : Type 0 where
-  began : loaded ≡ Some (loaded_with source [] loads.Ok) → Began program calls es s text → Ran program source calls loaded es s text
-  refused : (cause : ℕ) → loaded ≡ Some (loaded_with source [] (loads.Refused cause)) → Reported program (nothing_ran program (ends.Refused 0 refusal.Load 0)) s text → Ran program source calls loaded es s text
-  failed : loaded ≡ Some (loaded_with source [] loads.Failed) → Reported program (nothing_ran program (ends.FarFault 0)) s text → Ran program source calls loaded es s text
+pub data Ran (program : Program) (source : List ℕ) (calls : List Command) (ticks : ℕ) (loaded : Option Loaded) (es : List Exchange) (s : Status) (text : List ℕ) : Type 0 where
+  began : loaded ≡ Some (loaded_with source [] loads.Ok) → Began program calls ticks es s text → Ran program source calls ticks loaded es s text
+  refused : (cause : ℕ) → loaded ≡ Some (loaded_with source [] (loads.Refused cause)) → Reported program (nothing_ran program ticks (ends.Refused 0 refusal.Load 0)) s text → Ran program source calls ticks loaded es s text
+  failed : loaded ≡ Some (loaded_with source [] loads.Failed) → Reported program (nothing_ran program ticks (ends.FarFault 0)) s text → Ran program source calls ticks loaded es s text
 
 -- ---- the stages before it
 
 -- a script that was read
-pub data Called (program : Program) (source script : List ℕ) (loaded : Option Loaded) (es : List Exchange) (s : Status) (text : List ℕ) : Type 0 where
-  refused : NoScript program script s text → Called program source script loaded es s text
-  accepted : (calls : List Command) → HasScript program script calls → Ran program source calls loaded es s text → Called program source script loaded es s text
+pub data Called (program : Program) (source script : List ℕ) (ticks : ℕ) (loaded : Option Loaded) (es : List Exchange) (s : Status) (text : List ℕ) : Type 0 where
+  refused : NoScript program script s text → Called program source script ticks loaded es s text
+  accepted : (calls : List Command) → HasScript program script calls → Ran program source calls ticks loaded es s text → Called program source script ticks loaded es s text
 
 -- the script's file
-pub data Scripted (files : Files) (name : List ℕ) (program : Program) (source : List ℕ) (loaded : Option Loaded) (es : List Exchange) (s : Status) (text : List ℕ) : Type 0 where
-  unread : Unread files name longest_script s text → Scripted files name program source loaded es s text
-  read : (script : List ℕ) → ReadsFrom files name longest_script (reads.Ok script) → Called program source script loaded es s text → Scripted files name program source loaded es s text
+pub data Scripted (files : Files) (name : List ℕ) (program : Program) (source : List ℕ) (ticks : ℕ) (loaded : Option Loaded) (es : List Exchange) (s : Status) (text : List ℕ) : Type 0 where
+  unread : Unread files name longest_script s text → Scripted files name program source ticks loaded es s text
+  read : (script : List ℕ) → ReadsFrom files name longest_script (reads.Ok script) → Called program source script ticks loaded es s text → Scripted files name program source ticks loaded es s text
 
 -- a source that was read
-pub data Compiled (files : Files) (source script : List ℕ) (loaded : Option Loaded) (es : List Exchange) (s : Status) (text : List ℕ) : Type 0 where
-  refused : NoProgram source s text → Compiled files source script loaded es s text
-  accepted : (program : Program) → HasProgram source program → Scripted files script program source loaded es s text → Compiled files source script loaded es s text
+pub data Compiled (files : Files) (source script : List ℕ) (ticks : ℕ) (loaded : Option Loaded) (es : List Exchange) (s : Status) (text : List ℕ) : Type 0 where
+  refused : NoProgram source s text → Compiled files source script ticks loaded es s text
+  accepted : (program : Program) → HasProgram source program → Scripted files script program source ticks loaded es s text → Compiled files source script ticks loaded es s text
 
 -- the source's file
-pub data Sourced (files : Files) (name script : List ℕ) (loaded : Option Loaded) (es : List Exchange) (s : Status) (text : List ℕ) : Type 0 where
-  unread : Unread files name longest_source s text → Sourced files name script loaded es s text
-  read : (source : List ℕ) → ReadsFrom files name longest_source (reads.Ok source) → Compiled files source script loaded es s text → Sourced files name script loaded es s text
+pub data Sourced (files : Files) (name script : List ℕ) (ticks : ℕ) (loaded : Option Loaded) (es : List Exchange) (s : Status) (text : List ℕ) : Type 0 where
+  unread : Unread files name longest_source s text → Sourced files name script ticks loaded es s text
+  read : (source : List ℕ) → ReadsFrom files name longest_source (reads.Ok source) → Compiled files source script ticks loaded es s text → Sourced files name script ticks loaded es s text
 
 -- a source that is cut
 pub data CutAnswered (how : Cutting) (files : Files) (name : List ℕ) (s : Status) (text : List ℕ) : Type 0 where
@@ -145,7 +130,7 @@ pub data CutAnswered (how : Cutting) (files : Files) (name : List ℕ) (s : Stat
 pub data Answered (words : List (List ℕ)) (files : Files) (loaded : Option Loaded) (es : List Exchange) (s : Status) (text : List ℕ) : Type 0 where
   usage : command_of words ≡ None → s ≡ status.Usage → text ≡ usage_line → Answered words files loaded es s text
   cut : (how : Cutting) (name : List ℕ) → command_of words ≡ Some (Cut how name) → CutAnswered how files name s text → Answered words files loaded es s text
-  command : (source script : List ℕ) → command_of words ≡ Some (Run source script) → Sourced files source script loaded es s text → Answered words files loaded es s text
+  command : (source script : List ℕ) (ticks : ℕ) → command_of words ≡ Some (Run source script ticks) → Sourced files source script ticks loaded es s text → Answered words files loaded es s text
 
 -- ---- what is printed
 

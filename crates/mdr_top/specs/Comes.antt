@@ -18,7 +18,7 @@ use Rattle.mdr_top.specs.Commands.{commands_of}
 use Rattle.mdr_model.specs.Legal.{kernel_in}
 use Rattle.mdr_kernel.specs.Runs.{run_over, IsRun}
 use Rattle.mdr_kernel.specs.HalfState.{IsAsBefore}
-use Rattle.mdr_user.specs.Honest.{program_of_text}
+use Rattle.mdr_ready.specs.Ready.{Ready}
 use Rattle.mdr_due.specs.declared.status.Status.{Status}
 use Rattle.mdr_due.specs.declared.status.Status.TheVariants as status
 use Rattle.mdr_source.specs.declared.outcome.Source.{Source}
@@ -28,21 +28,22 @@ use Rattle.mdr_slicer.specs.Slicing.{HasSource}
 use Rattle.mdr_top.specs.declared.words.Cutting.{Cutting}
 use Rattle.mdr_top.specs.Words.{Task, Cut, Run, command_of}
 use Rattle.mdr_due.specs.Reads.{Files, longest_source}
-use Rattle.mdr_top.specs.Answers.{longest_script, default_ticks, status_of, HasProgram}
+use Rattle.mdr_top.specs.Answers.{longest_script, status_of, HasProgram}
 use Rattle.mdr_top.specs.Headline.{IsAccepted}
 
 -- the words name a source, which is read
 pub record IsSource (words : List (List ℕ)) (files : Files) (source : List ℕ) : Type 0 where
   pub name : List ℕ
   pub script_name : List ℕ
-  pub command : command_of words ≡ Some (Run name script_name)
+  pub ticks : ℕ
+  pub command : command_of words ≡ Some (Run name script_name ticks)
   pub read : ReadsFrom files name longest_source (reads.Ok source)
 
--- a file that the words name: a source, and the script once its source is a program
+-- a file that the words name: a source, and the script once its source has a program that is ready to run
 pub data IsWanted (words : List (List ℕ)) (files : Files) (name : List ℕ) (limit : ℕ) : Type 0 where
   as_cut : (how : Cutting) → command_of words ≡ Some (Cut how name) → limit ≡ longest_source → IsWanted words files name limit
-  as_source : (script_name : List ℕ) → command_of words ≡ Some (Run name script_name) → limit ≡ longest_source → IsWanted words files name limit
-  as_script : (source_name source : List ℕ) (program : Program) → command_of words ≡ Some (Run source_name name) → ReadsFrom files source_name longest_source (reads.Ok source) → HasProgram source program → limit ≡ longest_script → IsWanted words files name limit
+  as_source : (script_name : List ℕ) (ticks : ℕ) → command_of words ≡ Some (Run name script_name ticks) → limit ≡ longest_source → IsWanted words files name limit
+  as_script : (source_name source : List ℕ) (ticks : ℕ) (program : Program) → command_of words ≡ Some (Run source_name name ticks) → ReadsFrom files source_name longest_source (reads.Ok source) → HasProgram source program → limit ≡ longest_script → IsWanted words files name limit
 
 -- a file that the words name is answered so
 pub record IsAnswered (words : List (List ℕ)) (files : Files) (answer : ReadAnswer) : Type 0 where
@@ -51,11 +52,12 @@ pub record IsAnswered (words : List (List ℕ)) (files : Files) (answer : ReadAn
   pub wanted : IsWanted words files name limit
   pub answers : ReadsFrom files name limit answer
 
--- the source is no program
+-- the source has no program that is ready to run
 pub record IsNoProgram (words : List (List ℕ)) (files : Files) : Type 0 where
   pub source : List ℕ
   pub named : IsSource words files source
-  pub none : program_of_text source ≡ None
+  pub refusal : Refusal
+  pub refused : Ready source (Err refusal)
 
 -- a source that is cut, and what its bytes come to
 pub record IsCutSource (words : List (List ℕ)) (files : Files) (bytes : List ℕ) : Type 0 where
@@ -88,7 +90,8 @@ pub record IsNoScript (words : List (List ℕ)) (files : Files) : Type 0 where
   pub program : Program
   pub source_name : List ℕ
   pub script_name : List ℕ
-  pub command : command_of words ≡ Some (Run source_name script_name)
+  pub ticks : ℕ
+  pub command : command_of words ≡ Some (Run source_name script_name ticks)
   pub source_read : ReadsFrom files source_name longest_source (reads.Ok source)
   pub compiled : HasProgram source program
   pub script : List ℕ
@@ -97,23 +100,24 @@ pub record IsNoScript (words : List (List ℕ)) (files : Files) : Type 0 where
   pub refused : commands_of program.funcs script ≡ Err line
 
 -- where the far side ended a run that began: the last answer isn't legal where the run waited for it, and this is its exchange and its first fault; or the run waits for an answer that didn't come
-abbrev pub IsDueToFar : Program → List Command → List Exchange → End → Type 0
-IsDueToFar program calls es end = IsAsBefore program calls default_ticks es (kernel_in (run_over program calls default_ticks es).pending).world.memory end
+abbrev pub IsDueToFar : Program → List Command → (ticks : ℕ) → List Exchange → End → Type 0
+IsDueToFar program calls ticks es end = IsAsBefore program calls ticks es (kernel_in (run_over program calls ticks es).pending).world.memory end
 
 -- how a run ends: by what the far side answered to the load, and then to the messages
-pub data Ends (program : Program) (source : List ℕ) (calls : List Command) (loaded : Option Loaded) (es : List Exchange) (end : End) : Type 0 where
-  began : (o : Outcome) → loaded ≡ Some (loaded_with source [] loads.Ok) → IsRun program calls default_ticks es o → end ≡ o.end → IsDueToFar program calls es end → Ends program source calls loaded es end
-  refused : (cause : ℕ) → loaded ≡ Some (loaded_with source [] (loads.Refused cause)) → end ≡ ends.Refused 0 refusal.Load 0 → Ends program source calls loaded es end
-  failed : loaded ≡ Some (loaded_with source [] loads.Failed) → end ≡ ends.FarFault 0 → Ends program source calls loaded es end
+pub data Ends (program : Program) (source : List ℕ) (calls : List Command) (ticks : ℕ) (loaded : Option Loaded) (es : List Exchange) (end : End) : Type 0 where
+  began : (o : Outcome) → loaded ≡ Some (loaded_with source [] loads.Ok) → IsRun program calls ticks es o → end ≡ o.end → IsDueToFar program calls ticks es end → Ends program source calls ticks loaded es end
+  refused : (cause : ℕ) → loaded ≡ Some (loaded_with source [] (loads.Refused cause)) → end ≡ ends.Refused 0 refusal.Load 0 → Ends program source calls ticks loaded es end
+  failed : loaded ≡ Some (loaded_with source [] loads.Failed) → end ≡ ends.FarFault 0 → Ends program source calls ticks loaded es end
 
 -- the words are accepted, and their run ends with this status
 pub record IsEnd (words : List (List ℕ)) (files : Files) (loaded : Option Loaded) (es : List Exchange) (s : Status) : Type 0 where
   pub source : List ℕ
   pub program : Program
   pub calls : List Command
-  pub accepted : IsAccepted words files source program calls
+  pub ticks : ℕ
+  pub accepted : IsAccepted words files source program calls ticks
   pub end : End
-  pub ends : Ends program source calls loaded es end
+  pub ends : Ends program source calls ticks loaded es end
   pub status_is : s ≡ status_of end
 
 -- a run ended by itself, or a source was cut
@@ -138,7 +142,7 @@ Comes words files loaded es status.OutOfMemory = Unit {0}
 
 -- ---- exactly where
 
--- a file that is too long, or what its bytes give
+-- a script that is too long, or what its lines give
 abbrev pub sized : Bool → Option Status → Option Status
 sized true given = Some status.TooLarge
 sized false given = given
@@ -150,14 +154,6 @@ calls_due (Err line) = Some status.ScriptRefused
 abbrev pub script_due : List Func → Option (List ℕ) → Option Status
 script_due funcs None = Some status.Missing
 script_due funcs (Some script) = sized (nat_lt longest_script (length script)) (calls_due (commands_of funcs script))
-
-abbrev pub program_due : Option Program → Option (List ℕ) → Option Status
-program_due None script = Some status.SourceRefused
-program_due (Some program) script = script_due program.funcs script
-
-abbrev pub source_due : Option (List ℕ) → Option (List ℕ) → Option Status
-source_due None script = Some status.Missing
-source_due (Some source) script = sized (nat_lt longest_source (length source)) (program_due (program_of_text source) script)
 
 -- a status that a run ends with
 abbrev pub IsOfRun : Status → Type 0
@@ -178,6 +174,13 @@ abbrev pub IsDueTo : Option Status → Status → Type 0
 IsDueTo (Some due) s = s ≡ due
 IsDueTo None s = IsOfRun s
 
+-- what the bytes of a source and of a script give that is run over it
+pub data IsRunDue (file script : Option (List ℕ)) (s : Status) : Type 0 where
+  missing : file ≡ None → s ≡ status.Missing → IsRunDue file script s
+  long : (bytes : List ℕ) → file ≡ Some bytes → longest_source < length bytes → s ≡ status.TooLarge → IsRunDue file script s
+  refused : (bytes : List ℕ) (refusal : Refusal) → file ≡ Some bytes → length bytes ≤ longest_source → Ready bytes (Err refusal) → s ≡ status.SourceRefused → IsRunDue file script s
+  ready : (bytes : List ℕ) (program : Program) → file ≡ Some bytes → length bytes ≤ longest_source → Ready bytes (Ok program) → IsDueTo (script_due program.funcs script) s → IsRunDue file script s
+
 -- what the bytes of a source that is cut give
 pub data IsCutDue (file : Option (List ℕ)) (s : Status) : Type 0 where
   missing : file ≡ None → s ≡ status.Missing → IsCutDue file s
@@ -189,7 +192,7 @@ pub data IsCutDue (file : Option (List ℕ)) (s : Status) : Type 0 where
 abbrev pub IsDueFor : Option Task → (List ℕ → Option (List ℕ)) → Status → Type 0
 IsDueFor None f s = s ≡ status.Usage
 IsDueFor (Some (Cut how name)) f s = IsCutDue (f name) s
-IsDueFor (Some (Run source_name script_name)) f s = IsDueTo (source_due (f source_name) (f script_name)) s
+IsDueFor (Some (Run source_name script_name ticks)) f s = IsRunDue (f source_name) (f script_name) s
 
 -- the status is what words and files give, but a read or a write may fail, and memory may be wanting
 abbrev pub IsDueOrFault : (Due : Type 0) → Status → Type 0

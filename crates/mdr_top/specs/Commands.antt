@@ -3,7 +3,7 @@ use Rattle.std.specs.Prelude.{ℕ, List, [], map, Result, Ok, Err}
 use Rattle.mdr_core.specs.declared.program.Func.{Func}
 use Rattle.mdr_model.specs.declared.command.Command.{Command}
 use Rattle.mdr_model.specs.declared.command.Command.TheVariants as command
-use Rattle.mdr_first.specs.Scripts.{calls_of}
+use Rattle.mdr_calls.specs.Scripts.{calls_of}
 
 -- a call without arguments: the lines that are taken today give no others
 abbrev pub call_of : ℕ → Command

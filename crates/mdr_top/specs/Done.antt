@@ -15,7 +15,7 @@ use Rattle.mdr_top.specs.declared.words.Cutting.{Cutting}
 use Rattle.mdr_top.specs.Words.{Cut, Run, command_of}
 use Rattle.mdr_top.specs.Cuts.{CutDone, CutPart}
 use Rattle.mdr_due.specs.Reads.{Files, IsRead, WasRead, UnreadBy, longest_source}
-use Rattle.mdr_top.specs.Answers.{longest_script, default_ticks, NoProgram, HasProgram, HasScript, NoScript, Ran, Adds}
+use Rattle.mdr_top.specs.Answers.{longest_script, NoProgram, HasProgram, HasScript, NoScript, Ran, Adds}
 
 -- ---- the far side
 
@@ -24,16 +24,16 @@ abbrev pub LoadedOnce : (source : List ℕ) → (old new : List FarCall) → (se
 LoadedOnce source old new sent = new ≡ and_then old (Loads source []) ++ sends sent
 
 -- messages were sent that are a beginning of the run's
-pub record SentPart (program : Program) (calls : List Command) (old new : List FarCall) (es : List Exchange) : Type 0 where
+pub record SentPart (program : Program) (calls : List Command) (ticks : ℕ) (old new : List FarCall) (es : List Exchange) : Type 0 where
   pub sent : List (List ℕ)
   pub sends : new ≡ old ++ sends sent
-  pub part : IsPart program calls default_ticks es sent
+  pub part : IsPart program calls ticks es sent
 
 -- it was loaded with the source once, and then got a beginning of the run's messages
-pub record LoadedPart (program : Program) (source : List ℕ) (calls : List Command) (old new : List FarCall) (es : List Exchange) : Type 0 where
+pub record LoadedPart (program : Program) (source : List ℕ) (calls : List Command) (ticks : ℕ) (old new : List FarCall) (es : List Exchange) : Type 0 where
   pub sent : List (List ℕ)
   pub loads : LoadedOnce source old new sent
-  pub part : IsPart program calls default_ticks es sent
+  pub part : IsPart program calls ticks es sent
 
 -- ---- all of it
 
@@ -42,24 +42,24 @@ module _ (words : List (List ℕ)) (files files' : Files) (shelf shelf' : List S
   pub data Done (s : Status) (text : List ℕ) : Type 0 where
     usage : command_of words ≡ None → shelf' ≡ shelf → far' ≡ far → s ≡ status.Usage → text ≡ usage_line → Done s text
     cut : (how : Cutting) (name : List ℕ) → command_of words ≡ Some (Cut how name) → CutDone how files files' name shelf shelf' s text → far' ≡ far → Done s text
-    source_unread : (source_name script_name : List ℕ) → command_of words ≡ Some (Run source_name script_name) → UnreadBy files source_name longest_source shelf shelf' s text → far' ≡ far → Done s text
-    source_refused : (source_name script_name source : List ℕ) → command_of words ≡ Some (Run source_name script_name) → IsRead files source_name longest_source shelf shelf' (reads.Ok source) → NoProgram source s text → far' ≡ far → Done s text
-    script_unread : (source_name script_name source : List ℕ) (program : Program) (between : List ShelfCall) → command_of words ≡ Some (Run source_name script_name) → IsRead files source_name longest_source shelf between (reads.Ok source) → HasProgram source program
+    source_unread : (source_name script_name : List ℕ) (ticks : ℕ) → command_of words ≡ Some (Run source_name script_name ticks) → UnreadBy files source_name longest_source shelf shelf' s text → far' ≡ far → Done s text
+    source_refused : (source_name script_name source : List ℕ) (ticks : ℕ) → command_of words ≡ Some (Run source_name script_name ticks) → IsRead files source_name longest_source shelf shelf' (reads.Ok source) → NoProgram source s text → far' ≡ far → Done s text
+    script_unread : (source_name script_name source : List ℕ) (ticks : ℕ) (program : Program) (between : List ShelfCall) → command_of words ≡ Some (Run source_name script_name ticks) → IsRead files source_name longest_source shelf between (reads.Ok source) → HasProgram source program
         → UnreadBy files script_name longest_script between shelf' s text → far' ≡ far → Done s text
-    script_refused : (source_name script_name source script : List ℕ) (program : Program) (between : List ShelfCall) → command_of words ≡ Some (Run source_name script_name) → IsRead files source_name longest_source shelf between (reads.Ok source) → HasProgram source program
+    script_refused : (source_name script_name source script : List ℕ) (ticks : ℕ) (program : Program) (between : List ShelfCall) → command_of words ≡ Some (Run source_name script_name ticks) → IsRead files source_name longest_source shelf between (reads.Ok source) → HasProgram source program
         → IsRead files script_name longest_script between shelf' (reads.Ok script) → NoScript program script s text → far' ≡ far → Done s text
-    ran : (source_name script_name source script : List ℕ) (calls : List Command) (program : Program) (between : List ShelfCall) → command_of words ≡ Some (Run source_name script_name) → IsRead files source_name longest_source shelf between (reads.Ok source) → HasProgram source program
-        → IsRead files script_name longest_script between shelf' (reads.Ok script) → HasScript program script calls → LoadedOnce source far far' (sent_of es) → Ran program source calls loaded es s text → Done s text
+    ran : (source_name script_name source script : List ℕ) (ticks : ℕ) (calls : List Command) (program : Program) (between : List ShelfCall) → command_of words ≡ Some (Run source_name script_name ticks) → IsRead files source_name longest_source shelf between (reads.Ok source) → HasProgram source program
+        → IsRead files script_name longest_script between shelf' (reads.Ok script) → HasScript program script calls → LoadedOnce source far far' (sent_of es) → Ran program source calls ticks loaded es s text → Done s text
 
   -- as much of it was done as memory was there for
   pub data DonePart : Type 0 where
     nothing : shelf' ≡ shelf → far' ≡ far → DonePart
     cut_part : (how : Cutting) (name : List ℕ) → command_of words ≡ Some (Cut how name) → CutPart how files files' name shelf shelf' → far' ≡ far → DonePart
-    source_read : (source_name script_name : List ℕ) → command_of words ≡ Some (Run source_name script_name) → WasRead files source_name longest_source shelf shelf' → far' ≡ far → DonePart
-    script_read : (source_name script_name source : List ℕ) (program : Program) (between : List ShelfCall) → command_of words ≡ Some (Run source_name script_name) → IsRead files source_name longest_source shelf between (reads.Ok source) → HasProgram source program
+    source_read : (source_name script_name : List ℕ) (ticks : ℕ) → command_of words ≡ Some (Run source_name script_name ticks) → WasRead files source_name longest_source shelf shelf' → far' ≡ far → DonePart
+    script_read : (source_name script_name source : List ℕ) (ticks : ℕ) (program : Program) (between : List ShelfCall) → command_of words ≡ Some (Run source_name script_name ticks) → IsRead files source_name longest_source shelf between (reads.Ok source) → HasProgram source program
         → WasRead files script_name longest_script between shelf' → far' ≡ far → DonePart
-    ran_part : (source_name script_name source script : List ℕ) (calls : List Command) (program : Program) (between : List ShelfCall) → command_of words ≡ Some (Run source_name script_name) → IsRead files source_name longest_source shelf between (reads.Ok source) → HasProgram source program
-        → IsRead files script_name longest_script between shelf' (reads.Ok script) → HasScript program script calls → LoadedPart program source calls far far' es → DonePart
+    ran_part : (source_name script_name source script : List ℕ) (ticks : ℕ) (calls : List Command) (program : Program) (between : List ShelfCall) → command_of words ≡ Some (Run source_name script_name ticks) → IsRead files source_name longest_source shelf between (reads.Ok source) → HasProgram source program
+        → IsRead files script_name longest_script between shelf' (reads.Ok script) → HasScript program script calls → LoadedPart program source calls ticks far far' es → DonePart
 
   -- all of it was done and the whole text printed; or a part of the text, where the output failed; or memory was wanting, and nothing was printed
   pub data Does (old new : Option (List ℕ)) (s : Status) : Type 0 where

@@ -1,14 +1,15 @@
 -- The words that the program takes.
-use Rattle.std.specs.Prelude.{ℕ, Bool, true, false, ◌&&◌, List, [], ◌∷◌, codes, Option, Some, None, option_map}
-use Rattle.std.specs.Str.{bytes_eq}
+use Rattle.std.specs.Prelude.{ℕ, Bool, true, false, ◌&&◌, nat_le, List, [], ◌∷◌, codes, Option, Some, None, option_map, Result, Ok, Err}
+use Rattle.std.specs.Str.{bytes_eq, all_ascii_digits}
+use Rattle.std.specs.Str.Parse.{digits_value}
 use Rattle.mdr_core.specs.Layout.{chosen}
 use Rattle.mdr_top.specs.declared.words.Cutting.{Cutting}
 use Rattle.mdr_top.specs.declared.words.Cutting.TheVariants as cutting
 
--- what the words ask for: that a source is cut, or that a script is run over one
+-- what the words ask for: that a source is cut, or that a script is run over one, under a budget of ticks
 pub data Task : Type 0 where
   Cut : (how : Cutting) (source_name : List ℕ) → Task
-  Run : (source_name script_name : List ℕ) → Task
+  Run : (source_name script_name : List ℕ) (ticks : ℕ) → Task
 
 abbrev pub when : {A : Type 0} → Bool → A → Option A
 when true x = Some x
@@ -22,14 +23,46 @@ abbrev pub cut_of : List (List ℕ) → Option (Cutting × List ℕ)
 cut_of (word ∷ file ∷ []) = option_map (λ how. (how, file)) (cutting_of word)
 cut_of _ = None
 
--- `run split FILE SCRIPT`: the two names
-abbrev pub run_of : List (List ℕ) → Option (List ℕ × List ℕ)
-run_of (run' ∷ split' ∷ file ∷ script ∷ []) = when (bytes_eq run' (codes "run") && bytes_eq split' (codes "split")) (file, script)
+-- ---- a run's budget
+
+-- a run has a million ticks where the words say nothing of it
+abbrev pub default_ticks : ℕ
+default_ticks = 1000000
+
+-- the first digit is no zero: 49 is `1`, 57 is `9`
+abbrev pub begins_number : List ℕ → Bool
+begins_number [] = false
+begins_number (b ∷ bytes) = nat_le 49 b && nat_le b 57
+
+-- what was read, where no budget is larger
+abbrev pub within : {E : Type 0} → Result ℕ E → Option ℕ
+within (Ok n) = when (nat_le n 100000000) n
+within (Err e) = None
+
+-- 1 to 100,000,000, in decimal digits
+unfoldable pub ticks_of : List ℕ → Option ℕ
+ticks_of word = when (begins_number word && all_ascii_digits word && nat_le (digits_value 10 word) 100000000) (digits_value 10 word)
+
+-- what stands behind the names: nothing, or `--ticks N`
+abbrev pub budget_of : List (List ℕ) → Option ℕ
+budget_of [] = Some default_ticks
+budget_of (flag ∷ n ∷ []) = chosen (bytes_eq flag (codes "--ticks")) (ticks_of n) None
+budget_of _ = None
+
+-- ---- a run
+
+-- `run split`
+abbrev pub is_run : List ℕ → List ℕ → Bool
+is_run run' split' = bytes_eq run' (codes "run") && bytes_eq split' (codes "split")
+
+-- `run split FILE SCRIPT`, and the budget: the two names and the ticks
+abbrev pub run_of : List (List ℕ) → Option (List ℕ × List ℕ × ℕ)
+run_of (run' ∷ split' ∷ file ∷ script ∷ flags) = chosen (is_run run' split') (option_map (λ ticks. (file, script, ticks)) (budget_of flags)) None
 run_of _ = None
 
-abbrev pub command_by : Option (Cutting × List ℕ) → Option (List ℕ × List ℕ) → Option Task
+abbrev pub command_by : Option (Cutting × List ℕ) → Option (List ℕ × List ℕ × ℕ) → Option Task
 command_by (Some cut) run = Some (Cut cut.0 cut.1)
-command_by None (Some run) = Some (Run run.0 run.1)
+command_by None (Some run) = Some (Run run.0 run.1 run.2)
 command_by None None = None
 
 abbrev pub command_of : List (List ℕ) → Option Task

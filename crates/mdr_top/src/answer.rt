@@ -25,16 +25,18 @@ const LONGEST_SOURCE: u64 = 1_048_576;
 /// The largest script: 256 KiB.
 const LONGEST_SCRIPT: u64 = 262_144;
 
-/// Runs a script over a source, both from the shelf: each stage goes on with what it made, or ends the work.
+/// Runs a script over a source, both from the shelf, under a budget: each stage goes on with what it made, or ends the
+/// work.
 fn run_split<S: Shelf, F: Far>(
     alloc: Global,
     source_name: &str,
     script_name: &str,
+    ticks: u64,
     shelf: &mut S,
     far: &mut F,
 ) -> Result<Due, OutOfMemory>
-    ensures done { (words : List (List ℕ)) → command_of words ≡ Some (Run source_name.now script_name.now) → IfOk result (λ due. Done words (S.files shelf.old) (S.files shelf.new) (S.calls shelf.old) (S.calls shelf.new) (F.calls far.old) (F.calls far.new) (F.loaded far.new) (F.exchanges far.new) due.status due.text.items) }
-    ensures part { (words : List (List ℕ)) → command_of words ≡ Some (Run source_name.now script_name.now) → OnErr result (DonePart words (S.files shelf.old) (S.files shelf.new) (S.calls shelf.old) (S.calls shelf.new) (F.calls far.old) (F.calls far.new) (F.loaded far.new) (F.exchanges far.new)) }
+    ensures done { (words : List (List ℕ)) → command_of words ≡ Some (Run source_name.now script_name.now ticks) → IfOk result (λ due. Done words (S.files shelf.old) (S.files shelf.new) (S.calls shelf.old) (S.calls shelf.new) (F.calls far.old) (F.calls far.new) (F.loaded far.new) (F.exchanges far.new) due.status due.text.items) }
+    ensures part { (words : List (List ℕ)) → command_of words ≡ Some (Run source_name.now script_name.now ticks) → OnErr result (DonePart words (S.files shelf.old) (S.files shelf.new) (S.calls shelf.old) (S.calls shelf.new) (F.calls far.old) (F.calls far.new) (F.loaded far.new) (F.exchanges far.new)) }
     ensures read { IfOk result (λ due. HasReadCause (record { faults = S.faults shelf.old; absent = S.absent shelf.old; long = S.long shelf.old }) (record { faults = S.faults shelf.new; absent = S.absent shelf.new; long = S.long shelf.new }) due.status) }
     ensures failed { IfOk result (λ due. due.status ≡ status.FarFault → Rose (F.faults far.old) (F.faults far.new)) }
 {
@@ -54,7 +56,14 @@ fn run_split<S: Shelf, F: Far>(
         Stage::Goes(calls) => calls,
         Stage::Ends(due) => return Ok(due),
     };
-    ran(alloc, &program, source.as_slice(), calls.as_slice(), far)
+    ran(
+        alloc,
+        &program,
+        source.as_slice(),
+        calls.as_slice(),
+        ticks,
+        far,
+    )
 }
 
 /// What is due for the words.
@@ -73,11 +82,11 @@ pub(crate) fn answered<S: Shelf, F: Far>(
     if let Some((how, name)) = cut_of(words) {
         return cut(alloc, how, shelf, name);
     }
-    let Some((source_name, script_name)) = run_of(words) else {
+    let Some((source_name, script_name, ticks)) = run_of(words) else {
         return Ok(Due {
             status: Status::Usage,
             text: usage_line(alloc)?,
         });
     };
-    run_split(alloc, source_name, script_name, shelf, far)
+    run_split(alloc, source_name, script_name, ticks, shelf, far)
 }

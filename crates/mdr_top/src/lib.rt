@@ -8,6 +8,7 @@ mod lines;
 mod program;
 mod script;
 mod split;
+mod ticks;
 mod top;
 mod words;
 

@@ -1,7 +1,9 @@
 // The words after the program's name.
 
 ghost use Rattle.std.specs.Prelude.{◌≡◌, map, option_map, string_bytes};
-ghost use Rattle.mdr_top.specs.Words.{cutting_of, cut_of, run_of};
+ghost use Rattle.mdr_top.specs.Words.{cutting_of, cut_of, budget_of, is_run, run_of};
+
+use crate::ticks::ticks_of;
 
 /// What is asked of a source that is cut.
 #[derive(Clone, Copy, Debug, PartialEq, Eq)]
@@ -37,13 +39,37 @@ pub(crate) fn cut_of(words: &[String]) -> Option<(Cutting, &str)>
     }
 }
 
-/// The names of the source and of the script, where the words are `run split FILE SCRIPT`.
-pub(crate) fn run_of(words: &[String]) -> Option<(&str, &str)>
-    ensures { option_map (λ x. (x.0.now, x.1.now)) result ≡ run_of (map string_bytes words.now) }
+/// The budget where nothing stands behind the names.
+const TICKS: u64 = 1_000_000;
+
+/// The budget that the words behind the names say.
+fn budget_of(flags: &[String]) -> Option<u64>
+    ensures { result ≡ budget_of (map string_bytes flags.now) }
+{
+    match flags {
+        [] => Some(TICKS),
+        [flag, ticks] if flag.as_str() == "--ticks" => ticks_of(ticks.as_str()),
+        _ => None,
+    }
+}
+
+fn is_run(run: &str, split: &str) -> bool
+    ensures { result ≡ is_run run.now split.now }
+{
+    run == "run" && split == "split"
+}
+
+/// The names of the source and of the script and the budget, where the words are `run split FILE SCRIPT`, perhaps with
+/// `--ticks N` behind them.
+pub(crate) fn run_of(words: &[String]) -> Option<(&str, &str, u64)>
+    ensures { option_map (λ x. (x.0.now, x.1.now, x.2)) result ≡ run_of (map string_bytes words.now) }
 {
     match words {
-        [run, split, file, script] if run.as_str() == "run" && split.as_str() == "split" => {
-            Some((file.as_str(), script.as_str()))
+        [run, split, file, script, flags @ ..] if is_run(run.as_str(), split.as_str()) => {
+            match budget_of(flags) {
+                Some(ticks) => Some((file.as_str(), script.as_str(), ticks)),
+                None => None,
+            }
         }
         _ => None,
     }

@@ -6,4 +6,4 @@ pub mod ReplyLaws
 pub mod OpeningLaws
 pub mod Deliveries
 pub mod HalfSteps
-pub mod SoundSources
+pub mod FarLaws

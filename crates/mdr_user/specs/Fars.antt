@@ -1,10 +1,10 @@
 -- A far side in the same process.
-use Rattle.std.specs.Prelude.{◌≡◌, List, [], Option, Some, None}
+use Rattle.std.specs.Prelude.{◌≡◌, List, [], Option, Some, None, Ok}
 use Rattle.mdr_outside.specs.Calls.{FarCall}
 use Rattle.mdr_outside.specs.declared.far.Loaded.{Loaded}
 use Rattle.mdr_outside.specs.declared.far.Exchange.{Exchange}
 use Rattle.mdr_outside.specs.declared.far.LoadAnswer.TheVariants as loads
-use Rattle.mdr_user.specs.Honest.{program_of_text}
+use Rattle.mdr_ready.specs.Ready.{Ready}
 use Rattle.mdr_user.specs.Halves.{HalfState}
 
 -- what a far side holds
@@ -17,9 +17,9 @@ abbrev pub exchanges_of : Option HalfState → List Exchange
 exchanges_of None = []
 exchanges_of (Some h) = h.exchanges
 
--- a half of the text's program is there
+-- a half of the text's program is there, which is ready to run
 pub record IsHalfOf (l : Loaded) (h : HalfState) : Type 0 where
-  pub read : program_of_text l.user ≡ Some h.program
+  pub ready : Ready l.user (Ok h.program)
   pub answered : l.answer ≡ loads.Ok
 
 -- a half is there where the load was answered Ok, and else none

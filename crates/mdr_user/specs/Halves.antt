@@ -1,5 +1,5 @@
 -- The user half, as callers see it.
-use Rattle.std.specs.Prelude.{◌≡◌, ℕ, suc, Bool, true, false, List, [], ◌∷◌, ◌++◌, Option, Some, None, Result, Ok, Err}
+use Rattle.std.specs.Prelude.{◌≡◌, ℕ, suc, Bool, true, false, List, [], ◌∷◌, ◌++◌, Some, Result, Ok, Err}
 use Rattle.mdr_core.specs.declared.program.Program.{Program}
 use Rattle.mdr_model.specs.Text.{text}
 use Rattle.mdr_model.specs.Bytes.{readings, user_reply_to_bytes}
@@ -11,7 +11,8 @@ use Rattle.mdr_user.specs.declared.state.State.{State}
 use Rattle.mdr_user.specs.declared.load_error.LoadError.TheVariants as loads
 use Rattle.mdr_user.specs.declared.load_error.LoadError.{LoadError}
 use Rattle.mdr_user.specs.States.{user_of}
-use Rattle.mdr_user.specs.Honest.{program_of_text, sents}
+use Rattle.mdr_ready.specs.Ready.{Ready, IsUnready}
+use Rattle.mdr_user.specs.Honest.{sents}
 
 -- the program, the messages since the load with their replies, and whether memory was wanting once
 pub record HalfState : Type 0 where
@@ -35,27 +36,25 @@ ReplyAlike h h' =
     (more : List (List ℕ)) (last : List ℕ)
     → user_reply_to_bytes h.program (sents h.exchanges ++ more) last ≡ user_reply_to_bytes h'.program (sents h'.exchanges ++ more) last
 
--- a half is one of the text's program
+-- a half is one of the text's program, which is ready to run
 pub record IsLoadedFrom (source : List ℕ) (h : HalfState) : Type 0 where
-  pub read : program_of_text source ≡ Some h.program
+  pub ready : Ready source (Ok h.program)
   pub begins : h ≡ new_half h.program
 
 abbrev pub FailsToLoad : List ℕ → LoadError → Type 0
 FailsToLoad source loads.Plan = ⊥
-FailsToLoad source loads.Source = program_of_text source ≡ None
+FailsToLoad source loads.Source = IsUnready source
 FailsToLoad source loads.OutOfMemory = Unit {0}
 
--- the source is refused exactly where it is no program, unless memory was wanting. The plan isn't read yet
+-- the source is refused exactly where it has no program that is ready to run, unless memory was wanting. The plan isn't read yet
 abbrev pub Loads : List ℕ → Result HalfState LoadError → Type 0
 Loads source (Ok h) = IsLoadedFrom source h
 Loads source (Err e) = FailsToLoad source e
 
--- the program of a text is read, unless memory was wanting
-abbrev pub ReadsAs : Option Program → Result Program LoadError → Type 0
-ReadsAs read (Ok program) = read ≡ Some program
-ReadsAs read (Err loads.Plan) = ⊥
-ReadsAs read (Err loads.Source) = read ≡ None
-ReadsAs read (Err loads.OutOfMemory) = Unit {0}
+-- the program of a text is ready, or there is none, unless memory was wanting
+abbrev pub ReadsAs : List ℕ → Result Program LoadError → Type 0
+ReadsAs source (Ok program) = Ready source (Ok program)
+ReadsAs source (Err e) = FailsToLoad source e
 
 -- ---- inside
 

@@ -67,8 +67,8 @@ impl UserHalf {
         })
     }
 
-    /// The half of a source text. The plan isn't read yet: the halves of the forms that are built follow from the
-    /// source.
+    /// The half of a source text, where its program is ready to run. The plan isn't read yet: the halves of the forms
+    /// that are built follow from the source.
     pub fn load(alloc: Global, user: &[u8], _plan: &[u8]) -> Result<UserHalf, LoadError>
         ensures { Loads user.now result }
     {

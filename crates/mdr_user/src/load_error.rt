@@ -11,7 +11,7 @@ use thiserror::Error;
 pub enum LoadError {
     #[error("the plan is none")]
     Plan,
-    #[error("the source is no program of the forms that are built")]
+    #[error("the source has no program that is ready to run")]
     Source,
     #[error("out of memory")]
     OutOfMemory,

@@ -3,7 +3,7 @@
 ghost use Rattle.std.specs.Prelude.{◌≡◌, [], None, Some, IfOk};
 ghost use Rattle.mdr_outside.specs.Far.{loaded_with};
 ghost use Rattle.mdr_outside.specs.declared.far.LoadAnswer.TheVariants.{Ok as Answered};
-ghost use Rattle.mdr_user.specs.Honest.{IsHonest, IsHonestLoad, program_of_text};
+ghost use Rattle.mdr_user.specs.Honest.{IsHonest, IsHonestLoad};
 ghost use Rattle.mdr_user.specs.Fars.{Serves, exchanges_of};
 
 use crate::half::UserHalf;

@@ -25,6 +25,11 @@ fn drivers_run_to_their_reports(rt: HostRuntime) -> Result<(), Fail> {
         (BUMP, "call open\n", REPORT),
         (BUMP, "", "end ok\nticks 0\nlive 1\nobj 1 u32 x1: 0\n"),
         (
+            BUMP,
+            "call open\n\n# a comment\n \t\n\tcall  bump \n",
+            "call open\nW 4 1\nret none\ncall bump\nret none\nend ok\nticks 6\nlive 1\nobj 1 u32 x1: 3\n",
+        ),
+        (
             "#include <linux/module.h>\nu32 a; void f(void){a=a+1;}",
             "# once\n\ncall f",
             "call f\nret none\nend ok\nticks 1\nlive 1\nobj 1 u32 x1: 1\n",
@@ -47,22 +52,72 @@ fn a_register_that_is_not_there_stops_the_run(rt: HostRuntime) -> Result<(), Fai
     expect(&rt, source, "call f", Status::Stopped, text)
 }
 
+/// Sources that are refused, and the lines that tell it. What isn't built yet comes behind all else.
+const REFUSED: [(&str, &str); 10] = [
+    ("u32 a;\n@", "2:1 BadByte"),
+    ("u32 a; 08", "1:8 BadNumber"),
+    ("u32 a; /* no end", "1:8 OpenComment"),
+    ("u32 a; \"no end", "1:8 OpenText"),
+    ("u32 a; u32 a;", "1:12 Redefined"),
+    ("void f(void){ b=1; }", "1:15 UnknownName"),
+    ("u32 *p __nullterm;", "1:6 BadAnnotation"),
+    ("u32 *p; u32 *p;", "1:14 Redefined"),
+    ("u32 *p;", "1:1 Unbuilt"),
+    ("u32 a; void f(void){while(a)a=a-1;}", "1:1 Unbuilt"),
+];
+
+/// Scripts for the driver that are refused.
+const NO_SCRIPTS: [(&str, &str); 7] = [
+    ("idle 3", "1"),
+    ("call open\ncall opens", "2"),
+    ("call open\n\ncall", "3"),
+    ("call open\r\n", "1"),
+    ("\ncall shut\nidle", "2"),
+    ("call open 1", "1"),
+    (" # no comment", "1"),
+];
+
+fn expect_refused<R: Abort + AllocGlobal>(rt: &R, source: &str, why: &str) -> Result<(), Fail> {
+    let text = format!(in rt.alloc(); "source refused {why}\n")?;
+    expect(rt, source, "", Status::SourceRefused, text.as_str())
+}
+
 #[test]
 fn refusals_name_the_place_or_the_line(rt: HostRuntime) -> Result<(), Fail> {
-    for (source, text) in [
-        ("u32 a;\n@", "source refused 2:1 BadByte\n"),
-        ("u32 a; 08", "source refused 1:8 BadNumber\n"),
-        ("u32 a; /* no end", "source refused 1:8 OpenComment\n"),
-        ("u32 a; \"no end", "source refused 1:8 OpenText\n"),
-        ("s32 a;", "source refused 1:1 Unbuilt\n"),
-    ] {
-        expect(&rt, source, "", Status::SourceRefused, text)?;
+    for (source, why) in REFUSED {
+        expect_refused(&rt, source, why)?;
     }
-    for (script, text) in [
-        ("idle 3", "script refused 1 Unbuilt\n"),
-        ("call open\ncall opens", "script refused 2 Unbuilt\n"),
+    let mut deep = String::from_str(rt.alloc(), "void f(void){ a=")?;
+    for _ in 0..513 {
+        deep.push('(')?;
+    }
+    expect_refused(&rt, deep.as_str(), "1:529 Expected")?;
+    for (script, line) in NO_SCRIPTS {
+        let text = format!(in rt.alloc(); "script refused {line} Unbuilt\n")?;
+        expect(&rt, BUMP, script, Status::ScriptRefused, text.as_str())?;
+    }
+    Ok(())
+}
+
+#[test]
+fn a_budget_is_kept_to(rt: HostRuntime) -> Result<(), Fail> {
+    for (ticks, status, text) in [
+        (
+            "2",
+            Status::Stopped,
+            "call open\nstop Ticks at open 2\nticks 2\nlive 1\nobj 1 u32 x1: 1\n",
+        ),
+        (
+            "4",
+            Status::Stopped,
+            "call open\nW 4 1\nstop Ticks at bump 1\nticks 4\nlive 1\nobj 1 u32 x1: 1\n",
+        ),
+        ("100000000", Status::Done, REPORT),
     ] {
-        expect(&rt, BUMP, script, Status::ScriptRefused, text)?;
+        let [run, split, source, script] = RUN;
+        let words = [run, split, source, script, "--ticks", ticks];
+        let mut shelf = shelf_of(&rt, BUMP, "call open")?;
+        expect_run(&rt, &words, &mut shelf, &mut LocalFar::new(), status, text)?;
     }
     Ok(())
 }

@@ -19,6 +19,12 @@ fn other_words_print_the_usage(rt: HostRuntime) -> Result<(), Fail> {
         &["run", "split", "bump.c"],
         &["run", "whole", "bump.c", "open.script"],
         &["run", "split", "bump.c", "open.script", "--wire"],
+        &["run", "split", "bump.c", "open.script", "--ticks"],
+        &["run", "split", "bump.c", "open.script", "--ticks", "0"],
+        &["run", "split", "bump.c", "open.script", "--ticks", "04"],
+        &["run", "split", "bump.c", "open.script", "--ticks", "+4"],
+        &["run", "split", "bump.c", "open.script", "--ticks", "100000001"],
+        &["run", "split", "--ticks", "4", "bump.c", "open.script"],
     ] {
         let mut shelf = shelf_of(&rt, BUMP, "call open")?;
         expect_run(

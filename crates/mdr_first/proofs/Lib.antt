@@ -1,9 +1,0 @@
-pub mod Until
-pub mod Each
-pub mod Lines
-pub mod Again
-pub mod Found
-pub mod Spelled
-pub mod FirstCode
-pub mod Soundness
-pub mod SoundPrograms

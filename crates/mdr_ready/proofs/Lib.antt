@@ -1,0 +1,4 @@
+mod Settled
+pub mod Sound
+pub mod OneReason
+pub mod Small
