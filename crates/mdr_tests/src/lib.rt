@@ -12,12 +12,6 @@ mod outside;
 #[cfg(test)]
 mod paths;
 #[cfg(test)]
-mod printing;
-#[cfg(test)]
 mod report;
-#[cfg(test)]
-mod syntax;
-#[cfg(test)]
-mod types;
 #[cfg(test)]
 mod user;

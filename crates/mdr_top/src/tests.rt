@@ -2,9 +2,7 @@
 
 mod answers;
 mod cuts;
-mod drivers;
 mod files;
-mod grammar;
 mod halves;
 mod output;
 
