@@ -1,5 +1,5 @@
 -- Parameters and locals: what is declared, in which slot, and whether it is an object of its own (C99 6.2.1, 6.7, 6.9.1).
-use Rattle.std.specs.Prelude.{ℕ, ◌+◌, ◌==◌, ◌&&◌, ◌||◌, not, nat_lt, Bool, true, false, List, [], ◌∷◌, ◌++◌, length, take, slice_get, is_some, Option, Some, None, Result, Ok, Err}
+use Rattle.std.specs.Prelude.{ℕ, ◌+◌, ◌==◌, ◌&&◌, ◌||◌, not, nat_lt, Bool, true, false, List, [], ◌∷◌, ◌++◌, length, map, take, slice_get, is_some, Option, Some, None, Result, Ok, Err}
 use Rattle.std.specs.Str.{bytes_eq}
 use Rattle.mdr_core.specs.declared.place.Place.{Place}
 use Rattle.mdr_core.specs.declared.program.Local.{Local}
@@ -11,13 +11,16 @@ use Rattle.mdr_syntax.specs.declared.tree.Const.TheVariants as const
 use Rattle.mdr_syntax.specs.declared.tree.Decl.{Decl, out-Decl}
 use Rattle.mdr_faults.specs.declared.fault.Fault.{Fault}
 use Rattle.mdr_faults.specs.declared.fault.FaultKind.TheVariants.{Redefined, Mismatch, Limit}
+use Rattle.mdr_faults.specs.declared.scope.Candidate.{Candidate}
 use Rattle.mdr_faults.specs.declared.scope.Member.{Member}
 use Rattle.mdr_faults.specs.declared.scope.Object.{Object}
 use Rattle.mdr_faults.specs.declared.scope.Scope.{Scope}
 use Rattle.mdr_faults.specs.declared.scope.StructEntry.{StructEntry}
 use Rattle.mdr_faults.specs.Declarations.{declarator, object_declared}
 use Rattle.mdr_faults.specs.Faults.{Checked, Right, refuse, after, demand, told}
-use Rattle.mdr_headings.specs.Structs.{name_or_none}
+use Rattle.mdr_headings.specs.Annotations.{bare}
+use Rattle.mdr_headings.specs.Structs.{is_struct, name_or_none}
+use Rattle.mdr_headings.specs.Within.{beside, within}
 use Rattle.mdr_operand.specs.declared.room.LocalName.{LocalName}
 use Rattle.mdr_operand.specs.Rooms.{local_named}
 use Rattle.mdr_operand.specs.Written.{Written, Line, Lines}
@@ -72,18 +75,6 @@ without_lock locks p o = chosen (holds_lock locks o.ty) (refuse p Mismatch) (Rig
 unfoldable pub local_object : Scope → (locks : List Bool) → Decl → Checked Object
 local_object scope locks d = after (object_declared scope (out-Decl d).place d) (without_lock locks (out-Decl d).place)
 
-abbrev pub is_struct_by : Ty-F Ty → Bool
-is_struct_by (Ty-F.Int k) = false
-is_struct_by Ty-F.Lock = false
-is_struct_by (Ty-F.Struct s) = true
-is_struct_by (Ty-F.Ptr t) = false
-is_struct_by Ty-F.VoidPtr = false
-is_struct_by (Ty-F.Fun ts) = false
-is_struct_by Ty-F.Void = false
-
-abbrev pub is_struct : Ty → Bool
-is_struct t = is_struct_by (out-Ty t)
-
 -- an array, a struct, and what has its address taken are objects of their own. All others lie in a slot
 abbrev pub is_own_object : (is_taken : Bool) → Object → Bool
 is_own_object is_taken o = o.array || (is_struct o.ty || is_taken)
@@ -127,13 +118,17 @@ has_no_size names (Some c) = is_no_constant names c
 abbrev pub local_whole : (is_taken : Bool) → Decl → Checked Object → Checked Local
 local_whole is_taken d c = after c (λ o. Right (local_of is_taken d o))
 
+-- the names of a function as annotations see them. No parameter and no local is a length there, but its name is declared
+abbrev pub names_here : List LocalName → List Candidate
+names_here names = map (λ n. bare (Some n.name)) names
+
 -- a name is declared once in its scope (6.7, paragraph 3)
 unfoldable pub local_declared : Scope → (locks : List Bool) → Here → (is_taken : Bool) → Decl → Checked Local
 local_declared scope locks here is_taken d =
     demand (out-Decl d).place Redefined (not (is_again here.first (name_of d) here.names))
     (demand (out-Decl d).place Limit (has_place (length here.locals) (name_of d))
     (demand (out-Decl d).place Mismatch (not (has_no_size here.names (out-Decl d).size))
-    (local_whole is_taken d (local_object scope locks d))))
+    (beside (within scope (names_here here.names) d) (local_whole is_taken d (local_object scope locks d)))))
 
 -- behind a declarator (6.2.1, paragraph 7)
 unfoldable pub with_local : Scope → (locks : List Bool) → (is_taken : Bool) → Decl → Here → Here

@@ -9,16 +9,17 @@ ghost use Rattle.mdr_faults.specs.declared.fault.FaultKind.TheVariants.{Redefine
 ghost use Rattle.mdr_syntax.specs.declared.tree.Decl.{Decl, out-Decl};
 ghost use Rattle.mdr_operand.specs.Written.{written_of, lines_of};
 ghost use Rattle.mdr_body.specs.declared.mention.Mention.TheVariants.{Address};
-ghost use Rattle.mdr_body.specs.Locals.{flag, holds_lock, object_lock, member_lock, any_lock, locks_behind, struct_locks, without_lock, local_object, is_struct, is_own_object, lies_apart, name_of, named_local, local_of, is_in_block, is_again, has_place, is_no_constant, has_no_size, local_whole, local_declared, with_local, takes, entered, left, numbered, parameter_object, parameter_means, parameter_taken, parameters_from, first_here};
+ghost use Rattle.mdr_headings.specs.Within.{beside, within};
+ghost use Rattle.mdr_body.specs.Locals.{flag, holds_lock, object_lock, member_lock, any_lock, locks_behind, struct_locks, without_lock, local_object, is_own_object, lies_apart, name_of, named_local, local_of, is_in_block, is_again, has_place, is_no_constant, has_no_size, local_whole, names_here, local_declared, with_local, takes, entered, left, numbered, parameter_object, parameter_means, parameter_taken, parameters_from, first_here};
 
 use crate::here::{DeclaredLocal, Here};
 use crate::mention::{Mention, have, perhaps_mentions};
-use mdr_core::{Items, Local, Name, OutOfMemory, Place, Ty};
+use mdr_core::{Ann, Items, Local, Name, OutOfMemory, Place, Ty};
 use mdr_faults::{
-    Fault, FaultKind, Member, Object, Scope, StructEntry, copied_type, demanded, mismatch,
-    object_declared, parameter, small,
+    Candidate, Fault, FaultKind, Member, Object, Scope, StructEntry, copied, copied_type, demanded,
+    mismatch, object_declared, parameter, small,
 };
-use mdr_headings::declared_name;
+use mdr_headings::{bare, beside, declared_name, is_struct, within};
 use mdr_operand::{LocalName, local_named};
 use mdr_syntax::{Const, Decl, Form, Node};
 use std::alloc::{AllocError, Global};
@@ -102,15 +103,6 @@ pub fn local_object(
     match object_declared(alloc, scope, d.place, d)? {
         Ok(o) => Ok(without_lock(locks, d.place, o)),
         Err(fault) => Ok(Err(fault)),
-    }
-}
-
-fn is_struct(ty: &Ty) -> bool
-    ensures { result ≡ is_struct ty.now }
-{
-    match ty {
-        Ty::Struct(_) => true,
-        Ty::Int(_) | Ty::Lock | Ty::Ptr(_) | Ty::VoidPtr | Ty::Fun(_) | Ty::Void => false,
     }
 }
 
@@ -247,6 +239,30 @@ fn local_rule(
     )
 }
 
+/// The names of a function as annotations see them.
+fn names_here(alloc: Global, names: &[LocalName]) -> Result<Items<Candidate>, AllocError>
+    ensures { IfOk result (λ cs. cs ≡ names_here names.now) }
+{
+    let mut all = Items::new(alloc);
+    for n in names {
+        all.push(bare(Some(copied(alloc, n.name.as_slice())?)))?;
+    }
+    Ok(all)
+}
+
+/// The annotations within a local's declarator.
+fn within_local(
+    alloc: Global,
+    scope: &Scope,
+    here: &Here,
+    d: &Decl,
+) -> Result<Result<Items<Ann>, Fault>, OutOfMemory>
+    ensures { IfOk result (λ r. r ≡ told (within scope.now (names_here here.now.names) d.now)) }
+{
+    let around = names_here(alloc, here.names.as_slice())?;
+    within(alloc, scope, around.as_slice(), d)
+}
+
 /// What a local's declaration comes to.
 #[tactic(auto, unfolding(crate::specs::Locals::local_declared))]
 fn local_declared(
@@ -256,13 +272,15 @@ fn local_declared(
     here: &Here,
     is_taken: bool,
     d: &Decl,
-) -> Result<Result<Local, Fault>, AllocError>
+) -> Result<Result<Local, Fault>, OutOfMemory>
     ensures { IfOk result (λ r. r ≡ told (local_declared scope.now locks.now here.now is_taken d.now)) }
 {
     let o = local_object(alloc, scope, locks, d)?;
     let name = declared_name(alloc, &d.name)?;
     let again = declared_name(alloc, &d.name)?;
-    let whole = local_whole(again, is_taken, o);
+    let dropped = within_local(alloc, scope, here, d)?;
+    let lone = local_whole(again, is_taken, o);
+    let whole = beside(dropped, lone);
     let sized = sized_rule(here, d, whole);
     Ok(local_rule(here, d.place, name.as_slice(), sized))
 }

@@ -70,9 +70,9 @@ item_piece body items before known p (item.Define name is_negative n k) = define
 item_piece body items before known p (item.Struct at name ds) = struct_piece known.scope at name ds
 item_piece body items before known p (item.Enum es) = nothing (enumerators known.scope before_first es)
 item_piece body items before known p (item.Global d init) = after (global known.scope known.globals d init) global_of
-item_piece body items before known p (item.Proto h is_remote) = after (function_declared known.scope known.functions items before h false) (prototype_of h.name)
+item_piece body items before known p (item.Proto h is_remote) = after (function_declared known.scope known.functions before h false) (prototype_of h.name)
 item_piece body items before known p (item.Func h is_critical nodes) =
-    both (function_declared known.scope known.functions items before h true)
+    both (function_declared known.scope known.functions before h true)
     (body (body_scope items known h) h nodes)
     (function_of h.name is_critical)
 
@@ -82,7 +82,7 @@ abbrev pub with_scope : Known → Scope → Known
 with_scope known scope = record known { scope = scope }
 
 abbrev pub behind_head : (items : List Item) → Known → Head → Known
-behind_head items known h = record { scope = body_scope items known h; globals = known.globals; functions = functions_behind known.scope known.functions items h }
+behind_head items known h = record { scope = body_scope items known h; globals = known.globals; functions = functions_behind known.scope known.functions h }
 
 abbrev pub behind_item : (items : List Item) → Known → ItemWhat → Known
 behind_item items known (item.Define name is_negative n k) = with_scope known (with_name known.scope name (Ok (entity.Constant (number_constant is_negative n k))))

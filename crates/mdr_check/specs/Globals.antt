@@ -19,6 +19,7 @@ use Rattle.mdr_faults.specs.Enums.{with_name, new_name}
 use Rattle.mdr_faults.specs.Faults.{Checked, Right, after, both, demand, told}
 use Rattle.mdr_check.specs.Initialisers.{initial}
 use Rattle.mdr_headings.specs.Structs.{name_or_none}
+use Rattle.mdr_headings.specs.Within.{beside, within}
 
 -- the object that a global is
 abbrev pub global_object : Scope → Decl → Checked Object
@@ -47,9 +48,9 @@ variable scope own d init o =
     (first_value scope own (out-Decl d).place init o)
     (variable_of (name_or_none (out-Decl d).name) o)
 
--- the global of number `own`. There are at most 1,024
+-- the global of number `own`. There are at most 1,024. Its name isn't in scope within its declarator (6.2.1, paragraph 7)
 unfoldable pub global : Scope → (own : ℕ) → Decl → Option Init → Checked Variable
 global scope own d init =
     new_name scope (out-Decl d).place (name_or_none (out-Decl d).name)
     (demand (out-Decl d).place Limit (not (own == 1024))
-    (after (global_object scope d) (variable (behind_global scope own d) own d init)))
+    (beside (within scope [] d) (after (global_object scope d) (variable (behind_global scope own d) own d init))))

@@ -31,6 +31,7 @@ use Rattle.mdr_faults.specs.declared.scope.Signature.{Signature}
 use Rattle.mdr_faults.specs.declared.scope.StructEntry.{StructEntry}
 use Rattle.mdr_faults.specs.Alike.{is_alike, are_alike}
 use Rattle.mdr_headings.specs.Annotations.{is_character}
+use Rattle.mdr_headings.specs.Structs.{is_struct}
 use Rattle.mdr_faults.specs.Declarations.{number_constant}
 use Rattle.mdr_faults.specs.Faults.{Checked, Right, refuse, again, after, both, demand, next}
 use Rattle.mdr_faults.specs.Scopes.{entity_named}
@@ -121,12 +122,16 @@ address_named own at p t (Some entry) = after (again entry.means) (located_first
 
 -- ---- what takes a single value
 
-abbrev pub sole : Checked First → Checked (List First)
-sole c = after c (λ x. Right (x ∷ []))
+-- an array or a struct (6.2.5, paragraph 21). A lock is none
+abbrev pub is_aggregate : Object → Bool
+is_aggregate o = o.array || is_struct o.ty
 
--- a single value is for a scalar (6.7.8, paragraph 11). Where it is for an array, a struct or a lock, what stands there isn't judged
+abbrev pub sole : Place → Ty → First → Checked (List First)
+sole p t x = chosen (is_scalar t) (Right (x ∷ [])) (refuse p Mismatch)
+
+-- a single value is for a scalar (6.7.8, paragraph 11). Where it is for an array or a struct, what stands there isn't judged
 abbrev pub single : Place → Object → Checked First → Checked (List First)
-single p o c = chosen (is_scalar o.ty && not o.array) (sole c) (refuse p Mismatch)
+single p o c = chosen (is_aggregate o) (refuse p Mismatch) (after c (sole p o.ty))
 
 -- what has no initialiser of its own (6.7.8, paragraph 21): the elements behind the first n
 abbrev pub left_of : Object → ℕ → First

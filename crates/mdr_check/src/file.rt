@@ -187,7 +187,7 @@ fn prototype(
     known: &mut Known,
     h: &Head,
 ) -> Result<Result<Piece, Fault>, OutOfMemory>
-    ensures told { IfOk result (λ r. r ≡ told (after (function_declared known.old.scope known.old.functions items.now before.now h.now false) (prototype_of h.now.name))) }
+    ensures told { IfOk result (λ r. r ≡ told (after (function_declared known.old.scope known.old.functions before.now h.now false) (prototype_of h.now.name))) }
     ensures grown { OnOk result (known.new ≡ behind_head items.now known.old h.now) }
 {
     let name = copied(alloc, h.name.as_slice())?;
@@ -227,7 +227,7 @@ fn function<B: Bodies>(
     is_critical: bool,
     nodes: &[Node],
 ) -> Result<Result<Piece, Fault>, OutOfMemory>
-    ensures told { IfOk result (λ r. r ≡ told (both (function_declared known.old.scope known.old.functions items.now before.now h.now true) (B.rule bodies.now (body_scope items.now known.old h.now) h.now nodes.now) (function_of h.now.name is_critical))) }
+    ensures told { IfOk result (λ r. r ≡ told (both (function_declared known.old.scope known.old.functions before.now h.now true) (B.rule bodies.now (body_scope items.now known.old h.now) h.now nodes.now) (function_of h.now.name is_critical))) }
     ensures grown { OnOk result (known.new ≡ behind_head items.now known.old h.now) }
 {
     let name = copied(alloc, h.name.as_slice())?;

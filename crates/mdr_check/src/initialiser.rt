@@ -5,12 +5,11 @@ ghost use Rattle.std.specs.List.{list_any};
 ghost use Rattle.std.specs.Option.{option_copied};
 ghost use Rattle.std.specs.Str.{bytes_eq};
 ghost use Rattle.mdr_core.specs.declared.types.Ty.{out-Ty};
-ghost use Rattle.mdr_core.specs.Types.{is_scalar};
 ghost use Rattle.mdr_syntax.specs.declared.tree.Elem.{out-Elem};
 ghost use Rattle.mdr_faults.specs.Faults.{Checked, Right, told, refuse, demand, after};
 ghost use Rattle.mdr_faults.specs.declared.fault.FaultKind.TheVariants.{UnknownName, Mismatch};
 ghost use Rattle.mdr_faults.specs.Alike.{are_alike};
-ghost use Rattle.mdr_check.specs.Initialisers.{null_if, number_first, is_any_pointer_by, null_first, handle_first, function_first, entity_first, named_first, constant_first, address_if, address_first, located_first, address_named, sole, single, left_of, characters, has_room, text_by, takes_text, text_first, field_of, are_plain, are_named, is_same_field, are_once, elements_first, element_of, array_first, suits_array, numbered, part_number, placed, placed_at, placed_by, placed_parts, member_first, part_for, members_first, suits_struct, struct_first, struct_by, list_by, list_first, initial, part};
+ghost use Rattle.mdr_check.specs.Initialisers.{null_if, number_first, is_any_pointer_by, null_first, handle_first, function_first, entity_first, named_first, constant_first, address_if, address_first, located_first, address_named, is_aggregate, sole, single, left_of, characters, has_room, text_by, takes_text, text_first, field_of, are_plain, are_named, is_same_field, are_once, elements_first, element_of, array_first, suits_array, numbered, part_number, placed, placed_at, placed_by, placed_parts, member_first, part_for, members_first, suits_struct, struct_first, struct_by, list_by, list_first, initial, part};
 
 use mdr_arith::conv;
 use mdr_core::{Items, Kind, Name, Place, Ty};
@@ -19,7 +18,7 @@ use mdr_faults::{
     copied_type, demanded, entity_named, extended, followed, is_alike, is_scalar, mismatch,
     number_constant,
 };
-use mdr_headings::is_character;
+use mdr_headings::{is_character, is_struct};
 use mdr_syntax::{Const, Elem, FieldName, Init};
 use std::alloc::{AllocError, Global};
 
@@ -231,26 +230,28 @@ fn address_named(
 
 // ---- what takes a single value
 
-fn sole(
-    alloc: Global,
-    first: Result<First, Fault>,
-) -> Result<Result<Items<First>, Fault>, AllocError>
-    ensures { (c : Checked First) → first ≡ told c → IfOk result (λ r. r ≡ told (sole c)) }
+/// Whether an object is an array or a struct.
+fn is_aggregate(o: &Object) -> bool
+    ensures { result ≡ is_aggregate o.now }
 {
-    match first {
-        Ok(first) => {
-            let mut all = Items::new(alloc);
-            all.push(first)?;
-            Ok(Ok(all))
-        }
-        Err(fault) => Ok(Err(fault)),
-    }
+    o.array || is_struct(&o.ty)
 }
 
-fn is_single(o: &Object) -> bool
-    ensures { result ≡ (is_scalar o.now.ty && not o.now.array) }
+/// The one value of a scalar.
+fn sole(
+    alloc: Global,
+    place: Place,
+    ty: &Ty,
+    first: First,
+) -> Result<Result<Items<First>, Fault>, AllocError>
+    ensures { IfOk result (λ r. r ≡ told (sole place ty.now first)) }
 {
-    is_scalar(&o.ty) && !o.array
+    if !is_scalar(ty) {
+        return Ok(mismatch(place));
+    }
+    let mut all = Items::new(alloc);
+    all.push(first)?;
+    Ok(Ok(all))
 }
 
 /// A single value for an object.
@@ -262,10 +263,13 @@ fn single(
 ) -> Result<Result<Items<First>, Fault>, AllocError>
     ensures { (c : Checked First) → first ≡ told c → IfOk result (λ r. r ≡ told (single place o.now c)) }
 {
-    if !is_single(o) {
+    if is_aggregate(o) {
         return Ok(mismatch(place));
     }
-    sole(alloc, first)
+    match first {
+        Ok(first) => sole(alloc, place, &o.ty, first),
+        Err(fault) => Ok(Err(fault)),
+    }
 }
 
 /// The elements behind the first so many.

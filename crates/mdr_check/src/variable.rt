@@ -11,6 +11,7 @@ ghost use Rattle.mdr_faults.specs.Faults.{Checked, told, after, both, demand};
 ghost use Rattle.mdr_faults.specs.Enums.{new_name};
 ghost use Rattle.mdr_check.specs.Globals.{global_object, global_means, behind_global, first_value, variable_of, variable, global};
 ghost use Rattle.mdr_headings.specs.Structs.{name_or_none};
+ghost use Rattle.mdr_headings.specs.Within.{beside, within};
 
 use crate::initialiser::{First, copied_object, initial};
 use mdr_core::{Ann, Items, Name, OutOfMemory, Place};
@@ -18,7 +19,7 @@ use mdr_faults::{
     Entity, Fault, FaultKind, Object, Scope, both, declare, demanded, is_declared_name, new_name,
     object_declared,
 };
-use mdr_headings::{annotated, declared_name};
+use mdr_headings::{annotated, beside, declared_name, within};
 use mdr_syntax::{Decl, Init};
 use std::alloc::{AllocError, Global};
 
@@ -153,8 +154,10 @@ pub fn checked_global(
     let name = declared_name(alloc, &d.name)?;
     let is_new = !is_declared_name(scope, name.as_slice());
     let object = global_object(alloc, scope, d)?;
+    let dropped = within(alloc, scope, &[], d)?;
     behind_global(alloc, scope, own, d)?;
     let variable = variable_told(alloc, scope, own, d, init, object)?;
-    let few = demanded(d.place, FaultKind::Limit, own != 1024, variable);
+    let whole = beside(dropped, variable);
+    let few = demanded(d.place, FaultKind::Limit, own != 1024, whole);
     Ok(demanded(d.place, FaultKind::Redefined, is_new, few))
 }

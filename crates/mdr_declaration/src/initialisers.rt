@@ -39,7 +39,7 @@ fn address_behind<'t>(
 {
     let (name, rest) = take(reader.halves, Sort::Name, tokens)?;
     Ok((
-        Init::Address(and.place, copied(reader.alloc, text_of(&name.what))?),
+        Init::Address(name.place, copied(reader.alloc, text_of(&name.what))?),
         rest,
     ))
 }

@@ -140,9 +140,9 @@ item_name body items before known p (item.Define name is_negative n k) x e = sam
 item_name body items before known p (item.Struct at name ds) x e = ap piece_name (struct_next known.scope at name ds x e).is
 item_name body items before known p (item.Enum es) x e = same_piece x piece.Nothing (after_right (enumerators known.scope before_first es) (λ cs. Right piece.Nothing) x e).made
 item_name body items before known p (item.Global d init) x e = let a = after_right (global known.scope known.globals d init) global_of x e in same_piece x (piece.Global a.value) a.made
-item_name body items before known p (item.Proto h is_remote) x e = let a = after_right (function_declared known.scope known.functions items before h false) (prototype_of h.name) x e in same_piece x (piece.Prototype h.name a.value) a.made
+item_name body items before known p (item.Proto h is_remote) x e = let a = after_right (function_declared known.scope known.functions before h false) (prototype_of h.name) x e in same_piece x (piece.Prototype h.name a.value) a.made
 item_name body items before known p (item.Func h is_critical nodes) x e =
-    let a = both_right (function_declared known.scope known.functions items before h true) (body (body_scope items known h) h nodes) (function_of h.name is_critical) x e in
+    let a = both_right (function_declared known.scope known.functions before h true) (body (body_scope items known h) h nodes) (function_of h.name is_critical) x e in
     same_piece x (piece.Function h.name is_critical a.left a.right) a.made
 
 module _ (test : List ℕ → Bool) where

@@ -93,8 +93,8 @@ other_piece body items before known p (item.Define name is_negative n k) x s e =
 other_piece body items before known p (item.Struct at name ds) x s e = absurd cc
 other_piece body items before known p (item.Enum es) x s e = is_right_nothing x piece.Nothing (after_right (enumerators known.scope before_first es) (λ cs. Right piece.Nothing) x e).made refl
 other_piece body items before known p (item.Global d init) x s e = let a = after_right (global known.scope known.globals d init) global_of x e in is_right_nothing x (piece.Global a.value) a.made refl
-other_piece body items before known p (item.Proto h is_remote) x s e = let a = after_right (function_declared known.scope known.functions items before h false) (prototype_of h.name) x e in is_right_nothing x (piece.Prototype h.name a.value) a.made refl
-other_piece body items before known p (item.Func h is_critical nodes) x s e = let a = both_right (function_declared known.scope known.functions items before h true) (body (body_scope items known h) h nodes) (function_of h.name is_critical) x e in is_right_nothing x (piece.Function h.name is_critical a.left a.right) a.made refl
+other_piece body items before known p (item.Proto h is_remote) x s e = let a = after_right (function_declared known.scope known.functions before h false) (prototype_of h.name) x e in is_right_nothing x (piece.Prototype h.name a.value) a.made refl
+other_piece body items before known p (item.Func h is_critical nodes) x s e = let a = both_right (function_declared known.scope known.functions before h true) (body (body_scope items known h) h nodes) (function_of h.name is_critical) x e in is_right_nothing x (piece.Function h.name is_critical a.left a.right) a.made refl
 
 -- a struct that is right
 pub record IsNext (scope : Scope) (name : List ℕ) (x : Piece) : Type 0 where

@@ -221,7 +221,7 @@ enumerator_rule _ t = never
 
 abbrev pub other_initialiser : ℕ → Sort → Token → Rule Init
 other_initialiser n Sort.Null t = always (gives (Init.Null t.place))
-other_initialiser n Sort.And t = always (take Sort.Name >>= λ x. gives (Init.Address t.place (text_of x.what)))
+other_initialiser n Sort.And t = always (take Sort.Name >>= λ x. gives (Init.Address x.place (text_of x.what)))
 other_initialiser n Sort.Text t = always (gives (Init.Text t.place (text_of t.what)))
 other_initialiser n Sort.OpenBrace t = given (may_nest (n + 1)) do
   x ← one (Part.element (n + 1))

@@ -49,6 +49,10 @@ candidate_by name is_array (Err f) = record { name = name; is_integer = false; i
 unfoldable pub candidate : Scope → Decl → Candidate
 candidate scope d = candidate_by (out-Decl d).name (is_some (out-Decl d).size) (told (declarator scope d).whole)
 
+-- a name that is declared, but names nothing that suits
+abbrev pub bare : Option (List ℕ) → Candidate
+bare name = record { name = name; is_integer = false; is_scalar = false }
+
 -- ---- lengths
 
 -- a length is at least 1 and has 32 bits

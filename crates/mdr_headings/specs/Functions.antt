@@ -1,5 +1,5 @@
 -- Functions behind declarations (C99 6.7, 6.9.1): which are declared, and whether their declarations agree.
-use Rattle.std.specs.Prelude.{ℕ, ◌+◌, ◌==◌, ◌&&◌, ◌||◌, not, Bool, true, false, List, [], ◌∷◌, ◌++◌, length, find, Option, Some, None, is_some, Result, Ok, Err}
+use Rattle.std.specs.Prelude.{ℕ, ◌==◌, ◌&&◌, ◌||◌, not, Bool, true, false, List, [], ◌∷◌, ◌++◌, length, find, Option, Some, None, is_some, Result, Ok, Err}
 use Rattle.std.specs.List.{list_any}
 use Rattle.std.specs.Str.{bytes_eq}
 use Rattle.mdr_core.specs.declared.place.Place.{Place}
@@ -138,15 +138,11 @@ function_rule p is_taken entry second n c =
     (demand p Mismatch (agrees_with entry (told c))
     (demand p Limit (is_taken || not (n == 1024)) c))
 
--- the heading of a declaration, which is in scope in its own annotations
-abbrev pub function_heading : Scope → List Declared → (items : List Item) → Head → Checked Heading
-function_heading scope fs items h = heading (behind_function scope (length fs) (is_defined items h.name) h) h
-
--- a declaration among those before it, in a file of these items
-unfoldable pub function_declared : Scope → List Declared → (items before : List Item) → Head → (is_body : Bool) → Checked Heading
-function_declared scope fs items before h is_body =
-    function_rule h.place (is_taken scope h.name) (function_named fs h.name) (is_body && has_body before h.name) (length fs) (function_heading scope fs items h)
+-- a declaration among those before it
+unfoldable pub function_declared : Scope → List Declared → (before : List Item) → Head → (is_body : Bool) → Checked Heading
+function_declared scope fs before h is_body =
+    function_rule h.place (is_taken scope h.name) (function_named fs h.name) (is_body && has_body before h.name) (length fs) (heading scope h)
 
 -- the functions behind it: they are numbered by their first declarations
-unfoldable pub functions_behind : Scope → List Declared → (items : List Item) → Head → List Declared
-functions_behind scope fs items h = declared_unless (is_taken scope h.name) fs h (told (function_heading scope fs items h))
+unfoldable pub functions_behind : Scope → List Declared → Head → List Declared
+functions_behind scope fs h = declared_unless (is_taken scope h.name) fs h (told (heading scope h))

@@ -1,5 +1,5 @@
 -- What stands before a function's body (C99 6.7.5.3, 6.9.1).
-use Rattle.std.specs.Prelude.{ℕ, false, List, [], ◌∷◌, ◌++◌, map, Option}
+use Rattle.std.specs.Prelude.{ℕ, false, List, [], ◌∷◌, ◌++◌, map, Option, Some}
 use Rattle.mdr_core.specs.declared.place.Place.{Place}
 use Rattle.mdr_core.specs.declared.program.Param.{Param}
 use Rattle.mdr_core.specs.declared.types.Ann.{Ann}
@@ -11,10 +11,11 @@ use Rattle.mdr_headings.specs.declared.head.Heading.{Heading}
 use Rattle.mdr_headings.specs.declared.head.Given.{Given}
 use Rattle.mdr_faults.specs.declared.scope.Candidate.{Candidate}
 use Rattle.mdr_faults.specs.declared.scope.Scope.{Scope}
-use Rattle.mdr_headings.specs.Annotations.{annotated, candidate}
+use Rattle.mdr_headings.specs.Annotations.{annotated, bare, candidate}
 use Rattle.mdr_faults.specs.Declarations.{declarator, parameter_among, result_type, type_named}
 use Rattle.mdr_faults.specs.Faults.{Checked, Right, after, both, next}
 use Rattle.mdr_headings.specs.Structs.{name_or_none}
+use Rattle.mdr_headings.specs.Within.{beside, names_around, within}
 
 -- ---- parameters
 
@@ -26,7 +27,9 @@ annotated_param scope siblings d t = after (annotated scope siblings (out-Decl d
 
 -- a parameter among those before it. Whether it is an object, its function's body says
 unfoldable pub param_among : Scope → List Candidate → (before : List Decl) → Decl → Checked Param
-param_among scope siblings before d = after (parameter_among (map (declarator scope) before) (declarator scope d)) (annotated_param scope siblings d)
+param_among scope siblings before d =
+    beside (within scope (names_around [] before) d)
+    (after (parameter_among (map (declarator scope) before) (declarator scope d)) (annotated_param scope siblings d))
 
 unfoldable pub params_behind : Scope → List Candidate → (before : List Decl) → List Decl → Checked (List Param)
 params_behind scope siblings before [] = Right []
@@ -53,6 +56,10 @@ given scope siblings h = after (head_result scope h) (annotated_result scope sib
 abbrev pub heading_of : Given → List Param → Checked Heading
 heading_of g ps = Right (record { result = g.ty; ann = g.ann; params = ps })
 
--- a function's name is in scope in its own annotations (6.2.1, paragraph 7)
+-- what stands beside the annotation of the result: the parameters, and the function's own name, whose declarator has ended there (6.2.1, paragraph 7)
+abbrev pub result_siblings : Scope → Head → List Candidate
+result_siblings scope h = map (candidate scope) h.params ++ bare (Some h.name) ∷ []
+
+-- a heading in the scope in front of it
 unfoldable pub heading : Scope → Head → Checked Heading
-heading scope h = both (given scope (map (candidate scope) h.params) h) (params_behind scope (map (candidate scope) h.params) [] h.params) heading_of
+heading scope h = both (given scope (result_siblings scope h) h) (params_behind scope (map (candidate scope) h.params) [] h.params) heading_of

@@ -1,4 +1,5 @@
 pub mod Annotations
+pub mod Within
 pub mod Structs
 pub mod Heads
 pub mod Source

@@ -1,9 +1,11 @@
 -- Structs (C99 6.7.2.1).
-use Rattle.std.specs.Prelude.{ℕ, ◌+◌, ◌*◌, ◌==◌, not, nat_lt, List, [], ◌∷◌, ◌++◌, map, length, Option, Some, None}
+use Rattle.std.specs.Prelude.{ℕ, ◌+◌, ◌*◌, ◌==◌, not, nat_lt, Bool, true, false, List, [], ◌∷◌, ◌++◌, map, length, Option, Some, None}
 use Rattle.std.specs.List.{list_any}
 use Rattle.mdr_core.specs.declared.place.Place.{Place}
 use Rattle.mdr_core.specs.declared.program.Field.{Field}
 use Rattle.mdr_core.specs.declared.types.Ann.{Ann}
+use Rattle.mdr_core.specs.declared.types.Ty.{Ty, out-Ty}
+use Rattle.mdr_core.specs.declared.types.Ty.TheOpen.{Ty-F}
 use Rattle.mdr_core.specs.Layout.{chosen}
 use Rattle.mdr_syntax.specs.declared.tree.Decl.{Decl, out-Decl}
 use Rattle.mdr_faults.specs.declared.fault.FaultKind.TheVariants.{Redefined, Mismatch, Limit}
@@ -15,6 +17,23 @@ use Rattle.mdr_faults.specs.declared.scope.StructEntry.{StructEntry}
 use Rattle.mdr_headings.specs.Annotations.{annotated, candidate}
 use Rattle.mdr_faults.specs.Declarations.{cells_of, is_same_name, object_declared}
 use Rattle.mdr_faults.specs.Faults.{Checked, Right, Wrong, refuse, after, demand, next, told}
+use Rattle.mdr_headings.specs.Within.{beside, within}
+
+-- ---- which types are structs
+
+abbrev pub is_struct_by : Ty-F Ty → Bool
+is_struct_by (Ty-F.Int k) = false
+is_struct_by Ty-F.Lock = false
+is_struct_by (Ty-F.Struct s) = true
+is_struct_by (Ty-F.Ptr t) = false
+is_struct_by Ty-F.VoidPtr = false
+is_struct_by (Ty-F.Fun ts) = false
+is_struct_by Ty-F.Void = false
+
+abbrev pub is_struct : Ty → Bool
+is_struct t = is_struct_by (out-Ty t)
+
+-- ---- fields
 
 abbrev pub name_or_none : Option (List ℕ) → List ℕ
 name_or_none None = []
@@ -26,12 +45,12 @@ field_of name o a = record { name = name_or_none name; ty = o.ty; count = o.coun
 unfoldable pub annotated_field : Scope → List Candidate → Decl → Object → Checked Field
 annotated_field scope siblings d o = after (annotated scope siblings (out-Decl d).place o.ty (out-Decl d).ann) (λ a. Right (field_of (out-Decl d).name o a))
 
--- the members of a struct are a name space (6.2.3), and at most 64
+-- the members of a struct are a name space (6.2.3), so no name of a field is around the parameters in another. There are at most 64
 unfoldable pub field_among : Scope → (limit : Place) → List Candidate → (before : List Decl) → Decl → Checked Field
 field_among scope limit siblings before d =
     demand (out-Decl d).place Redefined (not (list_any (λ b. is_same_name (out-Decl b).name (out-Decl d).name) before))
     (demand (out-Decl d).place Limit (not (length before == 64))
-    (after (object_declared scope limit d) (annotated_field scope siblings d)))
+    (beside (within scope [] d) (after (object_declared scope limit d) (annotated_field scope siblings d))))
 
 unfoldable pub fields_behind : Scope → (limit : Place) → List Candidate → (before : List Decl) → List Decl → Checked (List Field)
 fields_behind scope limit siblings before [] = Right []

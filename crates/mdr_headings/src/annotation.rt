@@ -28,7 +28,7 @@ fn is_integer(ty: &Ty) -> bool
     }
 }
 
-fn copied_name(alloc: Global, name: &Option<Name>) -> Result<Option<Name>, AllocError>
+pub fn copied_name(alloc: Global, name: &Option<Name>) -> Result<Option<Name>, AllocError>
     ensures { IfOk result (λ n. n ≡ name.now) }
 {
     match name {

@@ -4,8 +4,7 @@ ghost use Rattle.std.specs.Prelude.{◌≡◌, ◌==◌, ◌&&◌, ◌||◌, not
 ghost use Rattle.std.specs.Option.{option_copied};
 ghost use Rattle.mdr_headings.specs.declared.head.Heading.{Heading};
 ghost use Rattle.mdr_faults.specs.Faults.{Checked, told};
-ghost use Rattle.mdr_headings.specs.Heads.{heading};
-ghost use Rattle.mdr_headings.specs.Functions.{defines_by, is_defined, is_body_by, has_body, is_same_length, is_same_ann, is_same_param, are_same_params, is_same_heading, agrees, function_named, agrees_with, may_stand, is_taken, function_means, behind_function, declared_unless, function_rule, function_heading, function_declared, functions_behind};
+ghost use Rattle.mdr_headings.specs.Functions.{defines_by, is_defined, is_body_by, has_body, is_same_length, is_same_ann, is_same_param, are_same_params, is_same_heading, agrees, function_named, agrees_with, may_stand, is_taken, function_means, behind_function, declared_unless, function_rule, function_declared, functions_behind};
 
 use crate::head::{Heading, checked_heading};
 use crate::source::signature;
@@ -275,16 +274,15 @@ fn function_rule(
     demanded(place, FaultKind::Redefined, may_stand, agreed)
 }
 
-/// What a function takes and gives, and the scope behind its declaration.
-fn function_heading(
+/// Brings the name of a function of this number into scope.
+fn grow(
     alloc: Global,
     scope: &mut Scope,
     number: usize,
     items: &[Item],
     h: &Head,
-) -> Result<Result<Heading, Fault>, OutOfMemory>
-    ensures told { IfOk result (λ r. r ≡ told (heading (behind_function scope.old number (is_defined items.now h.now.name) h.now) h.now)) }
-    ensures grown { OnOk result (scope.new ≡ behind_function scope.old number (is_defined items.now h.now.name) h.now) }
+) -> Result<(), OutOfMemory>
+    ensures { OnOk result (scope.new ≡ behind_function scope.old number (is_defined items.now h.now.name) h.now) }
 {
     let number = small(number)?;
     behind_function(
@@ -294,7 +292,7 @@ fn function_heading(
         is_defined(items, h.name.as_slice()),
         h,
     )?;
-    checked_heading(alloc, scope, h)
+    Ok(())
 }
 
 fn is_second_body(before: &[Item], name: &[u8], is_body: bool) -> bool
@@ -314,14 +312,15 @@ pub fn function_declared(
     h: &Head,
     is_body: bool,
 ) -> Result<Result<Heading, Fault>, OutOfMemory>
-    ensures told { IfOk result (λ r. r ≡ told (function_declared scope.old fs.old items.now before.now h.now is_body)) }
+    ensures told { IfOk result (λ r. r ≡ told (function_declared scope.old fs.old before.now h.now is_body)) }
     ensures grown { OnOk result (scope.new ≡ behind_function scope.old (length fs.old) (is_defined items.now h.now.name) h.now) }
-    ensures counted { OnOk result (fs.new ≡ functions_behind scope.old fs.old items.now h.now) }
+    ensures counted { OnOk result (fs.new ≡ functions_behind scope.old fs.old h.now) }
 {
     let is_taken = is_declared_name(scope, h.name.as_slice());
     let number = fs.len();
     let second = is_second_body(before, h.name.as_slice(), is_body);
-    let heading = function_heading(alloc, scope, number, items, h)?;
+    let heading = checked_heading(alloc, scope, h)?;
+    grow(alloc, scope, number, items, h)?;
     let kept = copied_told(alloc, &heading)?;
     let entry = function_named(fs.as_slice(), h.name.as_slice());
     let told = function_rule(h.place, is_taken, entry, second, number, heading);

@@ -1,19 +1,20 @@
 // What stands before a function's body (C99 6.7.5.3, 6.9.1).
 
-ghost use Rattle.std.specs.Prelude.{◌≡◌, [], IfOk, List, map};
+ghost use Rattle.std.specs.Prelude.{◌≡◌, ◌++◌, ◌∷◌, [], IfOk, List, Some, map};
 ghost use Rattle.mdr_core.specs.declared.program.Param.{Param};
 ghost use Rattle.mdr_syntax.specs.declared.tree.Decl.{out-Decl};
 ghost use Rattle.mdr_headings.specs.declared.head.Given.{Given};
 ghost use Rattle.mdr_faults.specs.Faults.{Checked, told, after, both};
 ghost use Rattle.mdr_faults.specs.Declarations.{declarator, parameter_among};
+ghost use Rattle.mdr_headings.specs.Annotations.{bare};
+ghost use Rattle.mdr_headings.specs.Within.{beside, names_around, within};
 ghost use Rattle.mdr_headings.specs.Heads.{annotated_param, param_among, params_behind, annotated_result, head_result, given, heading_of, heading};
 
 use crate::annotation::annotated;
-use crate::structs::{candidates, declared_name};
+use crate::inner::{bare, beside, candidates, names_around, type_among, within};
+use crate::structs::declared_name;
 use mdr_core::{Ann, Items, OutOfMemory, Param, Place, Ty};
-use mdr_faults::{
-    Candidate, Fault, Scope, both, extended, parameter, parameter_among, result_type, type_named,
-};
+use mdr_faults::{Candidate, Fault, Scope, both, copied, extended, result_type, type_named};
 use mdr_syntax::{AnnText, Decl, Head};
 use std::alloc::{AllocError, Global};
 
@@ -54,17 +55,20 @@ fn annotated_param(
     }
 }
 
-/// A parameter's type among those before it.
-fn type_among(
+/// A parameter by itself.
+fn lone_param(
     alloc: Global,
     scope: &Scope,
+    siblings: &[Candidate],
     before: &[Decl],
     d: &Decl,
-) -> Result<Result<Ty, Fault>, AllocError>
-    ensures { IfOk result (λ r. r ≡ told (parameter_among (map (declarator scope.now) before.now) (declarator scope.now d.now))) }
+) -> Result<Result<Param, Fault>, OutOfMemory>
+    ensures { IfOk result (λ r. r ≡ told (after (parameter_among (map (declarator scope.now) before.now) (declarator scope.now d.now)) (annotated_param scope.now siblings.now d.now))) }
 {
-    let ty = parameter(alloc, scope, d)?;
-    Ok(parameter_among(before, d, ty))
+    match type_among(alloc, scope, before, d)? {
+        Ok(ty) => annotated_param(alloc, scope, siblings, d, ty),
+        Err(fault) => Ok(Err(fault)),
+    }
 }
 
 /// A parameter among those before it.
@@ -78,10 +82,10 @@ fn param_among(
 ) -> Result<Result<Param, Fault>, OutOfMemory>
     ensures { IfOk result (λ r. r ≡ told (param_among scope.now siblings.now before.now d.now)) }
 {
-    match type_among(alloc, scope, before, d)? {
-        Ok(ty) => annotated_param(alloc, scope, siblings, d, ty),
-        Err(fault) => Ok(Err(fault)),
-    }
+    let names = names_around(alloc, &[], before)?;
+    let dropped = within(alloc, scope, names.as_slice(), d)?;
+    let kept = lone_param(alloc, scope, siblings, before, d)?;
+    Ok(beside(dropped, kept))
 }
 
 /// The parameters of a function, each among those before it.
@@ -160,7 +164,20 @@ fn heading_of(
     }
 }
 
-/// What a function takes and gives. The scope has the function's own name already.
+/// Adds a function's own name to what stands beside its result's annotation.
+fn with_own_name(
+    alloc: Global,
+    params: Items<Candidate>,
+    h: &Head,
+) -> Result<Items<Candidate>, AllocError>
+    ensures { IfOk result (λ cs. cs ≡ params ++ bare (Some h.now.name) ∷ []) }
+{
+    let mut all = params;
+    all.push(bare(Some(copied(alloc, h.name.as_slice())?)))?;
+    Ok(all)
+}
+
+/// What a function takes and gives, in the scope in front of it.
 #[tactic(auto, unfolding(crate::specs::Heads::heading))]
 pub fn checked_heading(
     alloc: Global,
@@ -170,7 +187,8 @@ pub fn checked_heading(
     ensures { IfOk result (λ r. r ≡ told (heading scope.now h.now)) }
 {
     let siblings = candidates(alloc, scope, h.params.as_slice())?;
-    let result = result_given(alloc, scope, siblings.as_slice(), h)?;
     let params = params(alloc, scope, siblings.as_slice(), h.params.as_slice())?;
+    let all = with_own_name(alloc, siblings, h)?;
+    let result = result_given(alloc, scope, all.as_slice(), h)?;
     Ok(heading_of(result, params))
 }

@@ -5,6 +5,7 @@ mod annotation;
 mod body;
 mod function;
 mod head;
+mod inner;
 mod source;
 mod structs;
 
@@ -12,5 +13,6 @@ pub use annotation::{annotated, candidate, is_character};
 pub use body::{Bodies, Body};
 pub use function::{Declared, function_declared, function_named, is_defined};
 pub use head::{Given, Heading, checked_heading, head_result};
+pub use inner::{bare, beside, candidates, within};
 pub use source::{behind_struct, defines_of, is_next, is_numbered, signature, tags_of};
-pub use structs::{candidates, declared_name, struct_entry, struct_fields};
+pub use structs::{declared_name, is_struct, struct_entry, struct_fields};

@@ -9,9 +9,11 @@ ghost use Rattle.mdr_faults.specs.Faults.{Checked, told, after, demand};
 ghost use Rattle.mdr_faults.specs.declared.fault.FaultKind.TheVariants.{Redefined, Limit};
 ghost use Rattle.mdr_headings.specs.Annotations.{candidate};
 ghost use Rattle.mdr_faults.specs.Declarations.{cells_of, is_same_name, object_declared};
-ghost use Rattle.mdr_headings.specs.Structs.{name_or_none, annotated_field, field_among, fields_behind, number_or_zero, cells_of_fields, struct_rule, struct_fields, member, struct_size, struct_entry};
+ghost use Rattle.mdr_headings.specs.Structs.{is_struct, name_or_none, annotated_field, field_among, fields_behind, number_or_zero, cells_of_fields, struct_rule, struct_fields, member, struct_size, struct_entry};
+ghost use Rattle.mdr_headings.specs.Within.{beside, within};
 
-use crate::annotation::{annotated, candidate};
+use crate::annotation::annotated;
+use crate::inner::{beside, candidates, within};
 use mdr_core::{Field, Items, Name, OutOfMemory, Place, Ty};
 use mdr_faults::{
     Candidate, Fault, FaultKind, Member, Object, Scope, StructEntry, cells_of, copied, demanded,
@@ -19,6 +21,15 @@ use mdr_faults::{
 };
 use mdr_syntax::Decl;
 use std::alloc::{AllocError, Global};
+
+pub fn is_struct(ty: &Ty) -> bool
+    ensures { result ≡ is_struct ty.now }
+{
+    match ty {
+        Ty::Struct(_) => true,
+        Ty::Int(_) | Ty::Lock | Ty::Ptr(_) | Ty::VoidPtr | Ty::Fun(_) | Ty::Void => false,
+    }
+}
 
 /// A declared name once more. Only parameters may have none.
 pub fn declared_name(alloc: Global, name: &Option<Name>) -> Result<Name, AllocError>
@@ -69,6 +80,21 @@ fn lone_field(
     }
 }
 
+/// A field, and the annotations within its declarator.
+fn whole_field(
+    alloc: Global,
+    scope: &Scope,
+    limit: Place,
+    siblings: &[Candidate],
+    d: &Decl,
+) -> Result<Result<Field, Fault>, OutOfMemory>
+    ensures { IfOk result (λ r. r ≡ told (beside (within scope.now [] d.now) (after (object_declared scope.now limit d.now) (annotated_field scope.now siblings.now d.now)))) }
+{
+    let dropped = within(alloc, scope, &[], d)?;
+    let kept = lone_field(alloc, scope, limit, siblings, d)?;
+    Ok(beside(dropped, kept))
+}
+
 fn field_rule(before: &[Decl], d: &Decl, field: Result<Field, Fault>) -> Result<Field, Fault>
     ensures { (c : Checked Field) → field ≡ told c → result ≡ told (demand (out-Decl d.now).place Redefined (not (list_any (λ b. is_same_name (out-Decl b).name (out-Decl d.now).name) before.now)) (demand (out-Decl d.now).place Limit (not (length before.now == 64)) c)) }
 {
@@ -93,7 +119,7 @@ fn field_among(
 ) -> Result<Result<Field, Fault>, OutOfMemory>
     ensures { IfOk result (λ r. r ≡ told (field_among scope.now limit siblings.now before.now d.now)) }
 {
-    let field = lone_field(alloc, scope, limit, siblings, d)?;
+    let field = whole_field(alloc, scope, limit, siblings, d)?;
     Ok(field_rule(before, d, field))
 }
 
@@ -113,17 +139,6 @@ fn fields(
         let d = &ds[i];
         let field = field_among(alloc, scope, limit, siblings, &ds[..i], d)?;
         all = extended(all, field)?;
-    }
-    Ok(all)
-}
-
-/// The fields as annotations see them.
-pub fn candidates(alloc: Global, scope: &Scope, ds: &[Decl]) -> Result<Items<Candidate>, AllocError>
-    ensures { IfOk result (λ cs. cs ≡ map (candidate scope.now) ds.now) }
-{
-    let mut all = Items::new(alloc);
-    for d in ds {
-        all.push(candidate(alloc, scope, d)?)?;
     }
     Ok(all)
 }

@@ -124,7 +124,7 @@ enumerator_alike _ t = no_rule
 
 other_alike : (n : ℕ) (s : Sort) (t : Token) → AlikeRules unplaced_init (other_initialiser n s t) (other_initialiser n s (erased_token t))
 other_alike n Sort.Null t = rules refl (same (null_init t.place))
-other_alike n Sort.And t = rules refl (token (λ x. same (address_init t.place (text_of x.what))))
+other_alike n Sort.And t = rules refl (token (λ x. same (address_init x.place (text_of x.what))))
 other_alike n Sort.Text t = rules refl (same (text_init t.place (text_of t.what)))
 other_alike n Sort.OpenBrace t = rules refl (next (λ x. next (λ xs. token (λ c. same (list_init t.place xs)))))
 other_alike n _ t = no_rule

@@ -138,7 +138,7 @@ one_listed n x h = also (list_all (λ e. is_shaped_elem e n) (x ∷ [])) true (a
 
 of_other : (n : ℕ) (s : Sort) (t : Token) → knows s t.what ≡ true → SoundRuleBy initialising (other_initialiser n s t) (λ i. is_shaped_init i n)
 of_other n Sort.Null t m = λ a. null_made t.place n
-of_other n Sort.And t m = λ a. λ x h. address_made t.place (text_of x.what) n h
+of_other n Sort.And t m = λ a. λ x h. address_made x.place (text_of x.what) n h
 of_other n Sort.Text t m = λ a. text_made t.place (text_of t.what) n m
 of_other n Sort.OpenBrace t m = λ a. (refl, λ x hx. (one_listed (n + 1) x hx, λ xs hxs. λ c q. list_made t.place xs n a hxs))
 of_other n _ t m = tt

@@ -105,7 +105,7 @@ sound_enumerator _ t m = tt
 
 sound_other : (n : ℕ) (s : Sort) (t : Token) → meets s t.what ≡ true → SoundRule (other_initialiser n s t) is_printable_init
 sound_other n Sort.Null t m = null_is t.place
-sound_other n Sort.And t m = λ x h. address_is t.place (text_of x.what) h
+sound_other n Sort.And t m = λ x h. address_is x.place (text_of x.what) h
 sound_other n Sort.Text t m = text_is t.place (text_of t.what) m
 sound_other n Sort.OpenBrace t m = (refl, λ x hx. (all_one is_printable_elem x hx, λ xs hxs. λ c q. list_is t.place xs hxs))
 sound_other n _ t m = tt

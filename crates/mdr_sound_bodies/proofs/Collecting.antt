@@ -13,7 +13,8 @@ use Rattle.mdr_faults.specs.declared.scope.Scope.{Scope}
 use Rattle.mdr_faults.specs.Faults.{Right, each}
 use Rattle.mdr_body.specs.declared.here.DeclaredLocal.{DeclaredLocal}
 use Rattle.mdr_body.specs.Bodies.{local_again, declared_locals}
-use Rattle.mdr_body.specs.Locals.{struct_locks, local_of, is_own_object, is_struct}
+use Rattle.mdr_headings.specs.Structs.{is_struct}
+use Rattle.mdr_body.specs.Locals.{struct_locks, local_of, is_own_object}
 use Rattle.mdr_sound_code.proofs.Rights.{same_right, both_right, again_right, told_right}
 use Rattle.mdr_sound_bodies.specs.Within.{KnowsDeclarations, AreDeclared}
 use Rattle.mdr_sound_bodies.proofs.Joined.{or_left}

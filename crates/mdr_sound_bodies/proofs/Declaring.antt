@@ -16,9 +16,12 @@ use Rattle.mdr_faults.specs.Declarations.{object_declared, sized, cells_of, coun
 use Rattle.mdr_faults.specs.Faults.{Checked, Right, told, demand}
 use Rattle.mdr_body.specs.declared.here.DeclaredLocal.{DeclaredLocal}
 use Rattle.mdr_body.specs.declared.here.Here.{Here}
-use Rattle.mdr_body.specs.Locals.{holds_lock, without_lock, local_object, local_declared, local_whole, local_of, is_own_object, is_again, has_place, has_no_size, name_of, lies_apart, named_local, is_struct, with_local}
+use Rattle.mdr_headings.specs.Structs.{is_struct}
+use Rattle.mdr_headings.specs.Within.{beside, within}
+use Rattle.mdr_body.specs.Locals.{holds_lock, without_lock, local_object, local_declared, local_whole, local_of, is_own_object, is_again, has_place, has_no_size, name_of, lies_apart, named_local, names_here, with_local}
 use Rattle.mdr_sound_code.specs.Knowing.{IsKnownLocal}
 use Rattle.mdr_sound_code.proofs.Rights.{not_right, same_right, same_ok, told_right, after_right, both_right, demand_right, refused_right}
+use Rattle.mdr_sound_bodies.proofs.Scoping.{beside_right}
 use Rattle.mdr_sound_bodies.specs.Within.{KnowsDeclarations, IsDeclared, AreDeclared}
 use Rattle.mdr_sound_bodies.proofs.Joined.{or_left, or_right, get_front, get_last}
 use Rattle.mdr_sound_bodies.proofs.Scalars.{scalar_in_slot}
@@ -55,12 +58,13 @@ unfolding local_declared
 local_right scope locks here t d l e =
     let p = (out-Decl d).place in
     let whole : Checked Local = local_whole t d (local_object scope locks d) in
-    let sized : Checked Local = demand p Mismatch (not (has_no_size here.names (out-Decl d).size)) whole in
+    let dropped = within scope (names_here here.names) d in
+    let sized : Checked Local = demand p Mismatch (not (has_no_size here.names (out-Decl d).size)) (beside dropped whole) in
     let placed : Checked Local = demand p Limit (has_place (length here.locals) (name_of d)) sized in
     let a = demand_right p Redefined (not (is_again here.first (name_of d) here.names)) placed l e in
     let b = demand_right p Limit (has_place (length here.locals) (name_of d)) sized l a.right in
-    let c = demand_right p Mismatch (not (has_no_size here.names (out-Decl d).size)) whole l b.right in
-    let w = after_right (local_object scope locks d) (λ o. Right (local_of t d o)) l c.right in
+    let c = demand_right p Mismatch (not (has_no_size here.names (out-Decl d).size)) (beside dropped whole) l b.right in
+    let w = after_right (local_object scope locks d) (λ o. Right (local_of t d o)) l (beside_right dropped whole l c.right) in
     record { object = w.value; right = w.right; is = same_right _ _ w.made }
 
 -- ---- how many elements

@@ -19,15 +19,16 @@ use Rattle.mdr_faults.specs.declared.scope.Candidate.{Candidate}
 use Rattle.mdr_faults.specs.declared.scope.Object.{Object}
 use Rattle.mdr_faults.specs.declared.scope.Scope.{Scope}
 use Rattle.mdr_faults.specs.Declarations.{Declarator, declarator, parameter_among}
-use Rattle.mdr_faults.specs.Faults.{Right, demand, told}
+use Rattle.mdr_faults.specs.Faults.{Right, after, demand, told}
 use Rattle.mdr_headings.specs.Annotations.{annotated}
 use Rattle.mdr_headings.specs.Heads.{param_of, annotated_param, param_among, params_behind}
-use Rattle.mdr_headings.specs.Structs.{name_or_none}
+use Rattle.mdr_headings.specs.Structs.{is_struct, is_struct_by, name_or_none}
+use Rattle.mdr_headings.specs.Within.{names_around, within}
 use Rattle.mdr_operand.specs.declared.room.LocalName.{LocalName}
 use Rattle.mdr_operand.specs.Rooms.{local_from, local_named}
 use Rattle.mdr_operand.specs.Written.{Lines}
 use Rattle.mdr_body.specs.declared.mention.Mention.TheVariants.{Address}
-use Rattle.mdr_body.specs.Locals.{takes, lies_apart, is_own_object, is_struct, is_struct_by, named_local, name_of, parameter_object, parameter_means, parameter_taken, parameters_from, first_here}
+use Rattle.mdr_body.specs.Locals.{takes, lies_apart, is_own_object, named_local, name_of, parameter_object, parameter_means, parameter_taken, parameters_from, first_here}
 use Rattle.mdr_body.specs.Mentions.{have}
 use Rattle.mdr_program.specs.Parts.{flagged, marked}
 use Rattle.mdr_sound_code.specs.Knowing.{IsFormed, IsKnownLocal, KnowsLocals}
@@ -36,6 +37,7 @@ use Rattle.mdr_sound_bodies.specs.Written.{IsNamed, AreNamed}
 use Rattle.mdr_sound_bodies.specs.Within.{KnowsDeclarations, IsHere}
 use Rattle.mdr_sound_bodies.proofs.Joined.{get_front}
 use Rattle.mdr_sound_bodies.proofs.Going.{untaken_by}
+use Rattle.mdr_sound_bodies.proofs.Scoping.{beside_right, same_declarator}
 
 -- ---- the name that is meant is one of those that are there
 
@@ -93,7 +95,8 @@ pub parameter_right : (scope : Scope) (siblings : List Candidate) (before : List
 unfolding param_among annotated_param
 parameter_right scope siblings before d p e =
     let x : Declarator = declarator scope d in
-    let a = after_right (parameter_among (map (declarator scope) before) x) (annotated_param scope siblings d) p e in
+    let rule = after (parameter_among (map (declarator scope) before) x) (annotated_param scope siblings d) in
+    let a = after_right (parameter_among (map (declarator scope) before) x) (annotated_param scope siblings d) p (beside_right (within scope (names_around [] before) d) rule p e) in
     let r = demand_right x.place Redefined _ (demand x.place Limit _ x.parameter) a.value a.right in
     let l = demand_right x.place Limit _ x.parameter a.value r.right in
     let b = after_right (annotated scope siblings (out-Decl d).place a.value (out-Decl d).ann) (λ an. Right (param_of (out-Decl d).name a.value an)) p a.made in
@@ -176,7 +179,7 @@ means_of i t d m = refl
 
 -- ---- what is known in front of the body
 
-module _ (program : Program) (scope : Scope) (known : KnowsDeclarations program scope) (siblings : List Candidate) (body : Lines) (ds : List Decl) (ps : List Param) (right : params_behind scope siblings [] ds ≡ Right ps) (locals : List Local) where
+module _ (program : Program) (front scope : Scope) (tags : front.tags ≡ scope.tags) (known : KnowsDeclarations program scope) (siblings : List Candidate) (body : Lines) (ds : List Decl) (ps : List Param) (right : params_behind front siblings [] ds ≡ Right ps) (locals : List Local) where
   abbrev pub slots : List Slot
   slots = map slot_of_param (marked (map (parameter_taken body) ds) 0 ps) ++ map slot_of_local locals
 
@@ -190,8 +193,8 @@ module _ (program : Program) (scope : Scope) (known : KnowsDeclarations program 
   unfolding named_local parameter_means
   parameter_known i d o at means =
       let a = after_right (declarator scope d).parameter parameter_object o means in
-      let p = param_at scope siblings [] ds ps i d right at in
-      let ty : p.param.ty ≡ a.value = same_right _ _ (sym p.right ∙ a.right) in
+      let p = param_at front siblings [] ds ps i d right at in
+      let ty : p.param.ty ≡ a.value = same_right _ _ (sym p.right ∙ ap (λ (x : Declarator). x.parameter) (same_declarator front scope d tags) ∙ a.right) in
       let object : record { ty = a.value; count = 1; array = false } ≡ o = same_right (record { ty = a.value; count = 1; array = false }) o a.made in
       let sort = known.parameters d a.value a.right in
       let scalar : IsTrue (is_scalar a.value) = scalar_is (length program.structs) a.value sort in

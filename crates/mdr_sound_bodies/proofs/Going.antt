@@ -11,14 +11,14 @@ use Rattle.mdr_faults.specs.declared.scope.Object.{Object}
 use Rattle.mdr_faults.specs.declared.scope.Scope.{Scope}
 use Rattle.mdr_faults.specs.Declarations.{is_same_name}
 use Rattle.mdr_faults.specs.Faults.{told}
-use Rattle.mdr_headings.specs.Structs.{name_or_none}
+use Rattle.mdr_headings.specs.Structs.{is_struct, name_or_none}
 use Rattle.mdr_operand.specs.declared.room.LocalName.{LocalName}
 use Rattle.mdr_operand.specs.Rooms.{local_named}
 use Rattle.mdr_operand.specs.Written.{Written, Line}
 use Rattle.mdr_body.specs.declared.here.Frame.{Frame}
 use Rattle.mdr_body.specs.declared.here.Here.{Here}
 use Rattle.mdr_body.specs.declared.mention.Mention.TheVariants.{Address}
-use Rattle.mdr_body.specs.Locals.{local_object, lies_apart, is_struct, named_local, name_of, with_local, entered, numbered}
+use Rattle.mdr_body.specs.Locals.{local_object, lies_apart, named_local, name_of, with_local, entered, numbered}
 use Rattle.mdr_body.specs.Mentions.{mentions, perhaps_mentions, is_declared_by, hides}
 use Rattle.mdr_sound_code.specs.Knowing.{KnowsLocals, TakesNoSlot}
 use Rattle.mdr_sound_bodies.specs.Written.{IsNamed, IsStatement}

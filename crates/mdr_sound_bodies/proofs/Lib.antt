@@ -1,4 +1,5 @@
 pub mod Joined
+pub mod Scoping
 pub mod Growing
 pub mod Naming
 pub mod Scalars

@@ -1,5 +1,5 @@
 -- A function that is made of a head and a body keeps to the rules of sound programs.
-use Rattle.std.proofs.Common.{◌≡◌, ℕ, suc, Bool, true, false, List, [], ◌∷◌, ◌++◌, length, map, Some, Ok, refl, ap, ◌∙◌, subst, slice_get}
+use Rattle.std.proofs.Common.{◌≡◌, ℕ, suc, Bool, true, false, List, [], ◌∷◌, ◌++◌, length, map, Some, Ok, refl, ap, sym, ◌∙◌, subst, slice_get}
 use Rattle.mdr_core.specs.declared.code.Stmt.{Stmt}
 use Rattle.mdr_core.specs.declared.program.Local.{Local}
 use Rattle.mdr_core.specs.declared.program.Program.{Program}
@@ -17,7 +17,7 @@ use Rattle.mdr_headings.specs.declared.body.Body.{Body}
 use Rattle.mdr_headings.specs.declared.head.Given.{Given}
 use Rattle.mdr_headings.specs.declared.head.Heading.{Heading}
 use Rattle.mdr_headings.specs.Annotations.{annotated, candidate}
-use Rattle.mdr_headings.specs.Heads.{params_behind, given_by, annotated_result, head_result, given, heading_of, heading}
+use Rattle.mdr_headings.specs.Heads.{params_behind, given_by, annotated_result, head_result, given, heading_of, result_siblings, heading}
 use Rattle.mdr_operand.specs.Written.{Lines, lines_of}
 use Rattle.mdr_body.specs.declared.here.DeclaredLocal.{DeclaredLocal}
 use Rattle.mdr_body.specs.declared.here.Frame.{Frame}
@@ -37,6 +37,7 @@ use Rattle.mdr_sound_code.specs.Knowing.{IsFormed}
 use Rattle.mdr_sound_bodies.proofs.Coming.{IsFrom, AreFrom, from_none, from_lines}
 use Rattle.mdr_sound_bodies.proofs.Entering.{parameters_here, params_many, marked_many}
 use Rattle.mdr_sound_bodies.proofs.Lining.{lines_typed}
+use Rattle.mdr_sound_bodies.proofs.Scoping.{same_result}
 
 -- ---- a head
 
@@ -55,9 +56,9 @@ heading_right : (scope : Scope) (h : Head) (g : Heading) → heading scope h ≡
 unfolding heading
 heading_right scope h g e =
     let siblings = map (candidate scope) h.params in
-    let b = both_right (given scope siblings h) (params_behind scope siblings [] h.params) heading_of g e in
+    let b = both_right (given scope (result_siblings scope h) h) (params_behind scope siblings [] h.params) heading_of g e in
     subst (λ x. IsHeaded scope siblings h x) (same_right (record { result = b.left.ty; ann = b.left.ann; params = b.right }) g b.made)
-    (record { result = given_right scope siblings h b.left b.first; params = b.second })
+    (record { result = given_right scope (result_siblings scope h) h b.left b.first; params = b.second })
 
 -- ---- a body
 
@@ -96,16 +97,17 @@ module _ (program : Program) (rules : Rules) (scope : Scope) (h : Head) (nodes :
   unfolding frame_of
   result_told t e = ap told e
 
-  made_typed : (g : Heading) (siblings : List Candidate) (locals : List Local) (ss : List Stmt) → IsHeaded scope siblings h g → ((slots : List Slot) → AreSoundRules program slots scope rules) → AreNamed h.params → AreProper (lines_of nodes) → AreGrounded program (codes_of ss) → declared_locals (lines_behind scope (frame_of scope h) (first_here scope (lines_of nodes) h.params) (lines_of nodes)).locals ≡ Right locals → lines_made rules scope (frame_of scope h) false (first_here scope (lines_of nodes) h.params) (lines_of nodes) ≡ Right ss → AreTyped program (map slot_of_param (marked (map (parameter_taken (lines_of nodes)) h.params) 0 g.params) ++ map slot_of_local locals) g.result false (codes_of ss)
-  made_typed g siblings locals ss headed sound named proper grounded declared made =
+  made_typed : (outer : Scope) → outer.tags ≡ scope.tags → (g : Heading) (siblings : List Candidate) (locals : List Local) (ss : List Stmt) → IsHeaded outer siblings h g → ((slots : List Slot) → AreSoundRules program slots scope rules) → AreNamed h.params → AreProper (lines_of nodes) → AreGrounded program (codes_of ss) → declared_locals (lines_behind scope (frame_of scope h) (first_here scope (lines_of nodes) h.params) (lines_of nodes)).locals ≡ Right locals → lines_made rules scope (frame_of scope h) false (first_here scope (lines_of nodes) h.params) (lines_of nodes) ≡ Right ss → AreTyped program (map slot_of_param (marked (map (parameter_taken (lines_of nodes)) h.params) 0 g.params) ++ map slot_of_local locals) g.result false (codes_of ss)
+  made_typed outer tags g siblings locals ss headed sound named proper grounded declared made =
       let ls : Lines = lines_of nodes in
       let here : Here = first_here scope ls h.params in
       let front : List Slot = map slot_of_param (marked (map (parameter_taken ls) h.params) 0 g.params) in
       let all : List Slot = front ++ map slot_of_local locals in
-      let base : length front ≡ length h.params = mapped_many slot_of_param (marked (map (parameter_taken ls) h.params) 0 g.params) ∙ marked_many (map (parameter_taken ls) h.params) 0 g.params ∙ params_many scope siblings [] h.params g.params headed.params in
+      let base : length front ≡ length h.params = mapped_many slot_of_param (marked (map (parameter_taken ls) h.params) 0 g.params) ∙ marked_many (map (parameter_taken ls) h.params) 0 g.params ∙ params_many outer siblings [] h.params g.params headed.params in
+      let result : head_result scope h ≡ Right g.result = sym (same_result outer scope h tags) ∙ headed.result in
       let are = subst (λ k. AreDeclared all k (lines_behind scope (frame_of scope h) here ls).locals) base (all_declared front (lines_behind scope (frame_of scope h) here ls).locals locals declared) in
-      lines_typed program all (length h.params) scope (frame_of scope h) known rules (sound all) g.result (result_told g.result headed.result) (known.results h g.result headed.result) here false ls ss
-      (parameters_here program scope known siblings ls h.params g.params headed.params locals named) proper are grounded made
+      lines_typed program all (length h.params) scope (frame_of scope h) known rules (sound all) g.result (result_told g.result result) (known.results h g.result result) here false ls ss
+      (parameters_here program outer scope tags known siblings ls h.params g.params headed.params locals named) proper are grounded made
 
 -- ---- the function
 
@@ -117,12 +119,12 @@ pub made_sound : BodiesAreSound
 made_sound program rules scope h nodes g body name is_critical known sound made =
     let here : Here = first_here scope (lines_of nodes) h.params in
     let b = rule_right rules scope h nodes body made.body_is in
-    let headed = heading_right scope h g made.heading_is in
+    let headed = heading_right made.front h g made.heading_is in
     let marks = subst (λ os. IsBodied rules scope (frame_of scope h) here os (lines_of nodes) body) b.marks b in
     record {
       locals = made_locals program rules scope h nodes known body here marks (first_from program rules scope h nodes known) made.in_table;
       body = subst (λ os. AreTyped program (map slot_of_param (marked os 0 g.params) ++ map slot_of_local body.locals) g.result false (codes_of body.statements)) b.marks
-          (made_typed program rules scope h nodes known g (map (candidate scope) h.params) body.locals body.statements headed sound made.named made.proper made.grounded b.locals b.statements);
+          (made_typed program rules scope h nodes known made.front made.tags g (map (candidate made.front) h.params) body.locals body.statements headed sound made.named made.proper made.grounded b.locals b.statements);
     }
 
 -- the types of a body's locals are types of objects, whatever stands in the type table

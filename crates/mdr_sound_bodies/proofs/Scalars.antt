@@ -8,7 +8,8 @@ use Rattle.mdr_core.specs.Sound.{IsObjectSort}
 use Rattle.mdr_core.specs.Types.{Sort, Wrong, Empty, Locks, Aggregate, Scalar, sort_of, sort_layer, pointer_sort, function_sort, is_scalar, is_scalar_by}
 use Rattle.mdr_core.specs.Layout.{chosen}
 use Rattle.mdr_core.proofs.Laid.{sort_is}
-use Rattle.mdr_body.specs.Locals.{is_struct, is_struct_by, holds_lock, lock_by}
+use Rattle.mdr_body.specs.Locals.{holds_lock, lock_by}
+use Rattle.mdr_headings.specs.Structs.{is_struct, is_struct_by}
 use Rattle.mdr_sound_code.specs.Knowing.{IsFormed}
 
 -- no struct, no lock, no `void`

@@ -23,9 +23,11 @@ use Rattle.mdr_sound_bodies.specs.Rules.{AreSoundRules}
 use Rattle.mdr_sound_bodies.specs.Within.{KnowsDeclarations}
 use Rattle.mdr_sound_bodies.specs.Written.{AreNamed, AreProper}
 
--- a body with its head: both are right in the scope behind the function's name, and their types stand in the table of the program
+-- a body with its head: the head is right in the scope in front of it, the body in that behind the function's name, where structs have the same numbers, and their types stand in the table of the program
 pub record IsMade (program : Program) (rules : Rules) (scope : Scope) (h : Head) (nodes : List Node) (g : Heading) (body : Body) : Type 0 where
-  pub heading_is : heading scope h ≡ Right g
+  pub front : Scope
+  pub tags : front.tags ≡ scope.tags
+  pub heading_is : heading front h ≡ Right g
   pub body_is : body_rule rules scope h nodes ≡ Right body
   pub named : AreNamed h.params
   pub proper : AreProper (lines_of nodes)

@@ -7,6 +7,7 @@ use Rattle.mdr_faults.specs.declared.scope.Scope.{Scope}
 use Rattle.mdr_faults.specs.Declarations.{Declarator, declarator}
 use Rattle.mdr_faults.specs.Faults.{Right, told}
 use Rattle.mdr_headings.specs.Annotations.{is_integer, candidate, candidate_by}
+use Rattle.mdr_sound_bodies.proofs.Scoping.{same_declarator}
 
 pub candidate_integer : (scope : Scope) (d : Decl) (t : Ty) → (declarator scope d).whole ≡ Right t → (candidate scope d).is_integer ≡ (is_integer t && not (is_some (out-Decl d).size))
 unfolding candidate
@@ -15,10 +16,6 @@ candidate_integer scope d t e = ap (λ r. (candidate_by (out-Decl d).name (is_so
 pub candidate_scalar : (scope : Scope) (d : Decl) (t : Ty) → (declarator scope d).whole ≡ Right t → (candidate scope d).is_scalar ≡ (is_scalar t && not (is_some (out-Decl d).size))
 unfolding candidate
 candidate_scalar scope d t e = ap (λ r. (candidate_by (out-Decl d).name (is_some (out-Decl d).size) r).is_scalar) (ap told e)
-
--- a declaration's type depends on the tags alone
-pub same_declarator : (scope other : Scope) (d : Decl) → scope.tags ≡ other.tags → declarator scope d ≡ declarator other d
-same_declarator scope other d e = λ i. declarator (record scope { tags = e i }) d
 
 pub same_candidate : (scope other : Scope) (d : Decl) → scope.tags ≡ other.tags → candidate scope d ≡ candidate other d
 unfolding candidate

@@ -24,7 +24,8 @@ use Rattle.mdr_faults.specs.Faults.{Right, told, after, demand}
 use Rattle.mdr_faults.specs.Scopes.{entity_among, tag_named}
 use Rattle.mdr_headings.specs.declared.function.Declared.{Declared}
 use Rattle.mdr_headings.specs.declared.head.Heading.{Heading}
-use Rattle.mdr_headings.specs.Functions.{is_same_param, are_same_params, is_same_heading, agrees, agrees_with, function_named, may_stand, is_taken, with_function_unless, behind_function, declared_unless, function_rule, function_heading, function_declared, functions_behind, is_defined, has_body}
+use Rattle.mdr_headings.specs.Heads.{heading}
+use Rattle.mdr_headings.specs.Functions.{is_same_param, are_same_params, is_same_heading, agrees, agrees_with, function_named, may_stand, is_taken, with_function_unless, behind_function, declared_unless, function_rule, function_declared, functions_behind, is_defined, has_body}
 use Rattle.mdr_headings.specs.Structs.{name_or_none, struct_fields, struct_entry}
 use Rattle.mdr_syntax.specs.declared.tree.Decl.{out-Decl}
 use Rattle.mdr_headings.specs.Source.{is_numbered, before_first, with_struct_if}
@@ -116,19 +117,19 @@ enumerators_behind scope before (e ∷ es) = further (enumerators_behind (behind
 -- ---- functions
 
 -- what a declaration of a function keeps to
-pub record Ruled (scope : Scope) (fs : List Declared) (items : List Item) (h : Head) (hd : Heading) : Type 0 where
+pub record Ruled (scope : Scope) (fs : List Declared) (h : Head) (hd : Heading) : Type 0 where
   pub again : Bool
   pub may : may_stand (is_taken scope h.name) (function_named fs h.name) again ≡ true
-  pub right : function_heading scope fs items h ≡ Right hd
+  pub right : heading scope h ≡ Right hd
   pub agree : agrees_with (function_named fs h.name) (Ok hd) ≡ true
 
-pub ruled : (scope : Scope) (fs : List Declared) (items before : List Item) (h : Head) (is_body : Bool) (hd : Heading) → function_declared scope fs items before h is_body ≡ Right hd → Ruled scope fs items h hd
+pub ruled : (scope : Scope) (fs : List Declared) (before : List Item) (h : Head) (is_body : Bool) (hd : Heading) → function_declared scope fs before h is_body ≡ Right hd → Ruled scope fs h hd
 unfolding function_declared function_rule
-ruled scope fs items before h is_body hd e =
+ruled scope fs before h is_body hd e =
     let first = demand_right h.place Redefined _ _ hd e in
     let second = demand_right h.place Mismatch _ _ hd first.right in
     let third = demand_right h.place Limit _ _ hd second.right in
-    let is : told (function_heading scope fs items h) ≡ Ok hd = ap told third.right in
+    let is : told (heading scope h) ≡ Ok hd = ap told third.right in
     record { again = is_body && has_body before h.name; may = first.holds; right = third.right; agree = subst (λ r. agrees_with (function_named fs h.name) r ≡ true) is second.holds }
 
 named_where : (entry : Option Declared) (again : Bool) → may_stand true entry again ≡ true → is_some entry ≡ true
@@ -141,8 +142,8 @@ agree_types d h hd entry found told e =
     let same : is_same_heading h hd ≡ true = subst (λ r. agrees r (Ok hd) ≡ true) told test in
     sym (headings_same h hd same)
 
-agreeing : (scope : Scope) (fs : List Declared) (items : List Item) (h : Head) (hd : Heading) (f : Func) → Ruled scope fs items h hd → f.name ≡ h.name → function_type f ≡ heading_type hd → Agrees fs f
-agreeing scope fs items h hd f r named types = record {
+agreeing : (scope : Scope) (fs : List Declared) (h : Head) (hd : Heading) (f : Func) → Ruled scope fs h hd → f.name ≡ h.name → function_type f ≡ heading_type hd → Agrees fs f
+agreeing scope fs h hd f r named types = record {
   types = λ d old found told.
       let there = found_at (λ (x : Declared). bytes_eq x.name f.name) fs d found in
       let entry : function_named fs h.name ≡ Some d = subst (λ n. function_named fs n ≡ Some d) named found in
@@ -157,38 +158,38 @@ not_named scope fs name (Some d) e taken free =
     let is : is_some (entity_among scope.names name) ≡ true = subst (λ n. is_some (entity_among scope.names n) ≡ true) (same_bytes d.name name there.passes) (taken there.number d there.names) in
     sym is ∙ free
 
-abbrev pub new_declared : Scope → List Declared → List Item → Head → Declared
-new_declared scope fs items h = record { name = h.name; place = h.place; heading = told (function_heading scope fs items h) }
+abbrev pub new_declared : Scope → Head → Declared
+new_declared scope h = record { name = h.name; place = h.place; heading = told (heading scope h) }
 
-is_declared : (scope : Scope) (fs : List Declared) (items : List Item) (h : Head) (hd : Heading) (f : Func) → Ruled scope fs items h hd → f.name ≡ h.name → function_type f ≡ heading_type hd → IsDeclaredAs (new_declared scope fs items h) f
-is_declared scope fs items h hd f r named types = record { name = named; heading = hd; told = ap told r.right; types = types }
+is_declared : (scope : Scope) (fs : List Declared) (h : Head) (hd : Heading) (f : Func) → Ruled scope fs h hd → f.name ≡ h.name → function_type f ≡ heading_type hd → IsDeclaredAs (new_declared scope h) f
+is_declared scope fs h hd f r named types = record { name = named; heading = hd; told = ap told r.right; types = types }
 
 -- the functions behind a declaration, in two cases
-record Function (known : Known) (ps : Parts) (items : List Item) (h : Head) (hd : Heading) (f : Func) : Type 0 where
+record Function (known : Known) (ps : Parts) (h : Head) (hd : Heading) (f : Func) : Type 0 where
   counts : Counts known ps
-  rule : Ruled known.scope known.functions items h hd
+  rule : Ruled known.scope known.functions h hd
   named : f.name ≡ h.name
   types : function_type f ≡ heading_type hd
 
-prototype_counts : (known : Known) (ps : Parts) (items : List Item) (h : Head) (hd : Heading) (f : Func) (t : Bool) → is_taken known.scope h.name ≡ t → Function known ps items h hd f → AreDeclaredAs (declared_unless t known.functions h (told (function_heading known.scope known.functions items h))) (declared ps.funcs f (number_among ps.funcs f.name))
-prototype_counts known ps items h hd f true q c =
+prototype_counts : (known : Known) (ps : Parts) (h : Head) (hd : Heading) (f : Func) (t : Bool) → is_taken known.scope h.name ≡ t → Function known ps h hd f → AreDeclaredAs (declared_unless t known.functions h (told (heading known.scope h))) (declared ps.funcs f (number_among ps.funcs f.name))
+prototype_counts known ps h hd f true q c =
     let may : may_stand true (function_named known.functions h.name) (c.rule).again ≡ true = subst (λ t. may_stand t (function_named known.functions h.name) (c.rule).again ≡ true) q (c.rule).may in
     let there : is_some (function_named known.functions f.name) ≡ true = subst (λ n. is_some (function_named known.functions n) ≡ true) (sym c.named) (named_where _ _ may) in
     declared_again known.functions ps.funcs f (c.counts).functions there
-prototype_counts known ps items h hd f false q c =
+prototype_counts known ps h hd f false q c =
     let none : is_some (function_named known.functions h.name) ≡ false = not_named known.scope known.functions h.name _ refl (c.counts).taken q in
     let there : is_some (function_named known.functions f.name) ≡ false = subst (λ n. is_some (function_named known.functions n) ≡ false) (sym c.named) none in
-    declared_first known.functions ps.funcs (new_declared known.scope known.functions items h) f (c.counts).functions there (is_declared known.scope known.functions items h hd f c.rule c.named c.types)
+    declared_first known.functions ps.funcs (new_declared known.scope h) f (c.counts).functions there (is_declared known.scope known.functions h hd f c.rule c.named c.types)
 
-body_counts : (known : Known) (ps : Parts) (items : List Item) (h : Head) (hd : Heading) (f : Func) (t : Bool) → is_taken known.scope h.name ≡ t → Function known ps items h hd f → AreDeclaredAs (declared_unless t known.functions h (told (function_heading known.scope known.functions items h))) (defined ps.funcs f (number_among ps.funcs f.name))
-body_counts known ps items h hd f true q c =
+body_counts : (known : Known) (ps : Parts) (h : Head) (hd : Heading) (f : Func) (t : Bool) → is_taken known.scope h.name ≡ t → Function known ps h hd f → AreDeclaredAs (declared_unless t known.functions h (told (heading known.scope h))) (defined ps.funcs f (number_among ps.funcs f.name))
+body_counts known ps h hd f true q c =
     let may : may_stand true (function_named known.functions h.name) (c.rule).again ≡ true = subst (λ t. may_stand t (function_named known.functions h.name) (c.rule).again ≡ true) q (c.rule).may in
     let there : is_some (function_named known.functions f.name) ≡ true = subst (λ n. is_some (function_named known.functions n) ≡ true) (sym c.named) (named_where _ _ may) in
-    defined_again known.functions ps.funcs f (c.counts).functions there (agreeing known.scope known.functions items h hd f c.rule c.named c.types)
-body_counts known ps items h hd f false q c =
+    defined_again known.functions ps.funcs f (c.counts).functions there (agreeing known.scope known.functions h hd f c.rule c.named c.types)
+body_counts known ps h hd f false q c =
     let none : is_some (function_named known.functions h.name) ≡ false = not_named known.scope known.functions h.name _ refl (c.counts).taken q in
     let there : is_some (function_named known.functions f.name) ≡ false = subst (λ n. is_some (function_named known.functions n) ≡ false) (sym c.named) none in
-    defined_first known.functions ps.funcs (new_declared known.scope known.functions items h) f (c.counts).functions there (is_declared known.scope known.functions items h hd f c.rule c.named c.types)
+    defined_first known.functions ps.funcs (new_declared known.scope h) f (c.counts).functions there (is_declared known.scope known.functions h hd f c.rule c.named c.types)
 
 -- ---- the names of functions stay taken
 
@@ -216,13 +217,13 @@ taken_behind false known ps n is_def h r c i d e = by (last_or_before known.func
 
 -- ---- one item
 
-function_kept : (known : Known) (ps more : Parts) (items : List Item) (h : Head) → Counts known ps → more.variables ≡ ps.variables → more.structs ≡ ps.structs → AreDeclaredAs (functions_behind known.scope known.functions items h) more.funcs → Counts (behind_head items known h) more
+function_kept : (known : Known) (ps more : Parts) (items : List Item) (h : Head) → Counts known ps → more.variables ≡ ps.variables → more.structs ≡ ps.structs → AreDeclaredAs (functions_behind known.scope known.functions h) more.funcs → Counts (behind_head items known h) more
 unfolding behind_function functions_behind
 function_kept known ps more items h c variables structs all = record {
   globals = c.globals ∙ ap length (sym variables);
   structs = ap length (structs_behind (is_taken known.scope h.name) known.scope (length known.functions) (is_defined items h.name) h) ∙ c.structs ∙ ap length (sym structs);
   functions = all;
-  taken = taken_behind (is_taken known.scope h.name) known ps (length known.functions) (is_defined items h.name) h (told (function_heading known.scope known.functions items h)) c;
+  taken = taken_behind (is_taken known.scope h.name) known ps (length known.functions) (is_defined items h.name) h (told (heading known.scope h)) c;
 }
 
 struct_kept : (known : Known) (ps : Parts) (scope : Scope) (test : Bool) (entry : _) (def : _) → test ≡ true → Counts known ps → Counts (with_scope known (with_struct_if test known.scope entry)) (record ps { structs = ps.structs ++ def ∷ [] })
@@ -242,9 +243,9 @@ global_kept known ps name means v c = record {
   taken = all_taken known.scope (with_name known.scope name means) known.functions (record { names = _ ∷ []; grown = refl }) c.taken;
 }
 
-functions_kept : (known : Known) (items : List Item) (h : Head) (fs : List Func) → AreDeclaredAs (declared_unless (is_taken known.scope h.name) known.functions h (told (function_heading known.scope known.functions items h))) fs → AreDeclaredAs (functions_behind known.scope known.functions items h) fs
+functions_kept : (known : Known) (h : Head) (fs : List Func) → AreDeclaredAs (declared_unless (is_taken known.scope h.name) known.functions h (told (heading known.scope h))) fs → AreDeclaredAs (functions_behind known.scope known.functions h) fs
 unfolding functions_behind
-functions_kept known items h fs all = all
+functions_kept known h fs all = all
 
 -- the counts behind an item that comes to a piece
 abbrev Counted : List Item → Known → Parts → ItemWhat → Piece → Type 0
@@ -275,15 +276,15 @@ counted_by body items before known p (item.Global d init) x ps c e =
     let is : piece.Global a.value ≡ x = same_right (piece.Global a.value) x a.made in
     subst (λ y. Counted items known ps (item.Global d init) y) is (global_kept known ps (name_or_none (out-Decl d).name) (global_means known.globals (told (global_object known.scope d))) a.value c)
 counted_by body items before known p (item.Proto h is_remote) x ps c e =
-    let a = after_right (function_declared known.scope known.functions items before h false) (prototype_of h.name) x e in
+    let a = after_right (function_declared known.scope known.functions before h false) (prototype_of h.name) x e in
     let is : piece.Prototype h.name a.value ≡ x = same_right (piece.Prototype h.name a.value) x a.made in
-    let f : Function known ps items h a.value (remote h.name a.value) = record { counts = c; rule = ruled known.scope known.functions items before h false a.value a.right; named = refl; types = refl } in
+    let f : Function known ps h a.value (remote h.name a.value) = record { counts = c; rule = ruled known.scope known.functions before h false a.value a.right; named = refl; types = refl } in
     let more = behind_piece ps (piece.Prototype h.name a.value) in
-    subst (λ y. Counted items known ps (item.Proto h is_remote) y) is (function_kept known ps more items h c refl refl (functions_kept known items h more.funcs (prototype_counts known ps items h a.value (remote h.name a.value) (is_taken known.scope h.name) refl f)))
+    subst (λ y. Counted items known ps (item.Proto h is_remote) y) is (function_kept known ps more items h c refl refl (functions_kept known h more.funcs (prototype_counts known ps h a.value (remote h.name a.value) (is_taken known.scope h.name) refl f)))
 counted_by body items before known p (item.Func h is_critical nodes) x ps c e =
-    let b = both_right (function_declared known.scope known.functions items before h true) (body (body_scope items known h) h nodes) (function_of h.name is_critical) x e in
+    let b = both_right (function_declared known.scope known.functions before h true) (body (body_scope items known h) h nodes) (function_of h.name is_critical) x e in
     let made = piece.Function h.name is_critical b.left b.right in
     let is : made ≡ x = same_right made x b.made in
-    let f : Function known ps items h b.left (whole h.name is_critical b.left b.right) = record { counts = c; rule = ruled known.scope known.functions items before h true b.left b.first; named = refl; types = whole_type h.name is_critical b.left b.right } in
+    let f : Function known ps h b.left (whole h.name is_critical b.left b.right) = record { counts = c; rule = ruled known.scope known.functions before h true b.left b.first; named = refl; types = whole_type h.name is_critical b.left b.right } in
     let more = behind_piece ps made in
-    subst (λ y. Counted items known ps (item.Func h is_critical nodes) y) is (function_kept known ps more items h c refl refl (functions_kept known items h more.funcs (body_counts known ps items h b.left (whole h.name is_critical b.left b.right) (is_taken known.scope h.name) refl f)))
+    subst (λ y. Counted items known ps (item.Func h is_critical nodes) y) is (function_kept known ps more items h c refl refl (functions_kept known h more.funcs (body_counts known ps h b.left (whole h.name is_critical b.left b.right) (is_taken known.scope h.name) refl f)))

@@ -6,7 +6,8 @@ use Rattle.mdr_syntax.specs.declared.tree.ItemWhat.{ItemWhat}
 use Rattle.mdr_syntax.specs.declared.tree.ItemWhat.TheVariants as item
 use Rattle.mdr_faults.specs.Faults.{Right, told}
 use Rattle.mdr_headings.specs.declared.function.Declared.{Declared}
-use Rattle.mdr_headings.specs.Functions.{is_taken, declared_unless, function_heading, functions_behind}
+use Rattle.mdr_headings.specs.Heads.{heading}
+use Rattle.mdr_headings.specs.Functions.{is_taken, declared_unless, functions_behind}
 use Rattle.mdr_check.specs.declared.file.Known.{Known}
 use Rattle.mdr_check.specs.declared.file.Piece.{Piece}
 use Rattle.mdr_check.specs.declared.file.Piece.TheVariants as piece
@@ -81,8 +82,8 @@ functions_one items known (item.Define name is_negative n k) = begins_itself kno
 functions_one items known (item.Struct at name ds) = begins_itself known.functions
 functions_one items known (item.Enum es) = begins_itself known.functions
 functions_one items known (item.Global d init) = begins_itself known.functions
-functions_one items known (item.Proto h is_remote) = unless_begins (is_taken known.scope h.name) known.functions h (told (function_heading known.scope known.functions items h))
-functions_one items known (item.Func h is_critical nodes) = unless_begins (is_taken known.scope h.name) known.functions h (told (function_heading known.scope known.functions items h))
+functions_one items known (item.Proto h is_remote) = unless_begins (is_taken known.scope h.name) known.functions h (told (heading known.scope h))
+functions_one items known (item.Func h is_critical nodes) = unless_begins (is_taken known.scope h.name) known.functions h (told (heading known.scope h))
 
 pub functions_begin : (items : List Item) (known : Known) (is : List Item) → Begins known.functions (known_behind items known is).functions
 unfolding known_behind

@@ -1,9 +1,8 @@
 -- The program of a file without faults, and the pieces that it is made of.
 use Rattle.std.proofs.Common.{◌≡◌, List, [], refl, sym, ap, ◌∙◌, subst}
-use Rattle.mdr_core.specs.declared.place.Place.{Place}
 use Rattle.mdr_core.specs.declared.program.Program.{Program}
 use Rattle.mdr_syntax.specs.declared.tree.Item.{Item}
-use Rattle.mdr_faults.specs.Faults.{Checked, Right, after, both}
+use Rattle.mdr_faults.specs.Faults.{Right, both}
 use Rattle.mdr_check.specs.declared.file.Piece.{Piece}
 use Rattle.mdr_check.specs.Files.{BodyRule, pieces_behind, known_behind, first_known}
 use Rattle.mdr_check.specs.Names.{short_items}
@@ -11,7 +10,7 @@ use Rattle.mdr_check.specs.Uses.{UseRule, defined_functions}
 use Rattle.mdr_check.specs.Whole.{kept, named, file_pieces}
 use Rattle.mdr_program.specs.Parts.{parts_behind, no_parts}
 use Rattle.mdr_program.specs.Programs.{made, program_of, program_right, typed}
-use Rattle.mdr_sound_code.proofs.Rights.{After, after_right, Both, both_right, same_right}
+use Rattle.mdr_sound_code.proofs.Rights.{after_right, both_right, same_right}
 use Rattle.mdr_sound_files.specs.FileLaws.{TypesOfFilesAreFormed, FilesAreSound}
 use Rattle.mdr_sound_files.specs.Whole.{IsMadeOf}
 use Rattle.mdr_sound_files.proofs.Forming.{types_formed}

@@ -1,7 +1,6 @@
 -- The types that occur in a file are types of objects, whatever stands in the type table.
-use Rattle.std.proofs.Common.{◌≡◌, ℕ, zero, suc, ◌+◌, ◌<◌, Bool, true, false, List, [], ◌∷◌, ◌++◌, length, map, Option, Some, None, refl, sym, ap, ◌∙◌, subst, slice_get, ◌⊎◌, inl, inr, arith}
+use Rattle.std.proofs.Common.{◌≡◌, ℕ, zero, suc, ◌<◌, Bool, true, false, List, [], ◌∷◌, ◌++◌, length, map, Option, Some, None, refl, sym, ap, ◌∙◌, subst, slice_get, ◌⊎◌, inl, inr, arith}
 use Rattle.std.proofs.lemmas.Option.{slice_get_within}
-use Rattle.mdr_core.specs.declared.place.Place.{Place}
 use Rattle.mdr_core.specs.declared.code.Stmt.{Stmt}
 use Rattle.mdr_core.specs.declared.program.Field.{Field}
 use Rattle.mdr_core.specs.declared.program.Func.{Func}
@@ -14,55 +13,49 @@ use Rattle.mdr_core.specs.declared.types.Ty.{Ty}
 use Rattle.mdr_core.specs.Code.{Code, Codes}
 use Rattle.mdr_core.specs.Folds.{codes_of}
 use Rattle.mdr_core.specs.Layout.{fields_or, fields_of}
-use Rattle.mdr_core.specs.Types.{Scalar, sort_of}
 use Rattle.mdr_core.specs.TypeText.{Occurs, Allocates, AllocatesIn}
 use Rattle.mdr_core.specs.TypeText as occurs
-use Rattle.mdr_syntax.specs.declared.tree.Decl.{Decl, out-Decl}
+use Rattle.mdr_syntax.specs.declared.tree.Decl.{out-Decl}
 use Rattle.mdr_syntax.specs.declared.tree.Head.{Head}
-use Rattle.mdr_syntax.specs.declared.tree.Init.{Init}
 use Rattle.mdr_syntax.specs.declared.tree.Item.{Item}
 use Rattle.mdr_syntax.specs.declared.tree.ItemWhat.{ItemWhat}
-use Rattle.mdr_syntax.specs.declared.tree.ItemWhat.TheVariants as item
 use Rattle.mdr_syntax.specs.declared.tree.Node.{Node}
 use Rattle.mdr_faults.specs.declared.scope.Scope.{Scope}
-use Rattle.mdr_faults.specs.declared.scope.StructEntry.{StructEntry}
 use Rattle.mdr_faults.specs.Faults.{Right}
 use Rattle.mdr_headings.specs.declared.body.Body.{Body}
 use Rattle.mdr_headings.specs.declared.head.Heading.{Heading}
-use Rattle.mdr_headings.specs.Functions.{function_declared, function_heading, functions_behind, behind_function, is_taken, is_defined}
+use Rattle.mdr_headings.specs.Functions.{function_declared, functions_behind, behind_function, is_taken, is_defined}
 use Rattle.mdr_headings.specs.Heads.{heading}
 use Rattle.mdr_check.specs.declared.file.Known.{Known}
 use Rattle.mdr_check.specs.declared.file.Piece.{Piece}
 use Rattle.mdr_check.specs.declared.variable.Variable.{Variable}
 use Rattle.mdr_check.specs.Files.{behind_item, known_behind, first_known, pieces_behind, body_scope}
-use Rattle.mdr_check.specs.Globals.{global}
 use Rattle.mdr_body.specs.Bodies.{body_rule}
 use Rattle.mdr_body.specs.Statements.{Rules}
 use Rattle.mdr_program.specs.declared.parts.Parts.{Parts}
 use Rattle.mdr_program.specs.Parts.{marked, remote, whole, behind_piece, parts_behind, no_parts}
 use Rattle.mdr_program.specs.Occurring.{shape_types, allocated, allocated_in}
 use Rattle.mdr_program.specs.Orders.{IsAmong}
-use Rattle.mdr_program.specs.Programs.{global_def, global_defs}
 use Rattle.mdr_sound_code.specs.Knowing.{IsFormed, Knows}
 use Rattle.mdr_sound_bodies.specs.Allocating.{AllocateFormed, AreFormedSteps}
-use Rattle.mdr_sound_bodies.specs.Within.{IsOfMember, KnowsDeclarations}
+use Rattle.mdr_sound_bodies.specs.Within.{KnowsDeclarations}
 use Rattle.mdr_sound_bodies.proofs.AllocatingLines.{allocations_formed}
 use Rattle.mdr_sound_bodies.proofs.Making.{locals_formed}
-use Rattle.mdr_sound_files.specs.Counting.{Counts, Begins}
+use Rattle.mdr_sound_files.specs.Counting.{Begins}
 use Rattle.mdr_sound_files.specs.Standing.{Stands}
 use Rattle.mdr_sound_files.specs.Whole.{IsMadeOf, AreDefinesInRange}
 use Rattle.mdr_sound_files.proofs.Along.{IsPlace, GoesOn, along, counted_all}
-use Rattle.mdr_sound_files.proofs.CountedItems.{last_or_before, Ruled, ruled}
-use Rattle.mdr_sound_files.proofs.Declaring.{put_named, keep_named, defined_put, declared_keep}
+use Rattle.mdr_sound_files.proofs.CountedItems.{last_or_before, ruled}
+use Rattle.mdr_sound_files.proofs.Declaring.{defined_put, declared_keep}
 use Rattle.mdr_sound_files.proofs.Functions.{marked_types}
 use Rattle.mdr_sound_files.proofs.Headings.{head_result_is, heading_params}
 use Rattle.mdr_sound_files.proofs.NamedTypes.{AreNumbered, declarator_good}
 use Rattle.mdr_sound_files.proofs.Objects.{object_sound, tags_numbered}
 use Rattle.mdr_sound_files.proofs.Outlines.{names_structs}
-use Rattle.mdr_sound_files.proofs.Passing.{IsAt, function_structs}
+use Rattle.mdr_sound_files.proofs.Passing.{function_structs}
 use Rattle.mdr_sound_files.proofs.Reading.{get_map, get_mapped}
-use Rattle.mdr_sound_files.proofs.Scopes.{IsStanding, standing_goes_on, first_standing, standing_all, function_stands, IsHeaded, global_from}
-use Rattle.mdr_sound_files.proofs.SoundGlobals.{IsDeclared, declared}
+use Rattle.mdr_sound_files.proofs.Scopes.{IsStanding, standing_goes_on, first_standing, function_stands, global_from}
+use Rattle.mdr_sound_files.proofs.SoundGlobals.{declared}
 use Rattle.mdr_sound_files.proofs.Sounding.{put_either, keep_either}
 use Rattle.mdr_sound_files.proofs.Viewed.{Comes, OfDefine, OfStruct, OfEnum, OfGlobal, OfPrototype, OfFunction, comes_to}
 
@@ -155,25 +148,23 @@ module _ (program : Program) (rules : Rules) (items : List Item) (xs : List Piec
         fields = λ s f entry x e g. q.fields s f entry x (ap (λ es. slice_get es s) (sym same) ∙ e) g;
       }
 
-  scope_stands : (before : List Item) (known : Known) (ps : Parts) (h : Head) (is_body : Bool) (g : Heading) → function_declared known.scope known.functions items before h is_body ≡ Right g → Begins (functions_behind known.scope known.functions items h) Last.functions → AtRest known ps → AreNumbered known.scope (length program.structs) → Stands program (body_scope items known h)
+  scope_stands : (before : List Item) (known : Known) (ps : Parts) (h : Head) (is_body : Bool) (g : Heading) → function_declared known.scope known.functions before h is_body ≡ Right g → Begins (functions_behind known.scope known.functions h) Last.functions → AtRest known ps → AreNumbered known.scope (length program.structs) → Stands program (body_scope items known h)
   scope_stands before known ps h is_body g e b q low =
-      function_stands program (body_rule rules) items xs right made ranges known h (record { heading = g; listed = (ruled known.scope known.functions items before h is_body g e).right; begins = b }) q.stands low
+      function_stands program (body_rule rules) items xs right made ranges known h (record { heading = g; listed = (ruled known.scope known.functions before h is_body g e).right; begins = b }) q.stands low
 
-  heading_formed : (before : List Item) (known : Known) (ps : Parts) (h : Head) (is_body : Bool) (g : Heading) → function_declared known.scope known.functions items before h is_body ≡ Right g → Begins (functions_behind known.scope known.functions items h) Last.functions → AtRest known ps → AreNumbered known.scope (length program.structs) → (i : ℕ) (p : Param) → slice_get g.params i ≡ Some p → IsFormed program p.ty
+  heading_formed : (before : List Item) (known : Known) (ps : Parts) (h : Head) (is_body : Bool) (g : Heading) → function_declared known.scope known.functions before h is_body ≡ Right g → Begins (functions_behind known.scope known.functions h) Last.functions → AtRest known ps → AreNumbered known.scope (length program.structs) → (i : ℕ) (p : Param) → slice_get g.params i ≡ Some p → IsFormed program p.ty
   heading_formed before known ps h is_body g e b q low i p at =
-      let scope = body_scope items known h in
-      let st = scope_stands before known ps h is_body g e b q low in
-      let listed : heading scope h ≡ Right g = (ruled known.scope known.functions items before h is_body g e).right in
-      inl (heading_params scope (length program.structs) h g (tags_numbered program scope st) listed i p at)
+      let listed : heading known.scope h ≡ Right g = (ruled known.scope known.functions before h is_body g e).right in
+      inl (heading_params known.scope (length program.structs) h g low listed i p at)
 
-  prototype_formed : (before : List Item) (known : Known) (ps : Parts) (h : Head) (g : Heading) → function_declared known.scope known.functions items before h false ≡ Right g → Begins (functions_behind known.scope known.functions items h) Last.functions → AtRest known ps → AreNumbered known.scope (length program.structs) → IsFormedFunc program (remote h.name g)
+  prototype_formed : (before : List Item) (known : Known) (ps : Parts) (h : Head) (g : Heading) → function_declared known.scope known.functions before h false ≡ Right g → Begins (functions_behind known.scope known.functions h) Last.functions → AtRest known ps → AreNumbered known.scope (length program.structs) → IsFormedFunc program (remote h.name g)
   prototype_formed before known ps h g e b q low = record {
     params = heading_formed before known ps h false g e b q low;
     locals = λ i l n. absurd cc;
     body = tt;
   }
 
-  body_formed : (before : List Item) (known : Known) (ps : Parts) (h : Head) (is_critical : Bool) (nodes : List Node) (g : Heading) (body : Body) → function_declared known.scope known.functions items before h true ≡ Right g → body_rule rules (body_scope items known h) h nodes ≡ Right body → Begins (functions_behind known.scope known.functions items h) Last.functions → AtRest known ps → AreNumbered known.scope (length program.structs) → IsFormedFunc program (whole h.name is_critical g body)
+  body_formed : (before : List Item) (known : Known) (ps : Parts) (h : Head) (is_critical : Bool) (nodes : List Node) (g : Heading) (body : Body) → function_declared known.scope known.functions before h true ≡ Right g → body_rule rules (body_scope items known h) h nodes ≡ Right body → Begins (functions_behind known.scope known.functions h) Last.functions → AtRest known ps → AreNumbered known.scope (length program.structs) → IsFormedFunc program (whole h.name is_critical g body)
   body_formed before known ps h is_critical nodes g body e f b q low =
       let scope = body_scope items known h in
       let st = scope_stands before known ps h true g e b q low in

@@ -1,12 +1,12 @@
 -- What stands before a function's body is sound.
-use Rattle.std.proofs.Common.{◌≡◌, ℕ, ◌⊎◌, Bool, true, not, List, [], ◌∷◌, map, length, Some, is_some, slice_get, refl, sym, ap, subst, ◌∙◌}
+use Rattle.std.proofs.Common.{◌≡◌, ℕ, ◌⊎◌, inl, inr, Bool, true, not, List, [], ◌∷◌, ◌++◌, map, length, Option, Some, is_some, slice_get, refl, sym, ap, subst, ◌∙◌}
 use Rattle.std.specs.Prelude.{◌&&◌, ◌==◌}
 use Rattle.std.specs.List.{list_any}
 use Rattle.mdr_core.specs.declared.program.Param.{Param}
 use Rattle.mdr_core.specs.declared.program.Program.{Program}
 use Rattle.mdr_core.specs.declared.types.Ty.{Ty}
 use Rattle.mdr_core.specs.declared.types.Ty.TheVariants as type
-use Rattle.mdr_core.specs.Sound.{sibling_param}
+use Rattle.mdr_core.specs.Sound.{Sibling, IsIntegerSibling, sibling_param}
 use Rattle.mdr_core.specs.Types.{Scalar, HasNumber, sort_of, is_scalar}
 use Rattle.mdr_syntax.specs.declared.tree.Decl.{Decl, out-Decl}
 use Rattle.mdr_syntax.specs.declared.tree.Decl.TheOpen.{Decl-F}
@@ -17,11 +17,12 @@ use Rattle.mdr_faults.specs.declared.scope.Candidate.{Candidate}
 use Rattle.mdr_faults.specs.declared.scope.Scope.{Scope}
 use Rattle.mdr_faults.specs.declared.scope.Signature.{Signature}
 use Rattle.mdr_faults.specs.Declarations.{Declarator, declarator, declarator_layer, declarator_type, is_same_name, parameter_among, parameter_list, parameter_type, result_type, type_named}
-use Rattle.mdr_faults.specs.Faults.{Right}
+use Rattle.mdr_faults.specs.Faults.{Right, after}
 use Rattle.mdr_headings.specs.declared.head.Given.{Given}
 use Rattle.mdr_headings.specs.declared.head.Heading.{Heading}
-use Rattle.mdr_headings.specs.Annotations.{annotated, candidate, is_integer}
-use Rattle.mdr_headings.specs.Heads.{param_of, annotated_param, param_among, params_behind, given_by, annotated_result, head_result, given, heading_of, heading}
+use Rattle.mdr_headings.specs.Annotations.{annotated, bare, candidate, is_integer}
+use Rattle.mdr_headings.specs.Heads.{param_of, annotated_param, param_among, params_behind, given_by, annotated_result, head_result, given, heading_of, result_siblings, heading}
+use Rattle.mdr_headings.specs.Within.{names_around, within}
 use Rattle.mdr_headings.specs.Source.{signature, signature_by}
 use Rattle.mdr_sound_code.proofs.Rights.{after_right, both_right, same_right, demand_right, chosen_right}
 use Rattle.mdr_sound_code.proofs.Alike.{left_of}
@@ -33,7 +34,9 @@ use Rattle.mdr_sound_files.proofs.Sorts.{is_result, handle_sort}
 use Rattle.mdr_sound_files.proofs.Objects.{tags_numbered}
 use Rattle.mdr_sound_files.proofs.Annotating.{annotation_sound, integer}
 use Rattle.mdr_sound_files.proofs.Gathering.{Pairwise, pair_of_left, pair_of_right, gathered}
-use Rattle.mdr_sound_files.proofs.Candidates.{candidate_integer, same_declarator}
+use Rattle.mdr_sound_files.proofs.Candidates.{candidate_integer}
+use Rattle.mdr_sound_files.proofs.CountedItems.{last_or_before}
+use Rattle.mdr_sound_bodies.proofs.Scoping.{beside_right, same_declarator, same_result}
 
 -- ---- parameters, as they are declared
 
@@ -57,7 +60,8 @@ unfolding param_among annotated_param
 among_is scope siblings before d x e =
     let p = (declarator scope d).place in
     let earlier = map (declarator scope) before in
-    let c = after_right (parameter_among earlier (declarator scope d)) (annotated_param scope siblings d) x e in
+    let rule = after (parameter_among earlier (declarator scope d)) (annotated_param scope siblings d) in
+    let c = after_right (parameter_among earlier (declarator scope d)) (annotated_param scope siblings d) x (beside_right (within scope (names_around [] before) d) rule x e) in
     let a = demand_right p Redefined (not (list_any (λ b. is_same_name b.name (declarator scope d).name) earlier)) _ c.value c.right in
     let b = demand_right p Limit (not (length earlier == 8)) (declarator scope d).parameter c.value a.right in
     let n = after_right (annotated scope siblings (out-Decl d).place c.value (out-Decl d).ann) (λ a. Right (param_of (out-Decl d).name c.value a)) x c.made in
@@ -86,25 +90,34 @@ sees_params scope siblings ds xs params = record {
       };
 }
 
+-- a name that is no length is as if it weren't there
+sees_bare : (cs : List Candidate) (siblings : List Sibling) (name : Option (List ℕ)) → SeesSiblings cs siblings → SeesSiblings (cs ++ bare name ∷ []) siblings
+sees_bare cs siblings name sees = record { integers = λ i c n h. by i c (last_or_before cs (bare name) i c n) h }
+  where
+    by : (i : ℕ) (c : Candidate) → (slice_get cs i ≡ Some c) ⊎ (bare name ≡ c) → c.is_integer ≡ true → IsIntegerSibling siblings i
+    by i c (inl old) h = sees.integers i c old h
+    by i c (inr new) h = let is : (bare name).is_integer ≡ true = ap (λ (x : Candidate). x.is_integer) new ∙ h in absurd cc
+
 -- ---- headings
 
 record IsHeadingOf (scope : Scope) (h : Head) (x : Heading) : Type 0 where
   result : head_result scope h ≡ Right x.result
-  noted : annotated scope (map (candidate scope) h.params) h.place x.result h.ann ≡ Right x.ann
+  noted : annotated scope (result_siblings scope h) h.place x.result h.ann ≡ Right x.ann
   params : Pairwise (IsParamOf scope (map (candidate scope) h.params)) h.params x.params
 
 heading_as : (scope : Scope) (h : Head) (x : Heading) → heading scope h ≡ Right x → IsHeadingOf scope h x
 unfolding heading given
 heading_as scope h x e =
     let candidates = map (candidate scope) h.params in
-    let b = both_right (given scope candidates h) (params_behind scope candidates [] h.params) heading_of x e in
-    let g = after_right (head_result scope h) (annotated_result scope candidates h.place h.ann) b.left b.first in
-    let n = after_right (annotated scope candidates h.place g.value h.ann) (given_by g.value) b.left g.made in
+    let all = result_siblings scope h in
+    let b = both_right (given scope all h) (params_behind scope candidates [] h.params) heading_of x e in
+    let g = after_right (head_result scope h) (annotated_result scope all h.place h.ann) b.left b.first in
+    let n = after_right (annotated scope all h.place g.value h.ann) (given_by g.value) b.left g.made in
     let same : record { ty = g.value; ann = n.value } ≡ b.left = same_right (record { ty = g.value; ann = n.value }) b.left n.made in
-    let all : record { result = b.left.ty; ann = b.left.ann; params = b.right } ≡ x = same_right (record { result = b.left.ty; ann = b.left.ann; params = b.right }) x b.made in
-    subst (IsHeadingOf scope h) all (record {
+    let whole : record { result = b.left.ty; ann = b.left.ann; params = b.right } ≡ x = same_right (record { result = b.left.ty; ann = b.left.ann; params = b.right }) x b.made in
+    subst (IsHeadingOf scope h) whole (record {
       result = g.right ∙ ap (λ (y : Given). Right y.ty) same;
-      noted = subst (λ (y : Given). annotated scope candidates h.place y.ty h.ann ≡ Right y.ann) same n.right;
+      noted = subst (λ (y : Given). annotated scope all h.place y.ty h.ann ≡ Right y.ann) same n.right;
       params = params_are scope candidates h.params b.right b.second;
     })
 
@@ -123,7 +136,7 @@ heading_sound program scope h x st numbered e =
     let sees = sees_params scope candidates h.params x.params a.params in
     record {
       result = head_result_is scope (length program.structs) h x.result low a.result;
-      annotation = annotation_sound program scope candidates siblings h.place x.result h.ann x.ann st sees a.noted;
+      annotation = annotation_sound program scope (result_siblings scope h) siblings h.place x.result h.ann x.ann st (sees_bare candidates siblings (Some h.name) sees) a.noted;
       params = λ i p n.
           let r = pair_of_right (IsParamOf scope candidates) h.params x.params i p a.params n in
           record {
@@ -156,10 +169,6 @@ types_same scope other siblings (d ∷ ds) (t ∷ ts) (x ∷ xs) tags f g =
     let one : t ≡ x.ty = same_right t x.ty (sym f.0 ∙ ap (λ (y : Declarator). y.parameter) (same_declarator scope other d tags) ∙ (g.0).type) in
     let rest : ts ≡ map (λ (p : Param). p.ty) xs = types_same scope other siblings ds ts xs tags f.1 g.1 in
     λ i. one i ∷ rest i
-
-same_result : (scope other : Scope) (h : Head) → scope.tags ≡ other.tags → head_result scope h ≡ head_result other h
-unfolding head_result
-same_result scope other h e = λ i. head_result (record scope { tags = e i }) h
 
 record IsSignatureRight (scope : Scope) (n : ℕ) (is_defined : Bool) (h : Head) (s : Signature) : Type 0 where
   result : head_result scope h ≡ Right s.result

@@ -1,5 +1,5 @@
 -- The first values of an object, from what an initialiser is made of (C99 6.7.8).
-use Rattle.std.proofs.Common.{◌≡◌, ℕ, suc, ◌+◌, ◌-◌, ◌≤◌, true, false, not, ◌&&◌, pos, List, [], ◌∷◌, ◌++◌, length, refl, sym, ap, ◌∙◌, subst, append_assoc, append-nil, arith}
+use Rattle.std.proofs.Common.{◌≡◌, ℕ, suc, ◌+◌, ◌-◌, ◌≤◌, true, false, ◌&&◌, pos, List, [], ◌∷◌, ◌++◌, length, refl, sym, ap, ◌∙◌, subst, append_assoc, append-nil, arith}
 use Rattle.std.proofs.lemmas.List.{map-append}
 use Rattle.mdr_core.specs.declared.kind.Kind.{Kind}
 use Rattle.mdr_core.specs.declared.place.Place.{Place}
@@ -16,14 +16,16 @@ use Rattle.mdr_core.proofs.Conversions.{converted-in_range}
 use Rattle.mdr_check.specs.declared.initialiser.First.{First}
 use Rattle.mdr_check.specs.declared.initialiser.First.TheVariants as first
 use Rattle.mdr_check.specs.declared.variable.Variable.{Variable}
-use Rattle.mdr_check.specs.Initialisers.{Part, single, sole, left_of, characters, has_room, text_by, takes_text, text_first, part_field, are_plain, appended, elements_first, element_of, suits_array, array_first}
+use Rattle.mdr_check.specs.Initialisers.{Part, is_aggregate, single, sole, left_of, characters, has_room, text_by, takes_text, text_first, part_field, are_plain, appended, elements_first, element_of, suits_array, array_first}
 use Rattle.mdr_headings.specs.Annotations.{is_character}
+use Rattle.mdr_headings.specs.Structs.{is_struct}
 use Rattle.mdr_faults.specs.declared.fault.FaultKind.TheVariants.{Mismatch}
 use Rattle.mdr_faults.specs.declared.scope.Object.{Object}
 use Rattle.mdr_faults.specs.Faults.{Checked, Right, after}
 use Rattle.mdr_program.specs.Values.{zeros, object_cells, first_cells, first_values}
-use Rattle.mdr_sound_code.proofs.Alike.{left_of as left_holds, right_of as right_holds}
-use Rattle.mdr_sound_code.proofs.Rights.{not_right, same_right, after_right, both_right, chosen_right, demand_right}
+use Rattle.mdr_sound_code.proofs.Alike.{right_of as right_holds}
+use Rattle.mdr_sound_bodies.proofs.Joined.{or_left}
+use Rattle.mdr_sound_code.proofs.Rights.{not_right, same_right, after_right, both_right, chosen_right, refused_right, demand_right}
 use Rattle.mdr_sound_files.proofs.Filled.{Fills, fills_append, fills_sole, fills_as, fills_values, types_of, repeated_once, repeated_apart, fills_repeated, fills_none}
 use Rattle.mdr_sound_files.proofs.SingleValues.{IsSingle}
 use Rattle.mdr_sound_files.proofs.Sorts.{integer_is}
@@ -91,12 +93,11 @@ sole_initialises program vs own o x scalar count s = record {
 
 pub single_initialises : (program : Program) (vs : List Variable) (own : ℕ) (p : Place) (o : Object) (c : Checked First) (xs : List First) → IsSingular o → ((x : First) → c ≡ Right x → IsSingle program vs own o.ty x) → single p o c ≡ Right xs → IsInitialised program vs own o xs
 single_initialises program vs own p o c xs singular known e =
-    let test = chosen_right (is_scalar o.ty && not o.array) (sole c) p Mismatch xs e in
-    let scalar : is_scalar o.ty ≡ true = left_holds (is_scalar o.ty) (not o.array) test.holds in
-    let no_array : not o.array ≡ true = right_holds (is_scalar o.ty) (not o.array) test.holds in
-    let flat : o.array ≡ false = grind arith in
-    let one = after_right c (λ x. Right (x ∷ [])) xs test.right in
-    subst (IsInitialised program vs own o) (same_right (one.value ∷ []) xs one.made) (sole_initialises program vs own o one.value scalar (singular.count flat) (known one.value one.right))
+    let part = refused_right (is_aggregate o) (after c (sole p o.ty)) p Mismatch xs e in
+    let flat : o.array ≡ false = or_left o.array (is_struct o.ty) part.fails in
+    let one = after_right c (sole p o.ty) xs part.right in
+    let test = chosen_right (is_scalar o.ty) (Right (one.value ∷ [])) p Mismatch xs one.made in
+    subst (IsInitialised program vs own o) (same_right (one.value ∷ []) xs test.right) (sole_initialises program vs own o one.value test.holds (singular.count flat) (known one.value one.right))
 
 -- ---- elements of arrays
 

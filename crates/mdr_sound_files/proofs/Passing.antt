@@ -132,6 +132,10 @@ unfolding behind_enumerators
 enumerators_structs scope before [] = refl
 enumerators_structs scope before (e ∷ es) = enumerators_structs (behind_enumerator scope before e) (told (value_behind scope before e)) es
 
+pub function_tags : (t : Bool) (scope : Scope) (n : ℕ) (d : Bool) (h : Head) → scope.tags ≡ (with_function_unless t scope n d h).tags
+function_tags true scope n d h = refl
+function_tags false scope n d h = refl
+
 pub function_structs : (t : Bool) (scope : Scope) (n : ℕ) (d : Bool) (h : Head) → (with_function_unless t scope n d h).structs ≡ scope.structs
 function_structs true scope n d h = refl
 function_structs false scope n d h = refl

@@ -33,7 +33,8 @@ use Rattle.mdr_faults.specs.Declarations.{number_constant}
 use Rattle.mdr_faults.specs.Faults.{Right, told}
 use Rattle.mdr_faults.specs.Scopes.{or_else, entity_among}
 use Rattle.mdr_headings.specs.declared.head.Heading.{Heading}
-use Rattle.mdr_headings.specs.Functions.{is_taken, is_defined, with_function_unless, behind_function, declared_unless, function_heading, function_declared, function_means, functions_behind}
+use Rattle.mdr_headings.specs.Heads.{heading as heading_in}
+use Rattle.mdr_headings.specs.Functions.{is_taken, is_defined, with_function_unless, behind_function, declared_unless, function_declared, function_means, functions_behind}
 use Rattle.mdr_headings.specs.Source.{defines_from, defines_behind, defined_constant, with_struct_if, before_first, signature}
 use Rattle.mdr_headings.specs.Structs.{struct_entry, member, name_or_none}
 use Rattle.mdr_check.specs.declared.file.Known.{Known}
@@ -233,8 +234,8 @@ module _ (program : Program) (body : BodyRule) (items : List Item) (xs : List Pi
   -- the heading of a declaration, in its place
   pub record IsHeaded (known : Known) (h : Head) : Type 0 where
     pub heading : Heading
-    pub listed : function_heading known.scope known.functions items h ≡ Right heading
-    pub begins : Begins (functions_behind known.scope known.functions items h) Last.functions
+    pub listed : heading_in known.scope h ≡ Right heading
+    pub begins : Begins (functions_behind known.scope known.functions h) Last.functions
 
   known_function : (known : Known) (h : Head) → IsHeaded known h → is_taken known.scope h.name ≡ false → Stands program known.scope → AreNumbered known.scope (length program.structs) → (e : Entity) → function_means (told (signature known.scope (length known.functions) (is_defined items h.name) h)) ≡ Ok e → IsKnownEntity program e
   unfolding functions_behind behind_function
@@ -243,13 +244,12 @@ module _ (program : Program) (body : BodyRule) (items : List Item) (xs : List Pi
       let f = means_function (told (signature known.scope n (is_defined items h.name) h)) e m in
       let s = f.signature in
       let right = told_right (signature known.scope n (is_defined items h.name) h) s f.told in
-      let new = new_declared known.scope known.functions items h in
-      let begins : Begins (known.functions ++ new ∷ []) Last.functions = subst (λ t. Begins (declared_unless t known.functions h (told (function_heading known.scope known.functions items h))) Last.functions) free headed.begins in
+      let new = new_declared known.scope h in
+      let begins : Begins (known.functions ++ new ∷ []) Last.functions = subst (λ t. Begins (declared_unless t known.functions h (told (heading_in known.scope h))) Last.functions) free headed.begins in
       let there = declared_at Last.functions Whole.funcs n new all_declared (begins_last known.functions Last.functions new begins) in
       let d = there.2 in
-      let listed : function_heading known.scope known.functions items h ≡ Right d.heading = told_right (function_heading known.scope known.functions items h) d.heading d.told in
-      let tags : known.scope.tags ≡ (with_function_unless (is_taken known.scope h.name) known.scope n (is_defined items h.name) h).tags = ap (λ t. (with_function_unless t known.scope n (is_defined items h.name) h).tags) (sym free) in
-      let same = signature_of_heading known.scope (behind_function known.scope n (is_defined items h.name) h) n (is_defined items h.name) h s d.heading tags right listed in
+      let listed : heading_in known.scope h ≡ Right d.heading = told_right (heading_in known.scope h) d.heading d.told in
+      let same = signature_of_heading known.scope known.scope n (is_defined items h.name) h s d.heading refl right listed in
       let types : function_type there.0 ≡ type.Fun (s.result ∷ s.params) = d.types ∙ (λ i. type.Fun (sym same.result_is i ∷ sym same.params_are i)) in
       let kept : IsKnownFunction program s = record {
         func = there.0;
@@ -272,14 +272,14 @@ module _ (program : Program) (body : BodyRule) (items : List Item) (xs : List Pi
 
   pub prototype_headed : (before : List Item) (known : Known) (i : Item) (x : Piece) (ps : Parts) (h : Head) (is_remote : Bool) → i.what ≡ item.Proto h is_remote → Turn before known i x ps → IsHeaded known h
   prototype_headed before known i x ps h is_remote is place =
-      let a = after_right (function_declared known.scope known.functions items before h false) (prototype_of h.name) x (subst (λ w. item_piece body items before known i.place w ≡ Right x) is place.one) in
-      let r = ruled known.scope known.functions items before h false a.value a.right in
+      let a = after_right (function_declared known.scope known.functions before h false) (prototype_of h.name) x (subst (λ w. item_piece body items before known i.place w ≡ Right x) is place.one) in
+      let r = ruled known.scope known.functions before h false a.value a.right in
       record { heading = a.value; listed = r.right; begins = subst (λ w. Begins (behind_item items known w).functions Last.functions) is place.declared }
 
   pub body_headed : (before : List Item) (known : Known) (i : Item) (x : Piece) (ps : Parts) (h : Head) (is_critical : Bool) (nodes : _) → i.what ≡ item.Func h is_critical nodes → Turn before known i x ps → IsHeaded known h
   body_headed before known i x ps h is_critical nodes is place =
-      let b = both_right (function_declared known.scope known.functions items before h true) (body (body_scope items known h) h nodes) (function_of h.name is_critical) x (subst (λ w. item_piece body items before known i.place w ≡ Right x) is place.one) in
-      let r = ruled known.scope known.functions items before h true b.left b.first in
+      let b = both_right (function_declared known.scope known.functions before h true) (body (body_scope items known h) h nodes) (function_of h.name is_critical) x (subst (λ w. item_piece body items before known i.place w ≡ Right x) is place.one) in
+      let r = ruled known.scope known.functions before h true b.left b.first in
       record { heading = b.left; listed = r.right; begins = subst (λ w. Begins (behind_item items known w).functions Last.functions) is place.declared }
 
   stands_behind : (before : List Item) (known : Known) (i : Item) (x : Piece) (ps : Parts) (what : ItemWhat) → i.what ≡ what → Turn before known i x ps → Stands program known.scope → AreNumbered known.scope (length program.structs) → Stands program (behind_item items known what).scope

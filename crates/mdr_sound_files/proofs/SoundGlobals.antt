@@ -11,6 +11,8 @@ use Rattle.mdr_syntax.specs.declared.tree.Decl.{Decl, out-Decl}
 use Rattle.mdr_syntax.specs.declared.tree.Init.{Init}
 use Rattle.mdr_check.specs.declared.initialiser.First.{First}
 use Rattle.mdr_check.specs.declared.variable.Variable.{Variable}
+use Rattle.mdr_headings.specs.Within.{beside, within}
+use Rattle.mdr_sound_bodies.proofs.Scoping.{beside_right}
 use Rattle.mdr_check.specs.Globals.{behind_global, first_value, global, global_means, global_object, variable, variable_of}
 use Rattle.mdr_faults.specs.declared.fault.FaultKind.TheVariants.{Limit, Redefined}
 use Rattle.mdr_faults.specs.declared.scope.Entity.{Entity}
@@ -61,9 +63,10 @@ declared scope own d init v e =
     let p = (out-Decl d).place in
     let inner = behind_global scope own d in
     let rule = after (global_object scope d) (variable inner own d init) in
-    let new = demand_right p Redefined (not (is_some (entity_among scope.names (name_or_none (out-Decl d).name)))) (demand p Limit (not (own == 1024)) rule) v e in
-    let few = demand_right p Limit (not (own == 1024)) rule v new.right in
-    let whole = after_right (global_object scope d) (variable inner own d init) v few.right in
+    let judged = beside (within scope [] d) rule in
+    let new = demand_right p Redefined (not (is_some (entity_among scope.names (name_or_none (out-Decl d).name)))) (demand p Limit (not (own == 1024)) judged) v e in
+    let few = demand_right p Limit (not (own == 1024)) judged v new.right in
+    let whole = after_right (global_object scope d) (variable inner own d init) v (beside_right (within scope [] d) rule v few.right) in
     let parts = both_right (annotated inner [] p whole.value.ty (out-Decl d).ann) (first_value inner own p init whole.value) (variable_of (name_or_none (out-Decl d).name) whole.value) v whole.made in
     made_of scope own d init whole.value parts.left parts.right v whole.right parts.first parts.second parts.made
 

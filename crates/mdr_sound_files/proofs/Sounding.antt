@@ -16,14 +16,12 @@ use Rattle.mdr_core.specs.Layout.{AreSmall, AreFew, fields_or, fields_of, field_
 use Rattle.mdr_core.specs.Sound.{IsCount, IsSoundStruct, IsSoundGlobal, IsSoundFunc, IsSound, IsTable}
 use Rattle.mdr_core.specs.Typing.{Slot}
 use Rattle.mdr_core.specs.Types.{HasNumber}
-use Rattle.mdr_core.specs.TypeText.{Occurs}
 use Rattle.mdr_core.specs.TypeText as occurs
 use Rattle.mdr_syntax.specs.declared.tree.Decl.{Decl}
 use Rattle.mdr_syntax.specs.declared.tree.Head.{Head}
 use Rattle.mdr_syntax.specs.declared.tree.Init.{Init}
 use Rattle.mdr_syntax.specs.declared.tree.Item.{Item}
 use Rattle.mdr_syntax.specs.declared.tree.ItemWhat.{ItemWhat}
-use Rattle.mdr_syntax.specs.declared.tree.ItemWhat.TheVariants as item
 use Rattle.mdr_syntax.specs.declared.tree.Node.{Node}
 use Rattle.mdr_faults.specs.declared.scope.Scope.{Scope}
 use Rattle.mdr_faults.specs.Faults.{Right}
@@ -62,7 +60,7 @@ use Rattle.mdr_sound_files.proofs.Headings.{heading_sound, head_result_is}
 use Rattle.mdr_sound_files.proofs.NamedTypes.{AreNumbered, declarator_good}
 use Rattle.mdr_sound_files.proofs.Objects.{object_sound, tags_numbered}
 use Rattle.mdr_sound_files.proofs.Outlines.{names_structs}
-use Rattle.mdr_sound_files.proofs.Passing.{function_structs}
+use Rattle.mdr_sound_files.proofs.Passing.{function_structs, function_tags}
 use Rattle.mdr_sound_files.proofs.Reading.{get_map, get_mapped}
 use Rattle.mdr_sound_files.proofs.Scopes.{IsStanding, standing_goes_on, first_standing, standing_all, function_stands, IsHeaded, global_there, global_from}
 use Rattle.mdr_sound_files.proofs.Tagged.{Last as IsLast, last_place}
@@ -196,6 +194,10 @@ module _ (program : Program) (rules : Rules) (items : List Item) (xs : List Piec
   unfolding behind_function
   body_scope_structs known h = function_structs (is_taken known.scope h.name) known.scope (length known.functions) (is_defined items h.name) h
 
+  body_scope_tags : (known : Known) (h : Head) → known.scope.tags ≡ (body_scope items known h).tags
+  unfolding behind_function
+  body_scope_tags known h = function_tags (is_taken known.scope h.name) known.scope (length known.functions) (is_defined items h.name) h
+
   -- ---- globals and functions, behind each item
 
   record IsSoundFile (known : Known) (ps : Parts) : Type 0 where
@@ -205,24 +207,22 @@ module _ (program : Program) (rules : Rules) (items : List Item) (xs : List Piec
 
   -- a head in its place
   head_sound : (known : Known) (ps : Parts) (h : Head) (headed : IsHeaded program (body_rule rules) items xs right made ranges known h) → AtRest known ps → AreNumbered known.scope (length program.structs) → ((i : ℕ) (p : Param) → slice_get (headed.heading).params i ≡ Some p → HasNumber program p.ty) → IsSoundHeading program headed.heading
-  head_sound known ps h headed q low numbered =
-      let st = function_stands program (body_rule rules) items xs right made ranges known h headed q.stands low in
-      heading_sound program (body_scope items known h) h headed.heading st numbered headed.listed
+  head_sound known ps h headed q low numbered = heading_sound program known.scope h headed.heading q.stands numbered headed.listed
 
   -- a heading that stands among the functions of the file
-  abbrev headed_by : (before : List Item) (known : Known) (h : Head) (is_body : Bool) (g : Heading) → function_declared known.scope known.functions items before h is_body ≡ Right g → Begins (functions_behind known.scope known.functions items h) Last.functions → IsHeaded program (body_rule rules) items xs right made ranges known h
-  headed_by before known h is_body g e b = record { heading = g; listed = (ruled known.scope known.functions items before h is_body g e).right; begins = b }
+  abbrev headed_by : (before : List Item) (known : Known) (h : Head) (is_body : Bool) (g : Heading) → function_declared known.scope known.functions before h is_body ≡ Right g → Begins (functions_behind known.scope known.functions h) Last.functions → IsHeaded program (body_rule rules) items xs right made ranges known h
+  headed_by before known h is_body g e b = record { heading = g; listed = (ruled known.scope known.functions before h is_body g e).right; begins = b }
 
-  prototype_sound : (before : List Item) (known : Known) (ps : Parts) (h : Head) (g : Heading) → function_declared known.scope known.functions items before h false ≡ Right g → Begins (functions_behind known.scope known.functions items h) Last.functions → AtRest known ps → AreNumbered known.scope (length program.structs) → IsPlaced program (remote h.name g) → IsSoundFunc program (remote h.name g)
+  prototype_sound : (before : List Item) (known : Known) (ps : Parts) (h : Head) (g : Heading) → function_declared known.scope known.functions before h false ≡ Right g → Begins (functions_behind known.scope known.functions h) Last.functions → AtRest known ps → AreNumbered known.scope (length program.structs) → IsPlaced program (remote h.name g) → IsSoundFunc program (remote h.name g)
   prototype_sound before known ps h g e b q low placed = remote_sound program h.name g (head_sound known ps h (headed_by before known h false g e b) q low placed.params)
 
-  function_sound : (before : List Item) (known : Known) (ps : Parts) (h : Head) (is_critical : Bool) (nodes : List Node) (g : Heading) (b : Body) → function_declared known.scope known.functions items before h true ≡ Right g → body_rule rules (body_scope items known h) h nodes ≡ Right b → AreNamed h.params × AreProper (lines_of nodes) → Begins (functions_behind known.scope known.functions items h) Last.functions → AtRest known ps → AreNumbered known.scope (length program.structs) → IsPlaced program (whole h.name is_critical g b) → IsSoundFunc program (whole h.name is_critical g b)
+  function_sound : (before : List Item) (known : Known) (ps : Parts) (h : Head) (is_critical : Bool) (nodes : List Node) (g : Heading) (b : Body) → function_declared known.scope known.functions before h true ≡ Right g → body_rule rules (body_scope items known h) h nodes ≡ Right b → AreNamed h.params × AreProper (lines_of nodes) → Begins (functions_behind known.scope known.functions h) Last.functions → AtRest known ps → AreNumbered known.scope (length program.structs) → IsPlaced program (whole h.name is_critical g b) → IsSoundFunc program (whole h.name is_critical g b)
   function_sound before known ps h is_critical nodes g b e f written begins q low placed =
       let headed = headed_by before known h true g e begins in
       let scope = body_scope items known h in
       let st = function_stands program (body_rule rules) items xs right made ranges known h headed q.stands low in
       let declarations = knows_declarations known ps scope q st (body_scope_structs known h) in
-      let is_made : IsMade program rules scope h nodes g b = record { heading_is = headed.listed; body_is = f; named = written.0; proper = written.1; in_table = placed.locals; grounded = placed.body } in
+      let is_made : IsMade program rules scope h nodes g b = record { front = known.scope; tags = body_scope_tags known h; heading_is = headed.listed; body_is = f; named = written.0; proper = written.1; in_table = placed.locals; grounded = placed.body } in
       let sound = made_sound program rules scope h nodes g b h.name is_critical declarations (sound_rules scope st.knows) is_made in
       whole_sound program h.name is_critical g b (head_sound known ps h headed q low (head_params program b.objects g.params placed.params)) sound.locals sound.body
 

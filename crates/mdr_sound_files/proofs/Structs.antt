@@ -17,6 +17,8 @@ use Rattle.mdr_faults.specs.declared.scope.Scope.{Scope}
 use Rattle.mdr_faults.specs.Declarations.{declarator, is_same_name, object_declared}
 use Rattle.mdr_faults.specs.Faults.{Right, after}
 use Rattle.mdr_headings.specs.Annotations.{annotated, candidate, is_integer}
+use Rattle.mdr_headings.specs.Within.{beside, within}
+use Rattle.mdr_sound_bodies.proofs.Scoping.{beside_right}
 use Rattle.mdr_headings.specs.Structs.{field_of, annotated_field, field_among, fields_behind, cells_of_fields, struct_size, struct_rule, struct_fields}
 use Rattle.mdr_sound_code.proofs.Rights.{after_right, both_right, same_right, demand_right, refused_right, not_right}
 use Rattle.mdr_sound_code.proofs.Alike.{left_of, right_of}
@@ -42,8 +44,10 @@ unfolding field_among annotated_field
 among_is scope limit siblings before d x e =
     let p = (out-Decl d).place in
     let a = demand_right p Redefined (not (list_any (λ b. is_same_name (out-Decl b).name (out-Decl d).name) before)) _ x e in
-    let b = demand_right p Limit (not (length before == 64)) (after (object_declared scope limit d) (annotated_field scope siblings d)) x a.right in
-    let c = after_right (object_declared scope limit d) (annotated_field scope siblings d) x b.right in
+    let rule = after (object_declared scope limit d) (annotated_field scope siblings d) in
+    let b = demand_right p Limit (not (length before == 64)) (beside (within scope [] d) rule) x a.right in
+    let w = beside_right (within scope [] d) rule x b.right in
+    let c = after_right (object_declared scope limit d) (annotated_field scope siblings d) x w in
     let n = after_right (annotated scope siblings p c.value.ty (out-Decl d).ann) (λ a. Right (field_of (out-Decl d).name c.value a)) x c.made in
     (b.holds, record { object = c.value; note = n.value; declared = c.right; noted = n.right; made = same_right (field_of (out-Decl d).name c.value n.value) x n.made })
 
