@@ -2,6 +2,8 @@
 use Rattle.std.proofs.Common.{◌≡◌, ℕ, zero, suc, ◌+◌, ◌<◌, ◌≤◌, ◌⊎◌, inl, inr, ◌==◌, ◌||◌, Bool, true, false, List, [], ◌∷◌, ◌++◌, length, map, Some, slice_get, IsTrue, refl, sym, ap, ◌∙◌, subst, arith, eqb-true, append_assoc}
 use Rattle.std.specs.List.{list_all, list_any}
 use Rattle.std.proofs.lemmas.Option.{slice_get_within}
+use Rattle.mdr_core.specs.declared.kind.Kind.{Kind}
+use Rattle.mdr_core.specs.declared.kind.Kind.TheVariants.{U8, U16, U32, U64, S8, S16, S32, S64}
 use Rattle.mdr_core.specs.declared.plan.Plan.{Plan}
 use Rattle.mdr_core.specs.declared.program.GlobalDef.{GlobalDef}
 use Rattle.mdr_core.specs.declared.program.Program.{Program}
@@ -86,8 +88,11 @@ has_number types ps few all t h =
 
 joined_structs : (xs ys : List Ty) → structs_in (xs ++ ys) ≡ structs_in xs + structs_in ys
 unfolding structs_in
-joined_structs [] ys = refl
-joined_structs (x ∷ xs) ys = let rest = joined_structs xs ys in omega (arith, rest)
+joined_structs [] ys = let e : structs_in ys ≡ 0 + structs_in ys = omega arith in e
+joined_structs (x ∷ xs) ys =
+    let rest : structs_in (xs ++ ys) ≡ structs_in xs + structs_in ys = joined_structs xs ys in
+    let e : one_by (out-Ty x) + structs_in (xs ++ ys) ≡ one_by (out-Ty x) + structs_in xs + structs_in ys = omega (arith, rest) in
+    e
 
 no_struct_by : (t : Ty) (l : Ty-F Ty) → out-Ty t ≡ l → is_pointer_by l ≡ true → one_by (out-Ty t) ≡ 0
 no_struct_by t (Ty-F.Int k) e p = ap one_by e
@@ -98,17 +103,29 @@ no_struct_by t Ty-F.VoidPtr e p = ap one_by e
 no_struct_by t (Ty-F.Fun ts) e p = ap one_by e
 no_struct_by t Ty-F.Void e p = ap one_by e
 
-pointers_no_structs : (n : ℕ) (ts : List Ty) → ArePointers n ts → structs_in ts ≡ 0
-unfolding structs_in
-pointers_no_structs n [] h = refl
-pointers_no_structs n (t ∷ ts) h =
-    let one = no_struct_by t (out-Ty t) refl h.0.points in
-    let rest = pointers_no_structs n ts h.1 in
-    omega (arith, one, rest)
+-- none of the types is a struct
+abbrev AreNone : List Ty → Type 0
+AreNone [] = Unit {0}
+AreNone (t ∷ ts) = (one_by (out-Ty t) ≡ 0) × AreNone ts
 
-first_no_structs : structs_in first_types ≡ 0
+no_structs : (ts : List Ty) → AreNone ts → structs_in ts ≡ 0
 unfolding structs_in
-first_no_structs = rw (type.outs-Int _, type.outs-Lock) refl
+no_structs [] h = refl
+no_structs (t ∷ ts) h =
+    let one : one_by (out-Ty t) ≡ 0 = h.0 in
+    let rest : structs_in ts ≡ 0 = no_structs ts h.1 in
+    let e : one_by (out-Ty t) + structs_in ts ≡ 0 = omega (arith, one, rest) in
+    e
+
+pointers_none : (n : ℕ) (ts : List Ty) → ArePointers n ts → AreNone ts
+pointers_none n [] h = tt
+pointers_none n (t ∷ ts) h = (no_struct_by t (out-Ty t) refl h.0.points, pointers_none n ts h.1)
+
+int_none : (k : Kind) → one_by (out-Ty (type.Int k)) ≡ 0
+int_none k = ap one_by (type.outs-Int k)
+
+first_none : AreNone first_types
+first_none = (int_none U8, (int_none U16, (int_none U32, (int_none U64, (int_none S8, (int_none S16, (int_none S32, (int_none S64, (ap one_by type.outs-Lock, tt)))))))))
 
 struct_one : (n : ℕ) → one_by (out-Ty (type.Struct n)) ≡ 1
 struct_one n = ap one_by (type.outs-Struct n)
@@ -127,9 +144,9 @@ table_structs types table =
     let all : structs_in types ≡ structs_in ((first_types ++ struct_types table.structs) ++ table.pointers) = ap structs_in table.parts in
     let a = joined_structs (first_types ++ struct_types table.structs) table.pointers in
     let b = joined_structs first_types (struct_types table.structs) in
-    let c = first_no_structs in
+    let c = no_structs first_types first_none in
     let d = counted_structs table.structs in
-    let e = pointers_no_structs table.structs table.pointers table.are in
+    let e = no_structs table.pointers (pointers_none table.structs table.pointers table.are) in
     omega (arith, all, a, b, c, d, e)
 
 -- ---- the type table

@@ -8,6 +8,7 @@ use Rattle.mdr_core.specs.declared.plan.Half.TheVariants.{Kernel, User}
 use Rattle.mdr_core.specs.declared.plan.Key.{Key}
 use Rattle.mdr_core.specs.declared.plan.Plan.{Plan}
 use Rattle.mdr_core.specs.declared.types.Ty.{Ty}
+use Rattle.mdr_core.specs.declared.types.Ty.TheVariants as type
 use Rattle.mdr_plan.specs.declared.line.Line.{Line}
 use Rattle.mdr_plan.specs.declared.line.Line.TheVariants as line
 use Rattle.mdr_plan.specs.declared.line.Stage.{Stage}
@@ -15,12 +16,12 @@ use Rattle.mdr_plan.specs.declared.line.Stage.TheVariants as stage
 use Rattle.mdr_plan.specs.declared.reader.Reader.{Reader}
 use Rattle.mdr_plan.specs.Lines.{takes_types, takes_functions, takes_downs, takes_ups, takes_keys, ends, is_kernel, is_user_half, is_next_user, is_there, is_after, IsNext, Reads}
 use Rattle.mdr_plan.specs.Naming.{is_new}
-use Rattle.mdr_plan.specs.Steps.{Reached, after, start, key_added, with_key}
+use Rattle.mdr_plan.specs.Steps.{Reached, after, start, first_type, key_added, with_key}
 use Rattle.mdr_plan.specs.Steps.Reached.{Begun, Then}
 use Rattle.mdr_plan.specs.Texts.{IsPlanText, is_done}
 use Rattle.mdr_plan.proofs.TypesRead.{both}
 use Rattle.mdr_check_half.specs.Planned.{IsPlanned}
-use Rattle.mdr_sound_half.specs.PlanTexts.{PlansThatAreReadArePlanned}
+use Rattle.mdr_sound_half.specs.PlanTexts.{PlansThatAreReadArePlanned, PlansHaveFewTypes}
 use Rattle.mdr_sound_half.proofs.PlanTables.{IsRead, Few, first_read, struct_read, pointer_read, table_read}
 
 no : {A : Type 0} → IsTrue false → A
@@ -224,3 +225,28 @@ done_planned r h d = record {
 
 pub plans_planned : PlansThatAreReadArePlanned
 plans_planned bytes plan is = subst IsPlanned is.same (done_planned is.reader (kept bytes is.lines is.reader is.reached) is.done)
+
+-- ---- how many types there are
+
+types_step : (r : Reader) (l : Line) → length (after r l).plan.types ≤ length r.plan.types + 1
+types_step r line.Heading = omega arith
+types_step r line.First = let e = length-append r.plan.types (first_type (length r.plan.types) ∷ []) in omega (arith, e)
+types_step r (line.Struct name) = let e = length-append r.plan.types (type.Struct (length r.structs) ∷ []) in omega (arith, e)
+types_step r (line.Type ty text) = let e = length-append r.plan.types (ty ∷ []) in omega (arith, e)
+types_step r (line.Function name half is_root) = omega arith
+types_step r (line.Down k) = omega arith
+types_step r (line.Up k) = omega arith
+types_step r (line.Key key) = omega arith
+types_step r line.End = omega arith
+
+types_so_far : (bytes : List ℕ) (n : ℕ) (r : Reader) → Reached bytes n r → length r.plan.types ≤ length bytes
+types_so_far _ _ _ Begun = omega arith
+types_so_far _ _ _ (Then text bytes n r l before reads) =
+    let few = types_so_far text n r before in
+    let step = types_step r l in
+    let a = length-append text (bytes ++ 10 ∷ []) in
+    let b = length-append bytes (10 ∷ []) in
+    omega (arith, few, step, a, b)
+
+pub few_types : PlansHaveFewTypes
+few_types bytes plan is = subst (λ (p : Plan). length p.types ≤ length bytes) is.same (types_so_far bytes is.lines is.reader is.reached)

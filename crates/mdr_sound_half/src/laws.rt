@@ -1,7 +1,7 @@
 // What holds of the programs of user halves, and of the plans that are read.
 
 ghost use Rattle.mdr_sound_half.specs.HalfSources.{HalvesAreSound};
-ghost use Rattle.mdr_sound_half.specs.PlanTexts.{PlansThatAreReadArePlanned};
+ghost use Rattle.mdr_sound_half.specs.PlanTexts.{PlansThatAreReadArePlanned, PlansHaveFewTypes};
 
 /// Where no fault is found in the text of a user half, its program is sound, if it calls nothing back and its types have
 /// numbers of 32 bits.
@@ -13,4 +13,9 @@ pub fn halves_are_sound()
 /// functions of the kernel half.
 pub fn plans_that_are_read_are_planned()
     ensures { PlansThatAreReadArePlanned }
+{}
+
+/// And it has no more types than its text has bytes.
+pub fn plans_have_few_types()
+    ensures { PlansHaveFewTypes }
 {}

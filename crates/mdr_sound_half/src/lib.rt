@@ -3,4 +3,4 @@
 
 mod laws;
 
-pub use laws::{halves_are_sound, plans_that_are_read_are_planned};
+pub use laws::{halves_are_sound, plans_have_few_types, plans_that_are_read_are_planned};
