@@ -29,9 +29,7 @@ fn suits_keys(plan: &Plan, parts: &Parts) -> bool
 fn suits_types(plan: &Plan, parts: &Parts, all: &[Ty]) -> bool
     ensures { result ≡ ((structs_in plan.now.types == length parts.now.structs) && (list_all (λ t. has_type plan.now.types t) all.now && (each_key (λ k. names_something plan.now.types parts.now k) plan.now.keys && each_key (λ k. names_no_lock plan.now.types parts.now k) plan.now.keys))) }
 {
-    has_structs(plan, parts)
-        && has_types(plan.types.as_slice(), all)
-        && suits_keys(plan, parts)
+    has_structs(plan, parts) && has_types(plan.types.as_slice(), all) && suits_keys(plan, parts)
 }
 
 /// Whether a plan suits a text in which these types occur.
@@ -47,11 +45,7 @@ fn suits(plan: &Plan, parts: &Parts, all: &[Ty]) -> bool
 }
 
 /// Whether a plan suits a text of these parts.
-pub fn suits_text(
-    alloc: Global,
-    plan: &Plan,
-    parts: &Parts,
-) -> Result<bool, OutOfMemory>
+pub fn suits_text(alloc: Global, plan: &Plan, parts: &Parts) -> Result<bool, OutOfMemory>
     ensures { IfOk result (λ b. b ≡ suits_text plan.now parts.now) }
 {
     let all = occurring_types(alloc, parts)?;

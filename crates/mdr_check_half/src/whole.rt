@@ -35,11 +35,7 @@ fn with_plan(alloc: Global, plan: &Plan, parts: Parts) -> Result<Program, OutOfM
 }
 
 /// The program of these parts, if the plan suits them.
-fn planned(
-    alloc: Global,
-    plan: &Plan,
-    parts: Parts,
-) -> Result<Result<Program, Fault>, OutOfMemory>
+fn planned(alloc: Global, plan: &Plan, parts: Parts) -> Result<Result<Program, Fault>, OutOfMemory>
     ensures { IfOk result (λ r. MatchResult r (λ p. planned plan.now parts ≡ Right p) (λ f. IsFirst f (planned plan.now parts))) }
 {
     if suits_text(alloc, plan, &parts)? {

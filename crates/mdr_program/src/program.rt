@@ -48,11 +48,7 @@ fn global_defs(
 }
 
 /// The program of these structs, globals and functions, with this type table.
-pub fn with_types(
-    alloc: Global,
-    types: Items<Ty>,
-    parts: Parts,
-) -> Result<Program, OutOfMemory>
+pub fn with_types(alloc: Global, types: Items<Ty>, parts: Parts) -> Result<Program, OutOfMemory>
     ensures { IfOk result (λ p. p ≡ with_types types parts) }
 {
     let globals = global_defs(
