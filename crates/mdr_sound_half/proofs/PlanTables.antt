@@ -1,13 +1,13 @@
 -- The type table of a plan, as far as it was read.
-use Rattle.std.proofs.Common.{◌≡◌, ℕ, zero, suc, ◌+◌, ◌<◌, ◌≤◌, Bool, true, false, List, [], ◌∷◌, ◌++◌, length, map, take, nat_lt, Option, Some, None, slice_get, IsTrue, refl, sym, ap, ◌∙◌, subst, arith, append_assoc, length-append}
+use Rattle.std.proofs.Common.{◌≡◌, ℕ, zero, suc, ◌+◌, ◌<◌, ◌≤◌, Bool, true, false, List, [], ◌∷◌, ◌++◌, length, take, nat_lt, Some, None, slice_get, IsTrue, refl, sym, ap, ◌∙◌, subst, arith, append_assoc, length-append}
 use Rattle.std.proofs.lemmas.List.{append-nil}
 use Rattle.mdr_core.specs.declared.types.Ty.{Ty, out-Ty}
 use Rattle.mdr_core.specs.declared.types.Ty.TheVariants as type
 use Rattle.mdr_core.specs.TypeText.{Text, text_of, is_before}
-use Rattle.mdr_core.specs.Types.{first_types, is_pointer, sort_of}
+use Rattle.mdr_core.specs.Types.{first_types, is_pointer}
 use Rattle.mdr_check.specs.declared.table.TextedType.{TextedType}
 use Rattle.mdr_check.specs.Tables.{struct_types, types_alone}
-use Rattle.mdr_program.specs.Orders.{StandsAbove, Rise}
+use Rattle.mdr_program.specs.Orders.{Rise}
 use Rattle.mdr_plan.specs.Naming.{struct_number}
 use Rattle.mdr_plan.specs.Steps.{first_type}
 use Rattle.mdr_plan.specs.TypeTexts.{IsPointerText, structs_named}

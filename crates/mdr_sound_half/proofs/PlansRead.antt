@@ -4,7 +4,7 @@ use Rattle.std.specs.List.{list_all}
 use Rattle.std.proofs.lemmas.Bool.Decides.{Decides-ltb}
 use Rattle.std.proofs.lemmas.List.{length-set}
 use Rattle.mdr_core.specs.declared.plan.Half.{Half}
-use Rattle.mdr_core.specs.declared.plan.Half.TheVariants.{Kernel, User}
+use Rattle.mdr_core.specs.declared.plan.Half.TheVariants.{Kernel}
 use Rattle.mdr_core.specs.declared.plan.Key.{Key}
 use Rattle.mdr_core.specs.declared.plan.Plan.{Plan}
 use Rattle.mdr_core.specs.declared.types.Ty.{Ty}
@@ -14,9 +14,9 @@ use Rattle.mdr_plan.specs.declared.line.Line.TheVariants as line
 use Rattle.mdr_plan.specs.declared.line.Stage.{Stage}
 use Rattle.mdr_plan.specs.declared.line.Stage.TheVariants as stage
 use Rattle.mdr_plan.specs.declared.reader.Reader.{Reader}
-use Rattle.mdr_plan.specs.Lines.{takes_types, takes_functions, takes_downs, takes_ups, takes_keys, ends, is_kernel, is_user_half, is_next_user, is_there, is_after, IsNext, Reads}
+use Rattle.mdr_plan.specs.Lines.{takes_types, takes_ups, takes_keys, ends, is_kernel, is_user_half, is_next_user, is_there, IsNext, Reads}
 use Rattle.mdr_plan.specs.Naming.{is_new}
-use Rattle.mdr_plan.specs.Steps.{Reached, after, start, first_type, key_added, with_key}
+use Rattle.mdr_plan.specs.Steps.{Reached, after, first_type, key_added, with_key}
 use Rattle.mdr_plan.specs.Steps.Reached.{Begun, Then}
 use Rattle.mdr_plan.specs.Texts.{IsPlanText, is_done}
 use Rattle.mdr_plan.proofs.TypesRead.{both}
