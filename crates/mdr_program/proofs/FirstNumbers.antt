@@ -4,12 +4,13 @@ use Rattle.std.proofs.Math.Path.{sym, ◌∙◌}
 use Rattle.std.proofs.lemmas.List.{length-append}
 use Rattle.mdr_core.specs.declared.kind.Kind.{Kind}
 use Rattle.mdr_core.specs.declared.kind.Kind.TheVariants.{U8, U16, U32, U64, S8, S16, S32, S64}
+use Rattle.mdr_core.specs.declared.program.StructDef.{StructDef}
 use Rattle.mdr_core.specs.declared.types.Ty.{Ty}
 use Rattle.mdr_core.specs.declared.types.Ty.TheVariants as type
 use Rattle.mdr_core.specs.Kinds.{kind_number}
 use Rattle.mdr_core.specs.Types.{first_types}
 use Rattle.mdr_check.specs.Tables.{struct_types, types_alone, with_pointers, type_table}
-use Rattle.mdr_program.specs.Orders.{TablesHaveFirstNumbers}
+use Rattle.mdr_program.specs.Orders.{HasFirstNumbers, TablesHaveFirstNumbers}
 
 how_many : (n : ℕ) → length (struct_types n) ≡ n
 unfolding struct_types
@@ -55,12 +56,16 @@ kind_at S16 xs ys = refl
 kind_at S32 xs ys = refl
 kind_at S64 xs ys = refl
 
-pub tables_have_first_numbers : TablesHaveFirstNumbers
-unfolding type_table
-tables_have_first_numbers structs occurring = record {
-  kinds = λ k. kind_at k (struct_types (length structs)) (types_alone (with_pointers structs [] occurring));
+-- a table that begins so has these numbers, whatever pointers stand behind
+pub first_numbers : (structs : List StructDef) (pointers : List Ty) → HasFirstNumbers structs ((first_types ++ struct_types (length structs)) ++ pointers)
+first_numbers structs pointers = record {
+  kinds = λ k. kind_at k (struct_types (length structs)) pointers;
   lock = refl;
   numbers = λ s h.
-      ap (slice_get ((first_types ++ struct_types (length structs)) ++ types_alone (with_pointers structs [] occurring))) (nine_more s)
-      ∙ in_front (struct_types (length structs)) (types_alone (with_pointers structs [] occurring)) s (type.Struct s) (struct_at (length structs) s h);
+      ap (slice_get ((first_types ++ struct_types (length structs)) ++ pointers)) (nine_more s)
+      ∙ in_front (struct_types (length structs)) pointers s (type.Struct s) (struct_at (length structs) s h);
 }
+
+pub tables_have_first_numbers : TablesHaveFirstNumbers
+unfolding type_table
+tables_have_first_numbers structs occurring = first_numbers structs (types_alone (with_pointers structs [] occurring))

@@ -143,7 +143,7 @@ fn add_funcs_types(alloc: Global, all: &mut Items<Ty>, funcs: &[Func]) -> Result
 
 /// The types that occur in a file of these parts, some of them more than once.
 #[tactic(auto, unfolding(crate::specs::Occurring::occurring))]
-pub fn occurring(alloc: Global, parts: &Parts) -> Result<Items<Ty>, AllocError>
+pub fn occurring_types(alloc: Global, parts: &Parts) -> Result<Items<Ty>, AllocError>
     ensures { IfOk result (λ ts. ts ≡ occurring parts.now) }
 {
     let mut all = Items::new(alloc);

@@ -2,9 +2,9 @@
 
 ghost use Rattle.std.specs.Prelude.{◌≡◌, [], IfOk};
 ghost use Rattle.mdr_check.specs.Tables.{type_table};
-ghost use Rattle.mdr_program.specs.Programs.{global_def, global_defs, made};
+ghost use Rattle.mdr_program.specs.Programs.{global_def, global_defs, made, with_types};
 
-use crate::occurring::occurring;
+use crate::occurring::occurring_types;
 use crate::parts::Parts;
 use crate::values::first_values;
 use mdr_check::{Variable, type_table};
@@ -47,26 +47,21 @@ fn global_defs(
     Ok(all)
 }
 
-/// A program with its type table and its globals.
-fn with_types(
-    alloc: Global,
-    types: Items<Ty>,
-    bare: Program,
-    variables: Items<Variable>,
-) -> Result<Program, OutOfMemory>
-    ensures { IfOk result (λ p. p ≡ record { types = types; structs = bare.structs; globals = global_defs types bare.structs variables variables; funcs = bare.funcs }) }
+/// The program of these structs, globals and functions, with this type table.
+pub fn with_types(alloc: Global, types: Items<Ty>, parts: Parts) -> Result<Program, OutOfMemory>
+    ensures { IfOk result (λ p. p ≡ with_types types parts) }
 {
     let globals = global_defs(
         alloc,
         types.as_slice(),
-        bare.structs.as_slice(),
-        variables.as_slice(),
+        parts.structs.as_slice(),
+        parts.variables.as_slice(),
     )?;
     Ok(Program {
         types,
-        structs: bare.structs,
+        structs: parts.structs,
         globals,
-        funcs: bare.funcs,
+        funcs: parts.funcs,
     })
 }
 
@@ -75,7 +70,7 @@ fn with_types(
 pub fn made(alloc: Global, parts: Parts) -> Result<Program, OutOfMemory>
     ensures { IfOk result (λ p. p ≡ made parts) }
 {
-    let types = occurring(alloc, &parts)?;
+    let types = occurring_types(alloc, &parts)?;
     let bare = Program {
         types: Items::new(alloc),
         structs: parts.structs,
@@ -83,5 +78,10 @@ pub fn made(alloc: Global, parts: Parts) -> Result<Program, OutOfMemory>
         funcs: parts.funcs,
     };
     let table = type_table(alloc, &bare, types.as_slice())?;
-    with_types(alloc, table, bare, parts.variables)
+    let parts = Parts {
+        structs: bare.structs,
+        variables: parts.variables,
+        funcs: bare.funcs,
+    };
+    with_types(alloc, table, parts)
 }

@@ -41,7 +41,7 @@ range_of (item.Global d init) h = tt
 range_of (item.Proto f is_remote) h = tt
 range_of (item.Func f is_critical nodes) h = tt
 
-ranges_of : (items : List Item) → AreProperItems items → AreDefinesInRange items
+pub ranges_of : (items : List Item) → AreProperItems items → AreDefinesInRange items
 ranges_of [] h = tt
 ranges_of (i ∷ is) h = (range_of i.what h.0, ranges_of is h.1)
 
@@ -53,7 +53,7 @@ body_of (item.Global d init) h = tt
 body_of (item.Proto f is_remote) h = tt
 body_of (item.Func f is_critical nodes) h = h
 
-bodies_of : (items : List Item) → AreProperItems items → AreBodiesProper items
+pub bodies_of : (items : List Item) → AreProperItems items → AreBodiesProper items
 bodies_of [] h = tt
 bodies_of (i ∷ is) h = (body_of i.what h.0, bodies_of is h.1)
 

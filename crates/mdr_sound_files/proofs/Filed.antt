@@ -21,7 +21,7 @@ pub record IsFile (body : BodyRule) (items : List Item) (program : Program) : Ty
   pub right : pieces_behind body items (first_known items) [] items ≡ Right pieces
   pub is : program ≡ program_of pieces
 
-pieces_right : (body : BodyRule) (uses : UseRule) (items : List Item) (xs : List Piece) → file_pieces body uses items ≡ Right xs → pieces_behind body items (first_known items) [] items ≡ Right xs
+pub pieces_right : (body : BodyRule) (uses : UseRule) (items : List Item) (xs : List Piece) → file_pieces body uses items ≡ Right xs → pieces_behind body items (first_known items) [] items ≡ Right xs
 unfolding file_pieces
 pieces_right body uses items xs e =
     let used = defined_functions uses items (known_behind items (first_known items) items).functions in

@@ -1,0 +1,7 @@
+use Rattle.std.proofs.Common.{◌≤◌, subst}
+use Rattle.mdr_check_half.specs.Suiting.{is_bare}
+use Rattle.mdr_check_half.proofs.Endings.{walk_end}
+use Rattle.mdr_check_half.proofs.functions.are_bare.Goals as goal
+
+pub returns : goal.returns
+returns c = walk_end is_bare c.args.halves.now c.args.funcs.now c.loop-i.i _ (subst (λ n. n ≤ c.loop-i.i) c.min-i-end.ensures c.loop-i-test.false) c.loop-i.invariant

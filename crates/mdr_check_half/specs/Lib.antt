@@ -1,0 +1,4 @@
+pub mod Suiting
+pub mod HalfPrograms
+pub mod Planned
+pub mod HalfLaws

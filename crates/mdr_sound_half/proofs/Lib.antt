@@ -1,0 +1,4 @@
+pub mod WrittenSorts
+pub mod PlanTables
+pub mod PlansRead
+pub mod HalfSounding

@@ -1,0 +1,2 @@
+pub mod HalfSources
+pub mod PlanTexts
