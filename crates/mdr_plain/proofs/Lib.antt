@@ -1,0 +1,6 @@
+pub mod Computing
+mod RunProofs
+mod InterruptProofs
+mod ServiceProofs
+pub mod RunLaws
+pub mod AloneLaws

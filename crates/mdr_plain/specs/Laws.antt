@@ -1,0 +1,39 @@
+-- What holds of every run's parts.
+use Rattle.std.specs.Prelude.{◌≡◌, ◌↔◌, ℕ, [], Some}
+use Rattle.mdr_core.specs.declared.program.Program.{Program}
+use Rattle.mdr_meaning.specs.declared.wire.Wire.{Wire}
+use Rattle.mdr_meaning.specs.declared.wire.Wire.TheVariants as wire
+use Rattle.mdr_meaning.specs.Sides.{Side}
+use Rattle.mdr_meaning.specs.Tree.{Tree}
+use Rattle.mdr_meaning.specs.Walk.{Reached, Walked, walk}
+use Rattle.mdr_model.specs.Memory.{normal}
+use Rattle.mdr_script.specs.declared.bound.Bound.{Bound}
+use Rattle.mdr_plain.specs.Gate.{Gate, due}
+use Rattle.mdr_plain.specs.Plain.{plain_of}
+use Rattle.mdr_plain.specs.Running.{Before, Setting, run}
+use Rattle.mdr_plain.specs.World.{World, Ran, Ended, Stopped, after, then, ticked}
+
+-- an interrupt is due exactly where the gate is open
+abbrev pub InterruptsAreGated : Type 0
+InterruptsAreGated = (w : World) (handler : ℕ) → (due w ≡ Some handler) ↔ Gate w handler
+
+-- what follows an event that a walk without ticks reaches
+abbrev pub follows : Setting → Before → Reached → World → Ran Wire
+follows s before Reached.Idles w = Ended wire.NoValue w
+follows s before (Reached.Opens k) w = Ended wire.NoValue w
+follows s before (Reached.Ended v t) w = Ended (normal w.memory v) w
+follows s before (Reached.Stopped kind at) w = Stopped kind (Some at) w
+follows s before (Reached.Needs at d t) w = then (before d w) (λ w'. ticked (Some at) w' (λ w''. run s before t w''))
+follows s before (Reached.Asks a k) w = after (s.serves a w) (λ results w'. run s before (k results) w')
+follows s before (Reached.Crosses at f args d k) w = after (s.crosses at f args d w) (λ v w'. run s before (k v) w')
+
+abbrev pub follows_walk : Setting → Before → Walked World → Ran Wire
+follows_walk s before walked = follows s before walked.reached walked.memory
+
+-- what code does is its walk to the next event, and what follows that
+abbrev pub RunsAreWalks : Type 0
+RunsAreWalks = (s : Setting) (before : Before) (t : Tree) (w : World) → run s before t w ≡ follows_walk s before (walk s.accesses 0 t w)
+
+-- in a plain run there is no visible set at any end, so no interrupt ever waits for a function of the user half
+abbrev pub PlainRunsAreAlone : Type 0
+PlainRunsAreAlone = (program : Program) (side : Side) (script : Bound) (budget : ℕ) → (plain_of program side script budget).world.views ≡ []

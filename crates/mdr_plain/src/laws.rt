@@ -1,0 +1,20 @@
+// Laws, each as a function that does nothing.
+
+ghost use Rattle.mdr_plain.specs.Laws.{InterruptsAreGated, PlainRunsAreAlone, RunsAreWalks};
+
+/// An interrupt is taken exactly where the line is raised, a handler is registered and doesn't run, no lock is held and
+/// no function of the user half is active.
+pub fn interrupts_are_gated()
+    ensures { InterruptsAreGated }
+{}
+
+/// What code does in a world is its walk to the next event, and then what follows that event: a tick with all that
+/// stands before it, a service, or a call of the other half.
+pub fn runs_are_walks()
+    ensures { RunsAreWalks }
+{}
+
+/// A plain run has no visible sets, so that no interrupt in it waits for a function of the user half.
+pub fn plain_runs_are_alone()
+    ensures { PlainRunsAreAlone }
+{}
