@@ -14,7 +14,7 @@ use Rattle.mdr_plain.specs.declared.outcome.Happened.TheVariants as happened
 use Rattle.mdr_plain.specs.declared.outcome.Outcome.{Outcome}
 use Rattle.mdr_plain.specs.Report.{report}
 use Rattle.mdr_plain.specs.Worked.{program_of, shown}
-use Rattle.mdr_plain.specs.WorkedInterrupts.{TakesInterrupt, hitting, go_and_show, hitting_text, TakesOneAtATime, StarvesHandler, raised, at_once, raised_text, starved_text, WaitsForLock, locked, raise_and_lower, locked_text, KeepsRules, CutsIdle, ruled, go_and_idle, ruled_text, idle_cut_text, TellsTexts, talking, talk_and_show, talking_text}
+use Rattle.mdr_plain.specs.WorkedInterrupts.{TakesInterrupt, hitting, go_and_show, hitting_text, TakesOneAtATime, StarvesHandler, raised, at_once, raised_text, starved_text, starved_idle_text, WaitsForLock, locked, raise_and_lower, locked_text, KeepsRules, CutsIdle, ruled, go_and_idle, ruled_text, idle_cut_text, TellsTexts, talking, talk_and_show, talking_text}
 use Rattle.mdr_plain.proofs.Computing.{runs, reports, int_text, lock_text}
 
 abbrev number : ℕ → Object
@@ -53,11 +53,11 @@ takes_interrupt = ap (report (program_of hitting)) hitting_ends ∙ hitting_read
 
 abbrev one_at_a_time : Outcome
 one_at_a_time = record {
-  events = begins ∷ happened.Wrote 0 1 ∷ happened.Irq 0 ∷ returns ∷ happened.Irq 0 ∷ happened.Show (codes "hits") (value.Int U32 (pos 4) ∷ []) ∷ [];
+  events = begins ∷ happened.Wrote 0 1 ∷ happened.Irq 0 ∷ returns ∷ happened.Irq 0 ∷ happened.Show (codes "hits") (value.Int U32 (pos 4) ∷ []) ∷ happened.Idle 1 ∷ happened.Irq 0 ∷ happened.Irq 0 ∷ [];
   end = ends.Ok;
-  ticks = 7;
+  ticks = 12;
   live = 2;
-  objects = number 4 ∷ number 1 ∷ [];
+  objects = number 8 ∷ number 1 ∷ [];
 }
 
 raised_ends : shown raised at_once 100 ≡ one_at_a_time
@@ -88,9 +88,27 @@ starved_reads : report (program_of raised) starved ≡ starved_text
 unfolding reports
 starved_reads = rw (int_text (node ∷ []) U32) refl
 
+abbrev starved_idle : Outcome
+starved_idle = record {
+  events =
+      begins ∷ happened.Wrote 0 1 ∷ happened.Irq 0 ∷ returns ∷ happened.Irq 0 ∷ happened.Show (codes "hits") (value.Int U32 (pos 4) ∷ []) ∷ happened.Idle 1 ∷ happened.Irq 0 ∷ [];
+  end = ends.Stop stop.Ticks (Some (at_stmt 0 1));
+  ticks = 7;
+  live = 2;
+  objects = number 4 ∷ number 1 ∷ [];
+}
+
+starved_idle_ends : shown raised at_once 7 ≡ starved_idle
+unfolding runs
+starved_idle_ends = refl
+
+starved_idle_reads : report (program_of raised) starved_idle ≡ starved_idle_text
+unfolding reports
+starved_idle_reads = rw (int_text (node ∷ []) U32) refl
+
 pub starves_handler : StarvesHandler
 unfolding runs
-starves_handler = record { text = ap (report (program_of raised)) starved_ends ∙ starved_reads; device = refl }
+starves_handler = record { text = ap (report (program_of raised)) starved_ends ∙ starved_reads; idle = ap (report (program_of raised)) starved_idle_ends ∙ starved_idle_reads; device = refl }
 
 -- ---- a lock
 

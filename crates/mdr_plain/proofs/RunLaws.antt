@@ -38,7 +38,7 @@ opens line handles locked views h f p = rw (p.raised, p.idle, p.unlocked, p.alon
 pub interrupts_are_gated : InterruptsAreGated
 unfolding due
 interrupts_are_gated w f = (
-  λ e. let p : Parts w.clock.device.state.line w.kept.handles (is_any_held w.memory) w.views w.kept.handler f = parts _ _ _ _ _ f e in
+  λ e. let p : Parts w.clock.device.state.line w.kept.in_handler (is_any_held w.memory) w.views w.kept.handler f = parts _ _ _ _ _ f e in
       record { raised = p.raised; registered = p.registered; idle = p.idle; unlocked = p.unlocked; alone = p.alone },
   λ g. opens _ _ _ _ _ f (record { raised = g.raised; registered = g.registered; idle = g.idle; unlocked = g.unlocked; alone = g.alone }),
 )

@@ -12,7 +12,7 @@ are_none (view ∷ views) = false
 
 -- the device raises its line, no handler runs, no lock is held, and no function of the user half is active
 abbrev pub is_open : World → Bool
-is_open w = w.clock.device.state.line && (not w.kept.handles && (not (is_any_held w.memory) && are_none w.views))
+is_open w = w.clock.device.state.line && (not w.kept.in_handler && (not (is_any_held w.memory) && are_none w.views))
 
 -- the function that handles the interrupt that is taken now: where the gate is open, the one that is registered
 unfoldable pub due : World → Option ℕ
@@ -22,6 +22,6 @@ due w = chosen (is_open w) w.kept.handler None
 pub record Gate (w : World) (handler : ℕ) : Type 0 where
   pub raised : w.clock.device.state.line ≡ true
   pub registered : w.kept.handler ≡ Some handler
-  pub idle : w.kept.handles ≡ false
+  pub idle : w.kept.in_handler ≡ false
   pub unlocked : is_any_held w.memory ≡ false
   pub alone : w.views ≡ []

@@ -7,7 +7,7 @@ use Rattle.mdr_meaning.specs.Bodies.{whole_side}
 use Rattle.mdr_meaning.specs.Sides.{Side}
 use Rattle.mdr_model.specs.declared.command.Command.{Command}
 use Rattle.mdr_script.specs.declared.bound.Bound.{Bound}
-use Rattle.mdr_plain.specs.Running.{Crossing, Kernel, call, in_kernel, interrupts}
+use Rattle.mdr_plain.specs.Running.{Crossing, KernelCode, call, in_kernel, interrupts}
 use Rattle.mdr_plain.specs.Scripts.{Finish, begin, commands, first_world, in_place}
 use Rattle.mdr_plain.specs.World.{World, Ran, Ended, Work}
 
@@ -16,13 +16,13 @@ abbrev pub never : Crossing
 never at f args d w = Ended wire.NoValue w
 
 -- the whole driver is code that interrupts are taken in
-abbrev pub whole : Program → Side → Kernel
+abbrev pub whole : Program → Side → KernelCode
 whole program side = record { program = program; side = side; setting = in_kernel program never }
 
-abbrev pub entered : Kernel → (func : ℕ) (args : List Wire) → World → Ran Wire
+abbrev pub entered : KernelCode → (func : ℕ) (args : List Wire) → World → Ran Wire
 entered kernel f args w = call kernel (interrupts kernel) f args 0 w
 
-abbrev pub does : Kernel → Command → World → Work
+abbrev pub does : KernelCode → Command → World → Work
 does kernel c w = in_place kernel (entered kernel) (begin kernel (λ f. false) c w)
 
 -- the run of a script under a budget of ticks, where a side's bodies are all that there are

@@ -59,28 +59,28 @@ abbrev pub in_kernel : Program → Crossing → Setting
 in_kernel program crosses = record { accesses = accesses program all_cells; serves = served program; crosses = crosses }
 
 -- code that interrupts are taken in: the driver's program, the bodies that are entered, and what stands around them
-pub record Kernel : Type 0 where
+pub record KernelCode : Type 0 where
   pub program : Program
   pub side : Side
   pub setting : Setting
 
 -- a function is called, with so many active before it
-unfoldable pub call : Kernel → Before → (func : ℕ) (args : List Wire) (depth : ℕ) → World → Ran Wire
+unfoldable pub call : KernelCode → Before → (func : ℕ) (args : List Wire) (depth : ℕ) → World → Ran Wire
 call kernel before f args d w = run kernel.setting before (started kernel.side (suc w.clock.rest) f args d Tree.Idle) w
 
 -- ---- interrupts
 
 abbrev pub handling : Bool → World → World
-handling now w = record w { kept = record w.kept { handles = now } }
+handling now w = record w { kept = record w.kept { in_handler = now } }
 
 abbrev pub interrupted : (handler : ℕ) → World → World
 interrupted f w = handling true (noted (happened.Irq f) w)
 
 -- a handler runs to its end, with nothing tried before its ticks. It is one more active function, and no call
-abbrev pub handled : Kernel → (depth : ℕ) → Option ℕ → World → Work
+abbrev pub handled : KernelCode → (depth : ℕ) → Option ℕ → World → Work
 handled kernel d None w = done w
 handled kernel d (Some f) w = after (call kernel nothing f [] d (interrupted f w)) (λ v w'. done (handling false w'))
 
 -- the interrupt rule is tried: where an interrupt is due, its handler runs
-unfoldable pub interrupts : Kernel → Before
+unfoldable pub interrupts : KernelCode → Before
 interrupts kernel d w = handled kernel d (due w) w

@@ -16,7 +16,7 @@ use Rattle.mdr_model.specs.Report.{func_name, global_name}
 use Rattle.mdr_model.specs.Values.{value_of}
 use Rattle.mdr_script.specs.declared.bound.Bound.{Bound}
 use Rattle.mdr_plain.specs.declared.outcome.Happened.TheVariants as happened
-use Rattle.mdr_plain.specs.Running.{Before, Kernel, call, interrupts}
+use Rattle.mdr_plain.specs.Running.{Before, KernelCode, call, interrupts}
 use Rattle.mdr_plain.specs.Storage.{birth_of, first_memory}
 use Rattle.mdr_plain.specs.World.{World, Ran, Ended, Stopped, Work, after, done, then, noted, ticked}
 
@@ -57,18 +57,18 @@ pub data Beginning : Type 0 where
   Did : (work : Work) → Beginning
   Opens : (func : ℕ) (args : List Wire) (world : World) → Beginning
 
-abbrev pub called_by : (is_user : Bool) → Kernel → (func : ℕ) (args : List Wire) → World → Beginning
+abbrev pub called_by : (is_user : Bool) → KernelCode → (func : ℕ) (args : List Wire) → World → Beginning
 called_by true kernel f args w = Opens f args w
 called_by false kernel f args w = Did (returned (interrupts kernel) (call kernel (interrupts kernel) f args 0 w))
 
 -- the one driver of scripts, for every mode
-unfoldable pub begin : Kernel → (is_user : ℕ → Bool) → Command → World → Beginning
+unfoldable pub begin : KernelCode → (is_user : ℕ → Bool) → Command → World → Beginning
 begin kernel is_user (command.Call f args) w = called_by (is_user f) kernel f (map wire_of args) (begun kernel.program f args w)
 begin kernel is_user (command.Idle n) w = Did (idled (interrupts kernel) n w)
 begin kernel is_user (command.Show g) w = Did (done (showed kernel.program g w))
 
 -- on one memory a function of the user half runs in place
-abbrev pub in_place : Kernel → (upcall : (func : ℕ) (args : List Wire) → World → Ran Wire) → Beginning → Work
+abbrev pub in_place : KernelCode → (upcall : (func : ℕ) (args : List Wire) → World → Ran Wire) → Beginning → Work
 in_place kernel upcall (Did work) = work
 in_place kernel upcall (Opens f args w) = returned (interrupts kernel) (upcall f args w)
 
@@ -99,5 +99,5 @@ first_world known script budget = record {
   lives = map birth_of (first_memory known);
   views = [];
   clock = record { ticks = 0; rest = budget; device = made script.words script.rules };
-  kept = record { events = []; calls = 0; handler = None; handles = false; allocations = 0; fails = script.fails };
+  kept = record { events = []; calls = 0; handler = None; in_handler = false; allocations = 0; fails = script.fails };
 }

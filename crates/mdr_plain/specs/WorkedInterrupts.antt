@@ -79,21 +79,27 @@ abbrev pub raised : Driver
 raised = record hitting { bodies = keeps_line ∷ goes_once ∷ [] }
 
 abbrev pub at_once : Bound
-at_once = with_rules (rule (trigger.Write 0) None (effect.Raise ∷ []) ∷ []) (calls 1 ∷ command.Show 0 ∷ [])
+at_once = with_rules (rule (trigger.Write 0) None (effect.Raise ∷ []) ∷ []) (calls 1 ∷ command.Show 0 ∷ command.Idle 1 ∷ [])
 
 abbrev pub raised_text : List ℕ
-raised_text = codes "call go\nW 0 1\nirq h\nret none\nirq h\nshow hits: 4\nend ok\nticks 7\nlive 2\nobj 1 u32 x1: 4\nobj 2 u32 x1: 1\n"
+raised_text =
+    codes "call go\nW 0 1\nirq h\nret none\nirq h\nshow hits: 4\nidle 1\nirq h\nirq h\nend ok\nticks 12\nlive 2\nobj 1 u32 x1: 8\nobj 2 u32 x1: 1\n"
 
--- nothing interrupts a handler; one is taken before a tick, one behind the result, and none behind what is shown
+-- nothing interrupts a handler; one is taken before a tick, one behind a result and behind idle time, and none behind what is shown
 abbrev pub TakesOneAtATime : Type 0
 TakesOneAtATime = printed raised at_once 100 ≡ raised_text
 
 abbrev pub starved_text : List ℕ
 starved_text = codes "call go\nW 0 1\nirq h\nstop Ticks at h 1\nticks 2\nlive 2\nobj 1 u32 x1: 0\nobj 2 u32 x1: 0\n"
 
--- the handler is taken before the budget is tested; and the device has had no tick that wasn't counted
+abbrev pub starved_idle_text : List ℕ
+starved_idle_text =
+    codes "call go\nW 0 1\nirq h\nret none\nirq h\nshow hits: 4\nidle 1\nirq h\nstop Ticks at h 1\nticks 7\nlive 2\nobj 1 u32 x1: 4\nobj 2 u32 x1: 1\n"
+
+-- the handler is taken before the budget is tested, in idle time too; and the device has had no tick that wasn't counted
 pub record StarvesHandler : Type 0 where
   pub text : printed raised at_once 2 ≡ starved_text
+  pub idle : printed raised at_once 7 ≡ starved_idle_text
   pub device : (plain_of (program_of raised) (side_of raised) at_once 2).world.clock.device.ticks ≡ Some 2
 
 -- ---- a lock: combolock_t l; u32 hits; u32 seen;

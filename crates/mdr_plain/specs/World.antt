@@ -26,7 +26,7 @@ pub record Kept : Type 0 where
   pub calls : ℕ
   -- the function that handles interrupts, and whether it runs now
   pub handler : Option ℕ
-  pub handles : Bool
+  pub in_handler : Bool
   -- how many allocations were asked for, and the numbers of those that fail
   pub allocations : ℕ
   pub fails : List ℕ
