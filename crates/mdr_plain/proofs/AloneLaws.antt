@@ -18,18 +18,16 @@ use Rattle.mdr_model.specs.declared.command.Command.TheVariants as command
 use Rattle.mdr_device.specs.Machines.{read as read_register, written}
 use Rattle.mdr_model.specs.declared.message.BirthKind.{BirthKind}
 use Rattle.mdr_model.specs.declared.message.BirthKind.TheVariants.{Heap, Auto}
-use Rattle.mdr_model.specs.declared.memory.Cell.{Cell}
 use Rattle.mdr_model.specs.Memory.{Memory}
-use Rattle.mdr_script.specs.declared.bound.Bound.{Bound}
 use Rattle.mdr_plain.specs.declared.outcome.Happened.TheVariants as happened
 use Rattle.mdr_plain.specs.Gate.{due}
 use Rattle.mdr_plain.specs.Laws.{PlainRunsAreAlone}
 use Rattle.mdr_plain.specs.Plain.{does, never, plain_of, whole}
-use Rattle.mdr_plain.specs.Running.{Before, KernelCode, call, handled, in_kernel, interrupts, nothing, run}
-use Rattle.mdr_plain.specs.Scripts.{Finish, and_then, begin, commands, first_world, idle, returned}
+use Rattle.mdr_plain.specs.Running.{Before, call, handled, in_kernel, interrupts, nothing, run}
+use Rattle.mdr_plain.specs.Scripts.{Finish, and_then, begin, commands, first_world, idle}
 use Rattle.mdr_plain.specs.Services.{allocated, as_now, as_served, fails_now, freed, freed_by, gives, gives_none, is_no_block, register_read, register_written, requested, served, served_by, stops, was_read, when_changed, with_device}
 use Rattle.mdr_plain.specs.Storage.{births, born, deaths, died, died_at, remembers, without}
-use Rattle.mdr_plain.specs.World.{World, Ran, Ended, Stopped, Work, after, then, given, counted, noted, ticked}
+use Rattle.mdr_plain.specs.World.{World, Ran, Ended, Stopped, Work, after, then, given, counted, noted}
 
 -- work that leaves no visible set
 abbrev left : {A : Type 0} → Ran A → World

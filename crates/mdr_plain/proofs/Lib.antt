@@ -4,3 +4,4 @@ mod InterruptProofs
 mod ServiceProofs
 pub mod RunLaws
 pub mod AloneLaws
+pub mod ObjectLaws

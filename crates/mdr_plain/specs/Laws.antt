@@ -1,15 +1,19 @@
 -- What holds of every run's parts.
-use Rattle.std.specs.Prelude.{◌≡◌, ◌↔◌, ℕ, [], Some}
+use Rattle.std.specs.Prelude.{◌≡◌, ◌↔◌, ◌<◌, ℕ, true, List, [], ◌∷◌, ◌++◌, length, Some}
 use Rattle.mdr_core.specs.declared.program.Program.{Program}
 use Rattle.mdr_meaning.specs.declared.wire.Wire.{Wire}
 use Rattle.mdr_meaning.specs.declared.wire.Wire.TheVariants as wire
 use Rattle.mdr_meaning.specs.Sides.{Side}
 use Rattle.mdr_meaning.specs.Tree.{Tree}
 use Rattle.mdr_meaning.specs.Walk.{Reached, Walked, walk}
-use Rattle.mdr_model.specs.Memory.{normal}
+use Rattle.mdr_meaning.specs.declared.wire.WireView.{WireView}
+use Rattle.mdr_model.specs.declared.memory.Cell.{Cell}
+use Rattle.mdr_model.specs.Memory.{Memory, cell_at, is_live, normal}
 use Rattle.mdr_script.specs.declared.bound.Bound.{Bound}
 use Rattle.mdr_plain.specs.Gate.{Gate, due}
+use Rattle.mdr_plain.specs.Outcome.{first_serials, met_in, shown_blocks}
 use Rattle.mdr_plain.specs.Plain.{plain_of}
+use Rattle.mdr_plain.specs.Scripts.{block_cells}
 use Rattle.mdr_plain.specs.Running.{Before, Setting, run}
 use Rattle.mdr_plain.specs.World.{World, Ran, Ended, Stopped, after, then, ticked}
 
@@ -37,3 +41,23 @@ RunsAreWalks = (s : Setting) (before : Before) (t : Tree) (w : World) → run s 
 -- in a plain run there is no visible set at any end, so no interrupt ever waits for a function of the user half
 abbrev pub PlainRunsAreAlone : Type 0
 PlainRunsAreAlone = (program : Program) (side : Side) (script : Bound) (budget : ℕ) → (plain_of program side script budget).world.views ≡ []
+
+-- ---- objects
+
+-- the blocks that were met, and behind them those that the cells of objects name, each where it is met first
+abbrev pub met_by : Memory → List ℕ → (objects : List ℕ) → List ℕ
+met_by m met [] = met
+met_by m met (n ∷ ns) = met_by m (met_in met (block_cells m n)) ns
+
+-- the list is the globals, and behind them the blocks that the cells of its own objects name, in their order
+abbrev pub NamesItself : Program → Memory → List ℕ → Type 0
+NamesItself program m objects = objects ≡ met_by m (first_serials (length program.globals)) objects
+
+-- where the globals live and no cell names a dead block, the objects that are shown are the least list that names itself
+pub record ObjectsAreLeast : Type 0 where
+  pub closed : (program : Program) (m : Memory)
+      → ((g : ℕ) → g < length program.globals → is_live m g ≡ true)
+      → ((c : Cell) (p : WireView) → cell_at m c ≡ Some (wire.Ptr p) → is_live m p.serial ≡ true)
+      → NamesItself program m (shown_blocks program m)
+  -- each such list begins with them
+  pub least : (program : Program) (m : Memory) (others : List ℕ) → NamesItself program m others → (rest : List ℕ) × (others ≡ shown_blocks program m ++ rest)

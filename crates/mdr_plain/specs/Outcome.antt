@@ -18,7 +18,7 @@ use Rattle.mdr_plain.specs.Scripts.{Finish, block_cells}
 -- ---- which live blocks are shown, and in which order
 
 abbrev pub is_among : List ℕ → ℕ → Bool
-is_among serials serial = list_any (λ n. n == serial) serials
+is_among serials serial = list_any (λ n. serial == n) serials
 
 -- a block behind those that were met before, unless it is one of them
 abbrev pub with_block : List ℕ → ℕ → List ℕ

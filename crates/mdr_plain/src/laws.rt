@@ -1,6 +1,6 @@
 // Laws, each as a function that does nothing.
 
-ghost use Rattle.mdr_plain.specs.Laws.{InterruptsAreGated, PlainRunsAreAlone, RunsAreWalks};
+ghost use Rattle.mdr_plain.specs.Laws.{InterruptsAreGated, ObjectsAreLeast, PlainRunsAreAlone, RunsAreWalks};
 
 /// An interrupt is taken exactly where the line is raised, a handler is registered and doesn't run, no lock is held and
 /// no function of the user half is active.
@@ -17,4 +17,10 @@ pub fn runs_are_walks()
 /// A plain run has no visible sets, so that no interrupt in it waits for a function of the user half.
 pub fn plain_runs_are_alone()
     ensures { PlainRunsAreAlone }
+{}
+
+/// The objects of an outcome are the least list that begins with the globals and in which the cells of each object name
+/// their live blocks in order, each block once.
+pub fn objects_are_least()
+    ensures { ObjectsAreLeast }
 {}

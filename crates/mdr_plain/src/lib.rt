@@ -6,7 +6,7 @@ mod laws;
 mod outcome;
 mod worked;
 
-pub use laws::{interrupts_are_gated, plain_runs_are_alone, runs_are_walks};
+pub use laws::{interrupts_are_gated, objects_are_least, plain_runs_are_alone, runs_are_walks};
 pub use outcome::{Happened, Outcome};
 pub use worked::{
     devices_rule, drivers_run, interrupts_are_taken, services_are_served, texts_are_told,
