@@ -5,3 +5,4 @@ mod ServiceProofs
 pub mod RunLaws
 pub mod AloneLaws
 pub mod ObjectLaws
+mod NicProofs

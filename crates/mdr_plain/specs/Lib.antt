@@ -13,3 +13,4 @@ pub mod WorkedRuns
 pub mod WorkedInterrupts
 pub mod Laws
 pub mod WorkedServices
+pub mod WorkedNic

@@ -41,7 +41,7 @@ abbrev pub bytes_from : Memory → List Cell → Result Cell StopKind → Result
 bytes_from m cells (Ok c) = Ok (map (byte_at m) cells)
 bytes_from m cells (Err kind) = Err kind
 
--- so many bytes from a pointer on, as one access of all their cells, with the tests of an access in their order; no byte is read only through a pointer that isn't null
+-- so many bytes from a pointer on, as one access of all their cells, with the tests of an access in their order. A null pointer stops even where no byte is read
 unfoldable pub read : (Cell → Bool) → Memory → Wire → ℕ → Result (List ℕ) StopKind
 read allowed m (wire.Ptr p) n =
     bytes_from m (cells_read p n) (reached_by (is_live m p.serial) (nat_le (p.index + n) p.count) (list_all allowed (cells_read p n)) (cell_of p))

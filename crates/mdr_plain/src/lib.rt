@@ -9,5 +9,6 @@ mod worked;
 pub use laws::{interrupts_are_gated, objects_are_least, plain_runs_are_alone, runs_are_walks};
 pub use outcome::{Happened, Outcome};
 pub use worked::{
-    devices_rule, drivers_run, interrupts_are_taken, services_are_served, texts_are_told,
+    a_network_driver_runs, devices_rule, drivers_run, interrupts_are_taken, services_are_served,
+    texts_are_told,
 };

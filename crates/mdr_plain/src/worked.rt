@@ -1,6 +1,7 @@
 // Small drivers worked out, each as a function that does nothing.
 
 ghost use Rattle.mdr_plain.specs.WorkedInterrupts.{TakesInterrupt, TakesOneAtATime, StarvesHandler, WaitsForLock, KeepsRules, CutsIdle, TellsTexts};
+ghost use Rattle.mdr_plain.specs.WorkedNic.{DrivesCard};
 ghost use Rattle.mdr_plain.specs.WorkedRuns.{CountsDown, TurnsRing, CutsRing, TakesAlias, MeetsObjects, FailsSecond, AddsFour, AddsFive, FillsObject};
 ghost use Rattle.mdr_plain.specs.WorkedServices.{ServicesStop, ServicesGive};
 
@@ -42,4 +43,10 @@ pub fn texts_are_told()
 pub fn services_are_served()
     ensures stops { ServicesStop }
     ensures gives { ServicesGive }
+{}
+
+/// The report of a network driver's script: locks, an interrupt that answers each packet, a table of functions, and a
+/// ring of buffers.
+pub fn a_network_driver_runs()
+    ensures { DrivesCard }
 {}
