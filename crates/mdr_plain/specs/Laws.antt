@@ -1,8 +1,9 @@
 -- What holds of every run's parts.
-use Rattle.std.specs.Prelude.{◌≡◌, ◌↔◌, ◌<◌, ℕ, true, List, [], ◌∷◌, ◌++◌, length, Some}
+use Rattle.std.specs.Prelude.{◌≡◌, ◌↔◌, ◌<◌, ◌≤◌, ℕ, true, List, [], ◌∷◌, ◌++◌, length, Some}
 use Rattle.mdr_core.specs.declared.program.Program.{Program}
 use Rattle.mdr_meaning.specs.declared.wire.Wire.{Wire}
 use Rattle.mdr_meaning.specs.declared.wire.Wire.TheVariants as wire
+use Rattle.mdr_meaning.specs.Bodies.{started}
 use Rattle.mdr_meaning.specs.Sides.{Side}
 use Rattle.mdr_meaning.specs.Tree.{Tree}
 use Rattle.mdr_meaning.specs.Walk.{Reached, Walked, walk}
@@ -12,10 +13,10 @@ use Rattle.mdr_model.specs.Memory.{Memory, cell_at, is_live, normal}
 use Rattle.mdr_script.specs.declared.bound.Bound.{Bound}
 use Rattle.mdr_plain.specs.Gate.{Gate, due}
 use Rattle.mdr_plain.specs.Outcome.{first_serials, met_in, shown_blocks}
-use Rattle.mdr_plain.specs.Plain.{plain_of}
+use Rattle.mdr_plain.specs.Plain.{never, plain_of, whole}
 use Rattle.mdr_plain.specs.Scripts.{block_cells}
-use Rattle.mdr_plain.specs.Running.{Before, Setting, run}
-use Rattle.mdr_plain.specs.World.{World, Ran, Ended, Stopped, after, then, ticked}
+use Rattle.mdr_plain.specs.Running.{Before, Setting, in_kernel, interrupts, run}
+use Rattle.mdr_plain.specs.World.{World, Ran, Ended, Stopped, after, left, then, ticked}
 
 -- an interrupt is due exactly where the gate is open
 abbrev pub InterruptsAreGated : Type 0
@@ -41,6 +42,17 @@ RunsAreWalks = (s : Setting) (before : Before) (t : Tree) (w : World) → run s 
 -- in a plain run there is no visible set at any end, so no interrupt ever waits for a function of the user half
 abbrev pub PlainRunsAreAlone : Type 0
 PlainRunsAreAlone = (program : Program) (side : Side) (script : Bound) (budget : ℕ) → (plain_of program side script budget).world.views ≡ []
+
+-- what is tried before a tick gives no tick back
+abbrev pub GivesNoTicks : Before → Type 0
+GivesNoTicks before = (d : ℕ) (w : World) → (left (before d w)).clock.rest ≤ w.clock.rest
+
+-- a called function's tree with any fuel above the ticks that are left runs alike; and interrupts give no ticks back
+pub record RunsNeedTicksAlone : Type 0 where
+  pub runs : (program : Program) (before : Before) → GivesNoTicks before
+      → (side : Side) (n m func : ℕ) (args : List Wire) (depth : ℕ) (below : Tree) (w : World) → w.clock.rest < n → w.clock.rest < m
+      → run (in_kernel program never) before (started side n func args depth below) w ≡ run (in_kernel program never) before (started side m func args depth below) w
+  pub interrupted : (program : Program) (side : Side) → GivesNoTicks (interrupts (whole program side))
 
 -- ---- objects
 

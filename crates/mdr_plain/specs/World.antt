@@ -19,7 +19,7 @@ pub record Clock : Type 0 where
 abbrev pub advanced : ℕ → Clock → Clock
 advanced n c = record { ticks = c.ticks + n; rest = c.rest - n; device = passed n c.device }
 
--- what code of the user half can't change
+-- what services and commands alone change
 pub record Kept : Type 0 where
   pub events : List Happened
   -- how many `call` commands began
@@ -43,6 +43,11 @@ pub record World : Type 0 where
 pub data Ran (A : Type 0) : Type 0 where
   Ended : (result : A) (world : World) → Ran A
   Stopped : (kind : StopKind) (at : Option At) (world : World) → Ran A
+
+-- the state that it leaves
+abbrev pub left : {A : Type 0} → Ran A → World
+left (Ended x w) = w
+left (Stopped kind at w) = w
 
 -- what comes after it ended
 abbrev pub after : {A B : Type 0} → Ran A → (A → World → Ran B) → Ran B

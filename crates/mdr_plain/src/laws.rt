@@ -1,6 +1,6 @@
 // Laws, each as a function that does nothing.
 
-ghost use Rattle.mdr_plain.specs.Laws.{InterruptsAreGated, ObjectsAreLeast, PlainRunsAreAlone, RunsAreWalks};
+ghost use Rattle.mdr_plain.specs.Laws.{InterruptsAreGated, ObjectsAreLeast, PlainRunsAreAlone, RunsAreWalks, RunsNeedTicksAlone};
 
 /// An interrupt is taken exactly where the line is raised, a handler is registered and doesn't run, no lock is held and
 /// no function of the user half is active.
@@ -23,4 +23,9 @@ pub fn plain_runs_are_alone()
 /// their live blocks in order, each block once.
 pub fn objects_are_least()
     ensures { ObjectsAreLeast }
+{}
+
+/// The tree of a called function runs alike with any fuel above the ticks that are left.
+pub fn runs_need_ticks_alone()
+    ensures { RunsNeedTicksAlone }
 {}
