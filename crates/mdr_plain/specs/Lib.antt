@@ -1,0 +1,16 @@
+pub mod World
+pub mod Storage
+pub mod Locks
+pub mod Gate
+pub mod Services
+pub mod Running
+pub mod Scripts
+pub mod Plain
+pub mod Outcome
+pub mod Report
+pub mod Worked
+pub mod WorkedRuns
+pub mod WorkedInterrupts
+pub mod Laws
+pub mod WorkedServices
+pub mod WorkedNic
