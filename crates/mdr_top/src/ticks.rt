@@ -22,13 +22,7 @@ fn within(read: Result<u64, ParseIntError>) -> Option<u64>
     ensures { result ≡ within read }
 {
     match read {
-        Ok(ticks) => {
-            if ticks <= MOST {
-                Some(ticks)
-            } else {
-                None
-            }
-        }
+        Ok(ticks) => { if ticks <= MOST { Some(ticks) } else { None } }
         Err(_) => None,
     }
 }

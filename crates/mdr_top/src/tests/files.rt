@@ -23,7 +23,14 @@ fn other_words_print_the_usage(rt: HostRuntime) -> Result<(), Fail> {
         &["run", "split", "bump.c", "open.script", "--ticks", "0"],
         &["run", "split", "bump.c", "open.script", "--ticks", "04"],
         &["run", "split", "bump.c", "open.script", "--ticks", "+4"],
-        &["run", "split", "bump.c", "open.script", "--ticks", "100000001"],
+        &[
+            "run",
+            "split",
+            "bump.c",
+            "open.script",
+            "--ticks",
+            "100000001",
+        ],
         &["run", "split", "--ticks", "4", "bump.c", "open.script"],
     ] {
         let mut shelf = shelf_of(&rt, BUMP, "call open")?;
