@@ -11,6 +11,7 @@ use Rattle.mdr_exec.specs.declared.event.Outcome.{Outcome}
 use Rattle.mdr_exec.specs.declared.event.Outcome.TheVariants as outcome
 use Rattle.mdr_exec.specs.declared.event.Event.{Event}
 use Rattle.mdr_exec.specs.declared.event.Event.TheVariants as event
+use Rattle.mdr_exec.specs.declared.frame.Front.{Front as Before}
 use Rattle.mdr_exec.specs.declared.frame.Front.TheVariants as front
 use Rattle.mdr_exec.specs.declared.frame.Machine.{Machine}
 use Rattle.mdr_exec.specs.declared.frame.Side.{Side as Which}
@@ -87,10 +88,10 @@ module _ {M : Type 0} (a : Accesses M) (side : Side) (program : Program) (m : Ma
       wants_here k e law = subst (λ j. WantsTick side (held_of program m) (in_here (here_in program m) j) (here_in program m).depth) e law
 
 -- the pointers of parameters come
-pub filling_is : (program : Program) (m : Machine) (pointers : List Value) → m.front ≡ front.Fills pointers
-    → filling program (record { side = m.side; front = front.Runs; top = m.top; below = m.below; used = m.used }) pointers ≡ held_of program m
+pub filling_is : (program : Program) (m : Machine) (b : Before) (pointers : List Value) → m.front ≡ front.Fills pointers
+    → filling program (record { side = m.side; front = b; top = m.top; below = m.below; used = m.used }) pointers ≡ held_of program m
 unfolding held_of
-filling_is program m pointers is = rw is refl
+filling_is program m b pointers is = rw is refl
 
 -- ---- runs
 

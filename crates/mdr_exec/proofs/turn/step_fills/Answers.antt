@@ -9,4 +9,4 @@ pub returns-in_ok-event-in-Fills : goal.returns-in_ok-event-in-Fills
 returns-in_ok-event-in-Fills g c = λ side.
     step_told g.C.Memory.accesses side (held_of c.args.program.now c.args.machine.now) (held_of c.args.program.now c.fill.new.machine) c.args.memory.now c.fill.new.memory c.args.left c.in_ok-event-in-Fills.event c.with_event.result c.with_event.ensures
     (subst (λ h. Steps g.C.Memory.accesses side h c.args.memory.now (came_as c.in_ok-event-in-Fills.event) (held_of c.args.program.now c.fill.new.machine) c.fill.new.memory)
-    (filling_is c.args.program.now c.args.machine.now c.in-Fills.pointers (sym c.replace-front.ensures.value ∙ c.in-Fills.is)) (c.in_ok-event-in-Fills.ensures side))
+    (filling_is c.args.program.now c.args.machine.now c.replace-front.new.dest c.in-Fills.pointers (sym c.replace-front.ensures.value ∙ c.in-Fills.is)) (c.in_ok-event-in-Fills.ensures side))
