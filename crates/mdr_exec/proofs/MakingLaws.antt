@@ -1,9 +1,8 @@
 -- Calls are made, in the machine.
-use Rattle.std.proofs.Common.{◌≡◌, ℕ, zero, suc, ◌+◌, ◌<◌, Bool, true, false, List, [], ◌∷◌, ◌++◌, reverse, Option, Some, None, Result, Ok, Err, slice_get, nat_lt, unwrap_or, refl, ap, sym, ◌∙◌, subst, arith}
+use Rattle.std.proofs.Common.{◌≡◌, ℕ, zero, suc, ◌+◌, ◌<◌, ◌≤◌, Bool, true, false, List, [], ◌∷◌, ◌++◌, reverse, Option, Some, None, Result, Ok, Err, slice_get, unwrap_or, lt-ltb, le-ltb, refl, ap, sym, ◌∙◌, subst, arith}
 use Rattle.std.proofs.lemmas.List.{reverse-append}
 use Rattle.mdr_core.specs.declared.code.Stmt.{Stmt}
 use Rattle.mdr_core.specs.declared.place.At.{At}
-use Rattle.mdr_core.specs.declared.plan.Half.{Half}
 use Rattle.mdr_core.specs.declared.program.Func.{Func}
 use Rattle.mdr_core.specs.declared.program.Program.{Program}
 use Rattle.mdr_core.specs.declared.stop.StopKind.{StopKind}
@@ -16,7 +15,7 @@ use Rattle.mdr_meaning.specs.declared.wire.Wire.{Wire}
 use Rattle.mdr_meaning.specs.Bodies.{body_by, body_from, body_of, known_of, kernel_side, user_side, whole_side}
 use Rattle.mdr_meaning.specs.Asking.{allocated}
 use Rattle.mdr_meaning.specs.Printed.{print_text}
-use Rattle.mdr_meaning.specs.Sides.{Body, Here, Side, framed, in_here}
+use Rattle.mdr_meaning.specs.Sides.{Body, Here, Side, framed}
 use Rattle.mdr_meaning.specs.Values.{first_of, natural, rest_of}
 use Rattle.mdr_meaning.specs.Walk.{Accesses}
 use Rattle.mdr_exec.specs.declared.calling.Calling.{Calling as Doing}
@@ -27,23 +26,22 @@ use Rattle.mdr_exec.specs.declared.frame.Frame.{Frame as Running}
 use Rattle.mdr_exec.specs.declared.frame.Front.{Front as Before}
 use Rattle.mdr_exec.specs.declared.frame.Front.TheVariants as front
 use Rattle.mdr_exec.specs.declared.frame.Machine.{Machine}
-use Rattle.mdr_exec.specs.declared.frame.Side.{Side as Which}
 use Rattle.mdr_exec.specs.declared.frame.Side.TheVariants as which
 use Rattle.mdr_exec.specs.declared.frame.Suspended.{Suspended}
 use Rattle.mdr_exec.specs.declared.frame.Until.TheVariants as until
 use Rattle.mdr_exec.specs.declared.places.Position.{Position}
-use Rattle.mdr_exec.specs.Calling.{Calling, Entering, Crossing, Asking, called_of, goes_by, served_by, asking}
+use Rattle.mdr_exec.specs.Calling.{Calling, Entering, Crossing, called_of, direct_of, goes_by, served_by, asking}
 use Rattle.mdr_exec.specs.Evaluation.{after_value}
 use Rattle.mdr_exec.specs.Events.{came_as}
 use Rattle.mdr_exec.specs.Found.{body_codes, codes_by, codes_from}
-use Rattle.mdr_exec.specs.Halves.{HoldsCall, SidesAreHalves, awaits, body_in, called_as, calling_as, is_kernel, is_own, side_in, taking_by}
+use Rattle.mdr_exec.specs.Halves.{HoldsCall, SidesAreHalves, awaits, body_in, called_as, calling_as, is_kernel, is_own, taking_by}
 use Rattle.mdr_exec.specs.Held.{Held, Runs}
-use Rattle.mdr_exec.specs.Holding.{around, below_of, block_of, held_of, here_of, is_running, result_by, slots_by, wires_of}
+use Rattle.mdr_exec.specs.Holding.{around, below_of, held_of, here_of, is_running, result_by, slots_by, wires_of}
 use Rattle.mdr_exec.specs.Leaving.{here_in}
-use Rattle.mdr_exec.specs.Places.{behind, code_at, inner}
+use Rattle.mdr_exec.specs.Places.{behind, inner}
 use Rattle.mdr_exec.specs.StatementSteps.{call_came, calling}
-use Rattle.mdr_exec.specs.Steps.{holds, Came, Stopped, Ticks}
-use Rattle.mdr_exec.proofs.DoneLaws.{ahead_of, at_next, comes_in, items_of, locals_of, stepped_holds, stepped_to, stops_in}
+use Rattle.mdr_exec.specs.Steps.{holds, Came, Crosses, Stopped, Ticks}
+use Rattle.mdr_exec.proofs.DoneLaws.{ahead_of, at_next, comes_in, items_of, locals_of, stepped_holds, stepped_to}
 use Rattle.mdr_exec.proofs.StepLaws.{statements_step}
 
 -- ---- sides
@@ -111,6 +109,10 @@ module _ (program : Program) (m : Machine) where
   pub cross_holds : (f : ℕ) (vs : List Wire) (held : Held) → held ≡ awaits program m → HoldsCall program m (Crossing f vs) held
   cross_holds f vs held is n goal form stands = is ∙ rw stands refl
 
+  pub crossing_told : (at : At) (f : ℕ) (vs : List Wire) (x : Came) → x ≡ Crosses at f vs m.top.depth → x ≡ call_came (here_in program m) at (Ok (Crossing f vs))
+  unfolding here_of
+  crossing_told at f vs x is = is
+
   module _ {M : Type 0} (a : Accesses M) (memory : M) (side : Side) (runs : is_running m.front ≡ true) (form : CallOf) (n : ℕ) (r : Result Doing StopKind)
       (called : called_as program r ≡ called_of a side (here_in program m) memory (record { func = m.top.func; stmt = n }) form (wires_of m.top.slots) form.callee) where
     abbrev at_call : At
@@ -137,6 +139,22 @@ module _ (program : Program) (m : Machine) where
         let law : Ticks a side (held_of program m) memory (Stopped kind at_call) (calling (here_in program m) (locals_of program m) (ahead_of program m) (items_of program m) n goal (Err kind)) memory =
         call_law (Err kind) (ap (called_as program) err) goal stands in
         record { by = λ f q t less. law.by f q t less }
+
+  -- at most 256 functions are active
+  module _ {M : Type 0} (a : Accesses M) (memory : M) (side : Side) (f : ℕ) (vs : List Wire) where
+    pub direct_goes : (c : Calling) → m.top.depth < 256 → c ≡ goes_by f vs (side.own f) → ◌≡◌ {A = Result Calling StopKind} (Ok c) (direct_of a side (here_in program m) memory f vs)
+    unfolding here_of
+    direct_goes c less is = ap Ok is ∙ sym (ap (λ t. chosen t (done (goes_by f vs (side.own f))) (Err stop.Depth)) (lt-ltb m.top.depth 256 less))
+      where
+        done : Calling → Result Calling StopKind
+        done x = Ok x
+
+    pub direct_stops : 256 ≤ m.top.depth → ◌≡◌ {A = Result Calling StopKind} (Err stop.Depth) (direct_of a side (here_in program m) memory f vs)
+    unfolding here_of
+    direct_stops more = sym (ap (λ t. chosen t (done (goes_by f vs (side.own f))) (Err stop.Depth)) (le-ltb m.top.depth 256 more))
+      where
+        done : Calling → Result Calling StopKind
+        done x = Ok x
 
 -- ---- which services take other things
 

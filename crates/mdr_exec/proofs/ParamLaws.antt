@@ -1,5 +1,5 @@
 -- Parameters that are objects are found, born, and given their values.
-use Rattle.std.proofs.Common.{◌≡◌, ℕ, zero, suc, ◌+◌, ◌<◌, ◌≤◌, Bool, true, false, not, ◌&&◌, List, [], ◌∷◌, ◌++◌, length, get_or, drop, map, Option, Some, None, Result, Ok, Err, slice_get, slice_set, Vec, refl, ap, sym, ◌∙◌, subst, arith}
+use Rattle.std.proofs.Common.{◌≡◌, ℕ, zero, suc, ◌+◌, ◌<◌, ◌≤◌, Bool, true, false, ◌&&◌, List, [], ◌∷◌, ◌++◌, length, get_or, drop, map, Option, Some, None, Result, Ok, Err, slice_get, slice_set, Vec, refl, ap, sym, ◌∙◌, subst, arith}
 use Rattle.std.proofs.lemmas.List.{append_assoc, append-nil, at_drop_all, at_drop_more}
 use Rattle.std.specs.declared.alloc.Global.{Global as Heap}
 use Rattle.mdr_core.specs.declared.program.Func.{Func}
@@ -12,7 +12,6 @@ use Rattle.mdr_core.specs.Code.{Codes}
 use Rattle.mdr_core.specs.Layout.{chosen}
 use Rattle.mdr_core.specs.Typing.{Slot, slot_of_local, slot_of_param}
 use Rattle.mdr_meaning.specs.declared.shape.Shape64.{Shape64}
-use Rattle.mdr_meaning.specs.declared.wire.Wire.{Wire}
 use Rattle.mdr_meaning.specs.Bodies.{known_of}
 use Rattle.mdr_meaning.specs.Expressions.{slot_of}
 use Rattle.mdr_meaning.specs.Lives.{asked_for, object_params, param_shapes, shape_of, with_object}
@@ -27,13 +26,13 @@ use Rattle.mdr_exec.specs.declared.frame.Front.TheVariants as front
 use Rattle.mdr_exec.specs.declared.frame.Machine.{Machine}
 use Rattle.mdr_exec.specs.Effects.{Did, after_did, did, fills_of, stored}
 use Rattle.mdr_exec.specs.Entering.{filling, params_by}
-use Rattle.mdr_exec.specs.Events.{came_as, came_with}
+use Rattle.mdr_exec.specs.Events.{came_with}
 use Rattle.mdr_exec.specs.Held.{Enters, Fills, Held}
 use Rattle.mdr_exec.specs.Holding.{block_of, front_in, held_of, here_of, slots_by, wires_of}
 use Rattle.mdr_exec.specs.Leaving.{here_in}
 use Rattle.mdr_exec.specs.Outcomes.{when_made}
 use Rattle.mdr_exec.specs.Places.{behind}
-use Rattle.mdr_exec.specs.Steps.{holds, Came, Goes, Asks, came_by, Steps}
+use Rattle.mdr_exec.specs.Steps.{holds, Goes, Asks, came_by, Steps}
 use Rattle.mdr_exec.specs.Storing.{with_slots}
 use Rattle.mdr_exec.specs.Unwinding.{entering_came, entering_front, entering_memory, filled_after}
 use Rattle.mdr_exec.proofs.StartLaws.{wires_more}
@@ -54,6 +53,10 @@ gathers f one step xs i x d done done' inside is more so_far =
 
 pub gathered : {X Y : Type 0} (f : List X → List Y) → f [] ≡ [] → (xs : List X) (i : ℕ) (done : List Y) → length xs ≤ i → done ++ f (drop i xs) ≡ f xs → done ≡ f xs
 gathered f none xs i done past so_far = sym (append-nil done) ∙ sym (ap (λ ys. done ++ ys) (at_drop_all f xs i past ∙ none)) ∙ so_far
+
+-- a test holds or doesn't
+pub not_both : {b : Bool} → b ≡ true → b ≡ false → ⊥
+not_both h k = cc
 
 -- ---- which parameters are objects
 

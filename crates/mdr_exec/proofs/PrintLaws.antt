@@ -1,5 +1,5 @@
 -- The text of a `printk`, byte by byte.
-use Rattle.std.proofs.Common.{◌≡◌, ℕ, ◌+◌, ◌<◌, ◌≤◌, ◌==◌, Bool, true, false, List, [], ◌∷◌, ◌++◌, length, get_or, drop, ℤ, pos, unsigned_abs, refl, ap, sym, ◌∙◌}
+use Rattle.std.proofs.Common.{◌≡◌, ℕ, ◌+◌, ◌<◌, ◌≤◌, ◌==◌, true, false, List, [], ◌∷◌, ◌++◌, length, get_or, drop, ℤ, pos, unsigned_abs, eq-eqb, ne_eqb, refl, ap, sym, ◌∙◌}
 use Rattle.std.specs.Fmt.{decimal, digits, signed_decimal}
 use Rattle.std.specs.Int.{int_rem_euclid}
 use Rattle.std.proofs.lemmas.List.{append_assoc, append-nil, at_drop_all, at_drop_more}
@@ -11,42 +11,48 @@ use Rattle.mdr_meaning.specs.Values.{first_of, integer, natural_of, rest_of}
 
 -- ---- numbers
 
-pub shown_signed : (letter : ℕ) (n : ℤ) → (letter == 100) ≡ true → shown letter n ≡ signed_decimal n
-shown_signed letter n h = rw h refl
+is_number : (a b : ℕ) → a ≡ b → (a == b) ≡ true
+is_number = eq-eqb
 
-pub shown_byte : (letter : ℕ) (n : ℤ) → (letter == 100) ≡ false → (letter == 99) ≡ true → shown letter n ≡ unsigned_abs (int_rem_euclid n (pos 256)) ∷ []
-shown_byte letter n h k = rw (h, k) refl
+not_number : (a b : ℕ) → (a ≡ b → ⊥) → (a == b) ≡ false
+not_number = ne_eqb
 
-pub shown_hex : (letter : ℕ) (n : ℤ) → (letter == 100) ≡ false → (letter == 99) ≡ false → (letter == 120) ≡ true → shown letter n ≡ digits 16 false (natural_of n)
-shown_hex letter n h k j = rw (h, k, j) refl
+pub shown_signed : (letter : ℕ) (n : ℤ) → letter ≡ 100 → shown letter n ≡ signed_decimal n
+shown_signed letter n h = rw (is_number letter 100 h) refl
 
-pub shown_decimal : (letter : ℕ) (n : ℤ) → (letter == 100) ≡ false → (letter == 99) ≡ false → (letter == 120) ≡ false → shown letter n ≡ decimal (natural_of n)
-shown_decimal letter n h k j = rw (h, k, j) refl
+pub shown_byte : (letter : ℕ) (n : ℤ) → (letter ≡ 100 → ⊥) → letter ≡ 99 → shown letter n ≡ unsigned_abs (int_rem_euclid n (pos 256)) ∷ []
+shown_byte letter n h k = rw (not_number letter 100 h, is_number letter 99 k) refl
+
+pub shown_hex : (letter : ℕ) (n : ℤ) → (letter ≡ 100 → ⊥) → (letter ≡ 99 → ⊥) → letter ≡ 120 → shown letter n ≡ digits 16 false (natural_of n)
+shown_hex letter n h k j = rw (not_number letter 100 h, not_number letter 99 k, is_number letter 120 j) refl
+
+pub shown_decimal : (letter : ℕ) (n : ℤ) → (letter ≡ 100 → ⊥) → (letter ≡ 99 → ⊥) → (letter ≡ 120 → ⊥) → shown letter n ≡ decimal (natural_of n)
+shown_decimal letter n h k j = rw (not_number letter 100 h, not_number letter 99 k, not_number letter 120 j) refl
 
 -- ---- one byte
 
 module _ (out : List ℕ) (b : ℕ) (ws : List Wire) where
-  pub percent_begins : (b == 37) ≡ true → (bs : List ℕ) → out ++ printed Percent bs ws ≡ out ++ printed Plain (b ∷ bs) ws
+  pub percent_begins : b ≡ 37 → (bs : List ℕ) → out ++ printed Percent bs ws ≡ out ++ printed Plain (b ∷ bs) ws
   unfolding printed
-  percent_begins h bs = ap (λ t. out ++ chosen t (printed Percent bs) (behind (printed Plain bs) b) ws) (sym h)
+  percent_begins h bs = ap (λ t. out ++ chosen t (printed Percent bs) (behind (printed Plain bs) b) ws) (sym (is_number b 37 h))
 
-  pub plain_put : (new : List ℕ) → (b == 37) ≡ false → new ≡ out ++ b ∷ [] → (bs : List ℕ) → new ++ printed Plain bs ws ≡ out ++ printed Plain (b ∷ bs) ws
+  pub plain_put : (new : List ℕ) → (b ≡ 37 → ⊥) → new ≡ out ++ b ∷ [] → (bs : List ℕ) → new ++ printed Plain bs ws ≡ out ++ printed Plain (b ∷ bs) ws
   unfolding printed
   plain_put new h more bs =
       ap (λ xs. xs ++ printed Plain bs ws) more ∙ append_assoc out (b ∷ []) (printed Plain bs ws)
-      ∙ ap (λ t. out ++ chosen t (printed Percent bs) (behind (printed Plain bs) b) ws) (sym h)
+      ∙ ap (λ t. out ++ chosen t (printed Percent bs) (behind (printed Plain bs) b) ws) (sym (not_number b 37 h))
 
-  pub percent_put : (new : List ℕ) → (b == 37) ≡ true → new ≡ out ++ b ∷ [] → (bs : List ℕ) → new ++ printed Plain bs ws ≡ out ++ printed Percent (b ∷ bs) ws
+  pub percent_put : (new : List ℕ) → b ≡ 37 → new ≡ out ++ b ∷ [] → (bs : List ℕ) → new ++ printed Plain bs ws ≡ out ++ printed Percent (b ∷ bs) ws
   unfolding printed
   percent_put new h more bs =
       ap (λ xs. xs ++ printed Plain bs ws) more ∙ append_assoc out (b ∷ []) (printed Plain bs ws)
-      ∙ ap (λ t. out ++ chosen t (behind (printed Plain bs) b) (chosen (b == 108) (printed Long bs) (told (printed Plain bs) b)) ws) (sym h)
+      ∙ ap (λ t. out ++ chosen t (behind (printed Plain bs) b) (chosen (b == 108) (printed Long bs) (told (printed Plain bs) b)) ws) (sym (is_number b 37 h))
 
-  pub long_begins : (b == 37) ≡ false → (b == 108) ≡ true → (bs : List ℕ) → out ++ printed Long bs ws ≡ out ++ printed Percent (b ∷ bs) ws
+  pub long_begins : (b ≡ 37 → ⊥) → b ≡ 108 → (bs : List ℕ) → out ++ printed Long bs ws ≡ out ++ printed Percent (b ∷ bs) ws
   unfolding printed
   long_begins h k bs =
-      ap (λ t. out ++ chosen t (printed Long bs) (told (printed Plain bs) b) ws) (sym k)
-      ∙ ap (λ t. out ++ chosen t (behind (printed Plain bs) b) (chosen (b == 108) (printed Long bs) (told (printed Plain bs) b)) ws) (sym h)
+      ap (λ t. out ++ chosen t (printed Long bs) (told (printed Plain bs) b) ws) (sym (is_number b 108 k))
+      ∙ ap (λ t. out ++ chosen t (behind (printed Plain bs) b) (chosen (b == 108) (printed Long bs) (told (printed Plain bs) b)) ws) (sym (not_number b 37 h))
 
   -- a directive's number
   pub letter_put : (new : List ℕ) (rest : List Wire) → new ≡ out ++ shown b (integer (first_of ws)) → rest ≡ rest_of ws → (bs : List ℕ) → new ++ printed Plain bs rest ≡ out ++ told (printed Plain bs) b ws
@@ -54,11 +60,11 @@ module _ (out : List ℕ) (b : ℕ) (ws : List Wire) where
       ap (λ xs. xs ++ printed Plain bs rest) more ∙ append_assoc out (shown b (integer (first_of ws))) (printed Plain bs rest)
       ∙ ap (λ vs. out ++ (shown b (integer (first_of ws)) ++ printed Plain bs vs)) left
 
-  pub percent_letter : (x : List ℕ → List ℕ) → (b == 37) ≡ false → (b == 108) ≡ false → ((bs : List ℕ) → x bs ≡ out ++ told (printed Plain bs) b ws) → (bs : List ℕ) → x bs ≡ out ++ printed Percent (b ∷ bs) ws
+  pub percent_letter : (x : List ℕ → List ℕ) → (b ≡ 37 → ⊥) → (b ≡ 108 → ⊥) → ((bs : List ℕ) → x bs ≡ out ++ told (printed Plain bs) b ws) → (bs : List ℕ) → x bs ≡ out ++ printed Percent (b ∷ bs) ws
   unfolding printed
   percent_letter x h k is bs =
-      is bs ∙ ap (λ t. out ++ chosen t (printed Long bs) (told (printed Plain bs) b) ws) (sym k)
-      ∙ ap (λ t. out ++ chosen t (behind (printed Plain bs) b) (chosen (b == 108) (printed Long bs) (told (printed Plain bs) b)) ws) (sym h)
+      is bs ∙ ap (λ t. out ++ chosen t (printed Long bs) (told (printed Plain bs) b) ws) (sym (not_number b 108 k))
+      ∙ ap (λ t. out ++ chosen t (behind (printed Plain bs) b) (chosen (b == 108) (printed Long bs) (told (printed Plain bs) b)) ws) (sym (not_number b 37 h))
 
   pub long_letter : (x : List ℕ → List ℕ) → ((bs : List ℕ) → x bs ≡ out ++ told (printed Plain bs) b ws) → (bs : List ℕ) → x bs ≡ out ++ printed Long (b ∷ bs) ws
   unfolding printed

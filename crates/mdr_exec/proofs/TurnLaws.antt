@@ -1,5 +1,5 @@
 -- Steps of the machine, whatever comes next, and runs of them.
-use Rattle.std.proofs.Common.{◌≡◌, ℕ, zero, suc, ◌+◌, ◌-◌, ◌==◌, ◌≤◌, Bool, true, false, List, Option, Some, None, refl, ap, sym, ◌∙◌, subst, le_refl, arith}
+use Rattle.std.proofs.Common.{◌≡◌, ℕ, zero, suc, ◌-◌, ◌≤◌, true, false, List, Option, Some, None, refl, sym, ◌∙◌, subst, arith}
 use Rattle.mdr_core.specs.declared.place.At.{At}
 use Rattle.mdr_core.specs.declared.plan.Half.{Half}
 use Rattle.mdr_core.specs.declared.program.Program.{Program}
@@ -22,9 +22,8 @@ use Rattle.mdr_exec.specs.Events.{came_as, came_with}
 use Rattle.mdr_exec.specs.Going.{SteppedTo, RanTo, ran_as, stepped_with}
 use Rattle.mdr_exec.specs.Halves.{side_in}
 use Rattle.mdr_exec.specs.Held.{Held}
-use Rattle.mdr_exec.specs.Holding.{block_of, held_of, here_of, is_running, wires_of}
+use Rattle.mdr_exec.specs.Holding.{held_of, here_of, is_running, wires_of}
 use Rattle.mdr_exec.specs.Leaving.{here_in}
-use Rattle.mdr_exec.specs.Places.{behind, code_at}
 use Rattle.mdr_exec.specs.Running.{RunsTo, WantsTick, is_block, number_of}
 use Rattle.mdr_exec.specs.Steps.{Came, Goes, IsSame, Steps, Ticks}
 use Rattle.mdr_exec.specs.Storing.{with_slots}
@@ -53,9 +52,13 @@ module _ {M : Type 0} (a : Accesses M) (side : Side) (h h' : Held) (m m' : M) wh
   pub step_told : (ticks : ℕ) (e : Option Outcome) (x : Stepped) → x ≡ stepped_with e ticks → Steps a side h m (came_as e) h' m' → SteppedTo a side h m ticks x h' m'
   step_told ticks e x is s = subst (λ y. SteppedTo a side h m ticks y h' m') (sym is) (told_runs ticks ticks e (step_runs ticks (came_as e) s))
 
-  pub tick_told : (ticks left : ℕ) (e : Option Outcome) (x : Stepped) → x ≡ stepped_with e left → (ticks == 0) ≡ false → left ≡ ticks - 1 → Ticks a side h m (came_as e) h' m' → SteppedTo a side h m ticks x h' m'
+  before : (ticks left : ℕ) → (ticks ≡ 0 → ⊥) → left ≡ ticks - 1 → ticks ≡ suc left
+  before zero left some less = elim (some refl) [ ]
+  before (suc k) left some less = omega (arith, less)
+
+  pub tick_told : (ticks left : ℕ) (e : Option Outcome) (x : Stepped) → x ≡ stepped_with e left → (ticks ≡ 0 → ⊥) → left ≡ ticks - 1 → Ticks a side h m (came_as e) h' m' → SteppedTo a side h m ticks x h' m'
   tick_told ticks left e x is some less s =
-      let one : ticks ≡ suc left = grind (arith, some, less) in
+      let one : ticks ≡ suc left = before ticks left some less in
       subst (λ y. SteppedTo a side h m ticks y h' m') (sym is) (told_runs ticks left e (tick_runs ticks left (came_as e) one s))
 
 -- a block takes no tick
@@ -72,15 +75,14 @@ block_steps (Code.Jump n way) Stands P h is go = absurd (cc h)
 
 -- no tick is left for the statement that comes next
 module _ {M : Type 0} (a : Accesses M) (side : Side) (program : Program) (m : Machine) (memory : M) where
-  pub tick_wanted : (code : Code) (n ticks : ℕ) → is_running m.front ≡ true → at_next program m code → is_block code ≡ false → (ticks == 0) ≡ true → n ≡ number_of code
+  pub tick_wanted : (code : Code) (n ticks : ℕ) → is_running m.front ≡ true → at_next program m code → is_block code ≡ false → ticks ≡ 0 → n ≡ number_of code
       → SteppedTo a side (held_of program m) memory ticks (stepped.Wants (record { func = m.top.func; stmt = n })) (held_of program m) memory
   unfolding held_of here_of
   tick_wanted code n ticks runs is no_block none number =
-      let zero_is : ticks ≡ 0 = grind (arith, none) in
       let law : WantsTick side (held_of program m) (in_here (here_in program m) (number_of code)) (here_in program m).depth =
       subst (λ x. WantsTick side x (in_here (here_in program m) (number_of code)) (here_in program m).depth) (sym (stands program m code runs is))
       (statements_want_ticks side (here_in program m) (with_slots m.top.slots (wires_of m.top.born)) code (ahead_of program m) (items_of program m) no_block) in (
-        subst (λ t. RunsTo a side (held_of program m) memory t Goes (held_of program m) memory 0) (sym zero_is) (runs_are_made a side (held_of program m) memory 0).begins,
+        subst (λ t. RunsTo a side (held_of program m) memory t Goes (held_of program m) memory 0) (sym none) (runs_are_made a side (held_of program m) memory 0).begins,
         wants_here n (sym number) law,
       )
     where

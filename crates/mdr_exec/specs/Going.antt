@@ -1,5 +1,5 @@
 -- What a step comes to, and what a run does.
-use Rattle.std.specs.Prelude.{◌≡◌, ℕ, Bool, true, false, ◌==◌, length, Option, Some, None}
+use Rattle.std.specs.Prelude.{◌≡◌, ℕ, Bool, true, ◌==◌, length, Option, Some, None}
 use Rattle.mdr_meaning.specs.Sides.{Side}
 use Rattle.mdr_meaning.specs.Values.{wire_of}
 use Rattle.mdr_meaning.specs.Walk.{Accesses}
@@ -16,7 +16,7 @@ use Rattle.mdr_exec.specs.Events.{asked_as, came_with}
 use Rattle.mdr_exec.specs.Held.{Held}
 use Rattle.mdr_exec.specs.Holding.{waits, wires_of}
 use Rattle.mdr_exec.specs.Running.{RunsTo, WantsTick}
-use Rattle.mdr_exec.specs.Steps.{Came, Goes, Ended, Stopped, Asks, Crosses}
+use Rattle.mdr_exec.specs.Steps.{Goes, Ended, Stopped, Asks, Crosses}
 
 -- ---- steps
 

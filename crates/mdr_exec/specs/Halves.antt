@@ -1,22 +1,19 @@
 -- Which code runs on a side: that of one half, or all of it.
-use Rattle.std.specs.Prelude.{◌≡◌, ℕ, suc, Bool, true, false, not, List, [], ◌∷◌, Option, Some, None, Result, Ok, Err, slice_get}
+use Rattle.std.specs.Prelude.{◌≡◌, ℕ, suc, Bool, true, false, not, List, Option, Some, None, Result, Ok, Err, slice_get}
 use Rattle.mdr_core.specs.declared.plan.Half.{Half}
 use Rattle.mdr_core.specs.declared.plan.Half.TheVariants as half
-use Rattle.mdr_core.specs.declared.place.At.{At}
 use Rattle.mdr_core.specs.declared.program.Program.{Program}
 use Rattle.mdr_core.specs.declared.stop.StopKind.{StopKind}
-use Rattle.mdr_core.specs.Code.{CallOf, Code, Codes, Goal}
+use Rattle.mdr_core.specs.Code.{CallOf, Code, Goal}
 use Rattle.mdr_core.specs.Layout.{chosen}
 use Rattle.mdr_core.specs.Services.{Service, Kzalloc, Kcalloc, Printk, Deliver}
-use Rattle.mdr_meaning.specs.declared.wire.Wire.{Wire}
 use Rattle.mdr_meaning.specs.Bodies.{body_of, known_of, whole_side, kernel_side, user_side}
-use Rattle.mdr_meaning.specs.Sides.{Body, Here, Locals, Side, framed}
+use Rattle.mdr_meaning.specs.Sides.{Body, Here, Side}
 use Rattle.mdr_exec.specs.declared.calling.Calling.{Calling as Doing}
 use Rattle.mdr_exec.specs.declared.calling.Calling.TheVariants as doing
 use Rattle.mdr_exec.specs.declared.calling.Calls.{Calls}
 use Rattle.mdr_exec.specs.declared.calling.Taking.{Taking}
 use Rattle.mdr_exec.specs.declared.calling.Taking.TheVariants as taking
-use Rattle.mdr_exec.specs.declared.frame.Frame.{Frame as Running}
 use Rattle.mdr_exec.specs.declared.frame.Machine.{Machine}
 use Rattle.mdr_exec.specs.declared.frame.Side.{Side as Which}
 use Rattle.mdr_exec.specs.declared.frame.Side.TheVariants as which

@@ -1,5 +1,5 @@
 -- The value of a call, as it is received, and where it goes.
-use Rattle.std.specs.Prelude.{ℕ, Bool, true, false, List, Option, Some, None, Result, Ok, slice_get}
+use Rattle.std.specs.Prelude.{ℕ, Bool, true, false, Some, Result, slice_get}
 use Rattle.mdr_core.specs.declared.kind.Kind.{Kind}
 use Rattle.mdr_core.specs.declared.program.Program.{Program}
 use Rattle.mdr_core.specs.declared.stop.StopKind.{StopKind}

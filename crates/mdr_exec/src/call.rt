@@ -95,8 +95,9 @@ fn make_call(
             Ok(None)
         }
         Calling::Crossing(func, args) => {
+            let event = crossing(machine, at, func, args);
             await_value(machine);
-            Ok(Some(crossing(machine, at, func, args)))
+            Ok(Some(event))
         }
         Calling::Asking(asked) => {
             await_value(machine);

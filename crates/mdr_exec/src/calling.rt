@@ -271,13 +271,19 @@ pub(crate) enum Taking {
 fn taken_by(service: u32) -> Taking
     ensures { result ≡ taking_by (service_numbered service) }
 {
-    match service {
-        1 => Taking::Object,
-        2 => Taking::Objects,
-        6 => Taking::Text,
-        9 => Taking::Bytes,
-        _ => Taking::Arguments,
+    if service == 1 {
+        return Taking::Object;
     }
+    if service == 2 {
+        return Taking::Objects;
+    }
+    if service == 6 {
+        return Taking::Text;
+    }
+    if service == 9 {
+        return Taking::Bytes;
+    }
+    Taking::Arguments
 }
 
 /// A service of the kernel is asked for.

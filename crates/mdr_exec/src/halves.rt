@@ -1,12 +1,12 @@
 // Whose code is entered, and whose objects are asked for.
 
-ghost use Rattle.std.specs.Prelude.{◌≡◌, None, Some};
+ghost use Rattle.std.specs.Prelude.{◌≡◌, None, Some, option_copied, slice_get};
 ghost use Rattle.mdr_core.specs.Layout.{chosen};
 ghost use Rattle.mdr_meaning.specs.Bodies.{body_of};
 ghost use Rattle.mdr_exec.specs.Halves.{body_in, is_own, is_kernel, side_in};
 
 use crate::frame::Side;
-use mdr_core::{Half, Program};
+use mdr_core::{Func, Half, Program};
 
 fn is_kernel(halves: &[Half], func: u32) -> bool
     ensures { result ≡ is_kernel halves.now func }
@@ -29,10 +29,16 @@ fn is_own(side: Side, kernel: bool) -> bool
     }
 }
 
+fn func_at<'a>(program: &'a Program, func: u32) -> Option<&'a Func>
+    ensures { option_copied result ≡ slice_get program.now.funcs func }
+{
+    program.funcs.as_slice().get(func as usize)
+}
+
 fn has_body(program: &Program, func: u32) -> bool
     ensures { body_of program.now func ≡ chosen result (Some (body_in program.now func)) None }
 {
-    match program.funcs.as_slice().get(func as usize) {
+    match func_at(program, func) {
         Some(func) => match &func.body {
             Some(_) => true,
             None => false,

@@ -199,6 +199,15 @@ fn fill_one<C: Memory>(
     }
 }
 
+fn pointer_at(pointers: &[Value], i: usize) -> Option<Value>
+    ensures { result ≡ slice_get pointers.now i }
+{
+    match pointers.get(i) {
+        Some(pointer) => Some(*pointer),
+        None => None,
+    }
+}
+
 /// The objects of the parameters are given their values, one after the other, up to the first stop.
 fn fill_all<C: Memory>(
     memory: &mut C,
@@ -210,9 +219,9 @@ fn fill_all<C: Memory>(
     ensures { IfOk result (λ r. fills_of C.accesses params.now (wires_of pointers.now) (with_slots slots.old (wires_of born.old)) memory.old ≡ did (when_made r (with_slots slots.new (wires_of born.new))) memory.new) }
 {
     for i in 0..params.len() {
-        match pointers.get(i) {
+        match pointer_at(pointers, i) {
             Some(pointer) => {
-                let done = fill_one(memory, slots, born, params[i], *pointer)?;
+                let done = fill_one(memory, slots, born, params[i], pointer)?;
                 match done {
                     Ok(()) => {}
                     Err(stop) => return Ok(Err(stop)),

@@ -1,5 +1,4 @@
 use Rattle.std.proofs.Common.{Err, Ok}
-use Rattle.std.specs.Option.{option_copied}
 use Rattle.mdr_core.specs.Folds.{lvalue_of}
 use Rattle.mdr_meaning.specs.Bodies.{known_of}
 use Rattle.mdr_meaning.specs.Values.{wire_of}

@@ -1,5 +1,4 @@
 use Rattle.std.proofs.Common.{◌++◌, ◌∷◌, ◌∙◌, ap, sym}
-use Rattle.mdr_core.specs.Services.{Plain}
 use Rattle.mdr_meaning.specs.Printed.{printed}
 use Rattle.mdr_exec.specs.Holding.{wires_of}
 use Rattle.mdr_exec.specs.Printing.{reading_as}

@@ -1,10 +1,10 @@
-use Rattle.std.proofs.Common.{Some, None, ◌∙◌, ap, refl, sym}
+use Rattle.std.proofs.Common.{Some, ◌∙◌, ap, refl, sym}
 use Rattle.mdr_core.specs.declared.code.Step.TheVariants as step
 use Rattle.mdr_core.specs.Code.{Code, Codes, Goal, Way}
 use Rattle.mdr_core.specs.Folds.{codes_of, goal_of}
 use Rattle.mdr_core.proofs.Coded.{assign_is, break_is, call_is, code_is, continue_is, declare_is, empty_is, if_is, return_call_is, return_is, text_is, while_is}
 use Rattle.mdr_exec.specs.Halves.{side_in}
-use Rattle.mdr_exec.specs.Holding.{held_of}
+use Rattle.mdr_exec.specs.Holding.{held_of, here_of}
 use Rattle.mdr_exec.proofs.KeepingLaws.{stop_told}
 use Rattle.mdr_exec.proofs.statement.do_statement.Goals as goal
 
@@ -15,7 +15,7 @@ returns-in_ok-event-in-Declare g c =
 pub returns-in_ok-came-in-Text : goal.returns-in_ok-came-in-Text
 returns-in_ok-came-in-Text g c =
     stop_told g.C.Memory.accesses (side_in c.args.machine.now.side c.args.halves.now c.args.program.now) c.args.program.now c.args.machine.now (held_of c.args.program.now c.args.machine.now) (held_of c.args.program.now c.begin_text.new.machine) c.args.memory.now c.begin_text.new.memory c.args.statement.now.number
-    c.in_ok-came-in-Text.came c.stopped-in-Text.result c.stopped-in-Text.ensures
+    c.in_ok-came-in-Text.came c.stopped.result c.stopped.ensures
     (c.in_ok-came-in-Text.ensures (side_in c.args.machine.now.side c.args.halves.now c.args.program.now) c.args.statement.now.number (c.requires.stands ∙ ap Some (code_is c.args.statement.now (step.Text c.in-Text.i c.in-Text.text) c.in-Text.is ∙ text_is c.args.statement.now.number c.in-Text.i c.in-Text.text) ∙ ap (λ b. Some (Code.Text c.args.statement.now.number c.in-Text.i b)) (sym c.as_slice.ensures)))
 
 pub returns-in_ok-came-in-Assign : goal.returns-in_ok-came-in-Assign
@@ -45,12 +45,13 @@ returns-in_ok-came-in-While g c =
     (c.in_ok-came-in-While.ensures (side_in c.args.machine.now.side c.args.halves.now c.args.program.now) c.args.statement.now.number Codes.End (codes_of c.in-While.field-1) refl (c.requires.stands ∙ ap Some (code_is c.args.statement.now (step.While c.in-While.test c.in-While.field-1) c.in-While.is ∙ while_is c.args.statement.now.number c.in-While.test c.in-While.field-1)))
 
 pub returns-in_ok-event-in-Return : goal.returns-in_ok-event-in-Return
+unfolding here_of
 returns-in_ok-event-in-Return g c =
     c.in_ok-event-in-Return.ensures (side_in c.args.machine.now.side c.args.halves.now c.args.program.now) c.args.statement.now.number refl refl (c.requires.stands ∙ ap Some (code_is c.args.statement.now (step.Return c.in-Return.e) c.in-Return.is ∙ return_is c.args.statement.now.number c.in-Return.e))
 
 pub returns-in-Break : goal.returns-in-Break
 returns-in-Break g c =
-    c.begin_jump-in-Break.ensures c.args.program.now (side_in c.args.machine.now.side c.args.halves.now c.args.program.now) c.args.statement.now.number Way.Breaks refl (c.requires.stands ∙ ap Some (code_is c.args.statement.now step.Break c.in-Break.is ∙ break_is c.args.statement.now.number))
+    c.begin_jump.ensures c.args.program.now (side_in c.args.machine.now.side c.args.halves.now c.args.program.now) c.args.statement.now.number Way.Breaks refl (c.requires.stands ∙ ap Some (code_is c.args.statement.now step.Break c.in-Break.is ∙ break_is c.args.statement.now.number))
 
 pub returns-in-Continue : goal.returns-in-Continue
 returns-in-Continue g c =

@@ -8,8 +8,8 @@ use Rattle.mdr_exec.proofs.DoneLaws.{at_next}
 use Rattle.mdr_exec.proofs.TurnLaws.{block_steps, same_runs, tick_told, tick_wanted}
 use Rattle.mdr_exec.proofs.turn.step_statement.Goals as goal
 
-pub returns-in_ok-begin_block : goal.returns-in_ok-begin_block
-returns-in_ok-begin_block g c =
+pub returns-then-is_block : goal.returns-then-is_block
+returns-then-is_block g c =
     block_steps (code_of c.args.statement.now) (at_next c.args.program.now c.args.machine.now)
     (RunsTo g.C.Memory.accesses (side_in c.args.machine.now.side c.args.halves.now c.args.program.now) (held_of c.args.program.now c.args.machine.now) c.args.memory.now c.args.left Goes (held_of c.args.program.now c.begin_block.new.machine) c.args.memory.now c.args.left) (sym c.is_block.ensures ∙ c.if-is_block.true) c.requires.stands
     (λ body is. same_runs g.C.Memory.accesses (side_in c.args.machine.now.side c.args.halves.now c.args.program.now) (held_of c.args.program.now c.args.machine.now) (held_of c.args.program.now c.begin_block.new.machine) c.args.memory.now c.args.memory.now c.args.left
