@@ -82,6 +82,7 @@ module _ {M : Type 0} (a : Accesses M) (m : Machine) (flow : Leaving) (born : Li
     front = b;
     top = record { func = m.top.func; depth = m.top.depth; path = m.top.path; next = m.top.next; slots = m.top.slots; born = born };
     below = m.below;
+    used = m.used;
   }
 
   died : (b : Before) (memory' : M) (program : Program) (side : Side) → m.front ≡ front.Unwinds flow → born ≡ [] → DiesAt (flow_as flow) (held_of program m).items
@@ -124,6 +125,7 @@ module _ {M : Type 0} (a : Accesses M) (m : Machine) (flow : Leaving) (born take
         front = front.WaitsDeath flow;
         top = record { func = m.top.func; depth = m.top.depth; path = m.top.path; next = m.top.next; slots = m.top.slots; born = born };
         below = m.below;
+        used = m.used;
       })) memory
   died_asked is none told not_empty taken_is asks_is yes_asks program side d same =
       let some = some_taken e taken m.top.born told not_empty taken_is in
@@ -138,6 +140,7 @@ module _ {M : Type 0} (a : Accesses M) (m : Machine) (flow : Leaving) (born take
         front = m.front;
         top = record { func = m.top.func; depth = m.top.depth; path = m.top.path; next = m.top.next; slots = m.top.slots; born = born };
         below = m.below;
+        used = m.used;
       })) memory'
   died_here is none told not_empty taken_is asks_is no_asks slice sliced memory' done program side d same =
       let some = some_taken e taken m.top.born told not_empty taken_is in
@@ -150,13 +153,13 @@ module _ {M : Type 0} (a : Accesses M) (m : Machine) (flow : Leaving) (born take
 
 module _ (m : Machine) (flow : Leaving) (s : Suspended) (below : List Suspended) (value : Value) where
   pub called_back : m.front ≡ front.Unwinds flow → m.top.path ≡ [] → m.top.born ≡ [] → m.below ≡ below ++ s ∷ [] → s.until ≡ until.Call → wire_of value ≡ returned (flow_as flow)
-      → (program : Program) (side : Side) → IsSame side (held_of program m) (held_of program (record { side = m.side; front = front.Comes value; top = s.frame; below = below }))
+      → (program : Program) (side : Side) → IsSame side (held_of program m) (held_of program (record { side = m.side; front = front.Comes value; top = s.frame; below = below; used = m.used }))
   unfolding held_of below_of around bare tree carry
   called_back is outside none last waits gives program side =
       rw (is, outside, none, last, reverse-append below (s ∷ []), waits, gives) (record { by = λ f r. refl })
 
   pub start_ended : (b : Before) → m.front ≡ front.Unwinds flow → m.top.path ≡ [] → m.top.born ≡ [] → m.below ≡ below ++ s ∷ [] → s.until ≡ until.Started b → wire_of value ≡ returned (flow_as flow)
-      → (program : Program) (side : Side) → Finishes side (held_of program m) (wire_of value) (held_of program (record { side = m.side; front = b; top = s.frame; below = below }))
+      → (program : Program) (side : Side) → Finishes side (held_of program m) (wire_of value) (held_of program (record { side = m.side; front = b; top = s.frame; below = below; used = m.used }))
   unfolding held_of below_of around bare tree carry cut
   start_ended b is outside none last waits gives program side =
       rw (is, outside, none, last, reverse-append below (s ∷ []), waits, gives) (record { by = λ f r. refl })

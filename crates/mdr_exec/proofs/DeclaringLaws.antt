@@ -14,7 +14,7 @@ use Rattle.mdr_meaning.specs.Lives.{asked_for, shape_of}
 use Rattle.mdr_meaning.specs.Sides.{Side, Locals, Ends}
 use Rattle.mdr_meaning.specs.Values.{first_of, wire_of}
 use Rattle.mdr_meaning.specs.Walk.{Accesses}
-use Rattle.mdr_exec.specs.declared.event.Event.{Event}
+use Rattle.mdr_exec.specs.declared.event.Outcome.{Outcome}
 use Rattle.mdr_exec.specs.declared.frame.Front.TheVariants as front
 use Rattle.mdr_exec.specs.declared.frame.Machine.{Machine}
 use Rattle.mdr_exec.specs.Events.{came_with}
@@ -97,7 +97,7 @@ module _ {M : Type 0} (a : Accesses M) (program : Program) (m : Machine) (memory
       ((statements_step a side (here_in program m) (locals_of program m) (ahead_of program m) (items_of program m) memory n).births i s some object asks) refl
       (ap (λ x. holds x (here_in program m) (locals_of program m) (ahead_of program m) (items_of program m)) here_born ∙ sym (stepped_holds program m (front.Born i p) next m.top.slots at)))
 
-  pub object_asked : (s : Slot) (shape : Shape64) (e : Event) (next : ℕ) → came_with e ≡ Asks (asked_for 13 (record { func = m.top.func; stmt = 0 }) [] (shape ∷ []) []) → next ≡ m.top.next + 1
+  pub object_asked : (s : Slot) (shape : Shape64) (e : Outcome) (next : ℕ) → came_with e ≡ Asks (asked_for 13 (record { func = m.top.func; stmt = 0 }) [] (shape ∷ []) []) → next ≡ m.top.next + 1
       → slot_is (Some s) → s.object ≡ true → side.asks ≡ true → shape ≡ shape_of side.known s → Ticks a side (held_of program m) memory (came_with e) (held_of program (stepped_to program m (front.WaitsObject i) next m.top.slots)) memory
   unfolding here_of
   object_asked s shape e next came at some object asks shape_is =

@@ -37,6 +37,7 @@ module _ (program : Program) (m : Machine) where
     front = b;
     top = record { func = m.top.func; depth = m.top.depth; path = m.top.path; next = next; slots = slots; born = m.top.born };
     below = m.below;
+    used = m.used;
   }
 
   pub stepped_holds : (b : Before) (next : ℕ) (slots : List Value) → next ≡ m.top.next + 1

@@ -31,6 +31,7 @@ pub enters_list : (m : Machine) (part : Part) (next : ℕ) (path : List Position
       front = m.front;
       top = record { func = m.top.func; depth = m.top.depth; path = path; next = 0; slots = m.top.slots; born = born };
       below = m.below;
+      used = m.used;
     }) ≡ list_entered program m part
 unfolding held_of behind
 enters_list m part next path born outer runs e b o p program =

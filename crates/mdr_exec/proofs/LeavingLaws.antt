@@ -210,6 +210,7 @@ held_front : (program : Program) (m : Machine) (b : Before) (flow : Flow) (next 
       front = b;
       top = record { func = m.top.func; depth = m.top.depth; path = m.top.path; next = next; slots = m.top.slots; born = born };
       below = m.below;
+      used = m.used;
     }) ≡ goes_behind program m flow next (wires_of born)
 unfolding held_of
 held_front program m b flow next born is =
@@ -223,6 +224,7 @@ pub held_behind : (m : Machine) (b : Before) (flow : Flow) (next : ℕ) (born : 
       front = b;
       top = record { func = m.top.func; depth = m.top.depth; path = m.top.path; next = next; slots = m.top.slots; born = born };
       below = m.below;
+      used = m.used;
     }) ≡ goes_behind program m flow next (wires_of born)
 held_behind m b flow next born is program = held_front program m b flow next born is
 
@@ -233,6 +235,7 @@ pub held_round : (m : Machine) (path : List Position) (next : ℕ) (born none : 
       front = front.Runs;
       top = record { func = m.top.func; depth = m.top.depth; path = path; next = 0; slots = m.top.slots; born = born };
       below = m.below;
+      used = m.used;
     }) ≡ goes_round program m p
 unfolding held_of behind
 held_round m path next born none is e program p n b =
@@ -256,6 +259,7 @@ module _ (program : Program) (m : Machine) (path : List Position) where
     front = m.front;
     top = record { func = m.top.func; depth = m.top.depth; path = path; next = m.top.next; slots = m.top.slots; born = m.top.born };
     below = m.below;
+    used = m.used;
   }
 
   found_last : (flow : Leaving) (p : Position) → m.front ≡ front.Unwinds flow → m.top.path ≡ path ++ p ∷ [] → (side : Side) → IsSame side (held_of program m) (leaves_list program placed (flow_as flow) p)

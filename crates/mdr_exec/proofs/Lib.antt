@@ -23,3 +23,10 @@ mod Begun
 mod DoneLaws
 mod DeclaringLaws
 mod TextLaws
+pub mod KeepingLaws
+pub mod TurnLaws
+pub mod MakingLaws
+pub mod ArgumentLaws
+pub mod ParamLaws
+pub mod PrintLaws
+pub mod ReceivingLaws

@@ -23,15 +23,16 @@ use Rattle.mdr_exec.specs.Steps.{child}
 use Rattle.mdr_exec.proofs.RunningLaws.{questions_are_answered}
 
 -- nothing was started
-pub nothing_held : (program : Program) (s : Here) (path : List Position) (slots born : List Value) (below : List Suspended) → path ≡ [] → below ≡ [] → (side : Side) (f r : ℕ)
+pub nothing_held : (program : Program) (s : Here) (path : List Position) (slots born : List Value) (below : List Suspended) (u : ℕ) → path ≡ [] → below ≡ [] → (side : Side) (f r : ℕ)
     → tree side f (held_of program (record {
       side = s;
       front = front.Unwinds flow.Ends;
       top = record { func = 0; depth = 0; path = path; next = 0; slots = slots; born = born };
       below = below;
+      used = u;
     })) r ≡ Tree.Idle
 unfolding tree bare held_of below_of around carry cut
-nothing_held program s path slots born below p q side f r = rw (p, q) refl
+nothing_held program s path slots born below u p q side f r = rw (p, q) refl
 
 still_waits : (program : Program) (frame : Running) (b : Before) → waits b ≡ true → is_waiting (front_in program frame b) ≡ true
 still_waits program frame front.WaitsValue h = refl
@@ -55,7 +56,7 @@ params_come b room ps results is same program frame = rw (is, same) refl
 pub resumed : (m : Machine) (old b : Before) (results : List Wire) → old ≡ m.front
     → ((program : Program) (frame : Running) → front_in program frame b ≡ answered (front_in program frame old) (here_of program frame.func frame.depth) results)
     → waits m.front ≡ true → (program : Program) (side : Side) (f r : ℕ)
-    → tree side f (held_of program (record { side = m.side; front = b; top = m.top; below = m.below })) r ≡ child (tree side f (held_of program m) r) results
+    → tree side f (held_of program (record { side = m.side; front = b; top = m.top; below = m.below; used = m.used })) r ≡ child (tree side f (held_of program m) r) results
 unfolding held_of
 resumed m old b results same is waiting program side f r =
     ap (λ (x : Front). tree side f (record (held_of program m) { front = x }) r)

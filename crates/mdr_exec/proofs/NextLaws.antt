@@ -18,7 +18,7 @@ use Rattle.mdr_exec.proofs.StartLaws.{wires_more}
 use Rattle.mdr_exec.proofs.StoringLaws.{wires_set}
 
 pub ran_out : (m : Machine) → is_running m.front ≡ true → (program : Program) (side : Side) → code_at (block_of program m.top) m.top.next ≡ None
-    → IsSame side (held_of program m) (held_of program (record { side = m.side; front = front.Unwinds flow.Ends; top = m.top; below = m.below }))
+    → IsSame side (held_of program m) (held_of program (record { side = m.side; front = front.Unwinds flow.Ends; top = m.top; below = m.below; used = m.used }))
 unfolding held_of bare tree carry means
 ran_out m runs program side none =
     rw (running_is m.front runs, none_stands (block_of program m.top) m.top.next none) (record { by = λ f r. refl })
@@ -30,6 +30,7 @@ pub object_taken : (m : Machine) (i : ℕ) (p : Value) (slots born : List Value)
       front = front.Runs;
       top = record { func = m.top.func; depth = m.top.depth; path = m.top.path; next = m.top.next; slots = slots; born = born };
       below = m.below;
+      used = m.used;
     }))
 unfolding held_of bare tree carry
 object_taken m i p slots born is set more program side =

@@ -43,6 +43,7 @@ module _ (program : Program) (m : Machine) (func depth : ℕ) (args : List Wire)
     front = front.Enters;
     top = record { func = func; depth = d; path = path; next = 0; slots = slots; born = born };
     below = below;
+    used = m.used;
   }
 
   is_started : (d : ℕ) (path : List Position) (slots born : List Value) (below : List Suspended)
@@ -75,10 +76,10 @@ module _ (program : Program) (m : Machine) (func depth : ℕ) (args : List Wire)
       → below ≡ m.below ++ record { frame = frame; until = until.Started old } ∷ []
       → (b : Body) → body_of program func ≡ Some b
       → (side : Side) → side.own func ≡ body_of program func → (f r : ℕ) → r ≤ f
-      → tree side f (held_of program (record { side = m.side; front = before; top = top; below = below })) r ≡ cut r (started side (f + 1) func args depth (tree side f (held_of program m) r))
+      → tree side f (held_of program (record { side = m.side; front = before; top = top; below = below; used = m.used })) r ≡ cut r (started side (f + 1) func args depth (tree side f (held_of program m) r))
   starts_so top frame before old d path slots born below et eb ef eo e p q s is b has side own f r fewer =
-      ap (λ (x : Running). tree side f (held_of program (record { side = m.side; front = before; top = x; below = below })) r) et
-      ∙ ap (λ (x : Before). tree side f (held_of program (record { side = m.side; front = x; top = record { func = func; depth = d; path = path; next = 0; slots = slots; born = born }; below = below })) r) eb
+      ap (λ (x : Running). tree side f (held_of program (record { side = m.side; front = before; top = x; below = below; used = m.used })) r) et
+      ∙ ap (λ (x : Before). tree side f (held_of program (record { side = m.side; front = x; top = record { func = func; depth = d; path = path; next = 0; slots = slots; born = born }; below = below; used = m.used })) r) eb
       ∙ starts d path slots born below e p q s
       (is ∙ ap (λ (x : Running). m.below ++ record { frame = x; until = until.Started old } ∷ []) ef ∙ ap (λ (x : Before). m.below ++ record { frame = m.top; until = until.Started x } ∷ []) eo)
       b has side own f r fewer

@@ -93,7 +93,7 @@ module _ {M : Type 0} (a : Accesses M) (program : Program) (m : Machine) (memory
 
   pub assign_goes : (v : Wire) (r : Result (Unit {0}) StopKind) (slots : List Value) (memory' : M) (held : Held) (next : ℕ)
       → ((born : List Wire) → put_of a (known_of program) p v (with_slots m.top.slots born) memory ≡ did (when_made r (with_slots slots born)) memory') → (u : Unit {0}) → r ≡ Ok u → next ≡ m.top.next + 1
-      → held ≡ goes_behind program (record { side = m.side; front = m.front; top = record { func = m.top.func; depth = m.top.depth; path = m.top.path; next = m.top.next; slots = slots; born = m.top.born }; below = m.below }) Ends next (wires_of m.top.born)
+      → held ≡ goes_behind program (record { side = m.side; front = m.front; top = record { func = m.top.func; depth = m.top.depth; path = m.top.path; next = m.top.next; slots = slots; born = m.top.born }; below = m.below; used = m.used }) Ends next (wires_of m.top.born)
       → (side : Side) (n : ℕ) (e : Term) → Ok v ≡ value_of a memory (known_of program) (wires_of m.top.slots) e → side.known ≡ known_of program → code_at (block_of program m.top) m.top.next ≡ Some (Code.Assign n p e)
       → Ticks a side (held_of program m) memory Goes held memory'
   unfolding held_of
@@ -103,7 +103,7 @@ module _ {M : Type 0} (a : Accesses M) (program : Program) (m : Machine) (memory
       put (wires_of m.top.born) ∙ ap (λ x. did (when_made x (with_slots slots (wires_of m.top.born))) memory') ok in
       let done : assigned a side.known p e locals_in memory ≡ left = valued_so side e (Ok v) value_is known ∙ ap (λ d. after_did d (ended Ends)) made in
       subst (λ x. Ticks a side (held_of program m) memory Goes x memory')
-      (sym (h ∙ goes_past program (record { side = m.side; front = m.front; top = record { func = m.top.func; depth = m.top.depth; path = m.top.path; next = m.top.next; slots = slots; born = m.top.born }; below = m.below }) Ends next next_is))
+      (sym (h ∙ goes_past program (record { side = m.side; front = m.front; top = record { func = m.top.func; depth = m.top.depth; path = m.top.path; next = m.top.next; slots = slots; born = m.top.born }; below = m.below; used = m.used }) Ends next next_is))
       (assigned_so side n e left done at)
 
   pub assign_stops : (v : Wire) (r : Result (Unit {0}) StopKind) (kind : StopKind) (slots : List Value) (memory' : M) (held : Held)

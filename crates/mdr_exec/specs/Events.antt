@@ -4,21 +4,21 @@ use Rattle.mdr_meaning.specs.Lives.{asked_for}
 use Rattle.mdr_meaning.specs.Tree.{Asked}
 use Rattle.mdr_meaning.specs.Values.{wire_of}
 use Rattle.mdr_exec.specs.declared.event.Asked.{Asked as Question}
-use Rattle.mdr_exec.specs.declared.event.Event.{Event}
-use Rattle.mdr_exec.specs.declared.event.Event.TheVariants as event
+use Rattle.mdr_exec.specs.declared.event.Outcome.{Outcome}
+use Rattle.mdr_exec.specs.declared.event.Outcome.TheVariants as outcome
 use Rattle.mdr_exec.specs.Holding.{wires_of}
 use Rattle.mdr_exec.specs.Steps.{Came, Goes, Ended, Stopped, Asks, Crosses}
 
 abbrev pub asked_as : Question → Asked
 asked_as q = asked_for q.service q.at (wires_of q.args) q.shapes q.bytes
 
-abbrev pub came_with : Event → Came
-came_with (event.Done v) = Ended (wire_of v)
-came_with (event.Cross c) = Crosses c.at c.func (wires_of c.args) c.depth
-came_with (event.Service q) = Asks (asked_as q)
-came_with (event.Stop kind at) = Stopped kind at
+abbrev pub came_with : Outcome → Came
+came_with (outcome.Done v) = Ended (wire_of v)
+came_with (outcome.Cross c) = Crosses c.at c.func (wires_of c.args) c.depth
+came_with (outcome.Service q) = Asks (asked_as q)
+came_with (outcome.Stop kind at) = Stopped kind at
 
 -- an event, or the next step
-abbrev pub came_as : Option Event → Came
+abbrev pub came_as : Option Outcome → Came
 came_as None = Goes
 came_as (Some e) = came_with e

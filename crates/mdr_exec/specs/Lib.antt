@@ -18,3 +18,8 @@ pub mod Storing
 pub mod Went
 pub mod Events
 pub mod Declaring
+pub mod Receiving
+pub mod Entering
+pub mod Printing
+pub mod Halves
+pub mod Going

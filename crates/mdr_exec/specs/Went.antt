@@ -39,4 +39,5 @@ inside m p = record {
   front = m.front;
   top = record { func = m.top.func; depth = m.top.depth; path = m.top.path ++ p ∷ []; next = m.top.next; slots = m.top.slots; born = m.top.born };
   below = m.below;
+  used = m.used;
 }

@@ -70,7 +70,7 @@ fn slot_named(p: &Lval) -> Option<u32>
 }
 
 /// A value is put where an lvalue says.
-fn put<C: Memory>(
+pub(crate) fn put<C: Memory>(
     program: &Program,
     memory: &mut C,
     slots: &mut Items<Value>,

@@ -21,7 +21,7 @@ use std::alloc::Global;
 use std::mem;
 
 /// Whether births and deaths of objects are asked for.
-fn asks_on(side: Side) -> bool
+pub(crate) fn asks_on(side: Side) -> bool
     ensures { result ≡ asks_on side }
 {
     match side {

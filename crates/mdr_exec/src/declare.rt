@@ -14,7 +14,7 @@ ghost use Rattle.mdr_exec.specs.Holding.{block_of, held_of, is_running, slots_by
 ghost use Rattle.mdr_exec.specs.Places.{code_at};
 ghost use Rattle.mdr_exec.specs.Steps.{Goes, Ticks};
 
-use crate::event::{Asked, Event};
+use crate::event::{Asked, Outcome};
 use crate::frame::{Flow, Front, Machine};
 use crate::halt::Halt;
 use crate::leave::go_past;
@@ -96,7 +96,7 @@ fn ask_object<C: Memory>(
     memory: &C,
     i: u32,
     shape: Shape64,
-) -> Result<Event, AllocError>
+) -> Result<Outcome, AllocError>
     requires runs { is_running machine.old.front ≡ true }
     requires next { machine.old.top.next < 18446744073709551615 }
     ensures { IfOk result (λ e. (program : AnyProgram) (side : AnySide) (n : ℕ) (s : Slot) → slice_get (slots_by (slice_get program.funcs machine.old.top.func)) i ≡ Some s → s.object ≡ true → side.asks ≡ true → shape ≡ shape_of side.known s → code_at (block_of program machine.old.top) machine.old.top.next ≡ Some (Code.Declare n i) → Ticks C.accesses side (held_of program machine.old) memory.now (came_with e) (held_of program machine.new) memory.now) }
@@ -108,7 +108,7 @@ fn ask_object<C: Memory>(
     let asked = asked_for_one(alloc, at, shape)?;
     machine.top.next = machine.top.next + 1;
     machine.front = Front::WaitsObject(i);
-    Ok(Event::Service(asked))
+    Ok(Outcome::Service(asked))
 }
 
 /// A local that is an object.
@@ -119,7 +119,7 @@ fn declare_object<C: Memory>(
     i: u32,
     shape: Shape64,
     asks: bool,
-) -> Result<Option<Event>, AllocError>
+) -> Result<Option<Outcome>, AllocError>
     requires runs { is_running machine.old.front ≡ true }
     requires next { machine.old.top.next < 18446744073709551615 }
     ensures { IfOk result (λ e. (program : AnyProgram) (side : AnySide) (n : ℕ) (s : Slot) → slice_get (slots_by (slice_get program.funcs machine.old.top.func)) i ≡ Some s → s.object ≡ true → side.asks ≡ asks → shape ≡ shape_of side.known s → code_at (block_of program machine.old.top) machine.old.top.next ≡ Some (Code.Declare n i) → Ticks C.accesses side (held_of program machine.old) memory.old (came_as e) (held_of program machine.new) memory.new) }
@@ -142,7 +142,7 @@ fn declare<'a, C: Memory>(
     i: u32,
     declared: Declared<'a>,
     asks: bool,
-) -> Result<Option<Event>, Halt>
+) -> Result<Option<Outcome>, Halt>
     requires runs { is_running machine.old.front ≡ true }
     requires next { machine.old.top.next < 18446744073709551615 }
     ensures { IfOk result (λ e. (side : AnySide) (n : ℕ) → slice_get (slots_by (slice_get program.now.funcs machine.old.top.func)) i ≡ Some (slot_as declared.entry) → side.known ≡ known_of program.now → side.asks ≡ asks → code_at (block_of program.now machine.old.top) machine.old.top.next ≡ Some (Code.Declare n i) → Ticks C.accesses side (held_of program.now machine.old) memory.old (came_as e) (held_of program.now machine.new) memory.new) }
@@ -165,7 +165,7 @@ pub(crate) fn begin_declare<C: Memory>(
     memory: &mut C,
     i: u32,
     asks: bool,
-) -> Result<Option<Event>, Halt>
+) -> Result<Option<Outcome>, Halt>
     requires runs { is_running machine.old.front ≡ true }
     requires next { machine.old.top.next < 18446744073709551615 }
     ensures { IfOk result (λ e. (side : AnySide) (n : ℕ) → side.known ≡ known_of program.now → side.asks ≡ asks → code_at (block_of program.now machine.old.top) machine.old.top.next ≡ Some (Code.Declare n i) → Ticks C.accesses side (held_of program.now machine.old) memory.old (came_as e) (held_of program.now machine.new) memory.new) }

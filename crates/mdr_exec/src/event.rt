@@ -1,5 +1,9 @@
 // What a step of a machine comes to, other than the next step.
 
+ghost use Rattle.std.specs.Prelude.{◌≡◌};
+ghost use Rattle.mdr_exec.specs.Beginning.{came_of};
+ghost use Rattle.mdr_exec.specs.Events.{came_as};
+
 use mdr_core::{At, Items, StopKind, Value};
 use mdr_meaning::Shape64;
 
@@ -24,10 +28,32 @@ pub struct Crossing {
 
 /// What running code comes to.
 #[derive(Debug, Drop)]
-pub enum Event {
+pub enum Outcome {
     /// The function that was started last ended with a value.
     Done(Value),
     Cross(Crossing),
     Service(Asked),
     Stop(StopKind, At),
+}
+
+/// What a run of the machine comes to.
+#[derive(Debug, Drop)]
+pub enum Event {
+    /// The function that was started last ended with a value.
+    Done(Value),
+    Cross(Crossing),
+    Service(Asked),
+    /// A tick is needed at a place, and none is left.
+    TicksOut(At),
+    Stop(StopKind, At),
+}
+
+/// A stop is an event, at its place.
+pub(crate) fn stopped(came: Option<StopKind>, at: At) -> Option<Outcome>
+    ensures { came_as result ≡ came_of came at }
+{
+    match came {
+        Some(stop) => Some(Outcome::Stop(stop, at)),
+        None => None,
+    }
 }

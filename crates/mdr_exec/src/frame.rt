@@ -81,4 +81,6 @@ pub struct Machine {
     pub top: Frame,
     /// The innermost last.
     pub below: Items<Suspended>,
+    /// The ticks of the last run.
+    pub used: u64,
 }

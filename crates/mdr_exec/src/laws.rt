@@ -1,6 +1,7 @@
 // Laws, each as a function that does nothing.
 
 ghost use Rattle.mdr_exec.specs.Evaluation.{ValuesArePassed, PlacesArePassed, ListsArePassed};
+ghost use Rattle.mdr_exec.specs.Halves.{SidesAreHalves};
 ghost use Rattle.mdr_exec.specs.Running.{FunctionsAreStarted, QuestionsAreAnswered, StatementsWantTicks, EachRunIsMade};
 ghost use Rattle.mdr_exec.specs.StatementSteps.{EachStatementSteps};
 ghost use Rattle.mdr_exec.specs.Unwinding.{HeldWorkGoesOn};
@@ -43,4 +44,9 @@ pub fn questions_are_answered()
 /// The tree of held work in which a statement comes next begins with its tick.
 pub fn statements_want_ticks()
     ensures { StatementsWantTicks }
+{}
+
+/// The side of a machine enters the bodies that the meaning of its half enters, and asks for objects as that does.
+pub fn sides_are_halves()
+    ensures { SidesAreHalves }
 {}

@@ -28,6 +28,15 @@ pub trait Memory {
         ensures made { accesses.store self.old (wire_of pointer) (wire_of value) ≡ when_made result self.new }
         ensures kept { OnErr result (self.new ≡ self.old) };
 
+    /// What so many bytes from a pointer on hold, as one access.
+    fn read(
+        &self,
+        alloc: Global,
+        pointer: Value,
+        count: u64,
+    ) -> Result<Result<Items<u8>, StopKind>, AllocError>
+        ensures { IfOk result (λ bytes. bytes ≡ accesses.read self.now (wire_of pointer) count) };
+
     /// Objects are born, with a pointer to each. Where memory is wanting, nothing is promised of this one.
     fn birth(&mut self, alloc: Global, shapes: &[Shape64]) -> Result<Items<Value>, AllocError>
         ensures pointers { IfOk result (λ ps. wires_of ps ≡ (accesses.birth self.old shapes.now).pointers) }

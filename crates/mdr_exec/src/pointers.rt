@@ -178,7 +178,7 @@ fn cast_view(program: &Program, ty: &Ty, view: View) -> Result<Value, StopKind>
     }
 }
 
-fn cast_value(program: &Program, ty: &Ty, value: Value) -> Result<Value, StopKind>
+pub(crate) fn cast_value(program: &Program, ty: &Ty, value: Value) -> Result<Value, StopKind>
     ensures { wired result ≡ cast (known_of program.now) ty.now (wire_of value) }
 {
     match value {

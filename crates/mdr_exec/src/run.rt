@@ -45,7 +45,7 @@ fn answered(front: Front, results: &[Value]) -> Front
 }
 
 /// The slots of a function that is called.
-fn slots_of(
+pub(crate) fn slots_of(
     alloc: Global,
     program: &Program,
     func: u32,
@@ -76,6 +76,7 @@ impl Machine {
                 born: Items::new(alloc),
             },
             below: Items::new(alloc),
+            used: 0,
         }
     }
 

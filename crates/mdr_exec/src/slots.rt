@@ -23,7 +23,7 @@ pub(crate) struct Declared<'a> {
     pub(crate) is_local: bool,
 }
 
-fn of_param<'a>(param: &'a Param) -> Declared<'a>
+pub(crate) fn of_param<'a>(param: &'a Param) -> Declared<'a>
     ensures { slot_as result ≡ slot_of_param param.now }
 {
     Declared {

@@ -25,5 +25,6 @@ returns-in-Err g c =
         born = c.args.machine.now.top.born;
       };
       below = c.args.machine.now.below;
+      used = c.args.machine.now.used;
     }))
     c.in_ok-done.ensures c.in-Err.is
