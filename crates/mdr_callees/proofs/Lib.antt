@@ -1,0 +1,2 @@
+mod CalleeLaws
+mod HalfLaws

@@ -1,0 +1,19 @@
+// Laws, each as a function that does nothing.
+
+ghost use Rattle.mdr_callees.specs.Callees.{CodeKeepsToTheCallGraph, CrossingsHaveStubs, TheKernelHalfCrossesNowhere};
+
+/// Running code of a sound program calls only functions that the call graph says it may call, passes on only functions
+/// whose addresses are taken, and registers only handlers that `request_irq` is given somewhere.
+pub fn code_keeps_to_the_call_graph()
+    ensures { CodeKeepsToTheCallGraph }
+{}
+
+/// A function of the kernel half that code of the user half calls has a down stub.
+pub fn crossings_have_stubs()
+    ensures { CrossingsHaveStubs }
+{}
+
+/// Code of the kernel half calls no function of the user half, calls back through the kernel aside.
+pub fn the_kernel_half_crosses_nowhere()
+    ensures { TheKernelHalfCrossesNowhere }
+{}

@@ -1,0 +1,8 @@
+//! What running code of a sound program does with functions is what the slicer says of it.
+#![tactic(auto)]
+
+mod laws;
+
+pub use laws::{
+    code_keeps_to_the_call_graph, crossings_have_stubs, the_kernel_half_crosses_nowhere,
+};
