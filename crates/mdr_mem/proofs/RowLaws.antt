@@ -1,10 +1,12 @@
 -- Laws of blocks in their slots.
-use Rattle.std.proofs.Common.{◌≡◌, ◌≢◌, ℕ, suc, Bool, true, false, cond, List, [], ◌∷◌, ◌++◌, Option, Some, None, refl, sym, ◌∙◌, ap, arith}
-use Rattle.std.specs.Prelude.{◌==◌, length, slice_get, slice_set}
+use Rattle.std.proofs.Common.{◌≡◌, ◌≢◌, ℕ, zero, suc, Bool, true, false, cond, List, [], ◌∷◌, ◌++◌, map, Option, Some, None, refl, sym, ◌∙◌, ap, subst, arith}
+use Rattle.std.specs.Prelude.{◌==◌, length, option_map, slice_get, slice_set}
 use Rattle.std.proofs.lemmas.Bool.{eqb-true, eq-eqb}
 use Rattle.std.proofs.lemmas.List.{map-set}
 use Rattle.mdr_core.specs.declared.value.Block.{Block}
 use Rattle.mdr_core.specs.declared.value.Value.{Value}
+use Rattle.mdr_meaning.specs.declared.wire.Wire.{Wire}
+use Rattle.mdr_model.specs.declared.memory.MemoryBlock.{MemoryBlock}
 use Rattle.mdr_model.specs.Memory.{born_at, cell_at, put, killed, swept_block}
 use Rattle.mdr_mem.specs.declared.rows.Held.{Held}
 use Rattle.mdr_mem.specs.Contents.{is_handle, left_of, wire_in, cell_in}
@@ -162,3 +164,30 @@ blocks-stored alive slots slots' (h ∷ hs) b x index v rise held there was now 
     of false e later =
         let k : is_handle hs b ≡ true = behind h hs b e there in
         rw (serial, e) (λ i. ap (shown alive) (others h.slot (apart slots h b (held h (first_is h hs)) (held b there) (λ f. grind (arith, e, eq-eqb h.serial b.serial f)))) i ∷ later k i)
+
+-- ---- the block at a place
+
+pub handle-place : (hs : List Block) (place : ℕ) (b : Block) → slice_get hs place ≡ Some b → is_handle hs b ≡ true
+handle-place [] place b e = absurd cc
+handle-place (h ∷ hs) zero b e = let same : h ≡ b = cc in subst (λ x. is_handle (h ∷ hs) x ≡ true) same (first_is h hs)
+handle-place (h ∷ hs) (suc place) b e = later_is h hs b (handle-place hs place b e)
+
+abbrev pub cells_in : MemoryBlock → List Wire
+cells_in b = b.cells
+
+pub cells-place : (alive : List Block) (slots : Slots) (hs : List Block) (place : ℕ) (b : Block) (x : Held) (vs : List Value)
+    → slice_get hs place ≡ Some b → in_slot slots b.slot ≡ Some x → vs ≡ x.cells
+    → option_map cells_in (slice_get (blocks_of alive slots hs) place) ≡ Some (map (wire_in alive) vs)
+unfolding blocks_of
+cells-place alive slots [] place b x vs e was is = absurd cc
+cells-place alive slots (h ∷ hs) zero b x vs e was is =
+    let same : h ≡ b = cc in
+    ap (λ (g : Block). Some (shown alive (in_slot slots g.slot)).cells) same ∙ ap (λ o. Some (shown alive o).cells) was ∙ ap (λ ws. Some (map (wire_in alive) ws)) (sym is)
+cells-place alive slots (h ∷ hs) (suc place) b x vs e was is = cells-place alive slots hs place b x vs e was is
+
+pub no-place : (alive : List Block) (slots : Slots) (hs : List Block) (place : ℕ) → slice_get hs place ≡ None
+    → option_map cells_in (slice_get (blocks_of alive slots hs) place) ≡ None
+unfolding blocks_of
+no-place alive slots [] place e = refl
+no-place alive slots (h ∷ hs) zero e = absurd cc
+no-place alive slots (h ∷ hs) (suc place) e = no-place alive slots hs place e

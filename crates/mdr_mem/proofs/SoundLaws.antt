@@ -189,7 +189,7 @@ index-value f (v ∷ vs) (suc i) d l = index-value f vs i d (omega arith)
 module _ (hs : List Block) (slots : Slots) (lives : List Life) (births room : ℕ) (s : IsSound hs slots lives births room)
     (b : Block) (alive : is_handle hs b ≡ true) (x : Held) (was : in_slot slots b.slot ≡ Some x)
   where
-    cells-of : (index : ℕ) → cell_at (blocks_of hs slots hs) (cell_in b index) ≡ slice_get (map (wire_in hs) x.cells) index
+    pub cells-of : (index : ℕ) → cell_at (blocks_of hs slots hs) (cell_in b index) ≡ slice_get (map (wire_in hs) x.cells) index
     cells-of index = cell_at-block hs slots hs b index s.rise (λ h k. sym (s.held h) ∙ k) alive ∙ ap (λ o. slice_get (shown hs o).cells index) was
 
     pub cell-inside : (index : ℕ) → IsSome (cell_at (blocks_of hs slots hs) (cell_in b index)) → index < length x.cells

@@ -1,6 +1,8 @@
 // The plain memory.
 
-ghost use Rattle.std.specs.Prelude.{◌≡◌, [], None};
+ghost use Rattle.std.specs.Prelude.{◌≡◌, ℕ, [], None, IsTrue, map, option_copied, option_map, slice_get};
+ghost use Rattle.mdr_model.specs.Memory.{cell_at};
+ghost use Rattle.mdr_mem.specs.Contents.{after_store, cell_in, is_handle, wire_in};
 
 use crate::cells::Cells;
 use crate::rows::Rows;
@@ -37,6 +39,29 @@ impl Blocks {
             rows: Rows::new(alloc),
         }
     }
+
+    /// What was put into the block's cells. A pointer whose handle isn't alive is a dead one.
+    pub fn cells(&self, b: Block) -> &[Value]
+        requires { IsTrue (is_handle self.now.handles b) }
+        ensures { (index : ℕ) → cell_at self.now.memory (cell_in b index) ≡ slice_get (map (wire_in self.now.handles) result.now) index }
+    {
+        self.rows.cells(b)
+    }
+
+    /// The same of the block at this place among those that live, of which the oldest has place 0.
+    pub fn cells_at(&self, place: usize) -> Option<&[Value]>
+        ensures { option_map (λ x. x.cells) (slice_get self.now.memory place) ≡ option_map (map (wire_in self.now.handles)) (option_copied result) }
+    {
+        self.rows.cells_at(place)
+    }
+
+    /// Puts a value into the cell. Past the end of the block nothing is done.
+    pub fn put(&mut self, b: Block, cell: u64, v: Value)
+        requires { IsTrue (is_handle self.old.handles b) }
+        ensures { self.new ≡ after_store b cell v self.old }
+    {
+        self.rows.store(b, cell, v);
+    }
 }
 
 impl Cells for Blocks {
@@ -63,7 +88,7 @@ impl Cells for Blocks {
     }
 
     fn store(&mut self, b: Block, cell: u32, v: Value) {
-        self.rows.store(b, cell, v);
+        self.rows.store(b, cell as u64, v);
     }
 
     fn alive(&self, b: Block) -> bool {

@@ -1,6 +1,6 @@
 // The rows of the plain memory.
 
-ghost use Rattle.std.specs.Prelude.{◌≡◌, ◌<◌, ◌≤◌, ◌+◌, ◌++◌, [], ◌∷◌, length, map, IsTrue, IsSome, IfOk, OnOk, OnErr, vec_capacity, slice_set, Some, None, option_map, ◌^◌, ◌-◌};
+ghost use Rattle.std.specs.Prelude.{◌≡◌, ◌<◌, ◌≤◌, ◌+◌, ◌++◌, [], ◌∷◌, length, map, IsTrue, IsSome, IfOk, OnOk, OnErr, vec_capacity, slice_get, slice_set, Some, None, option_copied, option_map, ℕ, ◌^◌, ◌-◌};
 ghost use Rattle.mdr_model.specs.Memory.{cell_at, born_at};
 ghost use Rattle.mdr_meaning.specs.Values.{wire_of};
 ghost use Rattle.mdr_mem.specs.Contents.{is_handle, handle_of, cell_in, current, births_in, after_birth, after_death, after_store, shape_of, kind_of, IsInOrder, with_block, wire_in};
@@ -207,7 +207,8 @@ impl Rows {
         self.current(self.held_in(b, cell))
     }
 
-    pub fn store(&mut self, b: Block, cell: u32, v: Value)
+    // Past the end of the block nothing is done.
+    pub fn store(&mut self, b: Block, cell: u64, v: Value)
         requires sound { AreSound self.old }
         requires alive { IsTrue (is_handle self.old.live.items b) }
         ensures sound { AreSound self.new }
@@ -215,6 +216,36 @@ impl Rows {
     {
         let kept = self.current(v);
         set_cell(&mut self.held, b.slot as usize, cell as usize, kept);
+    }
+
+    // What was put into the block's cells.
+    pub fn cells(&self, b: Block) -> &[Value]
+        requires sound { AreSound self.now }
+        requires alive { IsTrue (is_handle self.now.live.items b) }
+        ensures { (index : ℕ) → cell_at (contents_of self.now).memory (cell_in b index) ≡ slice_get (map (wire_in self.now.live.items) result.now) index }
+    {
+        self.held(b).cells.as_slice()
+    }
+
+    // The handle at this place.
+    pub fn handle_at(&self, place: usize) -> Option<Block>
+        ensures { result ≡ slice_get self.now.live.items place }
+    {
+        match self.live.get(place) {
+            Some(b) => Some(*b),
+            None => None,
+        }
+    }
+
+    // What was put into the cells of the block at this place among those that live.
+    pub fn cells_at(&self, place: usize) -> Option<&[Value]>
+        requires { AreSound self.now }
+        ensures { option_map (λ x. x.cells) (slice_get (contents_of self.now).memory place) ≡ option_map (map (wire_in self.now.live.items)) (option_copied result) }
+    {
+        match self.handle_at(place) {
+            Some(b) => Some(self.held(b).cells.as_slice()),
+            None => None,
+        }
     }
 
     pub fn find(&self, serial: u64) -> Option<Block>

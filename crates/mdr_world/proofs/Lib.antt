@@ -1,0 +1,8 @@
+pub mod BlockLaws
+pub mod HandleLaws
+pub mod LockLaws
+pub mod ReachLaws
+pub mod RunLaws
+pub mod StorageLaws
+pub mod WalkLaws
+pub mod ZeroLaws

@@ -1,0 +1,126 @@
+// The globals as they are born.
+
+ghost use Rattle.std.specs.Prelude.{◌≡◌, IfOk, map};
+ghost use Rattle.mdr_mem.specs.Contents.{births_in, wire_in};
+ghost use Rattle.mdr_meaning.specs.Bodies.{known_of};
+ghost use Rattle.mdr_meaning.specs.Numbers.{is_same_type, number_in};
+ghost use Rattle.mdr_meaning.specs.Values.{wire_of, wire_view};
+ghost use Rattle.mdr_meaning.specs.declared.wire.Wire.TheVariants as wire;
+ghost use Rattle.mdr_plain.specs.Storage.{birth_of, first_memory, global_block, global_blocks};
+ghost use Rattle.mdr_world.specs.Stored.{IsCounted};
+ghost use Rattle.std.specs.Prelude.{◌++◌, ◌∷◌, [], OnOk};
+
+use crate::handles::handle;
+use crate::storage::Storage;
+use mdr_core::{GlobalDef, Items, OutOfMemory, Program, Shape, Ty, Value, View, same_type};
+use mdr_mem::{Blocks, Cells};
+use mdr_model::BirthKind;
+use std::alloc::Global;
+
+fn is_same_type(a: &Ty, b: &Ty) -> bool
+    ensures { result ≡ is_same_type a.now b.now }
+{
+    same_type(a, b)
+}
+
+/// The first place of a type in a list; behind its end where it isn't there.
+#[tactic(auto, unfolding(mdr_meaning::specs::Numbers::number_in))]
+fn number_in(types: &[Ty], ty: &Ty) -> usize
+    ensures { result ≡ number_in types.now ty.now }
+{
+    for i in 0..types.len() {
+        if is_same_type(&types[i], ty) {
+            return i;
+        }
+    }
+    types.len()
+}
+
+fn number_fits(number: usize) -> Result<u32, OutOfMemory>
+    ensures { IfOk result (λ n. n ≡ number) }
+{
+    match u32::try_from(number) {
+        Ok(n) => Ok(n),
+        Err(_) => Err(OutOfMemory),
+    }
+}
+
+/// A pointer with the slot of its block, which was born before.
+fn placed_view(blocks: &Blocks, p: View) -> Result<Value, OutOfMemory>
+    ensures { IfOk result (λ x. wire_in blocks.now.handles x ≡ wire.Ptr (wire_view p)) }
+{
+    let _in_order = blocks.births();
+    match handle(blocks, p.block) {
+        Some(block) => Ok(Value::Ptr(View {
+            block,
+            first: p.first,
+            ty: p.ty,
+            count: p.count,
+            index: p.index,
+        })),
+        None => Err(OutOfMemory),
+    }
+}
+
+#[tactic(auto, unfolding(mdr_mem::specs::Contents::current))]
+fn placed(blocks: &Blocks, v: Value) -> Result<Value, OutOfMemory>
+    ensures { IfOk result (λ x. wire_in blocks.now.handles x ≡ wire_of v) }
+{
+    match v {
+        Value::Ptr(p) => placed_view(blocks, p),
+        _ => Ok(v),
+    }
+}
+
+fn all_placed(blocks: &Blocks, alloc: Global, first: &[Value]) -> Result<Items<Value>, OutOfMemory>
+    ensures { IfOk result (λ vs. map (wire_in blocks.now.handles) vs ≡ map wire_of first.now) }
+{
+    let mut values = Items::new(alloc);
+    for v in first {
+        values.push(placed(blocks, *v)?)?;
+    }
+    Ok(values)
+}
+
+fn global_born(
+    storage: &mut Storage,
+    alloc: Global,
+    program: &Program,
+    global: &GlobalDef,
+) -> Result<(), OutOfMemory>
+    requires { IsCounted storage.old }
+    ensures counted { IsCounted storage.new }
+    ensures memory { OnOk result (storage.new.blocks.memory ≡ storage.old.blocks.memory ++ global_block (known_of program.now) (births_in storage.old.lives) global.now ∷ []) }
+    ensures lives { OnOk result (storage.new.lives ≡ storage.old.lives ++ birth_of (global_block (known_of program.now) (births_in storage.old.lives) global.now) ∷ []) }
+{
+    let first = all_placed(&storage.blocks, alloc, global.init.as_slice())?;
+    let shape = Shape {
+        ty: number_fits(number_in(program.types.as_slice(), &global.ty))?,
+        count: global.count,
+    };
+    storage.add(alloc, BirthKind::Static, shape, first.as_slice())?;
+    Ok(())
+}
+
+fn all_born(alloc: Global, program: &Program, globals: &[GlobalDef]) -> Result<Storage, OutOfMemory>
+    ensures counted { IfOk result (λ s. IsCounted s) }
+    ensures memory { IfOk result (λ s. s.blocks.memory ≡ global_blocks (known_of program.now) 0 globals.now) }
+    ensures lives { IfOk result (λ s. s.lives ≡ map birth_of s.blocks.memory) }
+{
+    let mut storage = Storage::new(alloc);
+    for global in globals {
+        global_born(&mut storage, alloc, program, global)?;
+    }
+    Ok(storage)
+}
+
+/// The memory at the beginning: the globals. Where a first value names what was not born before, that answers want of
+/// memory.
+#[tactic(auto, unfolding(mdr_plain::specs::Storage::first_memory))]
+pub fn first_storage(alloc: Global, program: &Program) -> Result<Storage, OutOfMemory>
+    ensures counted { IfOk result (λ s. IsCounted s) }
+    ensures memory { IfOk result (λ s. s.blocks.memory ≡ first_memory (known_of program.now)) }
+    ensures lives { IfOk result (λ s. s.lives ≡ map birth_of s.blocks.memory) }
+{
+    all_born(alloc, program, program.globals.as_slice())
+}

@@ -1,0 +1,95 @@
+// The memory of a run, beside all births and deaths so far.
+
+ghost use Rattle.std.specs.Prelude.{◌≡◌, ◌+◌, ◌++◌, ◌∷◌, [], IfOk, OnOk, length};
+ghost use Rattle.mdr_mem.specs.Contents.{births_in, new_block};
+ghost use Rattle.mdr_mem.specs.declared.cells.Life.TheVariants as life;
+ghost use Rattle.mdr_model.specs.Memory.{killed};
+ghost use Rattle.mdr_world.specs.Stored.{IsCounted};
+
+use crate::lives::Lives;
+use mdr_core::{Block, OutOfMemory, Shape, Value};
+use mdr_mem::{Blocks, Cells};
+use mdr_model::BirthKind;
+use std::alloc::Global;
+
+/// Blocks, and all births and deaths, which may tell of the death of a block that didn't live.
+#[derive(Drop)]
+pub struct Storage {
+    pub blocks: Blocks,
+    pub lives: Lives,
+}
+
+impl Storage {
+    pub fn new(alloc: Global) -> Storage
+        ensures counted { IsCounted result }
+        ensures memory { result.blocks.memory ≡ [] }
+        ensures lives { result.lives ≡ [] }
+    {
+        Storage {
+            blocks: Blocks::new(alloc),
+            lives: Lives::new(),
+        }
+    }
+
+    /// A block more, with these first values. A block that is too large answers want of memory, and so does one without
+    /// cells.
+    pub fn add(
+        &mut self,
+        alloc: Global,
+        kind: BirthKind,
+        shape: Shape,
+        first: &[Value],
+    ) -> Result<Block, OutOfMemory>
+        requires { IsCounted self.old }
+        ensures counted { IsCounted self.new }
+        ensures serial { IfOk result (λ b. b.serial ≡ births_in self.old.lives) }
+        ensures memory { IfOk result (λ b. self.new.blocks.memory ≡ self.old.blocks.memory ++ new_block kind shape first.now b self.old.blocks.handles ∷ []) }
+        ensures lives { OnOk result (self.new.lives ≡ self.old.lives ++ life.Birth (length first.now) ∷ []) }
+    {
+        if first.is_empty() {
+            return Err(OutOfMemory);
+        }
+        if first.len() > 65536 {
+            return Err(OutOfMemory);
+        }
+        let block = self.blocks.birth(alloc, kind, shape, first)?;
+        self.lives = with_birth(&self.lives, first.len() as u32);
+        Ok(block)
+    }
+
+    /// A block dies, if it lives.
+    pub fn end(&mut self, serial: u64)
+        requires { IsCounted self.old }
+        ensures counted { IsCounted self.new }
+        ensures memory { self.new.blocks.memory ≡ killed serial self.old.blocks.memory }
+        ensures lives { self.new.lives ≡ self.old.lives ++ life.Death serial ∷ [] }
+    {
+        end_in(&mut self.blocks, serial);
+        self.lives = with_death(&self.lives, serial);
+    }
+}
+
+fn with_birth(lives: &Lives, cells: u32) -> Lives
+    ensures value { result ≡ lives.now ++ life.Birth cells ∷ [] }
+    ensures counted { births_in result ≡ births_in lives.now + 1 }
+{
+    lives.and_birth(cells)
+}
+
+fn with_death(lives: &Lives, serial: u64) -> Lives
+    ensures value { result ≡ lives.now ++ life.Death serial ∷ [] }
+    ensures counted { births_in result ≡ births_in lives.now }
+{
+    lives.and_death(serial)
+}
+
+fn end_in(blocks: &mut Blocks, serial: u64)
+    ensures memory { blocks.new.memory ≡ killed serial blocks.old.memory }
+    ensures births { births_in blocks.new.lives ≡ births_in blocks.old.lives }
+{
+    let _in_order = blocks.births();
+    match blocks.find(serial) {
+        Some(b) => blocks.kill(b),
+        None => (),
+    }
+}

@@ -1,0 +1,407 @@
+// The state of a run.
+
+ghost use Rattle.std.specs.Prelude.{◌≡◌, ◌+◌, ◌==◌, [], ℕ, false, IfOk, OnOk, OnErr, length};
+ghost use Rattle.std.specs.List.{list_any};
+ghost use Rattle.mdr_core.specs.Sound.{IsSound};
+ghost use Rattle.mdr_device.specs.Machines.{Machine, read, written};
+ghost use Rattle.mdr_exec.specs.Holding.{wires_of};
+ghost use Rattle.mdr_exec.specs.Outcomes.{when_made};
+ghost use Rattle.mdr_meaning.specs.Bodies.{known_of};
+ghost use Rattle.mdr_meaning.specs.Values.{wire_of};
+ghost use Rattle.mdr_model.specs.Memory.{born_at, normal};
+ghost use Rattle.mdr_plain.specs.Gate.{due, is_open};
+ghost use Rattle.mdr_plain.specs.Locks.{acquire, is_locked, release};
+ghost use Rattle.mdr_plain.specs.Running.{handling, interrupted};
+ghost use Rattle.mdr_plain.specs.Scripts.{block_cells, first_world};
+ghost use Rattle.mdr_plain.specs.Services.{asked_once_more, fails_now, with_device, with_handler};
+ghost use Rattle.mdr_plain.specs.Storage.{births, born, deaths, died, died_at, new_of, pointer_to, remembers};
+ghost use Rattle.mdr_plain.specs.World.{advanced, noted};
+ghost use Rattle.mdr_world.specs.Driven.{Ticks, driven_accesses, driver, driver_if};
+
+use crate::births::{shape_of, zeros};
+use crate::globals::first_storage;
+use crate::handles::{born_now, value_now, values_of};
+use crate::storage::Storage;
+use crate::{access, locks};
+use mdr_core::{Items, OutOfMemory, Program, StopKind, Value, View};
+use mdr_device::Device;
+use mdr_mem::{Blocks, Cells};
+use mdr_model::{BirthKind, New, Shape64};
+use mdr_plain::Happened;
+use mdr_script::Bound;
+use std::alloc::{AllocError, Global};
+use std::marker::Model;
+
+/// The state of a run on one memory.
+#[derive(Drop)]
+pub struct World<'a> {
+    program: &'a Program,
+    storage: Storage,
+    ticks: u64,
+    rest: u64,
+    device: Device,
+    events: Items<Happened>,
+    calls: u64,
+    handler: Option<u32>,
+    in_handler: bool,
+    allocations: u64,
+    fails: Items<u64>,
+}
+
+impl<'a> Model for World<'a> {
+    ghost use Rattle.std.specs.Prelude.{[]};
+    ghost use Rattle.std.specs.Coded.{codes};
+    ghost use Rattle.mdr_core.specs.contracts.types.Ty as t;
+    ghost use Rattle.mdr_core.specs.contracts.code.Stmt as s;
+    ghost use Rattle.mdr_world.specs.Driven.{Driven};
+
+    ghost Value = { Driven };
+
+    ghost coded = { Prim.hlevel (codes, t.the_row.coded, s.the_row.coded) };
+
+    ghost use Rattle.mdr_world.specs.Stored.{Stands};
+
+    ghost view = { λ s. record {
+      program = s.program.now;
+      world = record {
+        memory = s.storage.blocks.memory;
+        lives = s.storage.lives;
+        views = [];
+        clock = record { ticks = s.ticks; rest = s.rest; device = s.device };
+        kept = record { events = s.events; calls = s.calls; handler = s.handler; in_handler = s.in_handler; allocations = s.allocations; fails = s.fails };
+      };
+    } };
+
+    ghost invariant = { λ s. Stands s.program.now s.storage s.ticks s.rest };
+}
+
+impl<'a> World<'a> {
+    /// The state in which the run of a script begins. What a block can't be, or a first value that names what isn't born
+    /// yet, answers want of memory.
+    #[tactic(auto, unfolding(mdr_plain::specs::Scripts::first_world))]
+    pub fn new(
+        alloc: Global,
+        program: &'a Program,
+        script: &Bound,
+        budget: u64,
+    ) -> Result<World<'a>, OutOfMemory>
+        requires { IsSound program.now }
+        ensures { IfOk result (λ w. w ≡ driver program.now (first_world (known_of program.now) script.now budget)) }
+    {
+        let storage = first_storage(alloc, program)?;
+        let device = Device::new(alloc, script.words.as_slice(), script.rules.as_slice())?;
+        let fails = Items::from_slice(alloc, script.fails.as_slice())?;
+        Ok(World {
+            program,
+            storage,
+            ticks: 0,
+            rest: budget,
+            device,
+            events: Items::new(alloc),
+            calls: 0,
+            handler: None,
+            in_handler: false,
+            allocations: 0,
+            fails,
+        })
+    }
+
+    /// The program that runs.
+    pub fn program(&self) -> &'a Program
+        ensures value { result.now ≡ self.now.program }
+        ensures sound { IsSound self.now.program }
+    {
+        self.program
+    }
+
+    // ---- events and calls
+
+    /// Adds an event.
+    pub fn note(&mut self, event: Happened) -> Result<(), OutOfMemory>
+        ensures { OnOk result (self.new ≡ driver self.old.program (noted event self.old.world)) }
+    {
+        self.events.push(event)?;
+        Ok(())
+    }
+
+    /// Takes all events out.
+    pub fn take_events(&mut self, alloc: Global) -> Items<Happened>
+        ensures taken { result ≡ self.old.world.kept.events }
+        ensures left { self.new ≡ driver self.old.program (record self.old.world { kept = record self.old.world.kept { events = [] } }) }
+    {
+        std::mem::replace(&mut self.events, Items::new(alloc))
+    }
+
+    /// A command calls a function.
+    pub fn begin_call(&mut self) -> Result<(), OutOfMemory>
+        ensures { OnOk result (self.new ≡ driver self.old.program (record self.old.world { kept = record self.old.world.kept { calls = self.old.world.kept.calls + 1 } })) }
+    {
+        if self.calls == u64::MAX {
+            return Err(OutOfMemory);
+        }
+        self.calls += 1;
+        Ok(())
+    }
+
+    // ---- time
+
+    /// The ticks that were counted.
+    pub fn ticks(&self) -> u64
+        ensures { result ≡ self.now.world.clock.ticks }
+    {
+        self.ticks
+    }
+
+    /// The ticks that the budget leaves.
+    pub fn rest(&self) -> u64
+        ensures { result ≡ self.now.world.clock.rest }
+    {
+        self.rest
+    }
+
+    /// One tick, if one is left.
+    pub fn tick(&mut self) -> bool
+        ensures { Ticks result self.old self.new }
+    {
+        if self.rest == 0 {
+            return false;
+        }
+        self.rest -= 1;
+        self.ticks += 1;
+        self.device.advance(1);
+        true
+    }
+
+    // ---- interrupts
+
+    fn is_open(&self) -> bool
+        ensures { result ≡ is_open self.now.world }
+    {
+        if !self.device.line() {
+            return false;
+        }
+        if self.in_handler {
+            return false;
+        }
+        !locks::is_any_held(&self.storage.blocks)
+    }
+
+    /// The function that handles the interrupt that is taken now.
+    #[tactic(auto, unfolding(mdr_plain::specs::Gate::due))]
+    pub fn due(&self) -> Option<u32>
+        ensures { result ≡ due self.now.world }
+    {
+        match self.handler {
+            Some(f) => { if self.is_open() { Some(f) } else { None } }
+            None => None,
+        }
+    }
+
+    /// An interrupt is taken.
+    pub fn enter_irq(&mut self, handler: u32) -> Result<(), OutOfMemory>
+        ensures { OnOk result (self.new ≡ driver self.old.program (interrupted handler self.old.world)) }
+    {
+        self.events.push(Happened::Irq(handler))?;
+        self.in_handler = true;
+        Ok(())
+    }
+
+    /// A handler ended.
+    pub fn leave_irq(&mut self)
+        ensures { self.new ≡ driver self.old.program (handling false self.old.world) }
+    {
+        self.in_handler = false;
+    }
+
+    /// The function that is registered.
+    pub fn handler(&self) -> Option<u32>
+        ensures { result ≡ self.now.world.kept.handler }
+    {
+        self.handler
+    }
+
+    /// Registers a function, or none.
+    pub fn set_handler(&mut self, handler: Option<u32>)
+        ensures { self.new ≡ driver self.old.program (with_handler handler self.old.world) }
+    {
+        self.handler = handler;
+    }
+
+    // ---- the device
+
+    /// A register is read. No event is added.
+    pub fn read_register(&mut self, register: u32) -> u32
+        ensures { (machine : ℕ × Machine) → machine ≡ read register self.old.world.clock.device → (result ≡ machine.0) × (self.new ≡ driver self.old.program (with_device machine.1 self.old.world)) }
+    {
+        self.device.read(register)
+    }
+
+    /// A register is written. No event is added.
+    pub fn write_register(&mut self, register: u32, word: u32)
+        ensures { self.new ≡ driver self.old.program (with_device (written register word self.old.world.clock.device) self.old.world) }
+    {
+        self.device.write(register, word);
+    }
+
+    // ---- allocations
+
+    /// An allocation is asked for.
+    pub fn ask_once_more(&mut self) -> Result<(), OutOfMemory>
+        ensures { OnOk result (self.new ≡ driver self.old.program (asked_once_more self.old.world)) }
+    {
+        if self.allocations == u64::MAX {
+            return Err(OutOfMemory);
+        }
+        self.allocations += 1;
+        Ok(())
+    }
+
+    /// Whether the script lets the allocation fail that was asked for last.
+    pub fn fails_now(&self) -> bool
+        ensures { result ≡ fails_now self.now.world }
+    {
+        is_among(self.fails.as_slice(), self.allocations)
+    }
+
+    // ---- memory
+
+    /// How many blocks live.
+    pub fn live(&self) -> u64
+        ensures { result ≡ length self.now.world.memory }
+    {
+        self.storage.blocks.live()
+    }
+
+    /// A value as it is now: a pointer whose block doesn't live is a dead one.
+    pub fn now(&self, v: Value) -> Value
+        ensures { wire_of result ≡ normal self.now.world.memory (wire_of v) }
+    {
+        value_now(&self.storage.blocks, v)
+    }
+
+    /// How a block was born that lives.
+    pub fn born_at(&self, serial: u64) -> Option<New>
+        ensures { result ≡ born_at self.now.world.memory serial }
+    {
+        born_now(&self.storage.blocks, serial)
+    }
+
+    /// What a block's cells hold; nothing where it doesn't live.
+    pub fn cells(&self, alloc: Global, serial: u64) -> Result<Items<Value>, OutOfMemory>
+        ensures { IfOk result (λ vs. wires_of vs ≡ block_cells self.now.world.memory serial) }
+    {
+        values_of(&self.storage.blocks, alloc, serial)
+    }
+
+    /// Whether a lock of a block is held.
+    pub fn is_locked(&self, serial: u64) -> bool
+        ensures { result ≡ is_locked serial self.now.world.memory }
+    {
+        locks::is_locked(&self.storage.blocks, serial)
+    }
+
+    /// A block dies.
+    #[tactic(auto, unfolding(mdr_plain::specs::Storage::died))]
+    pub fn end(&mut self, serial: u64)
+        ensures { self.new ≡ driver self.old.program (died serial self.old.world) }
+    {
+        self.storage.end(serial);
+    }
+
+    /// What a pointer names dies.
+    fn end_at(&mut self, pointer: Value)
+        ensures { self.new ≡ driver self.old.program (died_at (wire_of pointer) self.old.world) }
+    {
+        match pointer {
+            Value::Ptr(p) => self.end(p.block.serial),
+            _ => (),
+        }
+    }
+
+    /// What these pointers name dies.
+    pub(crate) fn end_all(&mut self, pointers: &[Value])
+        ensures { self.new ≡ driver self.old.program (deaths (wires_of pointers.now) self.old.world) }
+    {
+        for p in pointers {
+            self.end_at(*p);
+        }
+    }
+
+    /// The lock that a pointer names is taken. Where it stops nothing changes.
+    #[tactic(auto, unfolding(mdr_plain::specs::Locks::acquire))]
+    pub fn acquire(&mut self, lock: Value) -> Result<(), StopKind>
+        ensures made { driver_if self.old.program (remembers self.old.world (acquire (wire_of lock) self.old.world)) ≡ when_made result self.new }
+        ensures kept { OnErr result (self.new ≡ self.old) }
+    {
+        locks::acquire(&mut self.storage.blocks, lock)
+    }
+
+    /// The lock that a pointer names is freed. Where it stops nothing changes.
+    #[tactic(auto, unfolding(mdr_plain::specs::Locks::release))]
+    pub fn release(&mut self, lock: Value) -> Result<(), StopKind>
+        ensures made { driver_if self.old.program (remembers self.old.world (release (wire_of lock) self.old.world)) ≡ when_made result self.new }
+        ensures kept { OnErr result (self.new ≡ self.old) }
+    {
+        locks::release(&mut self.storage.blocks, lock)
+    }
+
+    /// A block more, with a zero in each cell.
+    #[tactic(auto, unfolding(mdr_plain::specs::Storage::born))]
+    fn add(&mut self, alloc: Global, kind: BirthKind, shape: Shape64) -> Result<Value, OutOfMemory>
+        ensures pointer { IfOk result (λ p. wire_of p ≡ pointer_to (new_of kind shape self.old.world)) }
+        ensures born { OnOk result (self.new ≡ driver self.old.program (born self.old.program (new_of kind shape self.old.world) self.old.world)) }
+    {
+        let shape = shape_of(shape)?;
+        let first = zeros(alloc, self.program, shape)?;
+        let block = self.storage.add(alloc, kind, shape, first.as_slice())?;
+        Ok(Value::Ptr(View {
+            block,
+            first: 0,
+            ty: shape.ty,
+            count: shape.count,
+            index: 0,
+        }))
+    }
+
+    /// Objects are born, with a pointer to each. What a block can't be answers want of memory, and then nothing is
+    /// promised of the run.
+    #[tactic(auto, unfolding(mdr_plain::specs::Storage::births))]
+    pub fn born(
+        &mut self,
+        alloc: Global,
+        kind: BirthKind,
+        shapes: &[Shape64],
+    ) -> Result<Items<Value>, AllocError>
+        ensures pointers { IfOk result (λ ps. wires_of ps ≡ (births self.old.program kind shapes.now self.old.world).pointers) }
+        ensures world { OnOk result (self.new ≡ driver self.old.program (births self.old.program kind shapes.now self.old.world).memory) }
+    {
+        let mut pointers = Items::new(alloc);
+        for shape in shapes {
+            match self.add(alloc, kind, *shape) {
+                Ok(p) => pointers.push(p)?,
+                Err(_) => return Err(AllocError),
+            }
+        }
+        Ok(pointers)
+    }
+
+    pub(crate) fn blocks(&self) -> &Blocks
+        ensures { result.now.memory ≡ self.now.world.memory }
+    {
+        &self.storage.blocks
+    }
+
+    /// A value is stored through a pointer.
+    pub(crate) fn put(&mut self, pointer: Value, value: Value) -> Result<(), StopKind>
+        ensures made { driven_accesses.store self.old (wire_of pointer) (wire_of value) ≡ when_made result self.new }
+        ensures kept { OnErr result (self.new ≡ self.old) }
+    {
+        access::store(&mut self.storage.blocks, pointer, value)
+    }
+}
+
+fn is_among(numbers: &[u64], number: u64) -> bool
+    ensures { result ≡ list_any (λ n. n == number) numbers.now }
+{
+    numbers.iter().any(|n| *n == number)
+}
