@@ -1,8 +1,7 @@
 // The lines of objects.
 
 ghost use Rattle.std.specs.Prelude.{◌≡◌, ◌++◌, OnOk, codes, decimal};
-ghost use Rattle.mdr_model.specs.Report.{newline, type_name_or, cells_shown, object_line, object_lines};
-ghost use Rattle.mdr_model.specs.Values.{type_at};
+ghost use Rattle.mdr_model.specs.Report.{newline, cells_shown, object_line, object_lines};
 
 use crate::names::put_type;
 use crate::put::{put_newline, put_number, put_word};
@@ -11,24 +10,17 @@ use mdr_core::Program;
 use mdr_model::Object;
 use std::alloc::{AllocError, Global};
 
-/// An object's number and type.
-fn put_label(
-    alloc: Global,
-    out: &mut Vec<u8>,
-    program: &Program,
-    number: u64,
-    ty: u32,
-) -> Result<(), AllocError>
-    ensures { OnOk result (out.new.items ≡ out.old.items ++ (codes "obj " ++ (decimal number ++ (codes " " ++ type_name_or (type_at program.now ty))))) }
+/// An object's number, in front of its type.
+pub fn put_object_number(alloc: Global, out: &mut Vec<u8>, number: u64) -> Result<(), AllocError>
+    ensures { OnOk result (out.new.items ≡ out.old.items ++ (codes "obj " ++ (decimal number ++ codes " "))) }
 {
     put_word(out, "obj ")?;
     put_number(alloc, out, number)?;
-    put_word(out, " ")?;
-    put_type(out, program, ty)
+    put_word(out, " ")
 }
 
 /// The elements of an object and its cells, up to the end of the line.
-fn put_contents(
+pub fn put_contents(
     alloc: Global,
     out: &mut Vec<u8>,
     program: &Program,
@@ -53,7 +45,8 @@ fn put_object(
 ) -> Result<(), AllocError>
     ensures { OnOk result (out.new.items ≡ out.old.items ++ object_line program.now number object.now) }
 {
-    put_label(alloc, out, program, number, object.ty)?;
+    put_object_number(alloc, out, number)?;
+    put_type(out, program, object.ty)?;
     put_contents(alloc, out, program, object)
 }
 

@@ -2,7 +2,7 @@
 
 ghost use Rattle.std.specs.Prelude.{◌≡◌, ◌++◌, OnOk, codes, decimal};
 ghost use Rattle.std.specs.Fmt.{signed_decimal};
-ghost use Rattle.mdr_model.specs.Report.{newline};
+ghost use Rattle.mdr_model.specs.Report.{count_line, newline};
 
 use std::alloc::{AllocError, Global};
 
@@ -42,4 +42,13 @@ pub fn put_newline(out: &mut Vec<u8>) -> Result<(), AllocError>
 {
     out.push(b'\n')?;
     Ok(())
+}
+
+/// A line of a word and a number.
+pub fn put_count(alloc: Global, out: &mut Vec<u8>, word: &str, n: u64) -> Result<(), AllocError>
+    ensures { OnOk result (out.new.items ≡ out.old.items ++ count_line word.now n) }
+{
+    put_word(out, word)?;
+    put_number(alloc, out, n)?;
+    put_newline(out)
 }

@@ -5,17 +5,17 @@ ghost use Rattle.mdr_model.specs.Report.{report, count_line};
 
 use crate::event::{put_end, put_events};
 use crate::object::put_objects;
-use crate::put::{put_newline, put_number, put_word};
+use crate::put::put_count;
 use mdr_core::{OutOfMemory, Program};
 use mdr_model::Outcome;
 use std::alloc::{AllocError, Global};
 
-fn put_count(alloc: Global, out: &mut Vec<u8>, word: &str, n: u64) -> Result<(), AllocError>
-    ensures { OnOk result (out.new.items ≡ out.old.items ++ count_line word.now n) }
+/// The lines of the ticks and of the live blocks.
+pub fn put_counts(alloc: Global, out: &mut Vec<u8>, ticks: u64, live: u64) -> Result<(), AllocError>
+    ensures { OnOk result (out.new.items ≡ out.old.items ++ (count_line (codes "ticks ") ticks ++ count_line (codes "live ") live)) }
 {
-    put_word(out, word)?;
-    put_number(alloc, out, n)?;
-    put_newline(out)
+    put_count(alloc, out, "ticks ", ticks)?;
+    put_count(alloc, out, "live ", live)
 }
 
 #[tactic(auto, unfolding(mdr_model::specs::Report::report))]
@@ -29,8 +29,7 @@ fn put_report(
 {
     put_events(alloc, out, program, outcome.events.as_slice())?;
     put_end(alloc, out, program, &outcome.end)?;
-    put_count(alloc, out, "ticks ", outcome.ticks)?;
-    put_count(alloc, out, "live ", outcome.live)?;
+    put_counts(alloc, out, outcome.ticks, outcome.live)?;
     put_objects(alloc, out, program, outcome.objects.as_slice())
 }
 
