@@ -1,0 +1,4 @@
+pub mod Seen
+pub mod Following
+pub mod Scripts
+pub mod Laws

@@ -1,0 +1,63 @@
+// Ticks in which no code runs.
+
+ghost use Rattle.std.specs.Prelude.{◌≡◌, IfOk, None, OnOk};
+ghost use Rattle.mdr_core.specs.Sound.{IsSound};
+ghost use Rattle.mdr_plain.specs.Running.{interrupts};
+ghost use Rattle.mdr_plain.specs.Scripts.{idle};
+ghost use Rattle.mdr_plain.specs.World.{done, ticked};
+ghost use Rattle.mdr_runs.specs.Scripts.{idle_tick};
+ghost use Rattle.mdr_whole.specs.Ending.{worked_as};
+ghost use Rattle.mdr_whole.specs.Going.{driver_code};
+
+use crate::ending::Worked;
+use crate::interrupts::interrupt;
+use mdr_core::{OutOfMemory, Program, StopKind};
+use mdr_world::World;
+use std::alloc::Global;
+
+/// A tick that no code needs, if one is left.
+fn pass(world: &mut World) -> Worked
+    ensures kept { world.new.program ≡ world.old.program }
+    ensures worked { worked_as result world.new.world ≡ ticked None world.old.world done }
+{
+    if world.tick() {
+        return Worked::Done;
+    }
+    Worked::Stopped(StopKind::Ticks, None)
+}
+
+/// One tick, and what is tried before it.
+fn idle_tick(alloc: Global, program: &Program, world: &mut World) -> Result<Worked, OutOfMemory>
+    requires sound { IsSound program.now }
+    requires same { world.old.program ≡ program.now }
+    ensures kept { OnOk result (world.new.program ≡ program.now) }
+    ensures worked { IfOk result (λ e. worked_as e world.new.world ≡ idle_tick (interrupts (driver_code program.now)) world.old.world) }
+{
+    let tried = interrupt(alloc, program, world, 0)?;
+    match tried {
+        Worked::Done => Ok(pass(world)),
+        Worked::Stopped(kind, at) => Ok(Worked::Stopped(kind, at)),
+    }
+}
+
+/// So many ticks pass.
+pub(crate) fn idle(
+    alloc: Global,
+    program: &Program,
+    world: &mut World,
+    ticks: u64,
+) -> Result<Worked, OutOfMemory>
+    requires sound { IsSound program.now }
+    requires same { world.old.program ≡ program.now }
+    ensures kept { OnOk result (world.new.program ≡ program.now) }
+    ensures worked { IfOk result (λ e. worked_as e world.new.world ≡ idle (interrupts (driver_code program.now)) ticks world.old.world) }
+{
+    for _tick in 0..ticks {
+        let worked = idle_tick(alloc, program, world)?;
+        match worked {
+            Worked::Done => (),
+            Worked::Stopped(kind, at) => return Ok(Worked::Stopped(kind, at)),
+        }
+    }
+    Ok(Worked::Done)
+}

@@ -1,0 +1,11 @@
+// What follows an event of running code.
+
+use crate::ending::Gave;
+use mdr_exec::Event;
+
+/// The next event, or what the call gives.
+#[derive(Drop)]
+pub enum Next {
+    Came(Event),
+    Gave(Gave),
+}

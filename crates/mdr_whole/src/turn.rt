@@ -1,0 +1,215 @@
+// A machine runs from event to event.
+
+ghost use Rattle.std.specs.Prelude.{◌≡◌, ◌-◌, true, IfOk, OnOk, IsTrue};
+ghost use Rattle.mdr_core.specs.Sound.{IsSound};
+ghost use Rattle.mdr_exec.specs.declared.event.Event.TheVariants as event;
+ghost use Rattle.mdr_exec.specs.Going.{RanTo};
+ghost use Rattle.mdr_exec.specs.Holding.{FitQuestion, held_of, waits, wires_of};
+ghost use Rattle.mdr_meaning.specs.Bodies.{whole_side};
+ghost use Rattle.mdr_plain.specs.Laws.{GivesNoTicks};
+ghost use Rattle.mdr_plain.specs.Running.{Before as AnyBefore};
+ghost use Rattle.mdr_runs.specs.Following.{tried_by};
+ghost use Rattle.mdr_world.specs.Driven.{driven_accesses};
+ghost use Rattle.mdr_whole.specs.Ending.{fits, gave_as};
+ghost use Rattle.mdr_whole.specs.Going.{Began, Follows, GoesOn, GoesOnWith, Passed, machine_does};
+
+use crate::before::Before;
+use crate::ending::{Gave, Worked};
+use crate::next::Next;
+use mdr_core::{At, Items, OutOfMemory, Program, StopKind, Value};
+use mdr_exec::{Asked, Event, Front, Machine, Side};
+use mdr_services::{Served, serve};
+use mdr_world::World;
+use std::alloc::Global;
+
+/// Runs a machine with so many ticks, on the code of all functions.
+#[tactic(auto, unfolding(mdr_meaning::specs::Bodies::whole_side, mdr_exec::specs::Holding::held_of))]
+fn go(
+    machine: &mut Machine,
+    alloc: Global,
+    program: &Program,
+    world: &mut World,
+    ticks: u64,
+) -> Result<Event, OutOfMemory>
+    requires { IsSound program.now }
+    ensures { IfOk result (λ e. RanTo driven_accesses (whole_side program.now) (held_of program.now machine.old) world.old ticks e (held_of program.now machine.new) world.new (ticks - machine.new.used)) }
+{
+    machine.side = Side::Whole;
+    match machine.go(alloc, program, &[], world, ticks) {
+        Ok(event) => Ok(event),
+        Err(_) => Err(OutOfMemory),
+    }
+}
+
+/// Runs a machine up to its first event or the first tick that it needs.
+fn begin(
+    machine: &mut Machine,
+    alloc: Global,
+    program: &Program,
+    world: &mut World,
+) -> Result<Event, OutOfMemory>
+    requires sound { IsSound program.now }
+    requires same { world.old.program ≡ program.now }
+    ensures { IfOk result (λ e. Began program.now machine.old world.old machine.new e world.new) }
+{
+    let event = go(machine, alloc, program, world, 0)?;
+    Ok(event)
+}
+
+/// Runs a machine with the tick that was counted for it.
+fn go_on(
+    machine: &mut Machine,
+    alloc: Global,
+    program: &Program,
+    world: &mut World,
+) -> Result<Event, OutOfMemory>
+    requires sound { IsSound program.now }
+    requires same { world.old.program ≡ program.now }
+    ensures { IfOk result (λ e. Passed program.now machine.old world.old machine.new e world.new) }
+{
+    let event = go(machine, alloc, program, world, 1)?;
+    Ok(event)
+}
+
+/// Counts the tick that is wanted, if one is left, and goes on.
+fn pass(
+    machine: &mut Machine,
+    alloc: Global,
+    program: &Program,
+    world: &mut World,
+    at: At,
+) -> Result<Next, OutOfMemory>
+    requires sound { IsSound program.now }
+    requires same { world.old.program ≡ program.now }
+    ensures { IfOk result (λ n. Follows program.now at machine.old world.old machine.new n world.new) }
+{
+    if world.tick() {
+        let event = go_on(machine, alloc, program, world)?;
+        return Ok(Next::Came(event));
+    }
+    Ok(Next::Gave(Gave::Stopped(StopKind::Ticks, Some(at))))
+}
+
+/// A tick is wanted: what stands before it is tried first.
+fn tick<B: Before>(
+    machine: &mut Machine,
+    alloc: Global,
+    program: &Program,
+    world: &mut World,
+    at: At,
+) -> Result<Next, OutOfMemory>
+    requires sound { IsSound program.now }
+    requires same { world.old.program ≡ program.now }
+    ensures { IfOk result (λ n. GoesOn program.now (tried_by B.tries program.now (whole_side program.now)) machine.old (event.TicksOut at) world.old machine.new n world.new) }
+{
+    let depth = machine.active();
+    let tried = B::attempt(alloc, program, world, depth)?;
+    match tried {
+        Worked::Done => pass(machine, alloc, program, world, at),
+        Worked::Stopped(kind, place) => Ok(Next::Gave(Gave::Stopped(kind, place))),
+    }
+}
+
+/// Whether a machine waits for so many answers.
+fn fits(front: &Front, results: &[Value]) -> bool
+    ensures { result ≡ fits front.now results.now }
+{
+    match front {
+        Front::WaitsParams(room) => results.len() == room.len(),
+        Front::WaitsValue => true,
+        Front::WaitsObject(_) => true,
+        Front::WaitsDeath(_) => true,
+        Front::Runs => false,
+        Front::Unwinds(_) => false,
+        Front::Comes(_) => false,
+        Front::Enters => false,
+        Front::Fills(_) => false,
+        Front::Born(_, _) => false,
+    }
+}
+
+/// Goes on with what a service gave.
+fn resume(
+    machine: &mut Machine,
+    alloc: Global,
+    program: &Program,
+    world: &mut World,
+    results: &[Value],
+) -> Result<Event, OutOfMemory>
+    requires sound { IsSound program.now }
+    requires same { world.old.program ≡ program.now }
+    ensures { IfOk result (λ e. GoesOnWith program.now (wires_of results.now) machine.old world.old machine.new e world.new) }
+{
+    if !fits(&machine.front, results) {
+        return Err(OutOfMemory);
+    }
+    machine.resume(results);
+    let event = begin(machine, alloc, program, world)?;
+    Ok(event)
+}
+
+/// A service is asked for.
+fn answer(
+    machine: &mut Machine,
+    alloc: Global,
+    program: &Program,
+    world: &mut World,
+    asked: &Asked,
+) -> Result<Next, OutOfMemory>
+    requires sound { IsSound program.now }
+    requires same { world.old.program ≡ program.now }
+    ensures { IfOk result (λ n. (before : AnyBefore) → GivesNoTicks before → GoesOn program.now before machine.old (event.Service asked.now) world.old machine.new n world.new) }
+{
+    let served = serve(alloc, world, asked)?;
+    match served {
+        Served::Done(results) => {
+            let event = resume(machine, alloc, program, world, results.as_slice())?;
+            Ok(Next::Came(event))
+        }
+        Served::Stop(kind) => Ok(Next::Gave(Gave::Stopped(kind, Some(asked.at)))),
+    }
+}
+
+/// What follows an event. Functions of another half aren't called.
+fn follow<B: Before>(
+    machine: &mut Machine,
+    alloc: Global,
+    program: &Program,
+    world: &mut World,
+    event: &Event,
+) -> Result<Next, OutOfMemory>
+    requires sound { IsSound program.now }
+    requires same { world.old.program ≡ program.now }
+    ensures { IfOk result (λ n. GoesOn program.now (tried_by B.tries program.now (whole_side program.now)) machine.old event.now world.old machine.new n world.new) }
+{
+    match event {
+        Event::Done(value) => Ok(Next::Gave(Gave::Value(world.now(*value)))),
+        Event::Stop(kind, at) => Ok(Next::Gave(Gave::Stopped(*kind, Some(*at)))),
+        Event::Service(asked) => answer(machine, alloc, program, world, asked),
+        Event::TicksOut(at) => tick::<B>(machine, alloc, program, world, *at),
+        Event::Cross(_) => Err(OutOfMemory),
+    }
+}
+
+/// Runs a machine until the function that was started in it ends.
+pub(crate) fn run<B: Before>(
+    machine: &mut Machine,
+    alloc: Global,
+    program: &Program,
+    world: &mut World,
+) -> Result<Gave, OutOfMemory>
+    requires sound { IsSound program.now }
+    requires same { world.old.program ≡ program.now }
+    ensures kept { OnOk result (world.new.program ≡ program.now) }
+    ensures gave { IfOk result (λ g. gave_as g world.new.world ≡ machine_does program.now (tried_by B.tries program.now (whole_side program.now)) world.old.world.clock.rest machine.old world.old.world) }
+{
+    let mut event = begin(machine, alloc, program, world)?;
+    for _turn in 0..u64::MAX {
+        let next = follow::<B>(machine, alloc, program, world, &event)?;
+        match next {
+            Next::Came(other) => event = other,
+            Next::Gave(gave) => return Ok(gave),
+        }
+    }
+    Err(OutOfMemory)
+}

@@ -1,0 +1,43 @@
+// The run of a script on one memory.
+
+ghost use Rattle.std.specs.Prelude.{◌≡◌, IfOk, OnOk};
+ghost use Rattle.mdr_core.specs.Sound.{IsSound};
+ghost use Rattle.mdr_plain.specs.Outcome.{outcome_of};
+ghost use Rattle.mdr_plain.specs.Plain.{plain};
+ghost use Rattle.mdr_whole.specs.Ending.{end_of, finished};
+
+use crate::commands::do_commands;
+use crate::ending::Worked;
+use mdr_core::{OutOfMemory, Program};
+use mdr_model::End;
+use mdr_plain::Outcome;
+use mdr_script::Bound;
+use mdr_shown::outcome;
+use mdr_world::World;
+use std::alloc::Global;
+
+fn end_of(worked: Worked) -> End
+    ensures { result ≡ end_of worked }
+{
+    match worked {
+        Worked::Done => End::Ok,
+        Worked::Stopped(kind, at) => End::Stop(kind, at),
+    }
+}
+
+/// Runs a script for a driver's whole code, on one memory, with so many ticks, and gives what the run shows.
+#[tactic(auto, unfolding(mdr_plain::specs::Plain::plain_of, mdr_meaning::specs::Bodies::whole_side))]
+pub fn run_whole(
+    alloc: Global,
+    program: &Program,
+    script: &Bound,
+    ticks: u64,
+) -> Result<Outcome, OutOfMemory>
+    requires { IsSound program.now }
+    ensures { IfOk result (λ o. o ≡ outcome_of program.now (plain program.now script.now ticks)) }
+{
+    let mut world = World::new(alloc, program, script, ticks)?;
+    let worked = do_commands(alloc, program, &mut world, script.commands.as_slice())?;
+    let shown = outcome(alloc, &mut world, end_of(worked))?;
+    Ok(shown)
+}
