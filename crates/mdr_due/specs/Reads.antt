@@ -16,6 +16,10 @@ Files = Option (List ℕ → Option (List ℕ))
 abbrev pub longest_source : ℕ
 longest_source = 1048576
 
+-- a script has at most 256 KiB
+abbrev pub longest_script : ℕ
+longest_script = 262144
+
 -- the one call of the shelf is a read of this name with this limit, and this is its answer
 pub record IsRead (files : Files) (name : List ℕ) (limit : ℕ) (old new : List ShelfCall) (answer : ReadAnswer) : Type 0 where
   pub called : new ≡ and_then old (Read name limit answer)

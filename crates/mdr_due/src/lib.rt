@@ -9,6 +9,6 @@ mod status;
 
 pub use due::{Due, Stage};
 pub use files::file;
-pub use lines::file_line;
+pub use lines::{file_line, script_line};
 pub use put::{put_bytes, put_newline, put_number, put_word};
 pub use status::Status;

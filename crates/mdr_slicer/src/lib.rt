@@ -9,3 +9,4 @@ mod writing;
 
 pub use cutting::split;
 pub use reporting::report;
+pub use sources::source_of;

@@ -1,6 +1,6 @@
 // Sources that are read.
 
-ghost use Rattle.std.specs.Prelude.{◌≡◌, IfOk, OnErr};
+ghost use Rattle.std.specs.Prelude.{◌≡◌, ◌≤◌, IfOk, OnErr};
 ghost use Rattle.mdr_due.specs.Reads.{WasRead, longest_source};
 ghost use Rattle.mdr_due.specs.Stages.{StageIs, HasStageCause};
 ghost use Rattle.mdr_slicer.specs.Slicing.{HasSource, NoSource, IsSourceOf, NoSourceOf};
@@ -28,7 +28,7 @@ fn compiled(alloc: Global, bytes: &[u8]) -> Result<Stage<Source>, OutOfMemory>
 }
 
 /// Reads a source, and gives its tree and its program, or what is due where there are none.
-pub(crate) fn source_of<S: Shelf>(
+pub fn source_of<S: Shelf>(
     alloc: Global,
     shelf: &mut S,
     name: &str,
@@ -37,6 +37,9 @@ pub(crate) fn source_of<S: Shelf>(
     ensures part { OnErr result (WasRead (S.files shelf.old) name.now longest_source (S.calls shelf.old) (S.calls shelf.new)) }
     ensures kept { S.files shelf.new ≡ S.files shelf.old }
     ensures cause { IfOk result (HasStageCause (record { faults = S.faults shelf.old; absent = S.absent shelf.old; long = S.long shelf.old }) (record { faults = S.faults shelf.new; absent = S.absent shelf.new; long = S.long shelf.new })) }
+    ensures faults_later { S.faults shelf.old ≤ S.faults shelf.new }
+    ensures absent_later { S.absent shelf.old ≤ S.absent shelf.new }
+    ensures long_later { S.long shelf.old ≤ S.long shelf.new }
     ensures unwritten_same { S.unwritten shelf.new ≡ S.unwritten shelf.old }
 {
     let bytes = match file(alloc, shelf, name, LONGEST_SOURCE) {

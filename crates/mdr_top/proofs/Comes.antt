@@ -17,14 +17,16 @@ use Rattle.mdr_outside.specs.declared.far.Loaded.{Loaded}
 use Rattle.mdr_outside.specs.declared.far.Exchange.{Exchange}
 use Rattle.mdr_outside.specs.Shelf.{ReadsFrom}
 use Rattle.mdr_due.specs.declared.status.Status.{Status}
-use Rattle.mdr_due.specs.declared.status.Status.TheVariants as status
 use Rattle.mdr_top.specs.declared.words.Cutting.{Cutting}
 use Rattle.mdr_top.specs.declared.words.Cutting.TheVariants as cutting
-use Rattle.mdr_top.specs.Words.{Cut, Run, command_of}
+use Rattle.mdr_top.specs.Words.{Cut, Whole, Run, command_of}
 use Rattle.mdr_top.specs.Cuts.{IsSplit, IsCut}
-use Rattle.mdr_due.specs.Reads.{Files, longest_source}
-use Rattle.mdr_top.specs.Answers.{longest_script, status_of, Unread, HasProgram, Ran, Called, Scripted, Compiled, Sourced, CutAnswered, Answered, Prints}
-use Rattle.mdr_top.specs.Comes.{IsWanted, IsDueToFar, Ends, IsEnd, IsRefused, WasCut, IsDone, Comes}
+use Rattle.mdr_due.specs.Reads.{Files, longest_source, longest_script}
+use Rattle.mdr_model.specs.Law.{IsOwn}
+use Rattle.mdr_runner.specs.Runs.{status_of, meant}
+use Rattle.mdr_runner.proofs.Stages.{meant_own}
+use Rattle.mdr_top.specs.Answers.{Unread, HasProgram, Ran, Called, Scripted, Compiled, Sourced, CutAnswered, WholeAnswered, Answered, Prints}
+use Rattle.mdr_top.specs.Comes.{IsWanted, IsDueToFar, Ends, IsEnd, IsRefused, IsWholeSource, IsNoWholeScript, IsScriptRefused, WasCut, IsWholeEnd, IsDone, IsStopped, Comes}
 use Rattle.mdr_top.proofs.Headline.{nothing_end}
 
 -- a read that failed says nothing
@@ -60,7 +62,7 @@ module _ (words : List (List ℕ)) (files : Files) (loaded : Option Loaded) (es 
 
   end_comes : (end : End) → IsEnd words files loaded es (status_of end) → Comes words files loaded es (status_of end)
   end_comes ends.Ok h = IsDone.ran h
-  end_comes (ends.Stop kind at) h = h
+  end_comes (ends.Stop kind at) h = IsStopped.ran h
   end_comes (ends.Refused exchange cause number) h = h
   end_comes (ends.FarFault exchange) h = h
 
@@ -74,7 +76,7 @@ module _ (words : List (List ℕ)) (files : Files) (loaded : Option Loaded) (es 
       → Scripted files script_name program source ticks loaded es s text → Comes words files loaded es s
   scripted_comes name script_name source ticks program s text e r h (Scripted.unread u) = unread_comes script_name longest_script s text (IsWanted.as_script name source ticks program e r h refl) u
   scripted_comes name script_name source ticks program s text e r h (Scripted.read script r' (Called.refused n)) =
-      subst (Comes words files loaded es) (sym n.status_is) (record {
+      subst (Comes words files loaded es) (sym n.status_is) (IsScriptRefused.no_script (record {
         source = source;
         program = program;
         source_name = name;
@@ -87,7 +89,7 @@ module _ (words : List (List ℕ)) (files : Files) (loaded : Option Loaded) (es 
         script_read = r';
         line = n.line;
         refused = n.refused;
-      })
+      }))
   scripted_comes name script_name source ticks program s text e r h (Scripted.read script r' (Called.accepted calls h' ran)) =
       let end = end_of program source calls ticks s text ran in
       subst (Comes words files loaded es) (sym end.2) (end_comes end.0 (record {
@@ -121,9 +123,34 @@ module _ (words : List (List ℕ)) (files : Files) (loaded : Option Loaded) (es 
       of cutting.Split (IsSplit.failed texts i file are at is t) = subst (Comes words files loaded es) (sym is) tt
       of cutting.Report reported = subst (Comes words files loaded es) (sym reported.status_is) (IsDone.cut was)
 
+  own_comes : (end : End) → IsOwn end → IsWholeEnd words files (status_of end) → Comes words files loaded es (status_of end)
+  own_comes ends.Ok own h = IsDone.whole h
+  own_comes (ends.Stop kind at) own h = IsStopped.whole h
+  own_comes (ends.Refused exchange cause number) own h = absurd own
+  own_comes (ends.FarFault exchange) own h = absurd own
+
+  whole_comes : (name script_name : List ℕ) (ticks : ℕ) (s : Status) (text : List ℕ) → command_of words ≡ Some (Whole name script_name ticks) → WholeAnswered files name script_name ticks s text → Comes words files loaded es s
+  whole_comes name script_name ticks s text e (WholeAnswered.source_unread u) = unread_comes name longest_source s text (IsWanted.as_whole_source script_name ticks e refl) u
+  whole_comes name script_name ticks s text e (WholeAnswered.source_refused bytes r n) =
+      subst (Comes words files loaded es) (sym n.status_is) (IsRefused.no_whole (record { bytes = bytes; named = record { name = name; script_name = script_name; ticks = ticks; command = e; read = r }; refusal = n.refusal; refused = n.comes }))
+  whole_comes name script_name ticks s text e (WholeAnswered.script_unread bytes source r h u) = unread_comes script_name longest_script s text (IsWanted.as_whole_script name bytes ticks source e r h refl) u
+  whole_comes name script_name ticks s text e (WholeAnswered.script_refused bytes source lines r h r' n) =
+      let named : IsWholeSource words files bytes = record { name = name; script_name = script_name; ticks = ticks; command = e; read = r } in
+      let none : IsNoWholeScript words files = record { bytes = bytes; named = named; source = source; has = h; lines = lines; read = r'; line = n.line; kind = n.kind; refused = n.refused } in
+      subst (Comes words files loaded es) (sym n.status_is) (IsScriptRefused.no_whole none)
+  whole_comes name script_name ticks s text e (WholeAnswered.ran bytes source lines script r h r' b run) =
+      subst (Comes words files loaded es) (sym run.status_is) (own_comes (meant source.program script ticks).end (meant_own source.program script ticks) (record {
+        source = source;
+        script = script;
+        ticks = ticks;
+        accepted = record { source_name = name; script_name = script_name; command = e; bytes = bytes; source_read = r; compiled = h; lines = lines; script_read = r'; bound = b };
+        status_is = refl;
+      }))
+
   answered_comes : (s : Status) (text : List ℕ) → Answered words files loaded es s text → Comes words files loaded es s
   answered_comes s text (Answered.usage e is t) = subst (Comes words files loaded es) (sym is) e
   answered_comes s text (Answered.cut how name e c) = cut_comes how name s text e c
+  answered_comes s text (Answered.whole name script_name ticks e c) = whole_comes name script_name ticks s text e c
   answered_comes s text (Answered.command name script_name ticks e c) = sourced_comes name script_name ticks s text e c
 
   pub prints_comes : (old new : Option (List ℕ)) (s : Status) → Prints words files loaded es old new s → Comes words files loaded es s

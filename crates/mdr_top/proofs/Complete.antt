@@ -13,12 +13,12 @@ use Rattle.mdr_top.specs.Commands.{commands_of}
 use Rattle.mdr_user.specs.Honest.{IsHonest}
 use Rattle.mdr_due.specs.declared.status.Status.{Status}
 use Rattle.mdr_due.specs.declared.status.Status.TheVariants as status
-use Rattle.mdr_top.specs.Words.{Task, Cut, Run, command_of}
+use Rattle.mdr_top.specs.Words.{Task, Cut, Whole, Run, command_of}
 use Rattle.mdr_top.specs.Cuts.{WriteCause}
-use Rattle.mdr_top.proofs.CutLaws.{cut_no_run}
+use Rattle.mdr_top.proofs.CutLaws.{cut_no_run, whole_no_run}
 use Rattle.mdr_due.specs.Statuses.{Counts, HasReadCause}
-use Rattle.mdr_due.specs.Reads.{Files, longest_source}
-use Rattle.mdr_top.specs.Answers.{longest_script, Unread, HasProgram, Ran, Called, Scripted, Compiled, Sourced, Answered, Prints}
+use Rattle.mdr_due.specs.Reads.{Files, longest_source, longest_script}
+use Rattle.mdr_top.specs.Answers.{Unread, HasProgram, Ran, Called, Scripted, Compiled, Sourced, Answered, Prints}
 use Rattle.mdr_top.specs.Headline.{IsMeaning, IsAccepted, Rests, AreTold, EndsAsMeant, Completes}
 use Rattle.mdr_top.proofs.Programs.{same_program, not_refused}
 use Rattle.mdr_top.proofs.Headline.{ran_means}
@@ -54,14 +54,17 @@ not_long (Some f) name limit a told r r' =
 -- the names in a task, and its budget
 abbrev source_in : Task → List ℕ
 source_in (Cut how name) = name
+source_in (Whole source_name script_name ticks) = source_name
 source_in (Run source_name script_name ticks) = source_name
 
 abbrev script_in : Task → List ℕ
 script_in (Cut how name) = name
+script_in (Whole source_name script_name ticks) = script_name
 script_in (Run source_name script_name ticks) = script_name
 
 abbrev ticks_in : Task → ℕ
 ticks_in (Cut how name) = 0
+ticks_in (Whole source_name script_name ticks) = ticks
 ticks_in (Run source_name script_name ticks) = ticks
 
 -- of a run, a write fault is the output's
@@ -116,6 +119,7 @@ module _ (words : List (List ℕ)) (files : Files) (loaded : Option Loaded) (es 
   pub accepted_runs : AreTold files → IsAccepted words files source program calls ticks → Answered words files loaded es s text → (s ≡ status.ReadFault) ⊎ RanOn source program calls ticks loaded es s text
   accepted_runs told a (Answered.usage e is t) = absurd (not_some (command_of words) (Run a.source_name a.script_name ticks) a.command e)
   accepted_runs told a (Answered.cut how name e d) = absurd (cut_no_run (command_of words) how name a.source_name a.script_name ticks e a.command)
+  accepted_runs told a (Answered.whole name script_name budget e d) = absurd (whole_no_run (command_of words) name script_name budget a.source_name a.script_name ticks e a.command)
   accepted_runs told a (Answered.command name script_name budget e d) =
       let same : Run a.source_name a.script_name ticks ≡ Run name script_name budget = some_same (command_of words) (Run a.source_name a.script_name ticks) (Run name script_name budget) a.command e in
       sourced_runs name script_name a.script told

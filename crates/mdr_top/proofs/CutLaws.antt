@@ -14,23 +14,29 @@ use Rattle.mdr_slicer.specs.Writes.{Writes}
 use Rattle.mdr_slicer.specs.Slicing.{NoSourceOf, Splits, Reports}
 use Rattle.mdr_top.specs.declared.words.Cutting.{Cutting}
 use Rattle.mdr_top.specs.declared.words.Cutting.TheVariants as cutting
-use Rattle.mdr_top.specs.Words.{Task, Cut, Run, cut_of, run_of, command_by, command_of}
+use Rattle.mdr_top.specs.Words.{Task, Cut, Whole, Run, cut_of, whole_of, run_of, command_by, command_of}
 use Rattle.mdr_top.specs.Cuts.{CutDone, IsSplit, IsOfCut}
 use Rattle.mdr_top.specs.Answers.{Unread, CutAnswered}
 
 -- ---- words
 
 pub cut_command : (words : List (List ℕ)) (how : Cutting) (name : List ℕ) → Some (how, name) ≡ cut_of words → command_of words ≡ Some (Cut how name)
-cut_command words how name e = ap (λ (c : Option (Cutting × List ℕ)). command_by c (run_of words)) (sym e)
+cut_command words how name e = ap (λ (c : Option (Cutting × List ℕ)). command_by c (whole_of words) (run_of words)) (sym e)
 
-pub run_command : (words : List (List ℕ)) (source_name script_name : List ℕ) (ticks : ℕ) → None ≡ cut_of words → Some (source_name, script_name, ticks) ≡ run_of words → command_of words ≡ Some (Run source_name script_name ticks)
-run_command words source_name script_name ticks none e = λ i. command_by (sym none i) (sym e i)
+pub whole_command : (words : List (List ℕ)) (source_name script_name : List ℕ) (ticks : ℕ) → None ≡ cut_of words → Some (source_name, script_name, ticks) ≡ whole_of words → command_of words ≡ Some (Whole source_name script_name ticks)
+whole_command words source_name script_name ticks none e = λ i. command_by (sym none i) (sym e i) (run_of words)
 
-pub no_command : (words : List (List ℕ)) → None ≡ cut_of words → None ≡ run_of words → command_of words ≡ None
-no_command words none nothing = λ i. command_by (sym none i) (sym nothing i)
+pub run_command : (words : List (List ℕ)) (source_name script_name : List ℕ) (ticks : ℕ) → None ≡ cut_of words → None ≡ whole_of words → Some (source_name, script_name, ticks) ≡ run_of words → command_of words ≡ Some (Run source_name script_name ticks)
+run_command words source_name script_name ticks none neither e = λ i. command_by (sym none i) (sym neither i) (sym e i)
+
+pub no_command : (words : List (List ℕ)) → None ≡ cut_of words → None ≡ whole_of words → None ≡ run_of words → command_of words ≡ None
+no_command words none neither nothing = λ i. command_by (sym none i) (sym neither i) (sym nothing i)
 
 pub cut_no_run : (command : Option Task) (how : Cutting) (name source_name script_name : List ℕ) (ticks : ℕ) → command ≡ Some (Cut how name) → command ≡ Some (Run source_name script_name ticks) → ⊥
 cut_no_run command how name source_name script_name ticks e f = Prim.cc
+
+pub whole_no_run : (command : Option Task) (source script : List ℕ) (budget : ℕ) (source_name script_name : List ℕ) (ticks : ℕ) → command ≡ Some (Whole source script budget) → command ≡ Some (Run source_name script_name ticks) → ⊥
+whole_no_run command source script budget source_name script_name ticks e f = Prim.cc
 
 -- ---- files
 

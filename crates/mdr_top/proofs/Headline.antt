@@ -20,7 +20,8 @@ use Rattle.mdr_ready.proofs.OneReason.{not_refused}
 use Rattle.mdr_due.specs.declared.status.Status.{Status}
 use Rattle.mdr_due.specs.declared.status.Status.TheVariants as status
 use Rattle.mdr_top.specs.Meanings.{IsMeant}
-use Rattle.mdr_top.specs.Answers.{status_of, nothing_ran, NoProgram, HasProgram, Reported, Began, Ran}
+use Rattle.mdr_runner.specs.Runs.{status_of}
+use Rattle.mdr_top.specs.Answers.{nothing_ran, NoProgram, HasProgram, Reported, Began, Ran}
 use Rattle.mdr_top.specs.Headline.{IsMeaning}
 use Rattle.mdr_top.proofs.Meanings.{run_is_meaning}
 

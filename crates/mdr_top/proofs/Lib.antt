@@ -1,5 +1,6 @@
 pub mod Bound
 pub mod CutLaws
+pub mod WholeLaws
 pub mod Programs
 pub mod Meanings
 pub mod Headline

@@ -26,10 +26,15 @@ use Rattle.mdr_source.specs.declared.refusal.Refusal.{Refusal}
 use Rattle.mdr_source.specs.Sources.{Comes as ComesTo}
 use Rattle.mdr_slicer.specs.Slicing.{HasSource}
 use Rattle.mdr_top.specs.declared.words.Cutting.{Cutting}
-use Rattle.mdr_top.specs.Words.{Task, Cut, Run, command_of}
-use Rattle.mdr_due.specs.Reads.{Files, longest_source}
-use Rattle.mdr_top.specs.Answers.{longest_script, status_of, HasProgram}
+use Rattle.mdr_top.specs.Words.{Task, Cut, Whole, Run, command_of}
+use Rattle.mdr_due.specs.Reads.{Files, longest_source, longest_script}
+use Rattle.mdr_top.specs.Answers.{HasProgram}
+use Rattle.mdr_script.specs.declared.bound.Bound.{Bound}
+use Rattle.mdr_script.specs.declared.script_error.ScriptKind.{ScriptKind}
+use Rattle.mdr_runner.specs.Scripts.{script_for}
+use Rattle.mdr_runner.specs.Runs.{status_of, meant}
 use Rattle.mdr_top.specs.Headline.{IsAccepted}
+use Rattle.mdr_top.specs.Wholes.{IsWhole}
 
 -- the words name a source, which is read
 pub record IsSource (words : List (List ℕ)) (files : Files) (source : List ℕ) : Type 0 where
@@ -42,6 +47,8 @@ pub record IsSource (words : List (List ℕ)) (files : Files) (source : List ℕ
 -- a file that the words name: a source, and the script once its source has a program that is ready to run
 pub data IsWanted (words : List (List ℕ)) (files : Files) (name : List ℕ) (limit : ℕ) : Type 0 where
   as_cut : (how : Cutting) → command_of words ≡ Some (Cut how name) → limit ≡ longest_source → IsWanted words files name limit
+  as_whole_source : (script_name : List ℕ) (ticks : ℕ) → command_of words ≡ Some (Whole name script_name ticks) → limit ≡ longest_source → IsWanted words files name limit
+  as_whole_script : (source_name bytes : List ℕ) (ticks : ℕ) (source : Source) → command_of words ≡ Some (Whole source_name name ticks) → ReadsFrom files source_name longest_source (reads.Ok bytes) → HasSource bytes source → limit ≡ longest_script → IsWanted words files name limit
   as_source : (script_name : List ℕ) (ticks : ℕ) → command_of words ≡ Some (Run name script_name ticks) → limit ≡ longest_source → IsWanted words files name limit
   as_script : (source_name source : List ℕ) (ticks : ℕ) (program : Program) → command_of words ≡ Some (Run source_name name ticks) → ReadsFrom files source_name longest_source (reads.Ok source) → HasProgram source program → limit ≡ longest_script → IsWanted words files name limit
 
@@ -80,9 +87,25 @@ pub record WasCut (words : List (List ℕ)) (files : Files) : Type 0 where
   pub source : Source
   pub has : HasSource bytes source
 
+-- a source over which a script is run on one memory, and its bytes
+pub record IsWholeSource (words : List (List ℕ)) (files : Files) (bytes : List ℕ) : Type 0 where
+  pub name : List ℕ
+  pub script_name : List ℕ
+  pub ticks : ℕ
+  pub command : command_of words ≡ Some (Whole name script_name ticks)
+  pub read : ReadsFrom files name longest_source (reads.Ok bytes)
+
+-- it is refused
+pub record IsNoWhole (words : List (List ℕ)) (files : Files) : Type 0 where
+  pub bytes : List ℕ
+  pub named : IsWholeSource words files bytes
+  pub refusal : Refusal
+  pub refused : ComesTo bytes (Err refusal)
+
 pub data IsRefused (words : List (List ℕ)) (files : Files) : Type 0 where
   no_program : IsNoProgram words files → IsRefused words files
   no_cut : IsNoCut words files → IsRefused words files
+  no_whole : IsNoWhole words files → IsRefused words files
 
 -- a line of the script is no call of a function of the program
 pub record IsNoScript (words : List (List ℕ)) (files : Files) : Type 0 where
@@ -98,6 +121,22 @@ pub record IsNoScript (words : List (List ℕ)) (files : Files) : Type 0 where
   pub script_read : ReadsFrom files script_name longest_script (reads.Ok script)
   pub line : ℕ
   pub refused : commands_of program.funcs script ≡ Err line
+
+-- a line of the script is none of a script's, or doesn't suit the program that it is run over on one memory
+pub record IsNoWholeScript (words : List (List ℕ)) (files : Files) : Type 0 where
+  pub bytes : List ℕ
+  pub named : IsWholeSource words files bytes
+  pub source : Source
+  pub has : HasSource bytes source
+  pub lines : List ℕ
+  pub read : ReadsFrom files named.script_name longest_script (reads.Ok lines)
+  pub line : ℕ
+  pub kind : ScriptKind
+  pub refused : script_for source.program lines ≡ Err (line, kind)
+
+pub data IsScriptRefused (words : List (List ℕ)) (files : Files) : Type 0 where
+  no_script : IsNoScript words files → IsScriptRefused words files
+  no_whole : IsNoWholeScript words files → IsScriptRefused words files
 
 -- where the far side ended a run that began: the last answer isn't legal where the run waited for it, and this is its exchange and its first fault; or the run waits for an answer that didn't come
 abbrev pub IsDueToFar : Program → List Command → (ticks : ℕ) → List Exchange → End → Type 0
@@ -120,10 +159,24 @@ pub record IsEnd (words : List (List ℕ)) (files : Files) (loaded : Option Load
   pub ends : Ends program source calls ticks loaded es end
   pub status_is : s ≡ status_of end
 
+-- the words name a source and a script that are run on one memory, and that run ends with this status
+pub record IsWholeEnd (words : List (List ℕ)) (files : Files) (s : Status) : Type 0 where
+  pub source : Source
+  pub script : Bound
+  pub ticks : ℕ
+  pub accepted : IsWhole words files source script ticks
+  pub status_is : s ≡ status_of (meant source.program script ticks).end
+
 -- a run ended by itself, or a source was cut
 pub data IsDone (words : List (List ℕ)) (files : Files) (loaded : Option Loaded) (es : List Exchange) : Type 0 where
   ran : IsEnd words files loaded es status.Done → IsDone words files loaded es
+  whole : IsWholeEnd words files status.Done → IsDone words files loaded es
   cut : WasCut words files → IsDone words files loaded es
+
+-- the driver stopped
+pub data IsStopped (words : List (List ℕ)) (files : Files) (loaded : Option Loaded) (es : List Exchange) : Type 0 where
+  ran : IsEnd words files loaded es status.Stopped → IsStopped words files loaded es
+  whole : IsWholeEnd words files status.Stopped → IsStopped words files loaded es
 
 -- what holds where a status comes
 abbrev pub Comes : List (List ℕ) → Files → Option Loaded → List Exchange → Status → Type 0
@@ -132,9 +185,9 @@ Comes words files loaded es status.Missing = IsAnswered words files reads.Missin
 Comes words files loaded es status.TooLarge = IsAnswered words files reads.TooLarge
 Comes words files loaded es status.ReadFault = IsAnswered words files reads.Failed
 Comes words files loaded es status.SourceRefused = IsRefused words files
-Comes words files loaded es status.ScriptRefused = IsNoScript words files
+Comes words files loaded es status.ScriptRefused = IsScriptRefused words files
 Comes words files loaded es status.Done = IsDone words files loaded es
-Comes words files loaded es status.Stopped = IsEnd words files loaded es status.Stopped
+Comes words files loaded es status.Stopped = IsStopped words files loaded es
 Comes words files loaded es status.Marshal = IsEnd words files loaded es status.Marshal
 Comes words files loaded es status.FarFault = IsEnd words files loaded es status.FarFault
 Comes words files loaded es status.WriteFault = Unit {0}
@@ -188,10 +241,31 @@ pub data IsCutDue (file : Option (List ℕ)) (s : Status) : Type 0 where
   refused : (bytes : List ℕ) (refusal : Refusal) → file ≡ Some bytes → length bytes ≤ longest_source → ComesTo bytes (Err refusal) → s ≡ status.SourceRefused → IsCutDue file s
   accepted : (bytes : List ℕ) (source : Source) → file ≡ Some bytes → length bytes ≤ longest_source → ComesTo bytes (Ok source) → s ≡ status.Done → IsCutDue file s
 
+-- what a script gives that is run over a program on one memory
+abbrev pub run_due : Program → (ticks : ℕ) → Result Bound (ℕ × ScriptKind) → Status
+run_due program ticks (Ok script) = status_of (meant program script ticks).end
+run_due program ticks (Err e) = status.ScriptRefused
+
+abbrev pub whole_sized : Bool → Status → Status
+whole_sized true given = status.TooLarge
+whole_sized false given = given
+
+abbrev pub whole_due : Program → (ticks : ℕ) → Option (List ℕ) → Status
+whole_due program ticks None = status.Missing
+whole_due program ticks (Some lines) = whole_sized (nat_lt longest_script (length lines)) (run_due program ticks (script_for program lines))
+
+-- what the bytes of a source and of a script give that is run over it on one memory
+pub data IsWholeDue (file script : Option (List ℕ)) (ticks : ℕ) (s : Status) : Type 0 where
+  missing : file ≡ None → s ≡ status.Missing → IsWholeDue file script ticks s
+  long : (bytes : List ℕ) → file ≡ Some bytes → longest_source < length bytes → s ≡ status.TooLarge → IsWholeDue file script ticks s
+  refused : (bytes : List ℕ) (refusal : Refusal) → file ≡ Some bytes → length bytes ≤ longest_source → ComesTo bytes (Err refusal) → s ≡ status.SourceRefused → IsWholeDue file script ticks s
+  accepted : (bytes : List ℕ) (source : Source) → file ≡ Some bytes → length bytes ≤ longest_source → ComesTo bytes (Ok source) → s ≡ whole_due source.program ticks script → IsWholeDue file script ticks s
+
 -- what words and files give where nothing fails
 abbrev pub IsDueFor : Option Task → (List ℕ → Option (List ℕ)) → Status → Type 0
 IsDueFor None f s = s ≡ status.Usage
 IsDueFor (Some (Cut how name)) f s = IsCutDue (f name) s
+IsDueFor (Some (Whole source_name script_name ticks)) f s = IsWholeDue (f source_name) (f script_name) ticks s
 IsDueFor (Some (Run source_name script_name ticks)) f s = IsRunDue (f source_name) (f script_name) s
 
 -- the status is what words and files give, but a read or a write may fail, and memory may be wanting
@@ -205,3 +279,9 @@ IsExact words files s = IfSome files (λ f. IsDueOrFault (IsDueFor (command_of w
 -- where a source is cut, over files that are told, the status is what its bytes give, or memory was wanting
 abbrev pub CutCompletes : List (List ℕ) → Files → Status → Type 0
 CutCompletes words files s = (how : Cutting) (name : List ℕ) → command_of words ≡ Some (Cut how name) → IfSome files (λ f. (s ≡ status.OutOfMemory) ⊎ IsCutDue (f name) s)
+
+-- where a script is run on one memory, over files that are told, the status is what the two files give, or memory was wanting
+abbrev pub WholeCompletes : List (List ℕ) → Files → Status → Type 0
+WholeCompletes words files s =
+    (source_name script_name : List ℕ) (ticks : ℕ) → command_of words ≡ Some (Whole source_name script_name ticks)
+    → IfSome files (λ f. (s ≡ status.OutOfMemory) ⊎ IsWholeDue (f source_name) (f script_name) ticks s)

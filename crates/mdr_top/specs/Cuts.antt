@@ -13,7 +13,7 @@ use Rattle.mdr_slicer.specs.Outputs.{NamedBytes, outputs, length_lines}
 use Rattle.mdr_slicer.specs.Slicing.{Splits, SplitsPart, Reports, IsReported}
 use Rattle.mdr_top.specs.declared.words.Cutting.{Cutting}
 use Rattle.mdr_top.specs.declared.words.Cutting.TheVariants as cutting
-use Rattle.mdr_top.specs.Words.{Task, Cut, Run}
+use Rattle.mdr_top.specs.Words.{Task, Cut, Whole, Run}
 
 -- ---- what is done
 
@@ -63,6 +63,7 @@ CutCause cutting.Report before after = ⊥
 abbrev pub WroteCause : Option Task → (before after : ℕ) → Type 0
 WroteCause None before after = ⊥
 WroteCause (Some (Cut how name)) before after = CutCause how before after
+WroteCause (Some (Whole source_name script_name ticks)) before after = ⊥
 WroteCause (Some (Run source_name script_name ticks)) before after = ⊥
 
 -- the output's count of faults rose, or where texts are written the shelf's of failed writes

@@ -12,10 +12,11 @@ use Rattle.mdr_due.specs.declared.status.Status.{Status}
 use Rattle.mdr_due.specs.declared.status.Status.TheVariants as status
 use Rattle.mdr_top.specs.Lines.{usage_line}
 use Rattle.mdr_top.specs.declared.words.Cutting.{Cutting}
-use Rattle.mdr_top.specs.Words.{Cut, Run, command_of}
+use Rattle.mdr_top.specs.Words.{Cut, Whole, Run, command_of}
 use Rattle.mdr_top.specs.Cuts.{CutDone, CutPart}
-use Rattle.mdr_due.specs.Reads.{Files, IsRead, WasRead, UnreadBy, longest_source}
-use Rattle.mdr_top.specs.Answers.{longest_script, NoProgram, HasProgram, HasScript, NoScript, Ran, Adds}
+use Rattle.mdr_runner.specs.Runs.{Runs, RunsPart}
+use Rattle.mdr_due.specs.Reads.{Files, IsRead, WasRead, UnreadBy, longest_source, longest_script}
+use Rattle.mdr_top.specs.Answers.{NoProgram, HasProgram, HasScript, NoScript, Ran, Adds}
 
 -- ---- the far side
 
@@ -38,10 +39,11 @@ pub record LoadedPart (program : Program) (source : List ℕ) (calls : List Comm
 -- ---- all of it
 
 module _ (words : List (List ℕ)) (files files' : Files) (shelf shelf' : List ShelfCall) (far far' : List FarCall) (loaded : Option Loaded) (es : List Exchange) where
-  -- a source is cut; or the files of the words are read in their order, up to the first that isn't taken. The far side is left alone, or it is loaded once and gets the run's messages
+  -- a source is cut, or a script is run over it on one memory, which changes no file; or the files of the words are read in their order, up to the first that isn't taken. The far side is left alone, or it is loaded once and gets the run's messages
   pub data Done (s : Status) (text : List ℕ) : Type 0 where
     usage : command_of words ≡ None → shelf' ≡ shelf → far' ≡ far → s ≡ status.Usage → text ≡ usage_line → Done s text
     cut : (how : Cutting) (name : List ℕ) → command_of words ≡ Some (Cut how name) → CutDone how files files' name shelf shelf' s text → far' ≡ far → Done s text
+    whole : (source_name script_name : List ℕ) (ticks : ℕ) → command_of words ≡ Some (Whole source_name script_name ticks) → files' ≡ files → Runs files source_name script_name ticks shelf shelf' s text → far' ≡ far → Done s text
     source_unread : (source_name script_name : List ℕ) (ticks : ℕ) → command_of words ≡ Some (Run source_name script_name ticks) → UnreadBy files source_name longest_source shelf shelf' s text → far' ≡ far → Done s text
     source_refused : (source_name script_name source : List ℕ) (ticks : ℕ) → command_of words ≡ Some (Run source_name script_name ticks) → IsRead files source_name longest_source shelf shelf' (reads.Ok source) → NoProgram source s text → far' ≡ far → Done s text
     script_unread : (source_name script_name source : List ℕ) (ticks : ℕ) (program : Program) (between : List ShelfCall) → command_of words ≡ Some (Run source_name script_name ticks) → IsRead files source_name longest_source shelf between (reads.Ok source) → HasProgram source program
@@ -55,6 +57,7 @@ module _ (words : List (List ℕ)) (files files' : Files) (shelf shelf' : List S
   pub data DonePart : Type 0 where
     nothing : shelf' ≡ shelf → far' ≡ far → DonePart
     cut_part : (how : Cutting) (name : List ℕ) → command_of words ≡ Some (Cut how name) → CutPart how files files' name shelf shelf' → far' ≡ far → DonePart
+    whole_part : (source_name script_name : List ℕ) (ticks : ℕ) → command_of words ≡ Some (Whole source_name script_name ticks) → files' ≡ files → RunsPart files source_name script_name shelf shelf' → far' ≡ far → DonePart
     source_read : (source_name script_name : List ℕ) (ticks : ℕ) → command_of words ≡ Some (Run source_name script_name ticks) → WasRead files source_name longest_source shelf shelf' → far' ≡ far → DonePart
     script_read : (source_name script_name source : List ℕ) (ticks : ℕ) (program : Program) (between : List ShelfCall) → command_of words ≡ Some (Run source_name script_name ticks) → IsRead files source_name longest_source shelf between (reads.Ok source) → HasProgram source program
         → WasRead files script_name longest_script between shelf' → far' ≡ far → DonePart

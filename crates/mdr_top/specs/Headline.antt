@@ -17,8 +17,9 @@ use Rattle.mdr_outside.specs.Shelf.{ReadsFrom}
 use Rattle.mdr_due.specs.declared.status.Status.{Status}
 use Rattle.mdr_due.specs.declared.status.Status.TheVariants as status
 use Rattle.mdr_top.specs.Words.{Run, command_of}
-use Rattle.mdr_due.specs.Reads.{Files, longest_source}
-use Rattle.mdr_top.specs.Answers.{longest_script, status_of, HasProgram, HasScript, Reported, Adds}
+use Rattle.mdr_due.specs.Reads.{Files, longest_source, longest_script}
+use Rattle.mdr_runner.specs.Runs.{status_of}
+use Rattle.mdr_top.specs.Answers.{HasProgram, HasScript, Reported, Adds}
 
 -- the outcome of the one-memory meaning
 abbrev pub meant : Program → List Command → (ticks : ℕ) → Outcome

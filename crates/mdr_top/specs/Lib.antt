@@ -6,4 +6,5 @@ pub mod Answers
 pub mod Done
 pub mod Meanings
 pub mod Headline
+pub mod Wholes
 pub mod Comes

@@ -6,9 +6,10 @@ use Rattle.mdr_core.specs.Layout.{chosen}
 use Rattle.mdr_top.specs.declared.words.Cutting.{Cutting}
 use Rattle.mdr_top.specs.declared.words.Cutting.TheVariants as cutting
 
--- what the words ask for: that a source is cut, or that a script is run over one, under a budget of ticks
+-- what the words ask for: that a source is cut, or that a script is run over one, on one memory or over its two halves, under a budget of ticks
 pub data Task : Type 0 where
   Cut : (how : Cutting) (source_name : List ℕ) → Task
+  Whole : (source_name script_name : List ℕ) (ticks : ℕ) → Task
   Run : (source_name script_name : List ℕ) (ticks : ℕ) → Task
 
 abbrev pub when : {A : Type 0} → Bool → A → Option A
@@ -51,19 +52,32 @@ budget_of _ = None
 
 -- ---- a run
 
+-- `run MODE`
+abbrev pub is_run : (mode : List ℕ) → List ℕ → List ℕ → Bool
+is_run mode run' mode' = bytes_eq run' (codes "run") && bytes_eq mode' mode
+
+-- a run's source, its script and its budget
+abbrev pub Named : Type 0
+Named = List ℕ × List ℕ × ℕ
+
+-- `run MODE FILE SCRIPT`, and the budget: the two names and the ticks
+abbrev pub run_as : (mode : List ℕ) → List (List ℕ) → Option Named
+run_as mode (run' ∷ mode' ∷ file ∷ script ∷ flags) = chosen (is_run mode run' mode') (option_map (λ ticks. (file, script, ticks)) (budget_of flags)) None
+run_as mode _ = None
+
+-- `run whole`
+abbrev pub whole_of : List (List ℕ) → Option Named
+whole_of words = run_as (codes "whole") words
+
 -- `run split`
-abbrev pub is_run : List ℕ → List ℕ → Bool
-is_run run' split' = bytes_eq run' (codes "run") && bytes_eq split' (codes "split")
+abbrev pub run_of : List (List ℕ) → Option Named
+run_of words = run_as (codes "split") words
 
--- `run split FILE SCRIPT`, and the budget: the two names and the ticks
-abbrev pub run_of : List (List ℕ) → Option (List ℕ × List ℕ × ℕ)
-run_of (run' ∷ split' ∷ file ∷ script ∷ flags) = chosen (is_run run' split') (option_map (λ ticks. (file, script, ticks)) (budget_of flags)) None
-run_of _ = None
-
-abbrev pub command_by : Option (Cutting × List ℕ) → Option (List ℕ × List ℕ × ℕ) → Option Task
-command_by (Some cut) run = Some (Cut cut.0 cut.1)
-command_by None (Some run) = Some (Run run.0 run.1 run.2)
-command_by None None = None
+abbrev pub command_by : Option (Cutting × List ℕ) → (whole run : Option Named) → Option Task
+command_by (Some cut) whole run = Some (Cut cut.0 cut.1)
+command_by None (Some whole) run = Some (Whole whole.0 whole.1 whole.2)
+command_by None None (Some run) = Some (Run run.0 run.1 run.2)
+command_by None None None = None
 
 abbrev pub command_of : List (List ℕ) → Option Task
-command_of words = command_by (cut_of words) (run_of words)
+command_of words = command_by (cut_of words) (whole_of words) (run_of words)

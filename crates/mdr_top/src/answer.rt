@@ -13,7 +13,8 @@ use crate::lines::usage_line;
 use crate::program::program;
 use crate::script::calls;
 use crate::split::ran;
-use crate::words::{cut_of, run_of};
+use crate::whole::run_whole;
+use crate::words::{cut_of, run_of, whole_of};
 use mdr_core::OutOfMemory;
 use mdr_due::{Due, Stage, Status, file};
 use mdr_outside::{Far, Shelf};
@@ -81,6 +82,9 @@ pub(crate) fn answered<S: Shelf, F: Far>(
 {
     if let Some((how, name)) = cut_of(words) {
         return cut(alloc, how, shelf, name);
+    }
+    if let Some((source_name, script_name, ticks)) = whole_of(words) {
+        return run_whole(alloc, shelf, source_name, script_name, ticks);
     }
     let Some((source_name, script_name, ticks)) = run_of(words) else {
         return Ok(Due {

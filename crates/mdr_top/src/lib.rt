@@ -10,6 +10,7 @@ mod script;
 mod split;
 mod ticks;
 mod top;
+mod whole;
 mod words;
 
 pub use laws::run_is_meaning;

@@ -7,10 +7,9 @@ ghost use Rattle.mdr_top.specs.Commands.{call_of};
 ghost use Rattle.mdr_top.specs.Answers.{HasScript, NoScript};
 ghost use Rattle.mdr_due.specs.Stages.{StageIs};
 
-use crate::lines::script_line;
 use mdr_calls::{ScriptError, read_script};
 use mdr_core::{Items, OutOfMemory, Program};
-use mdr_due::{Due, Stage, Status};
+use mdr_due::{Due, Stage, Status, script_line};
 use mdr_model::Command;
 use std::alloc::Global;
 

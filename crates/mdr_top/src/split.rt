@@ -10,7 +10,7 @@ ghost use Rattle.mdr_due.specs.declared.status.Status.TheVariants as status;
 ghost use Rattle.mdr_due.specs.Statuses.{Counts, HasReadCause};
 ghost use Rattle.mdr_kernel.specs.Runs.{sent_of};
 ghost use Rattle.mdr_kernel.specs.Calls.{sends};
-ghost use Rattle.mdr_top.specs.Answers.{Ran, Reported, Began, nothing_ran, status_of};
+ghost use Rattle.mdr_top.specs.Answers.{Ran, Reported, Began, nothing_ran};
 ghost use Rattle.mdr_top.specs.Done.{LoadedOnce, LoadedPart, SentPart};
 
 use mdr_core::{OutOfMemory, Program, RefuseKind};
@@ -19,18 +19,8 @@ use mdr_kernel::{KernelHalf, nothing_ran};
 use mdr_model::{Command, End, Outcome};
 use mdr_outside::{Far, LoadAnswer};
 use mdr_report::report;
+use mdr_runner::status_of;
 use std::alloc::Global;
-
-fn status_of(end: &End) -> Status
-    ensures { result ≡ status_of end.now }
-{
-    match end {
-        End::Ok => Status::Done,
-        End::Stop(_, _) => Status::Stopped,
-        End::Refused(_, _, _) => Status::Marshal,
-        End::FarFault(_) => Status::FarFault,
-    }
-}
 
 /// The report of an outcome, with its status.
 fn reported(alloc: Global, program: &Program, outcome: &Outcome) -> Result<Due, OutOfMemory>

@@ -11,7 +11,8 @@ ghost use Rattle.mdr_top.specs.Answers.{Prints, AddsPart};
 ghost use Rattle.mdr_top.specs.Done.{Does};
 ghost use Rattle.mdr_top.specs.Cuts.{WriteCause};
 ghost use Rattle.mdr_top.specs.Headline.{Rests, Means, Completes};
-ghost use Rattle.mdr_top.specs.Comes.{Comes, IsExact, CutCompletes};
+ghost use Rattle.mdr_top.specs.Comes.{Comes, IsExact, CutCompletes, WholeCompletes};
+ghost use Rattle.mdr_top.specs.Wholes.{WholeMeans};
 ghost use Rattle.mdr_top.specs.Words.{command_of};
 
 use crate::answer::answered;
@@ -70,8 +71,8 @@ fn printed<S: Shelf, O: Sink, F: Far>(
 }
 
 /// Does what the words say: reads a source from the shelf, and writes its texts to files, or reports on it, or runs a
-/// script over the far side; and prints what came of it, or why there is nothing. Nothing is printed before all of it
-/// is made.
+/// script over it on one memory, or over the far side; and prints what came of it, or why there is nothing. Nothing is
+/// printed before all of it is made.
 pub fn run<S: Shelf, O: Sink, F: Far>(
     alloc: Global,
     words: &Vec<String>,
@@ -85,11 +86,13 @@ pub fn run<S: Shelf, O: Sink, F: Far>(
     ensures far_cause { result ≡ status.FarFault → Rose (F.faults far.old) (F.faults far.new) }
     ensures write_cause { result ≡ status.WriteFault → WriteCause (command_of (map string_bytes words.now.items)) (O.faults out.old) (O.faults out.new) (S.unwritten shelf.old) (S.unwritten shelf.new) }
     ensures meaning { IsHonest (F.loaded far.new) (F.exchanges far.new) → Means (map string_bytes words.now.items) (S.files shelf.old) (S.calls shelf.old) (S.calls shelf.new) (F.loaded far.new) (F.exchanges far.new) (O.written out.old) (O.written out.new) result }
+    ensures whole_meaning { WholeMeans (map string_bytes words.now.items) (S.files shelf.old) (S.calls shelf.old) (S.calls shelf.new) (O.written out.old) (O.written out.new) result }
     ensures comes { Comes (map string_bytes words.now.items) (S.files shelf.old) (F.loaded far.new) (F.exchanges far.new) result }
     ensures exact { IsExact (map string_bytes words.now.items) (S.files shelf.old) result }
     ensures usage { command_of (map string_bytes words.now.items) ≡ None → (result ≡ status.Usage) ⊎ ((result ≡ status.WriteFault) ⊎ (result ≡ status.OutOfMemory)) }
     ensures complete { Rests (S.faults shelf.old) (S.faults shelf.new) → Rests (O.faults out.old) (O.faults out.new) → Rests (F.faults far.old) (F.faults far.new) → IsHonest (F.loaded far.new) (F.exchanges far.new) → Completes (map string_bytes words.now.items) (S.files shelf.old) result }
     ensures cut_complete { Rests (S.faults shelf.old) (S.faults shelf.new) → Rests (S.unwritten shelf.old) (S.unwritten shelf.new) → Rests (O.faults out.old) (O.faults out.new) → CutCompletes (map string_bytes words.now.items) (S.files shelf.old) result }
+    ensures whole_complete { Rests (S.faults shelf.old) (S.faults shelf.new) → Rests (O.faults out.old) (O.faults out.new) → WholeCompletes (map string_bytes words.now.items) (S.files shelf.old) result }
 {
     printed(alloc, words, shelf, out, far)
 }

@@ -1,7 +1,7 @@
 // The words after the program's name.
 
 ghost use Rattle.std.specs.Prelude.{◌≡◌, map, option_map, string_bytes};
-ghost use Rattle.mdr_top.specs.Words.{cutting_of, cut_of, budget_of, is_run, run_of};
+ghost use Rattle.mdr_top.specs.Words.{cutting_of, cut_of, budget_of, is_run, run_as, whole_of, run_of};
 
 use crate::ticks::ticks_of;
 
@@ -53,19 +53,19 @@ fn budget_of(flags: &[String]) -> Option<u64>
     }
 }
 
-fn is_run(run: &str, split: &str) -> bool
-    ensures { result ≡ is_run run.now split.now }
+fn is_run(mode: &str, run: &str, other: &str) -> bool
+    ensures { result ≡ is_run mode.now run.now other.now }
 {
-    run == "run" && split == "split"
+    run == "run" && other == mode
 }
 
-/// The names of the source and of the script and the budget, where the words are `run split FILE SCRIPT`, perhaps with
+/// The names of the source and of the script and the budget, where the words are `run MODE FILE SCRIPT`, perhaps with
 /// `--ticks N` behind them.
-pub(crate) fn run_of(words: &[String]) -> Option<(&str, &str, u64)>
-    ensures { option_map (λ x. (x.0.now, x.1.now, x.2)) result ≡ run_of (map string_bytes words.now) }
+fn run_as<'a>(mode: &str, words: &'a [String]) -> Option<(&'a str, &'a str, u64)>
+    ensures { option_map (λ x. (x.0.now, x.1.now, x.2)) result ≡ run_as mode.now (map string_bytes words.now) }
 {
     match words {
-        [run, split, file, script, flags @ ..] if is_run(run.as_str(), split.as_str()) => {
+        [run, other, file, script, flags @ ..] if is_run(mode, run.as_str(), other.as_str()) => {
             match budget_of(flags) {
                 Some(ticks) => Some((file.as_str(), script.as_str(), ticks)),
                 None => None,
@@ -73,4 +73,18 @@ pub(crate) fn run_of(words: &[String]) -> Option<(&str, &str, u64)>
         }
         _ => None,
     }
+}
+
+/// The names and the budget of a run on one memory.
+pub(crate) fn whole_of(words: &[String]) -> Option<(&str, &str, u64)>
+    ensures { option_map (λ x. (x.0.now, x.1.now, x.2)) result ≡ whole_of (map string_bytes words.now) }
+{
+    run_as("whole", words)
+}
+
+/// The names and the budget of a run over two halves.
+pub(crate) fn run_of(words: &[String]) -> Option<(&str, &str, u64)>
+    ensures { option_map (λ x. (x.0.now, x.1.now, x.2)) result ≡ run_of (map string_bytes words.now) }
+{
+    run_as("split", words)
 }

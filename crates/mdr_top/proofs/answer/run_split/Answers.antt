@@ -4,9 +4,8 @@ use Rattle.mdr_outside.specs.declared.shelf.ReadAnswer.TheVariants as reads
 use Rattle.mdr_kernel.specs.Runs.{sent_of}
 use Rattle.mdr_kernel.proofs.Stops.{on_err}
 use Rattle.mdr_due.specs.declared.due.Due.{Due}
-use Rattle.mdr_due.specs.Reads.{Files}
-use Rattle.mdr_top.specs.Answers.{longest_script, NoProgram, HasProgram, HasScript, NoScript, Ran}
-use Rattle.mdr_due.specs.Reads.{IsRead, WasRead, UnreadBy}
+use Rattle.mdr_due.specs.Reads.{Files, longest_script, IsRead, WasRead, UnreadBy}
+use Rattle.mdr_top.specs.Answers.{NoProgram, HasProgram, HasScript, NoScript, Ran}
 use Rattle.mdr_top.specs.Done.{LoadedOnce, LoadedPart, Done, DonePart}
 use Rattle.mdr_due.proofs.StageSteps.{goes_with, ends_with, with_both, err_weaker}
 use Rattle.mdr_top.proofs.answer.run_split.Goals as goal

@@ -1,9 +1,9 @@
 use Rattle.std.proofs.Common.{map}
 use Rattle.std.specs.Prelude.{string_bytes}
-use Rattle.mdr_top.proofs.DoneLaws.{prints_so, does_mean}
+use Rattle.mdr_top.proofs.DoneLaws.{prints_so, does_mean, does_run}
 use Rattle.mdr_top.proofs.Complete.{completes}
 use Rattle.mdr_top.proofs.Comes.{prints_comes}
-use Rattle.mdr_top.proofs.Exact.{cut_completes, prints_exactly, usage_comes}
+use Rattle.mdr_top.proofs.Exact.{cut_completes, prints_exactly, usage_comes, whole_completes}
 use Rattle.mdr_top.proofs.top.run.Goals as goal
 
 pub returns-clause-prints : goal.returns-clause-prints
@@ -28,3 +28,10 @@ returns-clause-usage g c = λ none. usage_comes _ _ _ _ _ _ _ (prints_so _ _ _ _
 pub returns-clause-cut_complete : goal.returns-clause-cut_complete
 returns-clause-cut_complete g c = λ reads shelf writes.
     cut_completes (map string_bytes c.args.words.now.items) _ _ _ _ _ _ _ _ (prints_exactly (map string_bytes c.args.words.now.items) _ _ _ _ _ _ (prints_so (map string_bytes c.args.words.now.items) _ _ _ _ _ _ _ _ _ _ _ c.printed.ensures.does)) c.printed.ensures.read_cause c.printed.ensures.write_cause reads shelf writes
+
+pub returns-clause-whole_meaning : goal.returns-clause-whole_meaning
+returns-clause-whole_meaning g c = λ source_name script_name ticks named is. does_run _ _ _ _ _ _ _ _ _ _ _ _ source_name script_name ticks named c.printed.ensures.does is
+
+pub returns-clause-whole_complete : goal.returns-clause-whole_complete
+returns-clause-whole_complete g c = λ reads writes.
+    whole_completes (map string_bytes c.args.words.now.items) _ _ _ _ _ _ _ _ (prints_exactly (map string_bytes c.args.words.now.items) _ _ _ _ _ _ (prints_so (map string_bytes c.args.words.now.items) _ _ _ _ _ _ _ _ _ _ _ c.printed.ensures.does)) c.printed.ensures.read_cause c.printed.ensures.write_cause reads writes

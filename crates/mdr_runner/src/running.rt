@@ -1,0 +1,77 @@
+// The command that runs a script over a source on one memory.
+
+ghost use Rattle.std.specs.Prelude.{◌≡◌, IfOk, OnErr};
+ghost use Rattle.mdr_core.specs.Sound.{IsSound};
+ghost use Rattle.mdr_due.specs.Reads.{WasRead, longest_script};
+ghost use Rattle.mdr_due.specs.Statuses.{Counts, HasReadCause};
+ghost use Rattle.mdr_runner.specs.Runs.{IsRun, RunsOver, Runs, RunsPart};
+
+use crate::ending::status_of;
+use crate::scripts::script_of;
+use mdr_core::{OutOfMemory, Program};
+use mdr_due::{Due, Stage};
+use mdr_outside::Shelf;
+use mdr_script::Bound;
+use mdr_shown::report;
+use mdr_slicer::source_of;
+use mdr_whole::run_whole;
+use std::alloc::Global;
+
+/// Runs a script over a program, and makes the report.
+fn ran(alloc: Global, program: &Program, script: &Bound, ticks: u64) -> Result<Due, OutOfMemory>
+    requires { IsSound program.now }
+    ensures run { IfOk result (λ due. IsRun program.now script.now ticks due.status due.text.items) }
+    ensures read { IfOk result (λ due. (before after : Counts) → HasReadCause before after due.status) }
+{
+    let outcome = run_whole(alloc, program, script, ticks)?;
+    let status = status_of(&outcome.end);
+    let text = report(alloc, program, &outcome)?.into_vec();
+    Ok(Due { status, text })
+}
+
+/// Reads a script, and runs it over a program.
+fn run_over<S: Shelf>(
+    alloc: Global,
+    shelf: &mut S,
+    program: &Program,
+    name: &str,
+    ticks: u64,
+) -> Result<Due, OutOfMemory>
+    requires { IsSound program.now }
+    ensures done { IfOk result (λ due. RunsOver (S.files shelf.old) program.now name.now ticks (S.calls shelf.old) (S.calls shelf.new) due.status due.text.items) }
+    ensures part { OnErr result (WasRead (S.files shelf.old) name.now longest_script (S.calls shelf.old) (S.calls shelf.new)) }
+    ensures kept { S.files shelf.new ≡ S.files shelf.old }
+    ensures read { IfOk result (λ due. HasReadCause (record { faults = S.faults shelf.old; absent = S.absent shelf.old; long = S.long shelf.old }) (record { faults = S.faults shelf.new; absent = S.absent shelf.new; long = S.long shelf.new }) due.status) }
+    ensures unwritten_same { S.unwritten shelf.new ≡ S.unwritten shelf.old }
+{
+    let script = match script_of(alloc, shelf, program, name) {
+        Ok(Stage::Goes(script)) => script,
+        Ok(Stage::Ends(due)) => return Ok(due),
+        Err(error) => return Err(error),
+    };
+    let due = ran(alloc, program, &script, ticks)?;
+    Ok(due)
+}
+
+/// Reads a source and then a script, runs the script over the source on one memory under a budget of ticks, and tells
+/// what happened, how the run ended and what the memory holds. A source that is refused is told before the script is
+/// read.
+pub fn whole<S: Shelf>(
+    alloc: Global,
+    shelf: &mut S,
+    source_name: &str,
+    script_name: &str,
+    ticks: u64,
+) -> Result<Due, OutOfMemory>
+    ensures done { IfOk result (λ due. Runs (S.files shelf.old) source_name.now script_name.now ticks (S.calls shelf.old) (S.calls shelf.new) due.status due.text.items) }
+    ensures part { OnErr result (RunsPart (S.files shelf.old) source_name.now script_name.now (S.calls shelf.old) (S.calls shelf.new)) }
+    ensures kept { S.files shelf.new ≡ S.files shelf.old }
+    ensures read { IfOk result (λ due. HasReadCause (record { faults = S.faults shelf.old; absent = S.absent shelf.old; long = S.long shelf.old }) (record { faults = S.faults shelf.new; absent = S.absent shelf.new; long = S.long shelf.new }) due.status) }
+{
+    let source = match source_of(alloc, shelf, source_name) {
+        Ok(Stage::Goes(source)) => source,
+        Ok(Stage::Ends(due)) => return Ok(due),
+        Err(error) => return Err(error),
+    };
+    run_over(alloc, shelf, &source.program, script_name, ticks)
+}
