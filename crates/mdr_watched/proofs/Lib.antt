@@ -1,0 +1,3 @@
+pub mod WaitLaws
+pub mod KeptProofs
+pub mod WorkedProofs

@@ -1,0 +1,23 @@
+-- Laws of watched runs.
+use Rattle.std.specs.Prelude.{◌≡◌, ℕ, true, List, ◌∷◌, None}
+use Rattle.mdr_model.specs.declared.memory.Cell.{Cell}
+use Rattle.mdr_plain.specs.Gate.{due}
+use Rattle.mdr_plain.specs.Storage.{died}
+use Rattle.mdr_plain.specs.World.{World}
+use Rattle.mdr_script.specs.declared.bound.Bound.{Bound}
+use Rattle.mdr_watched.specs.Driver.{Driver}
+use Rattle.mdr_watched.specs.Kept.{KeptOf, followed_of}
+use Rattle.mdr_watched.specs.Views.{may_touch}
+use Rattle.mdr_watched.specs.Watched.{watched_of}
+
+-- while an upcall is open no interrupt is due
+abbrev pub InterruptsWait : Type 0
+InterruptsWait = (w : World) (set : List Cell) (sets : List (List Cell)) → w.views ≡ set ∷ sets → due w ≡ None
+
+-- no cell of a block that died may be touched, whatever the set was
+abbrev pub TheDeadLeave : Type 0
+TheDeadLeave = (w : World) (serial : ℕ) (c : Cell) → may_touch (died serial w) c ≡ true → c.serial ≡ serial → ⊥
+
+-- where annotations are kept and no interrupt meets user code, holding interrupts back changes nothing
+abbrev pub KeptRunsAgree : Type 0
+KeptRunsAgree = (d : Driver) (script : Bound) (budget : ℕ) → KeptOf d script budget → watched_of d script budget ≡ followed_of d script budget
