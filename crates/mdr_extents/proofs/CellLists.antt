@@ -1,13 +1,16 @@
 -- The cells of a memory rise, where its serials do.
-use Rattle.std.proofs.Common.{◌≡◌, ℕ, zero, suc, ◌<◌, ◌≤◌, true, ◌⊎◌, inl, inr, List, [], ◌∷◌, ◌++◌, length, sym, ◌∙◌, ap, subst, arith}
-use Rattle.std.proofs.lemmas.Bool.{or_cases}
+use Rattle.std.proofs.Common.{◌≡◌, ℕ, zero, suc, ◌<◌, ◌≤◌, true, ◌⊎◌, inl, inr, List, [], ◌∷◌, ◌++◌, length, refl, sym, ◌∙◌, ap, subst, arith}
+use Rattle.std.specs.Prelude.{Bool, false, cond, Some, is_some, ◌==◌}
+use Rattle.std.proofs.lemmas.Bool.{eq-eqb, or_cases}
 use Rattle.mdr_model.specs.declared.memory.Cell.{Cell}
-use Rattle.mdr_model.specs.Memory.{Memory}
+use Rattle.mdr_model.specs.declared.memory.MemoryBlock.{MemoryBlock}
+use Rattle.mdr_model.specs.Agreement.{SerialsRise}
+use Rattle.mdr_model.specs.Memory.{Memory, born_at, is_live}
 use Rattle.mdr_model.specs.Sets.{cells_from}
 use Rattle.mdr_paths.specs.Paths.{Nodes, Rises, is_in}
 use Rattle.mdr_paths.proofs.NodeLists.{in_both, is_in-cases, none_in}
 use Rattle.mdr_extents.specs.CellOrder.{IsBefore, cells}
-use Rattle.mdr_extents.specs.Reaching.{IsAbove, SerialsRise, all_cells, cells_of_block}
+use Rattle.mdr_extents.specs.Reaching.{all_cells, cells_of_block}
 
 -- one rising list before another
 pub rises_append : {N : Type 0} (k : Nodes N) (xs ys : List N) → Rises k xs → Rises k ys → ((c d : N) → is_in k xs c ≡ true → is_in k ys d ≡ true → k.before c d) → Rises k (xs ++ ys)
@@ -52,14 +55,24 @@ from_rises serial index (suc n) = (above, from_rises serial (suc index) n)
     above : (d : Cell) → is_in cells (cells_from serial (suc index) n) d ≡ true → IsBefore (record { serial = serial; index = index }) d
     above d h = let p = in_from serial (suc index) n d h in inr (sym p.block, p.after)
 
-in_all : (serial : ℕ) (m : Memory) (c : Cell) → IsAbove serial m → is_in cells (all_cells m) c ≡ true → serial < c.serial
-unfolding all_cells
-in_all serial [] c above h = absurd (none_in cells c h)
-in_all serial (b ∷ m) c above h = of (or_cases _ _ (sym (in_both cells (cells_of_block b) (all_cells m) c) ∙ h)) (λ j. in_all serial m c above.1 j)
+-- ---- memories
+
+pub in_block : (b : MemoryBlock) (c : Cell) → is_in cells (cells_of_block b) c ≡ true → c.serial ≡ b.born.serial
+in_block b c h = (in_from b.born.serial 0 (length b.cells) c h).block
+
+-- each cell of a memory is a live block's
+pub in_all : (m : Memory) (c : Cell) → is_in cells (all_cells m) c ≡ true → is_live m c.serial ≡ true
+unfolding all_cells is_live born_at
+in_all [] c h = absurd (none_in cells c h)
+in_all (b ∷ m) c h = of (or_cases _ _ (sym (in_both cells (cells_of_block b) (all_cells m) c) ∙ h)) (λ j. in_all m c j)
   where
-    of : (is_in cells (cells_of_block b) c ≡ true) ⊎ (is_in cells (all_cells m) c ≡ true) → (is_in cells (all_cells m) c ≡ true → serial < c.serial) → serial < c.serial
-    of (inl j) later = let p = in_from b.born.serial 0 (length b.cells) c j in subst (λ x. serial < x) (sym p.block) above.0
-    of (inr j) later = later j
+    later : (t : Bool) → is_some (born_at m c.serial) ≡ true → is_some (cond t (Some b.born) (born_at m c.serial)) ≡ true
+    later true e = refl
+    later false e = e
+
+    of : (is_in cells (cells_of_block b) c ≡ true) ⊎ (is_in cells (all_cells m) c ≡ true) → (is_in cells (all_cells m) c ≡ true → is_some (born_at m c.serial) ≡ true) → is_some (cond (b.born.serial == c.serial) (Some b.born) (born_at m c.serial)) ≡ true
+    of (inl j) rest = rw (eq-eqb b.born.serial c.serial (sym (in_block b c j))) refl
+    of (inr j) rest = later (b.born.serial == c.serial) (rest j)
 
 pub all_rise : (m : Memory) → SerialsRise m → Rises cells (all_cells m)
 unfolding all_cells
@@ -67,4 +80,4 @@ all_rise [] rising = tt
 all_rise (b ∷ m) rising = rises_append cells (cells_of_block b) (all_cells m) (from_rises b.born.serial 0 (length b.cells)) (all_rise m rising.1) below
   where
     below : (c d : Cell) → is_in cells (cells_of_block b) c ≡ true → is_in cells (all_cells m) d ≡ true → IsBefore c d
-    below c d h j = let p = in_from b.born.serial 0 (length b.cells) c h in inl (subst (λ x. x < d.serial) (sym p.block) (in_all b.born.serial m d rising.0 j))
+    below c d h j = inl (subst (λ x. x < d.serial) (sym (in_block b c h)) (rising.0 d.serial (in_all m d j)))

@@ -6,13 +6,14 @@ use Rattle.mdr_core.specs.declared.plan.Key.{Key}
 use Rattle.mdr_core.specs.declared.program.Program.{Program}
 use Rattle.mdr_meaning.specs.declared.wire.Wire.{Wire}
 use Rattle.mdr_model.specs.declared.memory.Cell.{Cell}
+use Rattle.mdr_model.specs.Agreement.{SerialsRise}
 use Rattle.mdr_model.specs.Memory.{Memory}
 use Rattle.mdr_paths.specs.Paths.{Graph, Rises, fails, is_in, unless, visible as reached, visible_set}
 use Rattle.mdr_paths.proofs.ReachLaws.{accepted_exactly, complete, refused_exactly, sound, visible_rises}
 use Rattle.mdr_extents.specs.CellOrder.{cells}
 use Rattle.mdr_extents.specs.Extent.{Extent, Elements, Fails, has_failed}
 use Rattle.mdr_extents.specs.Laws.{VisibleIsByPaths, VisibleIsExact}
-use Rattle.mdr_extents.specs.Reaching.{Argument, At, Root, Roots, SerialsRise, at_cell, beginning, extent_at, first_failing, graph, or_later, root_extent, unless_argument, visible}
+use Rattle.mdr_extents.specs.Reaching.{Argument, At, Root, Roots, at_cell, beginning, extent_at, first_failing, graph, or_later, root_extent, unless_argument, visible}
 use Rattle.mdr_extents.proofs.CellLists.{all_rise}
 
 -- ---- the first root that fails

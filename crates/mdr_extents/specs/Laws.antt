@@ -5,11 +5,12 @@ use Rattle.mdr_core.specs.declared.program.Program.{Program}
 use Rattle.mdr_core.specs.declared.types.Ann.{Ann}
 use Rattle.mdr_meaning.specs.declared.wire.WireView.{WireView}
 use Rattle.mdr_model.specs.declared.memory.Cell.{Cell}
+use Rattle.mdr_model.specs.Agreement.{SerialsRise}
 use Rattle.mdr_model.specs.Memory.{Memory}
 use Rattle.mdr_paths.specs.Paths.{IsLeastFailing, Rises, is_in}
 use Rattle.mdr_extents.specs.CellOrder.{cells}
 use Rattle.mdr_extents.specs.Extent.{Siblings, Elements, Fails, annotated, first_of}
-use Rattle.mdr_extents.specs.Reaching.{Root, Roots, SerialsRise, IsVisible, Argument, At, beginning, extent_at, graph, root_extent, visible}
+use Rattle.mdr_extents.specs.Reaching.{Root, Roots, IsVisible, Argument, At, beginning, extent_at, graph, root_extent, visible}
 
 -- ---- extents
 

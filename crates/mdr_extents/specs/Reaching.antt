@@ -1,5 +1,5 @@
 -- Which cells a function of the user half sees: those that pointers lead to.
-use Rattle.std.specs.Prelude.{◌≤◌, ℕ, suc, ◌+◌, nat_lt, Bool, false, List, [], ◌∷◌, ◌++◌, filter, length, Option, Some, None, option_map, slice_get, Result, Ok, Err}
+use Rattle.std.specs.Prelude.{ℕ, suc, ◌+◌, nat_lt, Bool, false, List, [], ◌∷◌, ◌++◌, filter, length, Option, Some, None, option_map, slice_get, Result, Ok, Err}
 use Rattle.mdr_core.specs.declared.plan.Key.{Key}
 use Rattle.mdr_core.specs.declared.plan.Key.TheVariants as key
 use Rattle.mdr_core.specs.declared.program.Program.{Program}
@@ -24,15 +24,6 @@ cells_of_block b = cells_from b.born.serial 0 (length b.cells)
 unfoldable pub all_cells : Memory → List Cell
 all_cells [] = []
 all_cells (b ∷ m) = cells_of_block b ++ all_cells m
-
--- later blocks have higher serials
-abbrev pub IsAbove : ℕ → Memory → Type 0
-IsAbove serial [] = Unit {0}
-IsAbove serial (b ∷ m) = (suc serial ≤ b.born.serial) × IsAbove serial m
-
-abbrev pub SerialsRise : Memory → Type 0
-SerialsRise [] = Unit {0}
-SerialsRise (b ∷ m) = IsAbove b.born.serial m × SerialsRise m
 
 -- what a function is called with, or what one gave: each pointer with its annotation, and the values that were passed for the parameters
 pub record Root : Type 0 where

@@ -1,3 +1,6 @@
 pub mod WaitLaws
 pub mod KeptProofs
 pub mod WorkedProofs
+pub mod KeepLaws
+pub mod MemoryOrder
+pub mod OrderLaws

@@ -1,6 +1,10 @@
 -- Laws of watched runs.
-use Rattle.std.specs.Prelude.{◌≡◌, ℕ, true, List, ◌∷◌, None}
+use Rattle.std.specs.Prelude.{◌≡◌, ◌↔◌, ◌<◌, ℕ, true, false, List, ◌∷◌, None, Err}
+use Rattle.mdr_core.specs.declared.stop.StopKind.TheVariants as stop
+use Rattle.mdr_meaning.specs.declared.wire.Wire.TheVariants as wire
+use Rattle.mdr_meaning.specs.declared.wire.WireView.{WireView}
 use Rattle.mdr_model.specs.declared.memory.Cell.{Cell}
+use Rattle.mdr_model.specs.Memory.{cell_of, is_live, reached}
 use Rattle.mdr_plain.specs.Gate.{due}
 use Rattle.mdr_plain.specs.Storage.{died}
 use Rattle.mdr_plain.specs.World.{World}
@@ -14,6 +18,12 @@ use Rattle.mdr_watched.specs.Watched.{watched_of}
 abbrev pub InterruptsWait : Type 0
 InterruptsWait = (w : World) (set : List Cell) (sets : List (List Cell)) → w.views ≡ set ∷ sets → due w ≡ None
 
+-- a pointer to a live block, with its index in range, whose cell is in no visible set of the innermost upcall
+pub record Leaves (w : World) (p : WireView) : Type 0 where
+  pub live : is_live w.memory p.serial ≡ true
+  pub inside : p.index < p.count
+  pub outside : may_touch w (cell_of p) ≡ false
+
 -- no cell of a block that died may be touched, whatever the set was
 abbrev pub TheDeadLeave : Type 0
 TheDeadLeave = (w : World) (serial : ℕ) (c : Cell) → may_touch (died serial w) c ≡ true → c.serial ≡ serial → ⊥
@@ -21,3 +31,7 @@ TheDeadLeave = (w : World) (serial : ℕ) (c : Cell) → may_touch (died serial 
 -- where annotations are kept and no interrupt meets user code, holding interrupts back changes nothing
 abbrev pub KeptRunsAgree : Type 0
 KeptRunsAgree = (d : Driver) (script : Bound) (budget : ℕ) → KeptOf d script budget → watched_of d script budget ≡ followed_of d script budget
+
+-- user code that follows a pointer outside its set stops, where the block lives and the index is in range; so the other stops of an access come first
+abbrev pub AccessesAreHeld : Type 0
+AccessesAreHeld = (w : World) (p : WireView) → (reached (may_touch w) w.memory (wire.Ptr p) ≡ Err stop.Annotation) ↔ Leaves w p

@@ -4,3 +4,4 @@ pub mod Watched
 pub mod Kept
 pub mod Laws
 pub mod Worked
+pub mod Order

@@ -1,6 +1,7 @@
 // Laws, each as a function that does nothing.
 
-ghost use Rattle.mdr_watched.specs.Laws.{InterruptsWait, KeptRunsAgree, TheDeadLeave};
+ghost use Rattle.mdr_watched.specs.Laws.{AccessesAreHeld, InterruptsWait, KeptRunsAgree, TheDeadLeave};
+ghost use Rattle.mdr_watched.specs.Order.{OrderIsKept};
 
 /// While an upcall is open no interrupt is taken, in user code as in kernel code that it calls.
 pub fn interrupts_wait()
@@ -16,4 +17,16 @@ pub fn the_dead_leave()
 /// user half is active, a run that holds interrupts back is the run that takes them as they come.
 pub fn kept_runs_agree()
     ensures { KeptRunsAgree }
+{}
+
+/// At any time of a watched run the serials of its memory rise, and each cell of a visible set is a live block's. So each set
+/// that is taken is the set of the cells to which lists of pointers lead.
+pub fn order_is_kept()
+    ensures { OrderIsKept }
+{}
+
+/// An access of user code stops for its set exactly where the pointer's block lives, its index is in range and its cell isn't
+/// in the set: the stops of every access come before.
+pub fn accesses_are_held()
+    ensures { AccessesAreHeld }
 {}

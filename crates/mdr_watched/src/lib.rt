@@ -5,5 +5,7 @@
 mod laws;
 mod worked;
 
-pub use laws::{interrupts_wait, kept_runs_agree, the_dead_leave};
+pub use laws::{
+    accesses_are_held, interrupts_wait, kept_runs_agree, order_is_kept, the_dead_leave,
+};
 pub use worked::{extents_are_measured, interrupts_are_held, sets_are_followed};
