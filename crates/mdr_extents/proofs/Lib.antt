@@ -1,3 +1,4 @@
 pub mod CellLists
 pub mod SearchLaws
 pub mod VisibleLaws
+pub mod WorkedProofs

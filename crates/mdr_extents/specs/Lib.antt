@@ -3,3 +3,4 @@ pub mod Around
 pub mod Extent
 pub mod Reaching
 pub mod Laws
+pub mod Worked

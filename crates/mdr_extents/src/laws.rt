@@ -1,6 +1,7 @@
 // Laws, each as a function that does nothing.
 
 ghost use Rattle.mdr_extents.specs.Laws.{ExtentsAreInside, SearchesAreExact, VisibleIsByPaths};
+ghost use Rattle.mdr_extents.specs.Worked.{FindsStructs};
 
 /// The search for the end of a text or a table finds the first element that is one, and finds none where there is none.
 pub fn searches_are_exact()
@@ -16,4 +17,9 @@ pub fn extents_are_inside()
 /// fails, the one with the least argument number is told, else the one in the first cell.
 pub fn visible_is_by_paths()
     ensures { VisibleIsByPaths }
+{}
+
+/// The struct around a cell, in which siblings stand, is found in arrays of structs within structs.
+pub fn structs_are_found()
+    ensures { FindsStructs }
 {}

@@ -4,4 +4,4 @@
 
 mod laws;
 
-pub use laws::{extents_are_inside, searches_are_exact, visible_is_by_paths};
+pub use laws::{extents_are_inside, searches_are_exact, structs_are_found, visible_is_by_paths};

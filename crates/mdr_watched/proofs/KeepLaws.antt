@@ -34,9 +34,9 @@ use Rattle.mdr_plain.specs.Storage.{accesses, births, born, deaths, died, died_a
 use Rattle.mdr_plain.specs.World.{World, Kept, Ran, Ended, Stopped, Work, advanced, after, left, then, given, counted, noted}
 use Rattle.mdr_watched.specs.Driver.{Driver, entry_roots, is_user, result_roots, touched_by}
 use Rattle.mdr_watched.specs.Views.{closed, gained, may_touch, opened, renewed, taken, top}
-use Rattle.mdr_watched.specs.Watched.{closing, does, downcall, entered, held, kernel_of, serves, upcall}
+use Rattle.mdr_watched.specs.Watched.{closing, does, downcall, entered, held, in_user, kernel_of, serves, upcall}
 
--- a property of worlds that is kept where a cell is written, where what is kept changes, where the device is used, by a tick, by a birth and by a death, and where a visible set opens, is taken anew, grows and is gone
+-- a property of worlds that is kept where a cell is written, where what is kept changes, where the device is used, by a tick, by a birth and by a death
 pub record IsKept (P : World → Type 0) : Type 0 where
   pub put : (w : World) (c : Cell) (v : Wire) → P w → P (with_memory w (put w.memory c v))
   pub keeping : (w : World) (k : Kept) → P w → P (record w { kept = k })
@@ -44,9 +44,15 @@ pub record IsKept (P : World → Type 0) : Type 0 where
   pub tick : (w : World) → P w → P (record w { clock = advanced 1 w.clock })
   pub birth : (program : Program) (kind : BirthKind) (s : Shape64) (w : World) → P w → P (born program (new_of kind s w) w)
   pub death : (w : World) (serial : ℕ) → P w → P (died serial w)
-  pub opens : (program : Program) (touched : List Key) (known : List Cell) (roots : Roots) (set : List Cell) (w : World) → visible program touched w.memory known roots ≡ Ok set → P w → P (opened set w)
+
+-- and where the visible set of an open upcall is taken anew, and grows
+pub record IsKeptInside (P : World → Type 0) : Type 0 where
   pub renews : (program : Program) (touched : List Key) (known : List Cell) (roots : Roots) (set : List Cell) (w : World) → visible program touched w.memory known roots ≡ Ok set → P w → P (renewed set w)
   pub grows : (program : Program) (touched : List Key) (next : ℕ) (w : World) → P w → P (gained program touched next w)
+
+-- and where an upcall opens, and is over
+pub record IsKeptAround (P : World → Type 0) : Type 0 where
+  pub opens : (program : Program) (touched : List Key) (known : List Cell) (roots : Roots) (set : List Cell) (w : World) → visible program touched w.memory known roots ≡ Ok set → P w → P (opened set w)
   pub closes : (w : World) → P w → P (closed w)
 
 module _ (P : World → Type 0) (kept : IsKept P) where
@@ -216,54 +222,63 @@ module _ (P : World → Type 0) (kept : IsKept P) where
     idle_keeps zero w e = so e
     idle_keeps (suc n) w e = goes_then _ _ (interrupts_keep 0 w e) (λ w' e'. goes_counted w'.clock.rest _ w' _ e' (λ w'' e''. idle_keeps n w'' e''))
 
+    pub idle_keeps_all : (n : ℕ) (w : World) → P w → Keeps (then (idle (interrupts (kernel_of d)) n (noted (happened.Idle n) w)) (interrupts (kernel_of d) 0))
+    idle_keeps_all n w e = goes_then _ _ (idle_keeps n _ (kept.keeping w _ e)) (λ w' e'. interrupts_keep 0 w' e')
+
+    pub begun_keeps : (f : ℕ) (args : List Value) (w : World) → P w → P (begun d.program f args w)
+    begun_keeps f args w e = kept.keeping (record w { kept = record w.kept { calls = w.kept.calls + 1 } }) _ (kept.keeping w (record w.kept { calls = w.kept.calls + 1 }) e)
+
+    pub returned_keeps : (r : Ran Wire) → Keeps r → Keeps (returned (interrupts (kernel_of d)) r)
+    returned_keeps r h = goes r _ h (λ v w' e'. interrupts_keep 0 _ (kept.keeping w' _ e'))
+
     -- ---- upcalls
 
     goes_taken : {A : Type 0} (r : Result (List Cell) Failing) (at : At) (w : World) (go : List Cell → Ran A) → P w → ((set : List Cell) → r ≡ Ok set → Keeps (go set)) → Keeps (taken r at w go)
     goes_taken (Ok set) at w go e each = each set refl
     goes_taken (Err failing) at w go e each = so e
 
-    pub downcall_keeps : (t : ℕ) (at : At) (f : ℕ) (args : List Wire) (depth : ℕ) (w : World) → P w → Keeps (downcall d (held d) t at f args depth w)
-    downcall_keeps t at f args depth w e =
-        goes _ _ (kernel_call_keeps f args depth w e)
-        (λ v w' e'. goes_taken (visible d.program (touched_by d.plan t) w'.memory (top w'.views) (result_roots d.program f args v)) at w' (λ set. Ended v (renewed set w')) e'
-        (λ set is. so (kept.renews d.program (touched_by d.plan t) (top w'.views) (result_roots d.program f args v) set w' is e')))
+    module _ (inside : IsKeptInside P) where
+      pub downcall_keeps : (t : ℕ) (at : At) (f : ℕ) (args : List Wire) (depth : ℕ) (w : World) → P w → Keeps (downcall d (held d) t at f args depth w)
+      downcall_keeps t at f args depth w e =
+          goes _ _ (kernel_call_keeps f args depth w e)
+          (λ v w' e'. goes_taken (visible d.program (touched_by d.plan t) w'.memory (top w'.views) (result_roots d.program f args v)) at w' (λ set. Ended v (renewed set w')) e'
+          (λ set is. so (inside.renews d.program (touched_by d.plan t) (top w'.views) (result_roots d.program f args v) set w' is e')))
 
-    pub asks_keep : (t : ℕ) (q : Asked) (w : World) → P w → Keeps (serves d (held d) t q w)
-    asks_keep t q w e = goes _ _ (served_keeps d.program q w e) (λ results w' e'. so (kept.grows d.program (touched_by d.plan t) (next_serial w) w' e'))
+      pub asks_keep : (t : ℕ) (q : Asked) (w : World) → P w → Keeps (serves d (held d) t q w)
+      asks_keep t q w e = goes _ _ (served_keeps d.program q w e) (λ results w' e'. so (inside.grows d.program (touched_by d.plan t) (next_serial w) w' e'))
 
-    closing_keeps : (r : Ran Wire) → Keeps r → Keeps (closing r)
-    closing_keeps (Ended v w) h = so (kept.closes w h.at_end)
-    closing_keeps (Stopped kind at w) h = so h.at_end
+      -- what an upcall does while it is open
+      pub open_keeps : (f : ℕ) (t : Tree) (w : World) → P w → Keeps (run (in_user d (held d) f) nothing t w)
+      open_keeps f t w e = run_keeps d.program may_touch (serves d (held d) f) (downcall d (held d) f) nothing (λ n w' e'. so e') (asks_keep f) (downcall_keeps f) t w e
 
-    pub upcall_keeps : (f : ℕ) (args : List Wire) (w : World) → P w → Keeps (upcall d (held d) f args w)
-    unfolding upcall
-    upcall_keeps f args w e =
-        goes_taken (visible d.program (touched_by d.plan f) w.memory [] (entry_roots d.program f args)) (record { func = f; stmt = 0 }) w (λ set. entered d (held d) f args set w) e (λ set is. closing_keeps _
-        (run_keeps d.program may_touch (serves d (held d) f) (downcall d (held d) f) nothing (λ n w' e'. so e') (asks_keep f) (downcall_keeps f) _ _ (kept.opens d.program (touched_by d.plan f) [] (entry_roots d.program f args) set w is e)))
+      module _ (around : IsKeptAround P) where
+        closing_keeps : (r : Ran Wire) → Keeps r → Keeps (closing r)
+        closing_keeps (Ended v w) h = so (around.closes w h.at_end)
+        closing_keeps (Stopped kind at w) h = so h.at_end
 
-    -- ---- commands
+        pub upcall_keeps : (f : ℕ) (args : List Wire) (w : World) → P w → Keeps (upcall d (held d) f args w)
+        unfolding upcall
+        upcall_keeps f args w e =
+            goes_taken (visible d.program (touched_by d.plan f) w.memory [] (entry_roots d.program f args)) (record { func = f; stmt = 0 }) w (λ set. entered d (held d) f args set w) e
+            (λ set is. closing_keeps _ (open_keeps f _ _ (around.opens d.program (touched_by d.plan f) [] (entry_roots d.program f args) set w is e)))
 
-    begun_keeps : (f : ℕ) (args : List Value) (w : World) → P w → P (begun d.program f args w)
-    begun_keeps f args w e = kept.keeping (record w { kept = record w.kept { calls = w.kept.calls + 1 } }) _ (kept.keeping w (record w.kept { calls = w.kept.calls + 1 }) e)
+        -- ---- commands
 
-    returned_keeps : (r : Ran Wire) → Keeps r → Keeps (returned (interrupts (kernel_of d)) r)
-    returned_keeps r h = goes r _ h (λ v w' e'. interrupts_keep 0 _ (kept.keeping w' _ e'))
+        called_keeps : (is_user : Bool) (f : ℕ) (args : List Wire) (w : World) → P w → Keeps (in_place (kernel_of d) (upcall d (held d)) (called_by is_user (kernel_of d) f args w))
+        called_keeps true f args w e = returned_keeps _ (upcall_keeps f args w e)
+        called_keeps false f args w e = returned_keeps _ (kernel_call_keeps f args 0 w e)
 
-    called_keeps : (is_user : Bool) (f : ℕ) (args : List Wire) (w : World) → P w → Keeps (in_place (kernel_of d) (upcall d (held d)) (called_by is_user (kernel_of d) f args w))
-    called_keeps true f args w e = returned_keeps _ (upcall_keeps f args w e)
-    called_keeps false f args w e = returned_keeps _ (kernel_call_keeps f args 0 w e)
+        does_keeps : (c : Command) (w : World) → P w → Keeps (does d (held d) c w)
+        unfolding begin
+        does_keeps (command.Call f args) w e = called_keeps (is_user d.plan f) f _ _ (begun_keeps f args w e)
+        does_keeps (command.Idle n) w e = idle_keeps_all n w e
+        does_keeps (command.Show g) w e = so (kept.keeping w _ e)
 
-    does_keeps : (c : Command) (w : World) → P w → Keeps (does d (held d) c w)
-    unfolding begin
-    does_keeps (command.Call f args) w e = called_keeps (is_user d.plan f) f _ _ (begun_keeps f args w e)
-    does_keeps (command.Idle n) w e = goes_then _ _ (idle_keeps n _ (kept.keeping w _ e)) (λ w' e'. interrupts_keep 0 w' e')
-    does_keeps (command.Show g) w e = so (kept.keeping w _ e)
+        and_then_keeps : (r : Work) (go : World → Finish) → Keeps r → ((w : World) → P w → P (go w).world) → P (and_then r go).world
+        and_then_keeps (Ended x w) go a each = each w a.at_end
+        and_then_keeps (Stopped kind at w) go a each = a.at_end
 
-    and_then_keeps : (r : Work) (go : World → Finish) → Keeps r → ((w : World) → P w → P (go w).world) → P (and_then r go).world
-    and_then_keeps (Ended x w) go a each = each w a.at_end
-    and_then_keeps (Stopped kind at w) go a each = a.at_end
-
-    pub commands_keep : (cs : List Command) (w : World) → P w → P (commands (does d (held d)) cs w).world
-    unfolding commands
-    commands_keep [] w e = e
-    commands_keep (c ∷ cs) w e = and_then_keeps (does d (held d) c w) _ (does_keeps c w e) (λ w' e'. commands_keep cs w' e')
+        pub commands_keep : (cs : List Command) (w : World) → P w → P (commands (does d (held d)) cs w).world
+        unfolding commands
+        commands_keep [] w e = e
+        commands_keep (c ∷ cs) w e = and_then_keeps (does d (held d) c w) _ (does_keeps c w e) (λ w' e'. commands_keep cs w' e')

@@ -4,3 +4,5 @@ pub mod WorkedProofs
 pub mod KeepLaws
 pub mod MemoryOrder
 pub mod OrderLaws
+pub mod CloseLaws
+pub mod TouchedLaws

@@ -35,7 +35,7 @@ use Rattle.mdr_plain.specs.World.{World}
 use Rattle.mdr_script.specs.declared.bound.Bound.{Bound}
 use Rattle.mdr_watched.specs.Order.{AllAreLive, AreLive, IsInOrder}
 use Rattle.mdr_watched.specs.Views.{below, new_cells, top}
-use Rattle.mdr_watched.proofs.KeepLaws.{IsKept}
+use Rattle.mdr_watched.proofs.KeepLaws.{IsKept, IsKeptAround, IsKeptInside}
 
 -- ---- lists of births and deaths
 
@@ -204,9 +204,17 @@ order_kept = record {
   tick = λ w o. record { rises = o.rises; below = o.below; live = o.live };
   birth = born_kept;
   death = died_kept;
-  opens = λ program touched known roots set w is o. record { rises = o.rises; below = o.below; live = (taken_live program touched w.memory known roots set o.rises is, o.live) };
+}
+
+pub order_kept_inside : IsKeptInside IsInOrder
+order_kept_inside = record {
   renews = λ program touched known roots set w is o. record { rises = o.rises; below = o.below; live = (taken_live program touched w.memory known roots set o.rises is, below_live w.memory w.views o.live) };
   grows = λ program touched next w o. record { rises = o.rises; below = o.below; live = (gained_live program touched next w.memory w.views o.live, below_live w.memory w.views o.live) };
+}
+
+pub order_kept_around : IsKeptAround IsInOrder
+order_kept_around = record {
+  opens = λ program touched known roots set w is o. record { rises = o.rises; below = o.below; live = (taken_live program touched w.memory known roots set o.rises is, o.live) };
   closes = λ w o. record { rises = o.rises; below = o.below; live = below_live w.memory w.views o.live };
 }
 

@@ -1,6 +1,6 @@
 // Laws, each as a function that does nothing.
 
-ghost use Rattle.mdr_watched.specs.Laws.{AccessesAreHeld, InterruptsWait, KeptRunsAgree, TheDeadLeave};
+ghost use Rattle.mdr_watched.specs.Laws.{AccessesAreHeld, InterruptsWait, KeptRunsAgree, KeysAreTouched, NoSetIsLeft, TheDeadLeave, UpcallsClose};
 ghost use Rattle.mdr_watched.specs.Order.{OrderIsKept};
 
 /// While an upcall is open no interrupt is taken, in user code as in kernel code that it calls.
@@ -29,4 +29,16 @@ pub fn order_is_kept()
 /// in the set: the stops of every access come before.
 pub fn accesses_are_held()
     ensures { AccessesAreHeld }
+{}
+
+/// An upcall that ended leaves the visible sets of those around it, and where a run met no stop none is left.
+pub fn upcalls_close()
+    ensures each { UpcallsClose }
+    ensures all { NoSetIsLeft }
+{}
+
+/// The keys that user code is held to are those of the cells that the called function may touch, with all that it calls in its
+/// half.
+pub fn keys_are_touched()
+    ensures { KeysAreTouched }
 {}

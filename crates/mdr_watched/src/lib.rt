@@ -6,6 +6,7 @@ mod laws;
 mod worked;
 
 pub use laws::{
-    accesses_are_held, interrupts_wait, kept_runs_agree, order_is_kept, the_dead_leave,
+    accesses_are_held, interrupts_wait, kept_runs_agree, keys_are_touched, order_is_kept,
+    the_dead_leave, upcalls_close,
 };
 pub use worked::{extents_are_measured, interrupts_are_held, sets_are_followed};
