@@ -2,3 +2,4 @@ pub mod CellLists
 pub mod SearchLaws
 pub mod VisibleLaws
 pub mod WorkedProofs
+pub mod StructLaws

@@ -1,13 +1,16 @@
 -- Laws of extents and of what is visible.
-use Rattle.std.specs.Prelude.{◌≡◌, ◌↔◌, ◌≤◌, ◌<◌, ℕ, ◌+◌, Bool, true, List, Some, None, Ok, Err, slice_get}
+use Rattle.std.specs.Prelude.{◌≡◌, ◌↔◌, ◌≤◌, ◌<◌, ℕ, ◌+◌, ◌-◌, Bool, true, List, Some, None, Ok, Err, slice_get}
 use Rattle.mdr_core.specs.declared.plan.Key.{Key}
 use Rattle.mdr_core.specs.declared.program.Program.{Program}
 use Rattle.mdr_core.specs.declared.types.Ann.{Ann}
+use Rattle.mdr_core.specs.Layout.{Leaf, Within, struct_cells}
 use Rattle.mdr_meaning.specs.declared.wire.WireView.{WireView}
 use Rattle.mdr_model.specs.declared.memory.Cell.{Cell}
+use Rattle.mdr_model.specs.declared.message.New.{New}
 use Rattle.mdr_model.specs.Agreement.{SerialsRise}
-use Rattle.mdr_model.specs.Memory.{Memory}
+use Rattle.mdr_model.specs.Memory.{Memory, leaf_at}
 use Rattle.mdr_paths.specs.Paths.{IsLeastFailing, Rises, is_in}
+use Rattle.mdr_extents.specs.Around.{struct_start}
 use Rattle.mdr_extents.specs.CellOrder.{cells}
 use Rattle.mdr_extents.specs.Extent.{Siblings, Elements, Fails, annotated, first_of}
 use Rattle.mdr_extents.specs.Reaching.{Root, Roots, IsVisible, Argument, At, beginning, extent_at, graph, root_extent, visible}
@@ -61,3 +64,16 @@ module _ (program : Program) (touched : List Key) (m : Memory) (known : List Cel
 
 abbrev pub VisibleIsByPaths : Type 0
 VisibleIsByPaths = (program : Program) (touched : List Key) (m : Memory) (known : List Cell) (roots : Roots) → SerialsRise m → VisibleIsExact program touched m known roots
+
+-- ---- the struct around a cell
+
+-- a cell of a block is one of a struct, whose cells stand in the block from this one on
+pub record IsAround (program : Program) (block : New) (index : ℕ) (l : Leaf) (s start : ℕ) : Type 0 where
+  pub begun : start ≤ index
+  pub own : slice_get (struct_cells program.structs s) (index - start) ≡ Some l
+  pub cells : (j : ℕ) (x : Leaf) → slice_get (struct_cells program.structs s) j ≡ Some x → leaf_at program block (start + j) ≡ Some x
+
+-- where a cell has a field's key, the struct of that field begins where it is said to
+abbrev pub StructsAreAround : Type 0
+StructsAreAround = (program : Program) (block : New) (index : ℕ) (l : Leaf) (s f : ℕ) → leaf_at program block index ≡ Some l → l.home ≡ Within s f
+    → IsAround program block index l s (struct_start program block index)

@@ -1,6 +1,6 @@
 // Laws, each as a function that does nothing.
 
-ghost use Rattle.mdr_extents.specs.Laws.{ExtentsAreInside, SearchesAreExact, VisibleIsByPaths};
+ghost use Rattle.mdr_extents.specs.Laws.{ExtentsAreInside, SearchesAreExact, StructsAreAround, VisibleIsByPaths};
 ghost use Rattle.mdr_extents.specs.Worked.{FindsStructs};
 
 /// The search for the end of a text or a table finds the first element that is one, and finds none where there is none.
@@ -19,7 +19,9 @@ pub fn visible_is_by_paths()
     ensures { VisibleIsByPaths }
 {}
 
-/// The struct around a cell, in which siblings stand, is found in arrays of structs within structs.
+/// The struct around a cell, in which siblings stand, begins where it is said to: its cells stand from there on. So in arrays
+/// of structs within structs.
 pub fn structs_are_found()
-    ensures { FindsStructs }
+    ensures law { StructsAreAround }
+    ensures worked { FindsStructs }
 {}
