@@ -7,7 +7,7 @@ use Rattle.mdr_paths.specs.Paths.{adds, counted, fails, first, is_in, is_led, le
 use Rattle.mdr_plain.proofs.Computing.{runs}
 use Rattle.mdr_watched.specs.Views.{new_cells}
 use Rattle.mdr_watched.specs.Watched.{upcall, watched_of}
-use Rattle.mdr_watched.specs.Worked.{EndsTexts, FindsSentinels, HoldsInDowncall, HoldsInterrupt, KeepsAlias, LooksThrough, MeasuresArrays, TouchesOwn}
+use Rattle.mdr_watched.specs.Worked.{EndsTexts, FindsSentinels, HoldsInDowncall, HoldsInterrupt, KeepsAlias, LooksThrough, MeasuresArrays, PassesPointers, TouchesOwn}
 
 unfoldable watches : Unit {0}
 unfolding
@@ -49,3 +49,7 @@ looks_through = record { keep = refl; look = refl }
 pub touches_own : TouchesOwn
 unfolding watches
 touches_own = refl
+
+pub passes_pointers : PassesPointers
+unfolding watches
+passes_pointers = record { result = refl; long = refl; argument = refl; beyond = refl }

@@ -8,22 +8,24 @@ use Rattle.mdr_core.specs.declared.plan.Key.{Key}
 use Rattle.mdr_core.specs.declared.plan.Key.TheVariants as key
 use Rattle.mdr_core.specs.declared.program.Field.{Field}
 use Rattle.mdr_core.specs.declared.program.Func.{Func}
+use Rattle.mdr_core.specs.declared.program.Param.{Param}
 use Rattle.mdr_core.specs.declared.program.StructDef.{StructDef}
 use Rattle.mdr_core.specs.declared.stop.StopKind.TheVariants as stop
 use Rattle.mdr_core.specs.declared.types.Ann.{Ann}
-use Rattle.mdr_core.specs.declared.types.Ann.TheVariants.{Array, Sentinel, NullTerm, Opaque}
-use Rattle.mdr_core.specs.declared.types.LenOf.TheVariants.{Sibling}
+use Rattle.mdr_core.specs.declared.types.Ann.TheVariants.{Single, Array, Sentinel, NullTerm, Opaque}
+use Rattle.mdr_core.specs.declared.types.LenOf.TheVariants.{Const, Sibling}
+use Rattle.mdr_core.specs.declared.types.Ty.{Ty}
 use Rattle.mdr_core.specs.declared.types.Ty.TheVariants as ty
 use Rattle.mdr_core.specs.declared.value.Value.{Value}
 use Rattle.mdr_core.specs.declared.value.Value.TheVariants as value
-use Rattle.mdr_core.specs.Code.{Term, Lvalue, Code, Codes}
+use Rattle.mdr_core.specs.Code.{Term, Lvalue, Called, Goal, Code, Codes}
 use Rattle.mdr_core.specs.Layout.{chosen}
 use Rattle.mdr_device.specs.declared.rule.Effect.TheVariants as effect
 use Rattle.mdr_device.specs.declared.rule.Trigger.TheVariants as trigger
 use Rattle.mdr_device.specs.Worked.{rule}
 use Rattle.mdr_meaning.specs.Bodies.{without_funcs}
 use Rattle.mdr_meaning.specs.Sides.{Body}
-use Rattle.mdr_meaning.specs.Worked.{add, at_stmt, behind, body, code, field, glob, local, node_pointer, number, param, side_by, u32, var, calls as calls_func}
+use Rattle.mdr_meaning.specs.Worked.{add, at_stmt, behind, body, code, field, glob, local, node_pointer, number, param, side_by, u32, var, calls as calls_func, form}
 use Rattle.mdr_model.specs.declared.command.Command.TheVariants as command
 use Rattle.mdr_model.specs.declared.outcome.End.{End}
 use Rattle.mdr_model.specs.declared.outcome.End.TheVariants as ends
@@ -323,3 +325,57 @@ objects = cut filling (true ∷ true ∷ []) ((key.Elem 2 ∷ []) ∷ (key.Globa
 
 abbrev pub TouchesOwn : Type 0
 TouchesOwn = shown objects (just (calls 1 ∷ [])) ≡ outcome (began (codes "f") [] ∷ returned ∷ []) ends.Ok 4 1 (word 7 ∷ [])
+
+-- ---- a pointer that a function of the kernel half gives: u32 got;
+-- struct node *make(void){struct node *p; p=kzalloc(struct node); return p;} void use(void){struct node *q; q=make(); q->v=3; got=q->v;}
+
+abbrev pub makes_node : Body
+makes_node = body (local ty.VoidPtr ∷ []) ty.VoidPtr (Code.Declare 1 0 ∷ allocates 2 1 (Lvalue.Slot 0) (ty.Struct 0) [] ∷ Code.Return 3 (Some (var 0)) ∷ [])
+
+abbrev pub uses_node : Body
+uses_node = body (local ty.VoidPtr ∷ []) ty.Void
+    (Code.Declare 1 0
+    ∷ Code.Call 2 (Goal.Into (Lvalue.Slot 0)) (form (Called.Direct 0) [])
+    ∷ Code.Assign 3 (behind 0 0) (number 3)
+    ∷ Code.Assign 4 (Lvalue.Global 0) (Term.Load (behind 0 0))
+    ∷ [])
+
+abbrev pub given : Ann → Driver
+given ann = cut
+    (record filling {
+      funcs = record (named (codes "make")) { result = ty.VoidPtr; ann = ann } ∷ named (codes "use") ∷ [];
+      bodies = makes_node ∷ uses_node ∷ [];
+    })
+    (false ∷ true ∷ [])
+    ([] ∷ (key.Global 0 ∷ key.Field 0 0 ∷ []) ∷ [])
+
+-- ---- a pointer that is passed: u32 g; u32 got; void take(u32 *p __array(n), u32 n){got=*p;}
+
+abbrev pub takes : Body
+takes = body (param ty.VoidPtr ∷ param u32 ∷ []) ty.Void (Code.Assign 1 (Lvalue.Global 1) (Term.Load (Lvalue.Deref (var 0))) ∷ [])
+
+abbrev pub param_of : Ty → Ann → Param
+param_of t ann = record { name = []; ty = t; ann = ann; object = false }
+
+abbrev pub passed : Driver
+passed = cut
+    (record filling {
+      globals = of_type u32 (value.Int U32 (pos 5) ∷ []) ∷ of_type u32 (zero_u32 ∷ []) ∷ [];
+      funcs = record (named (codes "take")) { params = param_of ty.VoidPtr (Array (Sibling 1)) ∷ param_of u32 Single ∷ [] } ∷ [];
+      bodies = takes ∷ [];
+    })
+    (true ∷ [])
+    ((key.Global 0 ∷ key.Global 1 ∷ key.Elem 2 ∷ []) ∷ [])
+
+-- the address of `g`, and a length
+abbrev pub arguments : ℕ → List Value
+arguments n = value.Ptr (record { block = record { slot = 0; serial = 0 }; first = 0; ty = 2; count = 1; index = 0 }) ∷ value.Int U32 (pos n) ∷ []
+
+pub record PassesPointers : Type 0 where
+  -- what the result points to is visible from then on
+  pub result : shown (given Single) (just (calls 1 ∷ [])) ≡ outcome (began (codes "use") [] ∷ returned ∷ []) ends.Ok 7 2 (word 3 ∷ [])
+  -- a result that is too long stops the statement that calls
+  pub long : shown (given (Array (Const 2))) (just (calls 1 ∷ [])) ≡ outcome (began (codes "use") [] ∷ []) (stops_at 1 2) 5 2 (word 0 ∷ [])
+  -- the length is another argument of the same call
+  pub argument : shown passed (just (command.Call 0 (arguments 1) ∷ [])) ≡ outcome (began (codes "take") (arguments 1) ∷ returned ∷ []) ends.Ok 1 2 (word 5 ∷ word 5 ∷ [])
+  pub beyond : shown passed (just (command.Call 0 (arguments 2) ∷ [])) ≡ outcome (began (codes "take") (arguments 2) ∷ []) (stops_at 0 0) 0 2 (word 5 ∷ word 0 ∷ [])
