@@ -1,6 +1,6 @@
 -- What each single step of a watched run keeps, all of it keeps.
 use Rattle.std.proofs.Common.{◌≡◌, refl, ℕ, zero, suc, ◌+◌, Bool, true, false, ◌||◌, List, [], ◌∷◌, Option, Some, None, Result, Ok, Err}
-use Rattle.std.specs.Prelude.{nat_lt}
+use Rattle.std.specs.Prelude.{map, nat_lt}
 use Rattle.mdr_core.specs.declared.place.At.{At}
 use Rattle.mdr_core.specs.declared.program.Program.{Program}
 use Rattle.mdr_core.specs.declared.stop.StopKind.{StopKind}
@@ -240,9 +240,9 @@ module _ (P : World → Type 0) (kept : IsKept P) where
     module _ (inside : IsKeptInside P) where
       pub downcall_keeps : (t : ℕ) (at : At) (f : ℕ) (args : List Wire) (depth : ℕ) (w : World) → P w → Keeps (downcall d (held d) t at f args depth w)
       downcall_keeps t at f args depth w e =
-          goes _ _ (kernel_call_keeps f args depth w e)
-          (λ v w' e'. goes_taken (visible d.program (touched_by d.plan t) w'.memory (top w'.views) (result_roots d.program f args v)) at w' (λ set. Ended v (renewed set w')) e'
-          (λ set is. so (inside.renews d.program (touched_by d.plan t) (top w'.views) (result_roots d.program f args v) set w' is e')))
+          goes _ _ (kernel_call_keeps f _ depth w e)
+          (λ v w' e'. goes_taken (visible d.program (touched_by d.plan t) w'.memory (top w'.views) (result_roots d.program f (map (normal w.memory) args) v)) at w' (λ set. Ended v (renewed set w')) e'
+          (λ set is. so (inside.renews d.program (touched_by d.plan t) (top w'.views) (result_roots d.program f (map (normal w.memory) args) v) set w' is e')))
 
       pub asks_keep : (t : ℕ) (q : Asked) (w : World) → P w → Keeps (serves d (held d) t q w)
       asks_keep t q w e = goes _ _ (served_keeps d.program q w e) (λ results w' e'. so (inside.grows d.program (touched_by d.plan t) (next_serial w) w' e'))

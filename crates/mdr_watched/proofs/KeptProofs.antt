@@ -110,7 +110,7 @@ module _ (d : Driver) where
       (tries_lead (kernel_of d)) (λ q w'. same _) (λ at g vs n w'. same _) _ w
 
   downcalls_lead : (t : ℕ) (at : At) (f : ℕ) (args : List Wire) (depth : ℕ) (w : World) → Leads (downcall d (free d) t at f args depth w) (downcall d (held d) t at f args depth w)
-  downcalls_lead t at f args depth w = leads_after _ _ _ _ (calls_lead f args depth w) (λ v w'. same _)
+  downcalls_lead t at f args depth w = leads_after _ _ _ _ (calls_lead f _ depth w) (λ v w'. same _)
 
   leads_closing : (r s : Ran Wire) → Leads r s → Leads (closing r) (closing s)
   leads_closing (Ended v w) s h = subst (λ q. Leads (closing (Ended v w)) (closing q)) (sym (h.by v w refl)) (same _)

@@ -1,5 +1,5 @@
 -- The watched meaning of a driver and a script: on one memory, while user code is held to the cells that its annotations let it touch.
-use Rattle.std.specs.Prelude.{ℕ, suc, List, []}
+use Rattle.std.specs.Prelude.{ℕ, suc, List, [], map}
 use Rattle.mdr_core.specs.declared.place.At.{At}
 use Rattle.mdr_core.specs.declared.plan.Key.{Key}
 use Rattle.mdr_core.specs.declared.plan.Plan.{Plan}
@@ -10,6 +10,7 @@ use Rattle.mdr_meaning.specs.Bodies.{started}
 use Rattle.mdr_meaning.specs.Tree.{Asked, Tree}
 use Rattle.mdr_model.specs.declared.command.Command.{Command}
 use Rattle.mdr_model.specs.declared.memory.Cell.{Cell}
+use Rattle.mdr_model.specs.Memory.{normal}
 use Rattle.mdr_script.specs.declared.bound.Bound.{Bound}
 use Rattle.mdr_plain.specs.Plain.{never}
 use Rattle.mdr_plain.specs.Running.{Before, KernelCode, Setting, call, in_kernel, interrupts, nothing, run}
@@ -42,9 +43,13 @@ module _ (d : Driver) (tries : Tries) (t : ℕ) where
   abbrev pub returns_to : At → (func : ℕ) (args : List Wire) → Wire → World → Ran Wire
   returns_to at f args v w = taken (visible d.program touched w.memory (top w.views) (result_roots d.program f args v)) at w (λ set. Ended v (renewed set w))
 
+  -- what is passed to the other half: a pointer to a dead block counts as a dead one
+  abbrev pub sent : List Wire → World → List Wire
+  sent args w = map (normal w.memory) args
+
   -- a downcall runs in place
   abbrev pub downcall : At → (func : ℕ) (args : List Wire) (depth : ℕ) → World → Ran Wire
-  downcall at f args depth w = after (call (kernel_of d) tries.kernel f args depth w) (λ v w'. returns_to at f args v w')
+  downcall at f args depth w = after (call (kernel_of d) tries.kernel f (sent args w) depth w) (λ v w'. returns_to at f (sent args w) v w')
 
   -- a service that user code asks for: what is born joins the set
   abbrev pub serves : Asked → World → Ran (List Wire)
