@@ -1,0 +1,16 @@
+-- The order of a run's state is kept.
+use Rattle.mdr_watched.specs.Order.{IsInOrder, OrderIsKept}
+use Rattle.mdr_watched.proofs.KeepLaws.{asks_keep, commands_keep, downcall_keeps, kernel_call_keeps, upcall_keeps}
+use Rattle.mdr_watched.proofs.MemoryOrder.{first_in_order, order_kept, order_kept_around, order_kept_inside}
+use Rattle.mdr_watched.specs.Watched.{watched_of}
+
+pub order_is_kept : OrderIsKept
+unfolding watched_of
+order_is_kept = record {
+  first = first_in_order;
+  called = λ d f args depth w o. (kernel_call_keeps IsInOrder order_kept d f args depth w o).at_end;
+  crossed = λ d t at f args depth w o. (downcall_keeps IsInOrder order_kept d order_kept_inside t at f args depth w o).at_end;
+  served = λ d t asked w o. (asks_keep IsInOrder order_kept d order_kept_inside t asked w o).at_end;
+  entered = λ d f args w o. (upcall_keeps IsInOrder order_kept d order_kept_inside order_kept_around f args w o).at_end;
+  runs = λ d script budget. commands_keep IsInOrder order_kept d order_kept_inside order_kept_around script.commands _ (first_in_order d.kernel.known script budget);
+}

@@ -1,0 +1,39 @@
+-- What holds of a run's state at any time: serials rise, and visible cells are live.
+use Rattle.std.specs.Prelude.{◌≡◌, ℕ, true, List, [], ◌∷◌}
+use Rattle.mdr_core.specs.declared.place.At.{At}
+use Rattle.mdr_extents.specs.CellOrder.{cells}
+use Rattle.mdr_meaning.specs.declared.wire.Wire.{Wire}
+use Rattle.mdr_meaning.specs.Numbers.{Numbered}
+use Rattle.mdr_meaning.specs.Tree.{Asked}
+use Rattle.mdr_model.specs.declared.memory.Cell.{Cell}
+use Rattle.mdr_model.specs.Agreement.{IsBelow, SerialsRise}
+use Rattle.mdr_model.specs.Memory.{Memory, is_live}
+use Rattle.mdr_paths.specs.Paths.{is_in}
+use Rattle.mdr_plain.specs.Running.{call, interrupts}
+use Rattle.mdr_plain.specs.Scripts.{first_world}
+use Rattle.mdr_plain.specs.Storage.{next_serial}
+use Rattle.mdr_plain.specs.World.{World, left}
+use Rattle.mdr_script.specs.declared.bound.Bound.{Bound}
+use Rattle.mdr_watched.specs.Driver.{Driver}
+use Rattle.mdr_watched.specs.Watched.{downcall, held, kernel_of, serves, upcall, watched_of}
+
+abbrev pub AreLive : Memory → List Cell → Type 0
+AreLive m set = (c : Cell) → is_in cells set c ≡ true → is_live m c.serial ≡ true
+
+abbrev pub AllAreLive : Memory → List (List Cell) → Type 0
+AllAreLive m [] = Unit {0}
+AllAreLive m (set ∷ sets) = AreLive m set × AllAreLive m sets
+
+pub record IsInOrder (w : World) : Type 0 where
+  pub rises : SerialsRise w.memory
+  pub below : IsBelow (next_serial w) w.memory
+  pub live : AllAreLive w.memory w.views
+
+-- it holds when a run begins, and all that is done keeps it. So each set that is taken is that of the paths, and it never has a cell of a dead block
+pub record OrderIsKept : Type 0 where
+  pub first : (known : Numbered) (script : Bound) (budget : ℕ) → IsInOrder (first_world known script budget)
+  pub called : (d : Driver) (f : ℕ) (args : List Wire) (depth : ℕ) (w : World) → IsInOrder w → IsInOrder (left (call (kernel_of d) (interrupts (kernel_of d)) f args depth w))
+  pub crossed : (d : Driver) (t : ℕ) (at : At) (f : ℕ) (args : List Wire) (depth : ℕ) (w : World) → IsInOrder w → IsInOrder (left (downcall d (held d) t at f args depth w))
+  pub served : (d : Driver) (t : ℕ) (asked : Asked) (w : World) → IsInOrder w → IsInOrder (left (serves d (held d) t asked w))
+  pub entered : (d : Driver) (f : ℕ) (args : List Wire) (w : World) → IsInOrder w → IsInOrder (left (upcall d (held d) f args w))
+  pub runs : (d : Driver) (script : Bound) (budget : ℕ) → IsInOrder (watched_of d script budget).world
