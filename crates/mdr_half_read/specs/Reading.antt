@@ -1,12 +1,14 @@
 -- The printed text of a half, read with the plan.
-use Rattle.std.specs.Prelude.{◌≡◌, true, List, map, Ok}
+use Rattle.std.specs.Prelude.{◌≡◌, ◌==◌, true, List, length, map, Ok}
+use Rattle.std.specs.List.{list_all}
 use Rattle.mdr_core.specs.declared.plan.Half.{Half}
+use Rattle.mdr_core.specs.declared.plan.Half.TheVariants.{User}
 use Rattle.mdr_core.specs.declared.plan.Plan.{Plan}
 use Rattle.mdr_core.specs.declared.program.Program.{Program}
+use Rattle.mdr_core.specs.Suited.{IsSuited}
 use Rattle.mdr_syntax.specs.declared.token.Token.{Token}
 use Rattle.mdr_syntax.specs.declared.tree.Tree.{Tree}
 use Rattle.mdr_syntax.specs.Tokens.{tokens_of}
-use Rattle.mdr_print.specs.Items.{printed}
 use Rattle.mdr_grammar.specs.Grammar.{Reads}
 use Rattle.mdr_roundtrip.specs.Again.{IsPrintedAsSource}
 use Rattle.mdr_faults.specs.Faults.{Right}
@@ -15,11 +17,13 @@ use Rattle.mdr_body.specs.Mentions.{uses}
 use Rattle.mdr_typing.specs.Profile.{profile_rules}
 use Rattle.mdr_check.specs.declared.file.Piece.{Piece}
 use Rattle.mdr_check.specs.Whole.{file_pieces}
+use Rattle.mdr_program.specs.declared.parts.Parts.{Parts}
+use Rattle.mdr_program.specs.Occurring.{occurring}
 use Rattle.mdr_program.specs.Parts.{parts_of}
 use Rattle.mdr_program.specs.Programs.{program_of}
 use Rattle.mdr_check_half.specs.HalfPrograms.{half_typed}
-use Rattle.mdr_check_half.specs.Suiting.{suits_text}
-use Rattle.mdr_half.specs.Halves.{half_tree}
+use Rattle.mdr_check_half.specs.Suiting.{has_type, structs_in}
+use Rattle.mdr_half.specs.Halves.{user_text, user_tree}
 use Rattle.mdr_half_pieces.specs.Bodies.{HaveBodies}
 use Rattle.mdr_half_pieces.specs.Pieces.{piece_in}
 use Rattle.mdr_half_pieces.specs.Programs.{IsPartOf}
@@ -30,9 +34,14 @@ pub record ComesToPart (half : Half) (plan : Plan) (read : Tree) (whole : Progra
   pub typed : half_typed (body_rule profile_rules) uses plan read.items ≡ Right part
   pub is_part : IsPartOf half plan whole part
 
--- the half is printed as a source of it, and this is the tree that is read of its text
+-- the plan has as many structs as the text, and each type that occurs there
+pub record SuitsTypes (plan : Plan) (ps : Parts) : Type 0 where
+  pub structs : (structs_in plan.types == length ps.structs) ≡ true
+  pub types : list_all (λ t. has_type plan.types t) (occurring ps) ≡ true
+
+-- the user half is printed as a source of it, this is the tree that is read of its text, and the plan suits the whole program
 abbrev pub PrintedHalvesHaveThePrograms : Type 0
-PrintedHalvesHaveThePrograms = (half : Half) (plan : Plan) (tree read : Tree) (tokens : List Token) (xs : List Piece)
-    → IsPrintedAsSource true (half_tree half plan tree) → tokens_of (printed (half_tree half plan tree)) ≡ Ok tokens → Reads true tokens read
-    → file_pieces (body_rule profile_rules) uses tree.items ≡ Right xs → HaveBodies (program_of xs).funcs → plan.types ≡ (program_of xs).types → suits_text plan (parts_of (map (piece_in half plan) xs)) ≡ true
-    → ComesToPart half plan read (program_of xs)
+PrintedHalvesHaveThePrograms = (plan : Plan) (tree read : Tree) (tokens : List Token) (xs : List Piece)
+    → IsPrintedAsSource true (user_tree plan tree) → tokens_of (user_text plan tree) ≡ Ok tokens → Reads true tokens read
+    → file_pieces (body_rule profile_rules) uses tree.items ≡ Right xs → HaveBodies (program_of xs).funcs → IsSuited plan (program_of xs) → SuitsTypes plan (parts_of (map (piece_in User plan) xs))
+    → ComesToPart User plan read (program_of xs)

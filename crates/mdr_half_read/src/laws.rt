@@ -2,8 +2,9 @@
 
 ghost use Rattle.mdr_half_read.specs.Reading.{PrintedHalvesHaveThePrograms};
 
-/// The text that is printed of a half of a tree, read, comes with the plan to the half's part of the tree's program,
-/// where each function of the program has a body, and the plan has the program's type table and suits the half.
+/// The text that is printed of the user half of a source, read, comes with the plan to the user half's part of the
+/// source's program, where each function of the program has a body, and the plan suits the program and has the structs
+/// and the types of the text.
 pub fn printed_halves_have_the_programs()
     ensures { PrintedHalvesHaveThePrograms }
 {}
