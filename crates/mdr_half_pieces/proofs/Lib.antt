@@ -7,3 +7,4 @@ pub mod Parting
 pub mod Bodied
 pub mod Suited
 pub mod Halved
+pub mod Counted

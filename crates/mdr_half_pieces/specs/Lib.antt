@@ -3,3 +3,4 @@ pub mod Bodies
 pub mod Sides
 pub mod Programs
 pub mod Suited
+pub mod Counted

@@ -1,6 +1,7 @@
 // Laws of what the items of a half come to, each the contract of a function that does nothing.
 
 ghost use Rattle.mdr_half_pieces.specs.Bodies.{NoUseIsAskedFor};
+ghost use Rattle.mdr_half_pieces.specs.Counted.{TablesHaveTheStructs};
 ghost use Rattle.mdr_half_pieces.specs.Pieces.{HalvesHaveThePieces};
 ghost use Rattle.mdr_half_pieces.specs.Programs.{HalvesHaveThePrograms};
 ghost use Rattle.mdr_half_pieces.specs.Sides.{HalvesHaveTheParts};
@@ -37,4 +38,9 @@ pub fn plans_suit_their_functions()
 /// A plan of the program's functions gives each its half by its name, since no name is that of two functions.
 pub fn halves_are_by_names()
     ensures { HalvesAreByNames }
+{}
+
+/// A program's type table has as many structs as the program.
+pub fn tables_have_the_structs()
+    ensures { TablesHaveTheStructs }
 {}
