@@ -1,5 +1,5 @@
 -- The printed text of a half, read with the plan.
-use Rattle.std.specs.Prelude.{◌≡◌, ◌==◌, true, List, length, map, Ok}
+use Rattle.std.specs.Prelude.{◌≡◌, true, List, map, Ok}
 use Rattle.std.specs.List.{list_all}
 use Rattle.mdr_core.specs.declared.plan.Half.{Half}
 use Rattle.mdr_core.specs.declared.plan.Half.TheVariants.{User}
@@ -22,7 +22,7 @@ use Rattle.mdr_program.specs.Occurring.{occurring}
 use Rattle.mdr_program.specs.Parts.{parts_of}
 use Rattle.mdr_program.specs.Programs.{program_of}
 use Rattle.mdr_check_half.specs.HalfPrograms.{half_typed}
-use Rattle.mdr_check_half.specs.Suiting.{has_type, structs_in}
+use Rattle.mdr_check_half.specs.Suiting.{has_type}
 use Rattle.mdr_half.specs.Halves.{user_text, user_tree}
 use Rattle.mdr_half_pieces.specs.Bodies.{HaveBodies}
 use Rattle.mdr_half_pieces.specs.Pieces.{piece_in}
@@ -34,14 +34,13 @@ pub record ComesToPart (half : Half) (plan : Plan) (read : Tree) (whole : Progra
   pub typed : half_typed (body_rule profile_rules) uses plan read.items ≡ Right part
   pub is_part : IsPartOf half plan whole part
 
--- the plan has as many structs as the text, and each type that occurs there
-pub record SuitsTypes (plan : Plan) (ps : Parts) : Type 0 where
-  pub structs : (structs_in plan.types == length ps.structs) ≡ true
-  pub types : list_all (λ t. has_type plan.types t) (occurring ps) ≡ true
+-- the plan has each type that occurs in the text
+abbrev pub HasTypes : Plan → Parts → Type 0
+HasTypes plan ps = list_all (λ t. has_type plan.types t) (occurring ps) ≡ true
 
 -- the user half is printed as a source of it, this is the tree that is read of its text, and the plan suits the whole program
 abbrev pub PrintedHalvesHaveThePrograms : Type 0
 PrintedHalvesHaveThePrograms = (plan : Plan) (tree read : Tree) (tokens : List Token) (xs : List Piece)
     → IsPrintedAsSource true (user_tree plan tree) → tokens_of (user_text plan tree) ≡ Ok tokens → Reads true tokens read
-    → file_pieces (body_rule profile_rules) uses tree.items ≡ Right xs → HaveBodies (program_of xs).funcs → IsSuited plan (program_of xs) → SuitsTypes plan (parts_of (map (piece_in User plan) xs))
+    → file_pieces (body_rule profile_rules) uses tree.items ≡ Right xs → HaveBodies (program_of xs).funcs → IsSuited plan (program_of xs) → HasTypes plan (parts_of (map (piece_in User plan) xs))
     → ComesToPart User plan read (program_of xs)

@@ -1,7 +1,7 @@
 //! What the printed text of a half comes to where it is read with the plan: laws alone, nothing here runs.
 //!
-//! Proved: the text that is printed of the user half, read with a plan that suits the program and has the structs and
-//! the types of the text, comes to the user half's part of the program.
+//! Proved: the text that is printed of the user half, read with a plan that suits the program and has the types that
+//! occur in the text, comes to the user half's part of the program.
 #![tactic(auto)]
 
 mod laws;
