@@ -1,0 +1,10 @@
+pub mod Leading
+pub mod Known
+pub mod Pieced
+pub mod Putting
+pub mod Sided
+pub mod Parting
+pub mod Bodied
+pub mod Suited
+pub mod Halved
+pub mod Counted

@@ -1,0 +1,114 @@
+-- Whether names are short doesn't depend on places.
+use Rattle.mdr_assign.specs.Assignments.{one}
+use Rattle.mdr_check.specs.Names.{all_fine, as_well, decl_layer, inner_short, perhaps_short, short_decl, short_decls, short_enumerator, short_enumerators, short_head, short_item, short_items, short_name, short_what}
+use Rattle.mdr_core.specs.declared.place.Place.{Place}
+use Rattle.mdr_faults.specs.declared.fault.FaultKind.TheVariants.{Limit}
+use Rattle.mdr_placeless.proofs.Combined.{both_alike, demand_by}
+use Rattle.mdr_placeless.proofs.Declared.{declaration_of, mapped}
+use Rattle.mdr_placeless.proofs.Scopes.{Pairs, Perhaps}
+use Rattle.mdr_placeless.proofs.Scopes.Pairs.{Cons, Nil}
+use Rattle.mdr_placeless.proofs.Scopes.Perhaps.{Nones, Somes}
+use Rattle.mdr_placeless.specs.Alike.{AreAlike}
+use Rattle.mdr_placeless.specs.Alike.AreAlike.{Rights}
+use Rattle.mdr_roundtrip.specs.Declarations.{unplaced_annotation, unplaced_decl}
+use Rattle.mdr_roundtrip.specs.Initialised.{unplaced_const}
+use Rattle.mdr_roundtrip.specs.Itemised.{unplaced_enumerator, unplaced_head, unplaced_item, unplaced_what_item}
+use Rattle.mdr_roundtrip.specs.Unplaced.{nowhere, unplaced_base}
+use Rattle.mdr_syntax.specs.declared.tree.AnnText.{AnnText}
+use Rattle.mdr_syntax.specs.declared.tree.Base.{Base}
+use Rattle.mdr_syntax.specs.declared.tree.Const.{Const}
+use Rattle.mdr_syntax.specs.declared.tree.Decl.TheOpen.{Decl-F}
+use Rattle.mdr_syntax.specs.declared.tree.Enumerator.{Enumerator}
+use Rattle.mdr_syntax.specs.declared.tree.Head.{Head}
+use Rattle.mdr_syntax.specs.declared.tree.Item.{Item}
+use Rattle.mdr_syntax.specs.declared.tree.ItemWhat.{ItemWhat}
+use Rattle.std.proofs.Common.{List, None, Option, Some, [], ap, length, map, nat_lt, not, option_map, refl, subst, sym, ℕ, ◌∙◌, ◌∷◌, ◌≡◌}
+use Rattle.mdr_check.specs.Names.{Verdict}
+use Rattle.mdr_roundtrip.proofs.Unplacing.{decl_made}
+use Rattle.mdr_syntax.specs.declared.tree.Decl.TheFolds.{ind-Decl, map-Decl, fold-roll-Decl}
+use Rattle.mdr_syntax.specs.declared.tree.Decl.{Decl, roll-Decl}
+use Rattle.mdr_syntax.specs.declared.tree.ItemWhat.TheVariants as item
+
+verdicts : {b c d e : Verdict} → AreAlike b c → AreAlike d e → AreAlike (as_well b d) (as_well c e)
+verdicts h k = both_alike h k (λ x y. Rights _)
+
+shorts : (p q : Place) (m n : List ℕ) → m ≡ n → AreAlike (short_name p m) (short_name q n)
+unfolding short_name
+shorts p q m n e = demand_by p q Limit _ _ (ap (λ (x : List ℕ). not (nat_lt 63 (length x))) e) (Rights _)
+
+perhaps_shorts : (p q : Place) (m : Option (List ℕ)) → AreAlike (perhaps_short p m) (perhaps_short q m)
+perhaps_shorts p q None = Rights _
+perhaps_shorts p q (Some m) = shorts p q m m refl
+
+all_both : {cs ds : List Verdict} → Pairs AreAlike cs ds → AreAlike (all_fine cs) (all_fine ds)
+all_both Nil = Rights _
+all_both (Cons r rs) = verdicts r (all_both rs)
+
+inners_both : {o p : Option (List Verdict)} → Perhaps (Pairs AreAlike) o p → AreAlike (inner_short o) (inner_short p)
+inners_both Nones = Rights _
+inners_both (Somes r) = all_both r
+
+-- ---- declarations
+
+record Good (d : Decl) : Type 0 where
+  by : AreAlike (short_decl d) (short_decl (unplaced_decl d))
+
+all_good : {X : Type 0} (of : X → Decl) → ((x : X) → Good (of x)) → (xs : List X) → Pairs AreAlike (map short_decl (map of xs)) (map short_decl (map unplaced_decl (map of xs)))
+all_good of good [] = Nil
+all_good of good (x ∷ xs) = Cons (good x).by (all_good of good xs)
+
+moved : (d e : Decl) (k l : Decl-F Decl) (o p : Option (List Verdict)) → d ≡ roll-Decl k → e ≡ roll-Decl l → (map-Decl Decl Verdict short_decl k).fun ≡ o → (map-Decl Decl Verdict short_decl l).fun ≡ p
+    → AreAlike (perhaps_short k.place k.name) (perhaps_short l.place l.name) → Perhaps (Pairs AreAlike) o p → AreAlike (short_decl d) (short_decl e)
+moved d e k l o p is also one other h r =
+    subst (λ c. AreAlike c (short_decl e)) (sym (ap (λ (x : Decl). short_decl x) is ∙ fold-roll-Decl Verdict decl_layer k ∙ ap (λ (x : Option (List Verdict)). as_well (perhaps_short k.place k.name) (inner_short x)) one))
+    (subst (λ c. AreAlike (as_well (perhaps_short k.place k.name) (inner_short o)) c) (sym (ap (λ (x : Decl). short_decl x) also ∙ fold-roll-Decl Verdict decl_layer l ∙ ap (λ (x : Option (List Verdict)). as_well (perhaps_short l.place l.name) (inner_short x)) other))
+    (verdicts h (inners_both r)))
+
+good_by : {X : Type 0} (of : X → Decl) → ((x : X) → Good (of x)) → (p : Place) (name : Option (List ℕ)) (b : Base) (n : ℕ) (size : Option Const) (fun : Option (List X)) (ann : Option AnnText)
+    → Good (roll-Decl (declaration_of p name b n size (option_map (map of) fun) ann))
+good_by of good p name b n size None ann = record { by = moved _ _ (declaration_of p name b n size None ann) (declaration_of nowhere name (unplaced_base b) n (option_map unplaced_const size) None (option_map unplaced_annotation ann)) None None refl (decl_made p name b n size None ann) refl refl (perhaps_shorts p nowhere name) Nones }
+good_by of good p name b n size (Some xs) ann = record {
+  by = moved _ _ (declaration_of p name b n size (Some (map of xs)) ann) (declaration_of nowhere name (unplaced_base b) n (option_map unplaced_const size) (Some (map unplaced_decl (map of xs))) (option_map unplaced_annotation ann))
+      (Some (map short_decl (map of xs))) (Some (map short_decl (map unplaced_decl (map of xs)))) refl (decl_made p name b n size (Some (map of xs)) ann) refl refl (perhaps_shorts p nowhere name) (Somes (all_good of good xs));
+}
+
+good_layer : {X : Type 0} (of : X → Decl) → ((x : X) → Good (of x)) → (l : Decl-F X) → Good (roll-Decl (map-Decl X Decl of l))
+good_layer of good l = subst (λ k. Good (roll-Decl k)) (sym (mapped of l l.fun refl)) (good_by of good l.place l.name l.base l.stars l.size l.fun l.ann)
+
+good_decls : (d : Decl) → Good d
+good_decls = ind-Decl Good (λ x y is. subst (λ k. Good (roll-Decl k)) is (good_layer (λ e. e.0) (λ e. e.1) y))
+
+short_decls_both : (ds : List Decl) → AreAlike (short_decls ds) (short_decls (map unplaced_decl ds))
+short_decls_both ds = all_both (each_short ds)
+  where
+    each_short : (xs : List Decl) → Pairs AreAlike (map short_decl xs) (map short_decl (map unplaced_decl xs))
+    each_short [] = Nil
+    each_short (x ∷ xs) = Cons (good_decls x).by (each_short xs)
+
+-- ---- items
+
+short_enumerators_both : (es : List Enumerator) → AreAlike (short_enumerators es) (short_enumerators (map unplaced_enumerator es))
+short_enumerators_both es = all_both (each_short es)
+  where
+    each_short : (xs : List Enumerator) → Pairs AreAlike (map short_enumerator xs) (map short_enumerator (map unplaced_enumerator xs))
+    each_short [] = Nil
+    each_short (x ∷ xs) = Cons (shorts x.place nowhere x.name x.name refl) (each_short xs)
+
+short_heads : (h : Head) → AreAlike (short_head h) (short_head (unplaced_head h))
+short_heads h = verdicts (shorts h.place nowhere h.name h.name refl) (short_decls_both h.params)
+
+short_whats : (p q : Place) (w : ItemWhat) → AreAlike (short_what p w) (short_what q (unplaced_what_item w))
+short_whats p q (item.Define name is_negative n k) = shorts p q name name refl
+short_whats p q (item.Struct at name ds) = verdicts (shorts at nowhere name name refl) (short_decls_both ds)
+short_whats p q (item.Enum es) = short_enumerators_both es
+short_whats p q (item.Global d init) = (good_decls d).by
+short_whats p q (item.Proto h is_remote) = short_heads h
+short_whats p q (item.Func h is_critical ns) = short_heads h
+
+pub short_both : (is : List Item) → AreAlike (short_items is) (short_items (map unplaced_item is))
+unfolding short_items
+short_both is = all_both (each_short is)
+  where
+    each_short : (xs : List Item) → Pairs AreAlike (map short_item xs) (map short_item (map unplaced_item xs))
+    each_short [] = Nil
+    each_short (x ∷ xs) = Cons (short_whats x.place nowhere x.what) (each_short xs)
