@@ -17,7 +17,7 @@ ghost use Rattle.mdr_check.specs.Files.{nothing, define_piece, struct_of, struct
 use crate::variable::{Variable, checked_global};
 use mdr_core::{Field, Items, Kind, Name, OutOfMemory, Place, StructDef};
 use mdr_faults::{
-    Candidate, Constant, Entity, Fault, FaultKind, Scope, both, copied, declare, demanded,
+    Candidate, Constant, Entity, Fault, FaultKind, Names, Scope, both, copied, declare, demanded,
     enumerators, extended, new_name, number_constant, small, tag_named,
 };
 use mdr_headings::{
@@ -34,7 +34,7 @@ pub struct Known {
     /// How many globals were declared.
     pub globals: u32,
     /// The functions, by their numbers.
-    pub functions: Items<Declared>,
+    pub functions: Names<Declared>,
 }
 
 /// What an item comes to.
@@ -338,7 +338,7 @@ fn first_scope(alloc: Global, items: &[Item]) -> Result<Scope, OutOfMemory>
     Ok(Scope {
         tags: tags_of(alloc, items)?,
         defines: defines_of(alloc, items)?,
-        names: Items::new(alloc),
+        names: Names::new(alloc),
         outlines: Items::new(alloc),
         structs: Items::new(alloc),
     })
@@ -362,7 +362,7 @@ pub fn first_known(alloc: Global, items: &[Item]) -> Result<Known, OutOfMemory>
     Ok(Known {
         scope: with_outlines(scope, outlines),
         globals: 0,
-        functions: Items::new(alloc),
+        functions: Names::new(alloc),
     })
 }
 

@@ -5,3 +5,4 @@ pub mod Stars
 pub mod Declarators
 pub mod Enumerating
 pub mod Likeness
+pub mod Places

@@ -3,3 +3,4 @@ pub mod Scopes
 pub mod Declarations
 pub mod Enums
 pub mod Alike
+pub mod Naming

@@ -28,7 +28,7 @@ pub fn declare(
         name: copied(alloc, name.as_slice())?,
         means,
     };
-    scope.names.push(named)?;
+    scope.names.push(alloc, named)?;
     Ok(())
 }
 

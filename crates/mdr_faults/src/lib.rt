@@ -7,6 +7,7 @@ mod declarator;
 mod enumerator;
 mod fault;
 mod joining;
+mod names;
 mod object;
 mod scope;
 mod types;
@@ -20,6 +21,7 @@ pub use declarator::{
 pub use enumerator::{declare, enumerators, new_name};
 pub use fault::{Fault, FaultKind, lesser};
 pub use joining::{both, demanded, extended, followed, mismatch};
+pub use names::{HasName, Names};
 pub use object::{cells_of, object_declared};
 pub use scope::{
     Candidate, Constant, Entity, Member, Named, Object, Scope, Signature, StructEntry, Tag,

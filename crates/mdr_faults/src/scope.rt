@@ -5,6 +5,7 @@ ghost use Rattle.std.specs.Option.{option_copied};
 ghost use Rattle.mdr_faults.specs.Scopes.{entity_among, entity_named, tag_named};
 
 use crate::fault::Fault;
+use crate::names::{HasName, Names};
 use mdr_core::{Items, Kind, Name, Ty};
 
 /// A constant: its kind and its number, which the kind holds.
@@ -47,11 +48,27 @@ pub struct Named {
     pub means: Result<Entity, Fault>,
 }
 
+impl HasName for Named {
+    ghost name = { λ n. n.name };
+
+    fn name(&self) -> &[u8] {
+        self.name.as_slice()
+    }
+}
+
 /// A struct's name, and its number among the structs that the source defines.
 #[derive(Drop)]
 pub struct Tag {
     pub name: Name,
     pub number: u32,
+}
+
+impl HasName for Tag {
+    ghost name = { λ t. t.name };
+
+    fn name(&self) -> &[u8] {
+        self.name.as_slice()
+    }
 }
 
 /// A member of a struct.
@@ -81,11 +98,11 @@ pub struct Candidate {
 #[derive(Drop)]
 pub struct Scope {
     /// The structs that the file defines, by their first definitions, anywhere in it.
-    pub tags: Items<Tag>,
+    pub tags: Names<Tag>,
     /// The constants of `#define`, which hold in the whole file.
-    pub defines: Items<Named>,
+    pub defines: Names<Named>,
     /// The ordinary names that were declared so far, in their order.
-    pub names: Items<Named>,
+    pub names: Names<Named>,
     /// The fields of each struct that the file defines, as annotations see them.
     pub outlines: Items<Items<Candidate>>,
     /// The structs that are complete so far, by their numbers.
@@ -93,19 +110,19 @@ pub struct Scope {
 }
 
 /// The first of some names that is this one.
-fn among<'a>(names: &'a [Named], name: &[u8]) -> Option<&'a Named>
+fn among<'a>(names: &'a Names<Named>, name: &[u8]) -> Option<&'a Named>
     ensures { option_copied result ≡ entity_among names.now name.now }
 {
-    names.iter().find(|n| n.name.as_slice() == name)
+    names.find(name)
 }
 
 /// What a name means here: the constant that the file defines by it, else the first declaration so far.
 pub fn entity_named<'a>(scope: &'a Scope, name: &[u8]) -> Option<&'a Named>
     ensures { option_copied result ≡ entity_named scope.now name.now }
 {
-    match among(scope.defines.as_slice(), name) {
+    match among(&scope.defines, name) {
         Some(entry) => Some(entry),
-        None => among(scope.names.as_slice(), name),
+        None => among(&scope.names, name),
     }
 }
 
@@ -113,16 +130,12 @@ pub fn entity_named<'a>(scope: &'a Scope, name: &[u8]) -> Option<&'a Named>
 pub fn tag_named<'a>(scope: &'a Scope, name: &[u8]) -> Option<&'a Tag>
     ensures { option_copied result ≡ tag_named scope.now name.now }
 {
-    scope
-        .tags
-        .as_slice()
-        .iter()
-        .find(|t| t.name.as_slice() == name)
+    scope.tags.find(name)
 }
 
 /// Whether the file has declared this name already.
 pub fn is_declared_name(scope: &Scope, name: &[u8]) -> bool
     ensures { result ≡ is_some (entity_among scope.now.names name.now) }
 {
-    among(scope.names.as_slice(), name).is_some()
+    among(&scope.names, name).is_some()
 }

@@ -10,8 +10,8 @@ use crate::head::{Heading, checked_heading};
 use crate::source::signature;
 use mdr_core::{Ann, Items, LenOf, Name, OutOfMemory, Param, Place};
 use mdr_faults::{
-    Entity, Fault, FaultKind, Scope, Signature, copied, copied_type, declare, demanded, is_alike,
-    is_declared_name, small,
+    Entity, Fault, FaultKind, HasName, Names, Scope, Signature, copied, copied_type, declare,
+    demanded, is_alike, is_declared_name, small,
 };
 use mdr_syntax::{Head, Item, ItemWhat};
 use std::alloc::{AllocError, Global};
@@ -22,6 +22,14 @@ pub struct Declared {
     pub name: Name,
     pub place: Place,
     pub heading: Result<Heading, Fault>,
+}
+
+impl HasName for Declared {
+    ghost name = { λ f. f.name };
+
+    fn name(&self) -> &[u8] {
+        self.name.as_slice()
+    }
 }
 
 // ---- which functions a file defines
@@ -137,10 +145,10 @@ fn agrees(earlier: &Result<Heading, Fault>, later: &Result<Heading, Fault>) -> b
 // ---- the functions so far
 
 /// The function of this name.
-pub fn function_named<'a>(fs: &'a [Declared], name: &[u8]) -> Option<&'a Declared>
+pub fn function_named<'a>(fs: &'a Names<Declared>, name: &[u8]) -> Option<&'a Declared>
     ensures { option_copied result ≡ function_named fs.now name.now }
 {
-    fs.iter().find(|f| f.name.as_slice() == name)
+    fs.find(name)
 }
 
 fn agrees_with(entry: Option<&Declared>, later: &Result<Heading, Fault>) -> bool
@@ -179,14 +187,15 @@ fn behind_function(
     alloc: Global,
     scope: &mut Scope,
     number: u32,
-    is_defined: bool,
+    items: &[Item],
     h: &Head,
 ) -> Result<(), AllocError>
-    ensures { OnOk result (scope.new ≡ behind_function scope.old number is_defined h.now) }
+    ensures { OnOk result (scope.new ≡ behind_function scope.old number (is_defined items.now h.now.name) h.now) }
 {
     if is_declared_name(scope, h.name.as_slice()) {
         return Ok(());
     }
+    let is_defined = is_defined(items, h.name.as_slice());
     let s = signature(alloc, scope, number, is_defined, h)?;
     declare(alloc, scope, &h.name, function_means(s))
 }
@@ -237,7 +246,7 @@ fn copied_told(
 /// Adds a function to those so far, unless its name was declared before.
 fn declare_unless(
     alloc: Global,
-    fs: &mut Items<Declared>,
+    fs: &mut Names<Declared>,
     is_taken: bool,
     h: &Head,
     heading: &Result<Heading, Fault>,
@@ -252,7 +261,7 @@ fn declare_unless(
         place: h.place,
         heading: copied_told(alloc, heading)?,
     };
-    fs.push(declared)?;
+    fs.push(alloc, declared)?;
     Ok(())
 }
 
@@ -285,13 +294,7 @@ fn grow(
     ensures { OnOk result (scope.new ≡ behind_function scope.old number (is_defined items.now h.now.name) h.now) }
 {
     let number = small(number)?;
-    behind_function(
-        alloc,
-        scope,
-        number,
-        is_defined(items, h.name.as_slice()),
-        h,
-    )?;
+    behind_function(alloc, scope, number, items, h)?;
     Ok(())
 }
 
@@ -306,7 +309,7 @@ fn is_second_body(before: &[Item], name: &[u8], is_body: bool) -> bool
 pub fn function_declared(
     alloc: Global,
     scope: &mut Scope,
-    fs: &mut Items<Declared>,
+    fs: &mut Names<Declared>,
     items: &[Item],
     before: &[Item],
     h: &Head,
@@ -322,7 +325,7 @@ pub fn function_declared(
     let heading = checked_heading(alloc, scope, h)?;
     grow(alloc, scope, number, items, h)?;
     let kept = copied_told(alloc, &heading)?;
-    let entry = function_named(fs.as_slice(), h.name.as_slice());
+    let entry = function_named(fs, h.name.as_slice());
     let told = function_rule(h.place, is_taken, entry, second, number, heading);
     declare_unless(alloc, fs, is_taken, h, &kept)?;
     Ok(told)

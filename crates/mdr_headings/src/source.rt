@@ -1,6 +1,7 @@
 // What holds in a whole file, and what is known behind each declaration (C99 6.2.1, 6.9).
 
-ghost use Rattle.std.specs.Prelude.{◌≡◌, ◌++◌, ◌∷◌, [], IfOk, OnOk, List, length};
+ghost use Rattle.std.specs.Prelude.{◌≡◌, ◌++◌, ◌∷◌, [], IfOk, OnOk, List, find, is_some, length};
+ghost use Rattle.std.specs.Str.{bytes_eq};
 ghost use Rattle.std.specs.Option.{option_copied};
 ghost use Rattle.mdr_core.specs.declared.types.Ty.{Ty};
 ghost use Rattle.mdr_faults.specs.Declarations.{declarator, parameter_list};
@@ -13,34 +14,40 @@ use crate::head::head_result;
 use crate::structs::struct_entry;
 use mdr_core::{Items, Name, OutOfMemory, Place, Ty};
 use mdr_faults::{
-    Constant, Entity, Fault, Named, Scope, Signature, StructEntry, Tag, both, copied,
+    Constant, Entity, Fault, Named, Names, Scope, Signature, StructEntry, Tag, both, copied,
     number_constant, parameter_list, small, tag_named,
 };
 use mdr_syntax::{Decl, Head, Item, ItemWhat};
 use std::alloc::{AllocError, Global};
 
-fn has_tag(tags: &[Tag], name: &[u8]) -> bool
+fn is_found(tags: &Names<Tag>, name: &[u8]) -> bool
+    ensures { result ≡ is_some (find (λ t. bytes_eq t.name name.now) tags.now) }
+{
+    tags.find(name).is_some()
+}
+
+fn has_tag(tags: &Names<Tag>, name: &[u8]) -> bool
     ensures { result ≡ has_tag tags.now name.now }
 {
-    tags.iter().any(|t| t.name.as_slice() == name)
+    is_found(tags, name)
 }
 
 /// Numbers a struct, unless it has a number.
-fn add_tag(alloc: Global, tags: &mut Items<Tag>, name: &Name) -> Result<(), OutOfMemory>
+fn add_tag(alloc: Global, tags: &mut Names<Tag>, name: &Name) -> Result<(), OutOfMemory>
     ensures { OnOk result (tags.new ≡ with_tag tags.old name.now) }
 {
-    if has_tag(tags.as_slice(), name.as_slice()) {
+    if has_tag(tags, name.as_slice()) {
         return Ok(());
     }
     let tag = Tag {
         number: small(tags.len())?,
         name: copied(alloc, name.as_slice())?,
     };
-    tags.push(tag)?;
+    tags.push(alloc, tag)?;
     Ok(())
 }
 
-fn tags_behind(alloc: Global, tags: &mut Items<Tag>, what: &ItemWhat) -> Result<(), OutOfMemory>
+fn tags_behind(alloc: Global, tags: &mut Names<Tag>, what: &ItemWhat) -> Result<(), OutOfMemory>
     ensures { OnOk result (tags.new ≡ tags_behind tags.old what.now) }
 {
     match what {
@@ -55,10 +62,10 @@ fn tags_behind(alloc: Global, tags: &mut Items<Tag>, what: &ItemWhat) -> Result<
 
 /// The structs that a file defines, with their numbers.
 #[tactic(auto, unfolding(crate::specs::Source::tags_from))]
-pub fn tags_of(alloc: Global, items: &[Item]) -> Result<Items<Tag>, OutOfMemory>
+pub fn tags_of(alloc: Global, items: &[Item]) -> Result<Names<Tag>, OutOfMemory>
     ensures { IfOk result (λ tags. tags ≡ tags_from [] items.now) }
 {
-    let mut tags = Items::new(alloc);
+    let mut tags = Names::new(alloc);
     for item in items {
         tags_behind(alloc, &mut tags, &item.what)?;
     }
@@ -67,7 +74,7 @@ pub fn tags_of(alloc: Global, items: &[Item]) -> Result<Items<Tag>, OutOfMemory>
 
 fn add_define(
     alloc: Global,
-    names: &mut Items<Named>,
+    names: &mut Names<Named>,
     name: &Name,
     c: Constant,
 ) -> Result<(), AllocError>
@@ -77,13 +84,13 @@ fn add_define(
         name: copied(alloc, name.as_slice())?,
         means: Ok(Entity::Constant(c)),
     };
-    names.push(named)?;
+    names.push(alloc, named)?;
     Ok(())
 }
 
 fn defines_behind(
     alloc: Global,
-    names: &mut Items<Named>,
+    names: &mut Names<Named>,
     what: &ItemWhat,
 ) -> Result<(), AllocError>
     ensures { OnOk result (names.new ≡ defines_behind names.old what.now) }
@@ -105,10 +112,10 @@ fn defines_behind(
 
 /// The constants of a file's `#define`s.
 #[tactic(auto, unfolding(crate::specs::Source::defines_from))]
-pub fn defines_of(alloc: Global, items: &[Item]) -> Result<Items<Named>, AllocError>
+pub fn defines_of(alloc: Global, items: &[Item]) -> Result<Names<Named>, AllocError>
     ensures { IfOk result (λ names. names ≡ defines_from [] items.now) }
 {
-    let mut names = Items::new(alloc);
+    let mut names = Names::new(alloc);
     for item in items {
         defines_behind(alloc, &mut names, &item.what)?;
     }
