@@ -1,0 +1,6 @@
+//! Laws of whole halves.
+#![tactic(auto)]
+
+mod laws;
+
+pub use laws::begun;

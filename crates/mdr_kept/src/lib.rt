@@ -1,0 +1,6 @@
+//! Laws of runs that keep their annotations.
+#![tactic(auto)]
+
+mod laws;
+
+pub use laws::begun;
