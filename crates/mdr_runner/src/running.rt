@@ -11,8 +11,8 @@ use crate::scripts::script_of;
 use mdr_core::{OutOfMemory, Program};
 use mdr_due::{Due, Stage};
 use mdr_outside::Shelf;
+use mdr_report::report_whole;
 use mdr_script::Bound;
-use mdr_shown::report;
 use mdr_slicer::source_of;
 use mdr_whole::run_whole;
 use std::alloc::Global;
@@ -25,7 +25,7 @@ fn ran(alloc: Global, program: &Program, script: &Bound, ticks: u64) -> Result<D
 {
     let outcome = run_whole(alloc, program, script, ticks)?;
     let status = status_of(&outcome.end);
-    let text = report(alloc, program, &outcome)?.into_vec();
+    let text = report_whole(alloc, program, &outcome)?.into_vec();
     Ok(Due { status, text })
 }
 
