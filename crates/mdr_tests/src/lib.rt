@@ -15,3 +15,5 @@ mod paths;
 mod report;
 #[cfg(test)]
 mod user;
+#[cfg(test)]
+mod worked;
