@@ -1,0 +1,5 @@
+pub mod Defined
+pub mod Same
+pub mod Among
+pub mod Tabled
+pub mod Together

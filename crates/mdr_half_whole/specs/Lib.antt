@@ -1,0 +1,4 @@
+pub mod Defined
+pub mod SameTypes
+pub mod HalfTypes
+pub mod Whole

@@ -1,8 +1,33 @@
-// Laws, each as a function that does nothing.
+// Laws of whole halves, each the contract of a function that does nothing.
 
-ghost use Rattle.std.specs.Prelude.{◌≡◌, ℕ};
+ghost use Rattle.mdr_half_whole.specs.Defined.{DefinedFunctionsHaveBodies};
+ghost use Rattle.mdr_half_whole.specs.HalfTypes.{PlansHaveTheTypes, TypesOfHalvesOccur};
+ghost use Rattle.mdr_half_whole.specs.SameTypes.{FunctionsKeepTheirTypes};
+ghost use Rattle.mdr_half_whole.specs.Whole.{TheUserTextGivesItsPart};
 
-/// To come.
-pub fn begun()
-    ensures { (n : ℕ) → n ≡ n }
+/// Where each function of a source's program has a body among the items, it has it in the program.
+pub fn defined_functions_have_bodies()
+    ensures { DefinedFunctionsHaveBodies }
+{}
+
+/// Each function has in a half's text the result and the types of parameters that it has in the whole source, also where
+/// its body is in the other half.
+pub fn functions_keep_their_types()
+    ensures { FunctionsKeepTheirTypes }
+{}
+
+/// Each type that occurs in a half's text occurs in the whole source.
+pub fn types_of_halves_occur()
+    ensures { TypesOfHalvesOccur }
+{}
+
+/// So a plan that has the type table of the source's program has each type that occurs in the text of a half.
+pub fn plans_have_the_types()
+    ensures { PlansHaveTheTypes }
+{}
+
+/// The text that is printed of the user half of a source, read, comes with the source's plan to the user half's part of
+/// the source's program, where each function of the program has a body.
+pub fn the_user_text_gives_its_part()
+    ensures { TheUserTextGivesItsPart }
 {}

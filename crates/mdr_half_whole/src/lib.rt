@@ -1,6 +1,14 @@
-//! Laws of whole halves.
+//! The text of the user half, from a source and its plan to its part of the source's program: laws alone, nothing here
+//! runs.
+//!
+//! Proved: the functions of a source without faults have the same types in the text of each half, so each type that
+//! occurs there is in the type table of the source's plan; and the text that is printed of the user half, read with the
+//! source's plan, comes to the user half's part of the source's program, where each function of the program has a body.
 #![tactic(auto)]
 
 mod laws;
 
-pub use laws::begun;
+pub use laws::{
+    defined_functions_have_bodies, functions_keep_their_types, plans_have_the_types,
+    the_user_text_gives_its_part, types_of_halves_occur,
+};
