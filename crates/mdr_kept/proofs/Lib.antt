@@ -1,0 +1,6 @@
+pub mod PartLaws
+pub mod BareLaws
+pub mod GoesLaws
+pub mod HalfLaws
+pub mod FollowLaws
+pub mod PlainLaws

@@ -1,6 +1,7 @@
-//! Laws of runs that keep their annotations.
+//! Laws of runs that keep their annotations: where nothing tells a driver's halves from one piece of code, the watched run
+//! shows what the plain run shows.
 #![tactic(auto)]
 
 mod laws;
 
-pub use laws::begun;
+pub use laws::{strict_outcomes_agree, strict_runs_are_followed, strict_runs_are_plain};
