@@ -4,3 +4,4 @@ pub mod GoesLaws
 pub mod HalfLaws
 pub mod FollowLaws
 pub mod PlainLaws
+pub mod WorkedProofs

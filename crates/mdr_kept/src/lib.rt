@@ -3,5 +3,7 @@
 #![tactic(auto)]
 
 mod laws;
+mod worked;
 
 pub use laws::{strict_outcomes_agree, strict_runs_are_followed, strict_runs_are_plain};
+pub use worked::{locks_are_told_apart, ordinary_runs_are_strict};
