@@ -20,7 +20,8 @@ use Rattle.mdr_plain.specs.Scripts.{Finish, and_then, begin, begun, called_by, c
 use Rattle.mdr_plain.specs.Services.{served}
 use Rattle.mdr_plain.specs.Storage.{accesses}
 use Rattle.mdr_plain.specs.World.{World, Ran, Ended, Stopped, Work, after, counted, done, given, then}
-use Rattle.mdr_watched.specs.Driver.{Driver, is_user}
+use Rattle.mdr_script.specs.declared.bound.Bound.{Bound}
+use Rattle.mdr_watched.specs.Driver.{Driver, driver_of, is_user}
 use Rattle.mdr_watched.specs.Kept.{due_plainly, followed_of, free, meets_none, meets_user, unless_due}
 use Rattle.mdr_watched.specs.Views.{may_touch, taken}
 use Rattle.mdr_watched.specs.Watched.{Tries, closing, does as does_by, downcall, entered as entered_by, held, kernel_of, serves, upcall as upcall_by, watched_of}
@@ -191,9 +192,17 @@ module _ (d : Driver) where
     commands_agree [] w e = refl
     commands_agree (c ∷ cs) w e = and_thens_agree _ _ _ _ (does_leads c w) (λ w' e'. commands_agree cs w' e') e
 
+followed_is_strict : (d : Driver) (script : Bound) (budget : ℕ) → (strict_of d script budget).end ≡ ends.Ok → followed_of d script budget ≡ strict_of d script budget
+unfolding strict_of followed_of
+followed_is_strict d script budget e = commands_agree d (free d) (tries_lead_freely d) (λ n w. same _) script.commands _ e
+
+watched_is_strict : (d : Driver) (script : Bound) (budget : ℕ) → (strict_of d script budget).end ≡ ends.Ok → watched_of d script budget ≡ strict_of d script budget
+unfolding strict_of watched_of
+watched_is_strict d script budget e = commands_agree d (held d) (tries_lead d) (λ n w. unless_leads d (due_plainly w) w) script.commands _ e
+
 pub strict_runs_are_followed : StrictRunsAreFollowed
-unfolding strict_of watched_of followed_of
 strict_runs_are_followed = record {
-  followed = λ d script budget e. commands_agree d (free d) (tries_lead_freely d) (λ n w. same _) script.commands _ e;
-  watched = λ d script budget e. commands_agree d (held d) (tries_lead d) (λ n w. unless_leads d (due_plainly w) w) script.commands _ e;
+  followed = followed_is_strict;
+  kept = λ program plan script budget e. ap (λ (f : Finish). f.end) (followed_is_strict (driver_of program plan) script budget e) ∙ e;
+  watched = watched_is_strict;
 }

@@ -9,7 +9,7 @@ use Rattle.mdr_plain.specs.Scripts.{Finish, finish}
 use Rattle.mdr_plain.specs.World.{World}
 use Rattle.mdr_script.specs.declared.bound.Bound.{Bound}
 use Rattle.mdr_watched.specs.Driver.{Driver, driver_of}
-use Rattle.mdr_watched.specs.Kept.{followed_of}
+use Rattle.mdr_watched.specs.Kept.{Kept, followed_of}
 use Rattle.mdr_watched.specs.Watched.{watched, watched_of}
 use Rattle.mdr_kept.specs.Strict.{strict_of}
 
@@ -27,6 +27,8 @@ IsStrict program plan script budget = (strict_of (driver_of program plan) script
 -- a strict run that meets no stop is the watched run, and the followed one
 pub record StrictRunsAreFollowed : Type 0 where
   pub followed : (d : Driver) (script : Bound) (budget : ℕ) → (strict_of d script budget).end ≡ ends.Ok → followed_of d script budget ≡ strict_of d script budget
+  -- so its annotations are kept
+  pub kept : (program : Program) (plan : Plan) (script : Bound) (budget : ℕ) → IsStrict program plan script budget → Kept program plan script budget
   pub watched : (d : Driver) (script : Bound) (budget : ℕ) → (strict_of d script budget).end ≡ ends.Ok → watched_of d script budget ≡ strict_of d script budget
 
 -- it is the plain run, visible sets aside, for any program and any plan

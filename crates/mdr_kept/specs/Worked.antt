@@ -1,11 +1,13 @@
 -- Small drivers in two halves, worked out: where their watched runs and their plain runs are told apart, and where not.
-use Rattle.std.specs.Prelude.{◌≡◌, true, [], ◌∷◌, codes}
+use Rattle.std.specs.Prelude.{◌≡◌, true, false, [], ◌∷◌, codes, Some}
+use Rattle.mdr_core.specs.declared.stop.StopKind.TheVariants as stop
+use Rattle.mdr_core.specs.declared.types.Ty.{Ty}
 use Rattle.mdr_core.specs.declared.types.Ty.TheVariants as ty
 use Rattle.mdr_core.specs.declared.value.LockState.TheVariants.{Free, Spin, Sleep}
 use Rattle.mdr_core.specs.declared.value.Value.TheVariants as value
-use Rattle.mdr_core.specs.Code.{Term, Lvalue}
+use Rattle.mdr_core.specs.Code.{Term, Lvalue, Called, Goal, Code}
 use Rattle.mdr_meaning.specs.Sides.{Body}
-use Rattle.mdr_meaning.specs.Worked.{body, node, node_pointer}
+use Rattle.mdr_meaning.specs.Worked.{at_stmt, body, form, local, node, node_pointer, object, u32}
 use Rattle.mdr_model.specs.declared.command.Command.TheVariants as command
 use Rattle.mdr_model.specs.declared.outcome.End.TheVariants as ends
 use Rattle.mdr_plain.specs.declared.outcome.Happened.TheVariants as happened
@@ -51,3 +53,25 @@ pub record TellsLocks : Type 0 where
   pub kept : (followed_of (cut locking (true ∷ []) ([] ∷ [])) take_and_show 100).end ≡ ends.Ok
   pub followed : (followed_of (cut locking (true ∷ []) ([] ∷ [])) take_and_show 100).world.kept.events ≡ began (codes "take") [] ∷ returned ∷ happened.Show (codes "l") (value.Lock Sleep ∷ []) ∷ []
   pub plain : (plainly locking take_and_show).world.kept.events ≡ began (codes "take") [] ∷ returned ∷ happened.Show (codes "l") (value.Lock Spin ∷ []) ∷ []
+
+-- ---- a dead result: void *give(void){u32 x; return &x;} void use(void){struct node *q; q=give();}
+
+abbrev pub gives : Body
+gives = body (object u32 ∷ []) ty.VoidPtr (Code.Declare 1 0 ∷ Code.Return 2 (Some (Term.ToVoid (Term.Addr (Lvalue.Object 0)))) ∷ [])
+
+abbrev pub uses : Ty → Body
+uses t = body (local t ∷ []) ty.Void (Code.Declare 1 0 ∷ Code.Call 2 (Goal.Into (Lvalue.Slot 0)) (form (Called.Direct 0) []) ∷ [])
+
+abbrev pub giving : Ty → Written
+giving t = record {
+  struct = node;
+  pointer = node_pointer;
+  globals = [];
+  funcs = record (named (codes "give")) { result = ty.VoidPtr } ∷ named (codes "use") ∷ [];
+  bodies = gives ∷ uses t ∷ [];
+}
+
+-- user code gets a dead pointer, which converts to any type; in the plain run the address of the dead object keeps its type, and doesn't convert
+pub record TellsDeadResults : Type 0 where
+  pub kept : (followed_of (cut (giving node_pointer) (false ∷ true ∷ []) ([] ∷ [] ∷ [])) (just (calls 1 ∷ [])) 100).end ≡ ends.Ok
+  pub plain : (plainly (giving node_pointer) (just (calls 1 ∷ []))).end ≡ ends.Stop stop.BadCast (Some (at_stmt 1 2))
