@@ -1,4 +1,5 @@
 pub mod Defined
+pub mod Usable
 pub mod SameTypes
 pub mod HalfTypes
 pub mod Whole

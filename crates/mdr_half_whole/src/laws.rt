@@ -3,6 +3,7 @@
 ghost use Rattle.mdr_half_whole.specs.Defined.{DefinedFunctionsHaveBodies};
 ghost use Rattle.mdr_half_whole.specs.HalfTypes.{PlansHaveTheTypes, TypesOfHalvesOccur};
 ghost use Rattle.mdr_half_whole.specs.SameTypes.{FunctionsKeepTheirTypes};
+ghost use Rattle.mdr_half_whole.specs.Usable.{BodiesUseWhatIsDefined};
 ghost use Rattle.mdr_half_whole.specs.Whole.{TheUserTextGivesItsPart};
 
 /// Where each function of a source's program has a body among the items, it has it in the program.
@@ -30,4 +31,9 @@ pub fn plans_have_the_types()
 /// the source's program, where each function of the program has a body.
 pub fn the_user_text_gives_its_part()
     ensures { TheUserTextGivesItsPart }
+{}
+
+/// A body without faults uses no function that the file doesn't define, and nothing that isn't declared.
+pub fn bodies_use_what_is_defined()
+    ensures { BodiesUseWhatIsDefined }
 {}

@@ -9,6 +9,6 @@
 mod laws;
 
 pub use laws::{
-    defined_functions_have_bodies, functions_keep_their_types, plans_have_the_types,
-    the_user_text_gives_its_part, types_of_halves_occur,
+    bodies_use_what_is_defined, defined_functions_have_bodies, functions_keep_their_types,
+    plans_have_the_types, the_user_text_gives_its_part, types_of_halves_occur,
 };
