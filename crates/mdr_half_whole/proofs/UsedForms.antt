@@ -51,7 +51,7 @@ use Rattle.mdr_half_whole.specs.Usable.{GivesNothing, IsUndefined, IsUseless}
 pub neither : (a b : Bool) → a ≡ false → b ≡ false → (a || b) ≡ false
 neither a b e f = ap (λ t. t || b) e ∙ f
 
-clash : {C : Type 0} (b : Bool) → b ≡ true → b ≡ false → C
+pub clash : {C : Type 0} (b : Bool) → b ≡ true → b ≡ false → C
 clash true e f = absurd cc
 clash false e f = absurd cc
 
