@@ -1,26 +1,23 @@
 -- Each function of a source's program has a body.
-use Rattle.std.proofs.Common.{◌≡◌, ℕ, zero, suc, Bool, true, false, not, ◌||◌, ◌&&◌, inl, inr, List, [], ◌∷◌, length, map, Option, Some, None, Ok, slice_get, IsTrue, refl, sym, ap, ◌∙◌, subst, codes}
+use Rattle.std.proofs.Common.{◌≡◌, ℕ, zero, suc, Bool, true, false, not, ◌||◌, ◌&&◌, inl, inr, List, [], ◌∷◌, map, Option, Some, None, slice_get, IsTrue, refl, sym, ap, ◌∙◌, subst, codes}
 use Rattle.std.specs.List.{list_all}
 use Rattle.std.specs.Str.{bytes_eq}
 use Rattle.std.proofs.lemmas.Slice.Eq.{bytes_eq-Decides}
 use Rattle.mdr_core.specs.declared.place.Place.{Place}
 use Rattle.mdr_core.specs.declared.program.Func.{Func}
 use Rattle.mdr_core.specs.Layout.{chosen}
-use Rattle.mdr_syntax.specs.declared.token.Token.{Token}
 use Rattle.mdr_syntax.specs.declared.tree.Head.{Head}
 use Rattle.mdr_syntax.specs.declared.tree.Item.{Item}
 use Rattle.mdr_syntax.specs.declared.tree.ItemWhat.{ItemWhat}
 use Rattle.mdr_syntax.specs.declared.tree.ItemWhat.TheVariants as item
-use Rattle.mdr_syntax.specs.declared.tree.Tree.{Tree}
 use Rattle.mdr_syntax.specs.Words.{is_reserved, reserved}
 use Rattle.mdr_faults.specs.declared.fault.FaultKind.TheVariants.{Incomplete}
 use Rattle.mdr_faults.specs.Faults.{Checked, Right, after, both, each}
 use Rattle.mdr_headings.specs.declared.function.Declared.{Declared}
 use Rattle.mdr_headings.specs.Functions.{defines_by, has_body, is_body_by, is_defined}
-use Rattle.mdr_call.specs.declared.service.Service.{Service}
 use Rattle.mdr_call.specs.Services.{as_plain, service_named}
 use Rattle.mdr_reread.specs.Words.{is_word}
-use Rattle.mdr_roundtrip.specs.Itemised.{is_shaped_body, is_shaped_field, is_shaped_head, is_shaped_item, is_shaped_what}
+use Rattle.mdr_roundtrip.specs.Itemised.{is_shaped_field, is_shaped_head, is_shaped_item, is_shaped_what}
 use Rattle.mdr_roundtrip.specs.Shaped.{is_name, is_named_base, are_stars}
 use Rattle.mdr_roundtrip.proofs.Lexemes.{tokens_are_lexed}
 use Rattle.mdr_roundtrip.proofs.ShapingSources.{sources_are_shaped}

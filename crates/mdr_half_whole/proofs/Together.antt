@@ -46,5 +46,5 @@ user_text_gives bytes tree read program halves plan is each of r =
     with_pieces tree program (λ (p : Program). length p.types ≤ 4294967296 → HasEach p halves → IsPlan p halves plan → ComesToPart User plan read p)
     (λ xs e few each of.
     let bodies = sources_have bytes is.tokens tree xs is.lexed is.reads e in
-    by_pieces tree read xs halves plan (half_again bytes is.tokens tree User plan is.lexed is.reads) e bodies (plans_have bytes is.tokens User plan tree xs is.lexed is.reads e bodies few) each of r)
+    by_pieces tree read xs halves plan (half_again bytes is.tokens tree User plan is.lexed is.reads) e bodies (plans_have bytes is.tokens User plan tree xs is.lexed is.reads e few) each of r)
     is.right is.types each of

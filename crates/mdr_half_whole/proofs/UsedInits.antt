@@ -1,5 +1,5 @@
 -- Initialisers without faults use no name that gives nothing.
-use Rattle.std.proofs.Common.{◌≡◌, ℕ, ◌+◌, ◌||◌, Bool, true, false, List, [], ◌∷◌, map, Option, Some, None, refl, sym, ap, ◌∙◌, subst, slice_get}
+use Rattle.std.proofs.Common.{◌≡◌, ℕ, ◌+◌, Bool, true, false, List, [], ◌∷◌, map, Option, Some, None, refl, sym, ap, ◌∙◌, subst, slice_get}
 use Rattle.std.proofs.lemmas.Slice.Eq.{bytes_eq-Decides}
 use Rattle.std.specs.Str.{bytes_eq}
 use Rattle.mdr_core.specs.declared.place.Place.{Place}
@@ -22,16 +22,16 @@ use Rattle.mdr_faults.specs.declared.scope.Object.{Object}
 use Rattle.mdr_faults.specs.declared.scope.Scope.{Scope}
 use Rattle.mdr_faults.specs.declared.scope.Signature.{Signature}
 use Rattle.mdr_faults.specs.declared.scope.StructEntry.{StructEntry}
-use Rattle.mdr_faults.specs.Faults.{Checked, Right, after, again, demand, refuse}
-use Rattle.mdr_faults.specs.Scopes.{entity_among, entity_named}
+use Rattle.mdr_faults.specs.Faults.{Checked, Right, after, again}
+use Rattle.mdr_faults.specs.Scopes.{entity_named}
 use Rattle.mdr_headings.specs.Annotations.{annotated}
 use Rattle.mdr_headings.specs.Structs.{name_or_none}
-use Rattle.mdr_headings.specs.Within.{beside, within}
+use Rattle.mdr_headings.specs.Within.{within}
 use Rattle.mdr_check.specs.declared.initialiser.First.{First}
 use Rattle.mdr_check.specs.declared.initialiser.Placed.{Placed}
 use Rattle.mdr_check.specs.declared.variable.Variable.{Variable}
 use Rattle.mdr_check.specs.Globals.{behind_global, first_value, global, global_object, variable, variable_of}
-use Rattle.mdr_check.specs.Initialisers.{Part, address_named, appended, array_first, constant_first, element_of, elements_first, entity_first, function_first, handle_first, initial, initial_layer, is_aggregate, left_of, list_by, list_first, located_first, members_first, named_first, part, part_field, part_layer, part_number, placed_at, placed_part, placed_parts, single, sole, struct_by, struct_first, suits_array, suits_struct}
+use Rattle.mdr_check.specs.Initialisers.{Part, address_named, appended, array_first, constant_first, element_of, elements_first, entity_first, function_first, handle_first, initial, initial_layer, is_aggregate, list_by, list_first, located_first, members_first, named_first, part, part_field, part_layer, part_number, placed_at, placed_part, placed_parts, single, sole, struct_by, struct_first, suits_array, suits_struct}
 use Rattle.mdr_check.specs.Uses.{any_of, elem_names, elem_names_layer, init_names, init_names_layer, perhaps_names}
 use Rattle.mdr_sound_code.proofs.Rights.{after_right, again_right, both_right, chosen_right, demand_right, not_right, refused_right}
 use Rattle.mdr_sound_bodies.proofs.Scoping.{beside_right}

@@ -1,15 +1,12 @@
 -- Bodies without faults use no name that gives nothing.
-use Rattle.std.proofs.Common.{◌≡◌, ℕ, ◌+◌, ◌||◌, ◌&&◌, not, Bool, true, false, List, [], ◌∷◌, length, map, Option, Some, None, refl, sym, ap, ◌∙◌, subst}
+use Rattle.std.proofs.Common.{◌≡◌, ℕ, ◌+◌, ◌||◌, ◌&&◌, not, Bool, true, false, List, [], ◌∷◌, map, Option, Some, None, refl, sym, ap, ◌∙◌, subst}
 use Rattle.std.specs.Str.{bytes_eq}
 use Rattle.mdr_core.specs.declared.code.Expr.{Expr}
-use Rattle.mdr_core.specs.declared.code.Lval.{Lval}
 use Rattle.mdr_core.specs.declared.code.Step.{Step}
 use Rattle.mdr_core.specs.declared.code.Stmt.{Stmt}
 use Rattle.mdr_core.specs.declared.place.Place.{Place}
-use Rattle.mdr_core.specs.declared.types.Ty.{Ty}
 use Rattle.mdr_core.specs.Layout.{chosen}
 use Rattle.mdr_syntax.specs.declared.tree.Decl.{Decl, out-Decl}
-use Rattle.mdr_syntax.specs.declared.tree.Head.{Head}
 use Rattle.mdr_syntax.specs.declared.tree.Node.{Node}
 use Rattle.mdr_syntax.specs.declared.tree.NodeWhat.{NodeWhat}
 use Rattle.mdr_syntax.specs.declared.tree.NodeWhat.TheOpen.{NodeWhat-F}
@@ -19,13 +16,12 @@ use Rattle.mdr_faults.specs.declared.fault.FaultKind.TheVariants.{Mismatch}
 use Rattle.mdr_faults.specs.declared.scope.Object.{Object}
 use Rattle.mdr_faults.specs.declared.scope.Scope.{Scope}
 use Rattle.mdr_faults.specs.Declarations.{is_same_name, is_void}
-use Rattle.mdr_faults.specs.Faults.{Checked, Right, again, after, both, refuse, told}
+use Rattle.mdr_faults.specs.Faults.{Checked, Right, again, both, told}
 use Rattle.mdr_faults.specs.Scopes.{entity_named}
-use Rattle.mdr_headings.specs.declared.body.Body.{Body}
 use Rattle.mdr_headings.specs.Structs.{name_or_none}
 use Rattle.mdr_operand.specs.declared.room.LocalName.{LocalName}
 use Rattle.mdr_operand.specs.Rooms.{local_from, local_named}
-use Rattle.mdr_operand.specs.Written.{Written, Line, Lines, line_list, perhaps, node_what_written, clause_written, node_written, line_of, lines_of}
+use Rattle.mdr_operand.specs.Written.{Written, Line, Lines, line_list, node_what_written, clause_written, node_written, line_of, lines_of}
 use Rattle.mdr_express.specs.Expressions.{typed}
 use Rattle.mdr_call.specs.Services.{service_named}
 use Rattle.mdr_body.specs.declared.here.Frame.{Frame}
@@ -34,7 +30,7 @@ use Rattle.mdr_body.specs.declared.mention.Mention.TheVariants.{Use}
 use Rattle.mdr_body.specs.Bodies.{body_of, body_rule, declared_locals, frame_of}
 use Rattle.mdr_body.specs.Locals.{entered, first_here, is_own_object, is_taken, local_object, name_of, named_local, numbered, parameter_means, parameter_taken, parameters_from, with_local}
 use Rattle.mdr_body.specs.Mentions.{has, have, hides, is_declared_by, is_parameter, mentions, perhaps_mentions, uses}
-use Rattle.mdr_body.specs.Statements.{ForHead, appended, as_part, bare_return, behind_head, block_of, condition, declared_then, for_head, for_of, head_taken, heads_behind, heads_made, if_of, initial_by, initial_step, is_single, line_behind, line_made, lines_behind, lines_made, local_made, own_place, pair, perhaps_behind, perhaps_condition, perhaps_made, return_by, return_step, simple_behind, simple_made, single, some, stated, steps_behind, steps_made, tested, text_of, value_return, while_of}
+use Rattle.mdr_body.specs.Statements.{ForHead, appended, as_part, behind_head, block_of, condition, declared_then, for_head, for_of, head_taken, heads_behind, heads_made, if_of, initial_by, initial_step, is_single, line_behind, line_made, lines_behind, lines_made, local_made, own_place, pair, perhaps_condition, perhaps_made, return_by, return_step, simple_behind, simple_made, single, some, steps_behind, steps_made, tested, text_of, while_of}
 use Rattle.mdr_typing.specs.Profile.{assigned, called, profile_rules, returned, stored}
 use Rattle.mdr_sound_code.proofs.Rights.{after_right, both_right, chosen_right, not_right, refused_right}
 use Rattle.mdr_sound_bodies.specs.Written.{AreNamed, AreProper, AreStatements, IsNamed, IsProper, IsStatement}
