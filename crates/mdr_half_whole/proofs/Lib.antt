@@ -3,3 +3,8 @@ pub mod Same
 pub mod Among
 pub mod Tabled
 pub mod Together
+pub mod UsedForms
+pub mod UsedLines
+pub mod UsedInits
+pub mod UsedFiles
+pub mod Sourced

@@ -43,6 +43,7 @@ use Rattle.mdr_sound_sources.proofs.Itemising.{bytes_proper}
 use Rattle.mdr_sound_typing.proofs.Allocating.{profile_formed}
 use Rattle.mdr_sound.proofs.Sourced.{ranges_of}
 use Rattle.mdr_half_whole.specs.HalfTypes.{PlansHaveTheTypes}
+use Rattle.mdr_half_whole.proofs.Sourced.{sources_have}
 use Rattle.mdr_half_whole.proofs.Among.{types_occur_there}
 
 -- ---- a table that has a type at its number
@@ -125,7 +126,8 @@ plans_by half plan tree xs proper formed e bodies few types =
 
 -- ---- a source
 pub plans_have : PlansHaveTheTypes
-plans_have bytes tokens half plan tree xs lexed reads e bodies few types =
+plans_have bytes tokens half plan tree xs lexed reads e few types =
+    let bodies = sources_have bytes tokens tree xs lexed reads e in
     let proper = bytes_proper bytes false tokens tree lexed reads in
     let formed = types_of_files (program_of xs) profile_rules uses tree.items (typed_by tree.items xs e) (ranges_of tree.items proper) (profile_formed (program_of xs)) in
     plans_by half plan tree xs proper formed e bodies few types

@@ -25,6 +25,7 @@ use Rattle.mdr_half_read.proofs.Again.{read_again}
 use Rattle.mdr_sound_code.proofs.Rights.{after_right, same_right}
 use Rattle.mdr_texts.proofs.HalvesAgain.{half_again}
 use Rattle.mdr_half_whole.specs.Whole.{IsReadOf, TheUserTextGivesItsPart}
+use Rattle.mdr_half_whole.proofs.Sourced.{sources_have}
 use Rattle.mdr_half_whole.proofs.Tabled.{plans_have}
 
 by_pieces : (tree read : Tree) (xs : List Piece) (halves : Halves) (plan : Plan) → IsPrintedAsSource true (user_tree plan tree) → file_pieces (body_rule profile_rules) uses tree.items ≡ Right xs → HaveBodies (program_of xs).funcs
@@ -42,6 +43,8 @@ with_pieces tree program w h e =
 -- ---- a source
 pub user_text_gives : TheUserTextGivesItsPart
 user_text_gives bytes tree read program halves plan is each of r =
-    with_pieces tree program (λ (p : Program). length p.types ≤ 4294967296 → HaveBodies p.funcs → HasEach p halves → IsPlan p halves plan → ComesToPart User plan read p)
-    (λ xs e few bodies each of. by_pieces tree read xs halves plan (half_again bytes is.tokens tree User plan is.lexed is.reads) e bodies (plans_have bytes is.tokens User plan tree xs is.lexed is.reads e bodies few) each of r)
-    is.right is.types is.bodies each of
+    with_pieces tree program (λ (p : Program). length p.types ≤ 4294967296 → HasEach p halves → IsPlan p halves plan → ComesToPart User plan read p)
+    (λ xs e few each of.
+    let bodies = sources_have bytes is.tokens tree xs is.lexed is.reads e in
+    by_pieces tree read xs halves plan (half_again bytes is.tokens tree User plan is.lexed is.reads) e bodies (plans_have bytes is.tokens User plan tree xs is.lexed is.reads e few) each of r)
+    is.right is.types each of

@@ -31,5 +31,5 @@ TypesOfHalvesOccur = (body : BodyRule) (uses : UseRule) (half : Half) (plan : Pl
 -- a plan with the type table of the whole program has each
 abbrev pub PlansHaveTheTypes : Type 0
 PlansHaveTheTypes = (bytes : List ℕ) (tokens : List Token) (half : Half) (plan : Plan) (tree : Tree) (xs : List Piece)
-    → tokens_of bytes ≡ Ok tokens → Reads false tokens tree → file_pieces (body_rule profile_rules) uses tree.items ≡ Right xs → HaveBodies (program_of xs).funcs
+    → tokens_of bytes ≡ Ok tokens → Reads false tokens tree → file_pieces (body_rule profile_rules) uses tree.items ≡ Right xs
     → length (program_of xs).types ≤ 4294967296 → plan.types ≡ (program_of xs).types → HasTypes plan (parts_of (map (piece_in half plan) xs))

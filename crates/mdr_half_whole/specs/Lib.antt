@@ -1,4 +1,6 @@
 pub mod Defined
+pub mod Usable
+pub mod Sourced
 pub mod SameTypes
 pub mod HalfTypes
 pub mod Whole

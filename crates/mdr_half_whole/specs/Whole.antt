@@ -15,17 +15,15 @@ use Rattle.mdr_body.specs.Mentions.{uses}
 use Rattle.mdr_typing.specs.Profile.{profile_rules}
 use Rattle.mdr_program.specs.Programs.{typed}
 use Rattle.mdr_half.specs.Halves.{user_text}
-use Rattle.mdr_half_pieces.specs.Bodies.{HaveBodies}
 use Rattle.mdr_half_read.specs.Reading.{ComesToPart}
 
--- the bytes are a source in which no fault is found, and these are its tree and its program, in which each function has a body
+-- the bytes are a source in which no fault is found, and these are its tree and its program
 pub record IsWhole (bytes : List ℕ) (tree : Tree) (program : Program) : Type 0 where
   pub tokens : List Token
   pub lexed : tokens_of bytes ≡ Ok tokens
   pub reads : Reads false tokens tree
   pub right : typed (body_rule profile_rules) uses tree.items ≡ Right program
   pub types : length program.types ≤ 4294967296
-  pub bodies : HaveBodies program.funcs
 
 -- the tree is read of the text that is printed of the user half
 pub record IsReadOf (plan : Plan) (tree read : Tree) : Type 0 where

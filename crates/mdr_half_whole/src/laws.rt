@@ -3,6 +3,8 @@
 ghost use Rattle.mdr_half_whole.specs.Defined.{DefinedFunctionsHaveBodies};
 ghost use Rattle.mdr_half_whole.specs.HalfTypes.{PlansHaveTheTypes, TypesOfHalvesOccur};
 ghost use Rattle.mdr_half_whole.specs.SameTypes.{FunctionsKeepTheirTypes};
+ghost use Rattle.mdr_half_whole.specs.Sourced.{SourcesHaveBodies};
+ghost use Rattle.mdr_half_whole.specs.Usable.{BodiesUseWhatIsDefined};
 ghost use Rattle.mdr_half_whole.specs.Whole.{TheUserTextGivesItsPart};
 
 /// Where each function of a source's program has a body among the items, it has it in the program.
@@ -27,7 +29,17 @@ pub fn plans_have_the_types()
 {}
 
 /// The text that is printed of the user half of a source, read, comes with the source's plan to the user half's part of
-/// the source's program, where each function of the program has a body.
+/// the source's program.
 pub fn the_user_text_gives_its_part()
     ensures { TheUserTextGivesItsPart }
+{}
+
+/// A body without faults uses no function that the file doesn't define, and nothing that isn't declared.
+pub fn bodies_use_what_is_defined()
+    ensures { BodiesUseWhatIsDefined }
+{}
+
+/// Each function of the program of a source without faults has its body.
+pub fn sources_have_bodies()
+    ensures { SourcesHaveBodies }
 {}

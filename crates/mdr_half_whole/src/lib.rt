@@ -2,13 +2,14 @@
 //! runs.
 //!
 //! Proved: the functions of a source without faults have the same types in the text of each half, so each type that
-//! occurs there is in the type table of the source's plan; and the text that is printed of the user half, read with the
-//! source's plan, comes to the user half's part of the source's program, where each function of the program has a body.
+//! occurs there is in the type table of the source's plan; a body without faults uses no function that the file doesn't
+//! define, so each function of a source's program has its body; and the text that is printed of the user half, read with
+//! the source's plan, comes to the user half's part of the source's program.
 #![tactic(auto)]
 
 mod laws;
 
 pub use laws::{
-    defined_functions_have_bodies, functions_keep_their_types, plans_have_the_types,
-    the_user_text_gives_its_part, types_of_halves_occur,
+    bodies_use_what_is_defined, defined_functions_have_bodies, functions_keep_their_types,
+    plans_have_the_types, sources_have_bodies, the_user_text_gives_its_part, types_of_halves_occur,
 };

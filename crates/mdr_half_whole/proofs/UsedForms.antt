@@ -1,0 +1,274 @@
+-- Forms without faults use no name that gives nothing.
+use Rattle.std.proofs.Common.{◌≡◌, ℕ, ◌||◌, Bool, true, false, List, ◌∷◌, Option, Some, None, refl, sym, ap, ◌∙◌, subst}
+use Rattle.std.proofs.lemmas.Slice.Eq.{bytes_eq-Decides}
+use Rattle.std.specs.Str.{bytes_eq}
+use Rattle.mdr_core.specs.declared.code.Lval.{Lval}
+use Rattle.mdr_core.specs.declared.code.Step.{Step}
+use Rattle.mdr_core.specs.declared.place.Place.{Place}
+use Rattle.mdr_core.specs.declared.types.Ty.{Ty}
+use Rattle.mdr_core.specs.Layout.{chosen}
+use Rattle.mdr_syntax.specs.declared.tree.Base.{Base}
+use Rattle.mdr_faults.specs.declared.fault.FaultKind.TheVariants.{Incomplete}
+use Rattle.mdr_faults.specs.declared.scope.Entity.{Entity}
+use Rattle.mdr_faults.specs.declared.scope.Entity.TheVariants as entity
+use Rattle.mdr_faults.specs.declared.scope.Named.{Named}
+use Rattle.mdr_faults.specs.declared.scope.Scope.{Scope}
+use Rattle.mdr_faults.specs.Declarations.{type_named}
+use Rattle.mdr_faults.specs.Faults.{Checked, Right, again, after}
+use Rattle.mdr_faults.specs.Scopes.{entity_named}
+use Rattle.mdr_operand.specs.declared.operand.Operand.{Operand}
+use Rattle.mdr_operand.specs.declared.operand.Operand.TheVariants as operand
+use Rattle.mdr_operand.specs.declared.operator.PrefixOperator.{PrefixOperator}
+use Rattle.mdr_operand.specs.declared.room.LocalName.{LocalName}
+use Rattle.mdr_operand.specs.Converting.{cast_rule, cast_to}
+use Rattle.mdr_operand.specs.Forms.{prefix_by, prefix_rule}
+use Rattle.mdr_operand.specs.Rooms.{local_named}
+use Rattle.mdr_operand.specs.Signs.{assignment_operator, binary_operator, prefix_operator}
+use Rattle.mdr_operand.specs.Written.{Written, Writtens}
+use Rattle.mdr_binary.specs.Binaries.{binary_by, binary_rule}
+use Rattle.mdr_postfix.specs.Members.{member_of, member_rule}
+use Rattle.mdr_postfix.specs.Names.{entity_operand, file_name, function_operand, local_or, name_rule}
+use Rattle.mdr_postfix.specs.Subscripts.{subscript_of, subscript_rule}
+use Rattle.mdr_express.specs.Expressions.{signed_rule, typed}
+use Rattle.mdr_call.specs.declared.parts.Argument.{Argument}
+use Rattle.mdr_call.specs.declared.parts.Argument.TheVariants as argument
+use Rattle.mdr_call.specs.declared.parts.Target.{Target}
+use Rattle.mdr_call.specs.declared.parts.Target.TheVariants as target
+use Rattle.mdr_call.specs.declared.parts.TypedCall.{TypedCall}
+use Rattle.mdr_call.specs.declared.service.Service.{Service}
+use Rattle.mdr_call.specs.Calls.{argument_of, arguments_of, call_by, call_rule, callee_behind, is_star, named_target, starred_callee, target_of}
+use Rattle.mdr_call.specs.Services.{service_named}
+use Rattle.mdr_assign.specs.Assignments.{step_operator, step_rule, stepped_at}
+use Rattle.mdr_body.specs.declared.mention.Mention.TheVariants.{Use}
+use Rattle.mdr_body.specs.Mentions.{any_mentions, mentions}
+use Rattle.mdr_typing.specs.declared.source.Source.{Source}
+use Rattle.mdr_typing.specs.Calling.{call_at}
+use Rattle.mdr_typing.specs.Profile.{assigned, called, calling, returned, stepped, stored}
+use Rattle.mdr_typing.specs.Sources.{assigning, call_source, source_assigned, source_of, source_returned, source_stored, value_source}
+use Rattle.mdr_sound_code.proofs.Rights.{after_right, again_right, both_right, chosen_right, not_right}
+use Rattle.mdr_half_whole.specs.Usable.{GivesNothing, IsUndefined, IsUseless}
+
+pub neither : (a b : Bool) → a ≡ false → b ≡ false → (a || b) ≡ false
+neither a b e f = ap (λ t. t || b) e ∙ f
+
+pub clash : {C : Type 0} (b : Bool) → b ≡ true → b ≡ false → C
+clash true e f = absurd cc
+clash false e f = absurd cc
+
+-- ---- names
+
+function_refused : {C : Type 0} (p : Place) (n : Entity) (x : Operand) → IsUndefined n → entity_operand p n ≡ Right x → C
+unfolding entity_operand function_operand
+function_refused p (entity.Constant c) x d e = absurd d
+function_refused p (entity.Global g o) x d e = absurd d
+function_refused p (entity.Function f) x d e = clash f.is_defined (chosen_right f.is_defined (Right (operand.Function f.number (f.result ∷ f.params))) p Incomplete x e).holds d
+
+file_refused : {C : Type 0} (p : Place) (o : Option Named) (x : Operand) → GivesNothing o → file_name p o ≡ Right x → C
+unfolding file_name
+file_refused p None x g e = not_right _ x e
+file_refused p (Some entry) x g e =
+    let a = after_right (again entry.means) (entity_operand p) x e in
+    function_refused p a.value x (subst IsUseless (again_right entry.means a.value a.right) g) a.made
+
+-- ---- rules of one part
+
+-- what a rule is given comes to something
+record Comes {A : Type 0} (c : Checked A) : Type 0 where
+  value : A
+  right : c ≡ Right value
+
+prefix_comes : (p : Place) (op : Option PrefixOperator) (c : Checked Operand) (x : Operand) → prefix_rule p op c ≡ Right x → Comes c
+unfolding prefix_rule
+prefix_comes p op c x e = let a = after_right c (prefix_by p op) x e in record { value = a.value; right = a.right }
+
+callee_comes : (p : Place) (op : Option PrefixOperator) (c : Checked Operand) (x : Operand) → callee_behind p op c ≡ Right x → Comes c
+unfolding callee_behind
+callee_comes p op c x e = by (is_star op) e
+  where
+    by : (t : Bool) → chosen t (after c (starred_callee p)) (prefix_rule p op c) ≡ Right x → Comes c
+    by true f = let a = after_right c (starred_callee p) x f in record { value = a.value; right = a.right }
+    by false f = prefix_comes p op c x f
+
+module _ (scope : Scope) (name : List ℕ) (gives : GivesNothing (entity_named scope name)) (plain : service_named name ≡ None) where
+  cast_comes : (p : Place) (b : Base) (n : ℕ) (c : Checked Operand) (x : Operand) → cast_rule scope p b n c ≡ Right x → Comes c
+  unfolding cast_rule
+  cast_comes p b n c x e = let a = both_right (type_named scope b n) c (cast_to p) x e in record { value = a.right; right = a.second }
+
+  member_comes : (p at : Place) (is_arrow : Bool) (other : List ℕ) (c : Checked Operand) (x : Operand) → member_rule scope p at is_arrow other c ≡ Right x → Comes c
+  unfolding member_rule
+  member_comes p at is_arrow other c x e = let a = after_right c (member_of scope p at is_arrow other) x e in record { value = a.value; right = a.right }
+
+  binary_first : (p : Place) (sign : List ℕ) (a b : Checked Operand) (x : Operand) → signed_rule scope p sign a b ≡ Right x → Comes a
+  unfolding signed_rule binary_rule
+  binary_first p sign a b x e = let c = both_right a b (binary_by scope p (binary_operator sign)) x e in record { value = c.left; right = c.first }
+
+  binary_second : (p : Place) (sign : List ℕ) (a b : Checked Operand) (x : Operand) → signed_rule scope p sign a b ≡ Right x → Comes b
+  unfolding signed_rule binary_rule
+  binary_second p sign a b x e = let c = both_right a b (binary_by scope p (binary_operator sign)) x e in record { value = c.right; right = c.second }
+
+  array_comes : (p : Place) (a b : Checked Operand) (x : Operand) → subscript_rule scope p a b ≡ Right x → Comes a
+  unfolding subscript_rule
+  array_comes p a b x e = let c = both_right a b (subscript_of scope p) x e in record { value = c.left; right = c.first }
+
+  index_comes : (p : Place) (a b : Checked Operand) (x : Operand) → subscript_rule scope p a b ≡ Right x → Comes b
+  unfolding subscript_rule
+  index_comes p a b x e = let c = both_right a b (subscript_of scope p) x e in record { value = c.right; right = c.second }
+
+  step_comes : (p : Place) (op : List ℕ) (c : Checked Operand) (s : Step) → after (step_rule scope p (step_operator op) c) assigning ≡ Right s → Comes c
+  unfolding step_rule
+  step_comes p op c s e =
+      let a = after_right (step_rule scope p (step_operator op) c) assigning s e in
+      let b = after_right c (stepped_at scope p (step_operator op)) a.value a.right in
+      record { value = b.value; right = b.right }
+
+  -- ---- where no local has the name
+
+  module _ (names : List LocalName) (free : local_named names name ≡ None) where
+    name_free : (p : Place) (other : List ℕ) (x : Operand) → name_rule scope names p other ≡ Right x → bytes_eq other name ≡ false
+    unfolding name_rule
+    name_free p other x e = by (bytes_eq other name) refl
+      where
+        by : (t : Bool) → bytes_eq other name ≡ t → t ≡ false
+        by false q = refl
+        by true q =
+            let here = subst (λ n. local_or (local_named names n) (file_name p (entity_named scope n)) ≡ Right x) ((bytes_eq-Decides other name).0 q) e in
+            file_refused p (entity_named scope name) x gives (sym (ap (λ o. local_or o (file_name p (entity_named scope name))) free) ∙ here)
+
+    pub typed_free : (w : Written) (x : Operand) → typed scope names w ≡ Right x → mentions Use name w ≡ false
+    typed_free (Written.Number p n k) x e = refl
+    typed_free (Written.Null p) x e = refl
+    typed_free (Written.Name p other) x e = name_free p other x e
+    typed_free (Written.Prefix p op a) x e = let c = prefix_comes p (prefix_operator op) (typed scope names a) x e in typed_free a c.value c.right
+    typed_free (Written.Post p op a) x e = not_right _ x e
+    typed_free (Written.Cast p b n a) x e = let c = cast_comes p b n (typed scope names a) x e in typed_free a c.value c.right
+    typed_free (Written.Binary p op a b) x e =
+        let c = binary_first p op (typed scope names a) (typed scope names b) x e in
+        let d = binary_second p op (typed scope names a) (typed scope names b) x e in
+        neither (mentions Use name a) (mentions Use name b) (typed_free a c.value c.right) (typed_free b d.value d.right)
+    typed_free (Written.Choice p c a b) x e = not_right _ x e
+    typed_free (Written.Subscript p a i) x e =
+        let c = array_comes p (typed scope names a) (typed scope names i) x e in
+        let d = index_comes p (typed scope names a) (typed scope names i) x e in
+        neither (mentions Use name a) (mentions Use name i) (typed_free a c.value c.right) (typed_free i d.value d.right)
+    typed_free (Written.Member p a is_arrow at other) x e = let c = member_comes p at is_arrow other (typed scope names a) x e in typed_free a c.value c.right
+    typed_free (Written.Call p f args) x e = not_right _ x e
+    typed_free (Written.Text p bytes) x e = refl
+    typed_free (Written.Names p b n) x e = refl
+
+    -- ---- calls
+
+    callee_free : (w : Written) (t : Target) → after (typed scope names w) (λ x. Right (target.Callee x)) ≡ Right t → mentions Use name w ≡ false
+    callee_free w t e = let a = after_right (typed scope names w) (λ x. Right (target.Callee x)) t e in typed_free w a.value a.right
+
+    named_free : (p : Place) (other : List ℕ) (t : Target) (o : Option Service) → service_named other ≡ o → named_target o (typed scope names (Written.Name p other)) ≡ Right t → bytes_eq other name ≡ false
+    named_free p other t None q e = callee_free (Written.Name p other) t e
+    named_free p other t (Some s) q e = by (bytes_eq other name) refl
+      where
+        by : (b : Bool) → bytes_eq other name ≡ b → b ≡ false
+        by false k = refl
+        by true k =
+            let none : Some s ≡ None = sym q ∙ ap service_named ((bytes_eq-Decides other name).0 k) ∙ plain in
+            absurd cc
+
+    target_free : (w : Written) (t : Target) → target_of (typed scope names) w ≡ Right t → mentions Use name w ≡ false
+    target_free (Written.Number p n k) t e = refl
+    target_free (Written.Null p) t e = refl
+    target_free (Written.Name p other) t e = named_free p other t (service_named other) refl e
+    target_free (Written.Prefix p op a) t e =
+        let b = after_right (callee_behind p (prefix_operator op) (typed scope names a)) (λ x. Right (target.Callee x)) t e in
+        let c = callee_comes p (prefix_operator op) (typed scope names a) b.value b.right in
+        typed_free a c.value c.right
+    target_free (Written.Post p op a) t e = callee_free (Written.Post p op a) t e
+    target_free (Written.Cast p b n a) t e = callee_free (Written.Cast p b n a) t e
+    target_free (Written.Binary p op a b) t e = callee_free (Written.Binary p op a b) t e
+    target_free (Written.Choice p c a b) t e = callee_free (Written.Choice p c a b) t e
+    target_free (Written.Subscript p a i) t e = callee_free (Written.Subscript p a i) t e
+    target_free (Written.Member p a is_arrow at other) t e = callee_free (Written.Member p a is_arrow at other) t e
+    target_free (Written.Call p f args) t e = callee_free (Written.Call p f args) t e
+    target_free (Written.Text p bytes) t e = refl
+    target_free (Written.Names p b n) t e = refl
+
+    value_free : (w : Written) (y : Argument) → after (typed scope names w) (λ x. Right (argument.Value x)) ≡ Right y → mentions Use name w ≡ false
+    value_free w y e = let a = after_right (typed scope names w) (λ x. Right (argument.Value x)) y e in typed_free w a.value a.right
+
+    argument_free : (w : Written) (y : Argument) → argument_of (typed scope names) scope w ≡ Right y → mentions Use name w ≡ false
+    argument_free (Written.Number p n k) y e = refl
+    argument_free (Written.Null p) y e = refl
+    argument_free (Written.Name p other) y e = value_free (Written.Name p other) y e
+    argument_free (Written.Prefix p op a) y e = value_free (Written.Prefix p op a) y e
+    argument_free (Written.Post p op a) y e = value_free (Written.Post p op a) y e
+    argument_free (Written.Cast p b n a) y e = value_free (Written.Cast p b n a) y e
+    argument_free (Written.Binary p op a b) y e = value_free (Written.Binary p op a b) y e
+    argument_free (Written.Choice p c a b) y e = value_free (Written.Choice p c a b) y e
+    argument_free (Written.Subscript p a i) y e = value_free (Written.Subscript p a i) y e
+    argument_free (Written.Member p a is_arrow at other) y e = value_free (Written.Member p a is_arrow at other) y e
+    argument_free (Written.Call p f args) y e = value_free (Written.Call p f args) y e
+    argument_free (Written.Text p bytes) y e = refl
+    argument_free (Written.Names p b n) y e = refl
+
+    arguments_free : (ws : Writtens) (ys : List Argument) → arguments_of (typed scope names) scope ws ≡ Right ys → any_mentions Use name ws ≡ false
+    arguments_free Writtens.End ys e = refl
+    arguments_free (Writtens.Then w ws) ys e =
+        let b = both_right (argument_of (typed scope names) scope w) (arguments_of (typed scope names) scope ws) (λ x xs. Right (x ∷ xs)) ys e in
+        neither (mentions Use name w) (any_mentions Use name ws) (argument_free w b.left b.first) (arguments_free ws b.right b.second)
+
+    call_free : (p : Place) (f : Written) (args : Writtens) (c : TypedCall) → call_at scope names p f args ≡ Right c → (mentions Use name f || any_mentions Use name args) ≡ false
+    unfolding call_at call_rule
+    call_free p f args c e =
+        let b = both_right (target_of (typed scope names) f) (arguments_of (typed scope names) scope args) (λ t args. call_by scope p args t) c e in
+        neither (mentions Use name f) (any_mentions Use name args) (target_free f b.left b.first) (arguments_free args b.right b.second)
+
+    -- ---- what stands behind `=` and `return`
+
+    typed_source : (w : Written) (s : Source) → after (typed scope names w) value_source ≡ Right s → mentions Use name w ≡ false
+    typed_source w s e = let a = after_right (typed scope names w) value_source s e in typed_free w a.value a.right
+
+    source_free : (w : Written) (s : Source) → source_of scope names w ≡ Right s → mentions Use name w ≡ false
+    source_free (Written.Number p n k) s e = refl
+    source_free (Written.Null p) s e = refl
+    source_free (Written.Name p other) s e = typed_source (Written.Name p other) s e
+    source_free (Written.Prefix p op a) s e = typed_source (Written.Prefix p op a) s e
+    source_free (Written.Post p op a) s e = typed_source (Written.Post p op a) s e
+    source_free (Written.Cast p b n a) s e = typed_source (Written.Cast p b n a) s e
+    source_free (Written.Binary p op a b) s e = typed_source (Written.Binary p op a b) s e
+    source_free (Written.Choice p c a b) s e = typed_source (Written.Choice p c a b) s e
+    source_free (Written.Subscript p a i) s e = typed_source (Written.Subscript p a i) s e
+    source_free (Written.Member p a is_arrow at other) s e = typed_source (Written.Member p a is_arrow at other) s e
+    source_free (Written.Call p f args) s e = let a = after_right (call_at scope names p f args) (call_source p) s e in call_free p f args a.value a.right
+    source_free (Written.Text p bytes) s e = refl
+    source_free (Written.Names p b n) s e = refl
+
+    -- ---- steps
+
+    pub assigned_free : (p : Place) (op : List ℕ) (a b : Written) (s : Step) → assigned scope names p op a b ≡ Right s → (mentions Use name a || mentions Use name b) ≡ false
+    unfolding assigned
+    assigned_free p op a b s e =
+        let c = both_right (typed scope names a) (source_of scope names b) (source_assigned scope p (assignment_operator op)) s e in
+        neither (mentions Use name a) (mentions Use name b) (typed_free a c.left c.first) (source_free b c.right c.second)
+
+    pub stored_free : (p : Place) (l : Lval) (t : Ty) (w : Written) (s : Step) → stored scope names p l t w ≡ Right s → mentions Use name w ≡ false
+    unfolding stored
+    stored_free p l t w s e = let a = after_right (source_of scope names w) (source_stored p l t) s e in source_free w a.value a.right
+
+    pub returned_free : (p : Place) (t : Ty) (w : Written) (s : Step) → returned scope names p t w ≡ Right s → mentions Use name w ≡ false
+    unfolding returned
+    returned_free p t w s e = let a = after_right (source_of scope names w) (source_returned p t) s e in source_free w a.value a.right
+
+    stepped_free : (p : Place) (op : List ℕ) (w : Written) (s : Step) → stepped scope names p op w ≡ Right s → mentions Use name w ≡ false
+    unfolding stepped
+    stepped_free p op w s e = let c = step_comes p op (typed scope names w) s e in typed_free w c.value c.right
+
+    pub called_free : (w : Written) (s : Step) → called scope names w ≡ Right s → mentions Use name w ≡ false
+    called_free (Written.Number p n k) s e = refl
+    called_free (Written.Null p) s e = refl
+    called_free (Written.Name p other) s e = not_right _ s e
+    called_free (Written.Prefix p op a) s e = stepped_free p op a s e
+    called_free (Written.Post p op a) s e = stepped_free p op a s e
+    called_free (Written.Cast p b n a) s e = not_right _ s e
+    called_free (Written.Binary p op a b) s e = not_right _ s e
+    called_free (Written.Choice p c a b) s e = not_right _ s e
+    called_free (Written.Subscript p a i) s e = not_right _ s e
+    called_free (Written.Member p a is_arrow at other) s e = not_right _ s e
+    called_free (Written.Call p f args) s e = let a = after_right (call_at scope names p f args) calling s e in call_free p f args a.value a.right
+    called_free (Written.Text p bytes) s e = refl
+    called_free (Written.Names p b n) s e = refl
