@@ -38,7 +38,7 @@ use Rattle.mdr_meaning.specs.Expressions.{given, place, slot_of, value, values}
 use Rattle.mdr_meaning.specs.Fair.{AllFit, AreBirths, AreBorn, AreKnown, Begins, Fair, IsAsk, IsPlace, IsServed, Leaves, TakesArgs, TakesShape, after, is_first_type, stands}
 use Rattle.mdr_meaning.specs.FairTrees.{IsSideOf, SidesAreOfPrograms, TreesAreFair}
 use Rattle.mdr_meaning.specs.Fit.{Knowledge, Grows, KnowsGlobals, IsInteger, IsDataPointer, PointsTo, Fits, FitsLayer, IsFunction, IsResult}
-use Rattle.mdr_meaning.specs.Lives.{asked_for, births, births_by, closes, deaths, deaths_by, ends, fills, in_block, object_params, param_shapes, returned, shape_of, with_object}
+use Rattle.mdr_meaning.specs.Lives.{after_deaths, asked_for, births, births_by, closes, deaths, deaths_by, ends, fills, in_block, object_params, param_shapes, returned, shape_of, with_object}
 use Rattle.mdr_meaning.specs.Named.{named_type, slot_type}
 use Rattle.mdr_meaning.specs.Sides.{Body, Side, Here, Locals, Flow, Ends, Breaks, Continues, Returns as Gave, Next, Go, Means, flow_of, framed, in_here}
 use Rattle.mdr_meaning.specs.Slots.{SlotsFit}
@@ -48,7 +48,7 @@ use Rattle.mdr_meaning.specs.Values.{first_of, is_true, natural, natural_of, res
 use Rattle.mdr_meaning.specs.Within.{CalleeWithin, CodeWithin, CodesWithin, FormWithin, GoalWithin, LvalueWithin, OptionWithin, TermWithin, TermsWithin, Uses, called_type}
 use Rattle.mdr_meaning.proofs.ExpressionLaws.{Gives, given_fair, named_slot, place_fair, value_fair}
 use Rattle.mdr_meaning.proofs.FitLaws.{literal_fits, of_integer, of_pointer, to_integer, to_pointer}
-use Rattle.mdr_meaning.proofs.GrowthLaws.{all_grow, are_grow, data_known, fits_result, globals_grow, grows_on, grows_same, known_append, result_grows}
+use Rattle.mdr_meaning.proofs.GrowthLaws.{all_grow, are_grow, data_known, fits_result, globals_grow, grows_on, grows_same, known_append, result_grows, result_outlives}
 use Rattle.mdr_meaning.proofs.NumberLaws.{left_of, numbered_in}
 use Rattle.mdr_meaning.proofs.PlacedLaws.{IsHere, Inside, InsideCode, first_inside, only_inside, own_first, rest_inside}
 use Rattle.mdr_meaning.proofs.PointerLaws.{at_index_fits}
@@ -275,8 +275,9 @@ module _ (program : Program) (sound : IsSound program) (own : ℕ → Option Bod
 
   closes_fair : (here : Here) → IsPlace side (in_here here 0) → (K : Knowledge) (base : List Wire) (k : Wire → Tree) → ValueFair K base here.result k → NextFair K here base (closes side here k)
   closes_fair here w K base k h = record {
-    by = λ K' g live flow l st f. deaths_fair here w K' live base l.born st.lives st.born (k (returned flow))
-        (λ K2 g2. h.by K2 (grows_on K K' K2 g g2) (returned flow) (result_grows program K' K2 g2 here.result (returned flow) (returned_fits K' here.result flow f)));
+    by = λ K' g live flow l st f. deaths_fair here w K' live base l.born st.lives st.born (k (after_deaths l.born (returned flow)))
+        (λ K2 g2. h.by K2 (grows_on K K' K2 g g2) (after_deaths l.born (returned flow))
+        (result_grows program K' K2 g2 here.result (after_deaths l.born (returned flow)) (result_outlives program K' here.result l.born (returned flow) (returned_fits K' here.result flow f))));
   }
 
   jumps : (K : Knowledge) (t : Ty) (way : Way) → FlowFits K t (flow_of way)

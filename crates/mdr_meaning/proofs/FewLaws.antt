@@ -19,7 +19,7 @@ use Rattle.mdr_meaning.specs.Bodies.{means, started}
 use Rattle.mdr_meaning.specs.Calls.{put, stores, received, keep, function_of, enters, goes_to, deep, direct, through, call_by}
 use Rattle.mdr_meaning.specs.Expressions.{given, gives, loads, place, read, slot_of, value, values}
 use Rattle.mdr_meaning.specs.Few.{Few, few_done, few_stop, few_tick, few_load, few_store, few_read, few_fresh, few_birth, few_death, few_ask, few_cross, QuestionsAreFew}
-use Rattle.mdr_meaning.specs.Lives.{asked_for, births, births_by, closes, deaths, deaths_by, ends, fills, in_block, object_params, param_shapes, returned, shape_of, with_object}
+use Rattle.mdr_meaning.specs.Lives.{after_deaths, asked_for, births, births_by, closes, deaths, deaths_by, ends, fills, in_block, object_params, param_shapes, returned, shape_of, with_object}
 use Rattle.mdr_meaning.specs.Named.{named_type}
 use Rattle.mdr_meaning.specs.Numbers.{Numbered}
 use Rattle.mdr_meaning.specs.Pointers.{cast, difference, global, member, moved, related, steps}
@@ -253,7 +253,7 @@ module _ (side : Side) where
   block_few here a = record { by = λ d c l k m h. a.by (d + owed l.born) c (record { slots = l.slots; born = [] }) (ends side here l.born k) (omega (arith, m)) (ends_few here l.born h) }
 
   closes_few : (d : ℕ) (here : Here) (k : Wire → Tree) → AfterFew d k → NextFew d (closes side here k)
-  closes_few d here k h = record { by = λ c flow l m. deaths_few c d here l.born (k (returned flow)) m (λ p n. h.by p (returned flow) n) }
+  closes_few d here k h = record { by = λ c flow l m. deaths_few c d here l.born (k (after_deaths l.born (returned flow))) m (λ p n. h.by p (after_deaths l.born (returned flow)) n) }
 
   fills_few : (c : ℕ) (at : At) (is : List ℕ) (ps : List Wire) (l : Locals) (go : Locals → Tree) → ((l : Locals) → Few c (go l)) → Few c (fills at is ps l go)
   fills_few c at [] ps l go h = h l

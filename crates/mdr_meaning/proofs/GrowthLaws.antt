@@ -1,14 +1,17 @@
 -- What is known stays known as knowledge grows, and values that fit are known.
 use Rattle.std.proofs.Common.{◌≡◌, ℕ, Bool, true, false, List, [], ◌∷◌, ◌++◌, Some, slice_get, refl, sym, ap, ◌∙◌, subst}
+use Rattle.std.specs.List.{list_any}
 use Rattle.mdr_core.specs.Kinds.{is_in_range}
 use Rattle.mdr_core.specs.declared.types.Ty.{Ty, out-Ty}
 use Rattle.mdr_core.specs.declared.types.Ty.TheOpen.{Ty-F}
 use Rattle.mdr_core.specs.declared.program.Program.{Program}
+use Rattle.mdr_core.specs.Layout.{chosen}
 use Rattle.mdr_meaning.specs.declared.wire.Wire.{Wire}
 use Rattle.mdr_meaning.specs.declared.wire.Wire.TheVariants as wire
 use Rattle.mdr_meaning.specs.declared.wire.WireView.{WireView}
 use Rattle.mdr_meaning.specs.Fair.{AllFit, AreKnown, IsKnown}
 use Rattle.mdr_meaning.specs.Fit.{Knowledge, Grows, KnowsGlobals, IsDataPointer, IsKnownView, Fits, FitsLayer, IsResult, IsFunction}
+use Rattle.mdr_meaning.specs.Lives.{after_deaths, is_into}
 use Rattle.mdr_meaning.specs.Within.{Uses}
 use Rattle.mdr_meaning.specs.Slots.{slot_fits}
 
@@ -72,6 +75,19 @@ module _ (program : Program) (K : Knowledge) where
   pub fits_result : (t : Ty) (v : Wire) → Fits program K t v → IsResult program K t v
   fits_result t wire.NoValue h = tt
   fits_result t v h = h
+
+  -- where a pointer fits, a dead one does
+  dead_fits : (l : Ty-F Ty) (p : WireView) → FitsLayer program K l (wire.Ptr p) → FitsLayer program K l wire.Dead
+  dead_fits (Ty-F.Ptr t) p h = tt
+  dead_fits Ty-F.VoidPtr p h = tt
+  dead_fits l p h = elim h [ ]
+
+  pub result_outlives : (t : Ty) (ps : List Wire) (v : Wire) → IsResult program K t v → IsResult program K t (after_deaths ps v)
+  result_outlives t ps (wire.Ptr p) h = by (list_any (is_into p.serial) ps) where
+    by : (dies : Bool) → IsResult program K t (chosen dies wire.Dead (wire.Ptr p))
+    by true = dead_fits (out-Ty t) p h
+    by false = h
+  result_outlives t ps v h = h
 
   pub data_weaker : (P Q : ℕ → Type 0) (v : Wire) → ((n : ℕ) → P n → Q n) → IsDataPointer program K P v → IsDataPointer program K Q v
   data_weaker P Q (wire.Ptr p) w h = (w p.ty h.0, h.1)

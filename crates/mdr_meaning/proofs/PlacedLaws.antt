@@ -21,7 +21,7 @@ use Rattle.mdr_meaning.specs.Calls.{put, stores, received, keep, function_of, en
 use Rattle.mdr_meaning.specs.Expressions.{given, gives, loads, place, read, slot_of, value, values}
 use Rattle.mdr_meaning.specs.Fair.{IsPlace, is_code_stop, stands, stands_in}
 use Rattle.mdr_meaning.specs.Placed.{Placed, TreesArePlaced}
-use Rattle.mdr_meaning.specs.Lives.{births, births_by, closes, deaths, deaths_by, ends, fills, in_block, object_params, param_shapes, returned, shape_of, with_object}
+use Rattle.mdr_meaning.specs.Lives.{after_deaths, births, births_by, closes, deaths, deaths_by, ends, fills, in_block, object_params, param_shapes, returned, shape_of, with_object}
 use Rattle.mdr_meaning.specs.Named.{named_type}
 use Rattle.mdr_meaning.specs.Numbers.{Numbered}
 use Rattle.mdr_meaning.specs.Pointers.{cast, difference, global, member, moved, related, steps}
@@ -338,7 +338,7 @@ module _ (side : Side) where
     enters_placed inner i body inside vs k n =
         births_placed inner i.whole (param_shapes side.known body.slots) _
         (λ ps. fills_placed (in_here inner 0) i.whole (object_params 0 body.slots) ps (record { slots = framed body.slots vs; born = [] }) (λ l. low inner body.code l (closes side inner k))
-        (λ l. (later inner i body.code inside).by l (closes side inner k) (record { by = λ flow l'. deaths_placed inner i.whole l'.born (k (returned flow)) (n (returned flow)) })))
+        (λ l. (later inner i body.code inside).by l (closes side inner k) (record { by = λ flow l'. deaths_placed inner i.whole l'.born (k (after_deaths l'.born (returned flow))) (n (after_deaths l'.born (returned flow))) })))
 
     goes_to_placed : (at : At) → IsPlace side at → (f : ℕ) (vs : List Wire) (body : Option Body) → side.own f ≡ body → here.depth < 256 → (k : Wire → Tree) → ((v : Wire) → Placed side (k v)) → Placed side (goes_to side low here at f vs body k)
     goes_to_placed at w f vs None own d k n = (w, own, h.some, omega (arith, d), n)

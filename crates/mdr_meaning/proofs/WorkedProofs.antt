@@ -9,7 +9,7 @@ use Rattle.mdr_core.specs.Operators.{operated, fitted, fitted_or, quotient}
 use Rattle.mdr_meaning.specs.Bodies.{means, started}
 use Rattle.mdr_meaning.specs.Expressions.{slot_of}
 use Rattle.mdr_meaning.specs.Pointers.{size}
-use Rattle.mdr_meaning.specs.Worked.{CountsDown, Overflows, Divides, Sums, Renews, FillsObject, AsksForObject, BreaksOut, ReturnsOut, Dangles, FillsText, Allocates, Calls, Narrows, Deepens, MakesRing, WalksRing, TakesNode, LosesNode, KeepsToken, AddsFour, AddsFive}
+use Rattle.mdr_meaning.specs.Worked.{CountsDown, Overflows, Divides, Sums, Renews, FillsObject, AsksForObject, BreaksOut, ReturnsOut, Dangles, GivesOwn, GivesOuter, GivesOthers, FillsText, Allocates, Calls, Narrows, Deepens, MakesRing, WalksRing, TakesNode, LosesNode, KeepsToken, AddsFour, AddsFive}
 
 pub counts_down : CountsDown
 unfolding means started slot_of operated fitted fitted_or quotient converted is_in_range size cells struct_cells leaves_below field_leaves field_start repeated leaves form.out-Ty denote.Hole.Carrier.out
@@ -50,6 +50,18 @@ returns_out = refl
 pub dangles : Dangles
 unfolding means started slot_of operated fitted fitted_or quotient converted is_in_range size cells struct_cells leaves_below field_leaves field_start repeated leaves form.out-Ty denote.Hole.Carrier.out
 dangles = refl
+
+pub gives_own : GivesOwn
+unfolding means started slot_of operated fitted fitted_or quotient converted is_in_range size cells struct_cells leaves_below field_leaves field_start repeated leaves form.out-Ty denote.Hole.Carrier.out
+gives_own = refl
+
+pub gives_outer : GivesOuter
+unfolding means started slot_of operated fitted fitted_or quotient converted is_in_range size cells struct_cells leaves_below field_leaves field_start repeated leaves form.out-Ty denote.Hole.Carrier.out
+gives_outer = refl
+
+pub gives_others : GivesOthers
+unfolding means started slot_of operated fitted fitted_or quotient converted is_in_range size cells struct_cells leaves_below field_leaves field_start repeated leaves form.out-Ty denote.Hole.Carrier.out
+gives_others = refl
 
 pub calls_out : Calls
 unfolding means started slot_of operated fitted fitted_or quotient converted is_in_range size cells struct_cells leaves_below field_leaves field_start repeated leaves form.out-Ty denote.Hole.Carrier.out

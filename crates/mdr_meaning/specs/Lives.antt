@@ -1,5 +1,6 @@
 -- Objects of locals: when they are born, and when they die (C99 6.2.4, paragraphs 4 to 6).
-use Rattle.std.specs.Prelude.{ℕ, suc, Bool, true, false, not, ◌&&◌, List, [], ◌∷◌, ◌++◌, slice_set}
+use Rattle.std.specs.Prelude.{ℕ, suc, Bool, true, false, not, ◌&&◌, ◌==◌, List, [], ◌∷◌, ◌++◌, slice_set}
+use Rattle.std.specs.List.{list_any}
 use Rattle.mdr_core.specs.declared.place.At.{At}
 use Rattle.mdr_core.specs.Layout.{chosen}
 use Rattle.mdr_core.specs.Typing.{Slot}
@@ -50,6 +51,16 @@ abbrev pub returned : Flow → Wire
 returned (Returns v) = v
 returned flow = wire.NoValue
 
+-- the value points into the object with this serial
+abbrev pub is_into : (serial : ℕ) → Wire → Bool
+is_into serial (wire.Ptr v) = v.serial == serial
+is_into serial _ = false
+
+-- a value, when these objects have died: a pointer into one of them is dead (6.2.4, paragraph 2)
+abbrev pub after_deaths : List Wire → Wire → Wire
+after_deaths ps (wire.Ptr v) = chosen (list_any (is_into v.serial) ps) wire.Dead (wire.Ptr v)
+after_deaths ps v = v
+
 module _ (side : Side) (here : Here) where
   -- where none is born or dies, nothing is done
   abbrev pub births : List Shape64 → (List Wire → Tree) → Tree
@@ -70,4 +81,4 @@ module _ (side : Side) (here : Here) where
 
   -- the end of a function: what is left of its objects dies, and then its caller goes on (6.8.6.4, 6.9.1)
   abbrev pub closes : (Wire → Tree) → Next
-  closes k flow l = deaths l.born (k (returned flow))
+  closes k flow l = deaths l.born (k (after_deaths l.born (returned flow)))

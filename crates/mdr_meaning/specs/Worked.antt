@@ -280,6 +280,66 @@ dangles = body (local (ty.Ptr u32) ∷ object u32 ∷ []) ty.Void
 abbrev pub Dangles : Type 0
 Dangles = (called (with_globals (global u32 ∷ [])) (only dangles) false 20 0 [] (mem ((w32 0 ∷ []) ∷ []) [] 0 [])).ending ≡ Stopped stop.Dead (at_stmt 0 4)
 
+-- void *own(void){ u32 x; return &x; } void f(void){ struct node *q; q = own(); g = 1; g = q->v; }
+abbrev pub gives_own : Body
+gives_own = body (object u32 ∷ []) ty.VoidPtr (Code.Declare 1 0 ∷ Code.Return 2 (Some (Term.ToVoid (Term.Addr (Lvalue.Object 0)))) ∷ [])
+
+abbrev pub takes_own : Body
+takes_own = body (local node_pointer ∷ []) ty.Void
+    (Code.Declare 1 0
+    ∷ Code.Call 2 (Goal.Into (Lvalue.Slot 0)) (form (Called.Direct 0) [])
+    ∷ Code.Assign 3 (Lvalue.Global 0) (number 1)
+    ∷ Code.Assign 4 (Lvalue.Global 0) (Term.Load (behind 0 0))
+    ∷ [])
+
+-- the address of an object that died with its function is dead: it converts to any type, and stops where it is followed
+abbrev pub GivesOwn : Type 0
+GivesOwn =
+    called (with_globals (global u32 ∷ [])) (either gives_own takes_own) false 20 1 [] (mem ((w32 0 ∷ []) ∷ []) [] 0 [])
+    ≡ ran (Stopped stop.Dead (at_stmt 1 4)) (mem ((w32 1 ∷ []) ∷ (w32 0 ∷ []) ∷ []) ((1 ∷ []) ∷ []) 6 [])
+
+-- void *f(u32 n){ u32 a; { u32 b; return &n; } }   with n to b objects
+abbrev pub gives_outer : Body
+gives_outer = body (object_param u32 ∷ object u32 ∷ object u32 ∷ []) ty.VoidPtr
+    (Code.Declare 1 1 ∷ Code.Block (code (Code.Declare 2 2 ∷ Code.Return 3 (Some (Term.ToVoid (Term.Addr (Lvalue.Object 0)))) ∷ [])) ∷ [])
+
+-- so is that of an object of a block around the one that is returned from, and of a parameter, also where deaths are asked for
+abbrev pub GivesOuter : Type 0
+GivesOuter =
+    called (with_globals []) (only gives_outer) true 20 0 (w32 6 ∷ []) (mem [] [] 0 [])
+    ≡ ran (Ended wire.Dead) (mem ((w32 6 ∷ []) ∷ (w32 0 ∷ []) ∷ (w32 0 ∷ []) ∷ []) ((0 ∷ 1 ∷ 2 ∷ []) ∷ []) 3 (13 ∷ 13 ∷ 13 ∷ 14 ∷ []))
+
+-- void *a; void *b; void *c; u32 g; void *pass(void *p){ u32 x; return p; }
+-- void f(void){ u32 y; void *p; a = pass(&g); p = kzalloc(struct node); b = pass(p); c = pass(&y); }   with x and y objects
+abbrev pub passes_on : Body
+passes_on = body (param ty.VoidPtr ∷ object u32 ∷ []) ty.VoidPtr (Code.Declare 1 1 ∷ Code.Return 2 (Some (var 0)) ∷ [])
+
+abbrev pub passed : (number into : ℕ) → Term → Code
+passed n g e = Code.Call n (Goal.Into (Lvalue.Global g)) (form (Called.Direct 0) (e ∷ []))
+
+abbrev pub passes_all : Body
+passes_all = body (object u32 ∷ local ty.VoidPtr ∷ []) ty.Void
+    (Code.Declare 1 0
+    ∷ Code.Declare 2 1
+    ∷ passed 3 0 (Term.ToVoid (Term.Addr (Lvalue.Global 3)))
+    ∷ Code.Call 4 (Goal.Into (Lvalue.Slot 1)) (record { callee = Called.Service 1; args = []; shape = Some (ty.Struct 0); format = None })
+    ∷ passed 5 1 (var 1)
+    ∷ passed 6 2 (Term.ToVoid (Term.Addr (Lvalue.Object 0)))
+    ∷ [])
+
+-- a pointer to one u32
+abbrev pub u32_at : ℕ → Wire
+u32_at serial = wire.Ptr (record { serial = serial; first = 0; ty = 2; count = 1; index = 0 })
+
+-- what lives on is named as it was: a global, a heap block, an object of the caller
+abbrev pub GivesOthers : Type 0
+GivesOthers =
+    called (with_globals (global ty.VoidPtr ∷ global ty.VoidPtr ∷ global ty.VoidPtr ∷ global u32 ∷ [])) (either passes_on passes_all) false 20 1 []
+    (mem ((wire.Null ∷ []) ∷ (wire.Null ∷ []) ∷ (wire.Null ∷ []) ∷ (w32 0 ∷ []) ∷ []) [] 0 [])
+    ≡ ran (Ended wire.NoValue) (mem
+    ((u32_at 3 ∷ []) ∷ (node_at 6 ∷ []) ∷ (u32_at 4 ∷ []) ∷ (w32 0 ∷ []) ∷ (w32 0 ∷ []) ∷ (w32 0 ∷ []) ∷ (w32 0 ∷ wire.Null ∷ []) ∷ (w32 0 ∷ []) ∷ (w32 0 ∷ []) ∷ [])
+    ((5 ∷ []) ∷ (7 ∷ []) ∷ (8 ∷ []) ∷ (4 ∷ []) ∷ []) 12 (1 ∷ []))
+
 -- void f(void){ char b[4] = "ab"; }
 abbrev pub fills_text : Body
 fills_text = body (array (ty.Int S8) 4 ∷ []) ty.Void (Code.Declare 1 0 ∷ Code.Text 1 0 (97 ∷ 98 ∷ []) ∷ [])

@@ -1,6 +1,6 @@
 // Small bodies worked out, each as a function that does nothing.
 
-ghost use Rattle.mdr_meaning.specs.Worked.{CountsDown, Sums, Renews, Overflows, Divides, FillsObject, AsksForObject, BreaksOut, ReturnsOut, Dangles, FillsText, Allocates, Calls, Narrows, Deepens, MakesRing, WalksRing, TakesNode, LosesNode, KeepsToken, AddsFour, AddsFive};
+ghost use Rattle.mdr_meaning.specs.Worked.{CountsDown, Sums, Renews, Overflows, Divides, FillsObject, AsksForObject, BreaksOut, ReturnsOut, Dangles, GivesOwn, GivesOuter, GivesOthers, FillsText, Allocates, Calls, Narrows, Deepens, MakesRing, WalksRing, TakesNode, LosesNode, KeepsToken, AddsFour, AddsFive};
 ghost use Rattle.mdr_meaning.specs.WorkedStops.{StopsHavePlaces, PartsHaveAnOrder, ServicesAreAsked};
 
 /// Loops take a tick for each test, `continue` goes to the step, and a slot is zero each time it is declared.
@@ -16,13 +16,17 @@ pub fn operators_work()
     ensures quotients { Divides }
 {}
 
-/// An object of a local is born when its declaration runs, and dies where its block ends or the function returns.
+/// An object of a local is born when its declaration runs, and dies where its block ends or the function returns. A
+/// result that points into it is dead then; one that points to what lives on is not.
 pub fn objects_live_and_die()
     ensures filled { FillsObject }
     ensures asked { AsksForObject }
     ensures left { BreaksOut }
     ensures returned { ReturnsOut }
     ensures dangling { Dangles }
+    ensures own { GivesOwn }
+    ensures outer { GivesOuter }
+    ensures others { GivesOthers }
     ensures text { FillsText }
     ensures heap { Allocates }
 {}
