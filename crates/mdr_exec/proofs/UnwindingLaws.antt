@@ -1,21 +1,40 @@
 -- Blocks, loops and functions are left one step at a time, and values, parameters and objects come one step at a time.
-use Rattle.std.proofs.Common.{◌≡◌, ℕ, suc, Bool, true, false, List, [], ◌∷◌, Result, Ok, Err, refl, ap, ◌∙◌}
+use Rattle.std.proofs.Common.{◌≡◌, ℕ, suc, Bool, true, false, List, [], ◌∷◌, Result, Ok, Err, refl, ap, sym, ◌∙◌}
 use Rattle.mdr_core.specs.declared.stop.StopKind.{StopKind}
 use Rattle.mdr_core.specs.Code.{Goal, Codes}
 use Rattle.mdr_meaning.specs.declared.wire.Wire.{Wire}
+use Rattle.mdr_meaning.specs.declared.wire.Wire.TheVariants as wire
 use Rattle.mdr_meaning.specs.declared.shape.Shape64.{Shape64}
 use Rattle.mdr_meaning.specs.Bodies.{means}
+use Rattle.mdr_meaning.specs.Calls.{keep}
 use Rattle.mdr_meaning.specs.Cut.{cut}
-use Rattle.mdr_meaning.specs.Lives.{births, births_by, deaths, deaths_by, fills, object_params, param_shapes}
+use Rattle.mdr_meaning.specs.Lives.{after_deaths, births, births_by, closes, deaths, deaths_by, fills, object_params, param_shapes, returned}
 use Rattle.mdr_meaning.specs.Sides.{Side, Here, Locals, Flow, Ends, Breaks, Continues, Returns, in_here}
 use Rattle.mdr_meaning.specs.Tree.{Tree}
-use Rattle.mdr_meaning.specs.Walk.{Accesses, on_access, walk}
+use Rattle.mdr_meaning.specs.Statements.{on_ends}
+use Rattle.mdr_meaning.specs.Walk.{Reached, Accesses, on_access, walk, walked}
 use Rattle.mdr_exec.specs.Effects.{keep_of, fills_of}
-use Rattle.mdr_exec.specs.Held.{Unwinds, Comes, Enters, Fills, Item, Rest, Scope, Around, Caller, Base, Held, carry, bare, tree}
+use Rattle.mdr_exec.specs.Held.{Frame, Unwinds, Comes, Enters, Fills, Item, Rest, Scope, Around, Caller, Base, Held, carry, bare, tree}
 use Rattle.mdr_exec.specs.Steps.{holds, front_after, came_by, held_after, after, IsSame, Steps}
-use Rattle.mdr_exec.specs.Unwinding.{is_return, dying_came, dying_front, dying_memory, entering_came, entering_front, entering_memory, filled_after, IsEnd, WorkGoesOn}
+use Rattle.mdr_exec.specs.Unwinding.{is_return, flow_after, dying_came, dying_front, dying_memory, entering_came, entering_front, entering_memory, filled_after, IsEnd, WorkGoesOn}
 use Rattle.mdr_exec.proofs.EffectLaws.{does_fills, does_keep}
 use Rattle.mdr_exec.proofs.StepLaws.{finishes, next_of}
+
+-- where nothing died, a value is as it was
+pub none_died : (v : Wire) → after_deaths [] v ≡ v
+none_died (wire.Int k n) = refl
+none_died wire.Null = refl
+none_died (wire.Ptr p) = refl
+none_died wire.Dead = refl
+none_died (wire.Fn f) = refl
+none_died (wire.Lock s) = refl
+none_died wire.NoValue = refl
+
+died_once : (ps : List Wire) (flow : Flow) → after_deaths ps (returned flow) ≡ after_deaths [] (returned (flow_after ps flow))
+died_once ps Ends = refl
+died_once ps Breaks = refl
+died_once ps Continues = refl
+died_once ps (Returns v) = sym (none_died (after_deaths ps v))
 
 module _ {M : Type 0} (a : Accesses M) (side : Side) (here : Here) (l : Locals) (ahead : Codes) (items : List Item) (m : M) where
   rest_same : (flow : Flow) (codes : Codes) → IsSame side (holds (Unwinds flow) here l ahead (Rest codes ∷ items)) (holds (front_after flow) here l codes items)
@@ -48,11 +67,19 @@ module _ {M : Type 0} (a : Accesses M) (side : Side) (here : Here) (l : Locals) 
   scope_is Continues outer h f = refl
   scope_is (Returns v) outer h f = absurd (cc h)
 
+  -- the caller goes on with a value
+  abbrev keeps_on : ℕ → Frame → (n : ℕ) → Goal → Wire → Tree
+  keeps_on f outer n goal v = keep side.known outer.here (in_here outer.here n) goal v outer.locals (on_ends (means side (suc f) outer.here outer.ahead) (carry side (means side (suc f)) outer.here items))
+
+  -- a function's objects die, and then it ends as one without objects
+  closed : (k : Wire → Tree) (flow : Flow) → closes side here k flow l ≡ deaths side here l.born (closes side here k (flow_after l.born flow) (record { slots = l.slots; born = [] }))
+  closed k flow = ap (λ v. deaths side here l.born (k v)) (died_once l.born flow)
+
   end_is : (flow : Flow) (end : Item) → IsEnd end → (f : ℕ)
-      → bare side f (holds (Unwinds flow) here l ahead (end ∷ items)) ≡ deaths side here l.born (carry side (means side (suc f)) here (end ∷ items) flow (record { slots = l.slots; born = [] }))
+      → bare side f (holds (Unwinds flow) here l ahead (end ∷ items)) ≡ deaths side here l.born (carry side (means side (suc f)) here (end ∷ items) (flow_after l.born flow) (record { slots = l.slots; born = [] }))
   unfolding bare carry
-  end_is flow (Caller outer n goal) h f = refl
-  end_is flow (Base outer front) h f = refl
+  end_is flow (Caller outer n goal) h f = closed (keeps_on f outer n goal) flow
+  end_is flow (Base outer front) h f = closed (λ v. Tree.Done v (bare side f (record { frame = outer; front = front; items = items }))) flow
   end_is flow (Rest codes) h f = absurd h
   end_is flow (Scope outer) h f = absurd h
   end_is flow (Around n e step body) h f = absurd h
@@ -104,9 +131,11 @@ module _ {M : Type 0} (a : Accesses M) (side : Side) (here : Here) (l : Locals) 
     loop_continued = λ n e step body. record { by = λ f r. refl };
     loop_broken = λ n e step body. record { by = λ f r. refl };
     loop_returned = λ n e step body v. record { by = λ f r. refl };
-    function_dies = λ flow end h. dies (holds (Unwinds flow) here l ahead (end ∷ items)) flow (record { slots = l.slots; born = [] }) (end ∷ items) l.born side.asks refl (end_is flow end h);
-    call_left = λ flow outer n goal. record { by = λ f r. refl };
-    start_left = λ flow outer front. record { by = λ f n r fewer. refl };
+    function_dies = λ flow end h. dies (holds (Unwinds flow) here l ahead (end ∷ items)) (flow_after l.born flow) (record { slots = l.slots; born = [] }) (end ∷ items) l.born side.asks refl (end_is flow end h);
+    call_left = λ flow outer n goal. record { by = λ f r. ap (λ v. cut r (keeps_on f outer n goal v)) (none_died (returned flow)) };
+    start_left = λ flow outer front. record {
+      by = λ f n r fewer. ap (λ v. walked (Reached.Ended v (tree side f (record { frame = outer; front = front; items = items }) r)) m n) (none_died (returned flow));
+    };
     comes = comes;
     begins = begins_by (param_shapes side.known here.slots) side.asks refl refl;
     fills = filled;

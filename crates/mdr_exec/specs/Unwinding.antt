@@ -5,7 +5,7 @@ use Rattle.mdr_core.specs.declared.stop.StopKind.{StopKind}
 use Rattle.mdr_core.specs.Code.{Term, Goal, Codes}
 use Rattle.mdr_meaning.specs.declared.wire.Wire.{Wire}
 use Rattle.mdr_meaning.specs.declared.shape.Shape64.{Shape64}
-use Rattle.mdr_meaning.specs.Lives.{asked_for, object_params, param_shapes, returned, with_object}
+use Rattle.mdr_meaning.specs.Lives.{after_deaths, asked_for, object_params, param_shapes, returned, with_object}
 use Rattle.mdr_meaning.specs.Sides.{Side, Here, Locals, Flow, Ends, Breaks, Continues, Returns, in_here}
 use Rattle.mdr_meaning.specs.Walk.{Accesses}
 use Rattle.mdr_exec.specs.Effects.{keep_of, fills_of}
@@ -16,6 +16,11 @@ use Rattle.mdr_exec.specs.Steps.{holds, Came, Goes, Asks, Ended, front_after, ca
 abbrev pub is_return : Flow → Bool
 is_return (Returns v) = true
 is_return flow = false
+
+-- a return whose value points into one of the objects that died returns a dead pointer
+abbrev pub flow_after : (dead : List Wire) → Flow → Flow
+flow_after ps (Returns v) = Returns (after_deaths ps v)
+flow_after ps flow = flow
 
 -- ---- objects die: none, in place, or where the other half says so
 
@@ -87,7 +92,7 @@ module _ {M : Type 0} (a : Accesses M) (side : Side) (here : Here) (l : Locals) 
     -- what is left of a function's objects dies (6.2.4), and then its caller goes on
     pub function_dies : (flow : Flow) (end : Item) → IsEnd end
         → Steps a side (holds (Unwinds flow) here l ahead (end ∷ items)) m (dying_came side.asks (in_here here 0) l.born)
-        (holds (dying_front side.asks l.born flow) here (record { slots = l.slots; born = [] }) ahead (end ∷ items)) (dying_memory a side.asks l.born m)
+        (holds (dying_front side.asks l.born (flow_after l.born flow)) here (record { slots = l.slots; born = [] }) ahead (end ∷ items)) (dying_memory a side.asks l.born m)
     pub call_left : (flow : Flow) (outer : Frame) (n : ℕ) (goal : Goal)
         → IsSame side (holds (Unwinds flow) here (record { slots = l.slots; born = [] }) ahead (Caller outer n goal ∷ items)) (holds (Comes n goal (returned flow)) outer.here outer.locals outer.ahead items)
     -- a function that was started ends, and the work that it was started over is as it was

@@ -1,9 +1,10 @@
 // Objects of locals die, and functions end.
 
 ghost use Rattle.std.specs.Prelude.{◌≡◌, [], MatchOption};
+ghost use Rattle.std.specs.List.{list_any};
 ghost use Rattle.std.specs.Option.{option_map};
 ghost use Rattle.mdr_core.specs.declared.program.Program.{Program as AnyProgram};
-ghost use Rattle.mdr_meaning.specs.Lives.{returned};
+ghost use Rattle.mdr_meaning.specs.Lives.{after_deaths, is_into, returned};
 ghost use Rattle.mdr_meaning.specs.Sides.{Side as AnySide, in_here};
 ghost use Rattle.mdr_meaning.specs.Values.{wire_of};
 ghost use Rattle.mdr_exec.specs.declared.frame.Front.TheVariants as front;
@@ -11,7 +12,7 @@ ghost use Rattle.mdr_exec.specs.Closing.{DiesAt, Finishes, asked_to_die, asks_on
 ghost use Rattle.mdr_exec.specs.Holding.{flow_as, held_of, wires_of};
 ghost use Rattle.mdr_exec.specs.Leaving.{here_in};
 ghost use Rattle.mdr_exec.specs.Steps.{IsSame, Steps};
-ghost use Rattle.mdr_exec.specs.Unwinding.{dying_came, dying_memory};
+ghost use Rattle.mdr_exec.specs.Unwinding.{dying_came, dying_memory, flow_after};
 
 use crate::frame::{Flow, Front, Machine, Side, Suspended, Until};
 use crate::leave::last_off;
@@ -43,8 +44,64 @@ fn returned(flow: Flow) -> Value
     }
 }
 
-/// The objects of the innermost block die, with which a block or a function ends. Where the other half says so, the
-/// pointers to them are given, and a question is open.
+// ---- what outlives objects
+
+fn is_into(serial: u64, value: Value) -> bool
+    ensures { result ≡ is_into serial (wire_of value) }
+{
+    match value {
+        Value::Ptr(view) => view.block.serial == serial,
+        Value::Int(_, _) => false,
+        Value::Null => false,
+        Value::Dead => false,
+        Value::Fn(_) => false,
+        Value::Lock(_) => false,
+        Value::NoValue => false,
+    }
+}
+
+/// Whether one of the pointers points into the object with a serial.
+fn is_among(serial: u64, dead: &[Value]) -> bool
+    ensures { result ≡ list_any (λ p. is_into serial (wire_of p)) dead.now }
+{
+    dead.iter().any(|p| is_into(serial, *p))
+}
+
+/// A value when these objects have died: a pointer into one of them is dead.
+fn after_deaths(dead: &[Value], value: Value) -> Value
+    ensures { wire_of result ≡ after_deaths (wires_of dead.now) (wire_of value) }
+{
+    match value {
+        Value::Ptr(view) => {
+            if is_among(view.block.serial, dead) {
+                Value::Dead
+            } else {
+                Value::Ptr(view)
+            }
+        }
+        Value::Int(kind, n) => Value::Int(kind, n),
+        Value::Null => Value::Null,
+        Value::Dead => Value::Dead,
+        Value::Fn(func) => Value::Fn(func),
+        Value::Lock(state) => Value::Lock(state),
+        Value::NoValue => Value::NoValue,
+    }
+}
+
+fn flow_after(dead: &[Value], flow: Flow) -> Flow
+    ensures { flow_as result ≡ flow_after (wires_of dead.now) (flow_as flow) }
+{
+    match flow {
+        Flow::Returns(value) => Flow::Returns(after_deaths(dead, value)),
+        Flow::Ends => Flow::Ends,
+        Flow::Breaks => Flow::Breaks,
+        Flow::Continues => Flow::Continues,
+    }
+}
+
+/// The objects of the innermost block die, with which a block or a function ends, and a value that is returned and
+/// points into one of them is a dead pointer. Where the other half says so, the pointers to them are given, and a
+/// question is open.
 pub(crate) fn die<C: Memory>(
     machine: &mut Machine,
     alloc: Global,
@@ -60,10 +117,12 @@ pub(crate) fn die<C: Memory>(
     if born.is_empty() {
         return None;
     }
+    let left = flow_after(born.as_slice(), flow);
     if asks_on(machine.side) {
-        machine.front = Front::WaitsDeath(flow);
+        machine.front = Front::WaitsDeath(left);
         return Some(born);
     }
+    machine.front = Front::Unwinds(left);
     memory.death(born.as_slice());
     None
 }
