@@ -8,6 +8,7 @@ ghost use Rattle.mdr_faults.specs.Faults.{told};
 ghost use Rattle.mdr_operand.specs.Converting.{number_as, pointer_as, opaque_as, handle_as, scalar_as, null_as, value_as, cast_as, first_of, constant_as, operand_as, converted_at};
 
 use crate::operand::{Integer, Operand, Scalar, at_kind, needed, value_of};
+use crate::release::nothing;
 use crate::sort::is_null;
 use mdr_core::{Boxed, Expr, Items, Kind, Place, Ty, Value};
 use mdr_faults::{Fault, are_alike, copied_type, is_alike};
@@ -16,7 +17,7 @@ use std::alloc::{AllocError, Global};
 fn kept(holds: bool, value: Expr) -> Option<Expr>
     ensures { result ≡ chosen holds (Some value) None }
 {
-    if holds { Some(value) } else { None }
+    if holds { Some(value) } else { nothing(value) }
 }
 
 fn number_as(alloc: Global, value: Expr, kind: Kind, ty: &Ty) -> Result<Option<Expr>, AllocError>
@@ -24,7 +25,9 @@ fn number_as(alloc: Global, value: Expr, kind: Kind, ty: &Ty) -> Result<Option<E
 {
     match ty {
         Ty::Int(wanted) => Ok(Some(at_kind(alloc, *wanted, Integer { value, kind })?)),
-        Ty::Lock | Ty::Struct(_) | Ty::Ptr(_) | Ty::VoidPtr | Ty::Fun(_) | Ty::Void => Ok(None),
+        Ty::Lock | Ty::Struct(_) | Ty::Ptr(_) | Ty::VoidPtr | Ty::Fun(_) | Ty::Void => {
+            Ok(nothing(value))
+        }
     }
 }
 
@@ -34,7 +37,7 @@ fn address_as(alloc: Global, value: Expr, target: &Ty, ty: &Ty) -> Result<Option
     match ty {
         Ty::Ptr(wanted) => Ok(kept(is_alike(target, wanted.get()), value)),
         Ty::VoidPtr => Ok(Some(Expr::ToVoid(Boxed::new(alloc, value)?))),
-        Ty::Int(_) | Ty::Lock | Ty::Struct(_) | Ty::Fun(_) | Ty::Void => Ok(None),
+        Ty::Int(_) | Ty::Lock | Ty::Struct(_) | Ty::Fun(_) | Ty::Void => Ok(nothing(value)),
     }
 }
 
@@ -57,7 +60,7 @@ fn opaque_as(alloc: Global, value: Expr, ty: &Ty) -> Result<Option<Expr>, AllocE
     match ty {
         Ty::Ptr(target) => Ok(Some(from_void(alloc, target.get(), value)?)),
         Ty::VoidPtr => Ok(Some(value)),
-        Ty::Int(_) | Ty::Lock | Ty::Struct(_) | Ty::Fun(_) | Ty::Void => Ok(None),
+        Ty::Int(_) | Ty::Lock | Ty::Struct(_) | Ty::Fun(_) | Ty::Void => Ok(nothing(value)),
     }
 }
 
@@ -66,7 +69,9 @@ fn handle_as(value: Expr, types: Items<Ty>, ty: &Ty) -> Option<Expr>
 {
     match ty {
         Ty::Fun(wanted) => kept(are_alike(types.as_slice(), wanted.as_slice()), value),
-        Ty::Int(_) | Ty::Lock | Ty::Struct(_) | Ty::Ptr(_) | Ty::VoidPtr | Ty::Void => None,
+        Ty::Int(_) | Ty::Lock | Ty::Struct(_) | Ty::Ptr(_) | Ty::VoidPtr | Ty::Void => {
+            nothing(value)
+        }
     }
 }
 

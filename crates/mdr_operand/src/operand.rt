@@ -5,6 +5,7 @@ ghost use Rattle.std.specs.Option.{option_map};
 ghost use Rattle.mdr_faults.specs.Faults.{told};
 ghost use Rattle.mdr_operand.specs.Forms.{scalar_of, value_of, expression_of, needed, scalar_at, integer_by, integer_at, at_kind, number, truth, literal, condition_at, pointer_by, pointer_at};
 
+use crate::release::nothing;
 use mdr_core::{Boxed, Expr, Items, Kind, Lval, Place, Ty, Value};
 use mdr_faults::{Fault, FaultKind};
 use std::alloc::{AllocError, Global};
@@ -62,7 +63,7 @@ pub fn scalar_of(value: Expr, ty: Ty) -> Option<Scalar>
         Ty::Ptr(target) => Some(Scalar::Pointer(value, target.into_inner())),
         Ty::VoidPtr => Some(Scalar::Opaque(value)),
         Ty::Fun(types) => Some(Scalar::Handle(value, types)),
-        Ty::Lock | Ty::Struct(_) | Ty::Void => None,
+        Ty::Lock | Ty::Struct(_) | Ty::Void => nothing((value, ty)),
     }
 }
 
@@ -118,7 +119,7 @@ fn integer_by(v: Scalar) -> Option<Integer>
 {
     match v {
         Scalar::Number(value, kind) => Some(Integer { value, kind }),
-        Scalar::Pointer(_, _) | Scalar::Opaque(_) | Scalar::Handle(_, _) => None,
+        Scalar::Pointer(_, _) | Scalar::Opaque(_) | Scalar::Handle(_, _) => nothing(v),
     }
 }
 
@@ -186,7 +187,7 @@ fn pointer_by(v: Scalar) -> Option<Pointer>
 {
     match v {
         Scalar::Pointer(value, ty) => Some(Pointer { value, ty }),
-        Scalar::Number(_, _) | Scalar::Opaque(_) | Scalar::Handle(_, _) => None,
+        Scalar::Number(_, _) | Scalar::Opaque(_) | Scalar::Handle(_, _) => nothing(v),
     }
 }
 

@@ -1,7 +1,7 @@
 // What was made and isn't asked for, beside a fault. The functions are generic, so that no caller lets go of an operand
 // itself.
 
-ghost use Rattle.std.specs.Prelude.{◌≡◌, Err};
+ghost use Rattle.std.specs.Prelude.{◌≡◌, Err, None};
 ghost use Rattle.mdr_faults.specs.Faults.{told, refuse};
 
 use mdr_core::Place;
@@ -32,4 +32,11 @@ pub fn out_of_memory<A: Drop, B: Drop>(error: AllocError, _x: A) -> Result<B, Al
     ensures { result ≡ Err error }
 {
     Err(error)
+}
+
+/// Nothing in place of what was given.
+pub(crate) fn nothing<A: Drop, B: Drop>(_x: A) -> Option<B>
+    ensures { result ≡ None }
+{
+    None
 }
