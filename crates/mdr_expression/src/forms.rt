@@ -20,6 +20,14 @@ fn text(reader: Reader, token: &Token) -> Result<Name, Failure>
     Ok(copied(reader.alloc, text_of(&token.what))?)
 }
 
+/// A form in its box.
+fn boxed(reader: Reader, place: Place, what: FormWhat) -> Result<Boxed<Form>, Failure>
+    ensures value { IfOk result (λ f. f ≡ form_at place what) }
+    ensures memory { IfErr result (λ e. e ≡ Memory) }
+{
+    Ok(Boxed::new(reader.alloc, Form { place, what })?)
+}
+
 /// A name as a form.
 #[tactic(auto, unfolding(mdr_grammar::specs::Expressions::height))]
 pub fn name_part(reader: Reader, token: &Token) -> Result<Part, Failure>
@@ -29,10 +37,7 @@ pub fn name_part(reader: Reader, token: &Token) -> Result<Part, Failure>
 {
     let what = FormWhat::Name(text(reader, token)?);
     Ok(Part {
-        form: Form {
-            place: token.place,
-            what,
-        },
+        form: boxed(reader, token.place, what)?,
         alone: false,
         height: 0,
     })
@@ -40,18 +45,17 @@ pub fn name_part(reader: Reader, token: &Token) -> Result<Part, Failure>
 
 /// A number as a form.
 #[tactic(auto, unfolding(mdr_grammar::specs::Expressions::height))]
-pub fn number_part(token: &Token) -> Part
-    ensures value { operand_of result ≡ record { form = number_form token.now; alone = false } }
-    ensures measured { (result.height ≡ height result.form) × (result.height ≡ 0) }
+pub fn number_part(reader: Reader, token: &Token) -> Result<Part, Failure>
+    ensures value { IfOk result (λ p. operand_of p ≡ record { form = number_form token.now; alone = false }) }
+    ensures measured { IfOk result (λ p. (p.height ≡ height p.form) × (p.height ≡ 0)) }
+    ensures memory { IfErr result (λ e. e ≡ Memory) }
 {
-    Part {
-        form: Form {
-            place: token.place,
-            what: FormWhat::Number(number_in(&token.what), kind_in(&token.what)),
-        },
+    let what = FormWhat::Number(number_in(&token.what), kind_in(&token.what));
+    Ok(Part {
+        form: boxed(reader, token.place, what)?,
         alone: false,
         height: 0,
-    }
+    })
 }
 
 /// A form of one operand, with the punctuation of its operator.
@@ -62,12 +66,9 @@ pub fn prefix_part(reader: Reader, token: &Token, x: Part, alone: bool) -> Resul
     ensures measured { x.height ≡ height x.form → IfOk result (λ p. (p.height ≡ height p.form) × (p.height ≡ x.height + 1)) }
     ensures memory { IfErr result (λ e. e ≡ Memory) }
 {
-    let what = FormWhat::Prefix(text(reader, token)?, Boxed::new(reader.alloc, x.form)?);
+    let what = FormWhat::Prefix(text(reader, token)?, x.form);
     Ok(Part {
-        form: Form {
-            place: token.place,
-            what,
-        },
+        form: boxed(reader, token.place, what)?,
         alone,
         height: x.height + 1,
     })
@@ -82,16 +83,9 @@ pub fn binary_part(reader: Reader, token: &Token, a: Part, b: Part) -> Result<Pa
     ensures memory { IfErr result (λ e. e ≡ Memory) }
 {
     let height = a.height.max(b.height) + 1;
-    let what = FormWhat::Binary(
-        text(reader, token)?,
-        Boxed::new(reader.alloc, a.form)?,
-        Boxed::new(reader.alloc, b.form)?,
-    );
+    let what = FormWhat::Binary(text(reader, token)?, a.form, b.form);
     Ok(Part {
-        form: Form {
-            place: token.place,
-            what,
-        },
+        form: boxed(reader, token.place, what)?,
         alone: false,
         height,
     })
@@ -106,10 +100,7 @@ pub fn text_part(reader: Reader, token: &Token) -> Result<Part, Failure>
 {
     let what = FormWhat::Text(text(reader, token)?);
     Ok(Part {
-        form: Form {
-            place: token.place,
-            what,
-        },
+        form: boxed(reader, token.place, what)?,
         alone: false,
         height: 0,
     })
@@ -117,34 +108,32 @@ pub fn text_part(reader: Reader, token: &Token) -> Result<Part, Failure>
 
 /// `NULL`.
 #[tactic(auto, unfolding(mdr_grammar::specs::Expressions::height))]
-pub fn null_part(token: &Token) -> Part
-    ensures value { operand_of result ≡ record { form = form_at token.now.place FormWhat.Null; alone = false } }
-    ensures measured { (result.height ≡ height result.form) × (result.height ≡ 0) }
+pub fn null_part(reader: Reader, token: &Token) -> Result<Part, Failure>
+    ensures value { IfOk result (λ p. operand_of p ≡ record { form = form_at token.now.place FormWhat.Null; alone = false }) }
+    ensures measured { IfOk result (λ p. (p.height ≡ height p.form) × (p.height ≡ 0)) }
+    ensures memory { IfErr result (λ e. e ≡ Memory) }
 {
-    Part {
-        form: Form {
-            place: token.place,
-            what: FormWhat::Null,
-        },
+    let what = FormWhat::Null;
+    Ok(Part {
+        form: boxed(reader, token.place, what)?,
         alone: false,
         height: 0,
-    }
+    })
 }
 
 /// A type as an argument.
 #[tactic(auto, unfolding(mdr_grammar::specs::Expressions::height))]
-pub fn type_part(token: &Token, base: Base, stars: u32) -> Part
-    ensures value { operand_of result ≡ record { form = form_at token.now.place (FormWhat.Base base stars); alone = false } }
-    ensures measured { (result.height ≡ height result.form) × (result.height ≡ 0) }
+pub fn type_part(reader: Reader, token: &Token, base: Base, stars: u32) -> Result<Part, Failure>
+    ensures value { IfOk result (λ p. operand_of p ≡ record { form = form_at token.now.place (FormWhat.Base base stars); alone = false }) }
+    ensures measured { IfOk result (λ p. (p.height ≡ height p.form) × (p.height ≡ 0)) }
+    ensures memory { IfErr result (λ e. e ≡ Memory) }
 {
-    Part {
-        form: Form {
-            place: token.place,
-            what: FormWhat::Base(base, stars),
-        },
+    let what = FormWhat::Base(base, stars);
+    Ok(Part {
+        form: boxed(reader, token.place, what)?,
         alone: false,
         height: 0,
-    }
+    })
 }
 
 /// `x++` or `x--`.
@@ -155,9 +144,9 @@ pub fn post_part(reader: Reader, first: Place, token: &Token, x: Part) -> Result
     ensures measured { x.height ≡ height x.form → IfOk result (λ p. (p.height ≡ height p.form) × (p.height ≡ x.height + 1)) }
     ensures memory { IfErr result (λ e. e ≡ Memory) }
 {
-    let what = FormWhat::Post(text(reader, token)?, Boxed::new(reader.alloc, x.form)?);
+    let what = FormWhat::Post(text(reader, token)?, x.form);
     Ok(Part {
-        form: Form { place: first, what },
+        form: boxed(reader, first, what)?,
         alone: true,
         height: x.height + 1,
     })
@@ -177,14 +166,10 @@ pub fn member_part(
     ensures measured { x.height ≡ height x.form → IfOk result (λ p. (p.height ≡ height p.form) × (p.height ≡ x.height + 1)) }
     ensures memory { IfErr result (λ e. e ≡ Memory) }
 {
-    let what = FormWhat::Member(
-        Boxed::new(reader.alloc, x.form)?,
-        is_arrow,
-        name.place,
-        text(reader, name)?,
-    );
+    let member = text(reader, name)?;
+    let what = FormWhat::Member(x.form, is_arrow, name.place, member);
     Ok(Part {
-        form: Form { place: first, what },
+        form: boxed(reader, first, what)?,
         alone: false,
         height: x.height + 1,
     })
@@ -199,12 +184,9 @@ pub fn subscript_part(reader: Reader, first: Place, x: Part, index: Part) -> Res
     ensures memory { IfErr result (λ e. e ≡ Memory) }
 {
     let height = x.height.max(index.height) + 1;
-    let what = FormWhat::Subscript(
-        Boxed::new(reader.alloc, x.form)?,
-        Boxed::new(reader.alloc, index.form)?,
-    );
+    let what = FormWhat::Subscript(x.form, index.form);
     Ok(Part {
-        form: Form { place: first, what },
+        form: boxed(reader, first, what)?,
         alone: false,
         height,
     })
@@ -224,9 +206,9 @@ pub fn cast_part(
     ensures measured { x.height ≡ height x.form → IfOk result (λ p. (p.height ≡ height p.form) × (p.height ≡ x.height + 1)) }
     ensures memory { IfErr result (λ e. e ≡ Memory) }
 {
-    let what = FormWhat::Cast(base, stars, Boxed::new(reader.alloc, x.form)?);
+    let what = FormWhat::Cast(base, stars, x.form);
     Ok(Part {
-        form: Form { place: first, what },
+        form: boxed(reader, first, what)?,
         alone: false,
         height: x.height + 1,
     })
@@ -247,16 +229,9 @@ pub fn choice_part(
     ensures memory { IfErr result (λ e. e ≡ Memory) }
 {
     let height = c.height.max(a.height.max(b.height)) + 1;
-    let what = FormWhat::Choice(
-        Boxed::new(reader.alloc, c.form)?,
-        Boxed::new(reader.alloc, a.form)?,
-        Boxed::new(reader.alloc, b.form)?,
-    );
+    let what = FormWhat::Choice(c.form, a.form, b.form);
     Ok(Part {
-        form: Form {
-            place: token.place,
-            what,
-        },
+        form: boxed(reader, token.place, what)?,
         alone: false,
         height,
     })
@@ -282,7 +257,7 @@ pub fn with_argument(arguments: Arguments, part: Part) -> Result<Arguments, Fail
 {
     let highest = arguments.highest.max(part.height + 1);
     let mut forms = arguments.forms;
-    forms.push(part.form)?;
+    forms.push(part.form.into_inner())?;
     Ok(Arguments { forms, highest })
 }
 
@@ -310,9 +285,9 @@ pub fn call_part(
     ensures memory { IfErr result (λ e. e ≡ Memory) }
 {
     let height = (x.height + 1).max(arguments.highest);
-    let what = FormWhat::Call(Boxed::new(reader.alloc, x.form)?, arguments.forms);
+    let what = FormWhat::Call(x.form, arguments.forms);
     Ok(Part {
-        form: Form { place: first, what },
+        form: boxed(reader, first, what)?,
         alone: true,
         height,
     })

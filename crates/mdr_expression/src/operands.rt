@@ -48,8 +48,22 @@ pub fn operand(
             level,
             depth,
         ),
-        Sort::Number => postfix(reader, rest, token.place, number_part(token), level, depth),
-        Sort::Null => postfix(reader, rest, token.place, null_part(token), level, depth),
+        Sort::Number => postfix(
+            reader,
+            rest,
+            token.place,
+            number_part(reader, token)?,
+            level,
+            depth,
+        ),
+        Sort::Null => postfix(
+            reader,
+            rest,
+            token.place,
+            null_part(reader, token)?,
+            level,
+            depth,
+        ),
         Sort::Service => {
             if is_call_free(level, depth) {
                 service(reader, token, rest, level, depth)

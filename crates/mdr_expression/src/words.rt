@@ -99,5 +99,5 @@ pub fn type_argument<'t>(
 {
     let (named, rest) = base(reader, tokens)?;
     let (count, rest) = stars(reader, rest);
-    Ok((type_part(token, named.base, count), rest))
+    Ok((type_part(reader, token, named.base, count)?, rest))
 }

@@ -50,11 +50,11 @@ operands::operand-returns-in_default-clause-reads t c = at_end c.args.reader.hal
 pub operands::operand-returns-in_ok-name_part-in-Name-clause-reads : goal.operands::operand-returns-in_ok-name_part-in-Name-clause-reads
 operands::operand-returns-in_ok-name_part-in-Name-clause-reads t c = arm c.args.reader.halves (part (an_operand c.args.casts c.args.level c.args.depth)) (λ x. operand_of x.0) (λ x. x.1.now) c.postfix.result Sort.Name c.in-Some.ensures.found c.in-Name.is refl refl (starts c.args.reader.halves (λ x. operand_of x.0) (λ x. x.1.now) c.postfix.result c.args.level c.args.depth c.in-Some.token.now.place (operand_of c.in_ok-name_part-in-Name.field-0) (record { form = name_form c.in-Some.token.now; alone = false }) c.in-Some.rest.now c.in_ok-name_part-in-Name.ensures.value c.postfix.ensures.reads)
 
-pub operands::operand-returns-in-Number-clause-reads : goal.operands::operand-returns-in-Number-clause-reads
-operands::operand-returns-in-Number-clause-reads t c = arm c.args.reader.halves (part (an_operand c.args.casts c.args.level c.args.depth)) (λ x. operand_of x.0) (λ x. x.1.now) c.postfix-in-Number.result Sort.Number c.in-Some.ensures.found c.in-Number.is refl refl (starts c.args.reader.halves (λ x. operand_of x.0) (λ x. x.1.now) c.postfix-in-Number.result c.args.level c.args.depth c.in-Some.token.now.place (operand_of c.number_part.result) (record { form = number_form c.in-Some.token.now; alone = false }) c.in-Some.rest.now c.number_part.ensures.value c.postfix-in-Number.ensures.reads)
+pub operands::operand-returns-in_ok-number_part-in-Number-clause-reads : goal.operands::operand-returns-in_ok-number_part-in-Number-clause-reads
+operands::operand-returns-in_ok-number_part-in-Number-clause-reads t c = arm c.args.reader.halves (part (an_operand c.args.casts c.args.level c.args.depth)) (λ x. operand_of x.0) (λ x. x.1.now) c.postfix-in-Number.result Sort.Number c.in-Some.ensures.found c.in-Number.is refl refl (starts c.args.reader.halves (λ x. operand_of x.0) (λ x. x.1.now) c.postfix-in-Number.result c.args.level c.args.depth c.in-Some.token.now.place (operand_of c.in_ok-number_part-in-Number.field-0) (record { form = number_form c.in-Some.token.now; alone = false }) c.in-Some.rest.now c.in_ok-number_part-in-Number.ensures.value c.postfix-in-Number.ensures.reads)
 
-pub operands::operand-returns-in-Null-clause-reads : goal.operands::operand-returns-in-Null-clause-reads
-operands::operand-returns-in-Null-clause-reads t c = arm c.args.reader.halves (part (an_operand c.args.casts c.args.level c.args.depth)) (λ x. operand_of x.0) (λ x. x.1.now) c.postfix-in-Null.result Sort.Null c.in-Some.ensures.found c.in-Null.is refl refl (starts c.args.reader.halves (λ x. operand_of x.0) (λ x. x.1.now) c.postfix-in-Null.result c.args.level c.args.depth c.in-Some.token.now.place (operand_of c.null_part.result) (record { form = form_at c.in-Some.token.now.place FormWhat.Null; alone = false }) c.in-Some.rest.now c.null_part.ensures.value c.postfix-in-Null.ensures.reads)
+pub operands::operand-returns-in_ok-null_part-in-Null-clause-reads : goal.operands::operand-returns-in_ok-null_part-in-Null-clause-reads
+operands::operand-returns-in_ok-null_part-in-Null-clause-reads t c = arm c.args.reader.halves (part (an_operand c.args.casts c.args.level c.args.depth)) (λ x. operand_of x.0) (λ x. x.1.now) c.postfix-in-Null.result Sort.Null c.in-Some.ensures.found c.in-Null.is refl refl (starts c.args.reader.halves (λ x. operand_of x.0) (λ x. x.1.now) c.postfix-in-Null.result c.args.level c.args.depth c.in-Some.token.now.place (operand_of c.in_ok-null_part-in-Null.field-0) (record { form = form_at c.in-Some.token.now.place FormWhat.Null; alone = false }) c.in-Some.rest.now c.in_ok-null_part-in-Null.ensures.value c.postfix-in-Null.ensures.reads)
 
 pub operands::operand-returns-then-is_call_free-clause-reads : goal.operands::operand-returns-then-is_call_free-clause-reads
 operands::operand-returns-then-is_call_free-clause-reads t c = arm c.args.reader.halves (part (an_operand c.args.casts c.args.level c.args.depth)) (λ x. operand_of x.0) (λ x. x.1.now) c.service.result Sort.Service c.in-Some.ensures.found c.in-Service.is (sym c.is_call_free.ensures ∙ c.if-is_call_free.true) refl c.service.ensures.reads
