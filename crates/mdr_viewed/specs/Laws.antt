@@ -7,19 +7,18 @@ use Rattle.mdr_extents.specs.Reaching.{Roots, visible}
 use Rattle.mdr_meaning.specs.declared.shape.Shape64.{Shape64}
 use Rattle.mdr_meaning.specs.declared.wire.Wire.{Wire}
 use Rattle.mdr_meaning.specs.Tree.{Asked}
-use Rattle.mdr_meaning.specs.Walk.{Accesses}
 use Rattle.mdr_model.specs.declared.memory.Cell.{Cell}
 use Rattle.mdr_model.specs.declared.message.BirthKind.{BirthKind}
 use Rattle.mdr_model.specs.Memory.{Memory}
 use Rattle.mdr_plain.specs.Running.{all_cells, call, interrupts, nothing}
 use Rattle.mdr_plain.specs.Services.{served}
-use Rattle.mdr_plain.specs.Storage.{accesses, births, deaths, died, next_serial}
-use Rattle.mdr_plain.specs.World.{World, Ran, Ended, after, left}
+use Rattle.mdr_plain.specs.Storage.{accesses, births, deaths, next_serial}
+use Rattle.mdr_plain.specs.World.{World, Ran, Ended}
 use Rattle.mdr_watched.specs.Driver.{Driver, result_roots, touched_by}
 use Rattle.mdr_watched.specs.Order.{AreLive}
 use Rattle.mdr_watched.specs.Views.{closed, gained, may_touch, new_cells, opened, renewed, taken}
 use Rattle.mdr_watched.specs.Watched.{downcall, held, kernel_of, sent, serves}
-use Rattle.mdr_viewed.specs.Viewed.{HasUpcall, IsOlder, IsOrdered, IsViewed, TouchAlike, in_set, living, viewed, viewed_born, viewed_if}
+use Rattle.mdr_viewed.specs.Viewed.{HasUpcall, IsOlder, IsOrdered, IsViewed, TouchAlike, after_beside, in_set, living, viewed, viewed_born, viewed_if}
 
 -- ---- accesses
 
@@ -64,7 +63,7 @@ pub record SetsAreViewed : Type 0 where
   pub opens : (set : List Cell) (w : World) → w.views ≡ [] → AreLive w.memory set → opened set w ≡ viewed set (opened [] w)
   pub closes : (set : List Cell) (w : World) → w.views ≡ [] → closed (viewed set (opened [] w)) ≡ w
   pub renews : (old set : List Cell) (w : World) → AreLive w.memory set → renewed set (viewed old w) ≡ viewed set w
-  pub gains : (program : Program) (touched : List Key) (next : ℕ) (set : List Cell) (w : World) → gained program touched next (viewed set w) ≡ viewed (set ++ new_cells program touched next w.memory) w
+  pub gains : (program : Program) (touched : List Key) (next : ℕ) (set : List Cell) (w : World) → IsOrdered w → gained program touched next (viewed set w) ≡ viewed (set ++ new_cells program touched next w.memory) w
   -- what a set is taken from may have dead cells
   pub known : (program : Program) (touched : List Key) (m : Memory) (set : List Cell) (roots : Roots) → visible program touched m (living m set) roots ≡ visible program touched m set roots
   -- a set that is taken is of what lives, and so older than what is born later; and so it is where it grows
@@ -77,16 +76,16 @@ pub record SetsAreViewed : Type 0 where
 module _ (d : Driver) (t : ℕ) (set : List Cell) where
   -- what is born joins the set
   abbrev pub asks : Asked → World → Ran (List Wire)
-  asks asked w = after (served d.program asked w) (λ results w'. Ended results (viewed (set ++ new_cells d.program (touched_by d.plan t) (next_serial w) w'.memory) w'))
+  asks asked w = after_beside set (served d.program asked w) (λ results w'. Ended results (viewed (set ++ new_cells d.program (touched_by d.plan t) (next_serial w) w'.memory) w'))
 
   -- the set is taken anew
   abbrev pub returns : At → (func : ℕ) (args : List Wire) → Wire → World → Ran Wire
   returns at f args v w = taken (visible d.program (touched_by d.plan t) w.memory set (result_roots d.program f args v)) at (viewed set w) (λ found. Ended v (viewed found w))
 
   abbrev pub goes_down : At → (func : ℕ) (args : List Wire) (depth : ℕ) → World → Ran Wire
-  goes_down at f args depth w = after (call (kernel_of d) nothing f (sent d (held d) t args w) depth w) (returns at f (sent d (held d) t args w))
+  goes_down at f args depth w = after_beside set (call (kernel_of d) nothing f (sent d (held d) t args w) depth w) (returns at f (sent d (held d) t args w))
 
 pub record UpcallsAreViewed : Type 0 where
-  pub asks : (d : Driver) (t : ℕ) (set : List Cell) (asked : Asked) (w : World) → HasUpcall w → IsOlder set w → serves d (held d) t asked (viewed set w) ≡ asks d t set asked w
+  pub asks : (d : Driver) (t : ℕ) (set : List Cell) (asked : Asked) (w : World) → HasUpcall w → IsOlder set w → IsOrdered w → serves d (held d) t asked (viewed set w) ≡ asks d t set asked w
   pub downs : (d : Driver) (t : ℕ) (set : List Cell) (at : At) (f : ℕ) (args : List Wire) (depth : ℕ) (w : World) → HasUpcall w → IsOlder set w → IsOrdered w
       → downcall d (held d) t at f args depth (viewed set w) ≡ goes_down d t set at f args depth w

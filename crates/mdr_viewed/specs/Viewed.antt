@@ -45,6 +45,11 @@ viewed_if set (Err kind) = Err kind
 abbrev pub viewed_born : List Cell → Born World → Born World
 viewed_born set b = record { pointers = b.pointers; memory = viewed set b.memory }
 
+-- what comes after work beside a set. Where it stopped, the set is put into what is left
+abbrev pub after_beside : {A B : Type 0} → List Cell → Ran A → (A → World → Ran B) → Ran B
+after_beside set (Ended x w) go = go x w
+after_beside set (Stopped kind at w) go = Stopped kind at (viewed set w)
+
 -- work that is done with the set in the world is the work that is done beside it
 pub record IsViewed {A : Type 0} (set : List Cell) (inside beside : Ran A) : Type 0 where
   pub is : inside ≡ viewing set beside
