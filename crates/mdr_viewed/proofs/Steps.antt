@@ -130,6 +130,8 @@ births_are_viewed = record {
   older_born = λ program kind shapes set w older. births_keep (IsOlder set) (older_kept set) program kind shapes w older;
   died = deaths_viewed;
   older_died = λ ps set w older. deaths_keep (IsOlder set) (older_kept set) ps w older;
+  upcall_born = λ program kind shapes w e. births_keep HasUpcall upcall_kept program kind shapes w e;
+  upcall_died = λ ps w e. deaths_keep HasUpcall upcall_kept ps w e;
 }
 
 -- ---- accesses

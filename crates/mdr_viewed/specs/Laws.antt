@@ -44,6 +44,9 @@ pub record BirthsAreViewed : Type 0 where
   pub older_born : (program : Program) (kind : BirthKind) (shapes : List Shape64) (set : List Cell) (w : World) → IsOlder set w → IsOlder set (births program kind shapes w).memory
   pub died : (ps : List Wire) (set : List Cell) (w : World) → deaths ps (viewed set w) ≡ viewed set (deaths ps w)
   pub older_died : (ps : List Wire) (set : List Cell) (w : World) → IsOlder set w → IsOlder set (deaths ps w)
+  -- the upcall stays open
+  pub upcall_born : (program : Program) (kind : BirthKind) (shapes : List Shape64) (w : World) → HasUpcall w → HasUpcall (births program kind shapes w).memory
+  pub upcall_died : (ps : List Wire) (w : World) → HasUpcall w → HasUpcall (deaths ps w)
 
 -- ---- services and kernel code
 
