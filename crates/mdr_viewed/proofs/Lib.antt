@@ -1,6 +1,6 @@
 pub mod Living
 pub mod Steps
-pub mod Code
+pub mod KernelCode
 pub mod Sets
 pub mod Upcalls
 pub mod Ticks

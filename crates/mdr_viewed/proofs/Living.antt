@@ -1,7 +1,7 @@
 -- The living cells of a set, and what single steps make of them.
-use Rattle.std.proofs.Common.{◌≡◌, ℕ, ◌<◌, ◌≤◌, ◌+◌, Bool, true, false, not, ◌&&◌, cond, ◌⊎◌, inl, inr, List, [], ◌∷◌, ◌++◌, Some, None, refl, sym, ◌∙◌, ap, subst, arith, ne_eqb, eq-eqb}
+use Rattle.std.proofs.Common.{◌≡◌, ℕ, ◌<◌, ◌≤◌, ◌+◌, Bool, true, false, not, ◌&&◌, cond, List, [], ◌∷◌, ◌++◌, Some, None, refl, sym, ◌∙◌, ap, arith, ne_eqb, eq-eqb}
 use Rattle.std.specs.Prelude.{◌==◌, is_some, filter}
-use Rattle.std.proofs.lemmas.Bool.{and_parts, and_from, both_ways, eqb-true}
+use Rattle.std.proofs.lemmas.Bool.{both_ways, eqb-true}
 use Rattle.std.proofs.lemmas.List.Elements.{filter-append}
 use Rattle.std.proofs.lemmas.List.Sums.{sum_by-append}
 use Rattle.mdr_extents.specs.CellOrder.{cells}
@@ -50,6 +50,9 @@ all_living m set h = all_pass (λ (c : Cell). is_live m c.serial) set h
 pub living_both : (m : Memory) (set more : List Cell) → AreLive m more → living m (set ++ more) ≡ living m set ++ more
 living_both m set more h = filter-append (λ (c : Cell). is_live m c.serial) set more ∙ ap (λ (rest : List Cell). living m set ++ rest) (all_living m more h)
 
+pub live_and : (a b : Bool) → a ≡ true → (a && b) ≡ b
+live_and a b e = rw e refl
+
 pub is_living : (m : Memory) (set : List Cell) (c : Cell) → is_in cells (living m set) c ≡ (is_live m c.serial && is_in cells set c)
 is_living m set c = is_in-filter cells (λ (d : Cell). is_live m d.serial) set c
 
@@ -94,9 +97,6 @@ living_born m b set older =
     same_filter _ _ set (λ c e. live_before m b c.serial (ne_eqb b.born.serial c.serial (λ n. let less : c.serial < b.born.serial = older c e in absurd (omega (arith, less, n)))))
 
 -- ---- the next serial
-
-weight : Life → ℕ
-weight l = cond (is_birth l) 1 0
 
 pub births_grow : (lives : List Life) (l : Life) → births_in lives ≤ births_in (lives ++ l ∷ [])
 births_grow lives l =

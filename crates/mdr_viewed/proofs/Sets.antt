@@ -1,20 +1,17 @@
 -- Sets that are taken, that grow and that go.
-use Rattle.std.proofs.Common.{◌≡◌, ℕ, ◌<◌, Bool, true, false, ◌&&◌, ◌||◌, ◌⊎◌, inl, inr, List, [], ◌∷◌, ◌++◌, Some, None, Option, Ok, length, refl, sym, ◌∙◌, ap}
+use Rattle.std.proofs.Common.{◌≡◌, ℕ, ◌<◌, true, ◌||◌, ◌⊎◌, inl, inr, List, [], ◌∷◌, ◌++◌, Some, None, Option, Ok, length, refl, sym, ◌∙◌, ap}
 use Rattle.std.specs.Prelude.{filter, is_some}
 use Rattle.std.proofs.lemmas.Bool.{and_parts, or_cases}
 use Rattle.mdr_core.specs.declared.plan.Key.{Key}
 use Rattle.mdr_core.specs.declared.program.Program.{Program}
 use Rattle.mdr_extents.specs.CellOrder.{cells}
 use Rattle.mdr_extents.specs.Reaching.{Roots, all_cells, at_cell, beginning, counts, counts_in, first_failing, global_cells, graph, root_cells, unless_argument, visible}
-use Rattle.mdr_meaning.specs.declared.shape.Shape64.{Shape64}
-use Rattle.mdr_meaning.specs.declared.wire.Wire.{Wire}
 use Rattle.mdr_model.specs.declared.memory.Cell.{Cell}
-use Rattle.mdr_model.specs.declared.message.BirthKind.{BirthKind}
 use Rattle.mdr_model.specs.declared.message.New.{New}
 use Rattle.mdr_model.specs.Memory.{Memory, born_at, is_live}
-use Rattle.mdr_paths.specs.Paths.{Graph, counted, first, is_in, rounds, unless, visible as visible_nodes, visible_set, fails}
+use Rattle.mdr_paths.specs.Paths.{counted, first, is_in, rounds, unless, visible as visible_nodes, visible_set, fails}
 use Rattle.mdr_paths.proofs.NodeLists.{in_both, is_in-filter}
-use Rattle.mdr_plain.specs.Storage.{next_serial}
+use Rattle.mdr_plain.specs.Storage.{born, died, next_serial}
 use Rattle.mdr_plain.specs.World.{World}
 use Rattle.mdr_watched.specs.Order.{AreLive, IsInOrder}
 use Rattle.mdr_watched.specs.Views.{closed, gained, new_cells, opened, renewed}
@@ -22,7 +19,7 @@ use Rattle.mdr_watched.proofs.KeepLaws.{IsKept}
 use Rattle.mdr_watched.proofs.MemoryOrder.{order_kept, order_kept_inside}
 use Rattle.mdr_viewed.specs.Laws.{SetsAreViewed}
 use Rattle.mdr_viewed.specs.Viewed.{IsOlder, IsOrdered, living, viewed}
-use Rattle.mdr_viewed.proofs.Living.{all_living, is_living, living_both, same_filter}
+use Rattle.mdr_viewed.proofs.Living.{all_living, is_living, live_and, living_both, same_filter}
 
 -- ---- the world's views
 
@@ -39,7 +36,7 @@ renews old set w live = let e : living w.memory set ≡ set = all_living w.memor
 
 -- ---- sets that are taken and that grow are of what lives
 
-without_views : World → World
+abbrev without_views : World → World
 without_views w = record w { views = [] }
 
 -- the order of a state is that of the same state without sets
@@ -50,6 +47,7 @@ taken_live : (program : Program) (touched : List Key) (known : List Cell) (roots
 taken_live program touched known roots set w o is = (order_kept_inside.renews program touched known roots set (without_views w) is (in_order w o)).live.0
 
 pub ordered_kept : IsKept IsOrdered
+unfolding born died
 ordered_kept = record {
   put = λ w c v o. let x = order_kept.put (without_views w) c v (in_order w o) in record { rises = x.rises; below = x.below };
   keeping = λ w k o. record { rises = o.rises; below = o.below };
@@ -79,18 +77,15 @@ grown program touched next set w o old c i = of (or_cases _ _ (sym (in_both cell
 
 -- ---- what a set is taken from
 
-counted_lives : (program : Program) (touched : List Key) (index : ℕ) (o : Option New) → counts_in program touched index o ≡ true → is_some o ≡ true
-counted_lives program touched index None e = e
-counted_lives program touched index (Some block) e = refl
-
-live_and : (a b : Bool) → a ≡ true → (a && b) ≡ b
-live_and a b e = rw e refl
+counted_lives : (program : Program) (touched : List Key) (m : Memory) (index : ℕ) (o : Option New) → counts_in program touched m index o ≡ true → is_some o ≡ true
+counted_lives program touched m index None e = e
+counted_lives program touched m index (Some block) e = refl
 
 module _ (program : Program) (touched : List Key) (m : Memory) (set : List Cell) where
   -- a cell that counts lives
   counted_live : (c : Cell) → is_in cells (counted (graph program touched m)) c ≡ true → is_live m c.serial ≡ true
   unfolding counted graph is_live
-  counted_live c i = counted_lives program touched c.index (born_at m c.serial) (and_parts _ _ (sym (is_in-filter cells (counts program touched m) (all_cells m) c) ∙ i)).0
+  counted_live c i = counted_lives program touched m c.index (born_at m c.serial) (and_parts _ _ (sym (is_in-filter cells (counts program touched m) (all_cells m) c) ∙ i)).0
 
   living_in : (global more : List Cell) (c : Cell) → is_live m c.serial ≡ true → is_in cells (global ++ (living m set ++ more)) c ≡ is_in cells (global ++ (set ++ more)) c
   living_in global more c live =

@@ -1,5 +1,5 @@
 -- Births, deaths, accesses and services, with a set in the world and beside it.
-use Rattle.std.proofs.Common.{◌≡◌, ℕ, zero, suc, ◌+◌, ◌<◌, ◌≤◌, Bool, true, false, ◌&&◌, ◌||◌, List, [], ◌∷◌, ◌++◌, Option, Some, None, Result, Ok, Err, refl, sym, ◌∙◌, ap, subst, arith}
+use Rattle.std.proofs.Common.{◌≡◌, ℕ, zero, suc, ◌+◌, ◌<◌, ◌≤◌, Bool, true, false, ◌&&◌, ◌||◌, List, [], ◌∷◌, ◌++◌, Option, Some, None, Result, Ok, Err, refl, sym, ◌∙◌, ap, arith}
 use Rattle.std.specs.Prelude.{map, nat_lt}
 use Rattle.std.specs.List.{list_all}
 use Rattle.mdr_core.specs.declared.place.At.{At}
@@ -15,10 +15,8 @@ use Rattle.mdr_mem.specs.Contents.{births_in}
 use Rattle.mdr_meaning.specs.declared.shape.Shape64.{Shape64}
 use Rattle.mdr_meaning.specs.declared.wire.Wire.{Wire}
 use Rattle.mdr_meaning.specs.declared.wire.Wire.TheVariants as wire
-use Rattle.mdr_meaning.specs.declared.wire.WireView.{WireView}
 use Rattle.mdr_meaning.specs.Tree.{Asked}
 use Rattle.mdr_meaning.specs.Values.{first_of, natural, rest_of}
-use Rattle.mdr_meaning.specs.Walk.{Born}
 use Rattle.mdr_model.specs.declared.memory.Cell.{Cell}
 use Rattle.mdr_model.specs.declared.message.BirthKind.{BirthKind}
 use Rattle.mdr_model.specs.declared.message.BirthKind.TheVariants.{Auto, Heap}
@@ -28,12 +26,12 @@ use Rattle.mdr_paths.specs.Paths.{is_in}
 use Rattle.mdr_plain.specs.Gate.{are_none}
 use Rattle.mdr_plain.specs.Locks.{acquire, acquired, changed, lock_in, release, released, taken_as, with_lock}
 use Rattle.mdr_plain.specs.Services.{Served, allocated, as_now, as_served, asked_once_more, fails_now, freed, freed_by, gives_none, is_no_block, requested, served, served_by, when_changed}
-use Rattle.mdr_plain.specs.Storage.{births, born, bytes_from, cells_read, deaths, died, died_at, new_of, next_serial, pointer_to, read, remembers, with_block, with_memory, with_pointer, without}
-use Rattle.mdr_plain.specs.World.{World, Ended, Stopped, Ran, left}
+use Rattle.mdr_plain.specs.Storage.{births, born, bytes_from, cells_read, deaths, died, died_at, new_of, pointer_to, read, remembers, with_block, with_memory, with_pointer, without}
+use Rattle.mdr_plain.specs.World.{World, left}
 use Rattle.mdr_watched.proofs.KeepLaws.{IsKept, births_keep, deaths_keep, served_keeps}
 use Rattle.mdr_viewed.specs.Laws.{AccessesAreViewed, AgreeOn, BirthsAreViewed, ServicesAreViewed}
-use Rattle.mdr_viewed.specs.Viewed.{HasUpcall, IsOlder, IsViewed, TouchAlike, living, viewed, viewed_born, viewed_if, viewing}
-use Rattle.mdr_viewed.proofs.Living.{births_grow, is_living, living_born, living_killed, living_put}
+use Rattle.mdr_viewed.specs.Viewed.{HasUpcall, IsOlder, TouchAlike, living, viewed, viewed_born, viewed_if, viewing}
+use Rattle.mdr_viewed.proofs.Living.{births_grow, is_living, live_and, living_born, living_killed, living_put}
 
 -- ---- what is kept
 
@@ -128,10 +126,12 @@ deaths_viewed (p ∷ ps) set w = ap (deaths ps) (died_at_viewed p set w) ∙ dea
 
 pub births_are_viewed : BirthsAreViewed
 births_are_viewed = record {
-  births = births_viewed;
-  born = λ program kind shapes set w older. births_keep (IsOlder set) (older_kept set) program kind shapes w older;
-  deaths = deaths_viewed;
-  died = λ ps set w older. deaths_keep (IsOlder set) (older_kept set) ps w older;
+  born = births_viewed;
+  older_born = λ program kind shapes set w older. births_keep (IsOlder set) (older_kept set) program kind shapes w older;
+  died = deaths_viewed;
+  older_died = λ ps set w older. deaths_keep (IsOlder set) (older_kept set) ps w older;
+  upcall_born = λ program kind shapes w e. births_keep HasUpcall upcall_kept program kind shapes w e;
+  upcall_died = λ ps w e. deaths_keep HasUpcall upcall_kept ps w e;
 }
 
 -- ---- accesses
@@ -184,9 +184,6 @@ agree_on program set inside beside alike w = record {
   fresh = λ v. refl;
 }
 
-live_and : (a b : Bool) → a ≡ true → (a && b) ≡ b
-live_and a b e = rw e refl
-
 pub accesses_are_viewed : AccessesAreViewed
 accesses_are_viewed = record {
   agree = agree_on;
@@ -196,13 +193,13 @@ accesses_are_viewed = record {
 
 -- ---- services
 
-pick : {set : List Cell} {x x' y y' : Served} (b : Bool) → x' ≡ viewing set x → y' ≡ viewing set y → chosen b x' y' ≡ viewing set (chosen b x y)
-pick true h g = h
-pick false h g = g
+pick : (set : List Cell) (x x' y y' : Served) (b : Bool) → x' ≡ viewing set x → y' ≡ viewing set y → chosen b x' y' ≡ viewing set (chosen b x y)
+pick set x x' y y' true h g = h
+pick set x x' y y' false h g = g
 
 allocated_viewed : (program : Program) (shapes : List Shape64) (set : List Cell) (w : World) → IsOlder set w → allocated program shapes (viewed set w) ≡ viewing set (allocated program shapes w)
 allocated_viewed program [] set w older = refl
-allocated_viewed program (s ∷ shapes) set w older = pick (fails_now w || is_no_block program s) refl (ap as_served (births_viewed program Heap (s ∷ []) set w older))
+allocated_viewed program (s ∷ shapes) set w older = pick set _ _ _ _ (fails_now w || is_no_block program s) refl (ap as_served (births_viewed program Heap (s ∷ []) set w older))
 
 freed_by_viewed : (whole locked : Bool) (serial : ℕ) (at : At) (set : List Cell) (w : World) → freed_by whole locked serial at (viewed set w) ≡ viewing set (freed_by whole locked serial at w)
 freed_by_viewed false locked serial at set w = refl
@@ -250,8 +247,8 @@ served_by_viewed : (program : Program) (a : Asked) (s : Option Service) (set : L
 served_by_viewed program a (Some Kzalloc) set w e older = allocated_viewed program a.shapes set (asked_once_more w) older
 served_by_viewed program a (Some Kcalloc) set w e older = allocated_viewed program a.shapes set (asked_once_more w) older
 served_by_viewed program a (Some Kfree) set w e older = freed_viewed program a.at (first_of a.args) set w
-served_by_viewed program a (Some Readl) set w e older = pick (nat_lt (natural (first_of a.args)) 4096) refl refl
-served_by_viewed program a (Some Writel) set w e older = pick (nat_lt (natural (first_of (rest_of a.args))) 4096) refl refl
+served_by_viewed program a (Some Readl) set w e older = pick set _ _ _ _ (nat_lt (natural (first_of a.args)) 4096) refl refl
+served_by_viewed program a (Some Writel) set w e older = pick set _ _ _ _ (nat_lt (natural (first_of (rest_of a.args))) 4096) refl refl
 served_by_viewed program a (Some Printk) set w e older = refl
 served_by_viewed program a (Some RequestIrq) set w e older = requested_viewed w.kept.handler (first_of a.args) set w
 served_by_viewed program a (Some FreeIrq) set w e older = refl

@@ -1,22 +1,22 @@
 -- What user code asks for, and calls, with its set beside the world.
-use Rattle.std.proofs.Common.{◌≡◌, ℕ, List, [], ◌∷◌, ◌++◌, Option, Some, Result, Ok, Err, refl, sym, ◌∙◌, ap}
+use Rattle.std.proofs.Common.{◌≡◌, ℕ, List, Result, Ok, Err, refl, ◌∙◌, ap}
 use Rattle.mdr_core.specs.declared.place.At.{At}
-use Rattle.mdr_extents.specs.Reaching.{Failing, visible}
+use Rattle.mdr_extents.specs.Reaching.{Failing}
 use Rattle.mdr_meaning.specs.declared.wire.Wire.{Wire}
 use Rattle.mdr_meaning.specs.Tree.{Asked}
 use Rattle.mdr_model.specs.declared.memory.Cell.{Cell}
-use Rattle.mdr_plain.specs.Running.{call, interrupts, nothing}
+use Rattle.mdr_plain.specs.Running.{call, nothing}
 use Rattle.mdr_plain.specs.Services.{served}
 use Rattle.mdr_plain.specs.Storage.{next_serial}
 use Rattle.mdr_plain.specs.World.{World, Ran, Ended, Stopped, after, left}
 use Rattle.mdr_watched.specs.Driver.{Driver, result_roots, touched_by}
 use Rattle.mdr_watched.specs.Order.{AreLive}
-use Rattle.mdr_watched.specs.Views.{gained, new_cells, renewed, taken}
+use Rattle.mdr_watched.specs.Views.{gained, renewed, taken}
 use Rattle.mdr_watched.specs.Watched.{downcall, held, kernel_of, returns_to, sent, serves}
 use Rattle.mdr_watched.proofs.KeepLaws.{served_keeps}
 use Rattle.mdr_viewed.specs.Laws.{UpcallsAreViewed, asks, goes_down, returns}
-use Rattle.mdr_viewed.specs.Viewed.{HasUpcall, IsOlder, IsOrdered, IsViewed, after_beside, living, viewed, viewing}
-use Rattle.mdr_viewed.proofs.Code.{call_keeps, called_viewed}
+use Rattle.mdr_viewed.specs.Viewed.{HasUpcall, IsOlder, IsOrdered, after_beside, viewed, viewing}
+use Rattle.mdr_viewed.proofs.KernelCode.{call_keeps, called_viewed}
 use Rattle.mdr_viewed.proofs.Sets.{gains, ordered_kept, renews, sets_are_viewed}
 use Rattle.mdr_viewed.proofs.Steps.{served_viewed}
 

@@ -1,5 +1,5 @@
 -- What code does where a set is in the world of a run, and where it is kept beside it.
-use Rattle.std.specs.Prelude.{◌≡◌, ℕ, List, [], ◌∷◌, ◌++◌, Ok}
+use Rattle.std.specs.Prelude.{◌≡◌, ℕ, Bool, List, [], ◌++◌, Ok}
 use Rattle.mdr_core.specs.declared.place.At.{At}
 use Rattle.mdr_core.specs.declared.plan.Key.{Key}
 use Rattle.mdr_core.specs.declared.program.Program.{Program}
@@ -39,11 +39,14 @@ pub record AccessesAreViewed : Type 0 where
 -- ---- births and deaths
 
 pub record BirthsAreViewed : Type 0 where
-  pub births : (program : Program) (kind : BirthKind) (shapes : List Shape64) (set : List Cell) (w : World) → IsOlder set w
+  pub born : (program : Program) (kind : BirthKind) (shapes : List Shape64) (set : List Cell) (w : World) → IsOlder set w
       → births program kind shapes (viewed set w) ≡ viewed_born set (births program kind shapes w)
-  pub born : (program : Program) (kind : BirthKind) (shapes : List Shape64) (set : List Cell) (w : World) → IsOlder set w → IsOlder set (births program kind shapes w).memory
-  pub deaths : (ps : List Wire) (set : List Cell) (w : World) → deaths ps (viewed set w) ≡ viewed set (deaths ps w)
-  pub died : (ps : List Wire) (set : List Cell) (w : World) → IsOlder set w → IsOlder set (deaths ps w)
+  pub older_born : (program : Program) (kind : BirthKind) (shapes : List Shape64) (set : List Cell) (w : World) → IsOlder set w → IsOlder set (births program kind shapes w).memory
+  pub died : (ps : List Wire) (set : List Cell) (w : World) → deaths ps (viewed set w) ≡ viewed set (deaths ps w)
+  pub older_died : (ps : List Wire) (set : List Cell) (w : World) → IsOlder set w → IsOlder set (deaths ps w)
+  -- the upcall stays open
+  pub upcall_born : (program : Program) (kind : BirthKind) (shapes : List Shape64) (w : World) → HasUpcall w → HasUpcall (births program kind shapes w).memory
+  pub upcall_died : (ps : List Wire) (w : World) → HasUpcall w → HasUpcall (deaths ps w)
 
 -- ---- services and kernel code
 

@@ -1,4 +1,4 @@
-use Rattle.mdr_viewed.proofs.Code.{kernel_code_is_viewed}
+use Rattle.mdr_viewed.proofs.KernelCode.{kernel_code_is_viewed}
 use Rattle.mdr_viewed.proofs.laws.kernel_code_is_viewed.Goals as goal
 
 pub returns : goal.returns

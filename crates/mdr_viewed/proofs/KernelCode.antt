@@ -1,12 +1,11 @@
 -- Code of the kernel half, with a set in the world and beside it.
-use Rattle.std.proofs.Common.{◌≡◌, ℕ, zero, suc, Bool, true, false, List, [], ◌∷◌, Option, Some, None, Result, Ok, Err, refl, sym, ◌∙◌, ap}
+use Rattle.std.proofs.Common.{◌≡◌, ℕ, zero, suc, List, Option, Some, Result, Ok, Err, refl, ◌∙◌, ap}
 use Rattle.mdr_core.specs.declared.place.At.{At}
 use Rattle.mdr_core.specs.declared.program.Program.{Program}
 use Rattle.mdr_core.specs.declared.stop.StopKind.{StopKind}
 use Rattle.mdr_meaning.specs.declared.wire.Wire.{Wire}
 use Rattle.mdr_meaning.specs.declared.wire.Wire.TheVariants as wire
-use Rattle.mdr_meaning.specs.Bodies.{started}
-use Rattle.mdr_meaning.specs.Tree.{Asked, Tree}
+use Rattle.mdr_meaning.specs.Tree.{Tree}
 use Rattle.mdr_meaning.specs.Walk.{Born}
 use Rattle.mdr_model.specs.declared.memory.Cell.{Cell}
 use Rattle.mdr_model.specs.declared.message.BirthKind.TheVariants.{Auto}
@@ -15,13 +14,13 @@ use Rattle.mdr_plain.specs.Plain.{never}
 use Rattle.mdr_plain.specs.Running.{Before, all_cells, call, handled, in_kernel, interrupts, nothing, run}
 use Rattle.mdr_plain.specs.Services.{served}
 use Rattle.mdr_plain.specs.Storage.{births, deaths, remembers, with_memory}
-use Rattle.mdr_plain.specs.World.{World, Ran, Ended, Stopped, Work, advanced, after, counted, done, given, left, then}
+use Rattle.mdr_plain.specs.World.{World, Ran, Ended, Stopped, advanced, after, counted, done, given, left, then}
 use Rattle.mdr_watched.specs.Driver.{Driver}
 use Rattle.mdr_watched.specs.Watched.{kernel_of}
-use Rattle.mdr_watched.proofs.KeepLaws.{IsKept, Keeps, births_keep, deaths_keep, run_keeps, served_keeps}
+use Rattle.mdr_watched.proofs.KeepLaws.{IsKept, births_keep, deaths_keep, run_keeps, served_keeps}
 use Rattle.mdr_watched.proofs.WaitLaws.{none_due}
 use Rattle.mdr_viewed.specs.Laws.{KernelCodeIsViewed}
-use Rattle.mdr_viewed.specs.Viewed.{HasUpcall, IsOlder, IsViewed, viewed, viewed_born, viewing}
+use Rattle.mdr_viewed.specs.Viewed.{HasUpcall, IsOlder, IsViewed, viewed, viewing}
 use Rattle.mdr_viewed.proofs.Steps.{IsBeside, beside_kept, births_viewed, deaths_viewed, put_viewed, served_beside, served_viewed, upcall_kept}
 
 -- ---- one thing after another
