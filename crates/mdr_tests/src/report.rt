@@ -6,17 +6,17 @@ use mdr_core::{
 use mdr_model::{End, Happened, Object, Outcome, Seen};
 use mdr_report::report;
 use std::alloc::Global;
+use std::process::Abort;
 use std::test::Fail;
 
 fn name_of(alloc: Global, name: &str) -> Result<Items<u8>, Fail> {
-    let mut bytes = Vec::new(alloc);
-    bytes.extend_from_slice(name.as_bytes())?;
-    Ok(Items::from_vec(bytes))
+    Ok(Items::from_slice(alloc, name.as_bytes())?)
 }
 
 fn function(alloc: Global, name: &str) -> Result<Func, Fail> {
+    let name = name_of(alloc, name)?;
     Ok(Func {
-        name: name_of(alloc, name)?,
+        name,
         params: Items::new(alloc),
         result: Ty::Void,
         ann: Ann::Single,
@@ -35,8 +35,9 @@ fn funcs(alloc: Global) -> Result<Items<Func>, Fail> {
 }
 
 fn global(alloc: Global, name: &str) -> Result<GlobalDef, Fail> {
+    let name = name_of(alloc, name)?;
     Ok(GlobalDef {
-        name: name_of(alloc, name)?,
+        name,
         ty: Ty::Int(Kind::U32),
         count: 1,
         array: false,
@@ -45,59 +46,91 @@ fn global(alloc: Global, name: &str) -> Result<GlobalDef, Fail> {
     })
 }
 
-fn program(alloc: Global) -> Result<Program, Fail> {
+fn globals(alloc: Global) -> Result<Items<GlobalDef>, Fail> {
+    let mut globals = Items::new(alloc);
+    globals.push(global(alloc, "count")?)?;
+    Ok(globals)
+}
+
+fn types(alloc: Global) -> Result<Items<Ty>, Fail> {
     let mut types = Items::new(alloc);
     types.push(Ty::Int(Kind::U32))?;
     types.push(Ty::Int(Kind::S8))?;
     types.push(Ty::Lock)?;
-    let mut globals = Items::new(alloc);
-    globals.push(global(alloc, "count")?)?;
+    Ok(types)
+}
+
+fn program(alloc: Global) -> Result<Program, Fail> {
+    let types = types(alloc)?;
+    let globals = globals(alloc)?;
+    let funcs = funcs(alloc)?;
     Ok(Program {
         types,
         structs: Items::new(alloc),
         globals,
-        funcs: funcs(alloc)?,
+        funcs,
     })
 }
 
-fn object(alloc: Global, ty: u32, count: u32, cells: &[Seen]) -> Result<Object, Fail> {
-    let mut all = Vec::new(alloc);
-    all.extend_from_slice(cells)?;
-    Ok(Object {
-        ty,
-        count,
-        cells: Items::from_vec(all),
-    })
+fn call(alloc: Global) -> Result<Happened, Fail> {
+    let name = name_of(alloc, "open")?;
+    let args = Items::from_slice(alloc, &[Value::Int(Kind::S8, -7), Value::Null])?;
+    Ok(Happened::Call(name, args))
 }
 
 fn events(alloc: Global) -> Result<Items<Happened>, Fail> {
-    let args = vec![in alloc; Value::Int(Kind::S8, -7), Value::Null]?;
-    Ok(Items::from_vec(vec![in alloc;
-        Happened::Call(name_of(alloc, "open")?, Items::from_vec(args)),
-        Happened::Wrote(4, 1),
-        Happened::Ret(Value::NoValue),
-        Happened::Ret(Value::Fn(0)),
-        Happened::Ret(Value::Lock(LockState::Sleep)),
-    ]?))
+    let mut events = Items::new(alloc);
+    events.push(call(alloc)?)?;
+    events.push(Happened::Wrote(4, 1))?;
+    for value in [Value::NoValue, Value::Fn(0), Value::Lock(LockState::Sleep)] {
+        events.push(Happened::Ret(value))?;
+    }
+    Ok(events)
+}
+
+fn object(alloc: Global, ty: u32, count: u32, cells: &[Seen]) -> Result<Object, Fail> {
+    let cells = Items::from_slice(alloc, cells)?;
+    Ok(Object { ty, count, cells })
+}
+
+fn objects(alloc: Global) -> Result<Items<Object>, Fail> {
+    let mut objects = Items::new(alloc);
+    objects.push(object(alloc, 0, 1, &[Seen::Int(2)])?)?;
+    objects.push(object(alloc, 1, 2, &[Seen::Int(-128), Seen::Null])?)?;
+    let kinds = [Seen::Free, Seen::Held, Seen::At(2, 1), Seen::Fn(1)];
+    objects.push(object(alloc, 2, 4, &kinds)?)?;
+    Ok(objects)
 }
 
 fn outcome(alloc: Global, end: End) -> Result<Outcome, Fail> {
+    let events = events(alloc)?;
+    let objects = objects(alloc)?;
     Ok(Outcome {
-        events: events(alloc)?,
+        events,
         end,
         ticks: 5,
         live: 3,
-        objects: Items::from_vec(vec![in alloc;
-            object(alloc, 0, 1, &[Seen::Int(2)])?,
-            object(alloc, 1, 2, &[Seen::Int(-128), Seen::Null])?,
-            object(
-                alloc,
-                2,
-                4,
-                &[Seen::Free, Seen::Held, Seen::At(2, 1), Seen::Fn(1)]
-            )?,
-        ]?),
+        objects,
     })
+}
+
+/// The report of a run that ended so has this line.
+fn is_told(
+    rt: &impl Abort,
+    alloc: Global,
+    program: &Program,
+    end: End,
+    line: &str,
+) -> Result<(), Fail> {
+    let outcome = outcome(alloc, end)?;
+    let printed = report(alloc, program, &outcome)
+        .ok()
+        .ok_or("memory was wanting")?;
+    let expected = format!(in alloc;
+        "call open -7 null\nW 4 1\nret none\nret &bump\nret held\n{line}\nticks 5\nlive 3\nobj 1 u32 x1: 2\nobj 2 s8 x2: -128 null\nobj 3 combolock_t x4: free held @2+1 &open\n"
+    )?;
+    assert_eq!(rt; printed.as_slice(), expected.as_bytes(), "at {line}");
+    Ok(())
 }
 
 #[test]
@@ -118,14 +151,7 @@ fn prints_events_end_and_objects(rt: HostRuntime) -> Result<(), Fail> {
         ),
         (End::FarFault(2), "far fault 2"),
     ] {
-        let expected = format!(in alloc;
-            "call open -7 null\nW 4 1\nret none\nret &bump\nret held\n{line}\nticks 5\nlive 3\nobj 1 u32 x1: 2\nobj 2 s8 x2: -128 null\nobj 3 combolock_t x4: free held @2+1 &open\n"
-        )?;
-        let printed = report(alloc, &program, &outcome(alloc, end)?);
-        assert!(rt; printed.is_ok());
-        if let Ok(bytes) = printed {
-            assert_eq!(rt; bytes.as_slice(), expected.as_bytes(), "at {line}");
-        }
+        is_told(&rt, alloc, &program, end, line)?;
     }
     Ok(())
 }
