@@ -1,0 +1,5 @@
+pub mod Living
+pub mod Steps
+pub mod Code
+pub mod Sets
+pub mod Upcalls

@@ -1,0 +1,56 @@
+-- What user code asks for, and calls, with its set beside the world.
+use Rattle.std.proofs.Common.{◌≡◌, ℕ, List, [], ◌∷◌, ◌++◌, Option, Some, Result, Ok, Err, refl, sym, ◌∙◌, ap}
+use Rattle.mdr_core.specs.declared.place.At.{At}
+use Rattle.mdr_extents.specs.Reaching.{Failing, visible}
+use Rattle.mdr_meaning.specs.declared.wire.Wire.{Wire}
+use Rattle.mdr_meaning.specs.Tree.{Asked}
+use Rattle.mdr_model.specs.declared.memory.Cell.{Cell}
+use Rattle.mdr_plain.specs.Running.{call, interrupts, nothing}
+use Rattle.mdr_plain.specs.Services.{served}
+use Rattle.mdr_plain.specs.Storage.{next_serial}
+use Rattle.mdr_plain.specs.World.{World, Ran, Ended, Stopped, after, left}
+use Rattle.mdr_watched.specs.Driver.{Driver, result_roots, touched_by}
+use Rattle.mdr_watched.specs.Order.{AreLive}
+use Rattle.mdr_watched.specs.Views.{gained, new_cells, renewed, taken}
+use Rattle.mdr_watched.specs.Watched.{downcall, held, kernel_of, returns_to, sent, serves}
+use Rattle.mdr_watched.proofs.KeepLaws.{served_keeps}
+use Rattle.mdr_viewed.specs.Laws.{UpcallsAreViewed, asks, goes_down, returns}
+use Rattle.mdr_viewed.specs.Viewed.{HasUpcall, IsOlder, IsOrdered, IsViewed, after_beside, living, viewed, viewing}
+use Rattle.mdr_viewed.proofs.Code.{call_keeps, called_viewed}
+use Rattle.mdr_viewed.proofs.Sets.{gains, ordered_kept, renews, sets_are_viewed}
+use Rattle.mdr_viewed.proofs.Steps.{served_viewed}
+
+-- what comes after work that is done with the set in the world
+goes_beside : {A B : Type 0} (set : List Cell) (r : Ran A) (go go' : A → World → Ran B) → IsOrdered (left r) → ((x : A) (w : World) → IsOrdered w → go x (viewed set w) ≡ go' x w) → after (viewing set r) go ≡ after_beside set r go'
+goes_beside set (Ended x w) go go' o each = each x w o
+goes_beside set (Stopped kind at w) go go' o each = refl
+
+module _ (d : Driver) (t : ℕ) (set : List Cell) where
+  asks_viewed : (asked : Asked) (w : World) → HasUpcall w → IsOlder set w → IsOrdered w → serves d (held d) t asked (viewed set w) ≡ asks d t set asked w
+  asks_viewed asked w e older o =
+      ap (λ r. after r (λ results w'. Ended results (gained d.program (touched_by d.plan t) (next_serial w) w'))) (served_viewed d.program asked set w e older)
+      ∙ goes_beside set (served d.program asked w) _ _ (served_keeps IsOrdered ordered_kept d.program asked w o).at_end
+      (λ results w' o'. ap (Ended results) (gains d.program (touched_by d.plan t) (next_serial w) set w' o'))
+
+  -- the set that a result leads to
+  found_viewed : (r : Result (List Cell) Failing) (at : At) (v : Wire) (w : World) → ((found : List Cell) → r ≡ Ok found → AreLive w.memory found)
+      → taken r at (viewed set w) (λ found. Ended v (renewed found (viewed set w))) ≡ taken r at (viewed set w) (λ found. Ended v (viewed found w))
+  found_viewed (Ok found) at v w live = ap (Ended v) (renews set found w (live found refl))
+  found_viewed (Err failing) at v w live = refl
+
+  returns_viewed : (at : At) (f : ℕ) (args : List Wire) (v : Wire) (w : World) → IsOrdered w → returns_to d (held d) t at f args v (viewed set w) ≡ returns d t set at f args v w
+  returns_viewed at f args v w o =
+      ap (λ r. taken r at (viewed set w) (λ found. Ended v (renewed found (viewed set w)))) (sets_are_viewed.known d.program (touched_by d.plan t) w.memory set (result_roots d.program f args v))
+      ∙ found_viewed _ at v w (λ found is. sets_are_viewed.taken d.program (touched_by d.plan t) set (result_roots d.program f args v) found w o is)
+
+  downs_viewed : (at : At) (f : ℕ) (args : List Wire) (depth : ℕ) (w : World) → HasUpcall w → IsOlder set w → IsOrdered w → downcall d (held d) t at f args depth (viewed set w) ≡ goes_down d t set at f args depth w
+  downs_viewed at f args depth w e older o =
+      ap (λ r. after r (returns_to d (held d) t at f (sent d (held d) t args w))) (called_viewed d f (sent d (held d) t args w) depth set w e older).is
+      ∙ goes_beside set (call (kernel_of d) nothing f (sent d (held d) t args w) depth w) _ _ (call_keeps d IsOrdered ordered_kept f (sent d (held d) t args w) depth w o)
+      (λ v w' o'. returns_viewed at f (sent d (held d) t args w) v w' o')
+
+pub upcalls_are_viewed : UpcallsAreViewed
+upcalls_are_viewed = record {
+  asks = λ d t set asked w e older o. asks_viewed d t set asked w e older o;
+  downs = λ d t set at f args depth w e older o. downs_viewed d t set at f args depth w e older o;
+}

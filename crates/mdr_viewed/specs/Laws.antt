@@ -1,0 +1,91 @@
+-- What code does where a set is in the world of a run, and where it is kept beside it.
+use Rattle.std.specs.Prelude.{◌≡◌, ℕ, List, [], ◌∷◌, ◌++◌, Ok}
+use Rattle.mdr_core.specs.declared.place.At.{At}
+use Rattle.mdr_core.specs.declared.plan.Key.{Key}
+use Rattle.mdr_core.specs.declared.program.Program.{Program}
+use Rattle.mdr_extents.specs.Reaching.{Roots, visible}
+use Rattle.mdr_meaning.specs.declared.shape.Shape64.{Shape64}
+use Rattle.mdr_meaning.specs.declared.wire.Wire.{Wire}
+use Rattle.mdr_meaning.specs.Tree.{Asked}
+use Rattle.mdr_model.specs.declared.memory.Cell.{Cell}
+use Rattle.mdr_model.specs.declared.message.BirthKind.{BirthKind}
+use Rattle.mdr_model.specs.Memory.{Memory}
+use Rattle.mdr_plain.specs.Running.{all_cells, call, interrupts, nothing}
+use Rattle.mdr_plain.specs.Services.{served}
+use Rattle.mdr_plain.specs.Storage.{accesses, births, deaths, next_serial}
+use Rattle.mdr_plain.specs.World.{World, Ran, Ended}
+use Rattle.mdr_watched.specs.Driver.{Driver, result_roots, touched_by}
+use Rattle.mdr_watched.specs.Order.{AreLive}
+use Rattle.mdr_watched.specs.Views.{closed, gained, may_touch, new_cells, opened, renewed, taken}
+use Rattle.mdr_watched.specs.Watched.{downcall, held, kernel_of, sent, serves}
+use Rattle.mdr_viewed.specs.Viewed.{HasUpcall, IsOlder, IsOrdered, IsViewed, TouchAlike, after_beside, in_set, living, viewed, viewed_born, viewed_if}
+
+-- ---- accesses
+
+-- accesses with two tests that agree
+pub record AgreeOn (program : Program) (set : List Cell) (inside beside : World → Cell → Bool) (w : World) : Type 0 where
+  pub load : (p : Wire) → (accesses program inside).load (viewed set w) p ≡ (accesses program beside).load w p
+  pub store : (p v : Wire) → (accesses program inside).store (viewed set w) p v ≡ viewed_if set ((accesses program beside).store w p v)
+  pub read : (p : Wire) (n : ℕ) → (accesses program inside).read (viewed set w) p n ≡ (accesses program beside).read w p n
+  pub fresh : (v : Wire) → (accesses program inside).fresh (viewed set w) v ≡ (accesses program beside).fresh w v
+
+pub record AccessesAreViewed : Type 0 where
+  pub agree : (program : Program) (set : List Cell) (inside beside : World → Cell → Bool) → TouchAlike set inside beside → (w : World) → AgreeOn program set inside beside w
+  -- so those of user code are held to the set
+  pub user : (set : List Cell) → TouchAlike set may_touch (in_set set)
+  pub kernel : (set : List Cell) → TouchAlike set all_cells all_cells
+
+-- ---- births and deaths
+
+pub record BirthsAreViewed : Type 0 where
+  pub births : (program : Program) (kind : BirthKind) (shapes : List Shape64) (set : List Cell) (w : World) → IsOlder set w
+      → births program kind shapes (viewed set w) ≡ viewed_born set (births program kind shapes w)
+  pub born : (program : Program) (kind : BirthKind) (shapes : List Shape64) (set : List Cell) (w : World) → IsOlder set w → IsOlder set (births program kind shapes w).memory
+  pub deaths : (ps : List Wire) (set : List Cell) (w : World) → deaths ps (viewed set w) ≡ viewed set (deaths ps w)
+  pub died : (ps : List Wire) (set : List Cell) (w : World) → IsOlder set w → IsOlder set (deaths ps w)
+
+-- ---- services and kernel code
+
+abbrev pub ServicesAreViewed : Type 0
+ServicesAreViewed = (program : Program) (asked : Asked) (set : List Cell) (w : World) → HasUpcall w → IsOlder set w → IsViewed set (served program asked (viewed set w)) (served program asked w)
+
+pub record KernelCodeIsViewed : Type 0 where
+  pub called : (d : Driver) (f : ℕ) (args : List Wire) (depth : ℕ) (set : List Cell) (w : World) → HasUpcall w → IsOlder set w
+      → IsViewed set (call (kernel_of d) (interrupts (kernel_of d)) f args depth (viewed set w)) (call (kernel_of d) nothing f args depth w)
+  -- while an upcall is open nothing is tried
+  pub waits : (d : Driver) (f : ℕ) (args : List Wire) (depth : ℕ) (w : World) → HasUpcall w
+      → call (kernel_of d) (interrupts (kernel_of d)) f args depth w ≡ call (kernel_of d) nothing f args depth w
+
+-- ---- sets
+
+pub record SetsAreViewed : Type 0 where
+  -- an upcall opens, with an empty set beside which this one is kept, and is over
+  pub opens : (set : List Cell) (w : World) → w.views ≡ [] → AreLive w.memory set → opened set w ≡ viewed set (opened [] w)
+  pub closes : (set : List Cell) (w : World) → w.views ≡ [] → closed (viewed set (opened [] w)) ≡ w
+  pub renews : (old set : List Cell) (w : World) → AreLive w.memory set → renewed set (viewed old w) ≡ viewed set w
+  pub gains : (program : Program) (touched : List Key) (next : ℕ) (set : List Cell) (w : World) → IsOrdered w → gained program touched next (viewed set w) ≡ viewed (set ++ new_cells program touched next w.memory) w
+  -- what a set is taken from may have dead cells
+  pub known : (program : Program) (touched : List Key) (m : Memory) (set : List Cell) (roots : Roots) → visible program touched m (living m set) roots ≡ visible program touched m set roots
+  -- a set that is taken is of what lives, and so older than what is born later; and so it is where it grows
+  pub taken : (program : Program) (touched : List Key) (known : List Cell) (roots : Roots) (set : List Cell) (w : World) → IsOrdered w → visible program touched w.memory known roots ≡ Ok set → AreLive w.memory set
+  pub older : (set : List Cell) (w : World) → IsOrdered w → AreLive w.memory set → IsOlder set w
+  pub grown : (program : Program) (touched : List Key) (next : ℕ) (set : List Cell) (w : World) → IsOrdered w → IsOlder set w → IsOlder (set ++ new_cells program touched next w.memory) w
+
+-- ---- what user code asks for, and calls
+
+module _ (d : Driver) (t : ℕ) (set : List Cell) where
+  -- what is born joins the set
+  abbrev pub asks : Asked → World → Ran (List Wire)
+  asks asked w = after_beside set (served d.program asked w) (λ results w'. Ended results (viewed (set ++ new_cells d.program (touched_by d.plan t) (next_serial w) w'.memory) w'))
+
+  -- the set is taken anew
+  abbrev pub returns : At → (func : ℕ) (args : List Wire) → Wire → World → Ran Wire
+  returns at f args v w = taken (visible d.program (touched_by d.plan t) w.memory set (result_roots d.program f args v)) at (viewed set w) (λ found. Ended v (viewed found w))
+
+  abbrev pub goes_down : At → (func : ℕ) (args : List Wire) (depth : ℕ) → World → Ran Wire
+  goes_down at f args depth w = after_beside set (call (kernel_of d) nothing f (sent d (held d) t args w) depth w) (returns at f (sent d (held d) t args w))
+
+pub record UpcallsAreViewed : Type 0 where
+  pub asks : (d : Driver) (t : ℕ) (set : List Cell) (asked : Asked) (w : World) → HasUpcall w → IsOlder set w → IsOrdered w → serves d (held d) t asked (viewed set w) ≡ asks d t set asked w
+  pub downs : (d : Driver) (t : ℕ) (set : List Cell) (at : At) (f : ℕ) (args : List Wire) (depth : ℕ) (w : World) → HasUpcall w → IsOlder set w → IsOrdered w
+      → downcall d (held d) t at f args depth (viewed set w) ≡ goes_down d t set at f args depth w
