@@ -1,6 +1,9 @@
-pub mod CutRuns
+pub mod Around
 pub mod Walked
+pub mod Standing
+pub mod Seeing
 pub mod Stand
+pub mod EndsAnywhere
 pub mod Ends
 pub mod Tries
 pub mod Commands

@@ -16,10 +16,11 @@ use Rattle.mdr_meaning.specs.Sides.{Side}
 use Rattle.mdr_meaning.specs.Tree.{Tree}
 use Rattle.mdr_meaning.specs.Walk.{Accesses}
 use Rattle.mdr_plain.specs.Laws.{GivesNoTicks}
-use Rattle.mdr_plain.specs.Plain.{whole}
-use Rattle.mdr_plain.specs.Running.{Before, call}
+use Rattle.mdr_plain.specs.Plain.{never, whole}
+use Rattle.mdr_plain.specs.Running.{Before, call, in_kernel}
 use Rattle.mdr_plain.specs.Services.{served}
 use Rattle.mdr_plain.specs.World.{World, Ran, Ended, advanced, done}
+use Rattle.mdr_runs.specs.Around.{AnsweredIn, WentIn}
 use Rattle.mdr_runs.specs.Following.{Stands, goes_on, runs}
 use Rattle.mdr_runs.specs.Seen.{IsSeen}
 
@@ -36,9 +37,8 @@ CallsAreStarted =
     → goes_on program side before w.clock.rest h w ≡ call (whole program side) before func args depth w
 
 -- held work that ran up to an event on a memory
-pub record Went {M : Type 0} (world_in : M → World) (program_in : M → Program) (program : Program) (side : Side) (before : Before) (fuel : ℕ) (all : Ran Wire) (h : Held) (e : Event) (m : M) : Type 0 where
-  pub stands : Stands program side before fuel all h e (world_in m)
-  pub same : program_in m ≡ program
+abbrev pub Went : {M : Type 0} → (M → World) → (M → Program) → Program → Side → Before → (fuel : ℕ) → (all : Ran Wire) → Held → Event → M → Type 0
+Went world_in program_in program side before fuel all h e m = WentIn world_in program_in program (in_kernel program never) side before fuel all h e m
 
 module _ {M : Type 0} (a : Accesses M) (world_in : M → World) (program_in : M → Program) where
   -- it ran without a tick
@@ -64,9 +64,8 @@ abbrev pub EachTickStands : Type 0 → Type 0
 EachTickStands M = (a : Accesses M) (world_in : M → World) (program_in : M → Program) → IsSeen a world_in program_in → TicksStand a world_in program_in
 
 -- a service was served, and its question is answered
-pub record Answered (program : Program) (side : Side) (before : Before) (fuel : ℕ) (all : Ran Wire) (h : Held) (w : World) : Type 0 where
-  pub is : goes_on program side before fuel h w ≡ all
-  pub enough : w.clock.rest ≤ fuel
+abbrev pub Answered : Program → Side → Before → (fuel : ℕ) → (all : Ran Wire) → Held → World → Type 0
+Answered program side before fuel all h w = AnsweredIn (in_kernel program never) side before fuel all h w
 
 abbrev pub ServicesAreAnswered : Type 0
 ServicesAreAnswered =

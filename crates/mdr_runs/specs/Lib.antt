@@ -1,3 +1,5 @@
+pub mod Around
+pub mod Anywhere
 pub mod Seen
 pub mod Following
 pub mod Scripts

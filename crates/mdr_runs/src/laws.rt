@@ -1,6 +1,34 @@
 // Laws, each as a function that does nothing.
 
+ghost use Rattle.mdr_runs.specs.Anywhere.{AccessesKeepTicks, EachSettingRuns, EachSettingStands, MemoriesAreSeen};
 ghost use Rattle.mdr_runs.specs.Laws.{CallsAreStarted, EachRunStands, EachTickStands, RunsMayBeCut, ServicesAreAnswered};
+
+// ---- whatever stands around code
+
+/// Accesses to memory give no tick back, whatever cells code may touch.
+pub fn accesses_keep_ticks()
+    ensures { AccessesKeepTicks }
+{}
+
+/// Where nothing around code gives a tick back: code doesn't either, a tree with no more ticks than are left does what the
+/// tree does, work that a machine holds when a function was started in it does what the function does, and work that is
+/// answered with what a service or the other half gave goes on behind that.
+pub fn each_setting_runs()
+    ensures { EachSettingRuns }
+{}
+
+/// A machine that ran without a tick came to an event behind which follows what the held work does. So it did where it wanted
+/// a tick, all that stands before the tick was done, and it ran with that one tick.
+pub fn each_setting_stands<M>()
+    ensures { EachSettingStands M }
+{}
+
+/// What code does to a memory is what it does to the world in it, where each access is.
+pub fn memories_are_seen<M>()
+    ensures { MemoriesAreSeen M }
+{}
+
+// ---- all of a driver's code on one memory
 
 /// Where what is tried before a tick gives no tick back, a tree with no more ticks than are left does what the tree does.
 pub fn runs_may_be_cut()

@@ -3,3 +3,4 @@ pub mod Steps
 pub mod Code
 pub mod Sets
 pub mod Upcalls
+pub mod Ticks

@@ -14,10 +14,11 @@ use Rattle.mdr_plain.specs.Running.{all_cells, call, interrupts, nothing}
 use Rattle.mdr_plain.specs.Services.{served}
 use Rattle.mdr_plain.specs.Storage.{accesses, births, deaths, next_serial}
 use Rattle.mdr_plain.specs.World.{World, Ran, Ended}
+use Rattle.mdr_runs.specs.Around.{KeepsTicks}
 use Rattle.mdr_watched.specs.Driver.{Driver, result_roots, touched_by}
 use Rattle.mdr_watched.specs.Order.{AreLive}
 use Rattle.mdr_watched.specs.Views.{closed, gained, may_touch, new_cells, opened, renewed, taken}
-use Rattle.mdr_watched.specs.Watched.{downcall, held, kernel_of, sent, serves}
+use Rattle.mdr_watched.specs.Watched.{downcall, held, in_user, kernel_of, sent, serves}
 use Rattle.mdr_viewed.specs.Viewed.{HasUpcall, IsOlder, IsOrdered, IsViewed, TouchAlike, after_beside, in_set, living, viewed, viewed_born, viewed_if}
 
 -- ---- accesses
@@ -89,3 +90,7 @@ pub record UpcallsAreViewed : Type 0 where
   pub asks : (d : Driver) (t : ℕ) (set : List Cell) (asked : Asked) (w : World) → HasUpcall w → IsOlder set w → IsOrdered w → serves d (held d) t asked (viewed set w) ≡ asks d t set asked w
   pub downs : (d : Driver) (t : ℕ) (set : List Cell) (at : At) (f : ℕ) (args : List Wire) (depth : ℕ) (w : World) → HasUpcall w → IsOlder set w → IsOrdered w
       → downcall d (held d) t at f args depth (viewed set w) ≡ goes_down d t set at f args depth w
+
+-- nothing around user code gives a tick back
+abbrev pub UserCodeKeepsTicks : Type 0
+UserCodeKeepsTicks = (d : Driver) (t : ℕ) → KeepsTicks (in_user d (held d) t)

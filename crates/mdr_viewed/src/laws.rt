@@ -1,6 +1,6 @@
 // Laws, each as a function that does nothing.
 
-ghost use Rattle.mdr_viewed.specs.Laws.{AccessesAreViewed, BirthsAreViewed, KernelCodeIsViewed, ServicesAreViewed, SetsAreViewed, UpcallsAreViewed};
+ghost use Rattle.mdr_viewed.specs.Laws.{AccessesAreViewed, BirthsAreViewed, KernelCodeIsViewed, ServicesAreViewed, SetsAreViewed, UpcallsAreViewed, UserCodeKeepsTicks};
 
 /// Code may touch a cell of the set where its block lives, so an access comes to the same where the set is kept apart and the
 /// cell is looked for in it.
@@ -32,4 +32,9 @@ pub fn sets_are_viewed()
 /// What user code asks for, and what it calls, with the set beside the world.
 pub fn upcalls_are_viewed()
     ensures { UpcallsAreViewed }
+{}
+
+/// So the laws about code that runs from event to event are those of user code too.
+pub fn user_code_keeps_ticks()
+    ensures { UserCodeKeepsTicks }
 {}

@@ -6,5 +6,5 @@ mod laws;
 
 pub use laws::{
     accesses_are_viewed, births_are_viewed, kernel_code_is_viewed, services_are_viewed,
-    sets_are_viewed, upcalls_are_viewed,
+    sets_are_viewed, upcalls_are_viewed, user_code_keeps_ticks,
 };

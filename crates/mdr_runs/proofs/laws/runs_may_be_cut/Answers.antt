@@ -1,4 +1,4 @@
-use Rattle.mdr_runs.proofs.CutRuns.{runs_may_be_cut}
+use Rattle.mdr_runs.proofs.Stand.{runs_may_be_cut}
 use Rattle.mdr_runs.proofs.laws.runs_may_be_cut.Goals as goal
 
 pub returns : goal.returns
