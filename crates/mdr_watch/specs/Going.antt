@@ -13,7 +13,7 @@ use Rattle.mdr_meaning.specs.Cut.{cut}
 use Rattle.mdr_meaning.specs.Tree.{Tree}
 use Rattle.mdr_plain.specs.Running.{nothing}
 use Rattle.mdr_plain.specs.World.{World, Ran}
-use Rattle.mdr_runs.specs.Following.{Stands, answered, goes_on}
+use Rattle.mdr_runs.specs.Around.{StandsIn, answered_in, goes_on_in}
 use Rattle.mdr_world.specs.Driven.{Driven}
 use Rattle.mdr_whole.specs.declared.next.Next.{Next}
 use Rattle.mdr_whole.specs.declared.next.Next.TheVariants as next
@@ -31,7 +31,7 @@ held_in u machine = held_of (program_in u) machine
 
 -- what the user code that a machine holds does in a world, with fuel for so many ticks
 abbrev pub user_does : Upcall → (fuel : ℕ) → Machine → World → Ran Wire
-user_does u fuel machine w = goes_on (around_user u) (user_side u) nothing fuel (held_in u machine) w
+user_does u fuel machine w = goes_on_in (around_user u) (user_side u) nothing fuel (held_in u machine) w
 
 -- the function of the upcall was started in a machine that held nothing
 pub record IsStarted (u : Upcall) (args : List Wire) (machine : Machine) : Type 0 where
@@ -39,7 +39,7 @@ pub record IsStarted (u : Upcall) (args : List Wire) (machine : Machine) : Type 
 
 -- a machine came to an event in an upcall: what follows is what all of it does
 pub record StandsAt (u : Upcall) (fuel : ℕ) (all : Ran Wire) (machine : Machine) (e : Event) (d : Driven) : Type 0 where
-  pub stands : Stands (around_user u) (user_side u) nothing fuel all (held_in u machine) e d.world
+  pub stands : StandsIn (around_user u) (user_side u) nothing fuel all (held_in u machine) e d.world
   pub same : d.program ≡ program_in u
 
 -- it came to the next event, or it gave what all of it gives
@@ -55,7 +55,7 @@ Began u machine d machine' e d' = (fuel : ℕ) → d.world.clock.rest ≤ fuel �
 abbrev pub Passed : Upcall → Machine → Driven → Machine → Event → Driven → Type 0
 Passed u machine d machine' e d' =
     (fuel : ℕ) (all : Ran Wire) (at : At) (w : World)
-    → Stands (around_user u) (user_side u) nothing fuel all (held_in u machine) (event.TicksOut at) w → Counted w d.world → StandsAt u fuel all machine' e d'
+    → StandsIn (around_user u) (user_side u) nothing fuel all (held_in u machine) (event.TicksOut at) w → Counted w d.world → StandsAt u fuel all machine' e d'
 
 -- what follows an event
 abbrev pub GoesOn : Upcall → Machine → Event → Driven → Machine → Next → Driven → Type 0
@@ -63,7 +63,7 @@ GoesOn u machine e d machine' n d' = (fuel : ℕ) (all : Ran Wire) → StandsAt 
 
 -- what follows these answers of the question that is open is what all of it does
 pub record Waits (u : Upcall) (fuel : ℕ) (all : Ran Wire) (machine : Machine) (results : List Wire) (w : World) : Type 0 where
-  pub is : answered (around_user u) (user_side u) nothing fuel (held_in u machine) results w ≡ all
+  pub is : answered_in (around_user u) (user_side u) nothing fuel (held_in u machine) results w ≡ all
   pub enough : w.clock.rest ≤ fuel
 
 -- it is answered

@@ -5,7 +5,7 @@ ghost use Rattle.mdr_core.specs.Sound.{IsSound};
 ghost use Rattle.mdr_exec.specs.Holding.{wires_of};
 ghost use Rattle.mdr_meaning.specs.Values.{wire_of};
 ghost use Rattle.mdr_model.specs.Memory.{normal};
-ghost use Rattle.mdr_viewed.specs.Viewed.{HasUpcall, IsOlder};
+ghost use Rattle.mdr_watch.specs.Guarding.{IsGuarded};
 ghost use Rattle.mdr_viewed.specs.Laws.{returns};
 ghost use Rattle.mdr_watched.specs.Watched.{downcall, held};
 ghost use Rattle.mdr_whole.specs.Ending.{gave_as};
@@ -45,8 +45,7 @@ fn come_back<'a>(
     value: Value,
 ) -> Result<Ended<'a>, OutOfMemory>
     requires sound { IsSound upcall.watch.program.now }
-    requires upcall { HasUpcall world.world }
-    requires older { IsOlder set world.world }
+    requires guarded { IsGuarded set world.world }
     ensures kept { IfOk result (λ r. r.guarded.program ≡ world.entry.program) }
     ensures gave { IfOk result (λ r. gave_as r.gave r.guarded.world ≡ returns (driver_in upcall.entry.watch) upcall.entry.func set crossing.now.at crossing.now.func (wires_of sent.now) (wire_of value) world.entry.world) }
 {
@@ -80,6 +79,7 @@ pub(crate) fn downcall<'a>(
 {
     let Guarded { world, set } = guarded;
     let mut world = world;
+    let _in_order = world.births();
     let args = sent(alloc, &world, crossing.args.as_slice())?;
     let code = kernel_code(upcall.watch);
     let gave = call::<Nothing>(
@@ -91,7 +91,15 @@ pub(crate) fn downcall<'a>(
         crossing.depth,
     )?;
     match gave {
-        Gave::Value(value) => come_back(alloc, upcall, world, set, crossing, args.as_slice(), value),
+        Gave::Value(value) => come_back(
+            alloc,
+            upcall,
+            world,
+            set,
+            crossing,
+            args.as_slice(),
+            value,
+        ),
         Gave::Stopped(kind, at) => Ok(Ended {
             gave: Gave::Stopped(kind, at),
             guarded: Guarded { world, set },

@@ -1,9 +1,10 @@
 // What a call passes.
 
-ghost use Rattle.std.specs.Prelude.{◌≡◌, ◌++◌, IfOk};
+ghost use Rattle.std.specs.Prelude.{◌≡◌, ◌++◌, List, map, IfOk, OnOk};
+ghost use Rattle.mdr_core.specs.declared.value.Value.{Value as AnyValue};
 ghost use Rattle.mdr_exec.specs.Holding.{wires_of};
 ghost use Rattle.mdr_meaning.specs.Values.{wire_of};
-ghost use Rattle.mdr_reach.specs.Answers.{roots_of};
+ghost use Rattle.mdr_reach.specs.Answers.{root_of, roots_of};
 ghost use Rattle.mdr_watched.specs.Driver.{entry_roots, param_roots, result_roots};
 
 use crate::watch::func_at;
@@ -13,7 +14,7 @@ use std::alloc::Global;
 
 /// The result of a function, with its annotation.
 pub(crate) fn result_root(program: &Program, func: u32, value: Value) -> [Root; 1]
-    ensures { (passed : _) → roots_of result passed ≡ result_roots program.now func (wires_of passed) (wire_of value) }
+    ensures { (passed : List AnyValue) → roots_of result passed ≡ result_roots program.now func (wires_of passed) (wire_of value) }
 {
     match func_at(program, func) {
         Some(func) => [Root {
@@ -27,7 +28,13 @@ pub(crate) fn result_root(program: &Program, func: u32, value: Value) -> [Root; 
     }
 }
 
-fn add_params(roots: &mut Items<Root>, params: &[Param], args: &[Value]) -> Result<(), OutOfMemory>
+/// Arguments with the annotations of their parameters, as many as there are of both.
+fn add_params(
+    roots: &mut Items<Root>,
+    params: &[Param],
+    args: &[Value],
+) -> Result<(), OutOfMemory>
+    ensures { OnOk result (map root_of roots.new ≡ map root_of roots.old ++ param_roots params.now (wires_of args.now)) }
 {
     let mut i = 0;
     while i < params.len() {

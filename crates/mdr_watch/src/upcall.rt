@@ -8,7 +8,7 @@ ghost use Rattle.mdr_meaning.specs.Sides.{Body};
 ghost use Rattle.mdr_viewed.specs.Viewed.{IsOlder};
 ghost use Rattle.mdr_watched.specs.Driver.{is_user};
 ghost use Rattle.mdr_watched.specs.Order.{AreLive};
-ghost use Rattle.mdr_watched.specs.Watched.{entered, held, upcall};
+ghost use Rattle.mdr_watched.specs.Watched.{entered, held, upcall as up};
 ghost use Rattle.mdr_watch.specs.Going.{IsStarted};
 ghost use Rattle.mdr_watch.specs.Leaving.{GaveFor};
 ghost use Rattle.mdr_watch.specs.Watching.{IsFit, driver_in};
@@ -95,16 +95,25 @@ pub(crate) fn call_user<'a>(
     requires fit { IsFit upcall.watch }
     requires same { world.program ≡ upcall.watch.program.now }
     ensures kept { IfOk result (λ r. r.world.program ≡ upcall.entry.watch.program.now) }
-    ensures gave { IfOk result (λ r. GaveFor r.gave r.world.world (upcall (driver_in upcall.entry.watch) (held (driver_in upcall.entry.watch)) upcall.entry.func (wires_of args.now) world.entry.world)) }
+    ensures gave { IfOk result (λ r. GaveFor r.gave r.world.world (up (driver_in upcall.entry.watch) (held (driver_in upcall.entry.watch)) upcall.entry.func (wires_of args.now) world.entry.world)) }
 {
     if world.is_in_user() {
         return Err(OutOfMemory);
     }
+    let _in_order = world.births();
     let program = upcall.watch.program;
     let keys = touched(upcall.watch.plan, upcall.func);
     let roots = entry_roots(alloc, program, upcall.func, args)?;
     let none = CellSet::new(alloc);
-    match visible(alloc, program, keys, world.blocks(), &none, roots.as_slice(), args)? {
+    match visible(
+        alloc,
+        program,
+        keys,
+        world.blocks(),
+        &none,
+        roots.as_slice(),
+        args,
+    )? {
         Some(set) => enter(alloc, upcall, args, set, world),
         None => Ok(Closed {
             gave: Gave::Stopped(

@@ -35,7 +35,7 @@ pub(crate) fn is_fit(watch: Watch) -> bool
 pub(crate) fn kernel_code<'a>(watch: Watch<'a>) -> Code<'a>
     requires { IsFit watch }
     ensures code { driver_code result ≡ kernel_of (driver_in watch.entry) }
-    ensures program { result.program ≡ watch.entry.program }
+    ensures program { result.program.now ≡ watch.entry.program.now }
 {
     Code {
         program: watch.program,
