@@ -2,6 +2,7 @@
 use Rattle.std.proofs.Common.{◌≡◌, ℕ, ◌+◌, ◌≤◌, Bool, true, false, List, [], ◌∷◌, Option, Some, slice_get, refl, sym, ◌∙◌, ap, subst, le_refl, arith}
 use Rattle.mdr_core.specs.declared.code.Stmt.{Stmt}
 use Rattle.mdr_core.specs.declared.place.At.{At}
+use Rattle.mdr_core.specs.declared.plan.Half.{Half}
 use Rattle.mdr_core.specs.declared.program.Func.{Func}
 use Rattle.mdr_core.specs.declared.program.Program.{Program}
 use Rattle.mdr_core.specs.declared.stop.StopKind.{StopKind}
@@ -66,6 +67,14 @@ nothing_gives d w = le_refl w.clock.rest
 
 at_most : (fuel : ℕ) {w w1 w2 : World} → w1 ≡ w2 → w1.clock.rest ≤ w.clock.rest → w.clock.rest ≤ fuel → w2.clock.rest ≤ fuel
 at_most fuel same less enough = subst (λ (x : World). x.clock.rest ≤ fuel) same (omega (arith, less, enough))
+
+-- a machine on the code of the user half
+pub ran_user : (u : Upcall) → IsFit u.watch → (halves : List Half) → halves ≡ u.watch.plan.now.halves → (m m' : Machine) (d d' : Driven) (ticks : ℕ) (e : Event) (left : ℕ)
+    → RanTo guarded_accesses (side_in which.User halves (program_in u)) (held_in u (record m { side = which.User })) d ticks e (held_in u m') d' left
+    → RanTo guarded_accesses (user_side u) (held_in u m) d ticks e (held_in u m') d' left
+unfolding held_of
+ran_user u fit halves are m m' d d' ticks e left ran =
+    subst (λ s. RanTo guarded_accesses s (held_in u m) d ticks e (held_in u m') d' left) (ap (λ hs. side_in which.User hs (program_in u)) are ∙ user_is (program_in u) u.watch.plan.now fit) ran
 
 module _ (u : Upcall) where
   abbrev prog : Program

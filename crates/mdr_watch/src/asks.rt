@@ -7,7 +7,7 @@ ghost use Rattle.mdr_services.specs.Serving.{served_as};
 ghost use Rattle.mdr_watched.specs.Watched.{held, serves};
 ghost use Rattle.mdr_watch.specs.Watching.{driver_in};
 
-use crate::guarded::Guarded;
+use crate::guarded::{Guarded, Parts};
 use crate::next::Answer;
 use crate::watch::{Upcall, touched};
 use mdr_core::OutOfMemory;
@@ -28,7 +28,7 @@ pub(crate) fn ask<'a>(
     ensures kept { IfOk result (λ r. r.guarded.program ≡ upcall.entry.watch.program.now) }
     ensures served { IfOk result (λ r. served_as r.served asked.now.at r.guarded.world ≡ serves (driver_in upcall.entry.watch) (held (driver_in upcall.entry.watch)) upcall.entry.func (asked_as asked.now) guarded.entry.world) }
 {
-    let Guarded { world, set } = guarded;
+    let Parts { world, set } = guarded.parts();
     let mut world = world;
     let next = world.births();
     let served = serve(alloc, &mut world, asked)?;
@@ -38,12 +38,12 @@ pub(crate) fn ask<'a>(
             let set = gained(alloc, upcall.watch.program, keys, world.blocks(), set, next)?;
             Ok(Answer {
                 served: Served::Done(results),
-                guarded: Guarded { world, set },
+                guarded: Guarded::beside(world, set),
             })
         }
         Served::Stop(kind) => Ok(Answer {
             served: Served::Stop(kind),
-            guarded: Guarded { world, set },
+            guarded: Guarded::beside(world, set),
         }),
     }
 }

@@ -9,6 +9,7 @@ ghost use Rattle.mdr_watched.specs.Watched.{does, held};
 ghost use Rattle.mdr_watch.specs.Leaving.{EndsFor, WorkedFor};
 ghost use Rattle.mdr_watch.specs.Watching.{IsFit, IsKernel, driver_in};
 
+use crate::next::Closed;
 use crate::upcall::call_user;
 use crate::watch::{Upcall, Watch, is_user, kernel_code};
 use mdr_core::{OutOfMemory, Value};
@@ -42,9 +43,9 @@ fn upcall_command<'a>(
 {
     let mut world = world;
     note_call(alloc, &mut world, func, args)?;
-    let closed = call_user(alloc, Upcall { watch, func }, args, world)?;
-    let mut world = closed.world;
-    let worked = returned(alloc, kernel_code(watch), &mut world, closed.gave)?;
+    let Closed { gave, world: left } = call_user(alloc, Upcall { watch, func }, args, world)?;
+    let mut world = left;
+    let worked = returned(alloc, kernel_code(watch), &mut world, gave)?;
     Ok(Did { worked, world })
 }
 
@@ -108,9 +109,12 @@ pub(crate) fn do_commands<'a>(
 {
     let mut world = world;
     for command in script {
-        let did = do_watched(alloc, watch, world, command)?;
-        world = did.world;
-        match did.worked {
+        let Did {
+            worked,
+            world: left,
+        } = do_watched(alloc, watch, world, command)?;
+        world = left;
+        match worked {
             Worked::Done => (),
             Worked::Stopped(kind, at) => {
                 return Ok(Did {

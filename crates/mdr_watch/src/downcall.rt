@@ -11,7 +11,7 @@ ghost use Rattle.mdr_watched.specs.Watched.{downcall, held};
 ghost use Rattle.mdr_whole.specs.Ending.{gave_as};
 ghost use Rattle.mdr_watch.specs.Watching.{IsFit, driver_in};
 
-use crate::guarded::Guarded;
+use crate::guarded::{Guarded, Parts};
 use crate::next::Ended;
 use crate::roots::result_root;
 use crate::watch::{Upcall, kernel_code, touched};
@@ -52,14 +52,15 @@ fn come_back<'a>(
     let program = upcall.watch.program;
     let keys = touched(upcall.watch.plan, upcall.func);
     let roots = result_root(program, crossing.func, value);
-    match visible(alloc, program, keys, world.blocks(), &set, &roots, sent)? {
+    let taken = visible(alloc, program, keys, world.blocks(), &set, &roots, sent)?;
+    match taken {
         Some(found) => Ok(Ended {
             gave: Gave::Value(value),
-            guarded: Guarded { world, set: found },
+            guarded: Guarded::beside(world, found),
         }),
         None => Ok(Ended {
             gave: Gave::Stopped(StopKind::Annotation, Some(crossing.at)),
-            guarded: Guarded { world, set },
+            guarded: Guarded::beside(world, set),
         }),
     }
 }
@@ -77,7 +78,7 @@ pub(crate) fn downcall<'a>(
     ensures kept { IfOk result (λ r. r.guarded.program ≡ upcall.entry.watch.program.now) }
     ensures gave { IfOk result (λ r. gave_as r.gave r.guarded.world ≡ downcall (driver_in upcall.entry.watch) (held (driver_in upcall.entry.watch)) upcall.entry.func crossing.now.at crossing.now.func (wires_of crossing.now.args) crossing.now.depth guarded.entry.world) }
 {
-    let Guarded { world, set } = guarded;
+    let Parts { world, set } = guarded.parts();
     let mut world = world;
     let _in_order = world.births();
     let args = sent(alloc, &world, crossing.args.as_slice())?;
@@ -102,7 +103,7 @@ pub(crate) fn downcall<'a>(
         ),
         Gave::Stopped(kind, at) => Ok(Ended {
             gave: Gave::Stopped(kind, at),
-            guarded: Guarded { world, set },
+            guarded: Guarded::beside(world, set),
         }),
     }
 }

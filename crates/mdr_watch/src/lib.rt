@@ -11,7 +11,6 @@ mod commands;
 mod downcall;
 mod guarded;
 mod kept_out;
-mod memory;
 mod next;
 mod roots;
 mod turn;

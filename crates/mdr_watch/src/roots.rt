@@ -29,11 +29,7 @@ pub(crate) fn result_root(program: &Program, func: u32, value: Value) -> [Root; 
 }
 
 /// Arguments with the annotations of their parameters, as many as there are of both.
-fn add_params(
-    roots: &mut Items<Root>,
-    params: &[Param],
-    args: &[Value],
-) -> Result<(), OutOfMemory>
+fn add_params(roots: &mut Items<Root>, params: &[Param], args: &[Value]) -> Result<(), OutOfMemory>
     ensures { OnOk result (map root_of roots.new ≡ map root_of roots.old ++ param_roots params.now (wires_of args.now)) }
 {
     let mut i = 0;

@@ -14,7 +14,7 @@ ghost use Rattle.mdr_watch.specs.Watching.{IsFit, driver_in};
 use crate::asks::ask;
 use crate::downcall::downcall;
 use crate::guarded::Guarded;
-use crate::next::{Ended, Turn};
+use crate::next::{Answer, Ended, Turn};
 use crate::watch::Upcall;
 use mdr_core::{At, OutOfMemory, StopKind, Value};
 use mdr_exec::{Asked, Crossing, Event, Front, Machine, Side};
@@ -157,12 +157,15 @@ fn answer<'a>(
     requires same { guarded.program ≡ upcall.watch.program.now }
     ensures { IfOk result (λ r. GoesOn upcall.entry machine.old (event.Service asked.now) guarded.entry machine.new r.next r.guarded) }
 {
-    let answer = ask(alloc, upcall, guarded, asked)?;
-    match answer.served {
-        Served::Done(results) => resume(machine, alloc, upcall, answer.guarded, results.as_slice()),
+    let Answer {
+        served,
+        guarded: left,
+    } = ask(alloc, upcall, guarded, asked)?;
+    match served {
+        Served::Done(results) => resume(machine, alloc, upcall, left, results.as_slice()),
         Served::Stop(kind) => Ok(Turn {
             next: Next::Gave(Gave::Stopped(kind, Some(asked.at))),
-            guarded: answer.guarded,
+            guarded: left,
         }),
     }
 }
@@ -180,12 +183,15 @@ fn cross<'a>(
     requires same { guarded.program ≡ upcall.watch.program.now }
     ensures { IfOk result (λ r. GoesOn upcall.entry machine.old (event.Cross crossing.now) guarded.entry machine.new r.next r.guarded) }
 {
-    let ended = downcall(alloc, upcall, guarded, crossing)?;
-    match ended.gave {
-        Gave::Value(value) => resume(machine, alloc, upcall, ended.guarded, &[value]),
+    let Ended {
+        gave,
+        guarded: left,
+    } = downcall(alloc, upcall, guarded, crossing)?;
+    match gave {
+        Gave::Value(value) => resume(machine, alloc, upcall, left, &[value]),
         Gave::Stopped(kind, at) => Ok(Turn {
             next: Next::Gave(Gave::Stopped(kind, at)),
-            guarded: ended.guarded,
+            guarded: left,
         }),
     }
 }
@@ -242,9 +248,12 @@ pub(crate) fn run<'a>(
     let mut guarded = guarded;
     let mut event = begin(machine, alloc, upcall, &mut guarded)?;
     for _turn in 0..u64::MAX {
-        let turn = follow(machine, alloc, upcall, guarded, &event)?;
-        guarded = turn.guarded;
-        match turn.next {
+        let Turn {
+            next,
+            guarded: left,
+        } = follow(machine, alloc, upcall, guarded, &event)?;
+        guarded = left;
+        match next {
             Next::Came(other) => event = other,
             Next::Gave(gave) => return Ok(Ended { gave, guarded }),
         }

@@ -14,7 +14,7 @@ ghost use Rattle.mdr_watch.specs.Leaving.{GaveFor};
 ghost use Rattle.mdr_watch.specs.Watching.{IsFit, driver_in};
 
 use crate::guarded::Guarded;
-use crate::next::Closed;
+use crate::next::{Closed, Ended};
 use crate::roots::entry_roots;
 use crate::turn::run;
 use crate::watch::{Upcall, func_at, is_user, touched};
@@ -75,11 +75,12 @@ fn enter<'a>(
 {
     let mut machine = started(alloc, upcall, args)?;
     let guarded = Guarded::new(world, set);
-    let ended = run(&mut machine, alloc, upcall, guarded)?;
-    Ok(Closed {
-        gave: ended.gave,
-        world: ended.guarded.close(),
-    })
+    let Ended {
+        gave,
+        guarded: left,
+    } = run(&mut machine, alloc, upcall, guarded)?;
+    let world = left.close();
+    Ok(Closed { gave, world })
 }
 
 /// It is called: its set is taken, from its arguments and the globals. A function without a body answers want of memory,
@@ -105,7 +106,7 @@ pub(crate) fn call_user<'a>(
     let keys = touched(upcall.watch.plan, upcall.func);
     let roots = entry_roots(alloc, program, upcall.func, args)?;
     let none = CellSet::new(alloc);
-    match visible(
+    let taken = visible(
         alloc,
         program,
         keys,
@@ -113,7 +114,8 @@ pub(crate) fn call_user<'a>(
         &none,
         roots.as_slice(),
         args,
-    )? {
+    )?;
+    match taken {
         Some(set) => enter(alloc, upcall, args, set, world),
         None => Ok(Closed {
             gave: Gave::Stopped(

@@ -6,7 +6,7 @@ ghost use Rattle.mdr_plain.specs.Outcome.{outcome_of};
 ghost use Rattle.mdr_watched.specs.Watched.{watched};
 ghost use Rattle.mdr_whole.specs.Ending.{end_of};
 
-use crate::commands::do_commands;
+use crate::commands::{Did, do_commands};
 use crate::watch::{Watch, is_fit};
 use mdr_core::{OutOfMemory, Plan, Program};
 use mdr_model::End;
@@ -44,8 +44,11 @@ pub fn run_watched(
         return Err(OutOfMemory);
     }
     let world = World::new(alloc, program, script, ticks)?;
-    let did = do_commands(alloc, watch, world, script.commands.as_slice())?;
-    let mut world = did.world;
-    let shown = outcome(alloc, &mut world, end_of(did.worked))?;
+    let Did {
+        worked,
+        world: left,
+    } = do_commands(alloc, watch, world, script.commands.as_slice())?;
+    let mut world = left;
+    let shown = outcome(alloc, &mut world, end_of(worked))?;
     Ok(shown)
 }
