@@ -3,7 +3,7 @@ use Rattle.std.proofs.Common.{◌≡◌, ℕ, ◌+◌, ◌-◌, ◌<◌, ◌≤�
 use Rattle.mdr_core.specs.declared.place.At.{At}
 use Rattle.mdr_core.specs.declared.program.Program.{Program}
 use Rattle.mdr_core.specs.declared.stop.StopKind.{StopKind}
-use Rattle.mdr_plain.specs.Running.{interrupts}
+use Rattle.mdr_plain.specs.Running.{KernelCode, interrupts}
 use Rattle.mdr_plain.specs.Scripts.{idle}
 use Rattle.mdr_plain.specs.World.{Stopped, Work, done}
 use Rattle.mdr_runs.specs.Scripts.{idle_tick}
@@ -12,27 +12,26 @@ use Rattle.mdr_world.specs.Driven.{Driven}
 use Rattle.mdr_whole.specs.declared.ending.Worked.{Worked}
 use Rattle.mdr_whole.specs.declared.ending.Worked.TheVariants as worked
 use Rattle.mdr_whole.specs.Ending.{worked_as}
-use Rattle.mdr_whole.specs.Going.{driver_code}
 
 -- the ticks that are left do what all of them do
-pub record Idles (program : Program) (all : ℕ) (d0 : Driven) (i : ℕ) (d : Driven) : Type 0 where
-  pub rest : idle (interrupts (driver_code program)) (all - i) d.world ≡ idle (interrupts (driver_code program)) all d0.world
+pub record Idles (code : KernelCode) (program : Program) (all : ℕ) (d0 : Driven) (i : ℕ) (d : Driven) : Type 0 where
+  pub rest : idle (interrupts code) (all - i) d.world ≡ idle (interrupts code) all d0.world
   pub same : d.program ≡ program
 
-module _ (program : Program) (all : ℕ) (d0 : Driven) where
-  pub idles_begin : d0.program ≡ program → Idles program all d0 0 d0
-  idles_begin same = record { rest = idle_begins (interrupts (driver_code program)) all d0.world; same = same }
+module _ (code : KernelCode) (program : Program) (all : ℕ) (d0 : Driven) where
+  pub idles_begin : d0.program ≡ program → Idles code program all d0 0 d0
+  idles_begin same = record { rest = idle_begins (interrupts code) all d0.world; same = same }
 
-  pub idles_pass : (i : ℕ) (d d' : Driven) (w : Worked) → i < all → w ≡ worked.Done → worked_as w d'.world ≡ idle_tick (interrupts (driver_code program)) d.world → d'.program ≡ program
-      → Idles program all d0 i d → Idles program all d0 (i + 1) d'
+  pub idles_pass : (i : ℕ) (d d' : Driven) (w : Worked) → i < all → w ≡ worked.Done → worked_as w d'.world ≡ idle_tick (interrupts code) d.world → d'.program ≡ program
+      → Idles code program all d0 i d → Idles code program all d0 (i + 1) d'
   idles_pass i d d' w less is so same s = record {
-    rest = sym (idle_passes (interrupts (driver_code program)) all i d.world d'.world less (sym (ap (λ x. worked_as x d'.world) is) ∙ so)) ∙ s.rest;
+    rest = sym (idle_passes (interrupts code) all i d.world d'.world less (sym (ap (λ x. worked_as x d'.world) is) ∙ so)) ∙ s.rest;
     same = same;
   }
 
-  pub idles_stop : (i : ℕ) (d d' : Driven) (w : Worked) (kind : StopKind) (at : Option At) → i < all → w ≡ worked.Stopped kind at → worked_as w d'.world ≡ idle_tick (interrupts (driver_code program)) d.world
-      → Idles program all d0 i d → ◌≡◌ {A = Work} (Stopped kind at d'.world) (idle (interrupts (driver_code program)) all d0.world)
-  idles_stop i d d' w kind at less is so s = idle_stops (interrupts (driver_code program)) all i d.world d'.world kind at less (sym (ap (λ x. worked_as x d'.world) is) ∙ so) ∙ s.rest
+  pub idles_stop : (i : ℕ) (d d' : Driven) (w : Worked) (kind : StopKind) (at : Option At) → i < all → w ≡ worked.Stopped kind at → worked_as w d'.world ≡ idle_tick (interrupts code) d.world
+      → Idles code program all d0 i d → ◌≡◌ {A = Work} (Stopped kind at d'.world) (idle (interrupts code) all d0.world)
+  idles_stop i d d' w kind at less is so s = idle_stops (interrupts code) all i d.world d'.world kind at less (sym (ap (λ x. worked_as x d'.world) is) ∙ so) ∙ s.rest
 
-  pub idles_end : (i : ℕ) (d : Driven) → all ≤ i → Idles program all d0 i d → done d.world ≡ idle (interrupts (driver_code program)) all d0.world
-  idles_end i d past s = sym (idle_ends (interrupts (driver_code program)) all i d.world past) ∙ s.rest
+  pub idles_end : (i : ℕ) (d : Driven) → all ≤ i → Idles code program all d0 i d → done d.world ≡ idle (interrupts code) all d0.world
+  idles_end i d past s = sym (idle_ends (interrupts code) all i d.world past) ∙ s.rest

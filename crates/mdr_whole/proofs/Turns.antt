@@ -14,15 +14,13 @@ use Rattle.mdr_exec.specs.declared.event.Event.TheVariants as event
 use Rattle.mdr_exec.specs.declared.frame.Front.{Front}
 use Rattle.mdr_exec.specs.declared.frame.Front.TheVariants as front
 use Rattle.mdr_exec.specs.declared.frame.Machine.{Machine}
-use Rattle.mdr_exec.specs.declared.frame.Side.TheVariants as which
 use Rattle.mdr_exec.specs.Events.{asked_as}
 use Rattle.mdr_exec.specs.Going.{RanTo}
-use Rattle.mdr_exec.specs.Halves.{side_in}
 use Rattle.mdr_exec.specs.Held.{tree}
 use Rattle.mdr_exec.specs.Holding.{FitQuestion, held_of, waits, wires_of}
 use Rattle.mdr_exec.specs.Steps.{child}
 use Rattle.mdr_meaning.specs.declared.wire.Wire.{Wire}
-use Rattle.mdr_meaning.specs.Bodies.{body_by, body_from, body_of, started, whole_side}
+use Rattle.mdr_meaning.specs.Bodies.{body_by, body_from, body_of, started}
 use Rattle.mdr_meaning.specs.Cut.{cut}
 use Rattle.mdr_meaning.specs.Sides.{Body, Side}
 use Rattle.mdr_meaning.specs.Tree.{Tree}
@@ -30,7 +28,8 @@ use Rattle.mdr_meaning.specs.Values.{wire_of}
 use Rattle.mdr_meaning.specs.Walk.{Walked, walked}
 use Rattle.mdr_model.specs.Memory.{normal}
 use Rattle.mdr_plain.specs.Laws.{GivesNoTicks}
-use Rattle.mdr_plain.specs.Running.{Before, call}
+use Rattle.mdr_plain.specs.Plain.{whole}
+use Rattle.mdr_plain.specs.Running.{Before, all_cells, call}
 use Rattle.mdr_plain.specs.Services.{served}
 use Rattle.mdr_plain.specs.World.{World, Stopped}
 use Rattle.mdr_runs.specs.Following.{Stands, goes_on, tried_by}
@@ -51,7 +50,7 @@ use Rattle.mdr_whole.specs.declared.ending.Worked.TheVariants as worked
 use Rattle.mdr_whole.specs.declared.next.Next.{Next}
 use Rattle.mdr_whole.specs.declared.next.Next.TheVariants as next
 use Rattle.mdr_whole.specs.Ending.{fits, gave_as, worked_as}
-use Rattle.mdr_whole.specs.Going.{Began, Counted, Follows, GoesOn, GoesOnWith, IsStarted, NextAt, Passed, StandsAt, driver_code, machine_does}
+use Rattle.mdr_whole.specs.Going.{Began, Counted, Follows, GoesOn, GoesOnWith, IsStarted, NextAt, Passed, StandsAt, machine_does}
 
 -- ---- a driver that runs is seen as its world
 
@@ -63,31 +62,24 @@ program_in d = d.program
 
 seen : IsSeen driven_accesses world_in program_in
 seen = record {
-  walks = λ n t m. sym (ap (λ (x : Walked Driven). walked x.reached x.memory.world x.left) (drivers_walk n t m.program m.world));
-  stays = λ n t m. ap (λ (x : Walked Driven). x.memory.program) (drivers_walk n t m.program m.world);
+  walks = λ n t m. sym (ap (λ (x : Walked Driven). walked x.reached x.memory.world x.left) (drivers_walk all_cells n t m.program m.world));
+  stays = λ n t m. ap (λ (x : Walked Driven). x.memory.program) (drivers_walk all_cells n t m.program m.world);
 }
 
--- ---- a machine on the code of all functions
+-- ---- a machine's runs
 
-pub ran_whole : (program : Program) (m m1 m' : Machine) (d d' : Driven) (ticks : ℕ) (e : Event) (left : ℕ) → m1 ≡ record m { side = which.Whole }
-    → RanTo driven_accesses (side_in m1.side [] program) (held_of program m1) d ticks e (held_of program m') d' left
-    → RanTo driven_accesses (whole_side program) (held_of program m) d ticks e (held_of program m') d' left
-unfolding held_of whole_side
-ran_whole program m m1 m' d d' ticks e left is ran =
-    subst (λ (x : Machine). RanTo driven_accesses (side_in x.side [] program) (held_of program x) d ticks e (held_of program m') d' left) is ran
-
-module _ (program : Program) (m m' : Machine) (d d' : Driven) (e : Event) (left : ℕ) (same : d.program ≡ program) where
-  pub began : RanTo driven_accesses (whole_side program) (held_of program m) d 0 e (held_of program m') d' left → Began program m d m' e d'
+module _ (program : Program) (side : Side) (m m' : Machine) (d d' : Driven) (e : Event) (left : ℕ) (same : d.program ≡ program) where
+  pub began : RanTo driven_accesses side (held_of program m) d 0 e (held_of program m') d' left → Began program side m d m' e d'
   began ran = λ before gives fuel enough.
-      let w = subst (λ p. Went world_in program_in p (whole_side program) before fuel (goes_on p (whole_side program) before fuel (held_of program m) d.world) (held_of program m') e d') same
-      (runs_stand driven_accesses world_in program_in seen (whole_side program) before gives (held_of program m) (held_of program m') d d' e left fuel enough ran) in
+      let w = subst (λ p. Went world_in program_in p side before fuel (goes_on p side before fuel (held_of program m) d.world) (held_of program m') e d') same
+      (runs_stand driven_accesses world_in program_in seen side before gives (held_of program m) (held_of program m') d d' e left fuel enough ran) in
       record { stands = w.stands; same = w.same }
 
-  pub passed : RanTo driven_accesses (whole_side program) (held_of program m) d 1 e (held_of program m') d' left → Passed program m d m' e d'
+  pub passed : RanTo driven_accesses side (held_of program m) d 1 e (held_of program m') d' left → Passed program side m d m' e d'
   passed ran = λ before gives fuel all at w t n.
-      let s = subst (λ p. Stands p (whole_side program) before fuel all (held_of program m) (event.TicksOut at) t.earlier) (sym same) t.wanted in
-      let x = subst (λ p. Went world_in program_in p (whole_side program) before fuel all (held_of program m') e d') same
-      (ticks_stand driven_accesses world_in program_in seen (whole_side program) before gives (held_of program m) (held_of program m') at t.earlier w d d' e left fuel n.left all s t.tried n.one n.counted ran) in
+      let s = subst (λ p. Stands p side before fuel all (held_of program m) (event.TicksOut at) t.earlier) (sym same) t.wanted in
+      let x = subst (λ p. Went world_in program_in p side before fuel all (held_of program m') e d') same
+      (ticks_stand driven_accesses world_in program_in seen side before gives (held_of program m) (held_of program m') at t.earlier w d d' e left fuel n.left all s t.tried n.one n.counted ran) in
       record { stands = x.stands; same = x.same }
 
 -- ---- a tick
@@ -110,33 +102,33 @@ same_left false d d' h t = ap world_in t.1
 same_left true d d' h t = absurd (cc h)
 
 -- it was counted, and the machine went on
-pub ticked_on : (program : Program) (at : At) (m m' : Machine) (d d1 d' : Driven) (e : Event) (t : Bool) → t ≡ true → Ticks t d d1 → Passed program m d1 m' e d' → Follows program at m d m' (next.Came e) d'
+pub ticked_on : (program : Program) (side : Side) (at : At) (m m' : Machine) (d d1 d' : Driven) (e : Event) (t : Bool) → t ≡ true → Ticks t d d1 → Passed program side m d1 m' e d' → Follows program side at m d m' (next.Came e) d'
 ticked_on program at m m' d d1 d' e t h ticks p = λ before gives fuel all x. p before gives fuel all at d.world x (tick_counted t d d1 h ticks)
 
 -- none was left
-pub ticked_out : (program : Program) (at : At) (m m' : Machine) (d d1 : Driven) (t : Bool) → d.program ≡ program → t ≡ false → Ticks t d d1 → Follows program at m d m' (next.Gave (gave.Stopped stop.Ticks (Some at))) d1
+pub ticked_out : (program : Program) (side : Side) (at : At) (m m' : Machine) (d d1 : Driven) (t : Bool) → d.program ≡ program → t ≡ false → Ticks t d d1 → Follows program side at m d m' (next.Gave (gave.Stopped stop.Ticks (Some at))) d1
 ticked_out program at m m' d d1 t same h ticks = λ before gives fuel all x. (
-  ap (λ w. Stopped stop.Ticks (Some at) w) (same_left t d d1 h ticks) ∙ budgets_end program (whole_side program) before fuel all (held_of program m) at x.earlier d.world x.wanted x.tried (none_left t d d1 h ticks),
+  ap (λ w. Stopped stop.Ticks (Some at) w) (same_left t d d1 h ticks) ∙ budgets_end program side before fuel all (held_of program m) at x.earlier d.world x.wanted x.tried (none_left t d d1 h ticks),
   tick_keeps t d d1 ticks ∙ same,
 )
 
 -- what stands before it was tried
-module _ (tries : Bool) (program : Program) (at : At) (m : Machine) (d : Driven) (depth : ℕ) (deep : (held_of program m).frame.here.depth ≡ depth) where
+module _ (tries : Bool) (program : Program) (side : Side) (at : At) (m : Machine) (d : Driven) (depth : ℕ) (deep : (held_of program m).frame.here.depth ≡ depth) where
   abbrev before : Before
-  before = tried_by tries program (whole_side program)
+  before = tried_by tries program side
 
-  pub tried_on : (w : Worked) (d1 d' : Driven) (m' : Machine) (n : Next) → w ≡ worked.Done → worked_as w d1.world ≡ before depth d.world → Follows program at m d1 m' n d' → GoesOn program before m (event.TicksOut at) d m' n d'
+  pub tried_on : (w : Worked) (d1 d' : Driven) (m' : Machine) (n : Next) → w ≡ worked.Done → worked_as w d1.world ≡ before depth d.world → Follows program side at m d1 m' n d' → GoesOn program side before m (event.TicksOut at) d m' n d'
   tried_on w d1 d' m' n is tried f = λ fuel all s.
-      f before (tries_give_none tries program (whole_side program)) fuel all (record {
+      f before (tries_give_none tries program side) fuel all (record {
         earlier = d.world;
         wanted = s.stands;
         tried = sym (ap (λ x. worked_as x d1.world) is) ∙ tried ∙ sym (ap (λ x. before x d.world) deep);
       })
 
   pub tried_out : (w : Worked) (kind : StopKind) (place : Option At) (d1 : Driven) (m' : Machine) → w ≡ worked.Stopped kind place → d1.program ≡ program → worked_as w d1.world ≡ before depth d.world
-      → GoesOn program before m (event.TicksOut at) d m' (next.Gave (gave.Stopped kind place)) d1
+      → GoesOn program side before m (event.TicksOut at) d m' (next.Gave (gave.Stopped kind place)) d1
   tried_out w kind place d1 m' is same tried = λ fuel all s.
-      (tries_end program (whole_side program) before fuel all (held_of program m) at kind place d.world d1.world s.stands (sym (ap (λ x. worked_as x d1.world) is) ∙ tried ∙ sym (ap (λ x. before x d.world) deep)), same)
+      (tries_end program side before fuel all (held_of program m) at kind place d.world d1.world s.stands (sym (ap (λ x. worked_as x d1.world) is) ∙ tried ∙ sym (ap (λ x. before x d.world) deep)), same)
 
 -- ---- a service
 
@@ -164,19 +156,19 @@ fits_question front.Enters results h = tt
 fits_question (front.Fills ps) results h = tt
 fits_question (front.Born i p) results h = tt
 
-pub resumed : (program : Program) (results : List Wire) (m m1 m' : Machine) (d d' : Driven) (e : Event)
-    → ((f r : ℕ) → tree (whole_side program) f (held_of program m1) r ≡ child (tree (whole_side program) f (held_of program m) r) results)
-    → Began program m1 d m' e d' → GoesOnWith program results m d m' e d'
+pub resumed : (program : Program) (side : Side) (results : List Wire) (m m1 m' : Machine) (d d' : Driven) (e : Event)
+    → ((f r : ℕ) → tree side f (held_of program m1) r ≡ child (tree side f (held_of program m) r) results)
+    → Began program side m1 d m' e d' → GoesOnWith program side results m d m' e d'
 resumed program results m m1 m' d d' e answer b = λ before gives fuel all g.
-    let a = services_are_answered program (whole_side program) before (held_of program m) (held_of program m1) g.asked g.earlier d.world results fuel all g.waiting g.gave answer in
-    subst (λ x. StandsAt program before fuel x m' e d') a.is (b before gives fuel a.enough)
+    let a = services_are_answered program side before (held_of program m) (held_of program m1) g.asked g.earlier d.world results fuel all g.waiting g.gave answer in
+    subst (λ x. StandsAt program side before fuel x m' e d') a.is (b before gives fuel a.enough)
 
-module _ (program : Program) (m : Machine) (q : Question) (d : Driven) (same : d.program ≡ program) where
+module _ (program : Program) (side : Side) (m : Machine) (q : Question) (d : Driven) (same : d.program ≡ program) where
   gave_results : (s : Served) (d1 : Driven) → served_as s q.at d1.world ≡ served d.program (asked_as q) d.world → served_as s q.at d1.world ≡ served program (asked_as q) d.world
   gave_results s d1 is = is ∙ ap (λ p. served p (asked_as q) d.world) same
 
   pub served_on : (s : Served) (results : List Value) (d1 d' : Driven) (m' : Machine) (e : Event) → s ≡ served_is.Done results → served_as s q.at d1.world ≡ served d.program (asked_as q) d.world
-      → GoesOnWith program (wires_of results) m d1 m' e d' → (before : Before) → GivesNoTicks before → GoesOn program before m (event.Service q) d m' (next.Came e) d'
+      → GoesOnWith program side (wires_of results) m d1 m' e d' → (before : Before) → GivesNoTicks before → GoesOn program side before m (event.Service q) d m' (next.Came e) d'
   served_on s results d1 d' m' e is so g = λ before gives fuel all x.
       g before gives fuel all (record {
         asked = q;
@@ -186,78 +178,78 @@ module _ (program : Program) (m : Machine) (q : Question) (d : Driven) (same : d
       })
 
   pub served_out : (s : Served) (kind : StopKind) (d1 : Driven) (m' : Machine) → s ≡ served_is.Stop kind → d1.program ≡ program → served_as s q.at d1.world ≡ served d.program (asked_as q) d.world
-      → (before : Before) → GivesNoTicks before → GoesOn program before m (event.Service q) d m' (next.Gave (gave.Stopped kind (Some q.at))) d1
+      → (before : Before) → GivesNoTicks before → GoesOn program side before m (event.Service q) d m' (next.Gave (gave.Stopped kind (Some q.at))) d1
   served_out s kind d1 m' is kept so = λ before gives fuel all x.
-      (services_end program (whole_side program) before fuel all (held_of program m) q kind d.world d1.world x.stands (sym (ap (λ y. served_as y q.at d1.world) is) ∙ gave_results s d1 so), kept)
+      (services_end program side before fuel all (held_of program m) q kind d.world d1.world x.stands (sym (ap (λ y. served_as y q.at d1.world) is) ∙ gave_results s d1 so), kept)
 
 -- ---- an event
 
-module _ (tries : Bool) (program : Program) (m : Machine) (e : Event) (d : Driven) where
+module _ (tries : Bool) (program : Program) (side : Side) (m : Machine) (e : Event) (d : Driven) where
   abbrev first : Before
-  first = tried_by tries program (whole_side program)
+  first = tried_by tries program side
 
-  pub done_out : (v v' : Value) → e ≡ event.Done v → wire_of v' ≡ normal d.world.memory (wire_of v) → GoesOn program first m e d m (next.Gave (gave.Value v')) d
+  pub done_out : (v v' : Value) → e ≡ event.Done v → wire_of v' ≡ normal d.world.memory (wire_of v) → GoesOn program side first m e d m (next.Gave (gave.Value v')) d
   done_out v v' is now = λ fuel all s.
-      (values_end program (whole_side program) first fuel all (held_of program m) v v' d.world (subst (λ x. Stands program (whole_side program) first fuel all (held_of program m) x d.world) is s.stands) now, s.same)
+      (values_end program side first fuel all (held_of program m) v v' d.world (subst (λ x. Stands program side first fuel all (held_of program m) x d.world) is s.stands) now, s.same)
 
-  pub stopped_out : (kind : StopKind) (at : At) → e ≡ event.Stop kind at → GoesOn program first m e d m (next.Gave (gave.Stopped kind (Some at))) d
+  pub stopped_out : (kind : StopKind) (at : At) → e ≡ event.Stop kind at → GoesOn program side first m e d m (next.Gave (gave.Stopped kind (Some at))) d
   stopped_out kind at is = λ fuel all s.
-      (stops_end program (whole_side program) first fuel all (held_of program m) kind at d.world (subst (λ x. Stands program (whole_side program) first fuel all (held_of program m) x d.world) is s.stands), s.same)
+      (stops_end program side first fuel all (held_of program m) kind at d.world (subst (λ x. Stands program side first fuel all (held_of program m) x d.world) is s.stands), s.same)
 
-  pub service_on : (q : Question) (m' : Machine) (n : Next) (d' : Driven) → e ≡ event.Service q → ((before : Before) → GivesNoTicks before → GoesOn program before m (event.Service q) d m' n d') → GoesOn program first m e d m' n d'
-  service_on q m' n d' is g = subst (λ x. GoesOn program first m x d m' n d') (sym is) (g first (tries_give_none tries program (whole_side program)))
+  pub service_on : (q : Question) (m' : Machine) (n : Next) (d' : Driven) → e ≡ event.Service q → ((before : Before) → GivesNoTicks before → GoesOn program side before m (event.Service q) d m' n d') → GoesOn program side first m e d m' n d'
+  service_on q m' n d' is g = subst (λ x. GoesOn program side first m x d m' n d') (sym is) (g first (tries_give_none tries program side))
 
-  pub tick_on : (at : At) (m' : Machine) (n : Next) (d' : Driven) → e ≡ event.TicksOut at → GoesOn program first m (event.TicksOut at) d m' n d' → GoesOn program first m e d m' n d'
-  tick_on at m' n d' is g = subst (λ x. GoesOn program first m x d m' n d') (sym is) g
+  pub tick_on : (at : At) (m' : Machine) (n : Next) (d' : Driven) → e ≡ event.TicksOut at → GoesOn program side first m (event.TicksOut at) d m' n d' → GoesOn program side first m e d m' n d'
+  tick_on at m' n d' is g = subst (λ x. GoesOn program side first m x d m' n d') (sym is) g
 
 -- ---- a machine's run
 
 -- a machine under way: all that it does is what it did at first
-pub record UnderWay (tries : Bool) (program : Program) (m0 : Machine) (d0 : Driven) (m : Machine) (e : Event) (d : Driven) : Type 0 where
-  pub at : StandsAt program (tried_by tries program (whole_side program)) d0.world.clock.rest (machine_does program (tried_by tries program (whole_side program)) d0.world.clock.rest m0 d0.world) m e d
+pub record UnderWay (tries : Bool) (program : Program) (side : Side) (m0 : Machine) (d0 : Driven) (m : Machine) (e : Event) (d : Driven) : Type 0 where
+  pub at : StandsAt program side (tried_by tries program side) d0.world.clock.rest (machine_does program side (tried_by tries program side) d0.world.clock.rest m0 d0.world) m e d
 
-module _ (tries : Bool) (program : Program) (m0 : Machine) (d0 : Driven) where
+module _ (tries : Bool) (program : Program) (side : Side) (m0 : Machine) (d0 : Driven) where
   abbrev rule : Before
-  rule = tried_by tries program (whole_side program)
+  rule = tried_by tries program side
 
-  pub way_begins : (m : Machine) (e : Event) (d : Driven) → Began program m0 d0 m e d → UnderWay tries program m0 d0 m e d
-  way_begins m e d b = record { at = b rule (tries_give_none tries program (whole_side program)) d0.world.clock.rest (le_refl d0.world.clock.rest) }
+  pub way_begins : (m : Machine) (e : Event) (d : Driven) → Began program side m0 d0 m e d → UnderWay tries program side m0 d0 m e d
+  way_begins m e d b = record { at = b rule (tries_give_none tries program side) d0.world.clock.rest (le_refl d0.world.clock.rest) }
 
-  next_at : (m m' : Machine) (e : Event) (d d' : Driven) (n : Next) → UnderWay tries program m0 d0 m e d → GoesOn program rule m e d m' n d'
-      → NextAt program rule d0.world.clock.rest (machine_does program rule d0.world.clock.rest m0 d0.world) m' n d'
+  next_at : (m m' : Machine) (e : Event) (d d' : Driven) (n : Next) → UnderWay tries program side m0 d0 m e d → GoesOn program side rule m e d m' n d'
+      → NextAt program side rule d0.world.clock.rest (machine_does program side rule d0.world.clock.rest m0 d0.world) m' n d'
   next_at m m' e d d' n u g = g d0.world.clock.rest _ u.at
 
-  pub way_goes : (m m' : Machine) (e e' : Event) (d d' : Driven) (n : Next) → n ≡ next.Came e' → UnderWay tries program m0 d0 m e d → GoesOn program rule m e d m' n d' → UnderWay tries program m0 d0 m' e' d'
+  pub way_goes : (m m' : Machine) (e e' : Event) (d d' : Driven) (n : Next) → n ≡ next.Came e' → UnderWay tries program side m0 d0 m e d → GoesOn program side rule m e d m' n d' → UnderWay tries program side m0 d0 m' e' d'
   way_goes m m' e e' d d' n is u g = record {
-    at = subst (λ x. NextAt program rule d0.world.clock.rest (machine_does program rule d0.world.clock.rest m0 d0.world) m' x d') is (next_at m m' e d d' n u g);
+    at = subst (λ x. NextAt program side rule d0.world.clock.rest (machine_does program side rule d0.world.clock.rest m0 d0.world) m' x d') is (next_at m m' e d d' n u g);
   }
 
-  way_ends : (m m' : Machine) (e : Event) (d d' : Driven) (n : Next) (g : Gave) → n ≡ next.Gave g → UnderWay tries program m0 d0 m e d → GoesOn program rule m e d m' n d'
-      → NextAt program rule d0.world.clock.rest (machine_does program rule d0.world.clock.rest m0 d0.world) m' (next.Gave g) d'
-  way_ends m m' e d d' n g is u x = subst (λ y. NextAt program rule d0.world.clock.rest (machine_does program rule d0.world.clock.rest m0 d0.world) m' y d') is (next_at m m' e d d' n u x)
+  way_ends : (m m' : Machine) (e : Event) (d d' : Driven) (n : Next) (g : Gave) → n ≡ next.Gave g → UnderWay tries program side m0 d0 m e d → GoesOn program side rule m e d m' n d'
+      → NextAt program side rule d0.world.clock.rest (machine_does program side rule d0.world.clock.rest m0 d0.world) m' (next.Gave g) d'
+  way_ends m m' e d d' n g is u x = subst (λ y. NextAt program side rule d0.world.clock.rest (machine_does program side rule d0.world.clock.rest m0 d0.world) m' y d') is (next_at m m' e d d' n u x)
 
-  pub way_gives : (m m' : Machine) (e : Event) (d d' : Driven) (n : Next) (g : Gave) → n ≡ next.Gave g → UnderWay tries program m0 d0 m e d → GoesOn program rule m e d m' n d'
-      → gave_as g d'.world ≡ machine_does program rule d0.world.clock.rest m0 d0.world
+  pub way_gives : (m m' : Machine) (e : Event) (d d' : Driven) (n : Next) (g : Gave) → n ≡ next.Gave g → UnderWay tries program side m0 d0 m e d → GoesOn program side rule m e d m' n d'
+      → gave_as g d'.world ≡ machine_does program side rule d0.world.clock.rest m0 d0.world
   way_gives m m' e d d' n g is u x = (way_ends m m' e d d' n g is u x).0
 
-  pub way_keeps : (m m' : Machine) (e : Event) (d d' : Driven) (n : Next) (g : Gave) → n ≡ next.Gave g → UnderWay tries program m0 d0 m e d → GoesOn program rule m e d m' n d' → d'.program ≡ program
+  pub way_keeps : (m m' : Machine) (e : Event) (d d' : Driven) (n : Next) (g : Gave) → n ≡ next.Gave g → UnderWay tries program side m0 d0 m e d → GoesOn program side rule m e d m' n d' → d'.program ≡ program
   way_keeps m m' e d d' n g is u x = (way_ends m m' e d d' n g is u x).1
 
 -- ---- a call
 
-pub call_is_run : (tries : Bool) (program : Program) (func : ℕ) (args : List Wire) (depth : ℕ) (m : Machine) (g : Gave) (d d' : Driven) → IsStarted program func args depth m
-    → gave_as g d'.world ≡ machine_does program (tried_by tries program (whole_side program)) d.world.clock.rest m d.world
-    → gave_as g d'.world ≡ call (driver_code program) (tried_by tries program (whole_side program)) func args depth d.world
+pub call_is_run : (tries : Bool) (program : Program) (side : Side) (func : ℕ) (args : List Wire) (depth : ℕ) (m : Machine) (g : Gave) (d d' : Driven) → IsStarted program side func args depth m
+    → gave_as g d'.world ≡ machine_does program side (tried_by tries program side) d.world.clock.rest m d.world
+    → gave_as g d'.world ≡ call (whole program side) (tried_by tries program side) func args depth d.world
 call_is_run tries program func args depth m g d d' s is =
-    is ∙ calls_are_started program (whole_side program) (tried_by tries program (whole_side program)) (tries_give_none tries program (whole_side program)) func args depth (held_of program m) d.world s.by
+    is ∙ calls_are_started program side (tried_by tries program side) (tries_give_none tries program side) func args depth (held_of program m) d.world s.by
 
-pub is_started : (program : Program) (func : ℕ) (args : List Wire) (depth : ℕ) (m0 m : Machine)
-    → ((f r : ℕ) → tree (whole_side program) f (held_of program m0) r ≡ Tree.Idle)
-    → ((side : Side) → side.own func ≡ body_of program func → (f r : ℕ) → r ≤ f → tree side f (held_of program m) r ≡ cut r (started side (f + 1) func args depth (tree side f (held_of program m0) r)))
-    → IsStarted program func args depth m
+pub is_started : (program : Program) (side : Side) (func : ℕ) (args : List Wire) (depth : ℕ) (m0 m : Machine)
+    → ((f r : ℕ) → tree side f (held_of program m0) r ≡ Tree.Idle)
+    → side.own func ≡ body_of program func → ((side : Side) → side.own func ≡ body_of program func → (f r : ℕ) → r ≤ f → tree side f (held_of program m) r ≡ cut r (started side (f + 1) func args depth (tree side f (held_of program m0) r)))
+    → IsStarted program side func args depth m
 unfolding whole_side
 is_started program func args depth m0 m none is = record {
-  by = λ f r less. is (whole_side program) refl f r less ∙ ap (λ t. cut r (started (whole_side program) (f + 1) func args depth t)) (none f r);
+  by = λ f r less. is side refl f r less ∙ ap (λ t. cut r (started side (f + 1) func args depth t)) (none f r);
 }
 
 pub its_body : (program : Program) (func : ℕ) (f : Func) (body : List Stmt) → slice_get program.funcs func ≡ Some f → f.body ≡ Some body → (x : Body) × (body_of program func ≡ Some x)

@@ -7,11 +7,13 @@ use Rattle.mdr_exec.specs.declared.event.Event.{Event}
 use Rattle.mdr_exec.specs.declared.event.Event.TheVariants as event
 use Rattle.mdr_exec.specs.declared.frame.Machine.{Machine}
 use Rattle.mdr_exec.specs.Events.{asked_as}
+use Rattle.mdr_exec.specs.Halves.{side_in}
 use Rattle.mdr_exec.specs.Held.{tree}
 use Rattle.mdr_exec.specs.Holding.{held_of}
 use Rattle.mdr_meaning.specs.declared.wire.Wire.{Wire}
-use Rattle.mdr_meaning.specs.Bodies.{started, whole_side}
+use Rattle.mdr_meaning.specs.Bodies.{started}
 use Rattle.mdr_meaning.specs.Cut.{cut}
+use Rattle.mdr_meaning.specs.Sides.{Side}
 use Rattle.mdr_meaning.specs.Tree.{Tree}
 use Rattle.mdr_plain.specs.Laws.{GivesNoTicks}
 use Rattle.mdr_plain.specs.Plain.{whole}
@@ -20,42 +22,47 @@ use Rattle.mdr_plain.specs.Services.{served}
 use Rattle.mdr_plain.specs.World.{World, Ran, Ended, advanced, done}
 use Rattle.mdr_runs.specs.Following.{Stands, goes_on}
 use Rattle.mdr_world.specs.Driven.{Driven}
+use Rattle.mdr_whole.specs.declared.code.Code.{Code}
 use Rattle.mdr_whole.specs.declared.next.Next.{Next}
 use Rattle.mdr_whole.specs.declared.next.Next.TheVariants as next
 use Rattle.mdr_whole.specs.Ending.{gave_as}
 
--- the code of a whole driver
-abbrev pub driver_code : Program → KernelCode
-driver_code program = whole program (whole_side program)
+-- the bodies of the functions that run
+abbrev pub side_of : Code → Side
+side_of c = side_in c.side c.halves.now c.program.now
+
+-- the code that runs, with what stands around it
+abbrev pub driver_code : Code → KernelCode
+driver_code c = whole c.program.now (side_of c)
 
 -- what the code that a machine holds does in a world, with fuel for so many ticks
-abbrev pub machine_does : Program → Before → (fuel : ℕ) → Machine → World → Ran Wire
-machine_does program before fuel machine w = goes_on program (whole_side program) before fuel (held_of program machine) w
+abbrev pub machine_does : Program → Side → Before → (fuel : ℕ) → Machine → World → Ran Wire
+machine_does program side before fuel machine w = goes_on program side before fuel (held_of program machine) w
 
 -- a function was started in a machine that held nothing
-pub record IsStarted (program : Program) (func : ℕ) (args : List Wire) (depth : ℕ) (machine : Machine) : Type 0 where
-  pub by : (f r : ℕ) → r ≤ f → tree (whole_side program) f (held_of program machine) r ≡ cut r (started (whole_side program) (f + 1) func args depth Tree.Idle)
+pub record IsStarted (program : Program) (side : Side) (func : ℕ) (args : List Wire) (depth : ℕ) (machine : Machine) : Type 0 where
+  pub by : (f r : ℕ) → r ≤ f → tree side f (held_of program machine) r ≡ cut r (started side (f + 1) func args depth Tree.Idle)
 
 -- a machine came to an event in a driver that runs: what follows is what all of it does
-pub record StandsAt (program : Program) (before : Before) (fuel : ℕ) (all : Ran Wire) (machine : Machine) (e : Event) (d : Driven) : Type 0 where
-  pub stands : Stands program (whole_side program) before fuel all (held_of program machine) e d.world
+pub record StandsAt (program : Program) (side : Side) (before : Before) (fuel : ℕ) (all : Ran Wire) (machine : Machine) (e : Event) (d : Driven) : Type 0 where
+  pub stands : Stands program side before fuel all (held_of program machine) e d.world
   pub same : d.program ≡ program
 
 -- it came to the next event, or it gave what all of it gives
-abbrev pub NextAt : (program : Program) (before : Before) (fuel : ℕ) (all : Ran Wire) (machine : Machine) (n : Next) (d : Driven) → Type 0
-NextAt program before fuel all machine (next.Came e) d = StandsAt program before fuel all machine e d
-NextAt program before fuel all machine (next.Gave g) d = (gave_as g d.world ≡ all) × (d.program ≡ program)
+abbrev pub NextAt : (program : Program) (side : Side) (before : Before) (fuel : ℕ) (all : Ran Wire) (machine : Machine) (n : Next) (d : Driven) → Type 0
+NextAt program side before fuel all machine (next.Came e) d = StandsAt program side before fuel all machine e d
+NextAt program side before fuel all machine (next.Gave g) d = (gave_as g d.world ≡ all) × (d.program ≡ program)
 
 -- it ran without a tick, from a machine in a driver
-abbrev pub Began : Program → Machine → Driven → Machine → Event → Driven → Type 0
-Began program machine d machine' e d' =
+abbrev pub Began : Program → Side → Machine → Driven → Machine → Event → Driven → Type 0
+Began program side machine d machine' e d' =
     (before : Before) → GivesNoTicks before → (fuel : ℕ) → d.world.clock.rest ≤ fuel
-    → StandsAt program before fuel (machine_does program before fuel machine d.world) machine' e d'
+    → StandsAt program side before fuel (machine_does program side before fuel machine d.world) machine' e d'
 
 -- what stands before the tick that is wanted was tried, and left this world
-pub record Tried (program : Program) (before : Before) (fuel : ℕ) (all : Ran Wire) (machine : Machine) (at : At) (w : World) : Type 0 where
+pub record Tried (program : Program) (side : Side) (before : Before) (fuel : ℕ) (all : Ran Wire) (machine : Machine) (at : At) (w : World) : Type 0 where
   pub earlier : World
-  pub wanted : Stands program (whole_side program) before fuel all (held_of program machine) (event.TicksOut at) earlier
+  pub wanted : Stands program side before fuel all (held_of program machine) (event.TicksOut at) earlier
   pub tried : done w ≡ before (held_of program machine).frame.here.depth earlier
 
 -- and one tick was counted
@@ -65,29 +72,29 @@ pub record Counted (w now : World) : Type 0 where
   pub counted : now ≡ record w { clock = advanced 1 w.clock }
 
 -- it ran with the tick that was counted
-abbrev pub Passed : Program → Machine → Driven → Machine → Event → Driven → Type 0
-Passed program machine d machine' e d' =
+abbrev pub Passed : Program → Side → Machine → Driven → Machine → Event → Driven → Type 0
+Passed program side machine d machine' e d' =
     (before : Before) → GivesNoTicks before → (fuel : ℕ) (all : Ran Wire) (at : At) (w : World)
-    → Tried program before fuel all machine at w → Counted w d.world → StandsAt program before fuel all machine' e d'
+    → Tried program side before fuel all machine at w → Counted w d.world → StandsAt program side before fuel all machine' e d'
 
 -- behind what was tried before a tick, the next event or the end
-abbrev pub Follows : Program → At → Machine → Driven → Machine → Next → Driven → Type 0
-Follows program at machine d machine' n d' =
-    (before : Before) → GivesNoTicks before → (fuel : ℕ) (all : Ran Wire) → Tried program before fuel all machine at d.world → NextAt program before fuel all machine' n d'
+abbrev pub Follows : Program → Side → At → Machine → Driven → Machine → Next → Driven → Type 0
+Follows program side at machine d machine' n d' =
+    (before : Before) → GivesNoTicks before → (fuel : ℕ) (all : Ran Wire) → Tried program side before fuel all machine at d.world → NextAt program side before fuel all machine' n d'
 
 -- and behind an event
-abbrev pub GoesOn : Program → Before → Machine → Event → Driven → Machine → Next → Driven → Type 0
-GoesOn program before machine e d machine' n d' =
-    (fuel : ℕ) (all : Ran Wire) → StandsAt program before fuel all machine e d → NextAt program before fuel all machine' n d'
+abbrev pub GoesOn : Program → Side → Before → Machine → Event → Driven → Machine → Next → Driven → Type 0
+GoesOn program side before machine e d machine' n d' =
+    (fuel : ℕ) (all : Ran Wire) → StandsAt program side before fuel all machine e d → NextAt program side before fuel all machine' n d'
 
 -- a service gave this, and its question waits for the answers
-pub record Gives (program : Program) (before : Before) (fuel : ℕ) (all : Ran Wire) (machine : Machine) (results : List Wire) (w : World) : Type 0 where
+pub record Gives (program : Program) (side : Side) (before : Before) (fuel : ℕ) (all : Ran Wire) (machine : Machine) (results : List Wire) (w : World) : Type 0 where
   pub asked : Question
   pub earlier : World
-  pub waiting : Stands program (whole_side program) before fuel all (held_of program machine) (event.Service asked) earlier
+  pub waiting : Stands program side before fuel all (held_of program machine) (event.Service asked) earlier
   pub gave : Ended results w ≡ served program (asked_as asked) earlier
 
 -- it is answered
-abbrev pub GoesOnWith : Program → List Wire → Machine → Driven → Machine → Event → Driven → Type 0
-GoesOnWith program results machine d machine' e d' =
-    (before : Before) → GivesNoTicks before → (fuel : ℕ) (all : Ran Wire) → Gives program before fuel all machine results d.world → StandsAt program before fuel all machine' e d'
+abbrev pub GoesOnWith : Program → Side → List Wire → Machine → Driven → Machine → Event → Driven → Type 0
+GoesOnWith program side results machine d machine' e d' =
+    (before : Before) → GivesNoTicks before → (fuel : ℕ) (all : Ran Wire) → Gives program side before fuel all machine results d.world → StandsAt program side before fuel all machine' e d'

@@ -11,32 +11,33 @@ ghost use Rattle.mdr_plain.specs.World.{done};
 ghost use Rattle.mdr_whole.specs.Ending.{finished, gave_as, worked_as};
 ghost use Rattle.mdr_whole.specs.Going.{driver_code};
 
-use crate::call::call;
+use crate::calls::call;
+use crate::code::Code;
 use crate::ending::{Gave, Worked};
-use crate::idle::idle;
+use crate::idling::idle;
 use crate::interrupts::{Interrupts, interrupt};
-use mdr_core::{Items, OutOfMemory, Program, Value};
+use mdr_core::{Items, OutOfMemory, Value};
 use mdr_model::Command;
 use mdr_services::{note_call, note_idle, note_return, show};
 use mdr_world::World;
 use std::alloc::Global;
 
 /// The result of a call is noted, and then the interrupt rule is tried once more.
-fn returned(
+pub fn returned(
     alloc: Global,
-    program: &Program,
+    code: Code,
     world: &mut World,
     gave: Gave,
 ) -> Result<Worked, OutOfMemory>
-    requires sound { IsSound program.now }
-    requires same { world.old.program ≡ program.now }
-    ensures kept { OnOk result (world.new.program ≡ program.now) }
-    ensures worked { IfOk result (λ e. worked_as e world.new.world ≡ returned (interrupts (driver_code program.now)) (gave_as gave world.old.world)) }
+    requires sound { IsSound code.program.now }
+    requires same { world.old.program ≡ code.program.now }
+    ensures kept { OnOk result (world.new.program ≡ code.entry.program.now) }
+    ensures worked { IfOk result (λ e. worked_as e world.new.world ≡ returned (interrupts (driver_code code.entry)) (gave_as gave world.old.world)) }
 {
     match gave {
         Gave::Value(value) => {
             note_return(world, value)?;
-            interrupt(alloc, program, world, 0)
+            interrupt(alloc, code, world, 0)
         }
         Gave::Stopped(kind, at) => Ok(Worked::Stopped(kind, at)),
     }
@@ -46,19 +47,19 @@ fn returned(
 #[tactic(auto, unfolding(mdr_plain::specs::Scripts::begin))]
 fn call_command(
     alloc: Global,
-    program: &Program,
+    code: Code,
     world: &mut World,
     func: u32,
     args: &[Value],
 ) -> Result<Worked, OutOfMemory>
-    requires sound { IsSound program.now }
-    requires same { world.old.program ≡ program.now }
-    ensures kept { OnOk result (world.new.program ≡ program.now) }
-    ensures worked { IfOk result (λ e. worked_as e world.new.world ≡ does (driver_code program.now) (command.Call func args.now) world.old.world) }
+    requires sound { IsSound code.program.now }
+    requires same { world.old.program ≡ code.program.now }
+    ensures kept { OnOk result (world.new.program ≡ code.entry.program.now) }
+    ensures worked { IfOk result (λ e. worked_as e world.new.world ≡ does (driver_code code.entry) (command.Call func args.now) world.old.world) }
 {
     note_call(alloc, world, func, args)?;
-    let gave = call::<Interrupts>(alloc, program, world, func, args, 0)?;
-    let worked = returned(alloc, program, world, gave)?;
+    let gave = call::<Interrupts>(alloc, code, world, func, args, 0)?;
+    let worked = returned(alloc, code, world, gave)?;
     Ok(worked)
 }
 
@@ -66,19 +67,19 @@ fn call_command(
 #[tactic(auto, unfolding(mdr_plain::specs::Scripts::begin))]
 fn idle_command(
     alloc: Global,
-    program: &Program,
+    code: Code,
     world: &mut World,
     ticks: u64,
 ) -> Result<Worked, OutOfMemory>
-    requires sound { IsSound program.now }
-    requires same { world.old.program ≡ program.now }
-    ensures kept { OnOk result (world.new.program ≡ program.now) }
-    ensures worked { IfOk result (λ e. worked_as e world.new.world ≡ does (driver_code program.now) (command.Idle ticks) world.old.world) }
+    requires sound { IsSound code.program.now }
+    requires same { world.old.program ≡ code.program.now }
+    ensures kept { OnOk result (world.new.program ≡ code.entry.program.now) }
+    ensures worked { IfOk result (λ e. worked_as e world.new.world ≡ does (driver_code code.entry) (command.Idle ticks) world.old.world) }
 {
     note_idle(world, ticks)?;
-    let worked = idle(alloc, program, world, ticks)?;
+    let worked = idle(alloc, code, world, ticks)?;
     match worked {
-        Worked::Done => interrupt(alloc, program, world, 0),
+        Worked::Done => interrupt(alloc, code, world, 0),
         Worked::Stopped(kind, at) => Ok(Worked::Stopped(kind, at)),
     }
 }
@@ -87,34 +88,34 @@ fn idle_command(
 #[tactic(auto, unfolding(mdr_plain::specs::Scripts::begin))]
 fn show_command(
     alloc: Global,
-    program: &Program,
+    code: Code,
     world: &mut World,
     global: u32,
 ) -> Result<Worked, OutOfMemory>
-    requires same { world.old.program ≡ program.now }
-    ensures kept { OnOk result (world.new.program ≡ program.now) }
-    ensures worked { IfOk result (λ e. worked_as e world.new.world ≡ does (driver_code program.now) (command.Show global) world.old.world) }
+    requires same { world.old.program ≡ code.program.now }
+    ensures kept { OnOk result (world.new.program ≡ code.entry.program.now) }
+    ensures worked { IfOk result (λ e. worked_as e world.new.world ≡ does (driver_code code.entry) (command.Show global) world.old.world) }
 {
     show(alloc, world, global)?;
     Ok(Worked::Done)
 }
 
 /// A command is done.
-fn do_command(
+pub fn do_command(
     alloc: Global,
-    program: &Program,
+    code: Code,
     world: &mut World,
     command: &Command,
 ) -> Result<Worked, OutOfMemory>
-    requires sound { IsSound program.now }
-    requires same { world.old.program ≡ program.now }
-    ensures kept { OnOk result (world.new.program ≡ program.now) }
-    ensures worked { IfOk result (λ e. worked_as e world.new.world ≡ does (driver_code program.now) command.now world.old.world) }
+    requires sound { IsSound code.program.now }
+    requires same { world.old.program ≡ code.program.now }
+    ensures kept { OnOk result (world.new.program ≡ code.entry.program.now) }
+    ensures worked { IfOk result (λ e. worked_as e world.new.world ≡ does (driver_code code.entry) command.now world.old.world) }
 {
     match command {
-        Command::Call(func, args) => call_command(alloc, program, world, *func, args.as_slice()),
-        Command::Idle(ticks) => idle_command(alloc, program, world, *ticks),
-        Command::Show(global) => show_command(alloc, program, world, *global),
+        Command::Call(func, args) => call_command(alloc, code, world, *func, args.as_slice()),
+        Command::Idle(ticks) => idle_command(alloc, code, world, *ticks),
+        Command::Show(global) => show_command(alloc, code, world, *global),
     }
 }
 
@@ -122,17 +123,17 @@ fn do_command(
 #[tactic(auto, unfolding(mdr_plain::specs::Scripts::commands))]
 pub(crate) fn do_commands(
     alloc: Global,
-    program: &Program,
+    code: Code,
     world: &mut World,
     script: &[Command],
 ) -> Result<Worked, OutOfMemory>
-    requires sound { IsSound program.now }
-    requires same { world.old.program ≡ program.now }
-    ensures kept { OnOk result (world.new.program ≡ program.now) }
-    ensures finished { IfOk result (λ e. finished e world.new.world ≡ commands (does (driver_code program.now)) script.now world.old.world) }
+    requires sound { IsSound code.program.now }
+    requires same { world.old.program ≡ code.program.now }
+    ensures kept { OnOk result (world.new.program ≡ code.entry.program.now) }
+    ensures finished { IfOk result (λ e. finished e world.new.world ≡ commands (does (driver_code code.entry)) script.now world.old.world) }
 {
     for command in script {
-        let worked = do_command(alloc, program, world, command)?;
+        let worked = do_command(alloc, code, world, command)?;
         match worked {
             Worked::Done => (),
             Worked::Stopped(kind, at) => return Ok(Worked::Stopped(kind, at)),

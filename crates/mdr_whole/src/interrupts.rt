@@ -7,27 +7,28 @@ ghost use Rattle.mdr_whole.specs.Ending.{worked_as};
 ghost use Rattle.mdr_whole.specs.Going.{driver_code};
 
 use crate::before::{Before, Nothing};
-use crate::call::call;
+use crate::calls::call;
+use crate::code::Code;
 use crate::ending::{Gave, Worked};
-use mdr_core::{OutOfMemory, Program};
+use mdr_core::OutOfMemory;
 use mdr_world::World;
 use std::alloc::Global;
 
 /// A handler runs to its end, with nothing tried before its ticks.
 fn handle(
     alloc: Global,
-    program: &Program,
+    code: Code,
     world: &mut World,
     handler: u32,
     depth: u32,
 ) -> Result<Worked, OutOfMemory>
-    requires sound { IsSound program.now }
-    requires same { world.old.program ≡ program.now }
-    ensures kept { OnOk result (world.new.program ≡ program.now) }
-    ensures worked { IfOk result (λ e. worked_as e world.new.world ≡ handled (driver_code program.now) depth (Some handler) world.old.world) }
+    requires sound { IsSound code.program.now }
+    requires same { world.old.program ≡ code.program.now }
+    ensures kept { OnOk result (world.new.program ≡ code.entry.program.now) }
+    ensures worked { IfOk result (λ e. worked_as e world.new.world ≡ handled (driver_code code.entry) depth (Some handler) world.old.world) }
 {
     world.enter_irq(handler)?;
-    let gave = call::<Nothing>(alloc, program, world, handler, &[], depth)?;
+    let gave = call::<Nothing>(alloc, code, world, handler, &[], depth)?;
     match gave {
         Gave::Value(_) => {
             world.leave_irq();
@@ -39,25 +40,25 @@ fn handle(
 
 /// Where an interrupt is due, its handler runs.
 #[tactic(auto, unfolding(mdr_plain::specs::Running::interrupts))]
-pub(crate) fn interrupt(
+pub fn interrupt(
     alloc: Global,
-    program: &Program,
+    code: Code,
     world: &mut World,
     depth: u32,
 ) -> Result<Worked, OutOfMemory>
-    requires sound { IsSound program.now }
-    requires same { world.old.program ≡ program.now }
-    ensures kept { OnOk result (world.new.program ≡ program.now) }
-    ensures worked { IfOk result (λ e. worked_as e world.new.world ≡ interrupts (driver_code program.now) depth world.old.world) }
+    requires sound { IsSound code.program.now }
+    requires same { world.old.program ≡ code.program.now }
+    ensures kept { OnOk result (world.new.program ≡ code.entry.program.now) }
+    ensures worked { IfOk result (λ e. worked_as e world.new.world ≡ interrupts (driver_code code.entry) depth world.old.world) }
 {
     match world.due() {
-        Some(handler) => handle(alloc, program, world, handler, depth),
+        Some(handler) => handle(alloc, code, world, handler, depth),
         None => Ok(Worked::Done),
     }
 }
 
 /// The interrupt rule is tried: before the ticks of code that no interrupt called.
-pub(crate) struct Interrupts;
+pub struct Interrupts;
 
 impl Before for Interrupts {
     ghost use Rattle.std.specs.Prelude.{true};
@@ -66,10 +67,10 @@ impl Before for Interrupts {
 
     fn attempt(
         alloc: Global,
-        program: &Program,
+        code: Code,
         world: &mut World,
         depth: u32,
     ) -> Result<Worked, OutOfMemory> {
-        interrupt(alloc, program, world, depth)
+        interrupt(alloc, code, world, depth)
     }
 }

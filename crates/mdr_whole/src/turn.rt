@@ -5,37 +5,37 @@ ghost use Rattle.mdr_core.specs.Sound.{IsSound};
 ghost use Rattle.mdr_exec.specs.declared.event.Event.TheVariants as event;
 ghost use Rattle.mdr_exec.specs.Going.{RanTo};
 ghost use Rattle.mdr_exec.specs.Holding.{FitQuestion, held_of, waits, wires_of};
-ghost use Rattle.mdr_meaning.specs.Bodies.{whole_side};
 ghost use Rattle.mdr_plain.specs.Laws.{GivesNoTicks};
 ghost use Rattle.mdr_plain.specs.Running.{Before as AnyBefore};
 ghost use Rattle.mdr_runs.specs.Following.{tried_by};
 ghost use Rattle.mdr_world.specs.Driven.{driven_accesses};
 ghost use Rattle.mdr_whole.specs.Ending.{fits, gave_as};
-ghost use Rattle.mdr_whole.specs.Going.{Began, Follows, GoesOn, GoesOnWith, Passed, machine_does};
+ghost use Rattle.mdr_whole.specs.Going.{Began, Follows, GoesOn, GoesOnWith, Passed, machine_does, side_of};
 
 use crate::before::Before;
+use crate::code::Code;
 use crate::ending::{Gave, Worked};
 use crate::next::Next;
-use mdr_core::{At, Items, OutOfMemory, Program, StopKind, Value};
-use mdr_exec::{Asked, Event, Front, Machine, Side};
+use mdr_core::{At, Items, OutOfMemory, StopKind, Value};
+use mdr_exec::{Asked, Event, Front, Machine};
 use mdr_services::{Served, serve};
 use mdr_world::World;
 use std::alloc::Global;
 
-/// Runs a machine with so many ticks, on the code of all functions.
-#[tactic(auto, unfolding(mdr_meaning::specs::Bodies::whole_side, mdr_exec::specs::Holding::held_of))]
+/// Runs a machine with so many ticks, on the code that runs.
+#[tactic(auto, unfolding(mdr_exec::specs::Holding::held_of))]
 fn go(
     machine: &mut Machine,
     alloc: Global,
-    program: &Program,
+    code: Code,
     world: &mut World,
     ticks: u64,
 ) -> Result<Event, OutOfMemory>
-    requires { IsSound program.now }
-    ensures { IfOk result (λ e. RanTo driven_accesses (whole_side program.now) (held_of program.now machine.old) world.old ticks e (held_of program.now machine.new) world.new (ticks - machine.new.used)) }
+    requires { IsSound code.program.now }
+    ensures { IfOk result (λ e. RanTo driven_accesses (side_of code.entry) (held_of code.entry.program.now machine.old) world.old ticks e (held_of code.entry.program.now machine.new) world.new (ticks - machine.new.used)) }
 {
-    machine.side = Side::Whole;
-    match machine.go(alloc, program, &[], world, ticks) {
+    machine.side = code.side;
+    match machine.go(alloc, code.program, code.halves, world, ticks) {
         Ok(event) => Ok(event),
         Err(_) => Err(OutOfMemory),
     }
@@ -45,14 +45,14 @@ fn go(
 fn begin(
     machine: &mut Machine,
     alloc: Global,
-    program: &Program,
+    code: Code,
     world: &mut World,
 ) -> Result<Event, OutOfMemory>
-    requires sound { IsSound program.now }
-    requires same { world.old.program ≡ program.now }
-    ensures { IfOk result (λ e. Began program.now machine.old world.old machine.new e world.new) }
+    requires sound { IsSound code.program.now }
+    requires same { world.old.program ≡ code.program.now }
+    ensures { IfOk result (λ e. Began code.entry.program.now (side_of code.entry) machine.old world.old machine.new e world.new) }
 {
-    let event = go(machine, alloc, program, world, 0)?;
+    let event = go(machine, alloc, code, world, 0)?;
     Ok(event)
 }
 
@@ -60,14 +60,14 @@ fn begin(
 fn go_on(
     machine: &mut Machine,
     alloc: Global,
-    program: &Program,
+    code: Code,
     world: &mut World,
 ) -> Result<Event, OutOfMemory>
-    requires sound { IsSound program.now }
-    requires same { world.old.program ≡ program.now }
-    ensures { IfOk result (λ e. Passed program.now machine.old world.old machine.new e world.new) }
+    requires sound { IsSound code.program.now }
+    requires same { world.old.program ≡ code.program.now }
+    ensures { IfOk result (λ e. Passed code.entry.program.now (side_of code.entry) machine.old world.old machine.new e world.new) }
 {
-    let event = go(machine, alloc, program, world, 1)?;
+    let event = go(machine, alloc, code, world, 1)?;
     Ok(event)
 }
 
@@ -75,16 +75,16 @@ fn go_on(
 fn pass(
     machine: &mut Machine,
     alloc: Global,
-    program: &Program,
+    code: Code,
     world: &mut World,
     at: At,
 ) -> Result<Next, OutOfMemory>
-    requires sound { IsSound program.now }
-    requires same { world.old.program ≡ program.now }
-    ensures { IfOk result (λ n. Follows program.now at machine.old world.old machine.new n world.new) }
+    requires sound { IsSound code.program.now }
+    requires same { world.old.program ≡ code.program.now }
+    ensures { IfOk result (λ n. Follows code.entry.program.now (side_of code.entry) at machine.old world.old machine.new n world.new) }
 {
     if world.tick() {
-        let event = go_on(machine, alloc, program, world)?;
+        let event = go_on(machine, alloc, code, world)?;
         return Ok(Next::Came(event));
     }
     Ok(Next::Gave(Gave::Stopped(StopKind::Ticks, Some(at))))
@@ -94,18 +94,18 @@ fn pass(
 fn tick<B: Before>(
     machine: &mut Machine,
     alloc: Global,
-    program: &Program,
+    code: Code,
     world: &mut World,
     at: At,
 ) -> Result<Next, OutOfMemory>
-    requires sound { IsSound program.now }
-    requires same { world.old.program ≡ program.now }
-    ensures { IfOk result (λ n. GoesOn program.now (tried_by B.tries program.now (whole_side program.now)) machine.old (event.TicksOut at) world.old machine.new n world.new) }
+    requires sound { IsSound code.program.now }
+    requires same { world.old.program ≡ code.program.now }
+    ensures { IfOk result (λ n. GoesOn code.entry.program.now (side_of code.entry) (tried_by B.tries code.entry.program.now (side_of code.entry)) machine.old (event.TicksOut at) world.old machine.new n world.new) }
 {
     let depth = machine.active();
-    let tried = B::attempt(alloc, program, world, depth)?;
+    let tried = B::attempt(alloc, code, world, depth)?;
     match tried {
-        Worked::Done => pass(machine, alloc, program, world, at),
+        Worked::Done => pass(machine, alloc, code, world, at),
         Worked::Stopped(kind, place) => Ok(Next::Gave(Gave::Stopped(kind, place))),
     }
 }
@@ -132,19 +132,19 @@ fn fits(front: &Front, results: &[Value]) -> bool
 fn resume(
     machine: &mut Machine,
     alloc: Global,
-    program: &Program,
+    code: Code,
     world: &mut World,
     results: &[Value],
 ) -> Result<Event, OutOfMemory>
-    requires sound { IsSound program.now }
-    requires same { world.old.program ≡ program.now }
-    ensures { IfOk result (λ e. GoesOnWith program.now (wires_of results.now) machine.old world.old machine.new e world.new) }
+    requires sound { IsSound code.program.now }
+    requires same { world.old.program ≡ code.program.now }
+    ensures { IfOk result (λ e. GoesOnWith code.entry.program.now (side_of code.entry) (wires_of results.now) machine.old world.old machine.new e world.new) }
 {
     if !fits(&machine.front, results) {
         return Err(OutOfMemory);
     }
     machine.resume(results);
-    let event = begin(machine, alloc, program, world)?;
+    let event = begin(machine, alloc, code, world)?;
     Ok(event)
 }
 
@@ -152,41 +152,41 @@ fn resume(
 fn answer(
     machine: &mut Machine,
     alloc: Global,
-    program: &Program,
+    code: Code,
     world: &mut World,
     asked: &Asked,
 ) -> Result<Next, OutOfMemory>
-    requires sound { IsSound program.now }
-    requires same { world.old.program ≡ program.now }
-    ensures { IfOk result (λ n. (before : AnyBefore) → GivesNoTicks before → GoesOn program.now before machine.old (event.Service asked.now) world.old machine.new n world.new) }
+    requires sound { IsSound code.program.now }
+    requires same { world.old.program ≡ code.program.now }
+    ensures { IfOk result (λ n. (before : AnyBefore) → GivesNoTicks before → GoesOn code.entry.program.now (side_of code.entry) before machine.old (event.Service asked.now) world.old machine.new n world.new) }
 {
     let served = serve(alloc, world, asked)?;
     match served {
         Served::Done(results) => {
-            let event = resume(machine, alloc, program, world, results.as_slice())?;
+            let event = resume(machine, alloc, code, world, results.as_slice())?;
             Ok(Next::Came(event))
         }
         Served::Stop(kind) => Ok(Next::Gave(Gave::Stopped(kind, Some(asked.at)))),
     }
 }
 
-/// What follows an event. Functions of another half aren't called.
+/// What follows an event. Functions that aren't among those that run aren't called.
 fn follow<B: Before>(
     machine: &mut Machine,
     alloc: Global,
-    program: &Program,
+    code: Code,
     world: &mut World,
     event: &Event,
 ) -> Result<Next, OutOfMemory>
-    requires sound { IsSound program.now }
-    requires same { world.old.program ≡ program.now }
-    ensures { IfOk result (λ n. GoesOn program.now (tried_by B.tries program.now (whole_side program.now)) machine.old event.now world.old machine.new n world.new) }
+    requires sound { IsSound code.program.now }
+    requires same { world.old.program ≡ code.program.now }
+    ensures { IfOk result (λ n. GoesOn code.entry.program.now (side_of code.entry) (tried_by B.tries code.entry.program.now (side_of code.entry)) machine.old event.now world.old machine.new n world.new) }
 {
     match event {
         Event::Done(value) => Ok(Next::Gave(Gave::Value(world.now(*value)))),
         Event::Stop(kind, at) => Ok(Next::Gave(Gave::Stopped(*kind, Some(*at)))),
-        Event::Service(asked) => answer(machine, alloc, program, world, asked),
-        Event::TicksOut(at) => tick::<B>(machine, alloc, program, world, *at),
+        Event::Service(asked) => answer(machine, alloc, code, world, asked),
+        Event::TicksOut(at) => tick::<B>(machine, alloc, code, world, *at),
         Event::Cross(_) => Err(OutOfMemory),
     }
 }
@@ -195,17 +195,17 @@ fn follow<B: Before>(
 pub(crate) fn run<B: Before>(
     machine: &mut Machine,
     alloc: Global,
-    program: &Program,
+    code: Code,
     world: &mut World,
 ) -> Result<Gave, OutOfMemory>
-    requires sound { IsSound program.now }
-    requires same { world.old.program ≡ program.now }
-    ensures kept { OnOk result (world.new.program ≡ program.now) }
-    ensures gave { IfOk result (λ g. gave_as g world.new.world ≡ machine_does program.now (tried_by B.tries program.now (whole_side program.now)) world.old.world.clock.rest machine.old world.old.world) }
+    requires sound { IsSound code.program.now }
+    requires same { world.old.program ≡ code.program.now }
+    ensures kept { OnOk result (world.new.program ≡ code.entry.program.now) }
+    ensures gave { IfOk result (λ g. gave_as g world.new.world ≡ machine_does code.entry.program.now (side_of code.entry) (tried_by B.tries code.entry.program.now (side_of code.entry)) world.old.world.clock.rest machine.old world.old.world) }
 {
-    let mut event = begin(machine, alloc, program, world)?;
+    let mut event = begin(machine, alloc, code, world)?;
     for _turn in 0..u64::MAX {
-        let next = follow::<B>(machine, alloc, program, world, &event)?;
+        let next = follow::<B>(machine, alloc, code, world, &event)?;
         match next {
             Next::Came(other) => event = other,
             Next::Gave(gave) => return Ok(gave),

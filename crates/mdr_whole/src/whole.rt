@@ -6,9 +6,11 @@ ghost use Rattle.mdr_plain.specs.Outcome.{outcome_of};
 ghost use Rattle.mdr_plain.specs.Plain.{plain};
 ghost use Rattle.mdr_whole.specs.Ending.{end_of, finished};
 
+use crate::code::Code;
 use crate::commands::do_commands;
 use crate::ending::Worked;
 use mdr_core::{OutOfMemory, Program};
+use mdr_exec::Side;
 use mdr_model::End;
 use mdr_plain::Outcome;
 use mdr_script::Bound;
@@ -37,7 +39,12 @@ pub fn run_whole(
     ensures { IfOk result (λ o. o ≡ outcome_of program.now (plain program.now script.now ticks)) }
 {
     let mut world = World::new(alloc, program, script, ticks)?;
-    let worked = do_commands(alloc, program, &mut world, script.commands.as_slice())?;
+    let code = Code {
+        program,
+        halves: &[],
+        side: Side::Whole,
+    };
+    let worked = do_commands(alloc, code, &mut world, script.commands.as_slice())?;
     let shown = outcome(alloc, &mut world, end_of(worked))?;
     Ok(shown)
 }

@@ -5,7 +5,7 @@ ghost use Rattle.std.specs.Prelude.{◌≡◌, IfOk, IsTrue, map, Some};
 ghost use Rattle.mdr_mem.specs.Contents.{current, handle_of, is_handle};
 ghost use Rattle.mdr_meaning.specs.Values.{wire_of, wire_view};
 ghost use Rattle.mdr_meaning.specs.declared.wire.Wire.TheVariants as wire;
-ghost use Rattle.mdr_model.specs.Memory.{born_at, normal};
+ghost use Rattle.mdr_model.specs.Memory.{born_at, is_live, normal};
 ghost use Rattle.mdr_plain.specs.Scripts.{block_cells};
 
 use mdr_core::{Block, Items, OutOfMemory, Value, View};
@@ -70,6 +70,17 @@ pub fn held_now(blocks: &Blocks, v: Value) -> Value
             }
         }
         _ => v,
+    }
+}
+
+/// Whether a block lives.
+pub fn is_live_now(blocks: &Blocks, b: Block) -> bool
+    ensures { result ≡ is_live blocks.now.memory b.serial }
+{
+    let _in_order = blocks.births();
+    match handle(blocks, b) {
+        Some(_) => true,
+        None => false,
     }
 }
 

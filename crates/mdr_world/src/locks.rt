@@ -2,13 +2,13 @@
 
 ghost use Rattle.std.specs.Prelude.{◌≡◌, IsTrue, OnErr, option_map, slice_get};
 ghost use Rattle.std.specs.List.{list_any};
-ghost use Rattle.mdr_core.specs.declared.value.LockState.TheVariants.{Spin};
 ghost use Rattle.mdr_exec.specs.Outcomes.{when_made};
 ghost use Rattle.mdr_mem.specs.Contents.{cell_in, is_handle};
 ghost use Rattle.mdr_meaning.specs.Values.{wire_of};
 ghost use Rattle.mdr_meaning.specs.declared.wire.Wire.TheVariants as wire;
 ghost use Rattle.mdr_model.specs.Memory.{cell_at, everywhere, reached};
-ghost use Rattle.mdr_plain.specs.Locks.{acquired, changed, is_any_held, is_held, is_locked, lock_in, released, with_lock};
+ghost use Rattle.mdr_plain.specs.Locks.{acquired, changed, is_any_held, is_held, is_locked, lock_in, released, taken_as, with_lock};
+ghost use Rattle.mdr_world.specs.Driven.{open_views};
 ghost use Rattle.mdr_world.specs.Reaching.{is_held_in, with_memory};
 
 use crate::access::held_at;
@@ -35,11 +35,22 @@ fn lock_at(blocks: &Blocks, t: Target) -> LockState
     lock_of(held_at(blocks, t))
 }
 
-fn acquired(state: LockState) -> Result<LockState, StopKind>
-    ensures { result ≡ acquired Spin state }
+/// How a lock is taken: while a function of the user half is active it sleeps, else it spins.
+pub fn taken(in_user: bool) -> LockState
+    ensures { result ≡ taken_as (open_views in_user) }
+{
+    if in_user {
+        LockState::Sleep
+    } else {
+        LockState::Spin
+    }
+}
+
+fn acquired(to: LockState, state: LockState) -> Result<LockState, StopKind>
+    ensures { result ≡ acquired to state }
 {
     match state {
-        LockState::Free => Ok(LockState::Spin),
+        LockState::Free => Ok(to),
         LockState::Spin => Err(StopKind::LockHeld),
         LockState::Sleep => Err(StopKind::LockHeld),
     }
@@ -71,16 +82,16 @@ fn set_lock(blocks: &mut Blocks, t: Target, to: Result<LockState, StopKind>) -> 
     }
 }
 
-/// The lock that a pointer names is taken.
-pub fn acquire(blocks: &mut Blocks, lock: Value) -> Result<(), StopKind>
-    ensures made { changed (acquired Spin) blocks.old.memory (reached everywhere blocks.old.memory (wire_of lock)) ≡ when_made result blocks.new.memory }
+/// The lock that a pointer names is taken, as one in this state.
+pub fn acquire(blocks: &mut Blocks, lock: Value, to: LockState) -> Result<(), StopKind>
+    ensures made { changed (acquired to) blocks.old.memory (reached everywhere blocks.old.memory (wire_of lock)) ≡ when_made result blocks.new.memory }
     ensures rest { blocks.new ≡ with_memory blocks.new.memory blocks.old }
     ensures kept { OnErr result (blocks.new ≡ blocks.old) }
 {
     match reached(blocks, lock) {
         Ok(t) => {
-            let to = acquired(lock_at(blocks, t));
-            set_lock(blocks, t, to)
+            let taken = acquired(to, lock_at(blocks, t));
+            set_lock(blocks, t, taken)
         }
         Err(kind) => Err(kind),
     }

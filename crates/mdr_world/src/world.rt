@@ -1,6 +1,6 @@
 // The state of a run.
 
-ghost use Rattle.std.specs.Prelude.{◌≡◌, ◌+◌, ◌==◌, [], ℕ, false, IfOk, OnOk, OnErr, length};
+ghost use Rattle.std.specs.Prelude.{◌≡◌, ◌+◌, ◌==◌, [], ℕ, false, true, IfOk, OnOk, OnErr, length};
 ghost use Rattle.std.specs.List.{list_any};
 ghost use Rattle.mdr_core.specs.Sound.{IsSound};
 ghost use Rattle.mdr_device.specs.Machines.{Machine, read, written};
@@ -8,7 +8,9 @@ ghost use Rattle.mdr_exec.specs.Holding.{wires_of};
 ghost use Rattle.mdr_exec.specs.Outcomes.{when_made};
 ghost use Rattle.mdr_meaning.specs.Bodies.{known_of};
 ghost use Rattle.mdr_meaning.specs.Values.{wire_of};
-ghost use Rattle.mdr_model.specs.Memory.{born_at, normal};
+ghost use Rattle.mdr_mem.specs.Contents.{births_in};
+ghost use Rattle.mdr_model.specs.Agreement.{IsBelow, SerialsRise};
+ghost use Rattle.mdr_model.specs.Memory.{born_at, is_live, normal};
 ghost use Rattle.mdr_plain.specs.Gate.{due, is_open};
 ghost use Rattle.mdr_plain.specs.Locks.{acquire, is_locked, release};
 ghost use Rattle.mdr_plain.specs.Running.{handling, interrupted};
@@ -16,14 +18,14 @@ ghost use Rattle.mdr_plain.specs.Scripts.{block_cells, first_world};
 ghost use Rattle.mdr_plain.specs.Services.{asked_once_more, fails_now, with_device, with_handler};
 ghost use Rattle.mdr_plain.specs.Storage.{births, born, deaths, died, died_at, new_of, pointer_to, remembers};
 ghost use Rattle.mdr_plain.specs.World.{advanced, noted};
-ghost use Rattle.mdr_world.specs.Driven.{Ticks, driven_accesses, driver, driver_if};
+ghost use Rattle.mdr_world.specs.Driven.{Ticks, driven_accesses, driver, driver_if, open_views};
 
 use crate::births::{shape_of, zeros};
 use crate::globals::first_storage;
-use crate::handles::{born_now, value_now, values_of};
+use crate::handles::{born_now, is_live_now, value_now, values_of};
 use crate::storage::Storage;
 use crate::{access, locks};
-use mdr_core::{Items, OutOfMemory, Program, StopKind, Value, View};
+use mdr_core::{Block, Items, OutOfMemory, Program, StopKind, Value, View};
 use mdr_device::Device;
 use mdr_mem::{Blocks, Cells};
 use mdr_model::{BirthKind, New, Shape64};
@@ -44,16 +46,16 @@ pub struct World<'a> {
     calls: u64,
     handler: Option<u32>,
     in_handler: bool,
+    in_user: bool,
     allocations: u64,
     fails: Items<u64>,
 }
 
 impl<'a> Model for World<'a> {
-    ghost use Rattle.std.specs.Prelude.{[]};
     ghost use Rattle.std.specs.Coded.{codes};
     ghost use Rattle.mdr_core.specs.contracts.types.Ty as t;
     ghost use Rattle.mdr_core.specs.contracts.code.Stmt as s;
-    ghost use Rattle.mdr_world.specs.Driven.{Driven};
+    ghost use Rattle.mdr_world.specs.Driven.{Driven, open_views};
 
     ghost Value = { Driven };
 
@@ -66,7 +68,7 @@ impl<'a> Model for World<'a> {
       world = record {
         memory = s.storage.blocks.memory;
         lives = s.storage.lives;
-        views = [];
+        views = open_views s.in_user;
         clock = record { ticks = s.ticks; rest = s.rest; device = s.device };
         kept = record { events = s.events; calls = s.calls; handler = s.handler; in_handler = s.in_handler; allocations = s.allocations; fails = s.fails };
       };
@@ -101,6 +103,7 @@ impl<'a> World<'a> {
             calls: 0,
             handler: None,
             in_handler: false,
+            in_user: false,
             allocations: 0,
             fails,
         })
@@ -181,6 +184,9 @@ impl<'a> World<'a> {
             return false;
         }
         if self.in_handler {
+            return false;
+        }
+        if self.in_user {
             return false;
         }
         !locks::is_any_held(&self.storage.blocks)
@@ -293,6 +299,13 @@ impl<'a> World<'a> {
         values_of(&self.storage.blocks, alloc, serial)
     }
 
+    /// Whether a block lives.
+    pub fn is_live(&self, block: Block) -> bool
+        ensures { result ≡ is_live self.now.world.memory block.serial }
+    {
+        is_live_now(&self.storage.blocks, block)
+    }
+
     /// Whether a lock of a block is held.
     pub fn is_locked(&self, serial: u64) -> bool
         ensures { result ≡ is_locked serial self.now.world.memory }
@@ -333,7 +346,8 @@ impl<'a> World<'a> {
         ensures made { driver_if self.old.program (remembers self.old.world (acquire (wire_of lock) self.old.world)) ≡ when_made result self.new }
         ensures kept { OnErr result (self.new ≡ self.old) }
     {
-        locks::acquire(&mut self.storage.blocks, lock)
+        let to = locks::taken(self.in_user);
+        locks::acquire(&mut self.storage.blocks, lock, to)
     }
 
     /// The lock that a pointer names is freed. Where it stops nothing changes.
@@ -385,10 +399,44 @@ impl<'a> World<'a> {
         Ok(pointers)
     }
 
-    pub(crate) fn blocks(&self) -> &Blocks
-        ensures { result.now.memory ≡ self.now.world.memory }
+    /// The memory.
+    pub fn blocks(&self) -> &Blocks
+        ensures memory { result.now.memory ≡ self.now.world.memory }
+        ensures counted { births_in result.now.lives ≡ births_in self.now.world.lives }
     {
         &self.storage.blocks
+    }
+
+    /// How many blocks were born.
+    pub fn births(&self) -> u64
+        ensures value { result ≡ births_in self.now.world.lives }
+        ensures rises { SerialsRise self.now.world.memory }
+        ensures below { IsBelow (births_in self.now.world.lives) self.now.world.memory }
+    {
+        self.storage.blocks.births()
+    }
+
+    // ---- the user half
+
+    /// Whether a function of the user half is active.
+    pub fn is_in_user(&self) -> bool
+        ensures { self.now.world.views ≡ open_views result }
+    {
+        self.in_user
+    }
+
+    /// One is active from now on: no interrupt is due, and a lock that is taken sleeps.
+    pub fn enter_user(&mut self)
+        ensures { self.new ≡ driver self.old.program (record self.old.world { views = open_views true }) }
+    {
+        self.in_user = true;
+    }
+
+    /// None is active.
+    pub fn leave_user(&mut self)
+        ensures { self.new ≡ driver self.old.program (record self.old.world { views = open_views false }) }
+    {
+        self.in_user = false;
     }
 
     /// A value is stored through a pointer.

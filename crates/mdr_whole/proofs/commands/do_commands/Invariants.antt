@@ -6,6 +6,6 @@ use Rattle.mdr_whole.proofs.commands.do_commands.Given as goal
 
 abbrev pub invariant-loop-command : goal.invariant-loop-command
 invariant-loop-command l = record {
-  rest : commands (does (driver_code l.program)) (drop l.command-index l.script) l.world.world ≡ commands (does (driver_code l.program)) l.script l.fn.world.world;
-  same : l.world.program ≡ l.program;
+  rest : commands (does (driver_code l.code)) (drop l.command-index l.script) l.world.world ≡ commands (does (driver_code l.code)) l.script l.fn.world.world;
+  same : l.world.program ≡ l.code.program.now;
 }

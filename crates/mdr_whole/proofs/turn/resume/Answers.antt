@@ -1,9 +1,9 @@
-use Rattle.mdr_meaning.specs.Bodies.{whole_side}
 use Rattle.mdr_exec.specs.Holding.{wires_of}
+use Rattle.mdr_whole.specs.Going.{side_of}
 use Rattle.mdr_whole.proofs.Turns.{resumed}
 use Rattle.mdr_whole.proofs.turn.resume.Goals as goal
 
 pub returns : goal.returns
 returns c =
-    resumed c.args.program.now (wires_of c.args.results.now) c.args.machine.now c.resume.new.self c.begin.new.machine c.args.world.now c.begin.new.world c.in_ok-event.event
-    (λ f r. c.resume.ensures c.args.program.now (whole_side c.args.program.now) f r) c.in_ok-event.ensures
+    resumed c.args.code.program.now (side_of c.args.code) (wires_of c.args.results.now) c.args.machine.now c.resume.new.self c.begin.new.machine c.args.world.now c.begin.new.world c.in_ok-event.event
+    (λ f r. c.resume.ensures c.args.code.program.now (side_of c.args.code) f r) c.in_ok-event.ensures

@@ -1,3 +1,4 @@
+use Rattle.mdr_whole.specs.Going.{side_of}
 use Rattle.std.proofs.lemmas.Result.{IfOk-weaker}
 use Rattle.mdr_whole.proofs.Turns.{tried_on, tried_out}
 use Rattle.mdr_whole.proofs.turn.tick.Goals as goal
@@ -6,11 +7,11 @@ pub returns-in-Done : goal.returns-in-Done
 returns-in-Done g c =
     IfOk-weaker c.pass.result _ _
     (λ n h.
-    tried_on g.B.Before.tries c.args.program.now c.args.at c.args.machine.now c.args.world.now c.active-depth.result (c.active-depth.ensures c.args.program.now) c.in_ok-tried.tried c.attempt.new.world c.pass.new.world c.pass.new.machine n
+    tried_on g.B.Before.tries c.args.code.program.now (side_of c.args.code) c.args.at c.args.machine.now c.args.world.now c.active-depth.result (c.active-depth.ensures c.args.code.program.now) c.in_ok-tried.tried c.attempt.new.world c.pass.new.world c.pass.new.machine n
     c.in-Done.is c.in_ok-tried.ensures.tried h)
     c.pass.ensures
 
 pub returns-in-Stopped : goal.returns-in-Stopped
 returns-in-Stopped g c =
-    tried_out g.B.Before.tries c.args.program.now c.args.at c.args.machine.now c.args.world.now c.active-depth.result (c.active-depth.ensures c.args.program.now) c.in_ok-tried.tried c.in-Stopped.kind c.in-Stopped.place c.attempt.new.world
+    tried_out g.B.Before.tries c.args.code.program.now (side_of c.args.code) c.args.at c.args.machine.now c.args.world.now c.active-depth.result (c.active-depth.ensures c.args.code.program.now) c.in_ok-tried.tried c.in-Stopped.kind c.in-Stopped.place c.attempt.new.world
     c.args.machine.now c.in-Stopped.is c.in_ok-tried.ensures.kept c.in_ok-tried.ensures.tried

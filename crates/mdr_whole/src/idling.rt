@@ -9,9 +9,10 @@ ghost use Rattle.mdr_runs.specs.Scripts.{idle_tick};
 ghost use Rattle.mdr_whole.specs.Ending.{worked_as};
 ghost use Rattle.mdr_whole.specs.Going.{driver_code};
 
+use crate::code::Code;
 use crate::ending::Worked;
 use crate::interrupts::interrupt;
-use mdr_core::{OutOfMemory, Program, StopKind};
+use mdr_core::{OutOfMemory, StopKind};
 use mdr_world::World;
 use std::alloc::Global;
 
@@ -27,13 +28,13 @@ fn pass(world: &mut World) -> Worked
 }
 
 /// One tick, and what is tried before it.
-fn idle_tick(alloc: Global, program: &Program, world: &mut World) -> Result<Worked, OutOfMemory>
-    requires sound { IsSound program.now }
-    requires same { world.old.program ≡ program.now }
-    ensures kept { OnOk result (world.new.program ≡ program.now) }
-    ensures worked { IfOk result (λ e. worked_as e world.new.world ≡ idle_tick (interrupts (driver_code program.now)) world.old.world) }
+fn idle_tick(alloc: Global, code: Code, world: &mut World) -> Result<Worked, OutOfMemory>
+    requires sound { IsSound code.program.now }
+    requires same { world.old.program ≡ code.program.now }
+    ensures kept { OnOk result (world.new.program ≡ code.entry.program.now) }
+    ensures worked { IfOk result (λ e. worked_as e world.new.world ≡ idle_tick (interrupts (driver_code code.entry)) world.old.world) }
 {
-    let tried = interrupt(alloc, program, world, 0)?;
+    let tried = interrupt(alloc, code, world, 0)?;
     match tried {
         Worked::Done => Ok(pass(world)),
         Worked::Stopped(kind, at) => Ok(Worked::Stopped(kind, at)),
@@ -41,19 +42,19 @@ fn idle_tick(alloc: Global, program: &Program, world: &mut World) -> Result<Work
 }
 
 /// So many ticks pass.
-pub(crate) fn idle(
+pub fn idle(
     alloc: Global,
-    program: &Program,
+    code: Code,
     world: &mut World,
     ticks: u64,
 ) -> Result<Worked, OutOfMemory>
-    requires sound { IsSound program.now }
-    requires same { world.old.program ≡ program.now }
-    ensures kept { OnOk result (world.new.program ≡ program.now) }
-    ensures worked { IfOk result (λ e. worked_as e world.new.world ≡ idle (interrupts (driver_code program.now)) ticks world.old.world) }
+    requires sound { IsSound code.program.now }
+    requires same { world.old.program ≡ code.program.now }
+    ensures kept { OnOk result (world.new.program ≡ code.entry.program.now) }
+    ensures worked { IfOk result (λ e. worked_as e world.new.world ≡ idle (interrupts (driver_code code.entry)) ticks world.old.world) }
 {
     for _tick in 0..ticks {
-        let worked = idle_tick(alloc, program, world)?;
+        let worked = idle_tick(alloc, code, world)?;
         match worked {
             Worked::Done => (),
             Worked::Stopped(kind, at) => return Ok(Worked::Stopped(kind, at)),

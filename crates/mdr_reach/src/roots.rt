@@ -1,0 +1,10 @@
+// What is passed.
+
+use mdr_core::{Ann, Value};
+
+/// A value that is passed, with its annotation.
+#[derive(Clone, Copy, Debug, PartialEq, Eq)]
+pub struct Root {
+    pub ann: Ann,
+    pub value: Value,
+}

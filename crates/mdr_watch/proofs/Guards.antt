@@ -1,0 +1,166 @@
+-- Accesses that are held to a set.
+use Rattle.std.proofs.Common.{◌≡◌, ℕ, ◌+◌, Bool, true, false, not, ◌&&◌, List, [], ◌∷◌, Result, Ok, Err, refl, sym, ◌∙◌, ap, subst}
+use Rattle.std.specs.Prelude.{OnErr}
+use Rattle.std.specs.List.{list_all}
+use Rattle.mdr_core.specs.declared.program.Program.{Program}
+use Rattle.mdr_core.specs.declared.stop.StopKind.{StopKind}
+use Rattle.mdr_core.specs.declared.stop.StopKind.TheVariants as stop
+use Rattle.mdr_extents.specs.CellOrder.{cells}
+use Rattle.mdr_exec.specs.Outcomes.{when_made, wired}
+use Rattle.mdr_meaning.specs.declared.wire.Wire.{Wire}
+use Rattle.mdr_meaning.specs.declared.wire.Wire.TheVariants as wire
+use Rattle.mdr_model.specs.declared.memory.Cell.{Cell}
+use Rattle.mdr_model.specs.Memory.{Memory, everywhere, loaded, loaded_from, reached, reached_by, stored, stored_into}
+use Rattle.mdr_paths.specs.Paths.{is_in}
+use Rattle.mdr_plain.specs.Running.{all_cells}
+use Rattle.mdr_plain.specs.Storage.{accesses, bytes_from, cells_read, deaths, read, remembers, with_memory}
+use Rattle.mdr_plain.specs.World.{World}
+use Rattle.mdr_viewed.specs.Viewed.{in_set, viewed, viewed_if}
+use Rattle.mdr_viewed.specs.Laws.{AgreeOn}
+use Rattle.mdr_viewed.proofs.Steps.{IsBeside, accesses_are_viewed, beside_kept, deaths_viewed}
+use Rattle.mdr_watched.proofs.KeepLaws.{deaths_keep}
+use Rattle.mdr_watched.specs.Views.{may_touch}
+use Rattle.mdr_world.specs.Driven.{Driven, Ticks, driven_accesses, driver, driver_if}
+use Rattle.mdr_watch.specs.Guarding.{IsGuarded, are_kept_out, guarded_accesses, is_kept_out}
+
+-- ---- which cell is reached
+
+kept_out : (alive inside allowed : Bool) (c : Cell) → alive && (inside && not allowed) ≡ true → ◌≡◌ {A = Result Cell StopKind} (reached_by alive inside allowed c) (Err stop.Annotation)
+kept_out true true false c e = refl
+kept_out true true true c e = absurd (cc e)
+kept_out true false allowed c e = absurd (cc e)
+kept_out false inside allowed c e = absurd (cc e)
+
+let_in : (alive inside allowed : Bool) (c : Cell) → alive && (inside && not allowed) ≡ false → reached_by alive inside allowed c ≡ reached_by alive inside true c
+let_in true true false c e = absurd (cc e)
+let_in true true true c e = refl
+let_in true false allowed c e = refl
+let_in false inside allowed c e = refl
+
+module _ (set : List Cell) (m : Memory) where
+  reached_out : (p : Wire) → is_kept_out set m p ≡ true → reached (is_in cells set) m p ≡ Err stop.Annotation
+  unfolding reached
+  reached_out (wire.Ptr p) e = kept_out _ _ _ _ e
+  reached_out (wire.Int k n) e = absurd (cc e)
+  reached_out wire.Null e = absurd (cc e)
+  reached_out wire.Dead e = absurd (cc e)
+  reached_out (wire.Fn f) e = absurd (cc e)
+  reached_out (wire.Lock s) e = absurd (cc e)
+  reached_out wire.NoValue e = absurd (cc e)
+
+  reached_in : (p : Wire) → is_kept_out set m p ≡ false → reached (is_in cells set) m p ≡ reached everywhere m p
+  unfolding reached
+  reached_in (wire.Ptr p) e = let_in _ _ _ _ e
+  reached_in (wire.Int k n) e = refl
+  reached_in wire.Null e = refl
+  reached_in wire.Dead e = refl
+  reached_in (wire.Fn f) e = refl
+  reached_in (wire.Lock s) e = refl
+  reached_in wire.NoValue e = refl
+
+  loaded_out : (p : Wire) → is_kept_out set m p ≡ true → loaded (is_in cells set) m p ≡ Err stop.Annotation
+  unfolding loaded
+  loaded_out p e = ap (loaded_from m) (reached_out p e)
+
+  loaded_in : (p : Wire) → is_kept_out set m p ≡ false → loaded (is_in cells set) m p ≡ loaded everywhere m p
+  unfolding loaded
+  loaded_in p e = ap (loaded_from m) (reached_in p e)
+
+  stored_out : (p v : Wire) → is_kept_out set m p ≡ true → stored (is_in cells set) m p v ≡ Err stop.Annotation
+  unfolding stored
+  stored_out p v e = ap (stored_into m v) (reached_out p e)
+
+  stored_in : (p v : Wire) → is_kept_out set m p ≡ false → stored (is_in cells set) m p v ≡ stored everywhere m p v
+  unfolding stored
+  stored_in p v e = ap (stored_into m v) (reached_in p e)
+
+  read_out : (p : Wire) (n : ℕ) → are_kept_out set m p n ≡ true → read (is_in cells set) m p n ≡ Err stop.Annotation
+  unfolding read
+  read_out (wire.Ptr p) n e = ap (bytes_from m (cells_read p n)) (kept_out _ _ _ _ e)
+  read_out (wire.Int k x) n e = absurd (cc e)
+  read_out wire.Null n e = absurd (cc e)
+  read_out wire.Dead n e = absurd (cc e)
+  read_out (wire.Fn f) n e = absurd (cc e)
+  read_out (wire.Lock s) n e = absurd (cc e)
+  read_out wire.NoValue n e = absurd (cc e)
+
+  all_everywhere : (cs : List Cell) → list_all everywhere cs ≡ true
+  all_everywhere [] = refl
+  all_everywhere (c ∷ cs) = all_everywhere cs
+
+  read_in : (p : Wire) (n : ℕ) → are_kept_out set m p n ≡ false → read (is_in cells set) m p n ≡ read everywhere m p n
+  unfolding read
+  read_in (wire.Ptr p) n e = ap (bytes_from m (cells_read p n)) (let_in _ _ _ _ e ∙ sym (ap (λ t. reached_by _ _ t _) (all_everywhere (cells_read p n))))
+  read_in (wire.Int k x) n e = refl
+  read_in wire.Null n e = refl
+  read_in wire.Dead n e = refl
+  read_in (wire.Fn f) n e = refl
+  read_in (wire.Lock s) n e = refl
+  read_in wire.NoValue n e = refl
+
+-- ---- accesses of user code, with the set beside the world
+
+module _ (program : Program) (set : List Cell) (w : World) where
+  abbrev agree : AgreeOn program set may_touch (in_set set) w
+  agree = accesses_are_viewed.agree program set may_touch (in_set set) (accesses_are_viewed.user set) w
+
+  pub load_stops : (g : Driven) → driver program (viewed set w) ≡ g → (p : Wire) → is_kept_out set w.memory p ≡ true → guarded_accesses.load g p ≡ Err stop.Annotation
+  load_stops g is p e = sym (ap (λ d. guarded_accesses.load d p) is) ∙ agree.load p ∙ loaded_out set w.memory p e
+
+  pub load_goes : (g : Driven) → driver program (viewed set w) ≡ g → (p : Wire) → is_kept_out set w.memory p ≡ false → driven_accesses.load (driver program w) p ≡ guarded_accesses.load g p
+  load_goes g is p e = sym (loaded_in set w.memory p e) ∙ sym (agree.load p) ∙ ap (λ d. guarded_accesses.load d p) is
+
+  pub read_stops : (g : Driven) → driver program (viewed set w) ≡ g → (p : Wire) (n : ℕ) → are_kept_out set w.memory p n ≡ true → guarded_accesses.read g p n ≡ Err stop.Annotation
+  read_stops g is p n e = sym (ap (λ d. guarded_accesses.read d p n) is) ∙ agree.read p n ∙ read_out set w.memory p n e
+
+  pub read_goes : (g : Driven) → driver program (viewed set w) ≡ g → (p : Wire) (n : ℕ) → are_kept_out set w.memory p n ≡ false → driven_accesses.read (driver program w) p n ≡ guarded_accesses.read g p n
+  read_goes g is p n e = sym (read_in set w.memory p n e) ∙ sym (agree.read p n) ∙ ap (λ d. guarded_accesses.read d p n) is
+
+  pub fresh_goes : (g : Driven) → driver program (viewed set w) ≡ g → (v : Wire) → driven_accesses.fresh (driver program w) v ≡ guarded_accesses.fresh g v
+  fresh_goes g is v = ap (λ d. guarded_accesses.fresh d v) is
+
+-- ---- stores, deaths and ticks leave the set beside the world
+
+pub guarded_with : (set : List Cell) (w : World) (m : Memory) → IsGuarded set w → IsGuarded set (with_memory w m)
+guarded_with set w m g = record { upcall = g.upcall; older = g.older }
+
+module _ (program : Program) (set : List Cell) where
+  stored_if : (r : Result (Unit {0}) StopKind) (s : Result World StopKind) (d' : Driven) → driver_if program s ≡ when_made r d' → driver_if program (viewed_if set s) ≡ when_made r (driver d'.program (viewed set d'.world))
+  stored_if (Ok x) (Ok w) d' e = let same : driver program w ≡ d' = cc in ap (λ (d : Driven). Ok (driver d.program (viewed set d.world))) same
+  stored_if (Ok x) (Err kind) d' e = absurd (cc e)
+  stored_if (Err kind) (Ok w) d' e = absurd (cc e)
+  stored_if (Err kind) (Err kind') d' e = let same : kind' ≡ kind = cc in ap Err same
+
+  pub store_stops : (w : World) (g : Driven) → driver program (viewed set w) ≡ g → (p v : Wire) → is_kept_out set w.memory p ≡ true → guarded_accesses.store g p v ≡ Err stop.Annotation
+  store_stops w g is p v e =
+      sym (ap (λ d. guarded_accesses.store d p v) is)
+      ∙ ap (driver_if program) (AgreeOn.store (accesses_are_viewed.agree program set may_touch (in_set set) (accesses_are_viewed.user set) w) p v)
+      ∙ ap (λ m. driver_if program (viewed_if set (remembers w m))) (stored_out set w.memory p v e)
+
+  pub store_goes : (w : World) (g : Driven) → driver program (viewed set w) ≡ g → (p v : Wire) → is_kept_out set w.memory p ≡ false → (r : Result (Unit {0}) StopKind) (d' : Driven)
+      → driven_accesses.store (driver program w) p v ≡ when_made r d' → guarded_accesses.store g p v ≡ when_made r (driver d'.program (viewed set d'.world))
+  store_goes w g is p v e r d' made =
+      sym (ap (λ d. guarded_accesses.store d p v) is)
+      ∙ ap (driver_if program) (AgreeOn.store (accesses_are_viewed.agree program set may_touch (in_set set) (accesses_are_viewed.user set) w) p v)
+      ∙ ap (λ m. driver_if program (viewed_if set (remembers w m))) (stored_in set w.memory p v e)
+      ∙ stored_if r (remembers w (stored everywhere w.memory p v)) d' made
+
+  pub death_goes : (w : World) (g : Driven) → driver program (viewed set w) ≡ g → (ps : List Wire) (d' : Driven) → d' ≡ driven_accesses.death (driver program w) ps → driver d'.program (viewed set d'.world) ≡ guarded_accesses.death g ps
+  death_goes w g is ps d' e = ap (λ (d : Driven). driver d.program (viewed set d.world)) e ∙ ap (driver program) (sym (deaths_viewed ps set w)) ∙ ap (λ d. guarded_accesses.death d ps) is
+
+pub store_guarded : (program : Program) (set : List Cell) (w : World) (s : Result Memory StopKind) (r : Result (Unit {0}) StopKind) (d' : Driven) → IsGuarded set w → driver_if program (remembers w s) ≡ when_made r d' → (OnErr r (d' ≡ driver program w)) → IsGuarded set d'.world
+store_guarded program set w (Ok m) (Ok x) d' g e kept = let same : driver program (with_memory w m) ≡ d' = cc in subst (λ (d : Driven). IsGuarded set d.world) same (guarded_with set w m g)
+store_guarded program set w (Ok m) (Err kind) d' g e kept = absurd (cc e)
+store_guarded program set w (Err kind) (Ok x) d' g e kept = absurd (cc e)
+store_guarded program set w (Err kind) (Err kind') d' g e kept = subst (λ (d : Driven). IsGuarded set d.world) (sym kept) g
+
+pub death_guarded : (set : List Cell) (w : World) (ps : List Wire) → IsGuarded set w → IsGuarded set (deaths ps w)
+death_guarded set w ps g = let b = deaths_keep (IsBeside set) (beside_kept set) ps w (record { upcall = g.upcall; older = g.older }) in record { upcall = b.upcall; older = b.older }
+
+pub tick_goes : (set : List Cell) (t : Bool) (d d' : Driven) → Ticks t d d' → Ticks t (driver d.program (viewed set d.world)) (driver d'.program (viewed set d'.world))
+tick_goes set true d d' t = (t.0, (t.1, ap (λ (x : Driven). driver x.program (viewed set x.world)) t.2))
+tick_goes set false d d' t = (t.0, ap (λ (x : Driven). driver x.program (viewed set x.world)) t.1)
+
+pub tick_guarded : (set : List Cell) (t : Bool) (d d' : Driven) → Ticks t d d' → IsGuarded set d.world → IsGuarded set d'.world
+tick_guarded set true d d' t g = subst (λ (x : Driven). IsGuarded set x.world) (sym t.2) (record { upcall = g.upcall; older = g.older })
+tick_guarded set false d d' t g = subst (λ (x : Driven). IsGuarded set x.world) (sym t.1) g

@@ -1,0 +1,5 @@
+mod Sides
+mod Guards
+mod Turns
+mod Calls
+mod Runs

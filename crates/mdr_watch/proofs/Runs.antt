@@ -1,0 +1,116 @@
+-- Upcalls and the commands of a script.
+use Rattle.std.proofs.Common.{◌≡◌, ℕ, suc, Bool, true, false, List, [], ◌∷◌, Option, Some, None, Result, Ok, Err, refl, sym, ◌∙◌, ap, subst}
+use Rattle.std.specs.Prelude.{map}
+use Rattle.mdr_core.specs.declared.place.At.{At}
+use Rattle.mdr_core.specs.declared.plan.Plan.{Plan}
+use Rattle.mdr_core.specs.declared.program.Program.{Program}
+use Rattle.mdr_core.specs.declared.stop.StopKind.{StopKind}
+use Rattle.mdr_core.specs.declared.stop.StopKind.TheVariants as stop
+use Rattle.mdr_core.specs.declared.value.Value.{Value}
+use Rattle.mdr_extents.specs.Reaching.{Failing, visible}
+use Rattle.mdr_exec.specs.Holding.{held_of}
+use Rattle.mdr_exec.specs.declared.frame.Machine.{Machine}
+use Rattle.mdr_meaning.specs.declared.wire.Wire.{Wire}
+use Rattle.mdr_meaning.specs.Values.{wire_of}
+use Rattle.mdr_model.specs.declared.command.Command.{Command}
+use Rattle.mdr_model.specs.declared.command.Command.TheVariants as command
+use Rattle.mdr_model.specs.declared.memory.Cell.{Cell}
+use Rattle.mdr_model.specs.declared.outcome.End.{End}
+use Rattle.mdr_plain.specs.Outcome.{outcome_of}
+use Rattle.mdr_plain.specs.Plain.{does as plainly_does}
+use Rattle.mdr_plain.specs.Running.{KernelCode, interrupts, nothing}
+use Rattle.mdr_plain.specs.Scripts.{Finish, and_then, begin, begun, commands, finish, returned}
+use Rattle.mdr_plain.specs.World.{World, Ran, Ended, Stopped, Work, done}
+use Rattle.mdr_runs.proofs.Standing.{call_is_started}
+use Rattle.mdr_reach.specs.Answers.{found}
+use Rattle.mdr_viewed.proofs.Ticks.{user_code_keeps_ticks}
+use Rattle.mdr_watched.specs.Driver.{Driver, entry_roots, is_user, touched_by}
+use Rattle.mdr_watched.specs.Views.{closed, opened, taken}
+use Rattle.mdr_watched.specs.Watched.{closing, does, entered, held, kernel_of, upcall}
+use Rattle.mdr_whole.specs.declared.ending.Gave.{Gave}
+use Rattle.mdr_whole.specs.declared.ending.Gave.TheVariants as gave
+use Rattle.mdr_whole.specs.declared.ending.Worked.{Worked}
+use Rattle.mdr_whole.specs.declared.ending.Worked.TheVariants as worked
+use Rattle.mdr_whole.specs.Ending.{end_of, gave_as, worked_as}
+use Rattle.mdr_watch.specs.declared.watch.Upcall.{Upcall}
+use Rattle.mdr_watch.specs.Going.{IsStarted, held_in, user_does}
+use Rattle.mdr_watch.specs.Leaving.{EndsFor, GaveFor, WorkedFor, with_views}
+use Rattle.mdr_watch.specs.Watching.{IsKernel, around_user, driver_in, user_side}
+use Rattle.mdr_watch.proofs.Calls.{found_none, found_some}
+use Rattle.mdr_watch.proofs.Turns.{nothing_gives}
+
+-- ---- an upcall
+
+pub gave_closed : (g : Gave) (w : World) (r : Ran Wire) → gave_as g w ≡ r → GaveFor g (closed w) (closing r)
+gave_closed (gave.Value v) w r e = ap closing e
+gave_closed (gave.Stopped kind at) w r e = (w.views, ap closing e)
+
+-- the function runs with its set, and its set is gone where it ended
+pub ran_entered : (u : Upcall) (args : List Wire) (set : List Cell) (m : Machine) (g : Gave) (w w1 : World) → IsStarted u args m
+    → gave_as g w1 ≡ user_does u (opened set w).clock.rest m (opened set w)
+    → GaveFor g (closed w1) (entered (driver_in u.watch) (held (driver_in u.watch)) u.func args set w)
+ran_entered u args set m g w w1 s is =
+    gave_closed g w1 _ (is ∙ call_is_started (around_user u) nothing (user_code_keeps_ticks (driver_in u.watch) u.func) nothing_gives (user_side u) u.func args 0 (held_in u m) (opened set w) s.by)
+
+module _ (d : Driver) (f : ℕ) (args : List Wire) (w : World) where
+  pub up_on : (set : List Cell) (g : Gave) (w1 : World) → Some set ≡ found (visible d.program (touched_by d.plan f) w.memory [] (entry_roots d.program f args)) → GaveFor g w1 (entered d (held d) f args set w) → GaveFor g w1 (upcall d (held d) f args w)
+  unfolding upcall
+  up_on set g w1 e h = subst (λ r. GaveFor g w1 (taken r (record { func = f; stmt = 0 }) w (λ set. entered d (held d) f args set w))) (sym (found_some _ set e)) h
+
+  pub up_out : None ≡ found (visible d.program (touched_by d.plan f) w.memory [] (entry_roots d.program f args)) → GaveFor (gave.Stopped stop.Annotation (Some (record { func = f; stmt = 0 }))) w (upcall d (held d) f args w)
+  unfolding upcall
+  up_out e = (w.views, sym (ap (λ r. taken r (record { func = f; stmt = 0 }) w (λ set. entered d (held d) f args set w)) (found_none _ e).1))
+
+-- ---- commands
+
+pub worked_for : (e : Worked) (w : World) (work : Work) → worked_as e w ≡ work → WorkedFor e w work
+worked_for worked.Done w work is = is
+worked_for (worked.Stopped kind at) w work is = (w.views, is)
+
+-- the result of an upcall is noted, or the run stopped in it
+pub returned_for : (kernel : KernelCode) (g : Gave) (e : Worked) (w w1 : World) (ran : Ran Wire) → GaveFor g w ran → worked_as e w1 ≡ returned (interrupts kernel) (gave_as g w) → WorkedFor e w1 (returned (interrupts kernel) ran)
+returned_for kernel (gave.Value v) e w w1 ran is so = worked_for e w1 _ (so ∙ ap (returned (interrupts kernel)) is)
+returned_for kernel (gave.Stopped kind at) worked.Done w w1 ran is so = absurd (cc so)
+returned_for kernel (gave.Stopped kind at) (worked.Stopped kind' at') w w1 ran is so =
+    let same : ◌≡◌ {A = Work} (Stopped kind' at' w1) (Stopped kind at w) = so in
+    (is.0, ap (λ (x : Work). with_views_of is.0 x) same ∙ ap (returned (interrupts kernel)) is.1)
+  where
+    with_views_of : List (List Cell) → Work → Work
+    with_views_of views (Ended x w) = Ended x w
+    with_views_of views (Stopped kind at w) = Stopped kind at (with_views views w)
+
+module _ (d : Driver) (w : World) where
+  pub user_call_does : (f : ℕ) (args : List Value) → is_user d.plan f ≡ true → does d (held d) (command.Call f args) w ≡ returned (interrupts (kernel_of d)) (upcall d (held d) f (map wire_of args) (begun d.program f args w))
+  unfolding begin
+  user_call_does f args e = rw e refl
+
+  pub kernel_does : (c : Command) → IsKernel d.plan c → plainly_does (kernel_of d) c w ≡ does d (held d) c w
+  unfolding begin
+  kernel_does (command.Call f args) e = rw e refl
+  kernel_does (command.Idle n) e = refl
+  kernel_does (command.Show g) e = refl
+
+-- ---- scripts
+
+module _ (d : Driver) where
+  pub stops_for : (c : Command) (cs : List Command) (kind : StopKind) (at : Option At) (w w1 : World) → WorkedFor (worked.Stopped kind at) w1 (does d (held d) c w)
+      → EndsFor (worked.Stopped kind at) w1 (commands (does d (held d)) (c ∷ cs) w)
+  unfolding commands
+  stops_for c cs kind at w w1 h = record {
+    end = ap (λ x. Finish.end (and_then x (λ w'. commands (does d (held d)) cs w'))) h.1;
+    views = h.0;
+    world = ap (λ x. Finish.world (and_then x (λ w'. commands (does d (held d)) cs w'))) h.1;
+  }
+
+  pub ends_for : (w : World) → EndsFor worked.Done w (commands (does d (held d)) [] w)
+  unfolding commands
+  ends_for w = record { end = refl; views = w.views; world = refl }
+
+  pub goes_for : (c : Command) (cs : List Command) (w w1 : World) → WorkedFor worked.Done w1 (does d (held d) c w) → commands (does d (held d)) cs w1 ≡ commands (does d (held d)) (c ∷ cs) w
+  unfolding commands
+  goes_for c cs w w1 h = ap (λ x. and_then x (λ w'. commands (does d (held d)) cs w')) h
+
+-- nothing is shown of the sets
+pub shown_so : (program : Program) (e : Worked) (w : World) (f : Finish) → EndsFor e w f → outcome_of program (record { end = end_of e; world = w }) ≡ outcome_of program f
+unfolding outcome_of
+shown_so program e w f h = λ i. outcome_of program (record { end = h.end i; world = h.world i })

@@ -1,0 +1,210 @@
+-- A machine that runs user code goes from event to event.
+use Rattle.std.proofs.Common.{◌≡◌, ℕ, ◌+◌, ◌≤◌, Bool, true, false, List, [], ◌∷◌, Option, Some, slice_get, refl, sym, ◌∙◌, ap, subst, le_refl, arith}
+use Rattle.mdr_core.specs.declared.code.Stmt.{Stmt}
+use Rattle.mdr_core.specs.declared.place.At.{At}
+use Rattle.mdr_core.specs.declared.plan.Half.{Half}
+use Rattle.mdr_core.specs.declared.program.Func.{Func}
+use Rattle.mdr_core.specs.declared.program.Program.{Program}
+use Rattle.mdr_core.specs.declared.stop.StopKind.{StopKind}
+use Rattle.mdr_core.specs.declared.stop.StopKind.TheVariants as stop
+use Rattle.mdr_core.specs.declared.value.Value.{Value}
+use Rattle.mdr_exec.specs.declared.event.Asked.{Asked as Question}
+use Rattle.mdr_exec.specs.declared.event.Crossing.{Crossing as Call}
+use Rattle.mdr_exec.specs.declared.event.Event.{Event}
+use Rattle.mdr_exec.specs.declared.event.Event.TheVariants as event
+use Rattle.mdr_exec.specs.declared.frame.Machine.{Machine}
+use Rattle.mdr_exec.specs.declared.frame.Side.TheVariants as which
+use Rattle.mdr_exec.specs.Events.{asked_as}
+use Rattle.mdr_exec.specs.Going.{RanTo}
+use Rattle.mdr_exec.specs.Halves.{side_in}
+use Rattle.mdr_exec.specs.Held.{Held, tree}
+use Rattle.mdr_exec.specs.Holding.{held_of, wires_of}
+use Rattle.mdr_exec.specs.Steps.{child}
+use Rattle.mdr_meaning.specs.declared.wire.Wire.{Wire}
+use Rattle.mdr_meaning.specs.Bodies.{body_of, started}
+use Rattle.mdr_meaning.specs.Cut.{cut}
+use Rattle.mdr_meaning.specs.Sides.{Side}
+use Rattle.mdr_meaning.specs.Tree.{Tree}
+use Rattle.mdr_meaning.specs.Values.{wire_of}
+use Rattle.mdr_meaning.specs.Walk.{Walked, walk, walked}
+use Rattle.mdr_model.specs.Memory.{normal}
+use Rattle.mdr_plain.specs.Laws.{GivesNoTicks}
+use Rattle.mdr_plain.specs.Running.{nothing, run}
+use Rattle.mdr_plain.specs.Storage.{accesses}
+use Rattle.mdr_plain.specs.World.{World, Ran, Ended, Stopped, after, left}
+use Rattle.mdr_runs.specs.Around.{AnsweredIn, IsSeenBy, KeepsTicks, StandsIn, WentIn, answered_in}
+use Rattle.mdr_runs.proofs.EndsAnywhere.{budget_ends, crossing_ends, service_ends, stop_ends, value_ends}
+use Rattle.mdr_runs.proofs.Standing.{crossing_is_answered, run_stands, service_is_answered, tick_stands}
+use Rattle.mdr_services.specs.declared.answer.Served.{Served}
+use Rattle.mdr_services.specs.declared.answer.Served.TheVariants as served_is
+use Rattle.mdr_services.specs.Serving.{served_as}
+use Rattle.mdr_viewed.proofs.Ticks.{user_code_keeps_ticks}
+use Rattle.mdr_watched.specs.Views.{may_touch}
+use Rattle.mdr_world.specs.Driven.{Driven, Ticks, driven_by}
+use Rattle.mdr_world.proofs.WalkLaws.{drivers_walk}
+use Rattle.mdr_whole.specs.declared.ending.Gave.{Gave}
+use Rattle.mdr_whole.specs.declared.ending.Gave.TheVariants as gave
+use Rattle.mdr_whole.specs.declared.next.Next.{Next}
+use Rattle.mdr_whole.specs.declared.next.Next.TheVariants as next
+use Rattle.mdr_whole.specs.Ending.{gave_as}
+use Rattle.mdr_whole.specs.Going.{Counted}
+use Rattle.mdr_watch.specs.declared.watch.Upcall.{Upcall}
+use Rattle.mdr_watch.specs.Going.{Began, GoesOn, GoesOnWith, IsStarted, NextAt, Passed, StandsAt, held_in, program_in, user_does}
+use Rattle.mdr_watch.specs.Guarding.{guarded_accesses}
+use Rattle.mdr_watch.specs.Watching.{IsFit, around_user, driver_in, user_side}
+use Rattle.mdr_watch.proofs.Sides.{user_is}
+
+abbrev world_in : Driven → World
+world_in d = d.world
+
+abbrev program_of : Driven → Program
+program_of d = d.program
+
+pub nothing_gives : GivesNoTicks nothing
+nothing_gives d w = le_refl w.clock.rest
+
+-- ---- the memory of user code is seen as a world
+
+at_most : (fuel : ℕ) {w w1 w2 : World} → w1 ≡ w2 → w1.clock.rest ≤ w.clock.rest → w.clock.rest ≤ fuel → w2.clock.rest ≤ fuel
+at_most fuel same less enough = subst (λ (x : World). x.clock.rest ≤ fuel) same (omega (arith, less, enough))
+
+-- a machine on the code of the user half
+pub ran_user : (u : Upcall) → IsFit u.watch → (halves : List Half) → halves ≡ u.watch.plan.now.halves → (m m' : Machine) (d d' : Driven) (ticks : ℕ) (e : Event) (left : ℕ)
+    → RanTo guarded_accesses (side_in which.User halves (program_in u)) (held_in u (record m { side = which.User })) d ticks e (held_in u m') d' left
+    → RanTo guarded_accesses (user_side u) (held_in u m) d ticks e (held_in u m') d' left
+unfolding held_of
+ran_user u fit halves are m m' d d' ticks e left ran =
+    subst (λ s. RanTo guarded_accesses s (held_in u m) d ticks e (held_in u m') d' left) (ap (λ hs. side_in which.User hs (program_in u)) are ∙ user_is (program_in u) u.watch.plan.now fit) ran
+
+module _ (u : Upcall) where
+  abbrev prog : Program
+  prog = program_in u
+
+  keeps : KeepsTicks (around_user u)
+  keeps = user_code_keeps_ticks (driver_in u.watch) u.func
+
+  seen : IsSeenBy (accesses prog may_touch) guarded_accesses world_in program_of prog
+  seen = record {
+    walks = λ n t m same.
+        ap (λ p. walk (accesses p may_touch) n t m.world) (sym same) ∙ sym (ap (λ (x : Walked Driven). walked x.reached x.memory.world x.left) (drivers_walk may_touch n t m.program m.world));
+    stays = λ n t m same. ap (λ (x : Walked Driven). x.memory.program) (drivers_walk may_touch n t m.program m.world) ∙ same;
+  }
+
+  -- ---- runs
+
+  pub began : (m m' : Machine) (d d' : Driven) (e : Event) (left : ℕ) → d.program ≡ prog → RanTo guarded_accesses (user_side u) (held_in u m) d 0 e (held_in u m') d' left → Began u m d m' e d'
+  began m m' d d' e left same ran = λ fuel enough.
+      let w = run_stands (around_user u) nothing keeps nothing_gives guarded_accesses world_in program_of prog seen (user_side u) (held_in u m) (held_in u m') d d' e left fuel same enough ran in
+      record { stands = w.stands; same = w.same }
+
+  pub passed : (m m' : Machine) (d d' : Driven) (e : Event) (left : ℕ) → d.program ≡ prog → RanTo guarded_accesses (user_side u) (held_in u m) d 1 e (held_in u m') d' left → Passed u m d m' e d'
+  passed m m' d d' e left same ran = λ fuel all at w s n.
+      let x = tick_stands (around_user u) nothing keeps nothing_gives guarded_accesses world_in program_of prog seen (user_side u) (held_in u m) (held_in u m') at w w d d' e left fuel n.left all same s refl n.one n.counted ran in
+      record { stands = x.stands; same = x.same }
+
+  -- ---- a tick
+
+  tick_counted : (d d' : Driven) → Ticks true d d' → Counted d.world d'.world
+  tick_counted d d' t = record { left = t.0; one = t.1; counted = ap world_in t.2 }
+
+  pub tick_keeps : (t : Bool) (d d' : Driven) → Ticks t d d' → d'.program ≡ d.program
+  tick_keeps true d d' t = ap program_of t.2
+  tick_keeps false d d' t = ap program_of t.1
+
+  pub ticked_on : (at : At) (m m' : Machine) (d d1 d' : Driven) (e : Event) (t : Bool) → t ≡ true → Ticks t d d1 → Passed u m d1 m' e d' → GoesOn u m (event.TicksOut at) d m' (next.Came e) d'
+  ticked_on at m m' d d1 d' e true h ticks p = λ fuel all s. p fuel all at d.world s.stands (tick_counted d d1 ticks)
+  ticked_on at m m' d d1 d' e false h ticks p = absurd (cc h)
+
+  pub ticked_out : (at : At) (m m' : Machine) (d d1 : Driven) (t : Bool) → t ≡ false → Ticks t d d1 → GoesOn u m (event.TicksOut at) d m' (next.Gave (gave.Stopped stop.Ticks (Some at))) d1
+  ticked_out at m m' d d1 false h ticks = λ fuel all s. (
+    ap (λ w. Stopped stop.Ticks (Some at) w) (ap world_in ticks.1) ∙ budget_ends (around_user u) (user_side u) nothing fuel all (held_in u m) at d.world d.world s.stands refl ticks.0,
+    ap program_of ticks.1 ∙ s.same,
+  )
+  ticked_out at m m' d d1 true h ticks = absurd (cc h)
+
+  -- ---- answers
+
+  pub resumed : (results : List Wire) (m m1 m' : Machine) (d d' : Driven) (e : Event) → ((f r : ℕ) → tree (user_side u) f (held_in u m1) r ≡ child (tree (user_side u) f (held_in u m) r) results)
+      → Began u m1 d m' e d' → GoesOnWith u results m d m' (next.Came e) d'
+  resumed results m m1 m' d d' e answer b = λ fuel all w.
+      subst (λ x. StandsAt u fuel x m' e d') (ap (λ t. run (around_user u) nothing t d.world) (answer fuel fuel) ∙ w.is) (b fuel w.enough)
+
+  module _ (m : Machine) (d : Driven) where
+    pub served_on : (q : Question) (s : Served) (results : List Value) (d1 d' : Driven) (m' : Machine) (n : Next) → s ≡ served_is.Done results → served_as s q.at d1.world ≡ (around_user u).serves (asked_as q) d.world
+        → GoesOnWith u (wires_of results) m d1 m' n d' → GoesOn u m (event.Service q) d m' n d'
+    served_on q s results d1 d' m' n is so g = λ fuel all x.
+        let ended : Ended (wires_of results) d1.world ≡ (around_user u).serves (asked_as q) d.world = sym (ap (λ y. served_as y q.at d1.world) is) ∙ so in
+        g fuel all (record {
+          is = ap (λ r. after r (answered_in (around_user u) (user_side u) nothing fuel (held_in u m))) ended ∙ x.stands.is;
+          enough = at_most fuel (ap left (sym ended)) (keeps.serves (asked_as q) d.world) x.stands.enough;
+        })
+
+    pub served_out : (q : Question) (s : Served) (kind : StopKind) (d1 : Driven) (m' : Machine) → s ≡ served_is.Stop kind → d1.program ≡ prog → served_as s q.at d1.world ≡ (around_user u).serves (asked_as q) d.world
+        → GoesOn u m (event.Service q) d m' (next.Gave (gave.Stopped kind (Some q.at))) d1
+    served_out q s kind d1 m' is kept so = λ fuel all x.
+        (service_ends (around_user u) (user_side u) nothing fuel all (held_in u m) q kind (Some q.at) d.world d1.world x.stands (sym (ap (λ y. served_as y q.at d1.world) is) ∙ so), kept)
+
+    pub crossed_on : (c : Call) (g : Gave) (v : Value) (d1 d' : Driven) (m' : Machine) (n : Next) → g ≡ gave.Value v → gave_as g d1.world ≡ (around_user u).crosses c.at c.func (wires_of c.args) c.depth d.world
+        → GoesOnWith u (wires_of (v ∷ [])) m d1 m' n d' → GoesOn u m (event.Cross c) d m' n d'
+    crossed_on c g v d1 d' m' n is so go = λ fuel all x.
+        let ended : Ended (wire_of v) d1.world ≡ (around_user u).crosses c.at c.func (wires_of c.args) c.depth d.world = sym (ap (λ y. gave_as y d1.world) is) ∙ so in
+        go fuel all (record {
+          is = ap (λ r. after r (λ x w. answered_in (around_user u) (user_side u) nothing fuel (held_in u m) (x ∷ []) w)) ended ∙ x.stands.is;
+          enough = at_most fuel (ap left (sym ended)) (keeps.crosses c.at c.func (wires_of c.args) c.depth d.world) x.stands.enough;
+        })
+
+    pub crossed_out : (c : Call) (g : Gave) (kind : StopKind) (at : Option At) (d1 : Driven) (m' : Machine) → g ≡ gave.Stopped kind at → d1.program ≡ prog
+        → gave_as g d1.world ≡ (around_user u).crosses c.at c.func (wires_of c.args) c.depth d.world → GoesOn u m (event.Cross c) d m' (next.Gave (gave.Stopped kind at)) d1
+    crossed_out c g kind at d1 m' is kept so = λ fuel all x.
+        (crossing_ends (around_user u) (user_side u) nothing fuel all (held_in u m) c kind at d.world d1.world x.stands (sym (ap (λ y. gave_as y d1.world) is) ∙ so), kept)
+
+  -- ---- an event
+
+  module _ (m : Machine) (e : Event) (d : Driven) where
+    pub done_out : (v v' : Value) → e ≡ event.Done v → wire_of v' ≡ normal d.world.memory (wire_of v) → GoesOn u m e d m (next.Gave (gave.Value v')) d
+    done_out v v' is now = λ fuel all s.
+        (value_ends (around_user u) (user_side u) nothing fuel all (held_in u m) v v' d.world (subst (λ x. StandsIn (around_user u) (user_side u) nothing fuel all (held_in u m) x d.world) is s.stands) now, s.same)
+
+    pub stopped_out : (kind : StopKind) (at : At) → e ≡ event.Stop kind at → GoesOn u m e d m (next.Gave (gave.Stopped kind (Some at))) d
+    stopped_out kind at is = λ fuel all s.
+        (stop_ends (around_user u) (user_side u) nothing fuel all (held_in u m) kind at d.world (subst (λ x. StandsIn (around_user u) (user_side u) nothing fuel all (held_in u m) x d.world) is s.stands), s.same)
+
+    pub goes_on_at : (e' : Event) (m' : Machine) (n : Next) (d' : Driven) → e ≡ e' → GoesOn u m e' d m' n d' → GoesOn u m e d m' n d'
+    goes_on_at e' m' n d' is g = subst (λ x. GoesOn u m x d m' n d') (sym is) g
+
+-- ---- a machine's run
+
+-- a machine under way: all that it does is what it did at first
+pub record UnderWay (u : Upcall) (m0 : Machine) (d0 : Driven) (m : Machine) (e : Event) (d : Driven) : Type 0 where
+  pub at : StandsAt u d0.world.clock.rest (user_does u d0.world.clock.rest m0 d0.world) m e d
+
+module _ (u : Upcall) (m0 : Machine) (d0 : Driven) where
+  abbrev all : Ran Wire
+  all = user_does u d0.world.clock.rest m0 d0.world
+
+  pub way_begins : (m : Machine) (e : Event) (d : Driven) → Began u m0 d0 m e d → UnderWay u m0 d0 m e d
+  way_begins m e d b = record { at = b d0.world.clock.rest (le_refl d0.world.clock.rest) }
+
+  next_at : (m m' : Machine) (e : Event) (d d' : Driven) (n : Next) → UnderWay u m0 d0 m e d → GoesOn u m e d m' n d' → NextAt u d0.world.clock.rest all m' n d'
+  next_at m m' e d d' n way g = g d0.world.clock.rest _ way.at
+
+  pub way_goes : (m m' : Machine) (e e' : Event) (d d' : Driven) (n : Next) → n ≡ next.Came e' → UnderWay u m0 d0 m e d → GoesOn u m e d m' n d' → UnderWay u m0 d0 m' e' d'
+  way_goes m m' e e' d d' n is way g = record { at = subst (λ x. NextAt u d0.world.clock.rest all m' x d') is (next_at m m' e d d' n way g) }
+
+  way_ends : (m m' : Machine) (e : Event) (d d' : Driven) (n : Next) (g : Gave) → n ≡ next.Gave g → UnderWay u m0 d0 m e d → GoesOn u m e d m' n d' → NextAt u d0.world.clock.rest all m' (next.Gave g) d'
+  way_ends m m' e d d' n g is way x = subst (λ y. NextAt u d0.world.clock.rest all m' y d') is (next_at m m' e d d' n way x)
+
+  pub way_gives : (m m' : Machine) (e : Event) (d d' : Driven) (n : Next) (g : Gave) → n ≡ next.Gave g → UnderWay u m0 d0 m e d → GoesOn u m e d m' n d' → gave_as g d'.world ≡ all
+  way_gives m m' e d d' n g is way x = (way_ends m m' e d d' n g is way x).0
+
+  pub way_keeps : (m m' : Machine) (e : Event) (d d' : Driven) (n : Next) (g : Gave) → n ≡ next.Gave g → UnderWay u m0 d0 m e d → GoesOn u m e d m' n d' → d'.program ≡ program_in u
+  way_keeps m m' e d d' n g is way x = (way_ends m m' e d d' n g is way x).1
+
+-- ---- a function is started
+
+pub is_started : (u : Upcall) (args : List Wire) (m0 m : Machine) → ((f r : ℕ) → tree (user_side u) f (held_in u m0) r ≡ Tree.Idle) → (user_side u).own u.func ≡ body_of (program_in u) u.func
+    → ((side : Side) → side.own u.func ≡ body_of (program_in u) u.func → (f r : ℕ) → r ≤ f → tree side f (held_in u m) r ≡ cut r (started side (f + 1) u.func args 0 (tree side f (held_in u m0) r)))
+    → IsStarted u args m
+is_started u args m0 m none own is = record {
+  by = λ f r less. is (user_side u) own f r less ∙ ap (λ t. cut r (started (user_side u) (f + 1) u.func args 0 t)) (none f r);
+}

@@ -1,0 +1,71 @@
+-- A machine that runs user code up to its next event.
+use Rattle.std.specs.Prelude.{◌≡◌, ◌+◌, ◌≤◌, ℕ, List}
+use Rattle.mdr_core.specs.declared.place.At.{At}
+use Rattle.mdr_core.specs.declared.program.Program.{Program}
+use Rattle.mdr_exec.specs.declared.event.Event.{Event}
+use Rattle.mdr_exec.specs.declared.event.Event.TheVariants as event
+use Rattle.mdr_exec.specs.declared.frame.Machine.{Machine}
+use Rattle.mdr_exec.specs.Held.{Held, tree}
+use Rattle.mdr_exec.specs.Holding.{held_of}
+use Rattle.mdr_meaning.specs.declared.wire.Wire.{Wire}
+use Rattle.mdr_meaning.specs.Bodies.{started}
+use Rattle.mdr_meaning.specs.Cut.{cut}
+use Rattle.mdr_meaning.specs.Tree.{Tree}
+use Rattle.mdr_plain.specs.Running.{nothing}
+use Rattle.mdr_plain.specs.World.{World, Ran}
+use Rattle.mdr_runs.specs.Around.{StandsIn, answered_in, goes_on_in}
+use Rattle.mdr_world.specs.Driven.{Driven}
+use Rattle.mdr_whole.specs.declared.next.Next.{Next}
+use Rattle.mdr_whole.specs.declared.next.Next.TheVariants as next
+use Rattle.mdr_whole.specs.Ending.{gave_as}
+use Rattle.mdr_whole.specs.Going.{Counted}
+use Rattle.mdr_watch.specs.declared.watch.Upcall.{Upcall}
+use Rattle.mdr_watch.specs.Watching.{around_user, user_side}
+
+-- the program of an upcall, and the work that a machine holds in it
+abbrev pub program_in : Upcall → Program
+program_in u = u.watch.program.now
+
+abbrev pub held_in : Upcall → Machine → Held
+held_in u machine = held_of (program_in u) machine
+
+-- what the user code that a machine holds does in a world, with fuel for so many ticks
+abbrev pub user_does : Upcall → (fuel : ℕ) → Machine → World → Ran Wire
+user_does u fuel machine w = goes_on_in (around_user u) (user_side u) nothing fuel (held_in u machine) w
+
+-- the function of the upcall was started in a machine that held nothing
+pub record IsStarted (u : Upcall) (args : List Wire) (machine : Machine) : Type 0 where
+  pub by : (f r : ℕ) → r ≤ f → tree (user_side u) f (held_in u machine) r ≡ cut r (started (user_side u) (f + 1) u.func args 0 Tree.Idle)
+
+-- a machine came to an event in an upcall: what follows is what all of it does
+pub record StandsAt (u : Upcall) (fuel : ℕ) (all : Ran Wire) (machine : Machine) (e : Event) (d : Driven) : Type 0 where
+  pub stands : StandsIn (around_user u) (user_side u) nothing fuel all (held_in u machine) e d.world
+  pub same : d.program ≡ program_in u
+
+-- it came to the next event, or it gave what all of it gives
+abbrev pub NextAt : (u : Upcall) (fuel : ℕ) (all : Ran Wire) (machine : Machine) (n : Next) (d : Driven) → Type 0
+NextAt u fuel all machine (next.Came e) d = StandsAt u fuel all machine e d
+NextAt u fuel all machine (next.Gave g) d = (gave_as g d.world ≡ all) × (d.program ≡ program_in u)
+
+-- it ran without a tick
+abbrev pub Began : Upcall → Machine → Driven → Machine → Event → Driven → Type 0
+Began u machine d machine' e d' = (fuel : ℕ) → d.world.clock.rest ≤ fuel → StandsAt u fuel (user_does u fuel machine d.world) machine' e d'
+
+-- it ran with the tick that was wanted and counted
+abbrev pub Passed : Upcall → Machine → Driven → Machine → Event → Driven → Type 0
+Passed u machine d machine' e d' =
+    (fuel : ℕ) (all : Ran Wire) (at : At) (w : World)
+    → StandsIn (around_user u) (user_side u) nothing fuel all (held_in u machine) (event.TicksOut at) w → Counted w d.world → StandsAt u fuel all machine' e d'
+
+-- what follows an event
+abbrev pub GoesOn : Upcall → Machine → Event → Driven → Machine → Next → Driven → Type 0
+GoesOn u machine e d machine' n d' = (fuel : ℕ) (all : Ran Wire) → StandsAt u fuel all machine e d → NextAt u fuel all machine' n d'
+
+-- what follows these answers of the question that is open is what all of it does
+pub record Waits (u : Upcall) (fuel : ℕ) (all : Ran Wire) (machine : Machine) (results : List Wire) (w : World) : Type 0 where
+  pub is : answered_in (around_user u) (user_side u) nothing fuel (held_in u machine) results w ≡ all
+  pub enough : w.clock.rest ≤ fuel
+
+-- it is answered
+abbrev pub GoesOnWith : Upcall → List Wire → Machine → Driven → Machine → Next → Driven → Type 0
+GoesOnWith u results machine d machine' n d' = (fuel : ℕ) (all : Ran Wire) → Waits u fuel all machine results d.world → NextAt u fuel all machine' n d'

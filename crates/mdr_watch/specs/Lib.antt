@@ -1,0 +1,4 @@
+pub mod Watching
+pub mod Guarding
+pub mod Leaving
+pub mod Going

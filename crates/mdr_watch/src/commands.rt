@@ -1,0 +1,131 @@
+// The commands of a script.
+
+ghost use Rattle.std.specs.Prelude.{◌≡◌, IfOk, true};
+ghost use Rattle.mdr_core.specs.Sound.{IsSound};
+ghost use Rattle.mdr_model.specs.declared.command.Command.TheVariants as command;
+ghost use Rattle.mdr_plain.specs.Scripts.{commands};
+ghost use Rattle.mdr_watched.specs.Driver.{is_user as is_user_in};
+ghost use Rattle.mdr_watched.specs.Watched.{does, held};
+ghost use Rattle.mdr_watch.specs.Leaving.{EndsFor, WorkedFor};
+ghost use Rattle.mdr_watch.specs.Watching.{IsFit, IsKernel, driver_in};
+
+use crate::next::Closed;
+use crate::upcall::call_user;
+use crate::watch::{Upcall, Watch, is_user, kernel_code};
+use mdr_core::{OutOfMemory, Value};
+use mdr_model::Command;
+use mdr_services::note_call;
+use mdr_whole::{Worked, do_command, returned};
+use mdr_world::World;
+use std::alloc::Global;
+
+/// A command was done, or stopped the run.
+#[derive(Drop)]
+pub struct Did<'a> {
+    pub worked: Worked,
+    pub world: World<'a>,
+}
+
+/// A function of the user half is called.
+fn upcall_command<'a>(
+    alloc: Global,
+    watch: Watch,
+    world: World<'a>,
+    func: u32,
+    args: &[Value],
+) -> Result<Did<'a>, OutOfMemory>
+    requires sound { IsSound watch.program.now }
+    requires fit { IsFit watch }
+    requires same { world.program ≡ watch.program.now }
+    requires user { is_user_in watch.plan.now func ≡ true }
+    ensures kept { IfOk result (λ r. r.world.program ≡ watch.entry.program.now) }
+    ensures worked { IfOk result (λ r. WorkedFor r.worked r.world.world (does (driver_in watch.entry) (held (driver_in watch.entry)) (command.Call func args.now) world.entry.world)) }
+{
+    let mut world = world;
+    note_call(alloc, &mut world, func, args)?;
+    let Closed { gave, world: left } = call_user(alloc, Upcall { watch, func }, args, world)?;
+    let mut world = left;
+    let worked = returned(alloc, kernel_code(watch), &mut world, gave)?;
+    Ok(Did { worked, world })
+}
+
+/// A command in which no function of the user half is called.
+fn kernel_command<'a>(
+    alloc: Global,
+    watch: Watch,
+    world: World<'a>,
+    command: &Command,
+) -> Result<Did<'a>, OutOfMemory>
+    requires sound { IsSound watch.program.now }
+    requires fit { IsFit watch }
+    requires same { world.program ≡ watch.program.now }
+    requires kernel { IsKernel watch.plan.now command.now }
+    ensures kept { IfOk result (λ r. r.world.program ≡ watch.entry.program.now) }
+    ensures worked { IfOk result (λ r. WorkedFor r.worked r.world.world (does (driver_in watch.entry) (held (driver_in watch.entry)) command.now world.entry.world)) }
+{
+    let mut world = world;
+    let worked = do_command(alloc, kernel_code(watch), &mut world, command)?;
+    Ok(Did { worked, world })
+}
+
+/// A command is done.
+fn do_watched<'a>(
+    alloc: Global,
+    watch: Watch,
+    world: World<'a>,
+    command: &Command,
+) -> Result<Did<'a>, OutOfMemory>
+    requires sound { IsSound watch.program.now }
+    requires fit { IsFit watch }
+    requires same { world.program ≡ watch.program.now }
+    ensures kept { IfOk result (λ r. r.world.program ≡ watch.entry.program.now) }
+    ensures worked { IfOk result (λ r. WorkedFor r.worked r.world.world (does (driver_in watch.entry) (held (driver_in watch.entry)) command.now world.entry.world)) }
+{
+    match command {
+        Command::Call(func, args) => {
+            if is_user(watch.plan, *func) {
+                return upcall_command(alloc, watch, world, *func, args.as_slice());
+            }
+            kernel_command(alloc, watch, world, command)
+        }
+        Command::Idle(_) => kernel_command(alloc, watch, world, command),
+        Command::Show(_) => kernel_command(alloc, watch, world, command),
+    }
+}
+
+/// The commands of a script are done in turn.
+#[tactic(auto, unfolding(mdr_plain::specs::Scripts::commands))]
+pub(crate) fn do_commands<'a>(
+    alloc: Global,
+    watch: Watch,
+    world: World<'a>,
+    script: &[Command],
+) -> Result<Did<'a>, OutOfMemory>
+    requires sound { IsSound watch.program.now }
+    requires fit { IsFit watch }
+    requires same { world.program ≡ watch.program.now }
+    ensures kept { IfOk result (λ r. r.world.program ≡ watch.entry.program.now) }
+    ensures finished { IfOk result (λ r. EndsFor r.worked r.world.world (commands (does (driver_in watch.entry) (held (driver_in watch.entry))) script.now world.entry.world)) }
+{
+    let mut world = world;
+    for command in script {
+        let Did {
+            worked,
+            world: left,
+        } = do_watched(alloc, watch, world, command)?;
+        world = left;
+        match worked {
+            Worked::Done => (),
+            Worked::Stopped(kind, at) => {
+                return Ok(Did {
+                    worked: Worked::Stopped(kind, at),
+                    world,
+                });
+            }
+        }
+    }
+    Ok(Did {
+        worked: Worked::Done,
+        world,
+    })
+}

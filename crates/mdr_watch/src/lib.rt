@@ -1,0 +1,23 @@
+//! The run of a script for a driver on one memory, while its user half is held to the cells that its annotations let it touch:
+//! what it shows is what `mdr_watched` says of it.
+//!
+//! While a function of the user half is active the state of the run is a `Guarded`: the world of a plain run, beside the set
+//! of the cells that user code may touch, in which cells of dead blocks may be left. One upcall is open at most, since kernel
+//! code calls no function of the user half.
+#![tactic(auto)]
+
+mod asks;
+mod commands;
+mod downcall;
+mod guarded;
+mod kept_out;
+mod next;
+mod roots;
+mod turn;
+mod upcall;
+mod watch;
+mod whole;
+
+pub use guarded::Guarded;
+pub use watch::{Upcall, Watch};
+pub use whole::run_watched;

@@ -1,0 +1,131 @@
+// A function of the user half is called.
+
+ghost use Rattle.std.specs.Prelude.{◌≡◌, [], Some, IfOk, IsTrue, slice_get};
+ghost use Rattle.mdr_core.specs.Sound.{IsSound};
+ghost use Rattle.mdr_exec.specs.Holding.{wires_of};
+ghost use Rattle.mdr_meaning.specs.Bodies.{body_of};
+ghost use Rattle.mdr_meaning.specs.Sides.{Body};
+ghost use Rattle.mdr_viewed.specs.Viewed.{IsOlder};
+ghost use Rattle.mdr_watched.specs.Driver.{is_user};
+ghost use Rattle.mdr_watched.specs.Order.{AreLive};
+ghost use Rattle.mdr_watched.specs.Watched.{entered, held, upcall as up};
+ghost use Rattle.mdr_watch.specs.Going.{IsStarted};
+ghost use Rattle.mdr_watch.specs.Leaving.{GaveFor};
+ghost use Rattle.mdr_watch.specs.Watching.{IsFit, driver_in};
+
+use crate::guarded::Guarded;
+use crate::next::{Closed, Ended};
+use crate::roots::entry_roots;
+use crate::turn::run;
+use crate::watch::{Upcall, func_at, is_user, touched};
+use mdr_cells::CellSet;
+use mdr_core::{At, OutOfMemory, Program, StopKind, Value};
+use mdr_exec::{Machine, Side};
+use mdr_reach::visible;
+use mdr_whole::Gave;
+use mdr_world::World;
+use std::alloc::Global;
+
+/// Whether a function has a body.
+#[tactic(auto, unfolding(mdr_meaning::specs::Bodies::body_of))]
+fn has_body(program: &Program, func: u32) -> bool
+    ensures { IsTrue result → (body : Body) × (body_of program.now func ≡ Some body) }
+{
+    match func_at(program, func) {
+        Some(func) => match &func.body {
+            Some(_) => true,
+            None => false,
+        },
+        None => false,
+    }
+}
+
+/// A machine in which the function was started, as the first one that is active.
+fn started(alloc: Global, upcall: Upcall, args: &[Value]) -> Result<Machine, OutOfMemory>
+    requires { IsFit upcall.watch }
+    ensures { IfOk result (λ m. IsStarted upcall.entry (wires_of args.now) m) }
+{
+    if !is_user(upcall.watch.plan, upcall.func) {
+        return Err(OutOfMemory);
+    }
+    if !has_body(upcall.watch.program, upcall.func) {
+        return Err(OutOfMemory);
+    }
+    let mut machine = Machine::new(alloc, Side::User);
+    machine.start(alloc, upcall.watch.program, upcall.func, args, 0)?;
+    Ok(machine)
+}
+
+/// It runs, with the set that it begins with.
+fn enter<'a>(
+    alloc: Global,
+    upcall: Upcall,
+    args: &[Value],
+    set: CellSet,
+    world: World<'a>,
+) -> Result<Closed<'a>, OutOfMemory>
+    requires sound { IsSound upcall.watch.program.now }
+    requires fit { IsFit upcall.watch }
+    requires same { world.program ≡ upcall.watch.program.now }
+    requires alone { world.world.views ≡ [] }
+    requires live { AreLive world.world.memory set }
+    requires older { IsOlder set world.world }
+    ensures kept { IfOk result (λ r. r.world.program ≡ upcall.entry.watch.program.now) }
+    ensures gave { IfOk result (λ r. GaveFor r.gave r.world.world (entered (driver_in upcall.entry.watch) (held (driver_in upcall.entry.watch)) upcall.entry.func (wires_of args.now) set world.entry.world)) }
+{
+    let mut machine = started(alloc, upcall, args)?;
+    let guarded = Guarded::new(world, set);
+    let Ended {
+        gave,
+        guarded: left,
+    } = run(&mut machine, alloc, upcall, guarded)?;
+    let world = left.close();
+    Ok(Closed { gave, world })
+}
+
+/// It is called: its set is taken, from its arguments and the globals. A function without a body answers want of memory,
+/// and so does a call while another one of the user half is active.
+#[tactic(auto, unfolding(mdr_watched::specs::Watched::upcall))]
+pub(crate) fn call_user<'a>(
+    alloc: Global,
+    upcall: Upcall,
+    args: &[Value],
+    world: World<'a>,
+) -> Result<Closed<'a>, OutOfMemory>
+    requires sound { IsSound upcall.watch.program.now }
+    requires fit { IsFit upcall.watch }
+    requires same { world.program ≡ upcall.watch.program.now }
+    ensures kept { IfOk result (λ r. r.world.program ≡ upcall.entry.watch.program.now) }
+    ensures gave { IfOk result (λ r. GaveFor r.gave r.world.world (up (driver_in upcall.entry.watch) (held (driver_in upcall.entry.watch)) upcall.entry.func (wires_of args.now) world.entry.world)) }
+{
+    if world.is_in_user() {
+        return Err(OutOfMemory);
+    }
+    let _in_order = world.births();
+    let program = upcall.watch.program;
+    let keys = touched(upcall.watch.plan, upcall.func);
+    let roots = entry_roots(alloc, program, upcall.func, args)?;
+    let none = CellSet::new(alloc);
+    let taken = visible(
+        alloc,
+        program,
+        keys,
+        world.blocks(),
+        &none,
+        roots.as_slice(),
+        args,
+    )?;
+    match taken {
+        Some(set) => enter(alloc, upcall, args, set, world),
+        None => Ok(Closed {
+            gave: Gave::Stopped(
+                StopKind::Annotation,
+                Some(At {
+                    func: upcall.func,
+                    stmt: 0,
+                }),
+            ),
+            world,
+        }),
+    }
+}

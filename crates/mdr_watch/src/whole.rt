@@ -1,0 +1,54 @@
+// The run of a script on one memory, while user code is held to its annotations.
+
+ghost use Rattle.std.specs.Prelude.{◌≡◌, IfOk};
+ghost use Rattle.mdr_core.specs.Sound.{IsSound};
+ghost use Rattle.mdr_plain.specs.Outcome.{outcome_of};
+ghost use Rattle.mdr_watched.specs.Watched.{watched};
+ghost use Rattle.mdr_whole.specs.Ending.{end_of};
+
+use crate::commands::{Did, do_commands};
+use crate::watch::{Watch, is_fit};
+use mdr_core::{OutOfMemory, Plan, Program};
+use mdr_model::End;
+use mdr_plain::Outcome;
+use mdr_script::Bound;
+use mdr_shown::outcome;
+use mdr_whole::Worked;
+use mdr_world::World;
+use std::alloc::Global;
+
+fn end_of(worked: Worked) -> End
+    ensures { result ≡ end_of worked }
+{
+    match worked {
+        Worked::Done => End::Ok,
+        Worked::Stopped(kind, at) => End::Stop(kind, at),
+    }
+}
+
+/// Runs a script for a driver on one memory, with so many ticks, while its user half is held to what the plan lets it touch,
+/// and gives what the run shows. A plan that hasn't a half for each function answers want of memory.
+#[tactic(auto, unfolding(mdr_watched::specs::Watched::watched_of))]
+pub fn run_watched(
+    alloc: Global,
+    program: &Program,
+    plan: &Plan,
+    script: &Bound,
+    ticks: u64,
+) -> Result<Outcome, OutOfMemory>
+    requires { IsSound program.now }
+    ensures { IfOk result (λ o. o ≡ outcome_of program.now (watched program.now plan.now script.now ticks)) }
+{
+    let watch = Watch { program, plan };
+    if !is_fit(watch) {
+        return Err(OutOfMemory);
+    }
+    let world = World::new(alloc, program, script, ticks)?;
+    let Did {
+        worked,
+        world: left,
+    } = do_commands(alloc, watch, world, script.commands.as_slice())?;
+    let mut world = left;
+    let shown = outcome(alloc, &mut world, end_of(worked))?;
+    Ok(shown)
+}

@@ -1,7 +1,0 @@
-use Rattle.mdr_exec.specs.Holding.{wires_of}
-use Rattle.mdr_whole.proofs.Turns.{call_is_run}
-use Rattle.mdr_whole.proofs.call.call.Goals as goal
-
-pub returns-clause-gave : goal.returns-clause-gave
-returns-clause-gave g c =
-    call_is_run g.B.Before.tries c.args.program.now c.args.func (wires_of c.args.args.now) c.args.depth c.in_ok-machine.machine c.in_ok-gave.gave c.args.world.now c.run.new.world c.in_ok-machine.ensures c.in_ok-gave.ensures.gave

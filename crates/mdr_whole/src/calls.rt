@@ -1,0 +1,113 @@
+// A function of a driver is called in a world.
+
+ghost use Rattle.std.specs.Prelude.{◌≡◌, Some, IfOk, OnOk, IsTrue, option_copied, slice_get};
+ghost use Rattle.mdr_core.specs.Sound.{IsSound};
+ghost use Rattle.mdr_exec.specs.Halves.{is_kernel, is_own};
+ghost use Rattle.mdr_exec.specs.Holding.{wires_of};
+ghost use Rattle.mdr_meaning.specs.Bodies.{body_of};
+ghost use Rattle.mdr_meaning.specs.Sides.{Body};
+ghost use Rattle.mdr_plain.specs.Running.{call};
+ghost use Rattle.mdr_runs.specs.Following.{tried_by};
+ghost use Rattle.mdr_whole.specs.Ending.{gave_as};
+ghost use Rattle.mdr_whole.specs.Going.{IsStarted, driver_code, side_of};
+
+use crate::before::Before;
+use crate::code::Code;
+use crate::ending::Gave;
+use crate::turn::run;
+use mdr_core::{Func, Half, OutOfMemory, Program, Value};
+use mdr_exec::{Machine, Side};
+use mdr_world::World;
+use std::alloc::Global;
+
+fn func_at<'a>(program: &'a Program, func: u32) -> Option<&'a Func>
+    ensures { option_copied result ≡ slice_get program.now.funcs func }
+{
+    program.funcs.as_slice().get(func as usize)
+}
+
+/// Whether a function has a body.
+#[tactic(auto, unfolding(mdr_meaning::specs::Bodies::body_of))]
+fn has_body(program: &Program, func: u32) -> bool
+    ensures { IsTrue result → (body : Body) × (body_of program.now func ≡ Some body) }
+{
+    match func_at(program, func) {
+        Some(func) => match &func.body {
+            Some(_) => true,
+            None => false,
+        },
+        None => false,
+    }
+}
+
+fn is_kernel(halves: &[Half], func: u32) -> bool
+    ensures { result ≡ is_kernel halves.now func }
+{
+    match halves.get(func as usize) {
+        Some(Half::Kernel) => true,
+        Some(Half::User) => false,
+        None => false,
+    }
+}
+
+fn is_own(side: Side, kernel: bool) -> bool
+    ensures { result ≡ is_own side kernel }
+{
+    match side {
+        Side::Whole => true,
+        Side::Kernel => kernel,
+        Side::User => !kernel,
+    }
+}
+
+/// Whether a function is one of those that run.
+fn is_among(code: Code, func: u32) -> bool
+    ensures { IsTrue result → (side_of code.entry).own func ≡ body_of code.entry.program.now func }
+{
+    is_own(code.side, is_kernel(code.halves, func))
+}
+
+/// A machine in which a function was started, with so many active before it.
+fn started(
+    alloc: Global,
+    code: Code,
+    func: u32,
+    args: &[Value],
+    depth: u32,
+) -> Result<Machine, OutOfMemory>
+    ensures { IfOk result (λ m. IsStarted code.entry.program.now (side_of code.entry) func (wires_of args.now) depth m) }
+{
+    if !is_among(code, func) {
+        return Err(OutOfMemory);
+    }
+    if !has_body(code.program, func) {
+        return Err(OutOfMemory);
+    }
+    if depth == u32::MAX {
+        return Err(OutOfMemory);
+    }
+    let mut machine = Machine::new(alloc, code.side);
+    machine.start(alloc, code.program, func, args, depth)?;
+    Ok(machine)
+}
+
+/// Calls a function, with so many active before it. A function that isn't one of those that run, or that has no body,
+/// answers want of memory, and so does a call of one that isn't.
+#[tactic(auto, unfolding(mdr_plain::specs::Running::call))]
+pub fn call<B: Before>(
+    alloc: Global,
+    code: Code,
+    world: &mut World,
+    func: u32,
+    args: &[Value],
+    depth: u32,
+) -> Result<Gave, OutOfMemory>
+    requires sound { IsSound code.program.now }
+    requires same { world.old.program ≡ code.program.now }
+    ensures kept { OnOk result (world.new.program ≡ code.entry.program.now) }
+    ensures gave { IfOk result (λ g. gave_as g world.new.world ≡ call (driver_code code.entry) (tried_by B.tries code.entry.program.now (side_of code.entry)) func (wires_of args.now) depth world.old.world) }
+{
+    let mut machine = started(alloc, code, func, args, depth)?;
+    let gave = run::<B>(&mut machine, alloc, code, world)?;
+    Ok(gave)
+}
