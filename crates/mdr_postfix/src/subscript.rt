@@ -9,9 +9,10 @@ ghost use Rattle.mdr_postfix.specs.Subscripts.{is_array, array_of, element_in, e
 
 use crate::located::{Located, given_up, nothing};
 use mdr_core::{Boxed, Expr, Lval, Place};
-use mdr_faults::{Fault, Scope, both, mismatch};
+use mdr_faults::{Fault, FaultKind, Scope, both};
 use mdr_operand::{
-    Integer, Operand, Pointer, integer_at, is_complete, is_number, needed, pointer_at,
+    Integer, Operand, Pointer, both_given_up, integer_at, is_complete, is_number, needed,
+    out_of_memory, pointer_at,
 };
 use std::alloc::{AllocError, Global};
 
@@ -47,11 +48,19 @@ fn element_in(alloc: Global, i: Integer, x: Located) -> Result<Operand, AllocErr
     Ok(Operand::Object(lval, x.ty))
 }
 
+fn index_behind(alloc: Global, array: Boxed<Lval>, index: Expr) -> Result<Lval, AllocError>
+    ensures { IfOk result (λ l. l ≡ lval.Index array index) }
+{
+    Ok(Lval::Index(array, Boxed::new(alloc, index)?))
+}
+
 fn boxed_index(alloc: Global, array: Lval, index: Expr) -> Result<Lval, AllocError>
     ensures { IfOk result (λ l. l ≡ lval.Index array index) }
 {
-    let array = Boxed::new(alloc, array)?;
-    Ok(Lval::Index(array, Boxed::new(alloc, index)?))
+    match Boxed::new(alloc, array) {
+        Ok(array) => index_behind(alloc, array, index),
+        Err(error) => out_of_memory(error, index),
+    }
 }
 
 #[tactic(auto, unfolding(crate::specs::Subscripts::element_of_array))]
@@ -69,12 +78,20 @@ fn element_of_array(
     }
 }
 
+fn moved_behind(alloc: Global, pointer: Boxed<Expr>, by: Expr) -> Result<Lval, AllocError>
+    ensures { IfOk result (λ l. l ≡ lval.Deref (expr.Move false pointer by)) }
+{
+    let place = Expr::Move(false, pointer, Boxed::new(alloc, by)?);
+    Ok(Lval::Deref(Boxed::new(alloc, place)?))
+}
+
 fn moved(alloc: Global, pointer: Expr, by: Expr) -> Result<Lval, AllocError>
     ensures { IfOk result (λ l. l ≡ lval.Deref (expr.Move false pointer by)) }
 {
-    let pointer = Boxed::new(alloc, pointer)?;
-    let place = Expr::Move(false, pointer, Boxed::new(alloc, by)?);
-    Ok(Lval::Deref(Boxed::new(alloc, place)?))
+    match Boxed::new(alloc, pointer) {
+        Ok(pointer) => moved_behind(alloc, pointer, by),
+        Err(error) => out_of_memory(error, by),
+    }
 }
 
 fn element_behind(alloc: Global, i: Integer, x: Pointer) -> Result<Operand, AllocError>
@@ -97,7 +114,7 @@ fn element_at(
     if is_complete(scope, &x.ty) {
         Ok(Ok(element_behind(alloc, i, x)?))
     } else {
-        Ok(mismatch(place))
+        Ok(both_given_up(place, FaultKind::Mismatch, i, x))
     }
 }
 
