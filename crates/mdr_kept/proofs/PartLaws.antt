@@ -18,7 +18,7 @@ use Rattle.mdr_meaning.specs.Asking.{allocated, asks, serves, serves_by}
 use Rattle.mdr_meaning.specs.Bodies.{means, started}
 use Rattle.mdr_meaning.specs.Calls.{enters, put, stores, received, keep, function_of, goes_to, deep, direct, through, call_by}
 use Rattle.mdr_meaning.specs.Expressions.{given, gives, loads, place, read, slot_of, value, values}
-use Rattle.mdr_meaning.specs.Lives.{asked_for, births, births_by, closes, deaths, deaths_by, ends, fills, in_block, object_params, param_shapes, returned, shape_of, with_object}
+use Rattle.mdr_meaning.specs.Lives.{after_deaths, asked_for, births, births_by, closes, deaths, deaths_by, ends, fills, in_block, object_params, param_shapes, returned, shape_of, with_object}
 use Rattle.mdr_meaning.specs.Named.{named_type}
 use Rattle.mdr_meaning.specs.Numbers.{Numbered}
 use Rattle.mdr_meaning.specs.Pointers.{cast, difference, global, member, moved, related, steps}
@@ -293,7 +293,7 @@ module _ (R : ℕ → Tree → Tree → Type 0) (asked : Bool) (known : Numbered
   }
 
   closes_alike : {r : ℕ} {k k' : Wire → Tree} (here : Here) → Soon r k k' → AreNext r (closes half here k) (closes all here k')
-  closes_alike here h = record { by = λ q fewer flow l. deaths_alike q here l.born _ _ (h.by q fewer (returned flow)) }
+  closes_alike here h = record { by = λ q fewer flow l. deaths_alike q here l.born _ _ (h.by q fewer (after_deaths l.born (returned flow))) }
 
   declared_by_alike : (r : ℕ) (low low' : Means) (here : Here) (object : Bool) (i : ℕ) (s : Slot) → Go_alike r (declared_by half low here object i s) (declared_by all low' here object i s)
   declared_by_alike r low low' here true i s = record {

@@ -1,11 +1,5 @@
 -- The worked drivers show what they are said to.
-use Rattle.std.proofs.Common.{◌≡◌, [], ◌∷◌, Some, refl}
-use Rattle.mdr_core.specs.declared.stop.StopKind.TheVariants as stop
-use Rattle.mdr_core.specs.declared.types.Ty.{Ty, out-Ty}
-use Rattle.mdr_core.specs.declared.types.Ty.TheOpen.{Ty-F}
-use Rattle.mdr_meaning.specs.Worked.{at_stmt, node_pointer}
-use Rattle.mdr_model.specs.declared.outcome.End.TheVariants as ends
-use Rattle.mdr_plain.specs.Worked.{calls, just}
+use Rattle.std.proofs.Common.{refl}
 use Rattle.mdr_extents.specs.Around.{element_offsets, field_offsets, key_of, offsets, offsets_below, offsets_of, struct_offsets, struct_start}
 use Rattle.mdr_extents.specs.Extent.{extent, first_of, is_touched, length_now, views_touched}
 use Rattle.mdr_extents.specs.Reaching.{all_cells, extent_at, first_failing, graph, own_cells, root_cells, root_extent, visible}
@@ -15,9 +9,7 @@ use Rattle.mdr_watched.specs.Kept.{followed_of}
 use Rattle.mdr_watched.specs.Views.{new_cells}
 use Rattle.mdr_watched.specs.Watched.{upcall}
 use Rattle.mdr_kept.specs.Strict.{strict_of}
-use Rattle.mdr_kept.specs.Worked.{AreStrict, TellsDeadResults, TellsLocks, giving, plainly}
-use Rattle.mdr_core.specs.declared.types.Ty.TheVariants as ty
-use Rattle.mdr_core.specs.declared.types.Ty.TheVariants.{outs-Ptr, outs-Struct}
+use Rattle.mdr_kept.specs.Worked.{AreStrict, DeadResultsAreAlike, TellsLocks}
 
 unfoldable follows : Unit {0}
 unfolding
@@ -36,11 +28,6 @@ pub tells_locks : TellsLocks
 unfolding follows
 tells_locks = record { kept = refl; followed = refl; plain = refl }
 
--- the plain run, where the type of `q` points to a struct
-stops_at_cast : (t u : Ty) → out-Ty t ≡ Ty-F.Ptr u → out-Ty u ≡ Ty-F.Struct 0 → (plainly (giving t) (just (calls 1 ∷ []))).end ≡ ends.Stop stop.BadCast (Some (at_stmt 1 2))
+pub dead_results_are_alike : DeadResultsAreAlike
 unfolding follows
-stops_at_cast t u e f = rw (e, f) refl
-
-pub tells_dead_results : TellsDeadResults
-unfolding follows
-tells_dead_results = record { kept = refl; plain = stops_at_cast node_pointer (ty.Struct 0) (outs-Ptr (ty.Struct 0)) (outs-Struct 0) }
+dead_results_are_alike = record { kept = refl; plain = refl; kept_followed = refl; plain_followed = refl }

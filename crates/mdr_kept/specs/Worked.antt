@@ -1,5 +1,5 @@
 -- Small drivers in two halves, worked out: where their watched runs and their plain runs are told apart, and where not.
-use Rattle.std.specs.Prelude.{◌≡◌, true, false, [], ◌∷◌, codes, Some}
+use Rattle.std.specs.Prelude.{◌≡◌, List, true, false, [], ◌∷◌, codes, Some}
 use Rattle.mdr_core.specs.declared.stop.StopKind.TheVariants as stop
 use Rattle.mdr_core.specs.declared.types.Ty.{Ty}
 use Rattle.mdr_core.specs.declared.types.Ty.TheVariants as ty
@@ -7,7 +7,7 @@ use Rattle.mdr_core.specs.declared.value.LockState.TheVariants.{Free, Spin, Slee
 use Rattle.mdr_core.specs.declared.value.Value.TheVariants as value
 use Rattle.mdr_core.specs.Code.{Term, Lvalue, Called, Goal, Code}
 use Rattle.mdr_meaning.specs.Sides.{Body}
-use Rattle.mdr_meaning.specs.Worked.{at_stmt, body, form, local, node, node_pointer, object, u32}
+use Rattle.mdr_meaning.specs.Worked.{at_stmt, behind, body, form, local, node, node_pointer, object, u32}
 use Rattle.mdr_model.specs.declared.command.Command.TheVariants as command
 use Rattle.mdr_model.specs.declared.outcome.End.TheVariants as ends
 use Rattle.mdr_plain.specs.declared.outcome.Happened.TheVariants as happened
@@ -54,24 +54,37 @@ pub record TellsLocks : Type 0 where
   pub followed : (followed_of (cut locking (true ∷ []) ([] ∷ [])) take_and_show 100).world.kept.events ≡ began (codes "take") [] ∷ returned ∷ happened.Show (codes "l") (value.Lock Sleep ∷ []) ∷ []
   pub plain : (plainly locking take_and_show).world.kept.events ≡ began (codes "take") [] ∷ returned ∷ happened.Show (codes "l") (value.Lock Spin ∷ []) ∷ []
 
--- ---- a dead result: void *give(void){u32 x; return &x;} void use(void){struct node *q; q=give();}
+-- ---- a dead result: void *give(void){u32 x; return &x;} void use(void){struct node *q; u32 v; q=give(); v=q->v;}
 
 abbrev pub gives : Body
 gives = body (object u32 ∷ []) ty.VoidPtr (Code.Declare 1 0 ∷ Code.Return 2 (Some (Term.ToVoid (Term.Addr (Lvalue.Object 0)))) ∷ [])
 
-abbrev pub uses : Ty → Body
-uses t = body (local t ∷ []) ty.Void (Code.Declare 1 0 ∷ Code.Call 2 (Goal.Into (Lvalue.Slot 0)) (form (Called.Direct 0) []) ∷ [])
+-- the result is converted, and followed or not
+abbrev pub uses : List Code → Body
+uses more = body (local node_pointer ∷ local u32 ∷ []) ty.Void (Code.Declare 1 0 ∷ Code.Declare 2 1 ∷ Code.Call 3 (Goal.Into (Lvalue.Slot 0)) (form (Called.Direct 0) []) ∷ more)
 
-abbrev pub giving : Ty → Written
-giving t = record {
+abbrev pub reads_it : List Code
+reads_it = Code.Assign 4 (Lvalue.Slot 1) (Term.Load (behind 0 0)) ∷ []
+
+abbrev pub giving : List Code → Written
+giving more = record {
   struct = node;
   pointer = node_pointer;
   globals = [];
   funcs = record (named (codes "give")) { result = ty.VoidPtr } ∷ named (codes "use") ∷ [];
-  bodies = gives ∷ uses t ∷ [];
+  bodies = gives ∷ uses more ∷ [];
 }
 
--- user code gets a dead pointer, which converts to any type; in the plain run the address of the dead object keeps its type, and doesn't convert
-pub record TellsDeadResults : Type 0 where
-  pub kept : (followed_of (cut (giving node_pointer) (false ∷ true ∷ []) ([] ∷ [] ∷ [])) (just (calls 1 ∷ [])) 100).end ≡ ends.Ok
-  pub plain : (plainly (giving node_pointer) (just (calls 1 ∷ []))).end ≡ ends.Stop stop.BadCast (Some (at_stmt 1 2))
+abbrev pub used : Bound
+used = just (calls 1 ∷ [])
+
+-- user code that gets it from the kernel half
+abbrev pub apart : Written → Finish
+apart d = followed_of (cut d (false ∷ true ∷ []) ([] ∷ [] ∷ [])) used 100
+
+-- the address of a function's own object is dead where it arrives, in place as across the halves: it converts to any type, and stops where it is followed
+pub record DeadResultsAreAlike : Type 0 where
+  pub kept : (apart (giving [])).end ≡ ends.Ok
+  pub plain : (plainly (giving []) used).end ≡ ends.Ok
+  pub kept_followed : (apart (giving reads_it)).end ≡ ends.Stop stop.Dead (Some (at_stmt 1 4))
+  pub plain_followed : (plainly (giving reads_it) used).end ≡ ends.Stop stop.Dead (Some (at_stmt 1 4))

@@ -1,6 +1,6 @@
 // Small drivers worked out, each as a function that does nothing.
 
-ghost use Rattle.mdr_kept.specs.Worked.{AreStrict, TellsDeadResults, TellsLocks};
+ghost use Rattle.mdr_kept.specs.Worked.{AreStrict, DeadResultsAreAlike, TellsLocks};
 
 /// Runs in which user code touches what pointers lead it to, and makes objects of its locals, are strict.
 pub fn ordinary_runs_are_strict()
@@ -12,8 +12,8 @@ pub fn locks_are_told_apart()
     ensures { TellsLocks }
 {}
 
-/// A function of the kernel half that gives user code the address of an object of its own, which died, gives a dead pointer:
-/// a followed run goes on with it where the plain run stops, since the address is of another type.
-pub fn dead_results_are_told_apart()
-    ensures { TellsDeadResults }
+/// A function that gives the address of an object of its own, which died, gives a dead pointer, to code of its own half as
+/// to the other: a plain run and a followed run go on with it alike, and stop alike where it is followed.
+pub fn dead_results_are_alike()
+    ensures { DeadResultsAreAlike }
 {}
