@@ -1,6 +1,6 @@
 // Declarators and parameters (C99 6.7.5).
 
-ghost use Rattle.std.specs.Prelude.{◌≡◌, ◌<◌, ◌≤◌, length, IfOk, IfErr, Ok, true, false, not, None, [], ◌∷◌};
+ghost use Rattle.std.specs.Prelude.{◌≡◌, ◌<◌, ◌≤◌, length, IfOk, IfErr, Ok, true, false, not, Some, None, [], ◌∷◌};
 ghost use Rattle.mdr_syntax.specs.declared.token.Token.{Token as token_value};
 ghost use Rattle.mdr_grammar.specs.Forms.Part.{specifiers as some_specifiers, declarator as a_declarator, parameter as a_parameter};
 ghost use Rattle.mdr_grammar.specs.Forms.Separated.{parameters_at};
@@ -8,12 +8,13 @@ ghost use Rattle.mdr_grammar.specs.Forms.Nonterminal.{part, option, commas, para
 ghost use Rattle.mdr_grammar.specs.Forms.Empty.{may};
 ghost use Rattle.mdr_grammar.specs.Front.{first, front, nothing_at};
 ghost use Rattle.mdr_grammar.specs.Declarations.{declarator_rule, declared, unnamed as unnamed_decl, perhaps_named as maybe_named, with_annotation as with_ann, annotated_parameter, parameter_in, parameters_in, declared_void, annotated_void, after_void_rule, pointed_parameters as parameters_pointed, parameter_declarator_rule, void_base};
+ghost use Rattle.mdr_grammar.specs.Expressions.{text_of as text_in};
 ghost use Rattle.mdr_reader.specs.Gives.{Gives, Behind, read_by, read_from, after_stars};
 ghost use Rattle.std.specs.Option.{option_copied};
 ghost use Rattle.mdr_reader.specs.declared.failure.Failure.TheVariants.{Memory};
 ghost use Rattle.mdr_grammar.specs.declared.sort.Sort.TheVariants as sort_is;
 
-use mdr_core::{Items, Place};
+use mdr_core::{Items, Name, Place};
 use mdr_grammar::parts::Specifier;
 use mdr_grammar::sort::Sort;
 use mdr_reader::constants::{annotation_option, size, stars};
@@ -36,6 +37,15 @@ pub fn same_base(alloc: Global, base: &Base) -> Result<Base, Failure>
     }
 }
 
+/// The text of a name, and a copy of the type before it.
+pub fn named_base(reader: Reader, base: &Base, name: &Token) -> Result<(Name, Base), Failure>
+    ensures value { IfOk result (λ x. (x.0 ≡ text_in name.now.what) × (x.1 ≡ base.now)) }
+    ensures memory { IfErr result (λ e. e ≡ Memory) }
+{
+    let text = copied(reader.alloc, text_of(&name.what))?;
+    Ok((text, same_base(reader.alloc, base)?))
+}
+
 /// A declarator with a name.
 fn declared(
     reader: Reader,
@@ -48,15 +58,22 @@ fn declared(
     ensures value { IfOk result (λ d. d ≡ declared base.now stars name.now size fun) }
     ensures memory { IfErr result (λ e. e ≡ Memory) }
 {
-    Ok(Decl {
-        place: name.place,
-        name: Some(copied(reader.alloc, text_of(&name.what))?),
-        base: same_base(reader.alloc, &base.base)?,
-        stars,
-        size,
-        fun,
-        ann: None,
-    })
+    match named_base(reader, &base.base, name) {
+        Ok((text, base)) => Ok(Decl {
+            place: name.place,
+            name: Some(text),
+            base,
+            stars,
+            size,
+            fun,
+            ann: None,
+        }),
+        Err(e) => {
+            drop(size);
+            drop(fun);
+            Err(e)
+        }
+    }
 }
 
 /// A declarator without a name.
@@ -168,11 +185,13 @@ fn pointer<'t>(
     let (_, rest) = take(reader.halves, Sort::Star, tokens)?;
     let (name, rest) = take(reader.halves, Sort::Name, rest)?;
     let (size, rest) = size(reader, rest)?;
-    let (parameters, rest) = pointed_parameters(reader, rest, depth)?;
-    Ok((
-        declared(reader, base, count, name, size, Some(parameters))?,
-        rest,
-    ))
+    match pointed_parameters(reader, rest, depth) {
+        Ok((list, rest)) => Ok((declared(reader, base, count, name, size, Some(list))?, rest)),
+        Err(e) => {
+            drop(size);
+            Err(e)
+        }
+    }
 }
 
 /// A declarator with a name.
@@ -312,8 +331,13 @@ pub fn annotated<'t>(
     ensures reads { Gives (λ x. x.0) (λ x. x.1.now) result (front reader.halves (annotated_parameter depth decl) tokens.now) }
     ensures shorter { IfOk result (λ x. length x.1.now ≤ length tokens.now) }
 {
-    let (ann, rest) = annotation_option(reader, tokens, depth)?;
-    Ok((with_annotation(decl, ann), rest))
+    match annotation_option(reader, tokens, depth) {
+        Ok((ann, rest)) => Ok((with_annotation(decl, ann), rest)),
+        Err(e) => {
+            drop(decl);
+            Err(e)
+        }
+    }
 }
 
 /// A list of one declarator.
@@ -459,6 +483,36 @@ fn void_at(place: Place) -> Specifier
     }
 }
 
+/// A parameter of type `void` without a name.
+fn unnamed_void(reader: Reader, place: Place) -> Result<Decl, Failure>
+    ensures value { IfOk result (λ d. d ≡ unnamed_decl (void_base place) 0 None) }
+    ensures memory { IfErr result (λ e. e ≡ Memory) }
+{
+    unnamed(reader, &void_at(place), 0, None)
+}
+
+/// A list of one parameter of type `void` without a name.
+fn lone_void(reader: Reader, place: Place) -> Result<Items<Decl>, Failure>
+    ensures value { IfOk result (λ l. l ≡ unnamed_decl (void_base place) 0 None ∷ []) }
+    ensures memory { IfErr result (λ e. e ≡ Memory) }
+{
+    one_of(reader, unnamed_void(reader, place)?)
+}
+
+/// A list of one parameter of type `void` with an annotation alone.
+fn lone_annotated(reader: Reader, place: Place, ann: AnnText) -> Result<Items<Decl>, Failure>
+    ensures value { IfOk result (λ l. l ≡ with_ann (unnamed_decl (void_base place) 0 None) (Some ann) ∷ []) }
+    ensures memory { IfErr result (λ e. e ≡ Memory) }
+{
+    match unnamed_void(reader, place) {
+        Ok(x) => one_of(reader, with_annotation(x, Some(ann))),
+        Err(e) => {
+            drop(ann);
+            Err(e)
+        }
+    }
+}
+
 /// What stands behind a first `void`, which alone is no parameter.
 #[cycle(parameters)]
 fn after_void(
@@ -516,8 +570,8 @@ fn void_first<'t>(
     ensures reads { Behind (after_void_rule are_named depth place sort_is.Comma comma.now) (λ r. Gives (λ x. x.0) (λ x. x.1.now) result (front reader.halves r tokens.now)) }
     ensures shorter { IfOk result (λ x. length x.1.now ≤ length tokens.now) }
 {
+    let mut list = lone_void(reader, place)?;
     let (x, rest) = parameter(reader, tokens, are_named, depth)?;
-    let mut list = one_of(reader, unnamed(reader, &void_at(place), 0, None)?)?;
     list.push(x)?;
     more_parameters(reader, rest, list, are_named, depth)
 }
@@ -557,6 +611,6 @@ fn void_annotated(
     let Some(ann) = ann else {
         return Ok((Items::new(reader.alloc), rest));
     };
-    let x = with_annotation(unnamed(reader, &void_at(place), 0, None)?, Some(ann));
-    more_parameters(reader, rest, one_of(reader, x)?, are_named, depth)
+    let list = lone_annotated(reader, place, ann)?;
+    more_parameters(reader, rest, list, are_named, depth)
 }

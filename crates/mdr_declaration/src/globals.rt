@@ -1,10 +1,11 @@
 // Declarations of globals.
 
-ghost use Rattle.std.specs.Prelude.{◌≡◌, ◌<◌, ◌≤◌, length, IfOk, IfErr, [], ◌∷◌};
-ghost use Rattle.mdr_grammar.specs.Forms.Part.{global as a_global};
+ghost use Rattle.std.specs.Prelude.{◌≡◌, ◌<◌, ◌≤◌, length, IfOk, IfErr, Ok, true, [], ◌∷◌};
+ghost use Rattle.mdr_syntax.specs.declared.tree.ItemWhat.TheVariants as item_is;
+ghost use Rattle.mdr_grammar.specs.Forms.Part.{global as a_global, initial as an_initial};
 ghost use Rattle.mdr_grammar.specs.Forms.Separated.{globals as some_globals};
-ghost use Rattle.mdr_grammar.specs.Forms.Nonterminal.{part, commas};
-ghost use Rattle.mdr_grammar.specs.Front.{first, front};
+ghost use Rattle.mdr_grammar.specs.Forms.Nonterminal.{part, option, commas};
+ghost use Rattle.mdr_grammar.specs.Front.{and_read, first, front};
 ghost use Rattle.mdr_grammar.specs.Statements.{global_with, global_in, more_globals};
 ghost use Rattle.mdr_reader.specs.Gives.{Gives};
 ghost use Rattle.mdr_reader.specs.declared.failure.Failure.TheVariants.{Memory};
@@ -29,15 +30,38 @@ pub fn global_behind(
     ensures reads { Gives (λ x. x.0) (λ x. x.1.now) result (front reader.halves (global_with place decl) tokens.now) }
     ensures shorter { IfOk result (λ x. length x.1.now ≤ length tokens.now) }
 {
-    let (ann, rest) = annotation_option(reader, tokens, 0)?;
-    let (init, rest) = initial_option(reader, rest)?;
-    Ok((
-        Item {
-            place,
-            what: ItemWhat::Global(with_annotation(decl, ann), init),
-        },
-        rest,
-    ))
+    match annotation_option(reader, tokens, 0) {
+        Ok((ann, rest)) => initialised(reader, rest, place, with_annotation(decl, ann)),
+        Err(e) => {
+            drop(decl);
+            Err(e)
+        }
+    }
+}
+
+/// A global behind its annotation.
+pub fn initialised(
+    reader: Reader,
+    tokens: &[Token],
+    place: Place,
+    decl: Decl,
+) -> Result<(Item, &[Token]), Failure>
+    ensures reads { Gives (λ x. x.0) (λ x. x.1.now) result (and_read (first reader.halves (option true an_initial) tokens.now) (λ i us. Ok (record { place = place; what = item_is.Global decl i }, us))) }
+    ensures shorter { IfOk result (λ x. length x.1.now ≤ length tokens.now) }
+{
+    match initial_option(reader, tokens) {
+        Ok((init, rest)) => Ok((
+            Item {
+                place,
+                what: ItemWhat::Global(decl, init),
+            },
+            rest,
+        )),
+        Err(e) => {
+            drop(decl);
+            Err(e)
+        }
+    }
 }
 
 /// A declarator and its global.

@@ -1,6 +1,6 @@
 // Initialisers of globals (C99 6.7.8).
 
-ghost use Rattle.std.specs.Prelude.{◌≡◌, ◌<◌, ◌≤◌, length, IfOk, IfErr, IfSome, true, [], ◌∷◌};
+ghost use Rattle.std.specs.Prelude.{◌≡◌, ◌<◌, ◌≤◌, length, IfOk, IfErr, IfSome, Some, true, [], ◌∷◌};
 ghost use Rattle.mdr_grammar.specs.Expressions.{may_nest as may_be_nested};
 ghost use Rattle.mdr_grammar.specs.Forms.Part.{initial as an_initial, initialiser as an_initialiser, element as an_element};
 ghost use Rattle.mdr_grammar.specs.Forms.Enclosed.{elements as some_elements};
@@ -173,6 +173,26 @@ fn element(reader: Reader, tokens: &[Token], braces: u32) -> Result<(Elem, &[Tok
     }
 }
 
+/// An element for the field of a name.
+fn element_of(reader: Reader, name: &Token, init: Init) -> Result<Elem, Failure>
+    ensures value { IfOk result (λ e. e ≡ record { field = Some (record { place = name.now.place; name = text_in name.now.what }); init = init }) }
+    ensures memory { IfErr result (λ e. e ≡ Memory) }
+{
+    match copied(reader.alloc, text_of(&name.what)) {
+        Ok(text) => Ok(Elem {
+            field: Some(FieldName {
+                place: name.place,
+                name: text,
+            }),
+            init,
+        }),
+        Err(_) => {
+            drop(init);
+            Err(Failure::Memory)
+        }
+    }
+}
+
 /// What stands behind a `.`.
 #[cycle(initialisers)]
 fn field_element<'t>(
@@ -188,11 +208,7 @@ fn field_element<'t>(
     let (name, rest) = take(reader.halves, Sort::Name, tokens)?;
     let (_, rest) = take(reader.halves, Sort::Equals, rest)?;
     let (init, rest) = initialiser(reader, rest, braces)?;
-    let field = Some(FieldName {
-        place: name.place,
-        name: copied(reader.alloc, text_of(&name.what))?,
-    });
-    Ok((Elem { field, init }, rest))
+    Ok((element_of(reader, name, init)?, rest))
 }
 
 /// An initialiser as an element.

@@ -21,7 +21,11 @@ use mdr_reader::openings::perhaps;
 use mdr_syntax::{Form, Node, Token};
 
 /// A condition in its parentheses.
-pub fn condition(reader: Reader, tokens: &[Token], level: u32) -> Result<(Form, &[Token]), Failure>
+pub fn condition(
+    reader: Reader,
+    tokens: &[Token],
+    level: u32,
+) -> Result<(Boxed<Form>, &[Token]), Failure>
     requires low { level < 256 }
     ensures reads { Gives (λ x. x.0) (λ x. x.1.now) result (front reader.halves (a_condition level) tokens.now) }
     ensures shorter { IfOk result (λ x. length x.1.now < length tokens.now) }
@@ -127,7 +131,7 @@ fn loop_test(
     reader: Reader,
     tokens: &[Token],
     level: u32,
-) -> Result<(Option<Form>, &[Token]), Failure>
+) -> Result<(Option<Boxed<Form>>, &[Token]), Failure>
     requires low { level < 256 }
     ensures reads { Gives (λ x. x.0) (λ x. x.1.now) result (front reader.halves (a_loop_test level) tokens.now) }
     ensures shorter { IfOk result (λ x. length x.1.now < length tokens.now) }

@@ -17,7 +17,7 @@ use crate::locals::locals;
 use crate::nodes::{break_node, continue_node, do_node, return_node};
 use crate::parts::Branch;
 use crate::simple::{form_option, simple};
-use mdr_core::{Items, Place};
+use mdr_core::{Boxed, Items, Place};
 use mdr_grammar::parts::Ended;
 use mdr_grammar::sort::Sort;
 use mdr_reader::failure::Failure;
@@ -72,7 +72,7 @@ fn value_option(
     reader: Reader,
     tokens: &[Token],
     level: u32,
-) -> Result<(Option<Form>, &[Token]), Failure>
+) -> Result<(Option<Boxed<Form>>, &[Token]), Failure>
     requires low { level ≤ 256 }
     ensures reads { Gives (λ x. x.0) (λ x. x.1.now) result (first reader.halves (option (may_stand (level + 1)) (an_expression (level + 1) 0)) tokens.now) }
     ensures shorter { IfOk result (λ x. length x.1.now ≤ length tokens.now) }

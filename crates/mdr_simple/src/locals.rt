@@ -10,18 +10,19 @@ ghost use Rattle.mdr_grammar.specs.Statements.{locals_rule, locals_of, locals_in
 ghost use Rattle.mdr_reader.specs.Gives.{Gives, read_by};
 ghost use Rattle.mdr_reader.specs.declared.failure.Failure.TheVariants.{Memory};
 
+use crate::nodes::local_node;
 use crate::simple::form;
-use mdr_core::{Items, Place};
+use mdr_core::{Boxed, Items, Place};
 use mdr_declaration::declarators::{declarator, specifiers};
 use mdr_expression::forms::text_part;
 use mdr_grammar::parts::Specifier;
 use mdr_grammar::sort::Sort;
 use mdr_reader::failure::Failure;
 use mdr_reader::look::{Reader, is_level_free, past, split};
-use mdr_syntax::{Form, Node, NodeWhat, Token};
+use mdr_syntax::{Form, Node, Token};
 
 /// The form of a text.
-fn text_form(reader: Reader, token: &Token) -> Result<Form, Failure>
+fn text_form(reader: Reader, token: &Token) -> Result<Boxed<Form>, Failure>
     ensures value { IfOk result (λ f. f ≡ form_of_text token.now) }
     ensures memory { IfErr result (λ e. e ≡ Memory) }
 {
@@ -34,7 +35,7 @@ fn right_side(
     tokens: &[Token],
     level: u32,
     depth: u32,
-) -> Result<(Form, &[Token]), Failure>
+) -> Result<(Boxed<Form>, &[Token]), Failure>
     requires low { level ≤ 256 }
     requires inside { depth ≤ 512 }
     ensures reads { Gives (λ x. x.0) (λ x. x.1.now) result (first reader.halves (part (a_right_side level depth)) tokens.now) }
@@ -52,7 +53,7 @@ fn right_option(
     tokens: &[Token],
     level: u32,
     depth: u32,
-) -> Result<(Option<Form>, &[Token]), Failure>
+) -> Result<(Option<Boxed<Form>>, &[Token]), Failure>
     requires low { level ≤ 256 }
     requires inside { depth ≤ 512 }
     ensures reads { Gives (λ x. x.0) (λ x. x.1.now) result (first reader.halves (option (may_stand (level + 1)) (a_right (level + 1) depth)) tokens.now) }
@@ -71,7 +72,7 @@ fn right_or_none(
     tokens: &[Token],
     level: u32,
     depth: u32,
-) -> Result<(Option<Form>, &[Token]), Failure>
+) -> Result<(Option<Boxed<Form>>, &[Token]), Failure>
     requires low { level ≤ 256 }
     requires inside { depth ≤ 512 }
     ensures reads { Gives (λ x. x.0) (λ x. x.1.now) result (first reader.halves (option true (a_right level depth)) tokens.now) }
@@ -89,7 +90,7 @@ fn some_right(
     tokens: &[Token],
     level: u32,
     depth: u32,
-) -> Result<(Option<Form>, &[Token]), Failure>
+) -> Result<(Option<Boxed<Form>>, &[Token]), Failure>
     requires low { level ≤ 256 }
     requires inside { depth ≤ 512 }
     ensures reads { Gives (λ x. x.0) (λ x. x.1.now) result (front reader.halves (right_there level depth) tokens.now) }
@@ -131,14 +132,13 @@ fn declared_local<'t>(
     ensures shorter { IfOk result (λ x. length x.1.now < length tokens.now) }
 {
     let (decl, rest) = declarator(reader, tokens, base, depth)?;
-    let (right, rest) = right_option(reader, rest, level, depth)?;
-    Ok((
-        Node {
-            place,
-            what: NodeWhat::Local(decl, right),
-        },
-        rest,
-    ))
+    match right_option(reader, rest, level, depth) {
+        Ok((right, rest)) => Ok((local_node(place, decl, right), rest)),
+        Err(e) => {
+            drop(decl);
+            Err(e)
+        }
+    }
 }
 
 /// A list of one statement.

@@ -12,7 +12,27 @@ use mdr_core::{Boxed, Items, Place};
 use mdr_grammar::parts::Ended;
 use mdr_reader::failure::Failure;
 use mdr_reader::look::Reader;
-use mdr_syntax::{Clause, Form, Node, NodeWhat};
+use mdr_syntax::{Clause, Decl, Form, Node, NodeWhat};
+
+/// A form that may be there, out of its box.
+fn unboxed(form: Option<Boxed<Form>>) -> Option<Form>
+    ensures { result ≡ form }
+{
+    match form {
+        Some(form) => Some(form.into_inner()),
+        None => None,
+    }
+}
+
+/// A local, and what it is set to.
+pub fn local_node(place: Place, decl: Decl, right: Option<Boxed<Form>>) -> Node
+    ensures { result ≡ node_at place (node_is.Local decl right) }
+{
+    Node {
+        place,
+        what: NodeWhat::Local(decl, unboxed(right)),
+    }
+}
 
 /// `;` alone.
 pub fn empty_statement(place: Place) -> Ended
@@ -48,12 +68,12 @@ pub fn continue_node(place: Place) -> Node
 }
 
 /// `return`, perhaps with a value.
-pub fn return_node(place: Place, value: Option<Form>) -> Node
+pub fn return_node(place: Place, value: Option<Boxed<Form>>) -> Node
     ensures { result ≡ node_at place (node_is.Return value) }
 {
     Node {
         place,
-        what: NodeWhat::Return(value),
+        what: NodeWhat::Return(unboxed(value)),
     }
 }
 
@@ -112,33 +132,33 @@ pub fn opened(reader: Reader, init: Option<Items<Node>>) -> Items<Node>
 }
 
 /// An `if` without `else`: an `else` behind it would have been its own.
-fn if_without(place: Place, test: Form, first: Branch) -> Ended
+fn if_without(place: Place, test: Boxed<Form>, first: Branch) -> Ended
     ensures { result ≡ if_at place test (ended_of first) (other_of None) }
 {
     Ended {
         node: Node {
             place,
-            what: NodeWhat::If(test, first.node, None),
+            what: NodeWhat::If(test.into_inner(), first.node, None),
         },
         closed: false,
     }
 }
 
 /// An `if` with `else`.
-fn if_with(place: Place, test: Form, first: Branch, other: Branch) -> Ended
+fn if_with(place: Place, test: Boxed<Form>, first: Branch, other: Branch) -> Ended
     ensures { result ≡ if_at place test (ended_of first) (other_of (Some other)) }
 {
     Ended {
         node: Node {
             place,
-            what: NodeWhat::If(test, first.node, Some(other.node)),
+            what: NodeWhat::If(test.into_inner(), first.node, Some(other.node)),
         },
         closed: other.closed,
     }
 }
 
 /// An `if` with its branches.
-pub fn if_statement(place: Place, test: Form, first: Branch, other: Option<Branch>) -> Ended
+pub fn if_statement(place: Place, test: Boxed<Form>, first: Branch, other: Option<Branch>) -> Ended
     ensures { result ≡ if_at place test (ended_of first) (other_of other) }
 {
     match other {
@@ -148,13 +168,13 @@ pub fn if_statement(place: Place, test: Form, first: Branch, other: Option<Branc
 }
 
 /// A `while` with its body.
-pub fn while_statement(place: Place, test: Form, body: Branch) -> Ended
+pub fn while_statement(place: Place, test: Boxed<Form>, body: Branch) -> Ended
     ensures { result ≡ while_at place test (ended_of body) }
 {
     Ended {
         node: Node {
             place,
-            what: NodeWhat::While(test, body.node),
+            what: NodeWhat::While(test.into_inner(), body.node),
         },
         closed: body.closed,
     }
@@ -167,28 +187,28 @@ pub fn for_statement(place: Place, head: LoopHead, body: Branch) -> Ended
     Ended {
         node: Node {
             place,
-            what: NodeWhat::For(head.init, head.test, head.step, body.node),
+            what: NodeWhat::For(head.init, unboxed(head.test), head.step, body.node),
         },
         closed: body.closed,
     }
 }
 
 /// A `do` with its condition.
-pub fn do_node(place: Place, body: Branch, test: Form) -> Node
+pub fn do_node(place: Place, body: Branch, test: Boxed<Form>) -> Node
     ensures { result ≡ node_at place (node_is.Do body.node test) }
 {
     Node {
         place,
-        what: NodeWhat::Do(body.node, test),
+        what: NodeWhat::Do(body.node, test.into_inner()),
     }
 }
 
 /// A `switch` with its clauses.
-pub fn switch_node(place: Place, value: Form, clauses: Items<Clause>) -> Node
+pub fn switch_node(place: Place, value: Boxed<Form>, clauses: Items<Clause>) -> Node
     ensures { result ≡ node_at place (node_is.Switch value clauses) }
 {
     Node {
         place,
-        what: NodeWhat::Switch(value, clauses),
+        what: NodeWhat::Switch(value.into_inner(), clauses),
     }
 }

@@ -14,6 +14,6 @@ pub struct Branch {
 #[derive(Debug, Drop)]
 pub struct LoopHead {
     pub init: Items<Node>,
-    pub test: Option<Form>,
+    pub test: Option<Boxed<Form>>,
     pub step: Option<Boxed<Node>>,
 }

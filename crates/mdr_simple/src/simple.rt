@@ -11,7 +11,7 @@ ghost use Rattle.mdr_grammar.specs.Statements.{node_at, assigned as an_assigned,
 ghost use Rattle.mdr_reader.specs.Gives.{Gives, Behind, read_from};
 ghost use Rattle.mdr_reader.specs.declared.failure.Failure.TheVariants.{Memory};
 
-use mdr_core::Place;
+use mdr_core::{Boxed, Place};
 use mdr_expression::operands::operand;
 use mdr_expression::operators::expression;
 use mdr_grammar::sort::Sort;
@@ -20,13 +20,13 @@ use mdr_reader::look::{Reader, copied, is_level_free, split, text_of};
 use mdr_reader::openings::perhaps;
 use mdr_syntax::{Form, Node, NodeWhat, Token};
 
-/// The form of an expression.
+/// The form of an expression, in its box.
 pub fn form(
     reader: Reader,
     tokens: &[Token],
     level: u32,
     depth: u32,
-) -> Result<(Form, &[Token]), Failure>
+) -> Result<(Boxed<Form>, &[Token]), Failure>
     requires low { level ≤ 256 }
     requires inside { depth ≤ 512 }
     ensures reads { Gives (λ x. x.0) (λ x. x.1.now) result (first reader.halves (part (an_expression level depth)) tokens.now) }
@@ -42,7 +42,7 @@ pub fn form_option(
     tokens: &[Token],
     level: u32,
     depth: u32,
-) -> Result<(Option<Form>, &[Token]), Failure>
+) -> Result<(Option<Boxed<Form>>, &[Token]), Failure>
     requires low { level ≤ 256 }
     requires inside { depth ≤ 512 }
     ensures reads { Gives (λ x. x.0) (λ x. x.1.now) result (first reader.halves (option true (an_expression level depth)) tokens.now) }
@@ -56,8 +56,8 @@ fn assign_node(
     reader: Reader,
     first: Place,
     token: &Token,
-    left: Form,
-    right: Form,
+    left: Boxed<Form>,
+    right: Boxed<Form>,
 ) -> Result<Node, Failure>
     ensures value { IfOk result (λ n. n ≡ node_at first (node_is.Assign token.now.place (text_in token.now.what) left right)) }
     ensures memory { IfErr result (λ e. e ≡ Memory) }
@@ -65,7 +65,7 @@ fn assign_node(
     let operator = copied(reader.alloc, text_of(&token.what))?;
     Ok(Node {
         place: first,
-        what: NodeWhat::Assign(token.place, operator, left, right),
+        what: NodeWhat::Assign(token.place, operator, left.into_inner(), right.into_inner()),
     })
 }
 
@@ -75,7 +75,7 @@ fn assigned<'t>(
     tokens: &'t [Token],
     token: &Token,
     first: Place,
-    left: Form,
+    left: Boxed<Form>,
     level: u32,
     depth: u32,
 ) -> Result<(Node, &'t [Token]), Failure>
@@ -92,7 +92,7 @@ fn assigned<'t>(
 fn alone(
     tokens: &[Token],
     first: Place,
-    form: Form,
+    form: Boxed<Form>,
     is_alone: bool,
 ) -> Result<(Node, &[Token]), Failure>
     ensures reads { Gives (λ x. x.0) (λ x. x.1.now) result (nothing_at (may is_alone (node_at first (node_is.Plain form))) tokens.now) }
@@ -102,7 +102,7 @@ fn alone(
         Ok((
             Node {
                 place: first,
-                what: NodeWhat::Plain(form),
+                what: NodeWhat::Plain(form.into_inner()),
             },
             tokens,
         ))
@@ -116,7 +116,7 @@ fn assignment(
     reader: Reader,
     tokens: &[Token],
     place: Place,
-    left: Form,
+    left: Boxed<Form>,
     is_alone: bool,
     level: u32,
     depth: u32,
@@ -134,7 +134,7 @@ fn assignment_by(
     reader: Reader,
     tokens: &[Token],
     place: Place,
-    left: Form,
+    left: Boxed<Form>,
     is_alone: bool,
     level: u32,
     depth: u32,

@@ -6,7 +6,7 @@ ghost use Rattle.mdr_simple.specs.Behind.{ended_of, after_condition, branches, o
 ghost use Rattle.mdr_reader.specs.Gives.{Gives};
 
 use crate::statements::{boxed_body, otherwise};
-use mdr_core::Place;
+use mdr_core::{Boxed, Place};
 use mdr_grammar::parts::Ended;
 use mdr_reader::failure::Failure;
 use mdr_reader::look::Reader;
@@ -37,7 +37,7 @@ fn first_branch(
     reader: Reader,
     tokens: &[Token],
     place: Place,
-    test: Form,
+    test: Boxed<Form>,
     level: u32,
 ) -> Result<(Ended, &[Token]), Failure>
     requires low { level < 256 }
@@ -54,7 +54,7 @@ fn second_branch(
     reader: Reader,
     tokens: &[Token],
     place: Place,
-    test: Form,
+    test: Boxed<Form>,
     first: Branch,
     level: u32,
 ) -> Result<(Ended, &[Token]), Failure>

@@ -6,7 +6,7 @@ ghost use Rattle.mdr_simple.specs.Behind.{head_of, after_condition, after_head, 
 ghost use Rattle.mdr_reader.specs.Gives.{Gives};
 
 use crate::statements::boxed_body;
-use mdr_core::Place;
+use mdr_core::{Boxed, Place};
 use mdr_grammar::parts::Ended;
 use mdr_reader::failure::Failure;
 use mdr_reader::look::Reader;
@@ -38,7 +38,7 @@ fn while_body(
     reader: Reader,
     tokens: &[Token],
     place: Place,
-    test: Form,
+    test: Boxed<Form>,
     level: u32,
 ) -> Result<(Ended, &[Token]), Failure>
     requires low { level < 256 }

@@ -10,7 +10,7 @@ ghost use Rattle.mdr_simple.specs.Behind.{after_condition, switched, clause_from
 ghost use Rattle.mdr_reader.specs.Gives.{Gives};
 
 use crate::statements::statement;
-use mdr_core::{Items, Place};
+use mdr_core::{Boxed, Items, Place};
 use mdr_grammar::parts::Ended;
 use mdr_grammar::sort::Sort;
 use mdr_reader::failure::Failure;
@@ -45,7 +45,7 @@ fn switch_body(
     reader: Reader,
     tokens: &[Token],
     place: Place,
-    value: Form,
+    value: Boxed<Form>,
     level: u32,
 ) -> Result<(Ended, &[Token]), Failure>
     requires low { level < 256 }
