@@ -2,15 +2,16 @@
 
 ghost use Rattle.std.specs.Prelude.{◌≡◌, ◌∷◌, IfOk};
 ghost use Rattle.mdr_faults.specs.Faults.{Right, told, after};
-ghost use Rattle.mdr_call.specs.Arguments.{arguments_as};
+ghost use Rattle.mdr_core.specs.declared.code.Callee.TheVariants as callee;
+ghost use Rattle.mdr_call.specs.Arguments.{arguments_as, plain_call};
 ghost use Rattle.mdr_call.specs.Services.{handle_argument, calling_back, called_back, kcall_of, kcall_by, kcall};
 
 use crate::arguments::{arguments_as, refused};
 use crate::function::handle_by;
 use crate::parts::{Argument, Handle, TypedCall, bad_arity, first_off, plain_call, result_of};
-use mdr_core::{Callee, Expr, Items, Place};
+use mdr_core::{Callee, Expr, Items, Place, Ty};
 use mdr_faults::Fault;
-use mdr_operand::{needed, value_of};
+use mdr_operand::{needed, out_of_memory, value_of};
 use mdr_postfix::{given_up, nothing};
 use std::alloc::{AllocError, Global};
 
@@ -32,12 +33,20 @@ fn with_first(first: Expr, rest: Items<Expr>) -> Result<Items<Expr>, AllocError>
     Ok(Items::from_vec(all))
 }
 
+fn calling(value: Expr, args: Items<Expr>, result_type: Ty) -> Result<TypedCall, AllocError>
+    ensures { IfOk result (λ c. c ≡ plain_call (callee.Service 15) (value ∷ args) result_type) }
+{
+    let all = with_first(value, args)?;
+    Ok(plain_call(Callee::Service(15), all, result_type))
+}
+
 fn calling_back(alloc: Global, h: Handle, args: Items<Expr>) -> Result<TypedCall, AllocError>
     ensures { IfOk result (λ c. c ≡ calling_back h args) }
 {
-    let result = result_of(alloc, h.types.as_slice())?;
-    let all = with_first(h.value, args)?;
-    Ok(plain_call(Callee::Service(15), all, result))
+    match result_of(alloc, h.types.as_slice()) {
+        Ok(result_type) => calling(h.value, args, result_type),
+        Err(error) => out_of_memory(error, h),
+    }
 }
 
 fn called(
@@ -48,9 +57,10 @@ fn called(
 ) -> Result<Result<TypedCall, Fault>, AllocError>
     ensures { IfOk result (λ r. r ≡ told (after (arguments_as place h.types rest) (λ es. Right (calling_back h es)))) }
 {
-    match arguments_as(alloc, place, h.types.as_slice(), rest)? {
-        Ok(args) => Ok(Ok(calling_back(alloc, h, args)?)),
-        Err(fault) => Ok(given_up(fault, h)),
+    match arguments_as(alloc, place, h.types.as_slice(), rest) {
+        Ok(Ok(args)) => Ok(Ok(calling_back(alloc, h, args)?)),
+        Ok(Err(fault)) => Ok(given_up(fault, h)),
+        Err(error) => out_of_memory(error, h),
     }
 }
 

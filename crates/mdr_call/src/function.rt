@@ -2,13 +2,14 @@
 
 ghost use Rattle.std.specs.Prelude.{◌≡◌, IfOk};
 ghost use Rattle.mdr_faults.specs.Faults.{told};
-ghost use Rattle.mdr_call.specs.Functions.{is_function, function_of, handle_of, handle_by, through, callable, call_with, function_call};
+ghost use Rattle.mdr_call.specs.Arguments.{plain_call};
+ghost use Rattle.mdr_call.specs.Functions.{is_function, function_of, handle_of, handle_by, through, callable, result_of, call_with, function_call};
 
 use crate::arguments::converted;
 use crate::parts::{Argument, Callable, Handle, TypedCall, plain_call, result_of};
-use mdr_core::{Callee, Items, Place};
+use mdr_core::{Callee, Expr, Items, Place};
 use mdr_faults::Fault;
-use mdr_operand::{Operand, Scalar, needed, value_of};
+use mdr_operand::{Operand, Scalar, needed, out_of_memory, value_of};
 use mdr_postfix::{Located, given_up, nothing};
 use std::alloc::{AllocError, Global};
 
@@ -45,7 +46,7 @@ fn handle_of(v: Scalar) -> Option<Handle>
 {
     match v {
         Scalar::Handle(value, types) => Some(Handle { value, types }),
-        Scalar::Number(_, _) | Scalar::Pointer(_, _) | Scalar::Opaque(_) => None,
+        Scalar::Number(_, _) | Scalar::Pointer(_, _) | Scalar::Opaque(_) => nothing(v),
     }
 }
 
@@ -82,6 +83,15 @@ fn callable(x: Operand) -> Option<Callable>
     }
 }
 
+fn called_with(alloc: Global, c: Callable, args: Items<Expr>) -> Result<TypedCall, AllocError>
+    ensures { IfOk result (λ t. t ≡ plain_call c.callee args (result_of c.types)) }
+{
+    match result_of(alloc, c.types.as_slice()) {
+        Ok(result) => Ok(plain_call(c.callee, args, result)),
+        Err(error) => out_of_memory(error, c),
+    }
+}
+
 /// A call of what can be called.
 #[tactic(auto, unfolding(crate::specs::Functions::call_with))]
 pub fn call_with(
@@ -92,10 +102,10 @@ pub fn call_with(
 ) -> Result<Result<TypedCall, Fault>, AllocError>
     ensures { IfOk result (λ r. r ≡ told (call_with place arguments c)) }
 {
-    let result = result_of(alloc, c.types.as_slice())?;
-    match converted(alloc, place, c.types.as_slice(), arguments)? {
-        Ok(args) => Ok(Ok(plain_call(c.callee, args, result))),
-        Err(fault) => Ok(given_up(fault, c)),
+    match converted(alloc, place, c.types.as_slice(), arguments) {
+        Ok(Ok(args)) => Ok(Ok(called_with(alloc, c, args)?)),
+        Ok(Err(fault)) => Ok(given_up(fault, c)),
+        Err(error) => out_of_memory(error, c),
     }
 }
 
