@@ -1,6 +1,8 @@
 -- The stages of running a script.
-use Rattle.std.proofs.Common.{◌≡◌, ℕ, ◌≤◌, List, [], ◌∷◌, arith, subst}
+use Rattle.std.proofs.Common.{◌≡◌, ℕ, ◌≤◌, Bool, true, false, List, [], ◌∷◌, arith, sym, ap, ◌∙◌, subst}
+use Rattle.mdr_core.specs.declared.plan.Plan.{Plan}
 use Rattle.mdr_core.specs.declared.program.Program.{Program}
+use Rattle.mdr_cut.proofs.Determined.{plan_is_determined}
 use Rattle.mdr_model.specs.declared.command.Command.{Command}
 use Rattle.mdr_model.specs.declared.outcome.End.{End}
 use Rattle.mdr_model.specs.declared.outcome.End.TheVariants as ends
@@ -8,10 +10,12 @@ use Rattle.mdr_model.specs.Law.{IsOwn}
 use Rattle.mdr_outside.specs.Calls.{ShelfCall}
 use Rattle.mdr_outside.specs.declared.shelf.ReadAnswer.TheVariants as reads
 use Rattle.mdr_script.specs.declared.bound.Bound.{Bound}
+use Rattle.mdr_plain.specs.declared.outcome.Outcome.{Outcome}
 use Rattle.mdr_plain.specs.Outcome.{outcome_of}
 use Rattle.mdr_plain.specs.Plain.{plain, plain_of}
 use Rattle.mdr_plain.specs.Scripts.{Finish, commands, and_then}
 use Rattle.mdr_plain.specs.World.{World, Ended, Stopped, Work}
+use Rattle.mdr_watched.specs.Watched.{watched, watched_of}
 use Rattle.mdr_source.specs.declared.outcome.Source.{Source}
 use Rattle.mdr_due.specs.declared.due.Stage.{Stage}
 use Rattle.mdr_due.specs.declared.due.Stage.TheVariants as stage
@@ -22,7 +26,8 @@ use Rattle.mdr_due.specs.Reads.{Files, IsRead, WasRead, longest_script}
 use Rattle.mdr_due.specs.Stages.{StageIs}
 use Rattle.mdr_slicer.specs.Slicing.{IsSourceOf}
 use Rattle.mdr_runner.specs.Scripts.{HasScript, NoScript, IsScriptOf, NoScriptOf}
-use Rattle.mdr_runner.specs.Runs.{status_of, meant, RunsOver, Runs, RunsPart}
+use Rattle.mdr_runner.specs.declared.manner.Manner.{Manner}
+use Rattle.mdr_runner.specs.Runs.{status_of, IsOutcome, OutcomeIsDetermined, RunsOver, Runs, RunsPart}
 
 -- ---- scripts
 
@@ -58,9 +63,9 @@ since before between after status.OutOfMemory f a l h = tt
 
 -- ---- the whole command
 
-module _ (files later : Files) (source_name script_name : List ℕ) (ticks : ℕ) (old between new : List ShelfCall) (source : Source) (kept : later ≡ files) (read : IsSourceOf files source_name old between source) where
-  pub runs_so : (s : Status) (text : List ℕ) → RunsOver later source.program script_name ticks between new s text → Runs files source_name script_name ticks old new s text
-  runs_so s text runs = Runs.sourced source between read (subst (λ (f : Files). RunsOver f source.program script_name ticks between new s text) kept runs)
+module _ (files later : Files) (source_name script_name : List ℕ) (manner : Manner) (old between new : List ShelfCall) (source : Source) (kept : later ≡ files) (read : IsSourceOf files source_name old between source) where
+  pub runs_so : (s : Status) (text : List ℕ) → RunsOver later source.program script_name manner between new s text → Runs files source_name script_name manner old new s text
+  runs_so s text runs = Runs.sourced source between read (subst (λ (f : Files). RunsOver f source.program script_name manner between new s text) kept runs)
 
   pub runs_part : WasRead later script_name longest_script between new → RunsPart files source_name script_name old new
   runs_part was = RunsPart.script_read source between read (subst (λ (f : Files). WasRead f script_name longest_script between new) kept was)
@@ -84,6 +89,25 @@ plain_own : (program : Program) (script : Bound) (ticks : ℕ) → IsOwn (plain 
 unfolding plain_of
 plain_own program script ticks = commands_own _ script.commands _
 
+watched_own : (program : Program) (plan : Plan) (script : Bound) (ticks : ℕ) → IsOwn (watched program plan script ticks).end
+unfolding watched_of
+watched_own program plan script ticks = commands_own _ script.commands _
+
 -- a run on one memory ends by itself, or the driver stops
-pub meant_own : (program : Program) (script : Bound) (ticks : ℕ) → IsOwn (meant program script ticks).end
-meant_own program script ticks = finish_own program (plain program script ticks) (plain_own program script ticks)
+pub outcome_own : (program : Program) (script : Bound) (manner : Manner) (o : Outcome) → IsOutcome program script manner o → IsOwn o.end
+outcome_own program script manner o (IsOutcome.plain_run none is) =
+    subst (λ (x : Outcome). IsOwn x.end) (sym is) (finish_own program (plain program script manner.ticks) (plain_own program script manner.ticks))
+outcome_own program script manner o (IsOutcome.watched_run so plan of is) =
+    subst (λ (x : Outcome). IsOwn x.end) (sym is) (finish_own program (watched program plan script manner.ticks) (watched_own program plan script manner.ticks))
+
+-- ---- there is one outcome
+
+apart : (b : Bool) → b ≡ true → b ≡ false → ⊥
+apart b e f = let differ : true ≡ false = sym e ∙ f in absurd (Prim.cc)
+
+pub outcome_is_determined : OutcomeIsDetermined
+outcome_is_determined program script manner o other (IsOutcome.plain_run none is) (IsOutcome.plain_run none' is') = is ∙ sym is'
+outcome_is_determined program script manner o other (IsOutcome.plain_run none is) (IsOutcome.watched_run so plan of is') = absurd (apart manner.watched so none)
+outcome_is_determined program script manner o other (IsOutcome.watched_run so plan of is) (IsOutcome.plain_run none is') = absurd (apart manner.watched so none)
+outcome_is_determined program script manner o other (IsOutcome.watched_run so plan of is) (IsOutcome.watched_run so' plan' of' is') =
+    is ∙ ap (λ (p : Plan). outcome_of program (watched program p script manner.ticks)) (plan_is_determined program plan plan' of of') ∙ sym is'

@@ -7,6 +7,8 @@ ghost use Rattle.mdr_due.specs.Statuses.{Counts, HasReadCause};
 ghost use Rattle.mdr_runner.specs.Runs.{IsRun, RunsOver, Runs, RunsPart};
 
 use crate::ending::status_of;
+use crate::manner::Manner;
+use crate::outcomes::outcome_in;
 use crate::scripts::script_of;
 use mdr_core::{OutOfMemory, Program};
 use mdr_due::{Due, Stage};
@@ -14,16 +16,15 @@ use mdr_outside::Shelf;
 use mdr_report::report_whole;
 use mdr_script::Bound;
 use mdr_slicer::source_of;
-use mdr_whole::run_whole;
 use std::alloc::Global;
 
 /// Runs a script over a program, and makes the report.
-fn ran(alloc: Global, program: &Program, script: &Bound, ticks: u64) -> Result<Due, OutOfMemory>
+fn ran(alloc: Global, program: &Program, script: &Bound, manner: Manner) -> Result<Due, OutOfMemory>
     requires { IsSound program.now }
-    ensures run { IfOk result (λ due. IsRun program.now script.now ticks due.status due.text.items) }
+    ensures run { IfOk result (λ due. IsRun program.now script.now manner due.status due.text.items) }
     ensures read { IfOk result (λ due. (before after : Counts) → HasReadCause before after due.status) }
 {
-    let outcome = run_whole(alloc, program, script, ticks)?;
+    let outcome = outcome_in(alloc, program, script, manner)?;
     let status = status_of(&outcome.end);
     let text = report_whole(alloc, program, &outcome)?.into_vec();
     Ok(Due { status, text })
@@ -35,10 +36,10 @@ fn run_over<S: Shelf>(
     shelf: &mut S,
     program: &Program,
     name: &str,
-    ticks: u64,
+    manner: Manner,
 ) -> Result<Due, OutOfMemory>
     requires { IsSound program.now }
-    ensures done { IfOk result (λ due. RunsOver (S.files shelf.old) program.now name.now ticks (S.calls shelf.old) (S.calls shelf.new) due.status due.text.items) }
+    ensures done { IfOk result (λ due. RunsOver (S.files shelf.old) program.now name.now manner (S.calls shelf.old) (S.calls shelf.new) due.status due.text.items) }
     ensures part { OnErr result (WasRead (S.files shelf.old) name.now longest_script (S.calls shelf.old) (S.calls shelf.new)) }
     ensures kept { S.files shelf.new ≡ S.files shelf.old }
     ensures read { IfOk result (λ due. HasReadCause (record { faults = S.faults shelf.old; absent = S.absent shelf.old; long = S.long shelf.old }) (record { faults = S.faults shelf.new; absent = S.absent shelf.new; long = S.long shelf.new }) due.status) }
@@ -49,21 +50,21 @@ fn run_over<S: Shelf>(
         Ok(Stage::Ends(due)) => return Ok(due),
         Err(error) => return Err(error),
     };
-    let due = ran(alloc, program, &script, ticks)?;
+    let due = ran(alloc, program, &script, manner)?;
     Ok(due)
 }
 
-/// Reads a source and then a script, runs the script over the source on one memory under a budget of ticks, and tells
-/// what happened, how the run ended and what the memory holds. A source that is refused is told before the script is
-/// read.
+/// Reads a source and then a script, runs the script over the source on one memory in the manner that is asked for, and
+/// tells what happened, how the run ended and what the memory holds. A source that is refused is told before the script
+/// is read.
 pub fn whole<S: Shelf>(
     alloc: Global,
     shelf: &mut S,
     source_name: &str,
     script_name: &str,
-    ticks: u64,
+    manner: Manner,
 ) -> Result<Due, OutOfMemory>
-    ensures done { IfOk result (λ due. Runs (S.files shelf.old) source_name.now script_name.now ticks (S.calls shelf.old) (S.calls shelf.new) due.status due.text.items) }
+    ensures done { IfOk result (λ due. Runs (S.files shelf.old) source_name.now script_name.now manner (S.calls shelf.old) (S.calls shelf.new) due.status due.text.items) }
     ensures part { OnErr result (RunsPart (S.files shelf.old) source_name.now script_name.now (S.calls shelf.old) (S.calls shelf.new)) }
     ensures kept { S.files shelf.new ≡ S.files shelf.old }
     ensures read { IfOk result (λ due. HasReadCause (record { faults = S.faults shelf.old; absent = S.absent shelf.old; long = S.long shelf.old }) (record { faults = S.faults shelf.new; absent = S.absent shelf.new; long = S.long shelf.new }) due.status) }
@@ -73,5 +74,5 @@ pub fn whole<S: Shelf>(
         Ok(Stage::Ends(due)) => return Ok(due),
         Err(error) => return Err(error),
     };
-    run_over(alloc, shelf, &source.program, script_name, ticks)
+    run_over(alloc, shelf, &source.program, script_name, manner)
 }

@@ -23,8 +23,9 @@ use Rattle.mdr_top.specs.Words.{Cut, Whole, Run, command_of}
 use Rattle.mdr_top.specs.Cuts.{IsSplit, IsCut}
 use Rattle.mdr_due.specs.Reads.{Files, longest_source, longest_script}
 use Rattle.mdr_model.specs.Law.{IsOwn}
-use Rattle.mdr_runner.specs.Runs.{status_of, meant}
-use Rattle.mdr_runner.proofs.Stages.{meant_own}
+use Rattle.mdr_runner.specs.declared.manner.Manner.{Manner}
+use Rattle.mdr_runner.specs.Runs.{status_of}
+use Rattle.mdr_runner.proofs.Stages.{outcome_own}
 use Rattle.mdr_top.specs.Answers.{Unread, HasProgram, Ran, Called, Scripted, Compiled, Sourced, CutAnswered, WholeAnswered, Answered, Prints}
 use Rattle.mdr_top.specs.Comes.{IsWanted, IsDueToFar, Ends, IsEnd, IsRefused, IsWholeSource, IsNoWholeScript, IsScriptRefused, WasCut, IsWholeEnd, IsDone, IsStopped, Comes}
 use Rattle.mdr_top.proofs.Headline.{nothing_end}
@@ -129,28 +130,28 @@ module _ (words : List (List ℕ)) (files : Files) (loaded : Option Loaded) (es 
   own_comes (ends.Refused exchange cause number) own h = absurd own
   own_comes (ends.FarFault exchange) own h = absurd own
 
-  whole_comes : (name script_name : List ℕ) (ticks : ℕ) (s : Status) (text : List ℕ) → command_of words ≡ Some (Whole name script_name ticks) → WholeAnswered files name script_name ticks s text → Comes words files loaded es s
-  whole_comes name script_name ticks s text e (WholeAnswered.source_unread u) = unread_comes name longest_source s text (IsWanted.as_whole_source script_name ticks e refl) u
-  whole_comes name script_name ticks s text e (WholeAnswered.source_refused bytes r n) =
-      subst (Comes words files loaded es) (sym n.status_is) (IsRefused.no_whole (record { bytes = bytes; named = record { name = name; script_name = script_name; ticks = ticks; command = e; read = r }; refusal = n.refusal; refused = n.comes }))
-  whole_comes name script_name ticks s text e (WholeAnswered.script_unread bytes source r h u) = unread_comes script_name longest_script s text (IsWanted.as_whole_script name bytes ticks source e r h refl) u
-  whole_comes name script_name ticks s text e (WholeAnswered.script_refused bytes source lines r h r' n) =
-      let named : IsWholeSource words files bytes = record { name = name; script_name = script_name; ticks = ticks; command = e; read = r } in
+  whole_comes : (name script_name : List ℕ) (manner : Manner) (s : Status) (text : List ℕ) → command_of words ≡ Some (Whole name script_name manner) → WholeAnswered files name script_name manner s text → Comes words files loaded es s
+  whole_comes name script_name manner s text e (WholeAnswered.source_unread u) = unread_comes name longest_source s text (IsWanted.as_whole_source script_name manner e refl) u
+  whole_comes name script_name manner s text e (WholeAnswered.source_refused bytes r n) =
+      subst (Comes words files loaded es) (sym n.status_is) (IsRefused.no_whole (record { bytes = bytes; named = record { name = name; script_name = script_name; manner = manner; command = e; read = r }; refusal = n.refusal; refused = n.comes }))
+  whole_comes name script_name manner s text e (WholeAnswered.script_unread bytes source r h u) = unread_comes script_name longest_script s text (IsWanted.as_whole_script name bytes manner source e r h refl) u
+  whole_comes name script_name manner s text e (WholeAnswered.script_refused bytes source lines r h r' n) =
+      let named : IsWholeSource words files bytes = record { name = name; script_name = script_name; manner = manner; command = e; read = r } in
       let none : IsNoWholeScript words files = record { bytes = bytes; named = named; source = source; has = h; lines = lines; read = r'; line = n.line; kind = n.kind; refused = n.refused } in
       subst (Comes words files loaded es) (sym n.status_is) (IsScriptRefused.no_whole none)
-  whole_comes name script_name ticks s text e (WholeAnswered.ran bytes source lines script r h r' b run) =
-      subst (Comes words files loaded es) (sym run.status_is) (own_comes (meant source.program script ticks).end (meant_own source.program script ticks) (record {
+  whole_comes name script_name manner s text e (WholeAnswered.ran bytes source lines script r h r' b run) =
+      subst (Comes words files loaded es) (sym run.status_is) (own_comes run.outcome.end (outcome_own source.program script manner run.outcome run.is_outcome) (record {
         source = source;
         script = script;
-        ticks = ticks;
+        manner = manner;
         accepted = record { source_name = name; script_name = script_name; command = e; bytes = bytes; source_read = r; compiled = h; lines = lines; script_read = r'; bound = b };
-        status_is = refl;
+        ends = record { outcome = run.outcome; is_outcome = run.is_outcome; status_is = refl };
       }))
 
   answered_comes : (s : Status) (text : List ℕ) → Answered words files loaded es s text → Comes words files loaded es s
   answered_comes s text (Answered.usage e is t) = subst (Comes words files loaded es) (sym is) e
   answered_comes s text (Answered.cut how name e c) = cut_comes how name s text e c
-  answered_comes s text (Answered.whole name script_name ticks e c) = whole_comes name script_name ticks s text e c
+  answered_comes s text (Answered.whole name script_name manner e c) = whole_comes name script_name manner s text e c
   answered_comes s text (Answered.command name script_name ticks e c) = sourced_comes name script_name ticks s text e c
 
   pub prints_comes : (old new : Option (List ℕ)) (s : Status) → Prints words files loaded es old new s → Comes words files loaded es s

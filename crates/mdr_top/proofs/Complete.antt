@@ -54,17 +54,17 @@ not_long (Some f) name limit a told r r' =
 -- the names in a task, and its budget
 abbrev source_in : Task → List ℕ
 source_in (Cut how name) = name
-source_in (Whole source_name script_name ticks) = source_name
+source_in (Whole source_name script_name manner) = source_name
 source_in (Run source_name script_name ticks) = source_name
 
 abbrev script_in : Task → List ℕ
 script_in (Cut how name) = name
-script_in (Whole source_name script_name ticks) = script_name
+script_in (Whole source_name script_name manner) = script_name
 script_in (Run source_name script_name ticks) = script_name
 
 abbrev ticks_in : Task → ℕ
 ticks_in (Cut how name) = 0
-ticks_in (Whole source_name script_name ticks) = ticks
+ticks_in (Whole source_name script_name manner) = manner.ticks
 ticks_in (Run source_name script_name ticks) = ticks
 
 -- of a run, a write fault is the output's
@@ -119,7 +119,7 @@ module _ (words : List (List ℕ)) (files : Files) (loaded : Option Loaded) (es 
   pub accepted_runs : AreTold files → IsAccepted words files source program calls ticks → Answered words files loaded es s text → (s ≡ status.ReadFault) ⊎ RanOn source program calls ticks loaded es s text
   accepted_runs told a (Answered.usage e is t) = absurd (not_some (command_of words) (Run a.source_name a.script_name ticks) a.command e)
   accepted_runs told a (Answered.cut how name e d) = absurd (cut_no_run (command_of words) how name a.source_name a.script_name ticks e a.command)
-  accepted_runs told a (Answered.whole name script_name budget e d) = absurd (whole_no_run (command_of words) name script_name budget a.source_name a.script_name ticks e a.command)
+  accepted_runs told a (Answered.whole name script_name manner e d) = absurd (whole_no_run (command_of words) name script_name manner a.source_name a.script_name ticks e a.command)
   accepted_runs told a (Answered.command name script_name budget e d) =
       let same : Run a.source_name a.script_name ticks ≡ Run name script_name budget = some_same (command_of words) (Run a.source_name a.script_name ticks) (Run name script_name budget) a.command e in
       sourced_runs name script_name a.script told

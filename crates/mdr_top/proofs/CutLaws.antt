@@ -12,6 +12,7 @@ use Rattle.mdr_due.specs.Reads.{Files, IsUnread, UnreadBy, longest_source}
 use Rattle.mdr_slicer.specs.Outputs.{NamedBytes, outputs, length_lines}
 use Rattle.mdr_slicer.specs.Writes.{Writes}
 use Rattle.mdr_slicer.specs.Slicing.{NoSourceOf, Splits, Reports}
+use Rattle.mdr_runner.specs.declared.manner.Manner.{Manner}
 use Rattle.mdr_top.specs.declared.words.Cutting.{Cutting}
 use Rattle.mdr_top.specs.declared.words.Cutting.TheVariants as cutting
 use Rattle.mdr_top.specs.Words.{Task, Cut, Whole, Run, cut_of, whole_of, run_of, command_by, command_of}
@@ -23,8 +24,8 @@ use Rattle.mdr_top.specs.Answers.{Unread, CutAnswered}
 pub cut_command : (words : List (List ℕ)) (how : Cutting) (name : List ℕ) → Some (how, name) ≡ cut_of words → command_of words ≡ Some (Cut how name)
 cut_command words how name e = ap (λ (c : Option (Cutting × List ℕ)). command_by c (whole_of words) (run_of words)) (sym e)
 
-pub whole_command : (words : List (List ℕ)) (source_name script_name : List ℕ) (ticks : ℕ) → None ≡ cut_of words → Some (source_name, script_name, ticks) ≡ whole_of words → command_of words ≡ Some (Whole source_name script_name ticks)
-whole_command words source_name script_name ticks none e = λ i. command_by (sym none i) (sym e i) (run_of words)
+pub whole_command : (words : List (List ℕ)) (source_name script_name : List ℕ) (manner : Manner) → None ≡ cut_of words → Some (source_name, script_name, manner) ≡ whole_of words → command_of words ≡ Some (Whole source_name script_name manner)
+whole_command words source_name script_name manner none e = λ i. command_by (sym none i) (sym e i) (run_of words)
 
 pub run_command : (words : List (List ℕ)) (source_name script_name : List ℕ) (ticks : ℕ) → None ≡ cut_of words → None ≡ whole_of words → Some (source_name, script_name, ticks) ≡ run_of words → command_of words ≡ Some (Run source_name script_name ticks)
 run_command words source_name script_name ticks none neither e = λ i. command_by (sym none i) (sym neither i) (sym e i)
@@ -35,8 +36,8 @@ no_command words none neither nothing = λ i. command_by (sym none i) (sym neith
 pub cut_no_run : (command : Option Task) (how : Cutting) (name source_name script_name : List ℕ) (ticks : ℕ) → command ≡ Some (Cut how name) → command ≡ Some (Run source_name script_name ticks) → ⊥
 cut_no_run command how name source_name script_name ticks e f = Prim.cc
 
-pub whole_no_run : (command : Option Task) (source script : List ℕ) (budget : ℕ) (source_name script_name : List ℕ) (ticks : ℕ) → command ≡ Some (Whole source script budget) → command ≡ Some (Run source_name script_name ticks) → ⊥
-whole_no_run command source script budget source_name script_name ticks e f = Prim.cc
+pub whole_no_run : (command : Option Task) (source script : List ℕ) (manner : Manner) (source_name script_name : List ℕ) (ticks : ℕ) → command ≡ Some (Whole source script manner) → command ≡ Some (Run source_name script_name ticks) → ⊥
+whole_no_run command source script manner source_name script_name ticks e f = Prim.cc
 
 -- ---- files
 

@@ -21,6 +21,7 @@ use Rattle.mdr_user.specs.Honest.{IsHonest}
 use Rattle.mdr_due.specs.declared.status.Status.{Status}
 use Rattle.mdr_due.specs.declared.status.Status.TheVariants as status
 use Rattle.mdr_due.specs.Reads.{Files, longest_source, longest_script, IsUnread}
+use Rattle.mdr_runner.specs.declared.manner.Manner.{Manner}
 use Rattle.mdr_runner.specs.Runs.{status_of}
 use Rattle.mdr_top.specs.Answers.{Adds, HasProgram, Ran, Called, Scripted, Compiled, Sourced, Answered, Prints}
 use Rattle.mdr_top.specs.Done.{SentPart, LoadedOnce, LoadedPart, Done, Does}
@@ -42,7 +43,7 @@ module _ (words : List (List ℕ)) (files files' : Files) (shelf shelf' : List S
   answered_so : (s : Status) (text : List ℕ) → Done words files files' shelf shelf' far far' loaded es s text → Answered words files loaded es s text
   answered_so s text (Done.usage e r f is t) = Answered.usage e is t
   answered_so s text (Done.cut how name e d f) = Answered.cut how name e (cut_so how files files' name shelf shelf' s text d)
-  answered_so s text (Done.whole name script_name ticks e kept runs f) = Answered.whole name script_name ticks e (whole_so files name script_name ticks shelf shelf' s text runs)
+  answered_so s text (Done.whole name script_name manner e kept runs f) = Answered.whole name script_name manner e (whole_so files name script_name manner shelf shelf' s text runs)
   answered_so s text (Done.source_unread name script_name ticks e u f) = Answered.command name script_name ticks e (Sourced.unread (unread_so files name longest_source shelf shelf' s text u))
   answered_so s text (Done.source_refused name script_name source ticks e r n f) = Answered.command name script_name ticks e (Sourced.read source r.told (Compiled.refused n))
   answered_so s text (Done.script_unread name script_name source ticks program between e r h u f) =
@@ -100,15 +101,15 @@ module _ (words : List (List ℕ)) (files files' : Files) (shelf shelf' : List S
   cut_means : (how : Cutting) (name : List ℕ) → command_of words ≡ Some (Cut how name) → IsOfCut s → MeansIt
   cut_means how name e own = record { never = λ is. subst IsOfCut is own; means = λ source_name script_name ticks named is. absurd (cut_no_run (command_of words) how name source_name script_name ticks e named) }
 
-  whole_means : (source script : List ℕ) (budget : ℕ) → command_of words ≡ Some (Whole source script budget) → IsOfWhole s → MeansIt
-  whole_means source script budget e own = record { never = λ is. subst IsOfWhole is own; means = λ source_name script_name ticks named is. absurd (whole_no_run (command_of words) source script budget source_name script_name ticks e named) }
+  whole_means : (source script : List ℕ) (manner : Manner) → command_of words ≡ Some (Whole source script manner) → IsOfWhole s → MeansIt
+  whole_means source script manner e own = record { never = λ is. subst IsOfWhole is own; means = λ source_name script_name ticks named is. absurd (whole_no_run (command_of words) source script manner source_name script_name ticks e named) }
 
   pub does_mean : Does words files files' shelf shelf' far far' loaded es old new s → IsHonest loaded es → MeansIt
   does_mean (Does.cut due text n e d within adds) honest = early_means (subst IsEarly (sym e) tt)
   does_mean (Does.nothing e d same) honest = early_means (subst IsEarly (sym e) tt)
   does_mean (Does.whole text (Done.usage e r f is t) adds) honest = early_means (subst IsEarly (sym is) tt)
   does_mean (Does.whole text (Done.cut how name e d f) adds) honest = cut_means how name e (cut_status how files files' name shelf shelf' s text d)
-  does_mean (Does.whole text (Done.whole name script_name ticks e kept runs f) adds) honest = whole_means name script_name ticks e (whole_status files name script_name ticks shelf shelf' s text runs)
+  does_mean (Does.whole text (Done.whole name script_name manner e kept runs f) adds) honest = whole_means name script_name manner e (whole_status files name script_name manner shelf shelf' s text runs)
   does_mean (Does.whole text (Done.source_unread name script_name ticks e u f) adds) honest = early_means (unread_early name u.answer s text u.why)
   does_mean (Does.whole text (Done.source_refused name script_name source ticks e r n f) adds) honest = early_means (source_early source s text n)
   does_mean (Does.whole text (Done.script_unread name script_name source ticks program between e r h u f) adds) honest = early_means (unread_early script_name u.answer s text u.why)
@@ -139,15 +140,15 @@ not_early : (s : Status) → IsEarly s → (s ≡ status.Done) ⊎ (s ≡ status
 not_early s early (inl e) = subst IsEarly e early
 not_early s early (inr e) = subst IsEarly e early
 
-no_whole : (command : Option Task) (source_name script_name : List ℕ) (ticks : ℕ) → command ≡ Some (Whole source_name script_name ticks) → command ≡ None → ⊥
-no_whole command source_name script_name ticks e f = Prim.cc
+no_whole : (command : Option Task) (source_name script_name : List ℕ) (manner : Manner) → command ≡ Some (Whole source_name script_name manner) → command ≡ None → ⊥
+no_whole command source_name script_name manner e f = Prim.cc
 
-cut_no_whole : (command : Option Task) (how : Cutting) (name source_name script_name : List ℕ) (ticks : ℕ) → command ≡ Some (Cut how name) → command ≡ Some (Whole source_name script_name ticks) → ⊥
-cut_no_whole command how name source_name script_name ticks e f = Prim.cc
+cut_no_whole : (command : Option Task) (how : Cutting) (name source_name script_name : List ℕ) (manner : Manner) → command ≡ Some (Cut how name) → command ≡ Some (Whole source_name script_name manner) → ⊥
+cut_no_whole command how name source_name script_name manner e f = Prim.cc
 
-module _ (words : List (List ℕ)) (files : Files) (shelf shelf' : List ShelfCall) (old new : Option (List ℕ)) (s : Status) (text : List ℕ) (adds : Adds old new text) (name script_name : List ℕ) (ticks : ℕ) (e : command_of words ≡ Some (Whole name script_name ticks)) where
+module _ (words : List (List ℕ)) (files : Files) (shelf shelf' : List ShelfCall) (old new : Option (List ℕ)) (s : Status) (text : List ℕ) (adds : Adds old new text) (name script_name : List ℕ) (manner : Manner) (e : command_of words ≡ Some (Whole name script_name manner)) where
   -- what ran is what is meant
-  runs_mean : Runs files name script_name ticks shelf shelf' s text → (s ≡ status.Done) ⊎ (s ≡ status.Stopped) → WholeMeansBy words files shelf shelf' old new s
+  runs_mean : Runs files name script_name manner shelf shelf' s text → (s ≡ status.Done) ⊎ (s ≡ status.Stopped) → WholeMeansBy words files shelf shelf' old new s
   runs_mean (Runs.no_source (NoSourceOf.unread u)) is = absurd (not_early s (unread_early name u.answer s text u.why) is)
   runs_mean (Runs.no_source (NoSourceOf.refused bytes read n)) is = absurd (not_early s (subst IsEarly (sym n.status_is) tt) is)
   runs_mean (Runs.sourced source between read (RunsOver.no_script (NoScriptOf.unread u))) is = absurd (not_early s (unread_early script_name u.answer s text u.why) is)
@@ -155,7 +156,7 @@ module _ (words : List (List ℕ)) (files : Files) (shelf shelf' : List ShelfCal
   runs_mean (Runs.sourced source between read (RunsOver.ran script given run')) is = record {
     source = source;
     script = script;
-    ticks = ticks;
+    manner = manner;
     accepted = record { source_name = name; script_name = script_name; command = e; bytes = read.bytes; source_read = read.read.told; compiled = read.has; lines = given.bytes; script_read = given.read.told; bound = given.has };
     read = given.read.called ∙ ap (λ (xs : List ShelfCall). and_then xs (Read script_name longest_script (reads.Ok given.bytes))) read.read.called;
     text = text;
@@ -163,14 +164,14 @@ module _ (words : List (List ℕ)) (files : Files) (shelf shelf' : List ShelfCal
     meaning = run';
   }
 
-module _ (words : List (List ℕ)) (files files' : Files) (shelf shelf' : List ShelfCall) (far far' : List FarCall) (loaded : Option Loaded) (es : List Exchange) (old new : Option (List ℕ)) (s : Status) (source_name script_name : List ℕ) (ticks : ℕ) (named : command_of words ≡ Some (Whole source_name script_name ticks)) where
+module _ (words : List (List ℕ)) (files files' : Files) (shelf shelf' : List ShelfCall) (far far' : List FarCall) (loaded : Option Loaded) (es : List Exchange) (old new : Option (List ℕ)) (s : Status) (source_name script_name : List ℕ) (manner : Manner) (named : command_of words ≡ Some (Whole source_name script_name manner)) where
   ran_no_whole : (other other_script : List ℕ) (budget : ℕ) → command_of words ≡ Some (Run other other_script budget) → ⊥
-  ran_no_whole other other_script budget e = whole_no_run (command_of words) source_name script_name ticks other other_script budget named e
+  ran_no_whole other other_script budget e = whole_no_run (command_of words) source_name script_name manner other other_script budget named e
 
   done_means : (text : List ℕ) → Adds old new text → (s ≡ status.Done) ⊎ (s ≡ status.Stopped) → Done words files files' shelf shelf' far far' loaded es s text → WholeMeansBy words files shelf shelf' old new s
-  done_means text adds is (Done.usage e r f st t) = absurd (no_whole (command_of words) source_name script_name ticks named e)
-  done_means text adds is (Done.cut how name e d f) = absurd (cut_no_whole (command_of words) how name source_name script_name ticks e named)
-  done_means text adds is (Done.whole name other budget e kept runs f) = runs_mean words files shelf shelf' old new s text adds name other budget e runs is
+  done_means text adds is (Done.usage e r f st t) = absurd (no_whole (command_of words) source_name script_name manner named e)
+  done_means text adds is (Done.cut how name e d f) = absurd (cut_no_whole (command_of words) how name source_name script_name manner e named)
+  done_means text adds is (Done.whole name other other_manner e kept runs f) = runs_mean words files shelf shelf' old new s text adds name other other_manner e runs is
   done_means text adds is (Done.source_unread name other budget e u f) = absurd (ran_no_whole name other budget e)
   done_means text adds is (Done.source_refused name other source budget e r n f) = absurd (ran_no_whole name other budget e)
   done_means text adds is (Done.script_unread name other source budget program between e r h u f) = absurd (ran_no_whole name other budget e)

@@ -25,10 +25,11 @@ use Rattle.mdr_script.specs.declared.bound.Bound.{Bound}
 use Rattle.mdr_script.specs.declared.script_error.ScriptKind.{ScriptKind}
 use Rattle.mdr_source.specs.declared.outcome.Source.{Source}
 use Rattle.mdr_slicer.specs.Slicing.{HasSource}
+use Rattle.mdr_runner.specs.declared.manner.Manner.{Manner}
 use Rattle.mdr_runner.specs.Scripts.{script_for}
 use Rattle.mdr_runner.specs.Runs.{status_of}
 use Rattle.mdr_top.specs.Answers.{Unread, Called, Scripted, Compiled, Sourced, CutAnswered, WholeAnswered, Answered, Prints}
-use Rattle.mdr_top.specs.Comes.{sized, calls_due, script_due, IsOfRun, IsDueTo, IsRunDue, IsCutDue, run_due, whole_sized, whole_due, IsWholeDue, IsDueFor, IsDueOrFault, IsExact, CutCompletes, WholeCompletes}
+use Rattle.mdr_top.specs.Comes.{sized, calls_due, script_due, IsOfRun, IsDueTo, IsRunDue, IsCutDue, IsBoundDue, IsSizedDue, IsScriptDue, IsWholeDue, IsDueFor, IsDueOrFault, IsExact, CutCompletes, WholeCompletes}
 use Rattle.mdr_top.proofs.Comes.{end_of}
 
 -- a read that failed, or what is due
@@ -106,49 +107,50 @@ module _ (words : List (List ℕ)) (f : List ℕ → Option (List ℕ)) (loaded 
       of cutting.Report reported = inr (inr (inr (IsCutDue.accepted bytes source r.0 r.1 h.comes reported.status_is)))
 
   -- what a source gives that is right, by the script's file
-  accepted_due : (name script_name bytes : List ℕ) (source : Source) (ticks : ℕ) → ReadsFrom (Some f) name longest_source (reads.Ok bytes) → HasSource bytes source → s ≡ whole_due source.program ticks (f script_name)
-      → IsDueOrFault (IsWholeDue (f name) (f script_name) ticks s) s
-  accepted_due name script_name bytes source ticks r h is = inr (inr (inr (IsWholeDue.accepted bytes source r.0 r.1 h.comes is)))
+  accepted_due : (name script_name bytes : List ℕ) (source : Source) (manner : Manner) → ReadsFrom (Some f) name longest_source (reads.Ok bytes) → HasSource bytes source → IsScriptDue source.program manner (f script_name) s
+      → IsDueOrFault (IsWholeDue (f name) (f script_name) manner s) s
+  accepted_due name script_name bytes source manner r h due = inr (inr (inr (IsWholeDue.accepted bytes source r.0 r.1 h.comes due)))
 
   -- the script's file is there and fits
-  script_fits : (script_name lines : List ℕ) (program : Program) (ticks : ℕ) (given : Result Bound (ℕ × ScriptKind)) → ReadsFrom (Some f) script_name longest_script (reads.Ok lines) → script_for program lines ≡ given → s ≡ run_due program ticks given
-      → s ≡ whole_due program ticks (f script_name)
-  script_fits script_name lines program ticks given r b is =
-      is ∙ ap (run_due program ticks) (sym b) ∙ ap (λ (b : Bool). whole_sized b (run_due program ticks (script_for program lines))) (sym (le-ltb longest_script (length lines) r.1))
-      ∙ ap (whole_due program ticks) (sym r.0)
+  script_fits : (script_name lines : List ℕ) (program : Program) (manner : Manner) (given : Result Bound (ℕ × ScriptKind)) → ReadsFrom (Some f) script_name longest_script (reads.Ok lines) → script_for program lines ≡ given → IsBoundDue program manner given s
+      → IsScriptDue program manner (f script_name) s
+  script_fits script_name lines program manner given r b due =
+      subst (λ (o : Option (List ℕ)). IsScriptDue program manner o s) (sym r.0)
+      (subst (λ (long : Bool). IsSizedDue long (IsBoundDue program manner (script_for program lines) s) s) (sym (le-ltb longest_script (length lines) r.1))
+      (subst (λ (given' : Result Bound (ℕ × ScriptKind)). IsBoundDue program manner given' s) (sym b) due))
 
-  script_unfit : (script_name : List ℕ) (program : Program) (ticks : ℕ) → Unread (Some f) script_name longest_script s text → (s ≡ status.ReadFault) ⊎ (s ≡ whole_due program ticks (f script_name))
-  script_unfit script_name program ticks (Unread.missing r e t) = inr (e ∙ ap (whole_due program ticks) (sym r))
-  script_unfit script_name program ticks (Unread.long r e t) = inr (of (f script_name) r)
+  script_unfit : (script_name : List ℕ) (program : Program) (manner : Manner) → Unread (Some f) script_name longest_script s text → (s ≡ status.ReadFault) ⊎ IsScriptDue program manner (f script_name) s
+  script_unfit script_name program manner (Unread.missing r e t) = inr (subst (λ (o : Option (List ℕ)). IsScriptDue program manner o s) (sym r) e)
+  script_unfit script_name program manner (Unread.long r e t) = inr (of (f script_name) r)
     where
-      of : (o : Option (List ℕ)) → IsSomeAnd o (λ bytes. longest_script < length bytes) → s ≡ whole_due program ticks o
+      of : (o : Option (List ℕ)) → IsSomeAnd o (λ bytes. longest_script < length bytes) → IsScriptDue program manner o s
       of None h = elim h [ ]
-      of (Some lines) h = e ∙ ap (λ (b : Bool). whole_sized b (run_due program ticks (script_for program lines))) (sym (lt-ltb longest_script (length lines) h))
-  script_unfit script_name program ticks (Unread.failed e t) = inl e
+      of (Some lines) h = subst (λ (long : Bool). IsSizedDue long (IsBoundDue program manner (script_for program lines) s) s) (sym (lt-ltb longest_script (length lines) h)) e
+  script_unfit script_name program manner (Unread.failed e t) = inl e
 
-  answered_whole : (name script_name : List ℕ) (ticks : ℕ) → WholeAnswered (Some f) name script_name ticks s text → IsDueOrFault (IsWholeDue (f name) (f script_name) ticks s) s
-  answered_whole name script_name ticks (WholeAnswered.source_unread (Unread.missing r e t)) = inr (inr (inr (IsWholeDue.missing r e)))
-  answered_whole name script_name ticks (WholeAnswered.source_unread (Unread.long r e t)) = inr (inr (inr (of (f name) refl r)))
+  answered_whole : (name script_name : List ℕ) (manner : Manner) → WholeAnswered (Some f) name script_name manner s text → IsDueOrFault (IsWholeDue (f name) (f script_name) manner s) s
+  answered_whole name script_name manner (WholeAnswered.source_unread (Unread.missing r e t)) = inr (inr (inr (IsWholeDue.missing r e)))
+  answered_whole name script_name manner (WholeAnswered.source_unread (Unread.long r e t)) = inr (inr (inr (of (f name) refl r)))
     where
-      of : (o : Option (List ℕ)) → f name ≡ o → IsSomeAnd o (λ bytes. longest_source < length bytes) → IsWholeDue (f name) (f script_name) ticks s
+      of : (o : Option (List ℕ)) → f name ≡ o → IsSomeAnd o (λ bytes. longest_source < length bytes) → IsWholeDue (f name) (f script_name) manner s
       of None is h = elim h [ ]
       of (Some bytes) is h = IsWholeDue.long bytes is h e
-  answered_whole name script_name ticks (WholeAnswered.source_unread (Unread.failed e t)) = inl e
-  answered_whole name script_name ticks (WholeAnswered.source_refused bytes r n) = inr (inr (inr (IsWholeDue.refused bytes n.refusal r.0 r.1 n.comes n.status_is)))
-  answered_whole name script_name ticks (WholeAnswered.script_unread bytes source r h u) = of (script_unfit script_name source.program ticks u)
+  answered_whole name script_name manner (WholeAnswered.source_unread (Unread.failed e t)) = inl e
+  answered_whole name script_name manner (WholeAnswered.source_refused bytes r n) = inr (inr (inr (IsWholeDue.refused bytes n.refusal r.0 r.1 n.comes n.status_is)))
+  answered_whole name script_name manner (WholeAnswered.script_unread bytes source r h u) = of (script_unfit script_name source.program manner u)
     where
-      of : (s ≡ status.ReadFault) ⊎ (s ≡ whole_due source.program ticks (f script_name)) → IsDueOrFault (IsWholeDue (f name) (f script_name) ticks s) s
+      of : (s ≡ status.ReadFault) ⊎ IsScriptDue source.program manner (f script_name) s → IsDueOrFault (IsWholeDue (f name) (f script_name) manner s) s
       of (inl is) = inl is
-      of (inr is) = accepted_due name script_name bytes source ticks r h is
-  answered_whole name script_name ticks (WholeAnswered.script_refused bytes source lines r h r' n) =
-      accepted_due name script_name bytes source ticks r h (script_fits script_name lines source.program ticks (Err (n.line, n.kind)) r' n.refused n.status_is)
-  answered_whole name script_name ticks (WholeAnswered.ran bytes source lines script r h r' b run) =
-      accepted_due name script_name bytes source ticks r h (script_fits script_name lines source.program ticks (Ok script) r' b run.status_is)
+      of (inr due) = accepted_due name script_name bytes source manner r h due
+  answered_whole name script_name manner (WholeAnswered.script_refused bytes source lines r h r' n) =
+      accepted_due name script_name bytes source manner r h (script_fits script_name lines source.program manner (Err (n.line, n.kind)) r' n.refused n.status_is)
+  answered_whole name script_name manner (WholeAnswered.ran bytes source lines script r h r' b run) =
+      accepted_due name script_name bytes source manner r h (script_fits script_name lines source.program manner (Ok script) r' b (record { outcome = run.outcome; is_outcome = run.is_outcome; status_is = run.status_is }))
 
   answered_due : Answered words (Some f) loaded es s text → IsDueOrFault (IsDueFor (command_of words) f s) s
   answered_due (Answered.usage e is t) = inr (inr (inr (subst (λ (c : Option Task). IsDueFor c f s) (sym e) is)))
   answered_due (Answered.cut how name e c) = subst (λ (d : Option Task). IsDueOrFault (IsDueFor d f s) s) (sym e) (cut_due how name c)
-  answered_due (Answered.whole name script_name ticks e c) = subst (λ (d : Option Task). IsDueOrFault (IsDueFor d f s) s) (sym e) (answered_whole name script_name ticks c)
+  answered_due (Answered.whole name script_name manner e c) = subst (λ (d : Option Task). IsDueOrFault (IsDueFor d f s) s) (sym e) (answered_whole name script_name manner c)
   answered_due (Answered.command name script_name ticks e c) = subst (λ (d : Option Task). IsDueOrFault (IsDueFor d f s) s) (sym e) (sourced_due name script_name ticks c)
 
 pub prints_exactly : (words : List (List ℕ)) (files : Files) (loaded : Option Loaded) (es : List Exchange) (old new : Option (List ℕ)) (s : Status) → Prints words files loaded es old new s → IsExact words files s
@@ -165,7 +167,7 @@ usage_comes words files loaded es old new s (Prints.whole text a adds) none = of
     of : Answered words files loaded es s text → (s ≡ status.Usage) ⊎ ((s ≡ status.WriteFault) ⊎ (s ≡ status.OutOfMemory))
     of (Answered.usage e is t) = inl is
     of (Answered.cut how name e c) = absurd (Prim.cc)
-    of (Answered.whole name script_name ticks e c) = absurd (Prim.cc)
+    of (Answered.whole name script_name manner e c) = absurd (Prim.cc)
     of (Answered.command name script_name ticks e c) = absurd (Prim.cc)
 usage_comes words files loaded es old new s (Prints.cut due text n is a within adds) none = inr (inl is)
 usage_comes words files loaded es old new s (Prints.nothing is same) none = inr (inr is)
@@ -190,14 +192,14 @@ cut_completes words (Some f) s before after w w' u u' exact cause wrote reads_re
 
 pub whole_completes : (words : List (List ℕ)) (files : Files) (s : Status) (before after : Counts) (w w' u u' : ℕ) → IsExact words files s → HasReadCause before after s → (s ≡ status.WriteFault → WriteCause (command_of words) w w' u u')
     → Rests before.faults after.faults → Rests w w' → WholeCompletes words files s
-whole_completes words None s before after w w' u u' exact cause wrote reads_rest out_rest source_name script_name ticks e = tt
-whole_completes words (Some f) s before after w w' u u' exact cause wrote reads_rest out_rest source_name script_name ticks e = of exact
+whole_completes words None s before after w w' u u' exact cause wrote reads_rest out_rest source_name script_name manner e = tt
+whole_completes words (Some f) s before after w w' u u' exact cause wrote reads_rest out_rest source_name script_name manner e = of exact
   where
     by_cause : Rose w w' ⊎ ⊥ → ⊥
     by_cause (inl r) = out_rest r
     by_cause (inr none) = none
 
-    of : IsDueOrFault (IsDueFor (command_of words) f s) s → (s ≡ status.OutOfMemory) ⊎ IsWholeDue (f source_name) (f script_name) ticks s
+    of : IsDueOrFault (IsDueFor (command_of words) f s) s → (s ≡ status.OutOfMemory) ⊎ IsWholeDue (f source_name) (f script_name) manner s
     of (inl is) = absurd (reads_rest (subst (HasReadCause before after) is cause))
     of (inr (inl is)) = absurd (by_cause (subst (λ (c : Option Task). WriteCause c w w' u u') e (wrote is)))
     of (inr (inr (inl is))) = inl is

@@ -31,6 +31,7 @@ use Rattle.mdr_source.specs.Lines.{refusal_line}
 use Rattle.mdr_ready.specs.Ready.{Ready}
 use Rattle.mdr_slicer.specs.Slicing.{HasSource, NoSource as NoCutSource}
 use Rattle.mdr_script.specs.declared.bound.Bound.{Bound}
+use Rattle.mdr_runner.specs.declared.manner.Manner.{Manner}
 use Rattle.mdr_runner.specs.Scripts.{HasScript as HasWholeScript, NoScript as NoWholeScript}
 use Rattle.mdr_runner.specs.Runs.{status_of, IsRun as IsWholeRun}
 use Rattle.mdr_top.specs.declared.words.Cutting.{Cutting}
@@ -120,20 +121,20 @@ pub data CutAnswered (how : Cutting) (files : Files) (name : List ℕ) (s : Stat
   accepted : (bytes : List ℕ) (source : Source) → ReadsFrom files name longest_source (reads.Ok bytes) → HasSource bytes source → IsCut how name source s text → CutAnswered how files name s text
 
 -- a script that is run over a source on one memory: the source is judged before the script is read
-pub data WholeAnswered (files : Files) (source_name script_name : List ℕ) (ticks : ℕ) (s : Status) (text : List ℕ) : Type 0 where
-  source_unread : Unread files source_name longest_source s text → WholeAnswered files source_name script_name ticks s text
-  source_refused : (bytes : List ℕ) → ReadsFrom files source_name longest_source (reads.Ok bytes) → NoCutSource bytes s text → WholeAnswered files source_name script_name ticks s text
-  script_unread : (bytes : List ℕ) (source : Source) → ReadsFrom files source_name longest_source (reads.Ok bytes) → HasSource bytes source → Unread files script_name longest_script s text → WholeAnswered files source_name script_name ticks s text
+pub data WholeAnswered (files : Files) (source_name script_name : List ℕ) (manner : Manner) (s : Status) (text : List ℕ) : Type 0 where
+  source_unread : Unread files source_name longest_source s text → WholeAnswered files source_name script_name manner s text
+  source_refused : (bytes : List ℕ) → ReadsFrom files source_name longest_source (reads.Ok bytes) → NoCutSource bytes s text → WholeAnswered files source_name script_name manner s text
+  script_unread : (bytes : List ℕ) (source : Source) → ReadsFrom files source_name longest_source (reads.Ok bytes) → HasSource bytes source → Unread files script_name longest_script s text → WholeAnswered files source_name script_name manner s text
   script_refused : (bytes : List ℕ) (source : Source) (lines : List ℕ) → ReadsFrom files source_name longest_source (reads.Ok bytes) → HasSource bytes source → ReadsFrom files script_name longest_script (reads.Ok lines)
-      → NoWholeScript source.program lines s text → WholeAnswered files source_name script_name ticks s text
+      → NoWholeScript source.program lines s text → WholeAnswered files source_name script_name manner s text
   ran : (bytes : List ℕ) (source : Source) (lines : List ℕ) (script : Bound) → ReadsFrom files source_name longest_source (reads.Ok bytes) → HasSource bytes source → ReadsFrom files script_name longest_script (reads.Ok lines)
-      → HasWholeScript source.program lines script → IsWholeRun source.program script ticks s text → WholeAnswered files source_name script_name ticks s text
+      → HasWholeScript source.program lines script → IsWholeRun source.program script manner s text → WholeAnswered files source_name script_name manner s text
 
 -- the words: the status and the text that are due
 pub data Answered (words : List (List ℕ)) (files : Files) (loaded : Option Loaded) (es : List Exchange) (s : Status) (text : List ℕ) : Type 0 where
   usage : command_of words ≡ None → s ≡ status.Usage → text ≡ usage_line → Answered words files loaded es s text
   cut : (how : Cutting) (name : List ℕ) → command_of words ≡ Some (Cut how name) → CutAnswered how files name s text → Answered words files loaded es s text
-  whole : (source script : List ℕ) (ticks : ℕ) → command_of words ≡ Some (Whole source script ticks) → WholeAnswered files source script ticks s text → Answered words files loaded es s text
+  whole : (source script : List ℕ) (manner : Manner) → command_of words ≡ Some (Whole source script manner) → WholeAnswered files source script manner s text → Answered words files loaded es s text
   command : (source script : List ℕ) (ticks : ℕ) → command_of words ≡ Some (Run source script ticks) → Sourced files source script ticks loaded es s text → Answered words files loaded es s text
 
 -- ---- what is printed

@@ -31,8 +31,9 @@ use Rattle.mdr_due.specs.Reads.{Files, longest_source, longest_script}
 use Rattle.mdr_top.specs.Answers.{HasProgram}
 use Rattle.mdr_script.specs.declared.bound.Bound.{Bound}
 use Rattle.mdr_script.specs.declared.script_error.ScriptKind.{ScriptKind}
+use Rattle.mdr_runner.specs.declared.manner.Manner.{Manner}
 use Rattle.mdr_runner.specs.Scripts.{script_for}
-use Rattle.mdr_runner.specs.Runs.{status_of, meant}
+use Rattle.mdr_runner.specs.Runs.{status_of, EndsWith}
 use Rattle.mdr_top.specs.Headline.{IsAccepted}
 use Rattle.mdr_top.specs.Wholes.{IsWhole}
 
@@ -47,8 +48,8 @@ pub record IsSource (words : List (List ℕ)) (files : Files) (source : List ℕ
 -- a file that the words name: a source, and the script once its source has a program that is ready to run
 pub data IsWanted (words : List (List ℕ)) (files : Files) (name : List ℕ) (limit : ℕ) : Type 0 where
   as_cut : (how : Cutting) → command_of words ≡ Some (Cut how name) → limit ≡ longest_source → IsWanted words files name limit
-  as_whole_source : (script_name : List ℕ) (ticks : ℕ) → command_of words ≡ Some (Whole name script_name ticks) → limit ≡ longest_source → IsWanted words files name limit
-  as_whole_script : (source_name bytes : List ℕ) (ticks : ℕ) (source : Source) → command_of words ≡ Some (Whole source_name name ticks) → ReadsFrom files source_name longest_source (reads.Ok bytes) → HasSource bytes source → limit ≡ longest_script → IsWanted words files name limit
+  as_whole_source : (script_name : List ℕ) (manner : Manner) → command_of words ≡ Some (Whole name script_name manner) → limit ≡ longest_source → IsWanted words files name limit
+  as_whole_script : (source_name bytes : List ℕ) (manner : Manner) (source : Source) → command_of words ≡ Some (Whole source_name name manner) → ReadsFrom files source_name longest_source (reads.Ok bytes) → HasSource bytes source → limit ≡ longest_script → IsWanted words files name limit
   as_source : (script_name : List ℕ) (ticks : ℕ) → command_of words ≡ Some (Run name script_name ticks) → limit ≡ longest_source → IsWanted words files name limit
   as_script : (source_name source : List ℕ) (ticks : ℕ) (program : Program) → command_of words ≡ Some (Run source_name name ticks) → ReadsFrom files source_name longest_source (reads.Ok source) → HasProgram source program → limit ≡ longest_script → IsWanted words files name limit
 
@@ -91,8 +92,8 @@ pub record WasCut (words : List (List ℕ)) (files : Files) : Type 0 where
 pub record IsWholeSource (words : List (List ℕ)) (files : Files) (bytes : List ℕ) : Type 0 where
   pub name : List ℕ
   pub script_name : List ℕ
-  pub ticks : ℕ
-  pub command : command_of words ≡ Some (Whole name script_name ticks)
+  pub manner : Manner
+  pub command : command_of words ≡ Some (Whole name script_name manner)
   pub read : ReadsFrom files name longest_source (reads.Ok bytes)
 
 -- it is refused
@@ -163,9 +164,9 @@ pub record IsEnd (words : List (List ℕ)) (files : Files) (loaded : Option Load
 pub record IsWholeEnd (words : List (List ℕ)) (files : Files) (s : Status) : Type 0 where
   pub source : Source
   pub script : Bound
-  pub ticks : ℕ
-  pub accepted : IsWhole words files source script ticks
-  pub status_is : s ≡ status_of (meant source.program script ticks).end
+  pub manner : Manner
+  pub accepted : IsWhole words files source script manner
+  pub ends : EndsWith source.program script manner s
 
 -- a run ended by itself, or a source was cut
 pub data IsDone (words : List (List ℕ)) (files : Files) (loaded : Option Loaded) (es : List Exchange) : Type 0 where
@@ -242,30 +243,30 @@ pub data IsCutDue (file : Option (List ℕ)) (s : Status) : Type 0 where
   accepted : (bytes : List ℕ) (source : Source) → file ≡ Some bytes → length bytes ≤ longest_source → ComesTo bytes (Ok source) → s ≡ status.Done → IsCutDue file s
 
 -- what a script gives that is run over a program on one memory
-abbrev pub run_due : Program → (ticks : ℕ) → Result Bound (ℕ × ScriptKind) → Status
-run_due program ticks (Ok script) = status_of (meant program script ticks).end
-run_due program ticks (Err e) = status.ScriptRefused
+abbrev pub IsBoundDue : Program → Manner → Result Bound (ℕ × ScriptKind) → Status → Type 0
+IsBoundDue program manner (Ok script) s = EndsWith program script manner s
+IsBoundDue program manner (Err e) s = s ≡ status.ScriptRefused
 
-abbrev pub whole_sized : Bool → Status → Status
-whole_sized true given = status.TooLarge
-whole_sized false given = given
+abbrev pub IsSizedDue : Bool → (Given : Type 0) → Status → Type 0
+IsSizedDue true Given s = s ≡ status.TooLarge
+IsSizedDue false Given s = Given
 
-abbrev pub whole_due : Program → (ticks : ℕ) → Option (List ℕ) → Status
-whole_due program ticks None = status.Missing
-whole_due program ticks (Some lines) = whole_sized (nat_lt longest_script (length lines)) (run_due program ticks (script_for program lines))
+abbrev pub IsScriptDue : Program → Manner → Option (List ℕ) → Status → Type 0
+IsScriptDue program manner None s = s ≡ status.Missing
+IsScriptDue program manner (Some lines) s = IsSizedDue (nat_lt longest_script (length lines)) (IsBoundDue program manner (script_for program lines) s) s
 
 -- what the bytes of a source and of a script give that is run over it on one memory
-pub data IsWholeDue (file script : Option (List ℕ)) (ticks : ℕ) (s : Status) : Type 0 where
-  missing : file ≡ None → s ≡ status.Missing → IsWholeDue file script ticks s
-  long : (bytes : List ℕ) → file ≡ Some bytes → longest_source < length bytes → s ≡ status.TooLarge → IsWholeDue file script ticks s
-  refused : (bytes : List ℕ) (refusal : Refusal) → file ≡ Some bytes → length bytes ≤ longest_source → ComesTo bytes (Err refusal) → s ≡ status.SourceRefused → IsWholeDue file script ticks s
-  accepted : (bytes : List ℕ) (source : Source) → file ≡ Some bytes → length bytes ≤ longest_source → ComesTo bytes (Ok source) → s ≡ whole_due source.program ticks script → IsWholeDue file script ticks s
+pub data IsWholeDue (file script : Option (List ℕ)) (manner : Manner) (s : Status) : Type 0 where
+  missing : file ≡ None → s ≡ status.Missing → IsWholeDue file script manner s
+  long : (bytes : List ℕ) → file ≡ Some bytes → longest_source < length bytes → s ≡ status.TooLarge → IsWholeDue file script manner s
+  refused : (bytes : List ℕ) (refusal : Refusal) → file ≡ Some bytes → length bytes ≤ longest_source → ComesTo bytes (Err refusal) → s ≡ status.SourceRefused → IsWholeDue file script manner s
+  accepted : (bytes : List ℕ) (source : Source) → file ≡ Some bytes → length bytes ≤ longest_source → ComesTo bytes (Ok source) → IsScriptDue source.program manner script s → IsWholeDue file script manner s
 
 -- what words and files give where nothing fails
 abbrev pub IsDueFor : Option Task → (List ℕ → Option (List ℕ)) → Status → Type 0
 IsDueFor None f s = s ≡ status.Usage
 IsDueFor (Some (Cut how name)) f s = IsCutDue (f name) s
-IsDueFor (Some (Whole source_name script_name ticks)) f s = IsWholeDue (f source_name) (f script_name) ticks s
+IsDueFor (Some (Whole source_name script_name manner)) f s = IsWholeDue (f source_name) (f script_name) manner s
 IsDueFor (Some (Run source_name script_name ticks)) f s = IsRunDue (f source_name) (f script_name) s
 
 -- the status is what words and files give, but a read or a write may fail, and memory may be wanting
@@ -283,5 +284,5 @@ CutCompletes words files s = (how : Cutting) (name : List ℕ) → command_of wo
 -- where a script is run on one memory, over files that are told, the status is what the two files give, or memory was wanting
 abbrev pub WholeCompletes : List (List ℕ) → Files → Status → Type 0
 WholeCompletes words files s =
-    (source_name script_name : List ℕ) (ticks : ℕ) → command_of words ≡ Some (Whole source_name script_name ticks)
-    → IfSome files (λ f. (s ≡ status.OutOfMemory) ⊎ IsWholeDue (f source_name) (f script_name) ticks s)
+    (source_name script_name : List ℕ) (manner : Manner) → command_of words ≡ Some (Whole source_name script_name manner)
+    → IfSome files (λ f. (s ≡ status.OutOfMemory) ⊎ IsWholeDue (f source_name) (f script_name) manner s)

@@ -63,7 +63,7 @@ CutCause cutting.Report before after = ⊥
 abbrev pub WroteCause : Option Task → (before after : ℕ) → Type 0
 WroteCause None before after = ⊥
 WroteCause (Some (Cut how name)) before after = CutCause how before after
-WroteCause (Some (Whole source_name script_name ticks)) before after = ⊥
+WroteCause (Some (Whole source_name script_name manner)) before after = ⊥
 WroteCause (Some (Run source_name script_name ticks)) before after = ⊥
 
 -- the output's count of faults rose, or where texts are written the shelf's of failed writes

@@ -14,6 +14,7 @@ use Rattle.mdr_top.specs.Lines.{usage_line}
 use Rattle.mdr_top.specs.declared.words.Cutting.{Cutting}
 use Rattle.mdr_top.specs.Words.{Cut, Whole, Run, command_of}
 use Rattle.mdr_top.specs.Cuts.{CutDone, CutPart}
+use Rattle.mdr_runner.specs.declared.manner.Manner.{Manner}
 use Rattle.mdr_runner.specs.Runs.{Runs, RunsPart}
 use Rattle.mdr_due.specs.Reads.{Files, IsRead, WasRead, UnreadBy, longest_source, longest_script}
 use Rattle.mdr_top.specs.Answers.{NoProgram, HasProgram, HasScript, NoScript, Ran, Adds}
@@ -43,7 +44,7 @@ module _ (words : List (List ℕ)) (files files' : Files) (shelf shelf' : List S
   pub data Done (s : Status) (text : List ℕ) : Type 0 where
     usage : command_of words ≡ None → shelf' ≡ shelf → far' ≡ far → s ≡ status.Usage → text ≡ usage_line → Done s text
     cut : (how : Cutting) (name : List ℕ) → command_of words ≡ Some (Cut how name) → CutDone how files files' name shelf shelf' s text → far' ≡ far → Done s text
-    whole : (source_name script_name : List ℕ) (ticks : ℕ) → command_of words ≡ Some (Whole source_name script_name ticks) → files' ≡ files → Runs files source_name script_name ticks shelf shelf' s text → far' ≡ far → Done s text
+    whole : (source_name script_name : List ℕ) (manner : Manner) → command_of words ≡ Some (Whole source_name script_name manner) → files' ≡ files → Runs files source_name script_name manner shelf shelf' s text → far' ≡ far → Done s text
     source_unread : (source_name script_name : List ℕ) (ticks : ℕ) → command_of words ≡ Some (Run source_name script_name ticks) → UnreadBy files source_name longest_source shelf shelf' s text → far' ≡ far → Done s text
     source_refused : (source_name script_name source : List ℕ) (ticks : ℕ) → command_of words ≡ Some (Run source_name script_name ticks) → IsRead files source_name longest_source shelf shelf' (reads.Ok source) → NoProgram source s text → far' ≡ far → Done s text
     script_unread : (source_name script_name source : List ℕ) (ticks : ℕ) (program : Program) (between : List ShelfCall) → command_of words ≡ Some (Run source_name script_name ticks) → IsRead files source_name longest_source shelf between (reads.Ok source) → HasProgram source program
@@ -57,7 +58,7 @@ module _ (words : List (List ℕ)) (files files' : Files) (shelf shelf' : List S
   pub data DonePart : Type 0 where
     nothing : shelf' ≡ shelf → far' ≡ far → DonePart
     cut_part : (how : Cutting) (name : List ℕ) → command_of words ≡ Some (Cut how name) → CutPart how files files' name shelf shelf' → far' ≡ far → DonePart
-    whole_part : (source_name script_name : List ℕ) (ticks : ℕ) → command_of words ≡ Some (Whole source_name script_name ticks) → files' ≡ files → RunsPart files source_name script_name shelf shelf' → far' ≡ far → DonePart
+    whole_part : (source_name script_name : List ℕ) (manner : Manner) → command_of words ≡ Some (Whole source_name script_name manner) → files' ≡ files → RunsPart files source_name script_name shelf shelf' → far' ≡ far → DonePart
     source_read : (source_name script_name : List ℕ) (ticks : ℕ) → command_of words ≡ Some (Run source_name script_name ticks) → WasRead files source_name longest_source shelf shelf' → far' ≡ far → DonePart
     script_read : (source_name script_name source : List ℕ) (ticks : ℕ) (program : Program) (between : List ShelfCall) → command_of words ≡ Some (Run source_name script_name ticks) → IsRead files source_name longest_source shelf between (reads.Ok source) → HasProgram source program
         → WasRead files script_name longest_script between shelf' → far' ≡ far → DonePart

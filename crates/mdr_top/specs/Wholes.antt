@@ -9,16 +9,17 @@ use Rattle.mdr_slicer.specs.Slicing.{HasSource}
 use Rattle.mdr_due.specs.declared.status.Status.{Status}
 use Rattle.mdr_due.specs.declared.status.Status.TheVariants as status
 use Rattle.mdr_due.specs.Reads.{Files, longest_source, longest_script}
+use Rattle.mdr_runner.specs.declared.manner.Manner.{Manner}
 use Rattle.mdr_runner.specs.Scripts.{HasScript}
 use Rattle.mdr_runner.specs.Runs.{IsRun}
 use Rattle.mdr_top.specs.Words.{Whole, command_of}
 use Rattle.mdr_top.specs.Answers.{Adds}
 
--- the words name a source and a script that are run on one memory, and a budget; both are read, and are a source and a script for its program
-pub record IsWhole (words : List (List ℕ)) (files : Files) (source : Source) (script : Bound) (ticks : ℕ) : Type 0 where
+-- the words name a source and a script that are run on one memory, and the manner; both are read, and are a source and a script for its program
+pub record IsWhole (words : List (List ℕ)) (files : Files) (source : Source) (script : Bound) (manner : Manner) : Type 0 where
   pub source_name : List ℕ
   pub script_name : List ℕ
-  pub command : command_of words ≡ Some (Whole source_name script_name ticks)
+  pub command : command_of words ≡ Some (Whole source_name script_name manner)
   pub bytes : List ℕ
   pub source_read : ReadsFrom files source_name longest_source (reads.Ok bytes)
   pub compiled : HasSource bytes source
@@ -30,17 +31,17 @@ pub record IsWhole (words : List (List ℕ)) (files : Files) (source : Source) (
 pub record WholeMeansBy (words : List (List ℕ)) (files : Files) (shelf shelf' : List ShelfCall) (old new : Option (List ℕ)) (s : Status) : Type 0 where
   pub source : Source
   pub script : Bound
-  pub ticks : ℕ
-  pub accepted : IsWhole words files source script ticks
+  pub manner : Manner
+  pub accepted : IsWhole words files source script manner
   pub read : shelf' ≡ and_then (and_then shelf (Read accepted.source_name longest_source (reads.Ok accepted.bytes))) (Read accepted.script_name longest_script (reads.Ok accepted.lines))
   pub text : List ℕ
   pub printed : Adds old new text
-  pub meaning : IsRun source.program script ticks s text
+  pub meaning : IsRun source.program script manner s text
 
 -- a run on one memory that ends by itself, or stops, is what its source and its script mean
 abbrev pub WholeMeans : List (List ℕ) → Files → (shelf shelf' : List ShelfCall) → (old new : Option (List ℕ)) → Status → Type 0
 WholeMeans words files shelf shelf' old new s =
-    (source_name script_name : List ℕ) (ticks : ℕ) → command_of words ≡ Some (Whole source_name script_name ticks) → (s ≡ status.Done) ⊎ (s ≡ status.Stopped)
+    (source_name script_name : List ℕ) (manner : Manner) → command_of words ≡ Some (Whole source_name script_name manner) → (s ≡ status.Done) ⊎ (s ≡ status.Stopped)
     → WholeMeansBy words files shelf shelf' old new s
 
 -- a status that a run on one memory ends with

@@ -83,8 +83,8 @@ pub(crate) fn answered<S: Shelf, F: Far>(
     if let Some((how, name)) = cut_of(words) {
         return cut(alloc, how, shelf, name);
     }
-    if let Some((source_name, script_name, ticks)) = whole_of(words) {
-        return run_whole(alloc, shelf, source_name, script_name, ticks);
+    if let Some((source_name, script_name, manner)) = whole_of(words) {
+        return run_whole(alloc, shelf, source_name, script_name, manner);
     }
     let Some((source_name, script_name, ticks)) = run_of(words) else {
         return Ok(Due {

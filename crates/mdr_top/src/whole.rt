@@ -8,22 +8,22 @@ ghost use Rattle.mdr_top.specs.Wholes.{IsOfWhole};
 use mdr_core::OutOfMemory;
 use mdr_due::Due;
 use mdr_outside::Shelf;
-use mdr_runner::whole;
+use mdr_runner::{Manner, whole};
 use std::alloc::Global;
 
-/// Runs a script over a source on one memory, both from the shelf, under a budget.
+/// Runs a script over a source on one memory, both from the shelf, in the manner that is asked for.
 pub(crate) fn run_whole<S: Shelf>(
     alloc: Global,
     shelf: &mut S,
     source_name: &str,
     script_name: &str,
-    ticks: u64,
+    manner: Manner,
 ) -> Result<Due, OutOfMemory>
-    ensures done { IfOk result (λ due. Runs (S.files shelf.old) source_name.now script_name.now ticks (S.calls shelf.old) (S.calls shelf.new) due.status due.text.items) }
+    ensures done { IfOk result (λ due. Runs (S.files shelf.old) source_name.now script_name.now manner (S.calls shelf.old) (S.calls shelf.new) due.status due.text.items) }
     ensures part { OnErr result (RunsPart (S.files shelf.old) source_name.now script_name.now (S.calls shelf.old) (S.calls shelf.new)) }
     ensures kept { S.files shelf.new ≡ S.files shelf.old }
     ensures read { IfOk result (λ due. HasReadCause (record { faults = S.faults shelf.old; absent = S.absent shelf.old; long = S.long shelf.old }) (record { faults = S.faults shelf.new; absent = S.absent shelf.new; long = S.long shelf.new }) due.status) }
     ensures own { IfOk result (λ due. IsOfWhole due.status) }
 {
-    whole(alloc, shelf, source_name, script_name, ticks)
+    whole(alloc, shelf, source_name, script_name, manner)
 }

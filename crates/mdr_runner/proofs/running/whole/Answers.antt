@@ -13,15 +13,15 @@ returns-in-Ok-Ends-clause-done g c = no_source (ended _ _ c.in-Ok-Ends.field-0 c
 
 pub returns-clause-done : goal.returns-clause-done
 returns-clause-done g c =
-    ok_so c.run_over.result (λ (due : Due). RunsOver (g.S.Shelf.files c.source_of.new.shelf) c.in-Ok-Goes.source.program c.args.script_name.now c.args.ticks (g.S.Shelf.calls c.source_of.new.shelf) (g.S.Shelf.calls c.run_over.new.shelf) due.status due.text.items)
-    (λ (due : Due). Runs (g.S.Shelf.files c.args.shelf.now) c.args.source_name.now c.args.script_name.now c.args.ticks (g.S.Shelf.calls c.args.shelf.now) (g.S.Shelf.calls c.run_over.new.shelf) due.status due.text.items)
-    (λ due runs. runs_so (g.S.Shelf.files c.args.shelf.now) (g.S.Shelf.files c.source_of.new.shelf) c.args.source_name.now c.args.script_name.now c.args.ticks (g.S.Shelf.calls c.args.shelf.now) (g.S.Shelf.calls c.source_of.new.shelf) (g.S.Shelf.calls c.run_over.new.shelf) c.in-Ok-Goes.source c.source_of.ensures.kept (gone _ _ c.in-Ok-Goes.field-0 c.in-Ok-Goes.source c.in-Ok-Goes.field-0-is c.in-Ok-Goes.ensures.read) due.status due.text.items runs) c.run_over.ensures.done
+    ok_so c.run_over.result (λ (due : Due). RunsOver (g.S.Shelf.files c.source_of.new.shelf) c.in-Ok-Goes.source.program c.args.script_name.now c.args.manner (g.S.Shelf.calls c.source_of.new.shelf) (g.S.Shelf.calls c.run_over.new.shelf) due.status due.text.items)
+    (λ (due : Due). Runs (g.S.Shelf.files c.args.shelf.now) c.args.source_name.now c.args.script_name.now c.args.manner (g.S.Shelf.calls c.args.shelf.now) (g.S.Shelf.calls c.run_over.new.shelf) due.status due.text.items)
+    (λ due runs. runs_so (g.S.Shelf.files c.args.shelf.now) (g.S.Shelf.files c.source_of.new.shelf) c.args.source_name.now c.args.script_name.now c.args.manner (g.S.Shelf.calls c.args.shelf.now) (g.S.Shelf.calls c.source_of.new.shelf) (g.S.Shelf.calls c.run_over.new.shelf) c.in-Ok-Goes.source c.source_of.ensures.kept (gone _ _ c.in-Ok-Goes.field-0 c.in-Ok-Goes.source c.in-Ok-Goes.field-0-is c.in-Ok-Goes.ensures.read) due.status due.text.items runs) c.run_over.ensures.done
 
 pub returns-clause-part : goal.returns-clause-part
 returns-clause-part g c =
     err_weaker c.run_over.result (WasRead (g.S.Shelf.files c.source_of.new.shelf) c.args.script_name.now longest_script (g.S.Shelf.calls c.source_of.new.shelf) (g.S.Shelf.calls c.run_over.new.shelf))
     (RunsPart (g.S.Shelf.files c.args.shelf.now) c.args.source_name.now c.args.script_name.now (g.S.Shelf.calls c.args.shelf.now) (g.S.Shelf.calls c.run_over.new.shelf))
-    (λ was. runs_part (g.S.Shelf.files c.args.shelf.now) (g.S.Shelf.files c.source_of.new.shelf) c.args.source_name.now c.args.script_name.now c.args.ticks (g.S.Shelf.calls c.args.shelf.now) (g.S.Shelf.calls c.source_of.new.shelf) (g.S.Shelf.calls c.run_over.new.shelf) c.in-Ok-Goes.source c.source_of.ensures.kept (gone _ _ c.in-Ok-Goes.field-0 c.in-Ok-Goes.source c.in-Ok-Goes.field-0-is c.in-Ok-Goes.ensures.read) was) c.run_over.ensures.part
+    (λ was. runs_part (g.S.Shelf.files c.args.shelf.now) (g.S.Shelf.files c.source_of.new.shelf) c.args.source_name.now c.args.script_name.now c.args.manner (g.S.Shelf.calls c.args.shelf.now) (g.S.Shelf.calls c.source_of.new.shelf) (g.S.Shelf.calls c.run_over.new.shelf) c.in-Ok-Goes.source c.source_of.ensures.kept (gone _ _ c.in-Ok-Goes.field-0 c.in-Ok-Goes.source c.in-Ok-Goes.field-0-is c.in-Ok-Goes.ensures.read) was) c.run_over.ensures.part
 
 pub returns-clause-read : goal.returns-clause-read
 returns-clause-read g c =

@@ -22,11 +22,11 @@ returns-in-Some-clause-part g c =
 
 pub returns-in-Some-whole_of-clause-done : goal.returns-in-Some-whole_of-clause-done
 returns-in-Some-whole_of-clause-done g c =
-    ok_so c.run_whole.result (λ (due : Due). Runs (g.S.Shelf.files c.args.shelf.now) c.in-Some-whole_of.source_name.now c.in-Some-whole_of.script_name.now c.in-Some-whole_of.ticks (g.S.Shelf.calls c.args.shelf.now) (g.S.Shelf.calls c.run_whole.new.shelf) due.status due.text.items)
+    ok_so c.run_whole.result (λ (due : Due). Runs (g.S.Shelf.files c.args.shelf.now) c.in-Some-whole_of.source_name.now c.in-Some-whole_of.script_name.now c.in-Some-whole_of.manner (g.S.Shelf.calls c.args.shelf.now) (g.S.Shelf.calls c.run_whole.new.shelf) due.status due.text.items)
     (λ (due : Due). Done (map string_bytes c.args.words.now) (g.S.Shelf.files c.args.shelf.now) (g.S.Shelf.files c.run_whole.new.shelf) (g.S.Shelf.calls c.args.shelf.now) (g.S.Shelf.calls c.run_whole.new.shelf) (g.F.Far.calls c.args.far.now) (g.F.Far.calls c.args.far.now) (g.F.Far.loaded c.args.far.now) (g.F.Far.exchanges c.args.far.now) due.status due.text.items)
-    (λ due d. Done.whole c.in-Some-whole_of.source_name.now c.in-Some-whole_of.script_name.now c.in-Some-whole_of.ticks (whole_command (map string_bytes c.args.words.now) c.in-Some-whole_of.source_name.now c.in-Some-whole_of.script_name.now c.in-Some-whole_of.ticks (search rules) c.in-Some-whole_of.ensures) c.run_whole.ensures.kept d refl) c.run_whole.ensures.done
+    (λ due d. Done.whole c.in-Some-whole_of.source_name.now c.in-Some-whole_of.script_name.now c.in-Some-whole_of.manner (whole_command (map string_bytes c.args.words.now) c.in-Some-whole_of.source_name.now c.in-Some-whole_of.script_name.now c.in-Some-whole_of.manner (search rules) c.in-Some-whole_of.ensures) c.run_whole.ensures.kept d refl) c.run_whole.ensures.done
 
 pub returns-in-Some-whole_of-clause-part : goal.returns-in-Some-whole_of-clause-part
 returns-in-Some-whole_of-clause-part g c =
     err_weaker c.run_whole.result (RunsPart (g.S.Shelf.files c.args.shelf.now) c.in-Some-whole_of.source_name.now c.in-Some-whole_of.script_name.now (g.S.Shelf.calls c.args.shelf.now) (g.S.Shelf.calls c.run_whole.new.shelf)) (DonePart (map string_bytes c.args.words.now) (g.S.Shelf.files c.args.shelf.now) (g.S.Shelf.files c.run_whole.new.shelf) (g.S.Shelf.calls c.args.shelf.now) (g.S.Shelf.calls c.run_whole.new.shelf) (g.F.Far.calls c.args.far.now) (g.F.Far.calls c.args.far.now) (g.F.Far.loaded c.args.far.now) (g.F.Far.exchanges c.args.far.now))
-    (λ d. DonePart.whole_part c.in-Some-whole_of.source_name.now c.in-Some-whole_of.script_name.now c.in-Some-whole_of.ticks (whole_command (map string_bytes c.args.words.now) c.in-Some-whole_of.source_name.now c.in-Some-whole_of.script_name.now c.in-Some-whole_of.ticks (search rules) c.in-Some-whole_of.ensures) c.run_whole.ensures.kept d refl) c.run_whole.ensures.part
+    (λ d. DonePart.whole_part c.in-Some-whole_of.source_name.now c.in-Some-whole_of.script_name.now c.in-Some-whole_of.manner (whole_command (map string_bytes c.args.words.now) c.in-Some-whole_of.source_name.now c.in-Some-whole_of.script_name.now c.in-Some-whole_of.manner (search rules) c.in-Some-whole_of.ensures) c.run_whole.ensures.kept d refl) c.run_whole.ensures.part

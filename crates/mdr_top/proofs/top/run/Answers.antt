@@ -30,7 +30,7 @@ returns-clause-cut_complete g c = λ reads shelf writes.
     cut_completes (map string_bytes c.args.words.now.items) _ _ _ _ _ _ _ _ (prints_exactly (map string_bytes c.args.words.now.items) _ _ _ _ _ _ (prints_so (map string_bytes c.args.words.now.items) _ _ _ _ _ _ _ _ _ _ _ c.printed.ensures.does)) c.printed.ensures.read_cause c.printed.ensures.write_cause reads shelf writes
 
 pub returns-clause-whole_meaning : goal.returns-clause-whole_meaning
-returns-clause-whole_meaning g c = λ source_name script_name ticks named is. does_run _ _ _ _ _ _ _ _ _ _ _ _ source_name script_name ticks named c.printed.ensures.does is
+returns-clause-whole_meaning g c = λ source_name script_name manner named is. does_run _ _ _ _ _ _ _ _ _ _ _ _ source_name script_name manner named c.printed.ensures.does is
 
 pub returns-clause-whole_complete : goal.returns-clause-whole_complete
 returns-clause-whole_complete g c = λ reads writes.

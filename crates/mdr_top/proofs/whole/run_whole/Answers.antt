@@ -7,5 +7,5 @@ use Rattle.mdr_top.proofs.whole.run_whole.Goals as goal
 
 pub returns-clause-own : goal.returns-clause-own
 returns-clause-own g c =
-    ok_so c.whole.result (λ (due : Due). Runs (g.S.Shelf.files c.args.shelf.now) c.args.source_name.now c.args.script_name.now c.args.ticks (g.S.Shelf.calls c.args.shelf.now) (g.S.Shelf.calls c.whole.new.shelf) due.status due.text.items) (λ (due : Due). IsOfWhole due.status)
-    (λ due runs. whole_status (g.S.Shelf.files c.args.shelf.now) c.args.source_name.now c.args.script_name.now c.args.ticks (g.S.Shelf.calls c.args.shelf.now) (g.S.Shelf.calls c.whole.new.shelf) due.status due.text.items runs) c.whole.ensures.done
+    ok_so c.whole.result (λ (due : Due). Runs (g.S.Shelf.files c.args.shelf.now) c.args.source_name.now c.args.script_name.now c.args.manner (g.S.Shelf.calls c.args.shelf.now) (g.S.Shelf.calls c.whole.new.shelf) due.status due.text.items) (λ (due : Due). IsOfWhole due.status)
+    (λ due runs. whole_status (g.S.Shelf.files c.args.shelf.now) c.args.source_name.now c.args.script_name.now c.args.manner (g.S.Shelf.calls c.args.shelf.now) (g.S.Shelf.calls c.whole.new.shelf) due.status due.text.items runs) c.whole.ensures.done
