@@ -1,5 +1,5 @@
 -- The same functions are known at the end of a half's text, so the functions there have the same headings.
-use Rattle.std.proofs.Common.{◌≡◌, true, List, [], ◌∷◌, map, Result, Ok, Some, refl, sym, ap, ◌∙◌, subst}
+use Rattle.std.proofs.Common.{◌≡◌, true, List, [], ◌∷◌, map, Result, Ok, refl, sym, ap, ◌∙◌, subst}
 use Rattle.mdr_core.specs.declared.plan.Half.{Half}
 use Rattle.mdr_core.specs.declared.plan.Half.TheVariants.{User}
 use Rattle.mdr_core.specs.declared.plan.Plan.{Plan}
@@ -44,10 +44,8 @@ use Rattle.mdr_sound_files.specs.Counting.{AreDeclaredAs}
 use Rattle.mdr_sound_files.proofs.Along.{counted_all}
 use Rattle.mdr_sound_files.proofs.Filed.{pieces_right}
 use Rattle.mdr_texts.proofs.HalvesAgain.{half_again}
-use Rattle.mdr_half_whole.specs.Whole.{IsReadOf, IsWhole}
 use Rattle.mdr_half_whole.proofs.Sourced.{sources_have}
 use Rattle.mdr_half_annotations.specs.Headings.{FunctionsKeepTheirHeadings, HasSameHeading, HaveSameHeadings, TheUserTextKeepsTheHeadings, unnamed}
-use Rattle.mdr_half_annotations.proofs.Agreeing.{IsHeaded}
 use Rattle.mdr_half_annotations.proofs.Headed.{HasFirstHeading, HaveFirstHeadings, functions_of, headed_all}
 
 -- ---- functions with the headings of the same first declarations
