@@ -22,7 +22,7 @@ use Rattle.mdr_services.specs.Serving.{served_as}
 use Rattle.mdr_exec.specs.Holding.{wires_of}
 use Rattle.mdr_viewed.specs.Laws.{asks, goes_down, returns}
 use Rattle.mdr_viewed.specs.Viewed.{HasUpcall, IsOlder, IsOrdered, IsViewed, after_beside, viewed}
-use Rattle.mdr_viewed.proofs.Code.{kernel_code_is_viewed}
+use Rattle.mdr_viewed.proofs.KernelCode.{kernel_code_is_viewed}
 use Rattle.mdr_viewed.proofs.Steps.{IsBeside, served_beside}
 use Rattle.mdr_viewed.proofs.Upcalls.{upcalls_are_viewed}
 use Rattle.mdr_watched.specs.Driver.{Driver, result_roots, touched_by}

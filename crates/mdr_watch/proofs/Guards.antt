@@ -1,5 +1,5 @@
 -- Accesses that are held to a set.
-use Rattle.std.proofs.Common.{◌≡◌, ℕ, ◌+◌, Bool, true, false, not, ◌&&◌, List, [], ◌∷◌, Result, Ok, Err, refl, sym, ◌∙◌, ap, subst}
+use Rattle.std.proofs.Common.{◌≡◌, ℕ, zero, suc, ◌+◌, ◌-◌, ◌<◌, ◌≤◌, arith, Bool, true, false, not, ◌&&◌, List, [], ◌∷◌, Result, Ok, Err, refl, sym, ◌∙◌, ap, subst}
 use Rattle.std.specs.Prelude.{OnErr}
 use Rattle.std.specs.List.{list_all}
 use Rattle.mdr_core.specs.declared.program.Program.{Program}
@@ -11,6 +11,7 @@ use Rattle.mdr_meaning.specs.declared.wire.Wire.{Wire}
 use Rattle.mdr_meaning.specs.declared.wire.Wire.TheVariants as wire
 use Rattle.mdr_model.specs.declared.memory.Cell.{Cell}
 use Rattle.mdr_model.specs.Memory.{Memory, everywhere, loaded, loaded_from, reached, reached_by, stored, stored_into}
+use Rattle.mdr_model.specs.Sets.{cells_from}
 use Rattle.mdr_paths.specs.Paths.{is_in}
 use Rattle.mdr_plain.specs.Running.{all_cells}
 use Rattle.mdr_plain.specs.Storage.{accesses, bytes_from, cells_read, deaths, read, remembers, with_memory}
@@ -19,8 +20,10 @@ use Rattle.mdr_viewed.specs.Viewed.{in_set, viewed, viewed_if}
 use Rattle.mdr_viewed.specs.Laws.{AgreeOn}
 use Rattle.mdr_viewed.proofs.Steps.{IsBeside, accesses_are_viewed, beside_kept, deaths_viewed}
 use Rattle.mdr_watched.proofs.KeepLaws.{deaths_keep}
-use Rattle.mdr_watched.specs.Views.{may_touch}
-use Rattle.mdr_world.specs.Driven.{Driven, Ticks, driven_accesses, driver, driver_if}
+use Rattle.mdr_viewed.proofs.Sets.{sets_are_viewed}
+use Rattle.mdr_watched.specs.Order.{AreLive}
+use Rattle.mdr_watched.specs.Views.{may_touch, opened}
+use Rattle.mdr_world.specs.Driven.{Driven, Ticks, driven_accesses, driver, driver_if, open_views}
 use Rattle.mdr_watch.specs.Guarding.{IsGuarded, are_kept_out, guarded_accesses, is_kept_out}
 
 -- ---- which cell is reached
@@ -164,3 +167,42 @@ tick_goes set false d d' t = (t.0, ap (λ (x : Driven). driver x.program (viewed
 pub tick_guarded : (set : List Cell) (t : Bool) (d d' : Driven) → Ticks t d d' → IsGuarded set d.world → IsGuarded set d'.world
 tick_guarded set true d d' t g = subst (λ (x : Driven). IsGuarded set x.world) (sym t.2) (record { upcall = g.upcall; older = g.older })
 tick_guarded set false d d' t g = subst (λ (x : Driven). IsGuarded set x.world) (sym t.1) g
+
+-- an upcall opens with a set
+pub open_goes : (program : Program) (set : List Cell) (w : World) → w.views ≡ [] → AreLive w.memory set → (d' : Driven) → d' ≡ driver program (record w { views = open_views true }) → driver d'.program (viewed set d'.world) ≡ driver program (opened set w)
+open_goes program set w none live d' e = ap (λ (d : Driven). driver d.program (viewed set d.world)) e ∙ ap (driver program) (sym (sets_are_viewed.opens set w none live))
+
+-- ---- neighbours that are in the set
+
+-- those that are left decide
+pub record AllLeft (set : List Cell) (serial first count i : ℕ) : Type 0 where
+  pub few : i ≤ count
+  pub rest : list_all (is_in cells set) (cells_from serial (first + i) (count - i)) ≡ list_all (is_in cells set) (cells_from serial first count)
+
+module _ (set : List Cell) (serial first : ℕ) where
+  pub all_begin : (count : ℕ) → AllLeft set serial first count 0
+  all_begin count = record { few = omega arith; rest = refl }
+
+  -- the first of those that are left, and the others
+  one_more : (count i : ℕ) → i < count → list_all (is_in cells set) (cells_from serial (first + i) (count - i)) ≡ (is_in cells set (record { serial = serial; index = first + i }) && list_all (is_in cells set) (cells_from serial (first + (i + 1)) (count - (i + 1))))
+  unfolding cells_from
+  one_more count i less =
+      let n : count - i ≡ suc (count - (i + 1)) = omega (arith, less) in
+      let k : suc (first + i) ≡ first + (i + 1) = omega arith in
+      ap (λ x. list_all (is_in cells set) (cells_from serial (first + i) x)) n
+      ∙ ap (λ x. is_in cells set (record { serial = serial; index = first + i }) && list_all (is_in cells set) (cells_from serial x (count - (i + 1)))) k
+
+  pub all_more : (count i : ℕ) → i < count → is_in cells set (record { serial = serial; index = first + i }) ≡ true → AllLeft set serial first count i → AllLeft set serial first count (i + 1)
+  all_more count i less here left = record {
+    few = omega (arith, less);
+    rest = sym (one_more count i less ∙ ap (λ b. b && list_all (is_in cells set) (cells_from serial (first + (i + 1)) (count - (i + 1)))) here) ∙ left.rest;
+  }
+
+  pub all_out : (count i : ℕ) → i < count → is_in cells set (record { serial = serial; index = first + i }) ≡ false → AllLeft set serial first count i → false ≡ list_all (is_in cells set) (cells_from serial first count)
+  all_out count i less here left = sym (one_more count i less ∙ ap (λ b. b && list_all (is_in cells set) (cells_from serial (first + (i + 1)) (count - (i + 1)))) here) ∙ left.rest
+
+  pub all_end : (count i : ℕ) → count ≤ i → AllLeft set serial first count i → true ≡ list_all (is_in cells set) (cells_from serial first count)
+  unfolding cells_from
+  all_end count i past left =
+      let n : count - i ≡ 0 = omega (arith, past) in
+      sym (ap (λ x. list_all (is_in cells set) (cells_from serial (first + i) x)) n) ∙ left.rest

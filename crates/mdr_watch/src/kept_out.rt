@@ -1,6 +1,6 @@
 // Accesses that stop for the set.
 
-ghost use Rattle.std.specs.Prelude.{◌≡◌, ◌≤◌, nat_le};
+ghost use Rattle.std.specs.Prelude.{◌≡◌, ◌+◌, ◌≤◌, nat_le};
 ghost use Rattle.std.specs.List.{list_all};
 ghost use Rattle.mdr_extents.specs.CellOrder.{cells};
 ghost use Rattle.mdr_meaning.specs.Values.{wire_of, wire_view};

@@ -1,17 +1,26 @@
 -- Idle ticks and the commands of a script.
-use Rattle.std.proofs.Common.{◌≡◌, ℕ, ◌+◌, ◌-◌, ◌<◌, ◌≤◌, Option, sym, ◌∙◌, ap}
+use Rattle.std.proofs.Common.{◌≡◌, ℕ, ◌+◌, ◌-◌, ◌<◌, ◌≤◌, List, [], Option, sym, ◌∙◌, ap}
 use Rattle.mdr_core.specs.declared.place.At.{At}
 use Rattle.mdr_core.specs.declared.program.Program.{Program}
 use Rattle.mdr_core.specs.declared.stop.StopKind.{StopKind}
+use Rattle.mdr_exec.specs.declared.frame.Side.TheVariants as which
+use Rattle.mdr_exec.specs.Halves.{side_in}
+use Rattle.mdr_meaning.specs.Bodies.{known_of, whole_side}
+use Rattle.mdr_model.specs.declared.command.Command.{Command}
+use Rattle.mdr_model.specs.declared.outcome.End.{End}
+use Rattle.mdr_plain.specs.declared.outcome.Outcome.{Outcome}
+use Rattle.mdr_plain.specs.Outcome.{outcome_of}
+use Rattle.mdr_plain.specs.Plain.{does, plain, plain_of, whole}
 use Rattle.mdr_plain.specs.Running.{KernelCode, interrupts}
-use Rattle.mdr_plain.specs.Scripts.{idle}
+use Rattle.mdr_plain.specs.Scripts.{commands, finish, first_world, idle}
+use Rattle.mdr_script.specs.declared.bound.Bound.{Bound}
 use Rattle.mdr_plain.specs.World.{Stopped, Work, done}
 use Rattle.mdr_runs.specs.Scripts.{idle_tick}
 use Rattle.mdr_runs.proofs.Commands.{idle_begins, idle_ends, idle_passes, idle_stops}
-use Rattle.mdr_world.specs.Driven.{Driven}
+use Rattle.mdr_world.specs.Driven.{Driven, driver}
 use Rattle.mdr_whole.specs.declared.ending.Worked.{Worked}
 use Rattle.mdr_whole.specs.declared.ending.Worked.TheVariants as worked
-use Rattle.mdr_whole.specs.Ending.{worked_as}
+use Rattle.mdr_whole.specs.Ending.{end_of, finished, worked_as}
 
 -- the ticks that are left do what all of them do
 pub record Idles (code : KernelCode) (program : Program) (all : ℕ) (d0 : Driven) (i : ℕ) (d : Driven) : Type 0 where
@@ -35,3 +44,15 @@ module _ (code : KernelCode) (program : Program) (all : ℕ) (d0 : Driven) where
 
   pub idles_end : (i : ℕ) (d : Driven) → all ≤ i → Idles code program all d0 i d → done d.world ≡ idle (interrupts code) all d0.world
   idles_end i d past s = sym (idle_ends (interrupts code) all i d.world past) ∙ s.rest
+
+-- the commands were done from the first state on, with the code of all functions
+pub ran_whole : (program : Program) (script : Bound) (ticks : ℕ) (d d' : Driven) (cs : List Command) (e : Worked) (end : End) (o : Outcome)
+    → d ≡ driver program (first_world (known_of program) script ticks) → cs ≡ script.commands → d'.program ≡ program
+    → finished e d'.world ≡ commands (does (whole program (side_in which.Whole [] program))) cs d.world
+    → end ≡ end_of e → o ≡ outcome_of d'.program (finish end d'.world) → o ≡ outcome_of program (plain program script ticks)
+unfolding plain_of whole_side
+ran_whole program script ticks d d' cs e end o first are kept ran ends shown =
+    shown
+    ∙ ap (λ p. outcome_of p (finish end d'.world)) kept
+    ∙ ap (λ x. outcome_of program (finish x d'.world)) ends
+    ∙ ap (outcome_of program) (ran ∙ ap (λ x. commands (does (whole program (side_in which.Whole [] program))) x d.world) are ∙ ap (λ (x : Driven). commands (does (whole program (side_in which.Whole [] program))) script.commands x.world) first)

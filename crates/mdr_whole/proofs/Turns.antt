@@ -103,11 +103,11 @@ same_left true d d' h t = absurd (cc h)
 
 -- it was counted, and the machine went on
 pub ticked_on : (program : Program) (side : Side) (at : At) (m m' : Machine) (d d1 d' : Driven) (e : Event) (t : Bool) → t ≡ true → Ticks t d d1 → Passed program side m d1 m' e d' → Follows program side at m d m' (next.Came e) d'
-ticked_on program at m m' d d1 d' e t h ticks p = λ before gives fuel all x. p before gives fuel all at d.world x (tick_counted t d d1 h ticks)
+ticked_on program side at m m' d d1 d' e t h ticks p = λ before gives fuel all x. p before gives fuel all at d.world x (tick_counted t d d1 h ticks)
 
 -- none was left
 pub ticked_out : (program : Program) (side : Side) (at : At) (m m' : Machine) (d d1 : Driven) (t : Bool) → d.program ≡ program → t ≡ false → Ticks t d d1 → Follows program side at m d m' (next.Gave (gave.Stopped stop.Ticks (Some at))) d1
-ticked_out program at m m' d d1 t same h ticks = λ before gives fuel all x. (
+ticked_out program side at m m' d d1 t same h ticks = λ before gives fuel all x. (
   ap (λ w. Stopped stop.Ticks (Some at) w) (same_left t d d1 h ticks) ∙ budgets_end program side before fuel all (held_of program m) at x.earlier d.world x.wanted x.tried (none_left t d d1 h ticks),
   tick_keeps t d d1 ticks ∙ same,
 )
@@ -159,7 +159,7 @@ fits_question (front.Born i p) results h = tt
 pub resumed : (program : Program) (side : Side) (results : List Wire) (m m1 m' : Machine) (d d' : Driven) (e : Event)
     → ((f r : ℕ) → tree side f (held_of program m1) r ≡ child (tree side f (held_of program m) r) results)
     → Began program side m1 d m' e d' → GoesOnWith program side results m d m' e d'
-resumed program results m m1 m' d d' e answer b = λ before gives fuel all g.
+resumed program side results m m1 m' d d' e answer b = λ before gives fuel all g.
     let a = services_are_answered program side before (held_of program m) (held_of program m1) g.asked g.earlier d.world results fuel all g.waiting g.gave answer in
     subst (λ x. StandsAt program side before fuel x m' e d') a.is (b before gives fuel a.enough)
 
@@ -240,16 +240,15 @@ module _ (tries : Bool) (program : Program) (side : Side) (m0 : Machine) (d0 : D
 pub call_is_run : (tries : Bool) (program : Program) (side : Side) (func : ℕ) (args : List Wire) (depth : ℕ) (m : Machine) (g : Gave) (d d' : Driven) → IsStarted program side func args depth m
     → gave_as g d'.world ≡ machine_does program side (tried_by tries program side) d.world.clock.rest m d.world
     → gave_as g d'.world ≡ call (whole program side) (tried_by tries program side) func args depth d.world
-call_is_run tries program func args depth m g d d' s is =
+call_is_run tries program side func args depth m g d d' s is =
     is ∙ calls_are_started program side (tried_by tries program side) (tries_give_none tries program side) func args depth (held_of program m) d.world s.by
 
 pub is_started : (program : Program) (side : Side) (func : ℕ) (args : List Wire) (depth : ℕ) (m0 m : Machine)
     → ((f r : ℕ) → tree side f (held_of program m0) r ≡ Tree.Idle)
     → side.own func ≡ body_of program func → ((side : Side) → side.own func ≡ body_of program func → (f r : ℕ) → r ≤ f → tree side f (held_of program m) r ≡ cut r (started side (f + 1) func args depth (tree side f (held_of program m0) r)))
     → IsStarted program side func args depth m
-unfolding whole_side
-is_started program func args depth m0 m none is = record {
-  by = λ f r less. is side refl f r less ∙ ap (λ t. cut r (started side (f + 1) func args depth t)) (none f r);
+is_started program side func args depth m0 m none own is = record {
+  by = λ f r less. is side own f r less ∙ ap (λ t. cut r (started side (f + 1) func args depth t)) (none f r);
 }
 
 pub its_body : (program : Program) (func : ℕ) (f : Func) (body : List Stmt) → slice_get program.funcs func ≡ Some f → f.body ≡ Some body → (x : Body) × (body_of program func ≡ Some x)
