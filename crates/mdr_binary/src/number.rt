@@ -9,13 +9,40 @@ ghost use Rattle.mdr_binary.specs.Binaries.{bin_at, with_common, arithmetic, shi
 use mdr_arith::{common, promote};
 use mdr_core::{BinOp, Boxed, Expr, Kind, Place, RelOp};
 use mdr_faults::{Fault, both};
-use mdr_operand::{Integer, Operand, at_kind, integer_at, number, truth};
+use mdr_operand::{Integer, Operand, at_kind, integer_at, number, out_of_memory, truth};
 use std::alloc::{AllocError, Global};
 
 fn boxed_at(alloc: Global, kind: Kind, n: Integer) -> Result<Boxed<Expr>, AllocError>
     ensures { IfOk result (λ e. e ≡ at_kind kind n) }
 {
     Boxed::new(alloc, at_kind(alloc, kind, n)?)
+}
+
+fn boxed_beside(
+    alloc: Global,
+    a: Boxed<Expr>,
+    kind: Kind,
+    n: Integer,
+) -> Result<(Boxed<Expr>, Boxed<Expr>), AllocError>
+    ensures { IfOk result (λ p. p ≡ (a, at_kind kind n)) }
+{
+    Ok((a, boxed_at(alloc, kind, n)?))
+}
+
+/// The operands at their kinds, each in a box.
+fn both_at(
+    alloc: Global,
+    left: Kind,
+    right: Kind,
+    m: Integer,
+    n: Integer,
+) -> Result<(Boxed<Expr>, Boxed<Expr>), AllocError>
+    ensures { IfOk result (λ p. p ≡ (at_kind left m, at_kind right n)) }
+{
+    match boxed_at(alloc, left, m) {
+        Ok(a) => boxed_beside(alloc, a, right, n),
+        Err(error) => out_of_memory(error, n),
+    }
 }
 
 /// The operands at their kinds.
@@ -29,8 +56,7 @@ fn bin_at(
 ) -> Result<Operand, AllocError>
     ensures { IfOk result (λ x. x ≡ bin_at op left right m n) }
 {
-    let a = boxed_at(alloc, left, m)?;
-    let b = boxed_at(alloc, right, n)?;
+    let (a, b) = both_at(alloc, left, right, m, n)?;
     Ok(number(Expr::Bin(op, left, a, b), left))
 }
 
@@ -116,8 +142,7 @@ fn compared_at(
 ) -> Result<Operand, AllocError>
     ensures { IfOk result (λ x. x ≡ compared_at op kind m n) }
 {
-    let a = boxed_at(alloc, kind, m)?;
-    let b = boxed_at(alloc, kind, n)?;
+    let (a, b) = both_at(alloc, kind, kind, m, n)?;
     Ok(truth(Expr::Rel(op, a, b)))
 }
 

@@ -13,7 +13,8 @@ ghost use Rattle.mdr_faults.specs.declared.fault.FaultKind.TheVariants.{Mismatch
 ghost use Rattle.mdr_faults.specs.Faults.{Checked, told, both, refuse};
 ghost use Rattle.mdr_binary.specs.Binaries.{moved, moved_pointer, moved_by, distance, have_distance, distance_at, difference, sum, less, pointers_calculated};
 
-use mdr_core::{BinOp, Boxed, Expr, Kind, Place, Ty};
+use crate::value::both_boxed;
+use mdr_core::{BinOp, Expr, Kind, Place, Ty};
 use mdr_faults::{Fault, Scope, both, is_alike, mismatch};
 use mdr_operand::{
     Integer, Operand, Pointer, Scalar, integer_at, is_complete, is_number, number, pointer_at,
@@ -30,8 +31,7 @@ pub fn given_up<A: Drop, B: Drop, C: Drop>(place: Place, _x: A, _y: B) -> Result
 fn moved_value(alloc: Global, back: bool, e: Expr, steps: Expr) -> Result<Expr, AllocError>
     ensures { IfOk result (λ r. r ≡ expr.Move back e steps) }
 {
-    let e = Boxed::new(alloc, e)?;
-    let steps = Boxed::new(alloc, steps)?;
+    let (e, steps) = both_boxed(alloc, e, steps)?;
     Ok(Expr::Move(back, e, steps))
 }
 
@@ -105,8 +105,7 @@ fn moved_by(
 fn distance_of(alloc: Global, e: Expr, f: Expr) -> Result<Operand, AllocError>
     ensures { IfOk result (λ x. x ≡ number (expr.Diff e f) S64) }
 {
-    let e = Boxed::new(alloc, e)?;
-    let f = Boxed::new(alloc, f)?;
+    let (e, f) = both_boxed(alloc, e, f)?;
     Ok(number(Expr::Diff(e, f), Kind::S64))
 }
 

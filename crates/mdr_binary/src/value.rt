@@ -1,6 +1,6 @@
 // Pointers of whatever types, compared (C99 6.5.8, 6.5.9), and `&&` and `||` (6.5.13, 6.5.14).
 
-ghost use Rattle.std.specs.Prelude.{◌≡◌, IfOk, Ok};
+ghost use Rattle.std.specs.Prelude.{◌≡◌, IfOk, None, Ok};
 ghost use Rattle.mdr_core.specs.declared.code.Expr.{Expr};
 ghost use Rattle.mdr_core.specs.declared.code.Expr.TheVariants as expr;
 ghost use Rattle.mdr_operand.specs.declared.operand.Scalar.{Scalar};
@@ -10,22 +10,49 @@ ghost use Rattle.mdr_binary.specs.Binaries.{compared, address_by, address_at, nu
 
 use mdr_core::{Boxed, Expr, Place, RelOp, Value};
 use mdr_faults::{Fault, are_alike, both, is_alike};
-use mdr_operand::{Operand, Scalar, expression_of, is_null, needed, scalar_at, truth};
+use mdr_operand::{
+    Operand, Scalar, expression_of, is_null, needed, out_of_memory, scalar_at, truth,
+};
 use std::alloc::{AllocError, Global};
+
+fn boxed_beside(
+    alloc: Global,
+    e: Boxed<Expr>,
+    f: Expr,
+) -> Result<(Boxed<Expr>, Boxed<Expr>), AllocError>
+    ensures { IfOk result (λ p. p ≡ (e, f)) }
+{
+    Ok((e, Boxed::new(alloc, f)?))
+}
+
+/// Two expressions, each in a box.
+pub fn both_boxed(alloc: Global, e: Expr, f: Expr) -> Result<(Boxed<Expr>, Boxed<Expr>), AllocError>
+    ensures { IfOk result (λ p. p ≡ (e, f)) }
+{
+    match Boxed::new(alloc, e) {
+        Ok(e) => boxed_beside(alloc, e, f),
+        Err(error) => out_of_memory(error, f),
+    }
+}
 
 pub fn compared(alloc: Global, op: RelOp, e: Expr, f: Expr) -> Result<Operand, AllocError>
     ensures { IfOk result (λ x. x ≡ compared op e f) }
 {
-    let e = Boxed::new(alloc, e)?;
-    let f = Boxed::new(alloc, f)?;
+    let (e, f) = both_boxed(alloc, e, f)?;
     Ok(truth(Expr::Rel(op, e, f)))
+}
+
+fn no_address<A: Drop>(_x: A) -> Option<Expr>
+    ensures { result ≡ None }
+{
+    None
 }
 
 fn address_by(v: Scalar) -> Option<Expr>
     ensures { result ≡ address_by v }
 {
     match v {
-        Scalar::Number(_, _) => None,
+        Scalar::Number(e, _) => no_address(e),
         Scalar::Pointer(e, _) => Some(e),
         Scalar::Opaque(e) => Some(e),
         Scalar::Handle(e, _) => Some(e),
@@ -181,8 +208,7 @@ pub fn voids_compared(alloc: Global, op: RelOp, v: Scalar, w: Scalar) -> Result<
 fn both_hold(alloc: Global, e: Expr, f: Expr) -> Result<Operand, AllocError>
     ensures { IfOk result (λ x. x ≡ truth (expr.And e f)) }
 {
-    let e = Boxed::new(alloc, e)?;
-    let f = Boxed::new(alloc, f)?;
+    let (e, f) = both_boxed(alloc, e, f)?;
     Ok(truth(Expr::And(e, f)))
 }
 
@@ -195,8 +221,7 @@ fn both_true(alloc: Global, v: Scalar, w: Scalar) -> Result<Operand, AllocError>
 fn either_holds(alloc: Global, e: Expr, f: Expr) -> Result<Operand, AllocError>
     ensures { IfOk result (λ x. x ≡ truth (expr.Or e f)) }
 {
-    let e = Boxed::new(alloc, e)?;
-    let f = Boxed::new(alloc, f)?;
+    let (e, f) = both_boxed(alloc, e, f)?;
     Ok(truth(Expr::Or(e, f)))
 }
 
