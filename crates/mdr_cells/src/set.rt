@@ -76,7 +76,8 @@ impl CellSet {
 
     /// The set of these cells, in whatever order they are named, and how often.
     pub fn of(names: Vec<CellName>) -> CellSet
-        ensures { (c : Cell) → is_in cells result c ≡ is_in cells (named names.items) c }
+        ensures rises { Rises cells result }
+        ensures same { (c : Cell) → is_in cells result c ≡ is_in cells (named names.items) c }
     {
         CellSet {
             names: in_order(names),

@@ -1,15 +1,103 @@
 // Blocks that are born.
 
-ghost use Rattle.std.specs.Prelude.{◌≡◌, ◌≤◌, ◌++◌, IfOk};
-ghost use Rattle.mdr_core.specs.Sound.{IsSound};
+ghost use Rattle.std.specs.Prelude.{◌≡◌, ◌≤◌, ◌++◌, ◌∷◌, [], filter, IfOk, length};
+ghost use Rattle.mdr_cells.specs.Names.{AreBefore, cell_of};
+ghost use Rattle.mdr_extents.specs.Extent.{is_touched};
 ghost use Rattle.mdr_mem.specs.Contents.{births_in};
+ghost use Rattle.mdr_model.specs.declared.memory.Cell.{Cell};
+ghost use Rattle.mdr_model.specs.Sets.{cells_from};
 ghost use Rattle.mdr_reach.specs.Answers.{IsOlder};
+ghost use Rattle.mdr_reach.specs.Marks.{IsHeld, cells_born};
+ghost use Rattle.mdr_reach.specs.Spots.{AreLayouts};
 ghost use Rattle.mdr_watched.specs.Views.{new_cells};
 
-use mdr_cells::CellSet;
+use crate::held::{Held, block_at, is_touched};
+use crate::layouts::layouts_of;
+use crate::scene::Scene;
+use mdr_cells::{CellName, CellSet};
 use mdr_core::{Key, OutOfMemory, Program};
-use mdr_mem::Blocks;
+use mdr_mem::{Blocks, Cells};
 use std::alloc::Global;
+
+/// The set, with a cell that comes after all others.
+fn with_name(set: CellSet, name: CellName) -> Result<CellSet, OutOfMemory>
+    requires { AreBefore set (cell_of name) }
+    ensures { IfOk result (λ all. all ≡ set ++ cell_of name ∷ []) }
+{
+    let mut set = set;
+    set.push(name)?;
+    Ok(set)
+}
+
+/// The set, with a cell of a block that comes after all others, if its key is among those that may be touched.
+fn with_cell(
+    scene: Scene<'_>,
+    set: CellSet,
+    h: Held<'_>,
+    index: u64,
+) -> Result<CellSet, OutOfMemory>
+    requires held { IsHeld scene.program.now scene.touched.now scene.blocks.now h }
+    requires before { AreBefore set (record { serial = h.born.serial; index = index }) }
+    ensures { IfOk result (λ all. all ≡ set ++ filter (λ (c : Cell). is_touched scene.entry.program.now scene.entry.touched.now h.entry.born c.index) (cells_from h.entry.born.serial index 1)) }
+{
+    if is_touched(scene, h, index) {
+        let all = with_name(
+            set,
+            CellName {
+                serial: h.born.serial,
+                index,
+            },
+        )?;
+        Ok(all)
+    } else {
+        Ok(set)
+    }
+}
+
+/// The set, with those cells of a block of which it has none.
+fn with_block(scene: Scene<'_>, set: CellSet, h: Held<'_>) -> Result<CellSet, OutOfMemory>
+    requires held { IsHeld scene.program.now scene.touched.now scene.blocks.now h }
+    requires older { IsOlder h.born.serial set }
+    ensures { IfOk result (λ all. all ≡ set ++ filter (λ (c : Cell). is_touched scene.entry.program.now scene.entry.touched.now h.entry.born c.index) (cells_from h.entry.born.serial 0 (length h.entry.cells.now))) }
+{
+    let mut set = set;
+    for index in 0..h.cells.len() {
+        set = with_cell(scene, set, h, index as u64)?;
+    }
+    Ok(set)
+}
+
+/// The set, with those of the block with a serial, if it lives.
+fn with_serial(scene: Scene<'_>, set: CellSet, serial: u64) -> Result<CellSet, OutOfMemory>
+    requires layouts { AreLayouts scene.program.now scene.touched.now scene.layouts.now }
+    requires older { IsOlder serial set }
+    ensures { IfOk result (λ all. all ≡ set ++ cells_born scene.entry.program.now scene.entry.touched.now serial scene.entry.blocks.now.memory) }
+{
+    match block_at(scene, serial)? {
+        Some(h) => {
+            let all = with_block(scene, set, h)?;
+            Ok(all)
+        }
+        None => Ok(set),
+    }
+}
+
+fn with_serials(scene: Scene<'_>, set: CellSet, next: u64) -> Result<CellSet, OutOfMemory>
+    requires layouts { AreLayouts scene.program.now scene.touched.now scene.layouts.now }
+    requires older { IsOlder next set }
+    requires counted { next ≤ births_in scene.blocks.now.lives }
+    ensures gains { IfOk result (λ all. all ≡ set ++ new_cells scene.entry.program.now scene.entry.touched.now next scene.entry.blocks.now.memory) }
+    ensures older { IfOk result (IsOlder (births_in scene.entry.blocks.now.lives)) }
+{
+    let mut set = set;
+    let births = scene.blocks.births();
+    let mut serial = next;
+    while serial < births {
+        set = with_serial(scene, set, serial)?;
+        serial += 1;
+    }
+    Ok(set)
+}
 
 /// The set, with the cells that have a key among these of the blocks that were born when the next serial was this one,
 /// and since.
@@ -21,11 +109,18 @@ pub fn gained(
     set: CellSet,
     next: u64,
 ) -> Result<CellSet, OutOfMemory>
-    requires sound { IsSound program.now }
     requires older { IsOlder next set }
     requires counted { next ≤ births_in blocks.now.lives }
     ensures gains { IfOk result (λ all. all ≡ set ++ new_cells program.now touched.now next blocks.now.memory) }
     ensures older { IfOk result (IsOlder (births_in blocks.now.lives)) }
 {
-    Err(OutOfMemory)
+    let layouts = layouts_of(alloc, program, touched)?;
+    let scene = Scene {
+        program,
+        touched,
+        layouts: &layouts,
+        blocks,
+    };
+    let all = with_serials(scene, set, next)?;
+    Ok(all)
 }

@@ -3,9 +3,21 @@
 #![tactic(auto)]
 
 mod born;
+mod extent;
+mod follow;
+mod held;
+mod keys;
+mod layouts;
+mod lengths;
+mod lists;
+mod marks;
+mod numbers;
+mod reaching;
 mod roots;
-mod visible;
+mod rows;
+mod scene;
+mod searches;
 
 pub use born::gained;
+pub use reaching::visible;
 pub use roots::Root;
-pub use visible::visible;

@@ -1,0 +1,5 @@
+use Rattle.mdr_reach.proofs.BlockLaws.{around_is}
+use Rattle.mdr_reach.proofs.held.around.Goals as goal
+
+pub returns : goal.returns
+returns c = around_is c.args.scene.program.now c.args.scene.touched.now c.args.scene.blocks.now c.args.h c.requires c.args.index c.in_elements.result c.as_slice.result.now c.as_slice.ensures c.in_elements.ensures

@@ -1,0 +1,9 @@
+use Rattle.std.proofs.Common.{◌≡◌, drop}
+use Rattle.mdr_cells.specs.Names.{named}
+use Rattle.mdr_reach.specs.Marks.{counts_at, entered}
+use Rattle.mdr_reach.proofs.marks.enter_names.Given as goal
+
+abbrev pub invariant-loop-name : goal.invariant-loop-name
+invariant-loop-name l =
+    entered (counts_at l.scene.program.now l.scene.touched.now l.scene.blocks.now.memory) (named l.marked.keys) (named (drop l.name-index l.names))
+    ≡ entered (counts_at l.scene.program.now l.scene.touched.now l.scene.blocks.now.memory) (named l.fn.marked.keys) (named l.names)

@@ -1,0 +1,112 @@
+-- Cells that are marked as visible, and what the code has at hand of memory.
+use Rattle.std.specs.Prelude.{◌≡◌, ℕ, ◌+◌, ◌*◌, ◌-◌, ◌==◌, nat_lt, Ok, Err, ℤ, pos, negsuc, Bool, true, false, not, ◌&&◌, List, [], ◌∷◌, ◌++◌, map, Option, Some, None, is_some, slice_get, drop, take}
+use Rattle.mdr_access.specs.KeyOrder.{keys}
+use Rattle.mdr_core.specs.declared.plan.Key.{Key}
+use Rattle.mdr_core.specs.declared.program.Program.{Program}
+use Rattle.mdr_core.specs.declared.value.Block.{Block}
+use Rattle.mdr_core.specs.Layout.{Alone, chosen, field_start, key_by}
+use Rattle.mdr_extents.specs.Around.{global_of}
+use Rattle.mdr_extents.specs.CellOrder.{cells}
+use Rattle.mdr_extents.specs.Extent as extents
+use Rattle.mdr_extents.specs.Extent.{Elements, Fails, first_of, is_empty, up_to}
+use Rattle.mdr_extents.specs.Reaching.{cells_led, counts, extent_at, own_cells}
+use Rattle.mdr_meaning.specs.declared.wire.WireView.{WireView}
+use Rattle.mdr_meaning.specs.Pointers.{size}
+use Rattle.mdr_meaning.specs.Values.{wire_of}
+use Rattle.mdr_mem.specs.Contents.{Contents, wire_in}
+use Rattle.mdr_model.specs.declared.memory.Cell.{Cell}
+use Rattle.mdr_model.specs.Memory.{Memory, born_at, cell_at}
+use Rattle.mdr_paths.specs.Paths.{Graph, IsPartial, fails, is_in, visible, visible_set}
+use Rattle.mdr_reach.specs.declared.extent.Extent.{Extent}
+use Rattle.mdr_reach.specs.declared.extent.Extent.TheVariants as extent
+use Rattle.mdr_reach.specs.declared.held.Held.{Held}
+use Rattle.mdr_reach.specs.declared.lengths.Siblings.{Siblings}
+use Rattle.mdr_reach.specs.declared.lengths.Siblings.TheVariants as siblings
+use Rattle.mdr_reach.specs.declared.rows.Around.{Around}
+use Rattle.mdr_reach.specs.declared.rows.Around.TheVariants as around
+use Rattle.mdr_reach.specs.Spots.{IsRowOf}
+
+-- ---- cells that count
+
+-- a cell that is there, with its key among these
+abbrev pub counts_at : Program → List Key → Memory → Cell → Bool
+counts_at program touched m c = is_some (cell_at m c) && counts program touched m c
+
+abbrev pub with_cell : (Cell → Bool) → List Cell → Cell → List Cell
+with_cell counts marked c = chosen (counts c && not (is_in cells marked c)) (marked ++ c ∷ []) marked
+
+-- each of these cells that counts joins the marked ones, once
+unfoldable pub entered : (Cell → Bool) → List Cell → List Cell → List Cell
+entered counts marked [] = marked
+entered counts marked (c ∷ cs) = entered counts (with_cell counts marked c) cs
+
+-- the marked cells are those that count of which a test holds
+pub record AreMarked (counts test : Cell → Bool) (marked : List Cell) : Type 0 where
+  pub counted : (c : Cell) → is_in cells marked c ≡ true → counts c ≡ true
+  pub passed : (c : Cell) → is_in cells marked c ≡ true → test c ≡ true
+  pub all : (c : Cell) → test c ≡ true → counts c ≡ true → is_in cells marked c ≡ true
+
+-- of the marked cells, the first so many were followed, and none of these fails
+pub record IsFollowed (g : Graph cells) (roots marked : List Cell) (i : ℕ) : Type 0 where
+  pub partial : IsPartial g roots marked (drop i marked)
+  pub whole : (c : Cell) → is_in cells (take i marked) c ≡ true → fails g c ≡ false
+
+-- ---- a live block
+
+pub record IsHeld (program : Program) (touched : List Key) (s : Contents) (h : Held) : Type 0 where
+  pub born : born_at s.memory h.born.serial ≡ Some h.born
+  pub row : IsRowOf program touched h.born.ty h.row.now
+  pub alone : h.alone ≡ is_in keys touched (key_by Alone (global_of program h.born) h.born.ty)
+  pub cells : (index : ℕ) → cell_at s.memory (record { serial = h.born.serial; index = index }) ≡ slice_get (map (wire_in s.handles) h.cells.now) index
+
+-- the key of what stands so around a cell is among those that may be touched
+abbrev pub is_around_touched : Option Around → (alone : Bool) → Bool
+is_around_touched None alone = false
+is_around_touched (Some around.Nothing) alone = alone
+is_around_touched (Some (around.Field s f touched)) alone = touched
+
+-- ---- extents
+
+abbrev pub extent_of : Extent → extents.Extent
+extent_of (extent.Elements n) = Elements n
+extent_of extent.Fails = Fails
+
+-- what holds the siblings of a pointer
+abbrev pub siblings_of : Program → List Block → Siblings → extents.Siblings
+siblings_of program hs siblings.Nothing n = None
+siblings_of program hs (siblings.Fields held start s) n = slice_get (map (wire_in hs) held.now) (start + field_start program.structs s n)
+siblings_of program hs (siblings.Passed values) n = slice_get (map wire_of values.now) n
+
+-- so many elements, if there is room
+abbrev pub extent_long : (room : ℕ) → ℤ → extents.Extent
+extent_long room (pos n) = chosen (nat_lt room n) Fails (Elements n)
+extent_long room (negsuc n) = Fails
+
+abbrev pub extent_single : (index count : ℕ) → extents.Extent
+extent_single index count = Elements (chosen (nat_lt index count) 1 0)
+
+-- up to the first element of which the cell behind so many is empty
+abbrev pub extent_searched : Program → Memory → WireView → (start : ℕ) → extents.Extent
+extent_searched program m v start =
+    up_to v.index (first_of (λ i. is_empty (cell_at m (record { serial = v.serial; index = v.first + i * size program v.ty + start }))) v.index (v.count - v.index))
+
+-- ---- what is found
+
+-- the marked cells are the visible ones, of which none fails
+pub record IsReached (g : Graph cells) (roots marked : List Cell) : Type 0 where
+  pub same : (c : Cell) → is_in cells marked c ≡ is_in cells (visible g roots) c
+  pub whole : visible_set g roots ≡ Ok (visible g roots)
+
+-- a visible cell fails
+pub record IsRefused (g : Graph cells) (roots : List Cell) : Type 0 where
+  pub cell : Cell
+  pub is : visible_set g roots ≡ Err cell
+
+-- where a cell leads
+unfoldable pub led : Program → List Key → Memory → Cell → List Cell
+led program touched m c = cells_led program touched m (cell_at m c) (extent_at program touched m c)
+
+-- the cells with their keys among these of the block with a serial
+unfoldable pub cells_born : Program → List Key → (serial : ℕ) → Memory → List Cell
+cells_born program touched serial [] = []
+cells_born program touched serial (b ∷ m) = chosen (b.born.serial == serial) (own_cells program touched b) (cells_born program touched serial m)

@@ -1,0 +1,166 @@
+// Where marked cells lead.
+
+ghost use Rattle.std.specs.Prelude.{◌≡◌, ◌<◌, IfOk, OnOk, Some, is_some, length, map, not, slice_get, true};
+ghost use Rattle.mdr_cells.specs.Names.{cell_of, named};
+ghost use Rattle.mdr_core.specs.declared.plan.Key.TheVariants as key;
+ghost use Rattle.mdr_extents.specs.Around.{ann_of, global_ann, key_of, struct_start};
+ghost use Rattle.mdr_extents.specs.Extent.{cells_in, has_failed};
+ghost use Rattle.mdr_extents.specs.Reaching.{extent_at, extent_by, first_failing, root_cells, root_extent};
+ghost use Rattle.mdr_meaning.specs.Values.{wire_of};
+ghost use Rattle.mdr_reach.specs.Answers.{root_of};
+ghost use Rattle.mdr_reach.specs.Marks.{IsHeld, counts_at, entered, extent_of, led};
+ghost use Rattle.mdr_reach.specs.Spots.{AreLayouts};
+
+use crate::extent::{Extent, value_extent};
+use crate::held::{Held, around, block_at, offset, value_at};
+use crate::lengths::Siblings;
+use crate::marks::enter_extent;
+use crate::roots::Root;
+use crate::rows::{Around, fields};
+use crate::scene::Scene;
+use indexmap::IndexSet;
+use mdr_cells::CellName;
+use mdr_core::{Ann, Key, OutOfMemory, Program, Value};
+
+/// The annotation of a field.
+fn field_ann(program: &Program, s: u32, f: u32) -> Ann
+    ensures { result ≡ ann_of program.now (key.Field s f) }
+{
+    match fields(program.structs.as_slice(), s).get(f as usize) {
+        Some(field) => field.ann,
+        None => Ann::Single,
+    }
+}
+
+/// The annotation of a global.
+fn global_ann(program: &Program, g: u64) -> Ann
+    ensures { result ≡ global_ann (slice_get program.now.globals g) }
+{
+    match program.globals.as_slice().get(g as usize) {
+        Some(def) => def.ann,
+        None => Ann::Single,
+    }
+}
+
+/// The cell with which the innermost struct around a cell begins.
+#[tactic(auto, unfolding(mdr_extents::specs::Around::struct_start))]
+fn start(scene: Scene<'_>, h: Held<'_>, index: u64) -> u64
+    requires { IsHeld scene.program.now scene.touched.now scene.blocks.now h }
+    ensures { result ≡ struct_start scene.entry.program.now h.entry.born index }
+{
+    match offset(scene, h, index) {
+        Some(offset) => index.saturating_sub(offset as u64),
+        None => index,
+    }
+}
+
+/// The extent of a pointer in a cell.
+fn extent_in_cell(
+    scene: Scene<'_>,
+    h: Held<'_>,
+    index: u64,
+    value: Value,
+) -> Result<Extent, OutOfMemory>
+    requires layouts { AreLayouts scene.program.now scene.touched.now scene.layouts.now }
+    requires held { IsHeld scene.program.now scene.touched.now scene.blocks.now h }
+    ensures { IfOk result (λ e. extent_of e ≡ extent_by scene.entry.program.now scene.entry.touched.now scene.entry.blocks.now.memory h.entry.born index (key_of scene.entry.program.now h.entry.born index) (wire_of value)) }
+{
+    match around(scene, h, index) {
+        Some(Around::Field(s, f, _)) => {
+            let siblings = Siblings::Fields(h.cells, start(scene, h, index), s);
+            let ann = field_ann(scene.program, s, f);
+            let extent = value_extent(scene, siblings, ann, value)?;
+            Ok(extent)
+        }
+        Some(Around::Nothing) => {
+            let ann = global_ann(scene.program, h.born.serial);
+            let extent = value_extent(scene, Siblings::Nothing, ann, value)?;
+            Ok(extent)
+        }
+        None => Ok(Extent::Elements(0)),
+    }
+}
+
+/// Marks the cells that a cell of a block leads to. Whether its pointer doesn't fail.
+fn follow_in(
+    scene: Scene<'_>,
+    marked: &mut IndexSet<CellName>,
+    h: Held<'_>,
+    index: u64,
+) -> Result<bool, OutOfMemory>
+    requires layouts { AreLayouts scene.program.now scene.touched.now scene.layouts.now }
+    requires held { IsHeld scene.program.now scene.touched.now scene.blocks.now h }
+    ensures whole { IfOk result (λ t. t ≡ not (has_failed (extent_at scene.entry.program.now scene.entry.touched.now scene.entry.blocks.now.memory (record { serial = h.entry.born.serial; index = index })))) }
+    ensures marked { OnOk result (named marked.new.keys ≡ entered (counts_at scene.entry.program.now scene.entry.touched.now scene.entry.blocks.now.memory) (named marked.old.keys) (led scene.entry.program.now scene.entry.touched.now scene.entry.blocks.now.memory (record { serial = h.entry.born.serial; index = index }))) }
+{
+    match value_at(scene, h, index) {
+        Some(value) => {
+            let extent = extent_in_cell(scene, h, index, value)?;
+            let whole = enter_extent(scene, marked, value, extent)?;
+            Ok(whole)
+        }
+        None => Ok(true),
+    }
+}
+
+/// Marks the cells that a cell leads to. Whether its pointer doesn't fail.
+pub(crate) fn follow(
+    scene: Scene<'_>,
+    marked: &mut IndexSet<CellName>,
+    name: CellName,
+) -> Result<bool, OutOfMemory>
+    requires layouts { AreLayouts scene.program.now scene.touched.now scene.layouts.now }
+    ensures whole { IfOk result (λ t. t ≡ not (has_failed (extent_at scene.entry.program.now scene.entry.touched.now scene.entry.blocks.now.memory (cell_of name)))) }
+    ensures marked { OnOk result (named marked.new.keys ≡ entered (counts_at scene.entry.program.now scene.entry.touched.now scene.entry.blocks.now.memory) (named marked.old.keys) (led scene.entry.program.now scene.entry.touched.now scene.entry.blocks.now.memory (cell_of name))) }
+{
+    match block_at(scene, name.serial)? {
+        Some(h) => {
+            let whole = follow_in(scene, marked, h, name.index)?;
+            Ok(whole)
+        }
+        None => Ok(true),
+    }
+}
+
+/// Marks the cells of what is passed. Whether it doesn't fail.
+fn enter_root(
+    scene: Scene<'_>,
+    marked: &mut IndexSet<CellName>,
+    passed: &[Value],
+    root: Root,
+) -> Result<bool, OutOfMemory>
+    requires layouts { AreLayouts scene.program.now scene.touched.now scene.layouts.now }
+    ensures whole { IfOk result (λ t. t ≡ not (has_failed (root_extent scene.entry.program.now scene.entry.touched.now scene.entry.blocks.now.memory (map wire_of passed.now) (root_of root)))) }
+    ensures marked { OnOk result (named marked.new.keys ≡ entered (counts_at scene.entry.program.now scene.entry.touched.now scene.entry.blocks.now.memory) (named marked.old.keys) (cells_in scene.entry.program.now scene.entry.touched.now scene.entry.blocks.now.memory (wire_of root.value) (root_extent scene.entry.program.now scene.entry.touched.now scene.entry.blocks.now.memory (map wire_of passed.now) (root_of root)))) }
+{
+    let extent = value_extent(scene, Siblings::Passed(passed), root.ann, root.value)?;
+    let whole = enter_extent(scene, marked, root.value, extent)?;
+    Ok(whole)
+}
+
+fn root_at(roots: &[Root], i: usize) -> Root
+    requires { i < length roots.now }
+    ensures { slice_get roots.now i ≡ Some result }
+{
+    roots[i]
+}
+
+/// Marks the cells of all that is passed. Whether nothing fails.
+pub(crate) fn enter_roots(
+    scene: Scene<'_>,
+    marked: &mut IndexSet<CellName>,
+    passed: &[Value],
+    roots: &[Root],
+) -> Result<bool, OutOfMemory>
+    requires layouts { AreLayouts scene.program.now scene.touched.now scene.layouts.now }
+    ensures whole { IfOk result (λ t. t ≡ not (is_some (first_failing scene.entry.program.now scene.entry.touched.now scene.entry.blocks.now.memory (map wire_of passed.now) (map root_of roots.now)))) }
+    ensures marked { IfOk result (λ t. t ≡ true → named marked.new.keys ≡ entered (counts_at scene.entry.program.now scene.entry.touched.now scene.entry.blocks.now.memory) (named marked.old.keys) (root_cells scene.entry.program.now scene.entry.touched.now scene.entry.blocks.now.memory (map wire_of passed.now) (map root_of roots.now))) }
+{
+    for i in 0..roots.len() {
+        let whole = enter_root(scene, marked, passed, root_at(roots, i))?;
+        if !whole {
+            return Ok(false);
+        }
+    }
+    Ok(true)
+}

@@ -1,0 +1,187 @@
+// Live blocks.
+
+ghost use Rattle.std.specs.Prelude.{◌≡◌, IfOk, IsTrue, MatchOption, None, Some, option_map, slice_get};
+ghost use Rattle.mdr_core.specs.Layout.{Alone, chosen, key_by, repeated};
+ghost use Rattle.mdr_access.specs.KeyOrder.{keys as key_nodes};
+ghost use Rattle.mdr_extents.specs.Around.{global_of, offsets_of};
+ghost use Rattle.mdr_extents.specs.Extent.{is_touched};
+ghost use Rattle.mdr_meaning.specs.Values.{wire_of};
+ghost use Rattle.mdr_mem.specs.Contents.{current, handle_of, is_handle};
+ghost use Rattle.mdr_model.specs.Memory.{born_at, cell_at, leaf_at};
+ghost use Rattle.mdr_paths.specs.Paths.{is_in};
+ghost use Rattle.mdr_reach.specs.Marks.{IsHeld, counts_at, is_around_touched};
+ghost use Rattle.mdr_reach.specs.Spots.{AreLayouts, around_of};
+
+use crate::keys::is_listed;
+use crate::layouts::row_for;
+use crate::lists::item;
+use crate::numbers::small;
+use crate::rows::{Around, Row};
+use crate::scene::Scene;
+use mdr_core::{Block, Key, OutOfMemory, Program, Value};
+use mdr_mem::{Blocks, Cells};
+use mdr_model::New;
+
+/// A live block: how it was born, the cells of an element, whether the key of a cell that no struct is around is among
+/// those that may be touched, and what was put into its cells.
+#[derive(Clone, Copy)]
+pub struct Held<'a> {
+    pub born: New,
+    pub row: &'a Row,
+    pub alone: bool,
+    pub cells: &'a [Value],
+}
+
+/// What was put into a cell, as it is now.
+#[tactic(auto, unfolding(mdr_mem::specs::Contents::current))]
+pub(crate) fn held_now(blocks: &Blocks, v: Value) -> Value
+    ensures { result ≡ current blocks.now.handles v }
+{
+    match v {
+        Value::Ptr(p) => {
+            if blocks.alive(p.block) {
+                v
+            } else {
+                Value::Dead
+            }
+        }
+        _ => v,
+    }
+}
+
+/// How the block was born.
+fn born_of(blocks: &Blocks, b: Block) -> New
+    requires { IsTrue (is_handle blocks.now.handles b) }
+    ensures { born_at blocks.now.memory b.serial ≡ Some result }
+{
+    let shape = blocks.shape(b);
+    New {
+        serial: b.serial,
+        kind: blocks.kind(b),
+        ty: shape.ty,
+        count: shape.count,
+    }
+}
+
+/// The key of a cell that no struct is around.
+fn lone_key(program: &Program, born: New) -> Result<Key, OutOfMemory>
+    ensures { IfOk result (λ key. key ≡ key_by Alone (global_of program.now born) born.ty) }
+{
+    if born.serial < program.globals.len() as u64 {
+        let global = small(born.serial as usize)?;
+        Ok(Key::Global(global))
+    } else {
+        Ok(Key::Elem(born.ty))
+    }
+}
+
+/// Whether it is among those that may be touched.
+fn is_lone_touched(program: &Program, touched: &[Key], born: New) -> Result<bool, OutOfMemory>
+    ensures { IfOk result (λ t. t ≡ is_in key_nodes touched.now (key_by Alone (global_of program.now born) born.ty)) }
+{
+    let key = lone_key(program, born)?;
+    Ok(is_listed(touched, key))
+}
+
+fn held_by<'a>(scene: Scene<'a>, b: Block) -> Result<Held<'a>, OutOfMemory>
+    requires layouts { AreLayouts scene.program.now scene.touched.now scene.layouts.now }
+    requires alive { IsTrue (is_handle scene.blocks.now.handles b) }
+    ensures held { IfOk result (IsHeld scene.entry.program.now scene.entry.touched.now scene.entry.blocks.now) }
+    ensures serial { IfOk result (λ x. x.born.serial ≡ b.serial) }
+{
+    let born = born_of(scene.blocks, b);
+    let alone = is_lone_touched(scene.program, scene.touched, born)?;
+    Ok(Held {
+        born,
+        row: row_for(scene.layouts, scene.program, scene.touched, born.ty),
+        alone,
+        cells: scene.blocks.cells(b),
+    })
+}
+
+/// The live block with a serial.
+pub(crate) fn block_at<'a>(scene: Scene<'a>, serial: u64) -> Result<Option<Held<'a>>, OutOfMemory>
+    requires { AreLayouts scene.program.now scene.touched.now scene.layouts.now }
+    ensures held { IfOk result (λ o. MatchOption o (born_at scene.entry.blocks.now.memory serial ≡ None) (λ x. IsHeld scene.entry.program.now scene.entry.touched.now scene.entry.blocks.now x)) }
+    ensures serial { IfOk result (λ o. MatchOption o (Unit {0}) (λ x. x.born.serial ≡ serial)) }
+{
+    let _in_order = scene.blocks.births();
+    match scene.blocks.find(serial) {
+        Some(b) => {
+            let h = held_by(scene, b)?;
+            Ok(Some(h))
+        }
+        None => Ok(None),
+    }
+}
+
+/// An item of so many lists like this one, one after another.
+fn in_elements<T: Copy>(element: &[T], count: u32, index: u64) -> Option<T>
+    ensures { result ≡ slice_get (repeated count element.now) index }
+{
+    let size = element.len() as u64;
+    if size == 0 {
+        return None;
+    }
+    if index / size >= count as u64 {
+        return None;
+    }
+    Some(element[(index % size) as usize])
+}
+
+/// What stands around a cell of a block.
+pub(crate) fn around(scene: Scene<'_>, h: Held<'_>, index: u64) -> Option<Around>
+    requires { IsHeld scene.program.now scene.touched.now scene.blocks.now h }
+    ensures { result ≡ option_map (λ l. around_of scene.entry.touched.now l.home) (leaf_at scene.entry.program.now h.entry.born index) }
+{
+    in_elements(h.row.arounds.as_slice(), h.born.count, index)
+}
+
+/// How many cells of the innermost struct around a cell come before it.
+pub(crate) fn offset(scene: Scene<'_>, h: Held<'_>, index: u64) -> Option<usize>
+    requires { IsHeld scene.program.now scene.touched.now scene.blocks.now h }
+    ensures { result ≡ slice_get (offsets_of scene.entry.program.now h.entry.born) index }
+{
+    in_elements(h.row.offsets.as_slice(), h.born.count, index)
+}
+
+fn is_around_touched(around: Option<Around>, alone: bool) -> bool
+    ensures { result ≡ is_around_touched around alone }
+{
+    match around {
+        Some(Around::Field(_, _, touched)) => touched,
+        Some(Around::Nothing) => alone,
+        None => false,
+    }
+}
+
+/// Whether the key of a cell is among those that may be touched.
+pub(crate) fn is_touched(scene: Scene<'_>, h: Held<'_>, index: u64) -> bool
+    requires { IsHeld scene.program.now scene.touched.now scene.blocks.now h }
+    ensures { result ≡ is_touched scene.entry.program.now scene.entry.touched.now h.entry.born index }
+{
+    is_around_touched(around(scene, h, index), h.alone)
+}
+
+/// Whether the block has the cell, with such a key.
+pub(crate) fn counts(scene: Scene<'_>, h: Held<'_>, index: u64) -> bool
+    requires { IsHeld scene.program.now scene.touched.now scene.blocks.now h }
+    ensures { result ≡ counts_at scene.entry.program.now scene.entry.touched.now scene.entry.blocks.now.memory (record { serial = h.entry.born.serial; index = index }) }
+{
+    if index < h.cells.len() as u64 {
+        is_touched(scene, h, index)
+    } else {
+        false
+    }
+}
+
+/// What a cell holds.
+pub(crate) fn value_at(scene: Scene<'_>, h: Held<'_>, index: u64) -> Option<Value>
+    requires { IsHeld scene.program.now scene.touched.now scene.blocks.now h }
+    ensures { option_map wire_of result ≡ cell_at scene.entry.blocks.now.memory (record { serial = h.entry.born.serial; index = index }) }
+{
+    match item(h.cells, index) {
+        Some(v) => Some(held_now(scene.blocks, v)),
+        None => None,
+    }
+}

@@ -1,0 +1,225 @@
+// Cells that are marked as visible, in the order in which they are met.
+
+ghost use Rattle.std.specs.Prelude.{◌≡◌, ◌==◌, ◌||◌, ◌+◌, ◌*◌, ◌++◌, ◌∷◌, [], Bool, IfOk, OnOk, length, nat_lt, not};
+ghost use Rattle.mdr_cells.specs.Names.{cell_of, named};
+ghost use Rattle.mdr_core.specs.Layout.{chosen};
+ghost use Rattle.mdr_extents.specs.CellOrder.{cells};
+ghost use Rattle.mdr_extents.specs.Extent.{Elements, cells_in, has_failed};
+ghost use Rattle.mdr_meaning.specs.Pointers.{size};
+ghost use Rattle.mdr_meaning.specs.Values.{wire_of};
+ghost use Rattle.mdr_model.specs.declared.memory.Cell.{Cell};
+ghost use Rattle.mdr_model.specs.Sets.{cells_from};
+ghost use Rattle.mdr_paths.specs.Paths.{is_in};
+ghost use Rattle.mdr_reach.specs.Marks.{AreMarked, IsHeld, counts_at, entered, extent_of, with_cell};
+ghost use Rattle.mdr_reach.specs.Spots.{AreLayouts};
+
+use crate::extent::{Extent, element_size};
+use crate::held::{Held, block_at, counts};
+use crate::numbers::{product, sum};
+use crate::scene::Scene;
+use indexmap::IndexSet;
+use mdr_cells::CellName;
+use mdr_core::{OutOfMemory, Value, View};
+use std::alloc::Global;
+
+/// Marks a cell, unless it is marked.
+fn mark(marked: &mut IndexSet<CellName>, name: CellName) -> Result<(), OutOfMemory>
+    ensures { OnOk result (named marked.new.keys ≡ chosen (is_in cells (named marked.old.keys) (cell_of name)) (named marked.old.keys) (named marked.old.keys ++ cell_of name ∷ [])) }
+{
+    marked.insert(name)?;
+    Ok(())
+}
+
+/// Marks a cell of a block, if it counts.
+fn enter(
+    scene: Scene<'_>,
+    marked: &mut IndexSet<CellName>,
+    h: Held<'_>,
+    index: u64,
+) -> Result<(), OutOfMemory>
+    requires { IsHeld scene.program.now scene.touched.now scene.blocks.now h }
+    ensures { OnOk result (named marked.new.keys ≡ with_cell (counts_at scene.entry.program.now scene.entry.touched.now scene.entry.blocks.now.memory) (named marked.old.keys) (record { serial = h.entry.born.serial; index = index })) }
+{
+    if counts(scene, h, index) {
+        mark(
+            marked,
+            CellName {
+                serial: h.born.serial,
+                index,
+            },
+        )?;
+        Ok(())
+    } else {
+        Ok(())
+    }
+}
+
+/// Marks those of so many cells of a block that count.
+#[tactic(auto, unfolding(crate::specs::Marks::entered))]
+fn enter_in(
+    scene: Scene<'_>,
+    marked: &mut IndexSet<CellName>,
+    h: Held<'_>,
+    first: u64,
+    count: u64,
+) -> Result<(), OutOfMemory>
+    requires held { IsHeld scene.program.now scene.touched.now scene.blocks.now h }
+    ensures { OnOk result (named marked.new.keys ≡ entered (counts_at scene.entry.program.now scene.entry.touched.now scene.entry.blocks.now.memory) (named marked.old.keys) (cells_from h.entry.born.serial first count)) }
+{
+    let end = sum(first, count)?;
+    let mut index = first;
+    while index < end {
+        enter(scene, marked, h, index)?;
+        index += 1;
+    }
+    Ok(())
+}
+
+/// Those of the block with a serial, if it lives.
+fn enter_from(
+    scene: Scene<'_>,
+    marked: &mut IndexSet<CellName>,
+    serial: u64,
+    first: u64,
+    count: u64,
+) -> Result<(), OutOfMemory>
+    requires { AreLayouts scene.program.now scene.touched.now scene.layouts.now }
+    ensures { OnOk result (named marked.new.keys ≡ entered (counts_at scene.entry.program.now scene.entry.touched.now scene.entry.blocks.now.memory) (named marked.old.keys) (cells_from serial first count)) }
+{
+    match block_at(scene, serial)? {
+        Some(h) => {
+            enter_in(scene, marked, h, first, count)?;
+            Ok(())
+        }
+        None => Ok(()),
+    }
+}
+
+/// Those of so many elements from a pointer on.
+fn enter_elements(
+    scene: Scene<'_>,
+    marked: &mut IndexSet<CellName>,
+    p: View,
+    count: u64,
+) -> Result<(), OutOfMemory>
+    requires { AreLayouts scene.program.now scene.touched.now scene.layouts.now }
+    ensures { OnOk result (named marked.new.keys ≡ entered (counts_at scene.entry.program.now scene.entry.touched.now scene.entry.blocks.now.memory) (named marked.old.keys) (cells_from p.block.serial (p.first + p.index * size scene.entry.program.now p.ty) (count * size scene.entry.program.now p.ty))) }
+{
+    let size = element_size(scene, p.ty)?;
+    let first = p.first as u64 + p.index as u64 * size as u64;
+    let cells = product(count, size as u64)?;
+    enter_from(scene, marked, p.block.serial, first, cells)?;
+    Ok(())
+}
+
+/// Those of so many elements from where a value points. No other value points anywhere.
+#[tactic(auto, unfolding(crate::specs::Marks::entered))]
+fn enter_target(
+    scene: Scene<'_>,
+    marked: &mut IndexSet<CellName>,
+    value: Value,
+    count: u64,
+) -> Result<(), OutOfMemory>
+    requires { AreLayouts scene.program.now scene.touched.now scene.layouts.now }
+    ensures { OnOk result (named marked.new.keys ≡ entered (counts_at scene.entry.program.now scene.entry.touched.now scene.entry.blocks.now.memory) (named marked.old.keys) (cells_in scene.entry.program.now scene.entry.touched.now scene.entry.blocks.now.memory (wire_of value) (Elements count))) }
+{
+    match value {
+        Value::Ptr(p) => {
+            enter_elements(scene, marked, p, count)?;
+            Ok(())
+        }
+        Value::Int(_, _) => Ok(()),
+        Value::Null => Ok(()),
+        Value::Dead => Ok(()),
+        Value::Fn(_) => Ok(()),
+        Value::Lock(_) => Ok(()),
+        Value::NoValue => Ok(()),
+    }
+}
+
+/// Those of a value's extent. Whether it doesn't fail: then nothing is marked.
+pub(crate) fn enter_extent(
+    scene: Scene<'_>,
+    marked: &mut IndexSet<CellName>,
+    value: Value,
+    extent: Extent,
+) -> Result<bool, OutOfMemory>
+    requires { AreLayouts scene.program.now scene.touched.now scene.layouts.now }
+    ensures whole { IfOk result (λ t. t ≡ not (has_failed (extent_of extent))) }
+    ensures marked { OnOk result (named marked.new.keys ≡ entered (counts_at scene.entry.program.now scene.entry.touched.now scene.entry.blocks.now.memory) (named marked.old.keys) (cells_in scene.entry.program.now scene.entry.touched.now scene.entry.blocks.now.memory (wire_of value) (extent_of extent))) }
+{
+    match extent {
+        Extent::Elements(count) => {
+            enter_target(scene, marked, value, count)?;
+            Ok(true)
+        }
+        Extent::Fails => Ok(false),
+    }
+}
+
+/// Marks a cell by its name, if it counts.
+fn enter_name(
+    scene: Scene<'_>,
+    marked: &mut IndexSet<CellName>,
+    name: CellName,
+) -> Result<(), OutOfMemory>
+    requires { AreLayouts scene.program.now scene.touched.now scene.layouts.now }
+    ensures { OnOk result (named marked.new.keys ≡ with_cell (counts_at scene.entry.program.now scene.entry.touched.now scene.entry.blocks.now.memory) (named marked.old.keys) (cell_of name)) }
+{
+    match block_at(scene, name.serial)? {
+        Some(h) => {
+            enter(scene, marked, h, name.index)?;
+            Ok(())
+        }
+        None => Ok(()),
+    }
+}
+
+/// Marks those of these cells that count.
+#[tactic(auto, unfolding(crate::specs::Marks::entered))]
+pub(crate) fn enter_names(
+    scene: Scene<'_>,
+    marked: &mut IndexSet<CellName>,
+    names: &[CellName],
+) -> Result<(), OutOfMemory>
+    requires { AreLayouts scene.program.now scene.touched.now scene.layouts.now }
+    ensures { OnOk result (named marked.new.keys ≡ entered (counts_at scene.entry.program.now scene.entry.touched.now scene.entry.blocks.now.memory) (named marked.old.keys) (named names.now)) }
+{
+    for name in names {
+        enter_name(scene, marked, *name)?;
+    }
+    Ok(())
+}
+
+/// Marks all cells of a global that count.
+fn enter_global(
+    scene: Scene<'_>,
+    marked: &mut IndexSet<CellName>,
+    global: u64,
+) -> Result<(), OutOfMemory>
+    requires layouts { AreLayouts scene.program.now scene.touched.now scene.layouts.now }
+    ensures { (test : Cell → Bool) → AreMarked (counts_at scene.entry.program.now scene.entry.touched.now scene.entry.blocks.now.memory) test (named marked.old.keys) → OnOk result (AreMarked (counts_at scene.entry.program.now scene.entry.touched.now scene.entry.blocks.now.memory) (λ c. test c || (c.serial == global)) (named marked.new.keys)) }
+{
+    match block_at(scene, global)? {
+        Some(h) => {
+            enter_in(scene, marked, h, 0, h.cells.len() as u64)?;
+            Ok(())
+        }
+        None => Ok(()),
+    }
+}
+
+/// Marks all cells of the globals that count.
+pub(crate) fn marked_globals(
+    alloc: Global,
+    scene: Scene<'_>,
+) -> Result<IndexSet<CellName>, OutOfMemory>
+    requires { AreLayouts scene.program.now scene.touched.now scene.layouts.now }
+    ensures { IfOk result (λ marked. AreMarked (counts_at scene.entry.program.now scene.entry.touched.now scene.entry.blocks.now.memory) (λ c. nat_lt c.serial (length scene.entry.program.now.globals)) (named marked.keys)) }
+{
+    let mut marked = IndexSet::new(alloc);
+    for global in 0..scene.program.globals.len() {
+        enter_global(scene, &mut marked, global as u64)?;
+    }
+    Ok(marked)
+}
