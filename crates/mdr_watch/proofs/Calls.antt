@@ -1,19 +1,27 @@
 -- What user code asks for and calls, with its set beside the world.
-use Rattle.std.proofs.Common.{◌≡◌, ℕ, ◌+◌, ◌≤◌, Bool, true, false, List, [], ◌∷◌, ◌++◌, Option, Some, None, Result, Ok, Err, refl, sym, ◌∙◌, ap, subst, arith, le_refl}
+use Rattle.std.proofs.Common.{◌≡◌, ℕ, ◌<◌, ◌≤◌, true, List, ◌++◌, length, Option, Some, None, Result, Ok, Err, refl, sym, ◌∙◌, ap, subst, arith, le_refl}
+use Rattle.std.specs.Prelude.{map}
 use Rattle.mdr_core.specs.declared.place.At.{At}
+use Rattle.mdr_core.specs.declared.plan.Key.{Key}
 use Rattle.mdr_core.specs.declared.program.Program.{Program}
 use Rattle.mdr_core.specs.declared.stop.StopKind.{StopKind}
 use Rattle.mdr_core.specs.declared.stop.StopKind.TheVariants as stop
 use Rattle.mdr_core.specs.declared.value.Value.{Value}
+use Rattle.mdr_exec.specs.declared.event.Asked.{Asked as Question}
+use Rattle.mdr_exec.specs.declared.event.Crossing.{Crossing as Call}
+use Rattle.mdr_exec.specs.Events.{asked_as}
+use Rattle.mdr_extents.specs.CellOrder.{cells}
 use Rattle.mdr_extents.specs.Reaching.{Failing, Roots, visible}
 use Rattle.mdr_mem.specs.Contents.{births_in}
 use Rattle.mdr_meaning.specs.declared.wire.Wire.{Wire}
 use Rattle.mdr_meaning.specs.Tree.{Asked}
 use Rattle.mdr_meaning.specs.Values.{wire_of}
 use Rattle.mdr_model.specs.declared.memory.Cell.{Cell}
-use Rattle.mdr_plain.specs.Running.{call, nothing}
+use Rattle.mdr_model.specs.Memory.{Memory, normal, zero_block}
+use Rattle.mdr_paths.specs.Paths.{is_in}
+use Rattle.mdr_plain.specs.Running.{KernelCode, call, nothing}
 use Rattle.mdr_plain.specs.Services.{served}
-use Rattle.mdr_plain.specs.Storage.{born, died, next_serial}
+use Rattle.mdr_plain.specs.Storage.{born, died, new_of, next_serial}
 use Rattle.mdr_plain.specs.World.{World, Ran, Ended, Stopped, left}
 use Rattle.mdr_reach.specs.Answers.{found}
 use Rattle.mdr_services.specs.declared.answer.Served.{Served}
@@ -21,20 +29,25 @@ use Rattle.mdr_services.specs.declared.answer.Served.TheVariants as served_is
 use Rattle.mdr_services.specs.Serving.{served_as}
 use Rattle.mdr_exec.specs.Holding.{wires_of}
 use Rattle.mdr_viewed.specs.Laws.{asks, goes_down, returns}
-use Rattle.mdr_viewed.specs.Viewed.{HasUpcall, IsOlder, IsOrdered, IsViewed, after_beside, viewed}
+use Rattle.mdr_viewed.specs.Viewed.{IsOlder, IsOrdered, after_beside, viewed}
 use Rattle.mdr_viewed.proofs.KernelCode.{kernel_code_is_viewed}
-use Rattle.mdr_viewed.proofs.Steps.{IsBeside, served_beside}
+use Rattle.mdr_viewed.proofs.Steps.{served_beside}
 use Rattle.mdr_viewed.proofs.Upcalls.{upcalls_are_viewed}
 use Rattle.mdr_watched.specs.Driver.{Driver, result_roots, touched_by}
+use Rattle.mdr_viewed.proofs.Sets.{sets_are_viewed}
+use Rattle.mdr_watched.specs.Order.{AreLive}
 use Rattle.mdr_watched.specs.Views.{new_cells, taken}
 use Rattle.mdr_watched.specs.Watched.{downcall, held, kernel_of, sent, serves}
 use Rattle.mdr_watched.proofs.KeepLaws.{IsKept, served_keeps}
 use Rattle.mdr_whole.specs.declared.ending.Gave.{Gave}
-use Rattle.mdr_whole.specs.declared.ending.Gave.TheVariants as gave
+use Rattle.mdr_whole.specs.declared.ending.Gave.TheVariants as gave_is
 use Rattle.mdr_whole.specs.Ending.{gave_as}
 use Rattle.mdr_world.specs.Driven.{Driven, driver}
 use Rattle.mdr_world.proofs.StorageLaws.{births-birth, births-death}
+use Rattle.mdr_watch.specs.declared.watch.Upcall.{Upcall}
+use Rattle.mdr_watch.specs.Going.{program_in}
 use Rattle.mdr_watch.specs.Guarding.{IsGuarded}
+use Rattle.mdr_watch.specs.Watching.{driver_in}
 
 -- ---- what is born is counted
 
@@ -48,7 +61,7 @@ at_least_kept n = record {
   keeping = λ w k e. e;
   device = λ w d e. e;
   tick = λ w e. e;
-  birth = λ program kind s w e. let more = births-birth w.lives _ in omega (arith, more, e);
+  birth = λ program kind s w e. let more = births-birth w.lives (length (zero_block program (new_of kind s w)).cells) in omega (arith, more, e);
   death = λ w serial e. let more = births-death w.lives serial in omega (arith, more, e);
 }
 
@@ -118,3 +131,89 @@ module _ (d : Driver) (t : ℕ) (set : List Cell) (at : At) (f : ℕ) (args : Li
 
   pub back_out : None ≡ found (visible d.program (touched_by d.plan t) w.memory set (result_roots d.program f args v)) → ◌≡◌ {A = Ran Wire} (Stopped stop.Annotation (Some at) (viewed set w)) (returns d t set at f args v w)
   back_out e = sym (ap (λ r. taken r at (viewed set w) (λ x. Ended v (viewed x w))) (found_none _ e).1)
+
+-- the set or none, where the search was for the same
+pub taken_is : (program : Program) (keys keys' : List Key) (m m' : Memory) (set : List Cell) (r r' : Roots) (x y : Option (List Cell)) → keys ≡ keys' → m ≡ m' → r ≡ r' → x ≡ found (visible program keys m set r) → x ≡ y
+    → y ≡ found (visible program keys' m' set r')
+taken_is program keys keys' m m' set r r' x y k e s is same =
+    sym same ∙ is ∙ ap (λ z. found (visible program z m set r)) k ∙ ap (λ z. found (visible program keys' z set r)) e ∙ ap (λ z. found (visible program keys' m' set z)) s
+
+pub served_left : (s : Served) (at : At) (w : World) → left (served_as s at w) ≡ w
+served_left (served_is.Done vs) at w = refl
+served_left (served_is.Stop kind) at w = refl
+
+pub gave_left : (g : Gave) (w : World) → left (gave_as g w) ≡ w
+gave_left (gave_is.Value v) w = refl
+gave_left (gave_is.Stopped kind at) w = refl
+
+-- a set whose cells are older than so many births
+pub older_now : (set : List Cell) (w : World) (n : ℕ) → ((c : Cell) → is_in cells set c ≡ true → c.serial < n) → n ≡ births_in w.lives → IsOlder set w
+older_now set w n older is = λ c h. subst (λ x. c.serial < x) is (older c h)
+
+-- ---- in an upcall
+
+module _ (u : Upcall) (w : Driven) (set : List Cell) (gd : Driven) (is : driver w.program (viewed set w.world) ≡ gd) (same : gd.program ≡ program_in u) (g : IsGuarded set w.world) (o : IsOrdered w.world) where
+  program_is : w.program ≡ program_in u
+  program_is = ap (λ (d : Driven). d.program) is ∙ same
+
+  world_is : viewed set w.world ≡ gd.world
+  world_is = ap (λ (d : Driven). d.world) is
+
+  module _ (q : Question) (s : Served) (w1 : Driven) (so : served_as s q.at w1.world ≡ served w.program (asked_as q) w.world) where
+    so_now : served_as s q.at w1.world ≡ served (program_in u) (asked_as q) w.world
+    so_now = so ∙ ap (λ p. served p (asked_as q) w.world) program_is
+
+    pub ask_counts : (next n : ℕ) → next ≡ births_in w.world.lives → n ≡ births_in w1.world.lives → next ≤ n
+    ask_counts next n e f =
+        let h : births_in w.world.lives ≤ births_in w1.world.lives = asked_counts (driver_in u.watch) u.func set w.world g o (asked_as q) (served_as s q.at w1.world) w1.world (served_left s q.at w1.world) so_now in
+        omega (arith, h, e, f)
+
+    ask_beside : IsGuarded set w1.world
+    ask_beside = asked_beside (driver_in u.watch) u.func set w.world g o (asked_as q) (served_as s q.at w1.world) w1.world (served_left s q.at w1.world) so_now
+
+    pub ask_stays : IsGuarded set w1.world
+    ask_stays = ask_beside
+
+    pub ask_gains : (more : List Cell) (n : ℕ) → ((c : Cell) → is_in cells more c ≡ true → c.serial < n) → n ≡ births_in w1.world.lives → IsGuarded more w1.world
+    ask_gains more n older e = let b = ask_beside in record { upcall = b.upcall; older = older_now more w1.world n older e }
+
+    pub ask_on : (results : List Value) (more : List Cell) (next : ℕ) (keys : List Key) (m : Memory) (r : Driven) → s ≡ served_is.Done results → next ≡ births_in w.world.lives → keys ≡ touched_by u.watch.plan.now u.func → m ≡ w1.world.memory
+        → more ≡ set ++ new_cells (program_in u) keys next m → r ≡ driver w1.program (viewed more w1.world) → Ended (wires_of results) r.world ≡ serves (driver_in u.watch) (held (driver_in u.watch)) u.func (asked_as q) gd.world
+    ask_on results more next keys m r done n k e gains there =
+        ap (λ (d : Driven). Ended (wires_of results) d.world) there
+        ∙ asked_on (driver_in u.watch) u.func set w.world g o (asked_as q) (wires_of results) w1.world more (sym (ap (λ x. served_as x q.at w1.world) done) ∙ so_now)
+        (gains ∙ ap (λ x. set ++ new_cells (program_in u) x next m) k ∙ ap (λ x. set ++ new_cells (program_in u) (touched_by u.watch.plan.now u.func) x m) n ∙ ap (λ x. set ++ new_cells (program_in u) (touched_by u.watch.plan.now u.func) (next_serial w.world) x) e)
+        ∙ ap (serves (driver_in u.watch) (held (driver_in u.watch)) u.func (asked_as q)) world_is
+
+    pub ask_out : (kind : StopKind) (r : Driven) → s ≡ served_is.Stop kind → r ≡ driver w1.program (viewed set w1.world)
+        → ◌≡◌ {A = Ran (List Wire)} (Stopped kind (Some q.at) r.world) (serves (driver_in u.watch) (held (driver_in u.watch)) u.func (asked_as q) gd.world)
+    ask_out kind r stop there =
+        ap (λ (d : Driven). Stopped kind (Some q.at) d.world) there
+        ∙ asked_out (driver_in u.watch) u.func set w.world g o (asked_as q) kind (Some q.at) w1.world (sym (ap (λ x. served_as x q.at w1.world) stop) ∙ so_now)
+        ∙ ap (serves (driver_in u.watch) (held (driver_in u.watch)) u.func (asked_as q)) world_is
+
+  -- a call of the kernel half
+  module _ (c : Call) (code : KernelCode) (values : List Value) (gv : Gave) (w1 : Driven) (is_kernel : code ≡ kernel_of (driver_in u.watch)) (are_sent : wires_of values ≡ map (normal w.world.memory) (wires_of c.args)) (gave : gave_as gv w1.world ≡ call code nothing c.func (wires_of values) c.depth w.world) where
+    called_now : gave_as gv w1.world ≡ call (kernel_of (driver_in u.watch)) nothing c.func (map (normal w.world.memory) (wires_of c.args)) c.depth w.world
+    called_now = gave ∙ ap (λ x. call x nothing c.func (wires_of values) c.depth w.world) is_kernel ∙ ap (λ x. call (kernel_of (driver_in u.watch)) nothing c.func x c.depth w.world) are_sent
+
+    pub down_stays : IsGuarded set w1.world
+    down_stays = down_beside (driver_in u.watch) u.func set w.world g o c.at c.func (wires_of c.args) c.depth (gave_as gv w1.world) w1.world (gave_left gv w1.world) called_now
+
+    pub down_goes : (v : Value) (r : Ran Wire) → gv ≡ gave_is.Value v → r ≡ returns (driver_in u.watch) u.func set c.at c.func (wires_of values) (wire_of v) w1.world
+        → r ≡ downcall (driver_in u.watch) (held (driver_in u.watch)) u.func c.at c.func (wires_of c.args) c.depth gd.world
+    down_goes v r value back =
+        down_on (driver_in u.watch) u.func set w.world g o c.at c.func (wires_of c.args) c.depth (wire_of v) w1.world r (sym (ap (λ x. gave_as x w1.world) value) ∙ called_now)
+        (back ∙ ap (λ x. returns (driver_in u.watch) u.func set c.at c.func x (wire_of v) w1.world) are_sent)
+        ∙ ap (downcall (driver_in u.watch) (held (driver_in u.watch)) u.func c.at c.func (wires_of c.args) c.depth) world_is
+
+    pub down_stops : (kind : StopKind) (at : Option At) (r : Driven) → gv ≡ gave_is.Stopped kind at → r ≡ driver w1.program (viewed set w1.world)
+        → ◌≡◌ {A = Ran Wire} (Stopped kind at r.world) (downcall (driver_in u.watch) (held (driver_in u.watch)) u.func c.at c.func (wires_of c.args) c.depth gd.world)
+    down_stops kind at r stop there =
+        ap (λ (d : Driven). Stopped kind at d.world) there
+        ∙ down_out (driver_in u.watch) u.func set w.world g o c.at c.func (wires_of c.args) c.depth kind at w1.world (sym (ap (λ x. gave_as x w1.world) stop) ∙ called_now)
+        ∙ ap (downcall (driver_in u.watch) (held (driver_in u.watch)) u.func c.at c.func (wires_of c.args) c.depth) world_is
+
+-- the cells of a set that was taken are of blocks that live
+pub live_now : (program : Program) (keys : List Key) (m : Memory) (known set : List Cell) (r : Roots) (x : Option (List Cell)) (w : World) → IsOrdered w → m ≡ w.memory → x ≡ found (visible program keys m known r) → x ≡ Some set → AreLive w.memory set
+live_now program keys m known set r x w o e is same = sets_are_viewed.taken program keys known r set w o (found_some _ set (taken_is program keys keys m w.memory known r r x (Some set) refl e refl is same))

@@ -1,20 +1,19 @@
 -- Accesses that are held to a set.
-use Rattle.std.proofs.Common.{◌≡◌, ℕ, zero, suc, ◌+◌, ◌-◌, ◌<◌, ◌≤◌, arith, Bool, true, false, not, ◌&&◌, List, [], ◌∷◌, Result, Ok, Err, refl, sym, ◌∙◌, ap, subst}
-use Rattle.std.specs.Prelude.{OnErr}
+use Rattle.std.proofs.Common.{◌≡◌, ℕ, suc, ◌+◌, ◌-◌, ◌<◌, ◌≤◌, arith, Bool, true, false, not, ◌&&◌, List, [], ◌∷◌, Result, Ok, Err, refl, sym, ◌∙◌, ap, subst}
+use Rattle.std.specs.Prelude.{OnErr, nat_le}
 use Rattle.std.specs.List.{list_all}
 use Rattle.mdr_core.specs.declared.program.Program.{Program}
 use Rattle.mdr_core.specs.declared.stop.StopKind.{StopKind}
 use Rattle.mdr_core.specs.declared.stop.StopKind.TheVariants as stop
 use Rattle.mdr_extents.specs.CellOrder.{cells}
-use Rattle.mdr_exec.specs.Outcomes.{when_made, wired}
+use Rattle.mdr_exec.specs.Outcomes.{when_made}
 use Rattle.mdr_meaning.specs.declared.wire.Wire.{Wire}
 use Rattle.mdr_meaning.specs.declared.wire.Wire.TheVariants as wire
 use Rattle.mdr_model.specs.declared.memory.Cell.{Cell}
-use Rattle.mdr_model.specs.Memory.{Memory, everywhere, loaded, loaded_from, reached, reached_by, stored, stored_into}
+use Rattle.mdr_model.specs.Memory.{Memory, cell_of, everywhere, is_live, loaded, loaded_from, reached, reached_by, stored, stored_into}
 use Rattle.mdr_model.specs.Sets.{cells_from}
 use Rattle.mdr_paths.specs.Paths.{is_in}
-use Rattle.mdr_plain.specs.Running.{all_cells}
-use Rattle.mdr_plain.specs.Storage.{accesses, bytes_from, cells_read, deaths, read, remembers, with_memory}
+use Rattle.mdr_plain.specs.Storage.{bytes_from, cells_read, deaths, read, remembers, with_memory}
 use Rattle.mdr_plain.specs.World.{World}
 use Rattle.mdr_viewed.specs.Viewed.{in_set, viewed, viewed_if}
 use Rattle.mdr_viewed.specs.Laws.{AgreeOn}
@@ -93,7 +92,7 @@ module _ (set : List Cell) (m : Memory) where
 
   read_in : (p : Wire) (n : ℕ) → are_kept_out set m p n ≡ false → read (is_in cells set) m p n ≡ read everywhere m p n
   unfolding read
-  read_in (wire.Ptr p) n e = ap (bytes_from m (cells_read p n)) (let_in _ _ _ _ e ∙ sym (ap (λ t. reached_by _ _ t _) (all_everywhere (cells_read p n))))
+  read_in (wire.Ptr p) n e = ap (bytes_from m (cells_read p n)) (let_in _ _ _ _ e ∙ sym (ap (λ t. reached_by (is_live m p.serial) (nat_le (p.index + n) p.count) t (cell_of p)) (all_everywhere (cells_read p n))))
   read_in (wire.Int k x) n e = refl
   read_in wire.Null n e = refl
   read_in wire.Dead n e = refl
@@ -161,7 +160,7 @@ pub death_guarded : (set : List Cell) (w : World) (ps : List Wire) → IsGuarded
 death_guarded set w ps g = let b = deaths_keep (IsBeside set) (beside_kept set) ps w (record { upcall = g.upcall; older = g.older }) in record { upcall = b.upcall; older = b.older }
 
 pub tick_goes : (set : List Cell) (t : Bool) (d d' : Driven) → Ticks t d d' → Ticks t (driver d.program (viewed set d.world)) (driver d'.program (viewed set d'.world))
-tick_goes set true d d' t = (t.0, (t.1, ap (λ (x : Driven). driver x.program (viewed set x.world)) t.2))
+tick_goes set true d d' t = (t.0, t.1, ap (λ (x : Driven). driver x.program (viewed set x.world)) t.2)
 tick_goes set false d d' t = (t.0, ap (λ (x : Driven). driver x.program (viewed set x.world)) t.1)
 
 pub tick_guarded : (set : List Cell) (t : Bool) (d d' : Driven) → Ticks t d d' → IsGuarded set d.world → IsGuarded set d'.world
@@ -181,7 +180,13 @@ pub record AllLeft (set : List Cell) (serial first count i : ℕ) : Type 0 where
 
 module _ (set : List Cell) (serial first : ℕ) where
   pub all_begin : (count : ℕ) → AllLeft set serial first count 0
-  all_begin count = record { few = omega arith; rest = refl }
+  all_begin count = record {
+    few = omega arith;
+    rest =
+        let f : first + 0 ≡ first = omega arith in
+        let n : count - 0 ≡ count = omega arith in
+        ap (λ x. list_all (is_in cells set) (cells_from serial x (count - 0))) f ∙ ap (λ x. list_all (is_in cells set) (cells_from serial first x)) n;
+  }
 
   -- the first of those that are left, and the others
   one_more : (count i : ℕ) → i < count → list_all (is_in cells set) (cells_from serial (first + i) (count - i)) ≡ (is_in cells set (record { serial = serial; index = first + i }) && list_all (is_in cells set) (cells_from serial (first + (i + 1)) (count - (i + 1))))

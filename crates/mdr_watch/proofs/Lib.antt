@@ -1,5 +1,6 @@
 mod Sides
 mod Guards
 mod Turns
+mod Passing
 mod Calls
 mod Runs

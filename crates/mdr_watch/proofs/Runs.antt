@@ -1,14 +1,14 @@
 -- Upcalls and the commands of a script.
-use Rattle.std.proofs.Common.{◌≡◌, ℕ, suc, Bool, true, false, List, [], ◌∷◌, Option, Some, None, Result, Ok, Err, refl, sym, ◌∙◌, ap, subst}
+use Rattle.std.proofs.Common.{◌≡◌, ℕ, true, List, [], ◌∷◌, ◌≤◌, length, drop, Option, Some, None, refl, sym, ◌∙◌, ap, subst}
 use Rattle.std.specs.Prelude.{map}
+use Rattle.std.proofs.lemmas.List.{at_drop_all}
 use Rattle.mdr_core.specs.declared.place.At.{At}
 use Rattle.mdr_core.specs.declared.plan.Plan.{Plan}
 use Rattle.mdr_core.specs.declared.program.Program.{Program}
 use Rattle.mdr_core.specs.declared.stop.StopKind.{StopKind}
 use Rattle.mdr_core.specs.declared.stop.StopKind.TheVariants as stop
 use Rattle.mdr_core.specs.declared.value.Value.{Value}
-use Rattle.mdr_extents.specs.Reaching.{Failing, visible}
-use Rattle.mdr_exec.specs.Holding.{held_of}
+use Rattle.mdr_extents.specs.Reaching.{visible}
 use Rattle.mdr_exec.specs.declared.frame.Machine.{Machine}
 use Rattle.mdr_meaning.specs.declared.wire.Wire.{Wire}
 use Rattle.mdr_meaning.specs.Values.{wire_of}
@@ -19,14 +19,18 @@ use Rattle.mdr_model.specs.declared.outcome.End.{End}
 use Rattle.mdr_plain.specs.Outcome.{outcome_of}
 use Rattle.mdr_plain.specs.Plain.{does as plainly_does}
 use Rattle.mdr_plain.specs.Running.{KernelCode, interrupts, nothing}
-use Rattle.mdr_plain.specs.Scripts.{Finish, and_then, begin, begun, commands, finish, returned}
-use Rattle.mdr_plain.specs.World.{World, Ran, Ended, Stopped, Work, done}
+use Rattle.mdr_plain.specs.declared.outcome.Outcome.{Outcome}
+use Rattle.mdr_plain.specs.Scripts.{Finish, and_then, begin, begun, commands, finish, first_world, returned}
+use Rattle.mdr_script.specs.declared.bound.Bound.{Bound}
+use Rattle.mdr_meaning.specs.Bodies.{kernel_side, known_of}
+use Rattle.mdr_plain.specs.World.{World, Ran, Ended, Stopped, Work}
 use Rattle.mdr_runs.proofs.Standing.{call_is_started}
 use Rattle.mdr_reach.specs.Answers.{found}
 use Rattle.mdr_viewed.proofs.Ticks.{user_code_keeps_ticks}
-use Rattle.mdr_watched.specs.Driver.{Driver, entry_roots, is_user, touched_by}
+use Rattle.mdr_watched.specs.Driver.{Driver, driver_of, entry_roots, is_user, touched_by}
 use Rattle.mdr_watched.specs.Views.{closed, opened, taken}
-use Rattle.mdr_watched.specs.Watched.{closing, does, entered, held, kernel_of, upcall}
+use Rattle.mdr_watched.specs.Watched.{closing, does, entered, held, kernel_of, upcall, watched, watched_of}
+use Rattle.mdr_world.specs.Driven.{Driven, driver}
 use Rattle.mdr_whole.specs.declared.ending.Gave.{Gave}
 use Rattle.mdr_whole.specs.declared.ending.Gave.TheVariants as gave
 use Rattle.mdr_whole.specs.declared.ending.Worked.{Worked}
@@ -51,6 +55,12 @@ pub ran_entered : (u : Upcall) (args : List Wire) (set : List Cell) (m : Machine
     → GaveFor g (closed w1) (entered (driver_in u.watch) (held (driver_in u.watch)) u.func args set w)
 ran_entered u args set m g w w1 s is =
     gave_closed g w1 _ (is ∙ call_is_started (around_user u) nothing (user_code_keeps_ticks (driver_in u.watch) u.func) nothing_gives (user_side u) u.func args 0 (held_in u m) (opened set w) s.by)
+
+pub ran_closed : (u : Upcall) (args : List Wire) (set : List Cell) (m : Machine) (g : Gave) (program : Program) (w : World) (gd gd1 w1 : Driven) → IsStarted u args m → gd ≡ driver program (opened set w)
+    → gave_as g gd1.world ≡ user_does u gd.world.clock.rest m gd.world → w1 ≡ driver gd1.program (closed gd1.world) → GaveFor g w1.world (entered (driver_in u.watch) (held (driver_in u.watch)) u.func args set w)
+ran_closed u args set m g program w gd gd1 w1 s is ran gone =
+    subst (λ (d : Driven). GaveFor g d.world (entered (driver_in u.watch) (held (driver_in u.watch)) u.func args set w)) (sym gone)
+    (ran_entered u args set m g w gd1.world s (ran ∙ ap (λ (d : Driven). user_does u d.world.clock.rest m d.world) is))
 
 module _ (d : Driver) (f : ℕ) (args : List Wire) (w : World) where
   pub up_on : (set : List Cell) (g : Gave) (w1 : World) → Some set ≡ found (visible d.program (touched_by d.plan f) w.memory [] (entry_roots d.program f args)) → GaveFor g w1 (entered d (held d) f args set w) → GaveFor g w1 (upcall d (held d) f args w)
@@ -90,6 +100,17 @@ module _ (d : Driver) (w : World) where
   kernel_does (command.Idle n) e = refl
   kernel_does (command.Show g) e = refl
 
+pub kernel_for : (d : Driver) (code : KernelCode) (c : Command) (e : Worked) (w w1 : World) → code ≡ kernel_of d → IsKernel d.plan c → worked_as e w1 ≡ plainly_does code c w → WorkedFor e w1 (does d (held d) c w)
+kernel_for d code c e w w1 is k so = worked_for e w1 _ (so ∙ ap (λ x. plainly_does x c w) is ∙ kernel_does d w c k)
+
+pub up_worked : (d : Driver) (f : ℕ) (args : List Value) (code : KernelCode) (g : Gave) (e : Worked) (w w1 w2 w3 : Driven) → is_user d.plan f ≡ true → code ≡ kernel_of d → w.program ≡ d.program
+    → w1 ≡ driver w.program (begun w.program f args w.world) → GaveFor g w2.world (upcall d (held d) f (map wire_of args) w1.world) → worked_as e w3.world ≡ returned (interrupts code) (gave_as g w2.world)
+    → WorkedFor e w3.world (does d (held d) (command.Call f args) w.world)
+up_worked d f args code g e w w1 w2 w3 user is same noted gave so =
+    let begun_is : w1.world ≡ begun d.program f args w.world = ap (λ (x : Driven). x.world) noted ∙ ap (λ p. begun p f args w.world) same in
+    subst (λ work. WorkedFor e w3.world work) (sym (user_call_does d w.world f args user))
+    (returned_for (kernel_of d) g e w2.world w3.world _ (subst (λ x. GaveFor g w2.world (upcall d (held d) f (map wire_of args) x)) begun_is gave) (so ∙ ap (λ k. returned (interrupts k) (gave_as g w2.world)) is))
+
 -- ---- scripts
 
 module _ (d : Driver) where
@@ -114,3 +135,20 @@ module _ (d : Driver) where
 pub shown_so : (program : Program) (e : Worked) (w : World) (f : Finish) → EndsFor e w f → outcome_of program (record { end = end_of e; world = w }) ≡ outcome_of program f
 unfolding outcome_of
 shown_so program e w f h = λ i. outcome_of program (record { end = h.end i; world = h.world i })
+
+-- all commands were done
+pub ends_at : (d : Driver) (script : List Command) (i : ℕ) (w w0 : World) → length script ≤ i → commands (does d (held d)) (drop i script) w ≡ commands (does d (held d)) script w0 → EndsFor worked.Done w (commands (does d (held d)) script w0)
+ends_at d script i w w0 past rest = subst (λ f. EndsFor worked.Done w f) (sym (at_drop_all (λ cs. commands (does d (held d)) cs w) script i past) ∙ rest) (ends_for d w)
+
+-- the commands were done from the first state on
+pub ran_watched : (program : Program) (plan : Plan) (script : Bound) (ticks : ℕ) (d d' : Driven) (cs : List Command) (e : Worked) (end : End) (o : Outcome)
+    → d ≡ driver program (first_world (known_of program) script ticks) → cs ≡ script.commands → d'.program ≡ program
+    → EndsFor e d'.world (commands (does (driver_of program plan) (held (driver_of program plan))) cs d.world)
+    → end ≡ end_of e → o ≡ outcome_of d'.program (finish end d'.world) → o ≡ outcome_of program (watched program plan script ticks)
+unfolding watched_of kernel_side
+ran_watched program plan script ticks d d' cs e end o first are kept ran ends shown =
+    shown
+    ∙ ap (λ p. outcome_of p (finish end d'.world)) kept
+    ∙ ap (λ x. outcome_of program (finish x d'.world)) ends
+    ∙ shown_so program e d'.world _ ran
+    ∙ ap (outcome_of program) (ap (λ x. commands (does (driver_of program plan) (held (driver_of program plan))) x d.world) are ∙ ap (λ (x : Driven). commands (does (driver_of program plan) (held (driver_of program plan))) script.commands x.world) first)

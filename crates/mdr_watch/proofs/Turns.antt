@@ -17,13 +17,13 @@ use Rattle.mdr_exec.specs.declared.frame.Side.TheVariants as which
 use Rattle.mdr_exec.specs.Events.{asked_as}
 use Rattle.mdr_exec.specs.Going.{RanTo}
 use Rattle.mdr_exec.specs.Halves.{side_in}
-use Rattle.mdr_exec.specs.Held.{Held, tree}
+use Rattle.mdr_exec.specs.Held.{tree}
 use Rattle.mdr_exec.specs.Holding.{held_of, wires_of}
 use Rattle.mdr_exec.specs.Steps.{child}
 use Rattle.mdr_meaning.specs.declared.wire.Wire.{Wire}
-use Rattle.mdr_meaning.specs.Bodies.{body_of, started}
+use Rattle.mdr_meaning.specs.Bodies.{body_by, body_from, body_of, started}
 use Rattle.mdr_meaning.specs.Cut.{cut}
-use Rattle.mdr_meaning.specs.Sides.{Side}
+use Rattle.mdr_meaning.specs.Sides.{Body, Side}
 use Rattle.mdr_meaning.specs.Tree.{Tree}
 use Rattle.mdr_meaning.specs.Values.{wire_of}
 use Rattle.mdr_meaning.specs.Walk.{Walked, walk, walked}
@@ -32,15 +32,15 @@ use Rattle.mdr_plain.specs.Laws.{GivesNoTicks}
 use Rattle.mdr_plain.specs.Running.{nothing, run}
 use Rattle.mdr_plain.specs.Storage.{accesses}
 use Rattle.mdr_plain.specs.World.{World, Ran, Ended, Stopped, after, left}
-use Rattle.mdr_runs.specs.Around.{AnsweredIn, IsSeenBy, KeepsTicks, StandsIn, WentIn, answered_in}
+use Rattle.mdr_runs.specs.Around.{IsSeenBy, KeepsTicks, StandsIn, answered_in}
 use Rattle.mdr_runs.proofs.EndsAnywhere.{budget_ends, crossing_ends, service_ends, stop_ends, value_ends}
-use Rattle.mdr_runs.proofs.Standing.{crossing_is_answered, run_stands, service_is_answered, tick_stands}
+use Rattle.mdr_runs.proofs.Standing.{run_stands, tick_stands}
 use Rattle.mdr_services.specs.declared.answer.Served.{Served}
 use Rattle.mdr_services.specs.declared.answer.Served.TheVariants as served_is
 use Rattle.mdr_services.specs.Serving.{served_as}
 use Rattle.mdr_viewed.proofs.Ticks.{user_code_keeps_ticks}
 use Rattle.mdr_watched.specs.Views.{may_touch}
-use Rattle.mdr_world.specs.Driven.{Driven, Ticks, driven_by}
+use Rattle.mdr_world.specs.Driven.{Driven, Ticks}
 use Rattle.mdr_world.proofs.WalkLaws.{drivers_walk}
 use Rattle.mdr_whole.specs.declared.ending.Gave.{Gave}
 use Rattle.mdr_whole.specs.declared.ending.Gave.TheVariants as gave
@@ -65,8 +65,8 @@ nothing_gives d w = le_refl w.clock.rest
 
 -- ---- the memory of user code is seen as a world
 
-at_most : (fuel : ℕ) {w w1 w2 : World} → w1 ≡ w2 → w1.clock.rest ≤ w.clock.rest → w.clock.rest ≤ fuel → w2.clock.rest ≤ fuel
-at_most fuel same less enough = subst (λ (x : World). x.clock.rest ≤ fuel) same (omega (arith, less, enough))
+at_most : (fuel : ℕ) (w w1 w2 : World) → w1 ≡ w2 → w1.clock.rest ≤ w.clock.rest → w.clock.rest ≤ fuel → w2.clock.rest ≤ fuel
+at_most fuel w w1 w2 same less enough = subst (λ (x : World). x.clock.rest ≤ fuel) same (omega (arith, less, enough))
 
 -- a machine on the code of the user half
 pub ran_user : (u : Upcall) → IsFit u.watch → (halves : List Half) → halves ≡ u.watch.plan.now.halves → (m m' : Machine) (d d' : Driven) (ticks : ℕ) (e : Event) (left : ℕ)
@@ -136,7 +136,7 @@ module _ (u : Upcall) where
         let ended : Ended (wires_of results) d1.world ≡ (around_user u).serves (asked_as q) d.world = sym (ap (λ y. served_as y q.at d1.world) is) ∙ so in
         g fuel all (record {
           is = ap (λ r. after r (answered_in (around_user u) (user_side u) nothing fuel (held_in u m))) ended ∙ x.stands.is;
-          enough = at_most fuel (ap left (sym ended)) (keeps.serves (asked_as q) d.world) x.stands.enough;
+          enough = at_most fuel d.world _ d1.world (ap left (sym ended)) (keeps.serves (asked_as q) d.world) x.stands.enough;
         })
 
     pub served_out : (q : Question) (s : Served) (kind : StopKind) (d1 : Driven) (m' : Machine) → s ≡ served_is.Stop kind → d1.program ≡ prog → served_as s q.at d1.world ≡ (around_user u).serves (asked_as q) d.world
@@ -150,7 +150,7 @@ module _ (u : Upcall) where
         let ended : Ended (wire_of v) d1.world ≡ (around_user u).crosses c.at c.func (wires_of c.args) c.depth d.world = sym (ap (λ y. gave_as y d1.world) is) ∙ so in
         go fuel all (record {
           is = ap (λ r. after r (λ x w. answered_in (around_user u) (user_side u) nothing fuel (held_in u m) (x ∷ []) w)) ended ∙ x.stands.is;
-          enough = at_most fuel (ap left (sym ended)) (keeps.crosses c.at c.func (wires_of c.args) c.depth d.world) x.stands.enough;
+          enough = at_most fuel d.world _ d1.world (ap left (sym ended)) (keeps.crosses c.at c.func (wires_of c.args) c.depth d.world) x.stands.enough;
         })
 
     pub crossed_out : (c : Call) (g : Gave) (kind : StopKind) (at : Option At) (d1 : Driven) (m' : Machine) → g ≡ gave.Stopped kind at → d1.program ≡ prog
@@ -208,3 +208,7 @@ pub is_started : (u : Upcall) (args : List Wire) (m0 m : Machine) → ((f r : �
 is_started u args m0 m none own is = record {
   by = λ f r less. is (user_side u) own f r less ∙ ap (λ t. cut r (started (user_side u) (f + 1) u.func args 0 t)) (none f r);
 }
+
+pub its_body : (program : Program) (func : ℕ) (f : Func) (body : List Stmt) → slice_get program.funcs func ≡ Some f → f.body ≡ Some body → (x : Body) × (body_of program func ≡ Some x)
+unfolding body_of
+its_body program func f body there has = (_, ap body_from there ∙ ap (body_by f) has)

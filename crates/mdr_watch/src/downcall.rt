@@ -81,26 +81,20 @@ pub(crate) fn downcall<'a>(
     let Parts { world, set } = guarded.parts();
     let mut world = world;
     let _in_order = world.births();
-    let args = sent(alloc, &world, crossing.args.as_slice())?;
+    let old = crossing.args.as_slice();
+    let args = sent(alloc, &world, old)?;
+    let values = args.as_slice();
     let code = kernel_code(upcall.watch);
     let gave = call::<Nothing>(
         alloc,
         code,
         &mut world,
         crossing.func,
-        args.as_slice(),
+        values,
         crossing.depth,
     )?;
     match gave {
-        Gave::Value(value) => come_back(
-            alloc,
-            upcall,
-            world,
-            set,
-            crossing,
-            args.as_slice(),
-            value,
-        ),
+        Gave::Value(value) => come_back(alloc, upcall, world, set, crossing, values, value),
         Gave::Stopped(kind, at) => Ok(Ended {
             gave: Gave::Stopped(kind, at),
             guarded: Guarded::beside(world, set),

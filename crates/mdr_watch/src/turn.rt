@@ -5,7 +5,6 @@ ghost use Rattle.mdr_core.specs.Sound.{IsSound};
 ghost use Rattle.mdr_exec.specs.declared.event.Event.TheVariants as event;
 ghost use Rattle.mdr_exec.specs.Going.{RanTo};
 ghost use Rattle.mdr_exec.specs.Holding.{held_of, wires_of};
-ghost use Rattle.mdr_whole.specs.declared.next.Next.TheVariants as next;
 ghost use Rattle.mdr_whole.specs.Ending.{fits, gave_as};
 ghost use Rattle.mdr_watch.specs.Going.{Began, GoesOn, GoesOnWith, Passed, user_does};
 ghost use Rattle.mdr_watch.specs.Guarding.{guarded_accesses};
@@ -196,17 +195,6 @@ fn cross<'a>(
     }
 }
 
-/// The upcall gave a value, or stopped.
-fn gave<'a>(gave: Gave, guarded: Guarded<'a>) -> Turn<'a>
-    ensures next { result.next ≡ next.Gave gave }
-    ensures kept { result.guarded ≡ guarded.entry }
-{
-    Turn {
-        next: Next::Gave(gave),
-        guarded,
-    }
-}
-
 /// What follows an event.
 fn follow<'a>(
     machine: &mut Machine,
@@ -223,9 +211,15 @@ fn follow<'a>(
     match event {
         Event::Done(value) => {
             let now = guarded.now(*value);
-            Ok(gave(Gave::Value(now), guarded))
+            Ok(Turn {
+                next: Next::Gave(Gave::Value(now)),
+                guarded,
+            })
         }
-        Event::Stop(kind, at) => Ok(gave(Gave::Stopped(*kind, Some(*at)), guarded)),
+        Event::Stop(kind, at) => Ok(Turn {
+            next: Next::Gave(Gave::Stopped(*kind, Some(*at))),
+            guarded,
+        }),
         Event::Service(asked) => answer(machine, alloc, upcall, guarded, asked),
         Event::TicksOut(at) => tick(machine, alloc, upcall, guarded, *at),
         Event::Cross(crossing) => cross(machine, alloc, upcall, guarded, crossing),

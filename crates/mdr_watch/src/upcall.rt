@@ -106,15 +106,8 @@ pub(crate) fn call_user<'a>(
     let keys = touched(upcall.watch.plan, upcall.func);
     let roots = entry_roots(alloc, program, upcall.func, args)?;
     let none = CellSet::new(alloc);
-    let taken = visible(
-        alloc,
-        program,
-        keys,
-        world.blocks(),
-        &none,
-        roots.as_slice(),
-        args,
-    )?;
+    let memory = world.blocks();
+    let taken = visible(alloc, program, keys, memory, &none, roots.as_slice(), args)?;
     match taken {
         Some(set) => enter(alloc, upcall, args, set, world),
         None => Ok(Closed {
