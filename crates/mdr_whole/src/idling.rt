@@ -42,12 +42,7 @@ fn idle_tick(alloc: Global, code: Code, world: &mut World) -> Result<Worked, Out
 }
 
 /// So many ticks pass.
-pub fn idle(
-    alloc: Global,
-    code: Code,
-    world: &mut World,
-    ticks: u64,
-) -> Result<Worked, OutOfMemory>
+pub fn idle(alloc: Global, code: Code, world: &mut World, ticks: u64) -> Result<Worked, OutOfMemory>
     requires sound { IsSound code.program.now }
     requires same { world.old.program ≡ code.program.now }
     ensures kept { OnOk result (world.new.program ≡ code.entry.program.now) }
