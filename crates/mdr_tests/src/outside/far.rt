@@ -3,6 +3,7 @@
 use mdr_core::Items;
 use mdr_outside::{DeliverAnswer, Exchange, Far, LoadAnswer, LyingFar};
 use std::alloc::Global;
+use std::process::Abort;
 use std::test::Fail;
 
 fn is_reply(answer: &DeliverAnswer, bytes: &[u8]) -> bool {
@@ -28,48 +29,32 @@ fn load_into<F: Far>(far: &mut F, alloc: Global) -> LoadAnswer {
     far.load(alloc, b"user", b"plan")
 }
 
-fn send<F: Far>(far: &mut F, alloc: Global, message: &[u8]) -> DeliverAnswer {
-    far.deliver(alloc, message)
-}
-
-/// A message gets these bytes.
-fn replies<F: Far>(far: &mut F, alloc: Global, message: &[u8], bytes: &[u8]) -> bool {
-    is_reply(&send(far, alloc, message), bytes)
-}
-
-/// A message gets no bytes, for this reason.
-fn fails<F: Far>(far: &mut F, alloc: Global, message: &[u8], is_memory: bool) -> bool {
-    match send(far, alloc, message) {
-        DeliverAnswer::Ok(_) => false,
-        DeliverAnswer::Failed => !is_memory,
-        DeliverAnswer::OutOfMemory => is_memory,
-    }
-}
-
-/// A far side that was told to give these answers.
-fn lying(alloc: Global, answers: Vec<DeliverAnswer>) -> LyingFar {
-    LyingFar::new(alloc, LoadAnswer::Ok, answers)
-}
-
-fn reply(alloc: Global, bytes: &[u8]) -> Result<DeliverAnswer, Fail> {
-    Ok(DeliverAnswer::Ok(Items::from_slice(alloc, bytes)?))
-}
-
-fn two_replies(alloc: Global) -> Result<Vec<DeliverAnswer>, Fail> {
-    let mut answers = Vec::new(alloc);
-    answers.push(reply(alloc, b"one")?)?;
-    answers.push(reply(alloc, b"")?)?;
-    Ok(answers)
+// Three messages after a load.
+fn send_three<F: Far>(
+    far: &mut F,
+    alloc: Global,
+    rt: &impl Abort,
+) -> (DeliverAnswer, DeliverAnswer, DeliverAnswer) {
+    let answer = far.load(alloc, b"user", b"plan");
+    let is_ok = answer == LoadAnswer::Ok;
+    assert!(rt; is_ok);
+    let first = far.deliver(alloc, b"a");
+    let second = far.deliver(alloc, b"b");
+    let third = far.deliver(alloc, b"c");
+    (first, second, third)
 }
 
 #[test]
 fn fails_at_the_third_of_two_replies(rt: HostRuntime) -> Result<(), Fail> {
     let alloc = rt.alloc();
-    let mut far = lying(alloc, two_replies(alloc)?);
-    assert_eq!(rt; load_into(&mut far, alloc), LoadAnswer::Ok);
-    assert!(rt; replies(&mut far, alloc, b"a", b"one"));
-    assert!(rt; replies(&mut far, alloc, b"b", b""));
-    assert!(rt; fails(&mut far, alloc, b"c", false));
+    let mut replies = Vec::new(alloc);
+    replies.push(DeliverAnswer::Ok(Items::from_slice(alloc, b"one")?))?;
+    replies.push(DeliverAnswer::Ok(Items::from_slice(alloc, b"")?))?;
+    let mut far = LyingFar::new(alloc, LoadAnswer::Ok, replies);
+    let (first, second, third) = send_three(&mut far, alloc, &rt);
+    assert!(rt; is_reply(&first, b"one"));
+    assert!(rt; is_reply(&second, b""));
+    assert!(rt; matches!(third, DeliverAnswer::Failed));
     assert_eq!(rt; far.exchanges().len(), 3);
     assert!(rt; is_exchange(far.exchanges().first(), b"a", Some(b"one")));
     assert!(rt; is_exchange(far.exchanges().get(1), b"b", Some(b"")));
@@ -77,22 +62,18 @@ fn fails_at_the_third_of_two_replies(rt: HostRuntime) -> Result<(), Fail> {
     Ok(())
 }
 
-fn failures_and_a_reply(alloc: Global) -> Result<Vec<DeliverAnswer>, Fail> {
-    let mut answers = Vec::new(alloc);
-    answers.push(DeliverAnswer::Failed)?;
-    answers.push(DeliverAnswer::OutOfMemory)?;
-    answers.push(reply(alloc, b"three")?)?;
-    Ok(answers)
-}
-
 #[test]
 fn keeps_no_exchange_where_memory_is_wanting(rt: HostRuntime) -> Result<(), Fail> {
     let alloc = rt.alloc();
-    let mut far = lying(alloc, failures_and_a_reply(alloc)?);
-    assert_eq!(rt; load_into(&mut far, alloc), LoadAnswer::Ok);
-    assert!(rt; fails(&mut far, alloc, b"a", false));
-    assert!(rt; fails(&mut far, alloc, b"b", true));
-    assert!(rt; replies(&mut far, alloc, b"c", b"three"));
+    let mut replies = Vec::new(alloc);
+    replies.push(DeliverAnswer::Failed)?;
+    replies.push(DeliverAnswer::OutOfMemory)?;
+    replies.push(DeliverAnswer::Ok(Items::from_slice(alloc, b"three")?))?;
+    let mut far = LyingFar::new(alloc, LoadAnswer::Ok, replies);
+    let (first, second, third) = send_three(&mut far, alloc, &rt);
+    assert!(rt; matches!(first, DeliverAnswer::Failed));
+    assert!(rt; matches!(second, DeliverAnswer::OutOfMemory));
+    assert!(rt; is_reply(&third, b"three"));
     assert_eq!(rt; far.exchanges().len(), 2);
     assert!(rt; is_exchange(far.exchanges().first(), b"a", None));
     assert!(rt; is_exchange(far.exchanges().get(1), b"c", Some(b"three")));
