@@ -74,7 +74,7 @@ fn given(object: Lval, value: Result<Expr, Fault>) -> Result<Assignment, Fault>
             left: object,
             right,
         }),
-        Err(fault) => Err(fault),
+        Err(fault) => told_instead(fault, object),
     }
 }
 
@@ -87,7 +87,7 @@ fn given_where(
 {
     match value {
         Ok(value) => Ok(given(object, value)),
-        Err(error) => Err(error),
+        Err(error) => out_of_memory(error, object),
     }
 }
 
