@@ -4,6 +4,7 @@
 mod here;
 mod locals;
 mod mention;
+mod release;
 mod simple;
 mod statement;
 mod typing;

@@ -1,6 +1,6 @@
 // Parameters and locals: what is declared, in which slot, and whether it is an object of its own (C99 6.7, 6.9.1).
 
-ghost use Rattle.std.specs.Prelude.{◌≡◌, not, [], IfOk, OnOk, List, map, length, slice_get, Some, None};
+ghost use Rattle.std.specs.Prelude.{◌≡◌, ◌++◌, ◌∷◌, not, [], IfOk, OnOk, List, map, length, slice_get, Some, None};
 ghost use Rattle.std.specs.Option.{option_map, option_copied};
 ghost use Rattle.mdr_core.specs.declared.types.Ty.{Ty};
 ghost use Rattle.mdr_faults.specs.declared.scope.Object.{Object};
@@ -275,14 +275,51 @@ fn local_declared(
 ) -> Result<Result<Local, Fault>, OutOfMemory>
     ensures { IfOk result (λ r. r ≡ told (local_declared scope.now locks.now here.now is_taken d.now)) }
 {
-    let o = local_object(alloc, scope, locks, d)?;
     let name = declared_name(alloc, &d.name)?;
     let again = declared_name(alloc, &d.name)?;
     let dropped = within_local(alloc, scope, here, d)?;
+    let o = local_object(alloc, scope, locks, d)?;
     let lone = local_whole(again, is_taken, o);
     let whole = beside(dropped, lone);
     let sized = sized_rule(here, d, whole);
     Ok(local_rule(here, d.place, name.as_slice(), sized))
+}
+
+/// A local as its uses see it, in this slot.
+fn local_name(
+    alloc: Global,
+    scope: &Scope,
+    locks: &[bool],
+    slot: u32,
+    is_taken: bool,
+    d: &Decl,
+) -> Result<LocalName, AllocError>
+    ensures { IfOk result (λ n. n ≡ named_local slot is_taken d.now (told (local_object scope.now locks.now d.now))) }
+{
+    let o = local_object(alloc, scope, locks, d)?;
+    named_local(alloc, slot, is_taken, d, o)
+}
+
+/// Adds a local, behind which this is the next slot.
+fn add_local(
+    here: &mut Here,
+    named: LocalName,
+    declared: DeclaredLocal,
+    next: u32,
+) -> Result<(), AllocError>
+    ensures { OnOk result (here.new ≡ record { names = here.old.names ++ named ∷ []; first = here.old.first; locals = here.old.locals ++ declared ∷ []; slot = next; number = here.old.number }) }
+{
+    match here.locals.push(declared) {
+        Ok(()) => {
+            here.names.push(named)?;
+            here.slot = next;
+            Ok(())
+        }
+        Err(error) => {
+            drop(named);
+            Err(error)
+        }
+    }
 }
 
 /// Declares a local.
@@ -297,13 +334,15 @@ pub fn declare_local(
 ) -> Result<(), OutOfMemory>
     ensures { OnOk result (here.new ≡ with_local scope.now locks.now is_taken d.now here.old) }
 {
+    let next = small(here.slot as usize + 1)?;
     let means = local_declared(alloc, scope, locks, here, is_taken, d)?;
-    let o = local_object(alloc, scope, locks, d)?;
-    let named = named_local(alloc, here.slot, is_taken, d, o)?;
-    here.names.push(named)?;
-    here.locals.push(DeclaredLocal { means })?;
-    here.slot = small(here.slot as usize + 1)?;
-    Ok(())
+    match local_name(alloc, scope, locks, here.slot, is_taken, d) {
+        Ok(named) => Ok(add_local(here, named, DeclaredLocal { means }, next)?),
+        Err(_) => {
+            drop(means);
+            Err(OutOfMemory)
+        }
+    }
 }
 
 // ---- whose addresses are taken

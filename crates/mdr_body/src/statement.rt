@@ -14,6 +14,7 @@ ghost use Rattle.mdr_body.specs.Statements.{condition, perhaps_condition, pair, 
 use crate::here::{Frame, Here};
 use crate::locals::{count, leave, takes};
 use crate::mention::{Mention, has, have, perhaps_has, perhaps_mentions};
+use crate::release::left_over;
 use crate::simple::{condition, perhaps_condition, simple_made, single};
 use crate::typing::Typing;
 use mdr_core::{Boxed, Expr, Items, Name, OutOfMemory, Place, Step, Stmt};
@@ -163,6 +164,15 @@ fn simple_node<R: Typing>(
     )
 }
 
+/// What was made, behind a statement's number.
+fn counted<A: Drop>(here: &mut Here, made: A) -> Result<A, OutOfMemory>
+    ensures made { IfOk result (λ r. r ≡ made) }
+    ensures grown { OnOk result (here.new ≡ numbered here.old) }
+{
+    count(here)?;
+    Ok(made)
+}
+
 pub fn simple_counted<R: Typing>(
     alloc: Global,
     rules: &R,
@@ -196,8 +206,7 @@ pub fn condition_counted<R: Typing>(
     ensures grown { OnOk result (here.new ≡ numbered here.old) }
 {
     let made = condition(alloc, rules, scope, here, place, form)?;
-    count(here)?;
-    Ok(made)
+    counted(here, made)
 }
 
 // ---- the head of a `for`
@@ -308,8 +317,10 @@ pub fn for_head<R: Typing>(
     let two = init_and_test(
         alloc, rules, scope, frame, here, place, init, test, step, body,
     )?;
-    let third = last_counted(alloc, rules, scope, frame, here, step)?;
-    Ok(paired(two, third))
+    match last_counted(alloc, rules, scope, frame, here, step) {
+        Ok(third) => Ok(paired(two, third)),
+        Err(error) => left_over(error, two),
+    }
 }
 
 // ---- statements of their parts
@@ -439,8 +450,10 @@ fn line_at<R: Typing>(
                 one.get(),
                 e,
             )?;
-            let other = perhaps_line(alloc, rules, scope, frame, in_loop, here, other)?;
-            Ok(if_of(alloc, n, half, other)?)
+            match perhaps_line(alloc, rules, scope, frame, in_loop, here, other) {
+                Ok(other) => Ok(if_of(alloc, n, half, other)?),
+                Err(error) => left_over(error, half),
+            }
         }
         NodeWhat::While(e, body) => {
             while_made(alloc, rules, scope, frame, here, place, body.get(), e)
@@ -480,8 +493,10 @@ fn if_half<R: Typing>(
     ensures grown { OnOk result (here.new ≡ line_behind scope.now frame.now (numbered here.old) false (line_of one.now)) }
 {
     let head = condition_counted(alloc, rules, scope, here, place, e)?;
-    let one = line(alloc, rules, scope, frame, in_loop, true, here, false, one)?;
-    Ok(paired(head, one))
+    match line(alloc, rules, scope, frame, in_loop, true, here, false, one) {
+        Ok(one) => Ok(paired(head, one)),
+        Err(error) => left_over(error, head),
+    }
 }
 
 /// A branch that may be missing.
@@ -530,8 +545,10 @@ fn while_made<R: Typing>(
 {
     let n = here.number;
     let head = condition_counted(alloc, rules, scope, here, place, e)?;
-    let body = line(alloc, rules, scope, frame, true, true, here, false, body)?;
-    Ok(while_of(alloc, n, head, body)?)
+    match line(alloc, rules, scope, frame, true, true, here, false, body) {
+        Ok(body) => Ok(while_of(alloc, n, head, body)?),
+        Err(error) => left_over(error, head),
+    }
 }
 
 #[cycle(line)]
@@ -557,9 +574,13 @@ fn for_made<R: Typing>(
     let head = for_head(
         alloc, rules, scope, frame, here, place, init, test, step, body,
     )?;
-    let inside = line(alloc, rules, scope, frame, true, true, here, false, body)?;
-    leave(alloc, names, first, here);
-    Ok(for_of(alloc, n, head, inside)?)
+    match line(alloc, rules, scope, frame, true, true, here, false, body) {
+        Ok(inside) => {
+            leave(alloc, names, first, here);
+            Ok(for_of(alloc, n, head, inside)?)
+        }
+        Err(error) => left_over(error, head),
+    }
 }
 
 /// A block with names of its own.

@@ -24,7 +24,7 @@ line_at-returns-in_default g t c = record {
   grown = grown_same c.simple_counted.result _ _ _ (behind_made_simple c.args.scope.now c.args.frame.now c.args.here.now c.args.is_taken c.args.what.now c.in_default.not-Block c.in_default.not-If c.in_default.not-While c.in_default.not-For c.args.place) c.simple_counted.ensures.grown;
 }
 
-pub if_half-returns-clause-told : goal.if_half-returns-clause-told
-if_half-returns-clause-told g t c =
+pub if_half-returns-in-Ok-clause-told : goal.if_half-returns-in-Ok-clause-told
+if_half-returns-in-Ok-clause-told g t c =
     c.paired.ensures _ _ c.in_ok-head.ensures.told
-    (c.in_ok-one.ensures.told ∙ ap (λ (h : Here). told (line_made (g.R.Typing.rules c.args.rules.now) c.args.scope.now c.args.frame.now c.args.in_loop true h false (line_of c.args.one.now))) c.in_ok-head.ensures.grown)
+    (c.in-Ok.ensures.told ∙ ap (λ (h : Here). told (line_made (g.R.Typing.rules c.args.rules.now) c.args.scope.now c.args.frame.now c.args.in_loop true h false (line_of c.args.one.now))) c.in_ok-head.ensures.grown)
