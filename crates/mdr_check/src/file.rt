@@ -62,8 +62,13 @@ fn define(
     ensures grown { OnOk result (known.new ≡ with_scope known.old (with_name known.old.scope name.now (Ok (Entity.Constant c)))) }
 {
     let piece = new_name(&known.scope, place, name, Ok(Piece::Nothing));
-    declare(alloc, &mut known.scope, name, Ok(Entity::Constant(c)))?;
-    Ok(piece)
+    match declare(alloc, &mut known.scope, name, Ok(Entity::Constant(c))) {
+        Ok(()) => Ok(piece),
+        Err(error) => {
+            drop(piece);
+            Err(error)
+        }
+    }
 }
 
 fn struct_of(name: Name, fields: Result<Items<Field>, Fault>) -> Result<Piece, Fault>
@@ -112,8 +117,13 @@ fn structure(
     ensures grown { OnOk result (known.new ≡ with_scope known.old (behind_struct known.old.scope place name.now ds.now)) }
 {
     let piece = struct_piece(alloc, &known.scope, place, name, ds)?;
-    behind_struct(alloc, &mut known.scope, place, name, ds)?;
-    Ok(piece)
+    match behind_struct(alloc, &mut known.scope, place, name, ds) {
+        Ok(()) => Ok(piece),
+        Err(error) => {
+            drop(piece);
+            Err(error)
+        }
+    }
 }
 
 /// One less than the first constant of an enumeration.
@@ -166,8 +176,9 @@ fn variable(
     ensures grown { OnOk result (known.new ≡ record { scope = behind_global known.old.scope known.old.globals d.now; globals = known.old.globals + 1; functions = known.old.functions }) }
 {
     let own = known.globals;
+    let next = small(own as usize + 1)?;
     let v = checked_global(alloc, &mut known.scope, own, d, init)?;
-    known.globals = small(own as usize + 1)?;
+    known.globals = next;
     Ok(global_of(v))
 }
 
@@ -240,8 +251,13 @@ fn function<B: Bodies>(
         h,
         true,
     )?;
-    let body = bodies.body(alloc, &known.scope, h, nodes)?;
-    Ok(function_of(name, is_critical, heading, body))
+    match bodies.body(alloc, &known.scope, h, nodes) {
+        Ok(body) => Ok(function_of(name, is_critical, heading, body)),
+        Err(error) => {
+            drop(heading);
+            Err(error)
+        }
+    }
 }
 
 /// An item behind those before it, in a file of these items; and what is known behind it.
@@ -358,12 +374,17 @@ pub fn first_known(alloc: Global, items: &[Item]) -> Result<Known, OutOfMemory>
     ensures { IfOk result (λ k. k ≡ first_known items.now) }
 {
     let scope = first_scope(alloc, items)?;
-    let outlines = outlines_of(alloc, &scope, items)?;
-    Ok(Known {
-        scope: with_outlines(scope, outlines),
-        globals: 0,
-        functions: Names::new(alloc),
-    })
+    match outlines_of(alloc, &scope, items) {
+        Ok(outlines) => Ok(Known {
+            scope: with_outlines(scope, outlines),
+            globals: 0,
+            functions: Names::new(alloc),
+        }),
+        Err(_) => {
+            drop(scope);
+            Err(OutOfMemory)
+        }
+    }
 }
 
 // ---- all items

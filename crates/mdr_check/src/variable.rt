@@ -56,8 +56,8 @@ fn global_means(own: u32, object: Result<Object, Fault>) -> Result<Entity, Fault
 fn behind_global(alloc: Global, scope: &mut Scope, own: u32, d: &Decl) -> Result<(), AllocError>
     ensures { OnOk result (scope.new ≡ behind_global scope.old own d.now) }
 {
-    let object = global_object(alloc, scope, d)?;
     let name = declared_name(alloc, &d.name)?;
+    let object = global_object(alloc, scope, d)?;
     declare(alloc, scope, &name, global_means(own, object))
 }
 
@@ -153,8 +153,8 @@ pub fn checked_global(
 {
     let name = declared_name(alloc, &d.name)?;
     let is_new = !is_declared_name(scope, name.as_slice());
-    let object = global_object(alloc, scope, d)?;
     let dropped = within(alloc, scope, &[], d)?;
+    let object = global_object(alloc, scope, d)?;
     behind_global(alloc, scope, own, d)?;
     let variable = variable_told(alloc, scope, own, d, init, object)?;
     let whole = beside(dropped, variable);

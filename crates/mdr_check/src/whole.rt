@@ -4,10 +4,11 @@ ghost use Rattle.std.specs.Prelude.{◌≡◌, IfOk, List, MatchResult};
 ghost use Rattle.mdr_core.specs.declared.place.Place.{Place};
 ghost use Rattle.mdr_check.specs.declared.file.Piece.{Piece};
 ghost use Rattle.mdr_faults.specs.Faults.{Checked, Right, told, both, IsFirst};
+ghost use Rattle.mdr_check.specs.Files.{first_known};
 ghost use Rattle.mdr_check.specs.Names.{Verdict};
 ghost use Rattle.mdr_check.specs.Whole.{kept, named, file_pieces};
 
-use crate::file::{Piece, first_known, pieces_behind};
+use crate::file::{Known, Piece, first_known, pieces_behind};
 use crate::names::short_items;
 use crate::uses::defined_functions;
 use mdr_core::{Items, OutOfMemory, Place};
@@ -40,8 +41,22 @@ fn named(
     }
 }
 
-/// What the items of a file come to, in their order.
+/// What the items of a file come to, in their order, where nothing else is known before the first.
 #[tactic(auto, unfolding(crate::specs::Whole::file_pieces))]
+fn pieces_from<B: Bodies>(
+    alloc: Global,
+    bodies: &B,
+    known: &mut Known,
+    items: &[Item],
+) -> Result<Result<Items<Piece>, Fault>, OutOfMemory>
+    ensures { known.old ≡ first_known items.now → IfOk result (λ r. r ≡ told (file_pieces (B.rule bodies.now) (B.used bodies.now) items.now)) }
+{
+    let pieces = pieces_behind(alloc, bodies, known, items)?;
+    let defined = defined_functions(alloc, bodies, items, known.functions.as_slice())?;
+    Ok(named(short_items(items), kept(pieces, defined)))
+}
+
+/// What the items of a file come to, in their order.
 fn told_pieces<B: Bodies>(
     alloc: Global,
     bodies: &B,
@@ -50,9 +65,9 @@ fn told_pieces<B: Bodies>(
     ensures { IfOk result (λ r. r ≡ told (file_pieces (B.rule bodies.now) (B.used bodies.now) items.now)) }
 {
     let mut known = first_known(alloc, items)?;
-    let pieces = pieces_behind(alloc, bodies, &mut known, items)?;
-    let defined = defined_functions(alloc, bodies, items, known.functions.as_slice())?;
-    Ok(named(short_items(items), kept(pieces, defined)))
+    let pieces = pieces_from(alloc, bodies, &mut known, items);
+    drop(known);
+    pieces
 }
 
 /// What the items of a file come to, in their order; or of all faults in it the one that comes first.
