@@ -1,10 +1,11 @@
 // A function's body (C99 6.9.1).
 
-ghost use Rattle.std.specs.Prelude.{◌≡◌, IfOk, List, false};
+ghost use Rattle.std.specs.Prelude.{◌≡◌, IfOk, List, false, map};
 ghost use Rattle.mdr_core.specs.declared.code.Stmt.{Stmt};
 ghost use Rattle.mdr_core.specs.declared.program.Local.{Local};
 ghost use Rattle.mdr_faults.specs.Faults.{Checked, told, both};
 ghost use Rattle.mdr_operand.specs.Written.{lines_of};
+ghost use Rattle.mdr_body.specs.Locals.{first_here, parameter_taken};
 ghost use Rattle.mdr_body.specs.Mentions.{uses};
 ghost use Rattle.mdr_body.specs.Bodies.{declared_locals, frame_of, body_of, body_by, body_rule};
 
@@ -80,6 +81,22 @@ fn body_by<R: Typing>(
     Ok(body_of(objects, locals, made))
 }
 
+/// What a function's body comes to in a frame.
+fn body_in<R: Typing>(
+    alloc: Global,
+    rules: &R,
+    scope: &Scope,
+    frame: &Frame,
+    h: &Head,
+    nodes: &[Node],
+) -> Result<Result<Body, Fault>, OutOfMemory>
+    ensures { IfOk result (λ r. r ≡ told (body_by (R.rules rules.now) scope.now frame.now (first_here scope.now (lines_of nodes.now) h.now.params) (map (parameter_taken (lines_of nodes.now)) h.now.params) (lines_of nodes.now))) }
+{
+    let objects = parameter_objects(alloc, nodes, h.params.as_slice())?;
+    let here = first_here(alloc, scope, nodes, h.params.as_slice())?;
+    body_by(alloc, rules, scope, frame, here, objects, nodes)
+}
+
 /// What a function's body comes to. The scope is that behind the function's name.
 #[tactic(auto, unfolding(crate::specs::Bodies::body_rule))]
 pub fn body_rule<R: Typing>(
@@ -92,9 +109,9 @@ pub fn body_rule<R: Typing>(
     ensures { IfOk result (λ r. r ≡ told (body_rule (R.rules rules.now) scope.now h.now nodes.now)) }
 {
     let frame = frame_of(alloc, scope, h)?;
-    let objects = parameter_objects(alloc, nodes, h.params.as_slice())?;
-    let here = first_here(alloc, scope, nodes, h.params.as_slice())?;
-    body_by(alloc, rules, scope, &frame, here, objects, nodes)
+    let body = body_in(alloc, rules, scope, &frame, h, nodes);
+    drop(frame);
+    body
 }
 
 /// The rule of bodies, over rules of expressions, assignments and calls.
