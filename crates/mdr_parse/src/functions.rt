@@ -68,8 +68,13 @@ fn body_behind(
     ensures reads { Gives (λ x. x.0) (λ x. x.1.now) result (and_read (front reader.halves body_in tokens.now) (λ ns us. front reader.halves (function_item place head is_critical ns) us)) }
     ensures shorter { IfOk result (λ x. length x.1.now ≤ length tokens.now) }
 {
-    let (body, rest) = function_body(reader, tokens)?;
-    Ok((function_of(reader, place, head, is_critical, body)?, rest))
+    match function_body(reader, tokens) {
+        Ok((body, rest)) => Ok((function_of(reader, place, head, is_critical, body)?, rest)),
+        Err(e) => {
+            drop(head);
+            Err(e)
+        }
+    }
 }
 
 /// A function behind its head and its `{`.
@@ -156,8 +161,13 @@ fn critical_head<'t>(
     ensures shorter { IfOk result (λ x. length x.1.now ≤ length tokens.now) }
 {
     let (head, rest) = function_head(reader, tokens, true, base, count, name)?;
-    let (_, rest) = take(reader.halves, Sort::OpenBrace, rest)?;
-    function_with(reader, rest, place, head, true)
+    match take(reader.halves, Sort::OpenBrace, rest) {
+        Ok((_, rest)) => function_with(reader, rest, place, head, true),
+        Err(e) => {
+            drop(head);
+            Err(e)
+        }
+    }
 }
 
 /// What stands behind the name of a `__critical` function.

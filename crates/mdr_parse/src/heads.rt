@@ -10,13 +10,13 @@ ghost use Rattle.mdr_reader.specs.Gives.{Gives, read_by, after_stars};
 ghost use Rattle.mdr_reader.specs.declared.failure.Failure.TheVariants.{Memory};
 
 use mdr_core::{Items, Place};
-use mdr_declaration::declarators::{parameters, same_base};
+use mdr_declaration::declarators::{named_base, parameters};
 use mdr_declaration::globals::one_of;
 use mdr_grammar::parts::Specifier;
 use mdr_grammar::sort::Sort;
 use mdr_reader::constants::{annotation_option, stars};
 use mdr_reader::failure::Failure;
-use mdr_reader::look::{Reader, copied, split, take, text_of};
+use mdr_reader::look::{Reader, split, take};
 use mdr_syntax::{AnnText, Decl, Head, Item, ItemWhat, Token};
 
 /// The head of a function with its parts.
@@ -31,14 +31,21 @@ fn head_of(
     ensures value { IfOk result (λ h. h ≡ head_with base.now stars name.now params ann) }
     ensures memory { IfErr result (λ e. e ≡ Memory) }
 {
-    Ok(Head {
-        place: name.place,
-        name: copied(reader.alloc, text_of(&name.what))?,
-        base: same_base(reader.alloc, &base.base)?,
-        stars,
-        params,
-        ann,
-    })
+    match named_base(reader, &base.base, name) {
+        Ok((text, base)) => Ok(Head {
+            place: name.place,
+            name: text,
+            base,
+            stars,
+            params,
+            ann,
+        }),
+        Err(e) => {
+            drop(params);
+            drop(ann);
+            Err(e)
+        }
+    }
 }
 
 /// What stands behind the `(` of a function's parameters, up to the result's annotation.
@@ -91,8 +98,13 @@ fn remote_head<'t>(
     ensures shorter { IfOk result (λ x. length x.1.now ≤ length tokens.now) }
 {
     let (head, rest) = function_head(reader, tokens, false, base, count, name)?;
-    let (_, rest) = take(reader.halves, Sort::Semicolon, rest)?;
-    Ok((prototype(reader, place, head, true)?, rest))
+    match take(reader.halves, Sort::Semicolon, rest) {
+        Ok((_, rest)) => Ok((prototype(reader, place, head, true)?, rest)),
+        Err(e) => {
+            drop(head);
+            Err(e)
+        }
+    }
 }
 
 /// What stands behind the name of a `__remote` prototype.

@@ -9,14 +9,13 @@ ghost use Rattle.mdr_reader.specs.Gives.{Gives, read_by, after_stars};
 ghost use Rattle.mdr_reader.specs.declared.failure.Failure.TheVariants.{Memory};
 
 use mdr_core::{Items, Place};
-use mdr_declaration::declarators::{behind_stars, same_base};
-use mdr_declaration::globals::{ended_globals, global_behind};
-use mdr_declaration::initialisers::initial_option;
+use mdr_declaration::declarators::{behind_stars, named_base};
+use mdr_declaration::globals::{ended_globals, global_behind, initialised};
 use mdr_grammar::parts::Specifier;
 use mdr_reader::constants::{annotation_option, size};
 use mdr_reader::failure::Failure;
-use mdr_reader::look::{Reader, copied, text_of};
-use mdr_syntax::{AnnText, Const, Decl, Item, ItemWhat, Token};
+use mdr_reader::look::Reader;
+use mdr_syntax::{AnnText, Const, Decl, Item, Token};
 
 /// The declarator of a global with its parts.
 fn named_decl(
@@ -30,15 +29,22 @@ fn named_decl(
     ensures value { IfOk result (λ d. d ≡ decl_with base.now stars name.now size ann) }
     ensures memory { IfErr result (λ e. e ≡ Memory) }
 {
-    Ok(Decl {
-        place: name.place,
-        name: Some(copied(reader.alloc, text_of(&name.what))?),
-        base: same_base(reader.alloc, &base.base)?,
-        stars,
-        size,
-        fun: None,
-        ann,
-    })
+    match named_base(reader, &base.base, name) {
+        Ok((text, base)) => Ok(Decl {
+            place: name.place,
+            name: Some(text),
+            base,
+            stars,
+            size,
+            fun: None,
+            ann,
+        }),
+        Err(e) => {
+            drop(size);
+            drop(ann);
+            Err(e)
+        }
+    }
 }
 
 /// A global behind its name.
@@ -56,14 +62,7 @@ fn named_global<'t>(
     let (size, rest) = size(reader, tokens)?;
     let (ann, rest) = annotation_option(reader, rest, 0)?;
     let decl = named_decl(reader, base, count, name, size, ann)?;
-    let (init, rest) = initial_option(reader, rest)?;
-    Ok((
-        Item {
-            place,
-            what: ItemWhat::Global(decl, init),
-        },
-        rest,
-    ))
+    initialised(reader, rest, place, decl)
 }
 
 /// Globals behind the name of the first.
