@@ -56,13 +56,47 @@ pub fn with_types(alloc: Global, types: Items<Ty>, parts: Parts) -> Result<Progr
         types.as_slice(),
         parts.structs.as_slice(),
         parts.variables.as_slice(),
-    )?;
-    Ok(Program {
-        types,
+    );
+    match globals {
+        Ok(globals) => Ok(Program {
+            types,
+            structs: parts.structs,
+            globals,
+            funcs: parts.funcs,
+        }),
+        Err(error) => {
+            drop(types);
+            drop(parts);
+            Err(error)
+        }
+    }
+}
+
+/// The program of these structs, globals and functions, in which these types occur.
+fn made_of(alloc: Global, parts: Parts, occurring: Items<Ty>) -> Result<Program, OutOfMemory>
+    ensures { IfOk result (λ p. p ≡ with_types (type_table parts.structs occurring) parts) }
+{
+    let bare = Program {
+        types: Items::new(alloc),
         structs: parts.structs,
-        globals,
+        globals: Items::new(alloc),
         funcs: parts.funcs,
-    })
+    };
+    match type_table(alloc, &bare, occurring.as_slice()) {
+        Ok(table) => {
+            let parts = Parts {
+                structs: bare.structs,
+                variables: parts.variables,
+                funcs: bare.funcs,
+            };
+            with_types(alloc, table, parts)
+        }
+        Err(error) => {
+            drop(bare);
+            drop(parts.variables);
+            Err(error)
+        }
+    }
 }
 
 /// The program of these structs, globals and functions.
@@ -70,18 +104,11 @@ pub fn with_types(alloc: Global, types: Items<Ty>, parts: Parts) -> Result<Progr
 pub fn made(alloc: Global, parts: Parts) -> Result<Program, OutOfMemory>
     ensures { IfOk result (λ p. p ≡ made parts) }
 {
-    let types = occurring_types(alloc, &parts)?;
-    let bare = Program {
-        types: Items::new(alloc),
-        structs: parts.structs,
-        globals: Items::new(alloc),
-        funcs: parts.funcs,
-    };
-    let table = type_table(alloc, &bare, types.as_slice())?;
-    let parts = Parts {
-        structs: bare.structs,
-        variables: parts.variables,
-        funcs: bare.funcs,
-    };
-    with_types(alloc, table, parts)
+    match occurring_types(alloc, &parts) {
+        Ok(types) => made_of(alloc, parts, types),
+        Err(_) => {
+            drop(parts);
+            Err(OutOfMemory)
+        }
+    }
 }
