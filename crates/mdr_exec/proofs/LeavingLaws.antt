@@ -20,7 +20,7 @@ use Rattle.mdr_exec.specs.declared.places.Part.TheVariants as part
 use Rattle.mdr_exec.specs.declared.places.Position.{Position}
 use Rattle.mdr_exec.specs.Found.{body_codes}
 use Rattle.mdr_exec.specs.Held.{Front, Runs, Unwinds, Item, Rest, Scope, Held, carry, bare, tree, loop_again}
-use Rattle.mdr_exec.specs.Holding.{around, below_of, block_of, ends_with, flow_as, front_in, here_of, held_of, wires_of}
+use Rattle.mdr_exec.specs.Holding.{around, below_of, block_of, ends_with, flow_as, front_in, here_of, held_of, is_running, wires_of}
 use Rattle.mdr_exec.specs.Leaving.{is_loop, ending_by, passed_on, NoneDies, LeavesNone, leaves_list, goes_behind, goes_round, turn_left, step_left}
 use Rattle.mdr_exec.specs.Places.{behind, code_before, inner, part_of}
 use Rattle.mdr_exec.specs.Steps.{holds, front_after, IsSame}
@@ -203,6 +203,19 @@ module _ (program : Program) (m : Machine) (flow : Flow) (p : Position) where
       moved_to side (leaves_list program m flow p) (step_left program m flow p.next) held is same
 
 -- ---- what the machine holds behind it
+
+-- nothing came before the statement, and nothing does then
+pub still_running : (program : Program) (frame : Running) (b : Before) → is_running b ≡ true → front_in program frame b ≡ Runs
+still_running program frame front.Runs h = refl
+still_running program frame (front.Unwinds flow) h = absurd (cc h)
+still_running program frame (front.Comes v) h = absurd (cc h)
+still_running program frame front.Enters h = absurd (cc h)
+still_running program frame (front.Fills ps) h = absurd (cc h)
+still_running program frame (front.Born i p) h = absurd (cc h)
+still_running program frame front.WaitsValue h = absurd (cc h)
+still_running program frame (front.WaitsParams room) h = absurd (cc h)
+still_running program frame (front.WaitsObject i) h = absurd (cc h)
+still_running program frame (front.WaitsDeath flow) h = absurd (cc h)
 
 held_front : (program : Program) (m : Machine) (b : Before) (flow : Flow) (next : ℕ) (born : List Value) → ((program : Program) (frame : Running) → front_in program frame b ≡ front_after flow)
     → held_of program (record {

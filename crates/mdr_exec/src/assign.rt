@@ -19,9 +19,9 @@ ghost use Rattle.mdr_exec.specs.Steps.{Ticks};
 ghost use Rattle.mdr_exec.specs.Storing.{slot_named, with_slots};
 
 use crate::evaluate::{evaluated, located};
-use crate::frame::{Flow, Machine};
+use crate::frame::Machine;
 use crate::halt::Halt;
-use crate::leave::go_past;
+use crate::leave::go_on;
 use crate::memory::Memory;
 use mdr_core::{Expr, Items, Lval, Program, StopKind, Value};
 
@@ -108,7 +108,7 @@ fn assign<C: Memory>(
     let done = put(program, memory, &mut machine.top.slots, p, value)?;
     match done {
         Ok(()) => {
-            go_past(machine, Flow::Ends, machine.top.next + 1);
+            go_on(machine, machine.top.next + 1);
             Ok(None)
         }
         Err(stop) => Ok(Some(stop)),

@@ -4,6 +4,7 @@ ghost use Rattle.std.specs.Prelude.{◌≡◌, IfOk};
 ghost use Rattle.mdr_core.specs.Folds.{lvalue_of, term_of};
 ghost use Rattle.mdr_core.specs.Sound.{IsSound};
 ghost use Rattle.mdr_meaning.specs.Bodies.{known_of};
+ghost use Rattle.mdr_meaning.specs.Pointers.{global as global_at};
 ghost use Rattle.mdr_meaning.specs.Values.{wire_of};
 ghost use Rattle.mdr_exec.specs.Evaluation.{after_value, fresh_of, loaded_by, place_of, value_of};
 ghost use Rattle.mdr_exec.specs.Holding.{wires_of};
@@ -58,6 +59,22 @@ fn loaded_by<C: Memory>(
     }
 }
 
+/// The value of a global.
+fn global_value<C: Memory>(
+    program: &Program,
+    memory: &C,
+    g: u32,
+) -> Result<Result<Value, StopKind>, Halt>
+    requires { IsSound program.now }
+    ensures { IfOk result (λ r. wired r ≡ C.accesses.load memory.now (global_at (known_of program.now) g)) }
+{
+    let pointer = global(program, memory, g)?;
+    Ok(memory.load(pointer))
+}
+
+// ---- expressions and lvalues. Each form but the shortest has a function of its own: a function takes room for all that
+// its arms make, however few of them run
+
 /// The value of an expression, or the first stop from left to right.
 #[cycle(evaluate)]
 #[tactic(auto, unfolding(crate::specs::Evaluation::value_of))]
@@ -72,10 +89,77 @@ pub(crate) fn evaluated<C: Memory>(
 {
     match e {
         Expr::Lit(value) => Ok(Ok(*value)),
-        Expr::Load(p) => {
+        Expr::Load(_) => load_value(program, memory, slots, e),
+        Expr::Addr(_) => address(program, memory, slots, e),
+        Expr::Decay(_) => address(program, memory, slots, e),
+        Expr::Bin(_, _, _, _) => binary(program, memory, slots, e),
+        Expr::Rel(_, _, _) => relation(program, memory, slots, e),
+        Expr::And(_, _) => logical(program, memory, slots, e),
+        Expr::Or(_, _) => logical(program, memory, slots, e),
+        Expr::Neg(_, _) => unary(program, memory, slots, e),
+        Expr::Flip(_, _) => unary(program, memory, slots, e),
+        Expr::Not(_) => unary(program, memory, slots, e),
+        Expr::Conv(_, _) => conversion(program, memory, slots, e),
+        Expr::ToVoid(_) => conversion(program, memory, slots, e),
+        Expr::FromVoid(_, _) => conversion(program, memory, slots, e),
+        Expr::Move(_, _, _) => moving(program, memory, slots, e),
+        Expr::Diff(_, _) => moving(program, memory, slots, e),
+    }
+}
+
+/// What is loaded.
+#[cycle(evaluate)]
+#[tactic(auto, unfolding(crate::specs::Evaluation::value_of))]
+fn load_value<C: Memory>(
+    program: &Program,
+    memory: &C,
+    slots: &[Value],
+    e: &Expr,
+) -> Result<Result<Value, StopKind>, Halt>
+    requires { IsSound program.now }
+    ensures { IfOk result (λ r. wired r ≡ value_of C.accesses memory.now (known_of program.now) (wires_of slots.now) (term_of e.now)) }
+{
+    match e {
+        Expr::Load(p) => load_place(program, memory, slots, p),
+        _ => Err(Halt::Unfit),
+    }
+}
+
+/// The value of what an lvalue names.
+#[cycle(evaluate)]
+#[tactic(auto, unfolding(crate::specs::Evaluation::place_of))]
+fn load_place<C: Memory>(
+    program: &Program,
+    memory: &C,
+    slots: &[Value],
+    p: &Lval,
+) -> Result<Result<Value, StopKind>, Halt>
+    requires { IsSound program.now }
+    ensures { IfOk result (λ r. wired r ≡ loaded_by C.accesses memory.now (wires_of slots.now) (lvalue_of p.now) (place_of C.accesses memory.now (known_of program.now) (wires_of slots.now) (lvalue_of p.now))) }
+{
+    match p {
+        Lval::Slot(i) => Ok(fresh(memory, slot_at(slots, *i))),
+        Lval::Global(g) => global_value(program, memory, *g),
+        Lval::Object(_) | Lval::Deref(_) | Lval::Member(_, _) | Lval::Index(_, _) => {
             let place = located(program, memory, slots, p)?;
             Ok(loaded_by(memory, slots, p, place))
         }
+    }
+}
+
+/// The address of what an lvalue names.
+#[cycle(evaluate)]
+#[tactic(auto, unfolding(crate::specs::Evaluation::value_of))]
+fn address<C: Memory>(
+    program: &Program,
+    memory: &C,
+    slots: &[Value],
+    e: &Expr,
+) -> Result<Result<Value, StopKind>, Halt>
+    requires { IsSound program.now }
+    ensures { IfOk result (λ r. wired r ≡ value_of C.accesses memory.now (known_of program.now) (wires_of slots.now) (term_of e.now)) }
+{
+    match e {
         Expr::Addr(p) => {
             let place = located(program, memory, slots, p)?;
             Ok(place)
@@ -84,6 +168,23 @@ pub(crate) fn evaluated<C: Memory>(
             let place = located(program, memory, slots, p)?;
             Ok(place)
         }
+        _ => Err(Halt::Unfit),
+    }
+}
+
+/// An operator with one operand.
+#[cycle(evaluate)]
+#[tactic(auto, unfolding(crate::specs::Evaluation::value_of))]
+fn unary<C: Memory>(
+    program: &Program,
+    memory: &C,
+    slots: &[Value],
+    e: &Expr,
+) -> Result<Result<Value, StopKind>, Halt>
+    requires { IsSound program.now }
+    ensures { IfOk result (λ r. wired r ≡ value_of C.accesses memory.now (known_of program.now) (wires_of slots.now) (term_of e.now)) }
+{
+    match e {
         Expr::Neg(kind, e) => {
             let x = evaluated(program, memory, slots, e.get())?;
             let result = negated(*kind, x)?;
@@ -98,17 +199,68 @@ pub(crate) fn evaluated<C: Memory>(
             let x = evaluated(program, memory, slots, e.get())?;
             Ok(inverted(x))
         }
+        _ => Err(Halt::Unfit),
+    }
+}
+
+/// An operator with two operands.
+#[cycle(evaluate)]
+#[tactic(auto, unfolding(crate::specs::Evaluation::value_of))]
+fn binary<C: Memory>(
+    program: &Program,
+    memory: &C,
+    slots: &[Value],
+    e: &Expr,
+) -> Result<Result<Value, StopKind>, Halt>
+    requires { IsSound program.now }
+    ensures { IfOk result (λ r. wired r ≡ value_of C.accesses memory.now (known_of program.now) (wires_of slots.now) (term_of e.now)) }
+{
+    match e {
         Expr::Bin(op, kind, x, y) => {
             let left = evaluated(program, memory, slots, x.get())?;
             let right = evaluated(program, memory, slots, y.get())?;
             let result = combined(*op, *kind, left, right)?;
             Ok(result)
         }
+        _ => Err(Halt::Unfit),
+    }
+}
+
+/// A comparison.
+#[cycle(evaluate)]
+#[tactic(auto, unfolding(crate::specs::Evaluation::value_of))]
+fn relation<C: Memory>(
+    program: &Program,
+    memory: &C,
+    slots: &[Value],
+    e: &Expr,
+) -> Result<Result<Value, StopKind>, Halt>
+    requires { IsSound program.now }
+    ensures { IfOk result (λ r. wired r ≡ value_of C.accesses memory.now (known_of program.now) (wires_of slots.now) (term_of e.now)) }
+{
+    match e {
         Expr::Rel(op, x, y) => {
             let left = evaluated(program, memory, slots, x.get())?;
             let right = evaluated(program, memory, slots, y.get())?;
             Ok(related(program, *op, left, right))
         }
+        _ => Err(Halt::Unfit),
+    }
+}
+
+/// `&&` and `||`.
+#[cycle(evaluate)]
+#[tactic(auto, unfolding(crate::specs::Evaluation::value_of))]
+fn logical<C: Memory>(
+    program: &Program,
+    memory: &C,
+    slots: &[Value],
+    e: &Expr,
+) -> Result<Result<Value, StopKind>, Halt>
+    requires { IsSound program.now }
+    ensures { IfOk result (λ r. wired r ≡ value_of C.accesses memory.now (known_of program.now) (wires_of slots.now) (term_of e.now)) }
+{
+    match e {
         Expr::And(x, y) => {
             let left = evaluated(program, memory, slots, x.get())?;
             match both_by(left) {
@@ -129,6 +281,23 @@ pub(crate) fn evaluated<C: Memory>(
                 }
             }
         }
+        _ => Err(Halt::Unfit),
+    }
+}
+
+/// A value as one of another type.
+#[cycle(evaluate)]
+#[tactic(auto, unfolding(crate::specs::Evaluation::value_of))]
+fn conversion<C: Memory>(
+    program: &Program,
+    memory: &C,
+    slots: &[Value],
+    e: &Expr,
+) -> Result<Result<Value, StopKind>, Halt>
+    requires { IsSound program.now }
+    ensures { IfOk result (λ r. wired r ≡ value_of C.accesses memory.now (known_of program.now) (wires_of slots.now) (term_of e.now)) }
+{
+    match e {
         Expr::Conv(kind, e) => {
             let x = evaluated(program, memory, slots, e.get())?;
             Ok(converted(*kind, x))
@@ -141,6 +310,23 @@ pub(crate) fn evaluated<C: Memory>(
             let x = evaluated(program, memory, slots, e.get())?;
             Ok(cast(program, ty, x))
         }
+        _ => Err(Halt::Unfit),
+    }
+}
+
+/// Pointers that are moved or subtracted.
+#[cycle(evaluate)]
+#[tactic(auto, unfolding(crate::specs::Evaluation::value_of))]
+fn moving<C: Memory>(
+    program: &Program,
+    memory: &C,
+    slots: &[Value],
+    e: &Expr,
+) -> Result<Result<Value, StopKind>, Halt>
+    requires { IsSound program.now }
+    ensures { IfOk result (λ r. wired r ≡ value_of C.accesses memory.now (known_of program.now) (wires_of slots.now) (term_of e.now)) }
+{
+    match e {
         Expr::Move(back, p, i) => {
             let pointer = evaluated(program, memory, slots, p.get())?;
             let count = evaluated(program, memory, slots, i.get())?;
@@ -151,6 +337,7 @@ pub(crate) fn evaluated<C: Memory>(
             let right = evaluated(program, memory, slots, q.get())?;
             Ok(difference(left, right))
         }
+        _ => Err(Halt::Unfit),
     }
 }
 
@@ -173,6 +360,25 @@ pub(crate) fn located<C: Memory>(
             let pointer = global(program, memory, *g)?;
             Ok(Ok(pointer))
         }
+        Lval::Deref(_) => located_inside(program, memory, slots, p),
+        Lval::Member(_, _) => located_inside(program, memory, slots, p),
+        Lval::Index(_, _) => located_inside(program, memory, slots, p),
+    }
+}
+
+/// The address of what a pointer, or what lies around it, names.
+#[cycle(evaluate)]
+#[tactic(auto, unfolding(crate::specs::Evaluation::place_of))]
+fn located_inside<C: Memory>(
+    program: &Program,
+    memory: &C,
+    slots: &[Value],
+    p: &Lval,
+) -> Result<Result<Value, StopKind>, Halt>
+    requires { IsSound program.now }
+    ensures { IfOk result (λ r. wired r ≡ place_of C.accesses memory.now (known_of program.now) (wires_of slots.now) (lvalue_of p.now)) }
+{
+    match p {
         Lval::Deref(e) => {
             let pointer = evaluated(program, memory, slots, e.get())?;
             Ok(pointer)
@@ -187,5 +393,6 @@ pub(crate) fn located<C: Memory>(
             let count = evaluated(program, memory, slots, e.get())?;
             Ok(moved(false, pointer, count))
         }
+        _ => Err(Halt::Unfit),
     }
 }

@@ -1,14 +1,14 @@
 // Lists of statements are left.
 
-ghost use Rattle.std.specs.Prelude.{◌≡◌, ◌++◌, ◌∷◌, [], List, Some, IfOk, OnOk, MatchOption};
+ghost use Rattle.std.specs.Prelude.{◌≡◌, ◌++◌, ◌∷◌, [], List, Some, true, IfOk, OnOk, MatchOption};
 ghost use Rattle.mdr_core.specs.Folds.{code_of};
 ghost use Rattle.mdr_core.specs.declared.program.Program.{Program as AnyProgram};
-ghost use Rattle.mdr_meaning.specs.Sides.{Side as AnySide};
+ghost use Rattle.mdr_meaning.specs.Sides.{Ends, Side as AnySide};
 ghost use Rattle.mdr_exec.specs.declared.frame.Frame.{Frame as AnyFrame};
 ghost use Rattle.mdr_exec.specs.declared.frame.Front.TheVariants as front;
 ghost use Rattle.mdr_exec.specs.declared.places.Position.{Position as AnyPosition};
 ghost use Rattle.mdr_exec.specs.Found.{body_codes, codes_in};
-ghost use Rattle.mdr_exec.specs.Holding.{block_of, flow_as, front_in, held_of, wires_of};
+ghost use Rattle.mdr_exec.specs.Holding.{block_of, flow_as, front_in, held_of, is_running, wires_of};
 ghost use Rattle.mdr_exec.specs.Leaving.{LeavesNone, ending_by, goes_behind, goes_round, is_loop, leaves_list, passed_on, step_left, turn_left};
 ghost use Rattle.mdr_exec.specs.Places.{code_before, inner};
 ghost use Rattle.mdr_exec.specs.Steps.{IsSame, front_after};
@@ -93,6 +93,14 @@ pub(crate) fn goes_round(machine: &Machine, program: &Program, next: usize) -> b
     is_behind_loop(block, next)
 }
 
+/// What ends with a list of the statement at a position, of which the machine's place is the block around.
+pub(crate) fn ending_at(machine: &Machine, program: &Program, part: Part, next: usize) -> Ending
+    ensures { result ≡ ending_by part (is_loop (code_before (block_of program.now machine.now.top) next)) }
+{
+    let loops = goes_round(machine, program, next);
+    what_ends(part, loops)
+}
+
 fn front_after(flow: Flow) -> Front
     ensures { (program : AnyProgram) (frame : AnyFrame) → front_in program frame result ≡ front_after (flow_as flow) }
 {
@@ -153,6 +161,14 @@ pub(crate) fn go_past(machine: &mut Machine, flow: Flow, next: usize)
 {
     machine.top.next = next;
     machine.front = front_after(flow);
+}
+
+/// Goes on at a position of the block, where nothing came before it.
+pub(crate) fn go_on(machine: &mut Machine, next: usize)
+    requires runs { is_running machine.old.front ≡ true }
+    ensures { (program : AnyProgram) → held_of program machine.new ≡ goes_behind program machine.old Ends next (wires_of machine.old.top.born) }
+{
+    machine.top.next = next;
 }
 
 /// Goes on with the step of the loop at a position.
@@ -236,20 +252,21 @@ fn leave_step(machine: &mut Machine, flow: Flow, next: usize)
     }
 }
 
-/// Leaves a list of the statement at a position, of which the machine's place is the block around. No object is left in
-/// it that would die.
+/// Leaves a list of the statement at a position, of which the machine's place is the block around, with what ends then.
+/// No object is left in it that would die.
 pub(crate) fn leave_list(
     machine: &mut Machine,
     alloc: Global,
     program: &Program,
     flow: Flow,
     p: Position,
+    ending: Ending,
 ) -> Result<(), AllocError>
-    requires { LeavesNone (ending_by p.part (is_loop (code_before (block_of program.now machine.old.top) p.next))) (flow_as flow) (wires_of machine.old.top.born) }
+    requires ending { ending ≡ ending_by p.part (is_loop (code_before (block_of program.now machine.old.top) p.next)) }
+    requires none { LeavesNone (ending_by p.part (is_loop (code_before (block_of program.now machine.old.top) p.next))) (flow_as flow) (wires_of machine.old.top.born) }
     ensures { OnOk result ((side : AnySide) → IsSame side (leaves_list program.now machine.old (flow_as flow) p) (held_of program.now machine.new)) }
 {
-    let loops = goes_round(machine, program, p.next);
-    match what_ends(p.part, loops) {
+    match ending {
         Ending::Plain => {
             leave_plain(machine, flow, p)?;
             Ok(())
@@ -279,7 +296,8 @@ pub(crate) fn leave_block(
 {
     match last_off(alloc, &mut machine.top.path) {
         Some(p) => {
-            leave_list(machine, alloc, program, flow, p)?;
+            let ending = ending_at(machine, program, p.part, p.next);
+            leave_list(machine, alloc, program, flow, p, ending)?;
             Ok(())
         }
         None => Ok(()),

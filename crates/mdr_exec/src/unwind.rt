@@ -14,7 +14,7 @@ ghost use Rattle.mdr_exec.specs.Went.{dies_in, inside, left_came};
 
 use crate::close::{die, end_function};
 use crate::frame::{Flow, Machine};
-use crate::leave::{Ending, goes_round, last_off, leave_list, what_ends};
+use crate::leave::{Ending, ending_at, last_off, leave_list};
 use crate::memory::Memory;
 use crate::places::{Part, Position};
 use mdr_core::{Items, Program, Value};
@@ -53,12 +53,20 @@ fn is_returned(flow: Flow) -> bool
     }
 }
 
-/// Whether objects die with a list of the statement at a position, of which the machine's place is the block around.
-fn dies_in(machine: &Machine, program: &Program, flow: Flow, part: Part, next: usize) -> bool
+/// Whether objects die with a list of the statement at a position, of which the machine's place is the block around,
+/// given what ends.
+fn dies_in(
+    machine: &Machine,
+    program: &Program,
+    flow: Flow,
+    part: Part,
+    next: usize,
+    ending: Ending,
+) -> bool
+    requires { ending ≡ ending_by part (is_loop (code_before (block_of program.now machine.now.top) next)) }
     ensures { result ≡ dies_in (ending_by part (is_loop (code_before (block_of program.now machine.now.top) next))) (flow_as flow) (wires_of machine.now.top.born) }
 {
-    let loops = goes_round(machine, program, next);
-    dies_with(what_ends(part, loops), flow, machine.top.born.as_slice())
+    dies_with(ending, flow, machine.top.born.as_slice())
 }
 
 fn dies_with(ending: Ending, flow: Flow, born: &[Value]) -> bool
@@ -90,11 +98,12 @@ fn leave_or_die<C: Memory>(
     requires { machine.old.front ≡ front.Unwinds flow }
     ensures { IfOk result (λ r. (side : AnySide) → side.asks ≡ asks_on machine.old.side → Steps C.accesses side (held_of program.now (inside machine.old p)) memory.old (left_came r (in_here (here_in program.now machine.old) 0)) (held_of program.now machine.new) memory.new) }
 {
-    if dies_in(machine, program, flow, p.part, p.next) {
+    let ending = ending_at(machine, program, p.part, p.next);
+    if dies_in(machine, program, flow, p.part, p.next, ending) {
         machine.top.path.push(p)?;
         Ok(let_die(machine, alloc, memory, flow))
     } else {
-        leave_list(machine, alloc, program, flow, p)?;
+        leave_list(machine, alloc, program, flow, p, ending)?;
         Ok(Left::Goes)
     }
 }

@@ -19,7 +19,7 @@ use Rattle.mdr_plain.specs.Laws.{GivesNoTicks}
 use Rattle.mdr_plain.specs.Plain.{whole}
 use Rattle.mdr_plain.specs.Running.{Before, KernelCode}
 use Rattle.mdr_plain.specs.Services.{served}
-use Rattle.mdr_plain.specs.World.{World, Ran, Ended, advanced, done}
+use Rattle.mdr_plain.specs.World.{World, Clock, Kept, Ran, Ended, advanced, done}
 use Rattle.mdr_runs.specs.Following.{Stands, goes_on}
 use Rattle.mdr_world.specs.Driven.{Driven}
 use Rattle.mdr_whole.specs.declared.code.Code.{Code}
@@ -76,6 +76,16 @@ abbrev pub Passed : Program → Side → Machine → Driven → Machine → Even
 Passed program side machine d machine' e d' =
     (before : Before) → GivesNoTicks before → (fuel : ℕ) (all : Ran Wire) (at : At) (w : World)
     → Tried program side before fuel all machine at w → Counted w d.world → StandsAt program side before fuel all machine' e d'
+
+-- from a clock on nothing is done before ticks, whatever memory is then
+abbrev pub IsCalm : Before → Kept → Clock → Type 0
+IsCalm before kept c = (j d : ℕ) (w : World) → w.kept ≡ kept → w.clock ≡ advanced j c → before d w ≡ done w
+
+-- it ran with all ticks that were left, nothing was done before them, and those that it took were counted
+abbrev pub RanThrough : Program → Side → Machine → Driven → Machine → Event → Driven → Type 0
+RanThrough program side machine d machine' e d' =
+    (before : Before) → GivesNoTicks before → (fuel : ℕ) (all : Ran Wire) (at : At) → IsCalm before d.world.kept d.world.clock
+    → StandsAt program side before fuel all machine (event.TicksOut at) d → StandsAt program side before fuel all machine' e d'
 
 -- behind what was tried before a tick, the next event or the end
 abbrev pub Follows : Program → Side → At → Machine → Driven → Machine → Next → Driven → Type 0

@@ -1,6 +1,6 @@
 // A machine runs from event to event.
 
-ghost use Rattle.std.specs.Prelude.{◌≡◌, ◌-◌, true, IfOk, OnOk, IsTrue};
+ghost use Rattle.std.specs.Prelude.{◌≡◌, ◌≤◌, ◌-◌, None, true, IfOk, OnOk, IsTrue};
 ghost use Rattle.mdr_core.specs.Sound.{IsSound};
 ghost use Rattle.mdr_exec.specs.declared.event.Event.TheVariants as event;
 ghost use Rattle.mdr_exec.specs.Going.{RanTo};
@@ -8,9 +8,10 @@ ghost use Rattle.mdr_exec.specs.Holding.{FitQuestion, held_of, waits, wires_of};
 ghost use Rattle.mdr_plain.specs.Laws.{GivesNoTicks};
 ghost use Rattle.mdr_plain.specs.Running.{Before as AnyBefore};
 ghost use Rattle.mdr_runs.specs.Following.{tried_by};
-ghost use Rattle.mdr_world.specs.Driven.{driven_accesses};
+ghost use Rattle.mdr_plain.specs.World.{advanced};
+ghost use Rattle.mdr_world.specs.Driven.{driven_accesses, driver};
 ghost use Rattle.mdr_whole.specs.Ending.{fits, gave_as};
-ghost use Rattle.mdr_whole.specs.Going.{Began, Follows, GoesOn, GoesOnWith, Passed, machine_does, side_of};
+ghost use Rattle.mdr_whole.specs.Going.{Began, Follows, GoesOn, GoesOnWith, Passed, RanThrough, machine_does, side_of};
 
 use crate::before::Before;
 use crate::code::Code;
@@ -32,7 +33,8 @@ fn go(
     ticks: u64,
 ) -> Result<Event, OutOfMemory>
     requires { IsSound code.program.now }
-    ensures { IfOk result (λ e. RanTo driven_accesses (side_of code.entry) (held_of code.entry.program.now machine.old) world.old ticks e (held_of code.entry.program.now machine.new) world.new (ticks - machine.new.used)) }
+    ensures ran { IfOk result (λ e. RanTo driven_accesses (side_of code.entry) (held_of code.entry.program.now machine.old) world.old ticks e (held_of code.entry.program.now machine.new) world.new (ticks - machine.new.used)) }
+    ensures used { OnOk result (machine.new.used ≤ ticks) }
 {
     machine.side = code.side;
     match machine.go(alloc, code.program, code.halves, world, ticks) {
@@ -90,6 +92,48 @@ fn pass(
     Ok(Next::Gave(Gave::Stopped(StopKind::Ticks, Some(at))))
 }
 
+/// So many ticks are counted.
+fn count(world: &mut World, ticks: u64) -> Result<(), OutOfMemory>
+    ensures { OnOk result (world.new ≡ driver world.old.program (record world.old.world { clock = advanced ticks world.old.world.clock })) }
+{
+    for _tick in 0..ticks {
+        if !world.tick() {
+            return Err(OutOfMemory);
+        }
+    }
+    Ok(())
+}
+
+/// Runs a machine with all ticks that are left, where nothing is done before them, and counts those that it took.
+fn run_through(
+    machine: &mut Machine,
+    alloc: Global,
+    code: Code,
+    world: &mut World,
+) -> Result<Event, OutOfMemory>
+    requires sound { IsSound code.program.now }
+    requires same { world.old.program ≡ code.program.now }
+    ensures { IfOk result (λ e. RanThrough code.entry.program.now (side_of code.entry) machine.old world.old machine.new e world.new) }
+{
+    let ticks = world.rest();
+    let event = go(machine, alloc, code, world, ticks)?;
+    count(world, machine.used())?;
+    Ok(event)
+}
+
+/// Whether ticks are left and no function handles interrupts, so that none is taken before a tick.
+fn is_calm(world: &World) -> bool
+    ensures { IsTrue result → world.now.world.kept.handler ≡ None }
+{
+    if world.rest() == 0 {
+        return false;
+    }
+    match world.handler() {
+        Some(_) => false,
+        None => true,
+    }
+}
+
 /// A tick is wanted: what stands before it is tried first.
 fn tick<B: Before>(
     machine: &mut Machine,
@@ -102,6 +146,10 @@ fn tick<B: Before>(
     requires same { world.old.program ≡ code.program.now }
     ensures { IfOk result (λ n. GoesOn code.entry.program.now (side_of code.entry) (tried_by B.tries code.entry.program.now (side_of code.entry)) machine.old (event.TicksOut at) world.old machine.new n world.new) }
 {
+    if is_calm(world) {
+        let event = run_through(machine, alloc, code, world)?;
+        return Ok(Next::Came(event));
+    }
     let depth = machine.active();
     let tried = B::attempt(alloc, code, world, depth)?;
     match tried {

@@ -8,7 +8,7 @@ use Rattle.mdr_exec.proofs.assign.assign.Goals as goal
 pub returns-in-Ok : goal.returns-in-Ok
 returns-in-Ok g c =
     assign_goes g.C.Memory.accesses c.args.program.now c.args.machine.now c.args.memory.now c.requires.runs (lvalue_of c.args.p.now) (wire_of c.args.value) c.in_ok-done.done c.put.new.slots c.put.new.memory
-    (held_of c.args.program.now c.go_past.new.machine) (c.args.machine.now.top.next + 1) c.in_ok-done.ensures c.in-Ok.field-0 c.in-Ok.is refl (c.go_past.ensures c.args.program.now)
+    (held_of c.args.program.now c.go_on.new.machine) (c.args.machine.now.top.next + 1) c.in_ok-done.ensures c.in-Ok.field-0 c.in-Ok.is refl (c.go_on.ensures c.args.program.now)
 
 pub returns-in-Err : goal.returns-in-Err
 returns-in-Err g c =

@@ -2,8 +2,8 @@ use Rattle.mdr_exec.specs.Holding.{held_of}
 use Rattle.mdr_exec.proofs.LeavingLaws.{block_left, place_kept}
 use Rattle.mdr_exec.proofs.leave.leave_block.Goals as goal
 
-pub leave_list-requires : goal.leave_list-requires
-leave_list-requires c = c.requires.none c.last_off.new.list c.in-Some.p c.in-Some.ensures
+pub leave_list-requires-clause-none : goal.leave_list-requires-clause-none
+leave_list-requires-clause-none c = c.requires.none c.last_off.new.list c.in-Some.p c.in-Some.ensures
 
 pub returns-in_ok-leave_list-in-Some : goal.returns-in_ok-leave_list-in-Some
 returns-in_ok-leave_list-in-Some c =
