@@ -610,36 +610,34 @@ module _ (most : ℕ) (wide : 256 ≤ most) (program : Program) (sound : IsSound
       turn_fair : (again step body : Go) → GoFair here again → GoFair here step → GoFair here body → GoFair here (turn side low here again step body)
       turn_fair again step body a b e = record { by = λ K live base l st k n. (block_fair here h.place.whole body e).by K live base l st (around again step k) (around_fair K here base again step k a b n) }
 
+      -- a statement begins with a tick, before which more may become known
+      tick_fair : (n : ℕ) → IsPlace side (in_here here n) → (go : Go) → GoFair here go → GoFair here (λ l k. Tree.Tick (in_here here n) here.depth (go l k))
+      tick_fair n w go a = record {
+        by = λ K live base l st k q. (w, h.place.some, h.place.limited, λ K' g. a.by K' live base l (stands_grow K K' g here.slots live base l st) k (next_grows K K' g here base k q));
+      }
+
       mutual
         stmt_fair : (in_loop : Bool) (code : Code) → IsTyped program here.slots here.result in_loop code → CodeWithin program uses here.slots here.func code → InsideCode side here code → GoFair here (stmt side low here code)
-        stmt_fair in_loop (Code.Declare n i) t c p = let w = p.each n (eq-eqb n n refl) in record { by = λ K live base l st k q. (w, h.place.some, h.place.limited, declare_fair i t.right K live base l st k q) }
-        stmt_fair in_loop (Code.Text n i bytes) t c p = let w = p.each n (eq-eqb n n refl) in record { by = λ K live base l st k q. (w, h.place.some, h.place.limited, text_fair (in_here here n) w i bytes t.right K live base l st k q) }
+        stmt_fair in_loop (Code.Declare n i) t c p = let w = p.each n (eq-eqb n n refl) in tick_fair n w _ (record { by = λ K live base l st k q. declare_fair i t.right K live base l st k q })
+        stmt_fair in_loop (Code.Text n i bytes) t c p = let w = p.each n (eq-eqb n n refl) in tick_fair n w _ (record { by = λ K live base l st k q. text_fair (in_here here n) w i bytes t.right K live base l st k q })
         stmt_fair in_loop (Code.Assign n target e) t c p =
             let w = p.each n (eq-eqb n n refl) in
-            record {
-              by = λ K live base l st k q. (
-                w,
-                h.place.some,
-                h.place.limited,
-                value_goes (in_here here n) w K here.slots live base l st e t.right.type t.right.value c.1 (λ v. put (known_of program) (in_here here n) target v l (k Ends))
-                    (λ v fits. put_fair (in_here here n) w K here.slots live base l st target t.right.type t.right.object c.0 v fits (k Ends) (λ l' st'. q.by K (grows_same K) live Ends l' st' tt)),
-              );
-            }
-        stmt_fair in_loop (Code.Call n goal form) t c p = let w = p.each n (eq-eqb n n refl) in record { by = λ K live base l st k q. (w, h.place.some, h.place.limited, goal_fair (in_here here n) w goal form t.right c.0 c.1 K live base l st k q) }
+            tick_fair n w _
+            (record {
+              by = λ K live base l st k q. value_goes (in_here here n) w K here.slots live base l st e t.right.type t.right.value c.1 (λ v. put (known_of program) (in_here here n) target v l (k Ends))
+                  (λ v fits. put_fair (in_here here n) w K here.slots live base l st target t.right.type t.right.object c.0 v fits (k Ends) (λ l' st'. q.by K (grows_same K) live Ends l' st' tt));
+            })
+        stmt_fair in_loop (Code.Call n goal form) t c p = let w = p.each n (eq-eqb n n refl) in tick_fair n w _ (record { by = λ K live base l st k q. goal_fair (in_here here n) w goal form t.right c.0 c.1 K live base l st k q })
         stmt_fair in_loop (Code.If n e one other) t c p =
             let w = p.each n (own_first n (stands n one || stands n other)) in
             let first : Inside side here one = record { each = λ m q. p.each m (or_right (m == n) _ (or_left (stands m one) (stands m other) q)) } in
             let second : Inside side here other = record { each = λ m q. p.each m (or_right (m == n) _ (or_right (stands m one) (stands m other) q)) } in
             let branches = λ (v : Wire). pick_fair (is_true v) here (stmts side low here one) (stmts side low here other) (stmts_fair in_loop one t.first c.1 first) (stmts_fair in_loop other t.second c.2 second) in
-            record {
-              by = λ K live base l st k q. (
-                w,
-                h.place.some,
-                h.place.limited,
-                value_goes (in_here here n) w K here.slots live base l st e t.condition.type t.condition.operand c.0 (λ v. in_block side here (chosen (is_true v) (stmts side low here one) (stmts side low here other)) l k)
-                    (λ v fits. (block_fair here h.place.whole _ (branches v)).by K live base l st k q),
-              );
-            }
+            tick_fair n w _
+            (record {
+              by = λ K live base l st k q. value_goes (in_here here n) w K here.slots live base l st e t.condition.type t.condition.operand c.0 (λ v. in_block side here (chosen (is_true v) (stmts side low here one) (stmts side low here other)) l k)
+                  (λ v fits. (block_fair here h.place.whole _ (branches v)).by K live base l st k q);
+            })
         stmt_fair in_loop (Code.Loop n e step body) t c p =
             let w = p.each n (own_first n (stands n step || stands n body)) in
             let first : Inside side here step = record { each = λ m q. p.each m (or_right (m == n) _ (or_left (stands m step) (stands m body) q)) } in
@@ -647,18 +645,14 @@ module _ (most : ℕ) (wide : 256 ≤ most) (program : Program) (sound : IsSound
             let loop : Codes = Codes.Then (Code.Loop n e step body) Codes.End in
             let again : GoFair here (low here loop) = later in_loop here h loop (only_inside side here (Code.Loop n e step body) p) (t, tt) (c, tt) in
             let turned = turn_fair (low here loop) (stmts side low here step) (stmts side low here body) again (stmts_fair false step t.stepped c.1 first) (stmts_fair true body t.turn c.2 second) in
-            record {
-              by = λ K live base l st k q. (
-                w,
-                h.place.some,
-                h.place.limited,
-                value_goes (in_here here n) w K here.slots live base l st e t.condition.type t.condition.operand c.0
-                    (λ v. chosen (is_true v) (turn side low here (low here loop) (stmts side low here step) (stmts side low here body)) leaves l k) (λ v fits. (pick_fair (is_true v) here _ leaves turned (leaves_fair here)).by K live base l st k q),
-              );
-            }
+            tick_fair n w _
+            (record {
+              by = λ K live base l st k q. value_goes (in_here here n) w K here.slots live base l st e t.condition.type t.condition.operand c.0
+                  (λ v. chosen (is_true v) (turn side low here (low here loop) (stmts side low here step) (stmts side low here body)) leaves l k) (λ v fits. (pick_fair (is_true v) here _ leaves turned (leaves_fair here)).by K live base l st k q);
+            })
         stmt_fair in_loop (Code.Block cs) t c p = block_fair here h.place.whole (stmts side low here cs) (stmts_fair in_loop cs t c (record { each = p.each }))
-        stmt_fair in_loop (Code.Return n e) t c p = let w = p.each n (eq-eqb n n refl) in record { by = λ K live base l st k q. (w, h.place.some, h.place.limited, returns_fair (in_here here n) w e t.right c K live base l st k q) }
-        stmt_fair in_loop (Code.Jump n way) t c p = let w = p.each n (eq-eqb n n refl) in record { by = λ K live base l st k q. (w, h.place.some, h.place.limited, q.by K (grows_same K) live (flow_of way) l st (jumps K here.result way)) }
+        stmt_fair in_loop (Code.Return n e) t c p = let w = p.each n (eq-eqb n n refl) in tick_fair n w _ (record { by = λ K live base l st k q. returns_fair (in_here here n) w e t.right c K live base l st k q })
+        stmt_fair in_loop (Code.Jump n way) t c p = let w = p.each n (eq-eqb n n refl) in tick_fair n w _ (record { by = λ K live base l st k q. q.by K (grows_same K) live (flow_of way) l st (jumps K here.result way) })
 
         stmts_fair : (in_loop : Bool) (cs : Codes) → AreTyped program here.slots here.result in_loop cs → CodesWithin program uses here.slots here.func cs → Inside side here cs → GoFair here (stmts side low here cs)
         stmts_fair in_loop Codes.End t c p = leaves_fair here
@@ -669,7 +663,7 @@ module _ (most : ℕ) (wide : 256 ≤ most) (program : Program) (sound : IsSound
 
   means_fair : (n : ℕ) (in_loop : Bool) (here : Here) → Runs here → (cs : Codes) → Inside side here cs → AreTyped program here.slots here.result in_loop cs → CodesWithin program uses here.slots here.func cs → GoFair here (means side n here cs)
   unfolding means
-  means_fair zero in_loop here h cs p t c = record { by = λ K live base l st k q. (h.place.whole, h.place.some, h.place.limited, (h.place.whole, refl)) }
+  means_fair zero in_loop here h cs p t c = record { by = λ K live base l st k q. (h.place.whole, h.place.some, h.place.limited, λ K' g. (h.place.whole, refl)) }
   means_fair (suc n) in_loop here h cs p t c = record { by = (stmts_fair (means side n) (means_fair n) here h in_loop cs t c p).by }
 
   -- a function that is started, where its result is that of the tree

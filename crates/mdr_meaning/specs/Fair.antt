@@ -211,13 +211,13 @@ abbrev pub LoadsScalar : Ty → Wire → Type 0
 LoadsScalar ty (wire.Ptr p) = IsTrue (is_scalar ty)
 LoadsScalar ty _ = Unit {0}
 
--- a tree of a side's code, under a function with this result, where so much is known and these objects of locals live. They are the side's own, and none of them lives when the function ends. At most so many functions are active at a tick
+-- a tree of a side's code, under a function with this result, where so much is known and these objects of locals live. They are the side's own, and none of them lives when the function ends. At most so many functions are active at a tick, before which a handler of interrupts may run, so that more is known
 abbrev pub FairTo : (most : ℕ) → Program → Side → (result : Ty) → Knowledge → (live : List Wire) → Tree → Type 0
 FairTo most program side result K live Tree.Idle = ⊥
 FairTo most program side result K live (Tree.Waits k) = ⊥
 FairTo most program side result K live (Tree.Done v t) = IsResult program K result v × (live ≡ [])
 FairTo most program side result K live (Tree.Stop kind at) = IsPlace side at × (is_code_stop kind ≡ true)
-FairTo most program side result K live (Tree.Tick at d t) = IsPlace side at × (1 ≤ d) × (d ≤ most) × FairTo most program side result K live t
+FairTo most program side result K live (Tree.Tick at d t) = IsPlace side at × (1 ≤ d) × (d ≤ most) × ((K' : Knowledge) → Grows K K' → FairTo most program side result K' live t)
 FairTo most program side result K live (Tree.Load at p k) =
     IsPlace side at × ((ty : Ty) × PointsTo program K ty p × LoadsScalar ty p × ((v : Wire) → Fits program K ty v → FairTo most program side result K live (k v)))
 FairTo most program side result K live (Tree.Store at p v t) = IsPlace side at × ((ty : Ty) × PointsTo program K ty p × Fits program K ty v) × FairTo most program side result K live t
