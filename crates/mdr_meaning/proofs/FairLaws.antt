@@ -495,7 +495,7 @@ module _ (most : ℕ) (wide : 256 ≤ most) (program : Program) (sound : IsSound
     module _ (here : Here) (h : Runs here) where
       goes_to_fair : (at : At) → IsPlace side at → (K : Knowledge) (live : List Wire) → Knows K → (f : ℕ) (func : Func) → slice_get program.funcs f ≡ Some func → (vs : List Wire) → AllFit program K vs (map (λ (p : Param). p.ty) func.params)
           → (body : Option Body) → own f ≡ body → here.depth < 256 → uses.calls at.func f ≡ true → (k : Wire → Tree) → ValueFair K live func.result k → F K live (goes_to side low here at f vs body k)
-      goes_to_fair at w K live globals f func names vs all None is d c k n = (w, (func, record { calls = ap (λ (u : Uses). u.calls at.func f) globals.uses_are ∙ c; names = names; fit = all; some = h.place.some; limited = omega (arith, d) }, n.by))
+      goes_to_fair at w K live globals f func names vs all None is d c k n = (w, is, (func, record { calls = ap (λ (u : Uses). u.calls at.func f) globals.uses_are ∙ c; names = names; fit = all; some = h.place.some; limited = omega (arith, d) }, n.by))
       goes_to_fair at w K live globals f func names vs all (Some body) is d c k n = entered_fair here (omega (arith, d, wide)) f func names body is K live globals vs all k n at
 
       direct_fair : (at : At) → IsPlace side at → (K : Knowledge) (live : List Wire) → Knows K → (f : ℕ) (func : Func) → slice_get program.funcs f ≡ Some func → (vs : List Wire) → AllFit program K vs (map (λ (p : Param). p.ty) func.params)

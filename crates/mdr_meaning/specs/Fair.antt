@@ -1,5 +1,5 @@
 -- Fair trees: what is known of the tree of a sound program's code. It names only what there is and what is known, uses values as their types allow, and comes to no stop but its own.
-use Rattle.std.specs.Prelude.{◌≡◌, ℕ, ◌≤◌, Bool, true, false, ◌||◌, ◌==◌, ◌⊎◌, List, [], ◌∷◌, ◌++◌, length, map, Some, slice_get, IsTrue}
+use Rattle.std.specs.Prelude.{◌≡◌, ℕ, ◌≤◌, Bool, true, false, ◌||◌, ◌==◌, ◌⊎◌, List, [], ◌∷◌, ◌++◌, length, map, Some, None, slice_get, IsTrue}
 use Rattle.mdr_core.specs.declared.kind.Kind.TheVariants.{U8, U32, S32}
 use Rattle.mdr_core.specs.declared.place.At.{At}
 use Rattle.mdr_core.specs.declared.stop.StopKind.{StopKind}
@@ -234,7 +234,7 @@ FairTo most program side result K live (Tree.Ask a k) =
     × ((remains : List Wire) × Leaves s a live remains
     × ((K' : Knowledge) → Grows K K' → (rs : List Wire) → IsServed program K' a s rs → FairTo most program side result K' (after s remains rs) (k rs))))
 FairTo most program side result K live (Tree.Cross at f args depth k) =
-    IsPlace side at
+    IsPlace side at × (side.own f ≡ None)
     × ((func : Func) × IsCall program K func at.func f args depth
     × ((K' : Knowledge) → Grows K K' → (v : Wire) → IsResult program K' func.result v → FairTo most program side result K' live (k v)))
 
