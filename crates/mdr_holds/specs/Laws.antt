@@ -7,8 +7,11 @@ use Rattle.mdr_core.specs.declared.program.Func.{Func}
 use Rattle.mdr_core.specs.declared.program.GlobalDef.{GlobalDef}
 use Rattle.mdr_core.specs.declared.program.Param.{Param}
 use Rattle.mdr_core.specs.declared.program.Program.{Program}
-use Rattle.mdr_core.specs.declared.types.Ty.{Ty}
+use Rattle.mdr_core.specs.declared.types.Ty.{Ty, out-Ty}
+use Rattle.mdr_core.specs.declared.types.Ty.TheOpen.{Ty-F}
+use Rattle.mdr_core.specs.declared.types.Ty.TheVariants as type
 use Rattle.mdr_core.specs.declared.value.Value.TheVariants as value
+use Rattle.mdr_core.specs.Layout.{Leaf}
 use Rattle.mdr_core.specs.Services.{Service, service_numbered}
 use Rattle.mdr_core.specs.Sound.{IsSound}
 use Rattle.mdr_meaning.specs.declared.wire.Wire.{Wire}
@@ -27,7 +30,7 @@ use Rattle.mdr_model.specs.declared.command.Command.TheVariants as command
 use Rattle.mdr_model.specs.declared.memory.Cell.{Cell}
 use Rattle.mdr_model.specs.declared.message.New.{New}
 use Rattle.mdr_model.specs.Agreement.{AreBlocks}
-use Rattle.mdr_model.specs.Memory.{born_at, normal}
+use Rattle.mdr_model.specs.Memory.{Memory, born_at, everywhere, leaf_at, normal, reached}
 use Rattle.mdr_plain.specs.declared.outcome.Happened.TheVariants as happened
 use Rattle.mdr_plain.specs.Plain.{never, plain_of, whole}
 use Rattle.mdr_plain.specs.Running.{Before, Crossing, call, interrupts, nothing, run}
@@ -49,6 +52,14 @@ use Rattle.mdr_holds.specs.Leaving.{AreObjects, IsAsBefore, Later, Leads, Return
 
 -- ---- states
 
+-- the cell is a lock
+pub record IsLockCell (program : Program) (m : Memory) (c : Cell) : Type 0 where
+  pub block : New
+  pub leaf : Leaf
+  pub born : born_at m c.serial ≡ Some block
+  pub there : leaf_at program block c.index ≡ Some leaf
+  pub lock : out-Ty leaf.type ≡ Ty-F.Lock
+
 -- what follows for a state that holds
 pub record StatesHold : Type 0 where
   pub order : (program : Program) (K : Knowledge) (w : World) → Holds program K w → IsInOrder w
@@ -56,6 +67,11 @@ pub record StatesHold : Type 0 where
   pub globals : (program : Program) (K : Knowledge) (w : World) → Holds program K w → KnowsGlobals program K
   -- a pointer that is known names a block of the shape that is known
   pub pointers : (program : Program) (K : Knowledge) (w : World) (p : WireView) (b : New) → Holds program K w → (v : IsKnownView program K p) → born_at w.memory p.serial ≡ Some b → shape_of b ≡ v.shape
+  -- a global's block has its type
+  pub typed : (program : Program) → IsSound program → (K : Knowledge) (w : World) → Holds program K w → (serial : ℕ) (b : New) (g : GlobalDef) → born_at w.memory serial ≡ Some b → slice_get program.globals serial ≡ Some g
+      → slice_get program.types b.ty ≡ Some g.ty
+  -- a pointer to locks reaches none but a lock
+  pub locks : (program : Program) → IsSound program → (K : Knowledge) (w : World) → Holds program K w → (v : Wire) → Fits program K (type.Ptr type.Lock) v → (c : Cell) → reached everywhere w.memory v ≡ Ok c → IsLockCell program w.memory c
   -- a value is passed as it is now, and fits what it fitted
   pub passed : (program : Program) (K : Knowledge) (w : World) (args : List Wire) (types : List Ty) → AllFit program K args types → AllFit program K (map (normal w.memory) args) types
   -- a value that fits, and names a block that is known by less, fits by less
