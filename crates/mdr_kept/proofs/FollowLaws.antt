@@ -1,5 +1,5 @@
 -- A strict run that meets no stop is the followed run, and the watched one.
-use Rattle.std.proofs.Common.{◌≡◌, ℕ, zero, suc, Bool, true, false, List, [], ◌∷◌, Option, Some, None, Result, Ok, Err, refl, sym, ◌∙◌, ap, subst}
+use Rattle.std.proofs.Common.{is_some, ◌≡◌, ℕ, zero, suc, Bool, true, false, List, [], ◌∷◌, Option, Some, None, Result, Ok, Err, refl, sym, ◌∙◌, ap, subst}
 use Rattle.std.specs.Prelude.{map}
 use Rattle.mdr_core.specs.declared.place.At.{At}
 use Rattle.mdr_core.specs.declared.stop.StopKind.{StopKind}
@@ -113,7 +113,7 @@ module _ (d : Driver) where
       → Leads (call_alone d before f args depth w) (call (kernel_of d) before' f args depth w)
   unfolding call
   calls_lead before before' tried f args depth w =
-      runs_lead (accesses d.program all_cells) (served d.program) (served d.program) (crosses_nowhere d.plan) never before before' tried (λ q w'. same _) (λ at g vs n w'. leads_unless (is_user d.plan g) (Some at) w' _ _ (same _)) _ w
+      runs_lead (accesses d.program all_cells) (served d.program) (served d.program) (crosses_nowhere d) never before before' tried (λ q w'. same _) (λ at g vs n w'. leads_unless (is_some (d.user.own g)) (Some at) w' _ _ (same _)) _ w
 
   handled_leads : (n : ℕ) (o : Option ℕ) (w : World) → Leads (handled_alone d n o w) (handled (kernel_of d) n o w)
   handled_leads n None w = same _

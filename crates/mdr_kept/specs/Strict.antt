@@ -1,7 +1,6 @@
 -- A followed run that also ends where the halves could be told from one piece of code.
-use Rattle.std.specs.Prelude.{ℕ, suc, Bool, true, false, not, ◌||◌, List, [], ◌∷◌, map, Option, Some, None}
+use Rattle.std.specs.Prelude.{ℕ, suc, Bool, true, false, not, ◌||◌, List, [], ◌∷◌, map, Option, Some, None, is_some}
 use Rattle.mdr_core.specs.declared.place.At.{At}
-use Rattle.mdr_core.specs.declared.plan.Plan.{Plan}
 use Rattle.mdr_core.specs.declared.stop.StopKind.TheVariants as stop
 use Rattle.mdr_core.specs.Layout.{chosen}
 use Rattle.mdr_extents.specs.Reaching.{visible}
@@ -64,12 +63,13 @@ run_alive s before (Tree.Cross at f args d k) w = after (s.crosses at f args d w
 
 -- ---- kernel code calls no user code
 
-abbrev pub crosses_nowhere : Plan → Crossing
-crosses_nowhere plan at f args depth w = unless (is_user plan f) (Some at) w (never at f args depth w)
-
 module _ (d : Driver) where
+  -- the run ends where a body of the user half is called
+  abbrev pub crosses_nowhere : Crossing
+  crosses_nowhere at f args depth w = unless (is_some (d.user.own f)) (Some at) w (never at f args depth w)
+
   abbrev pub in_kernel_alone : Setting
-  in_kernel_alone = in_kernel d.program (crosses_nowhere d.plan)
+  in_kernel_alone = in_kernel d.program crosses_nowhere
 
   abbrev pub call_alone : Before → (func : ℕ) (args : List Wire) (depth : ℕ) → World → Ran Wire
   call_alone before f args depth w = run_alive in_kernel_alone before (started d.kernel (suc w.clock.rest) f args depth Tree.Idle) w
