@@ -1,2 +1,2 @@
-mod CalleeLaws
-mod HalfLaws
+pub mod CalleeLaws
+pub mod HalfLaws

@@ -1,4 +1,3 @@
-pub mod Living
 pub mod Steps
 pub mod KernelCode
 pub mod Sets

@@ -14,12 +14,12 @@ use Rattle.mdr_paths.proofs.NodeLists.{in_both, is_in-filter}
 use Rattle.mdr_plain.specs.Storage.{born, died, next_serial}
 use Rattle.mdr_plain.specs.World.{World}
 use Rattle.mdr_watched.specs.Order.{AreLive, IsInOrder}
-use Rattle.mdr_watched.specs.Views.{closed, gained, new_cells, opened, renewed}
+use Rattle.mdr_watched.specs.Views.{closed, gained, living, new_cells, opened, renewed}
 use Rattle.mdr_watched.proofs.KeepLaws.{IsKept}
 use Rattle.mdr_watched.proofs.MemoryOrder.{order_kept, order_kept_inside}
 use Rattle.mdr_viewed.specs.Laws.{SetsAreViewed}
-use Rattle.mdr_viewed.specs.Viewed.{IsOlder, IsOrdered, living, viewed}
-use Rattle.mdr_viewed.proofs.Living.{all_living, is_living, live_and, living_both, same_filter}
+use Rattle.mdr_viewed.specs.Viewed.{IsOlder, IsOrdered, viewed}
+use Rattle.mdr_watched.proofs.Living.{all_living, is_living, live_and, living_both, same_filter}
 
 -- ---- the world's views
 

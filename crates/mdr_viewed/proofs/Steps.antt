@@ -29,9 +29,10 @@ use Rattle.mdr_plain.specs.Services.{Served, allocated, as_now, as_served, asked
 use Rattle.mdr_plain.specs.Storage.{births, born, bytes_from, cells_read, deaths, died, died_at, new_of, pointer_to, read, remembers, with_block, with_memory, with_pointer, without}
 use Rattle.mdr_plain.specs.World.{World, left}
 use Rattle.mdr_watched.proofs.KeepLaws.{IsKept, births_keep, deaths_keep, served_keeps}
+use Rattle.mdr_watched.specs.Views.{living}
 use Rattle.mdr_viewed.specs.Laws.{AccessesAreViewed, AgreeOn, BirthsAreViewed, ServicesAreViewed}
-use Rattle.mdr_viewed.specs.Viewed.{HasUpcall, IsOlder, TouchAlike, living, viewed, viewed_born, viewed_if, viewing}
-use Rattle.mdr_viewed.proofs.Living.{births_grow, is_living, live_and, living_born, living_killed, living_put}
+use Rattle.mdr_viewed.specs.Viewed.{HasUpcall, IsOlder, TouchAlike, viewed, viewed_born, viewed_if, viewing}
+use Rattle.mdr_watched.proofs.Living.{births_grow, is_living, live_and, living_born, living_killed, living_put}
 
 -- ---- what is kept
 

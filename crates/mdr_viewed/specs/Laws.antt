@@ -17,9 +17,9 @@ use Rattle.mdr_plain.specs.World.{World, Ran, Ended}
 use Rattle.mdr_runs.specs.Around.{KeepsTicks}
 use Rattle.mdr_watched.specs.Driver.{Driver, result_roots, touched_by}
 use Rattle.mdr_watched.specs.Order.{AreLive}
-use Rattle.mdr_watched.specs.Views.{closed, gained, may_touch, new_cells, opened, renewed, taken}
+use Rattle.mdr_watched.specs.Views.{closed, gained, living, may_touch, new_cells, opened, renewed, taken}
 use Rattle.mdr_watched.specs.Watched.{downcall, held, in_user, kernel_of, sent, serves}
-use Rattle.mdr_viewed.specs.Viewed.{HasUpcall, IsOlder, IsOrdered, IsViewed, TouchAlike, after_beside, in_set, living, viewed, viewed_born, viewed_if}
+use Rattle.mdr_viewed.specs.Viewed.{HasUpcall, IsOlder, IsOrdered, IsViewed, TouchAlike, after_beside, in_set, viewed, viewed_born, viewed_if}
 
 -- ---- accesses
 

@@ -1,19 +1,16 @@
 -- A set of cells beside the world of a run in which an upcall is open, and the world with the set in it.
-use Rattle.std.specs.Prelude.{◌≡◌, ◌<◌, true, false, Bool, List, [], ◌∷◌, filter, Result, Ok, Err}
+use Rattle.std.specs.Prelude.{◌≡◌, ◌<◌, true, false, Bool, List, [], ◌∷◌, Result, Ok, Err}
 use Rattle.mdr_core.specs.declared.stop.StopKind.{StopKind}
 use Rattle.mdr_extents.specs.CellOrder.{cells}
 use Rattle.mdr_meaning.specs.Walk.{Born}
 use Rattle.mdr_model.specs.declared.memory.Cell.{Cell}
 use Rattle.mdr_model.specs.Agreement.{IsBelow, SerialsRise}
-use Rattle.mdr_model.specs.Memory.{Memory, is_live}
+use Rattle.mdr_model.specs.Memory.{is_live}
 use Rattle.mdr_paths.specs.Paths.{is_in}
 use Rattle.mdr_plain.specs.Gate.{are_none}
 use Rattle.mdr_plain.specs.Storage.{next_serial}
 use Rattle.mdr_plain.specs.World.{World, Ran, Ended, Stopped, left}
-
--- the cells of a set whose blocks live
-abbrev pub living : Memory → List Cell → List Cell
-living m set = filter (λ (c : Cell). is_live m c.serial) set
+use Rattle.mdr_watched.specs.Views.{living}
 
 -- the world with the set in it: user code may touch those of its cells whose blocks live
 abbrev pub viewed : List Cell → World → World

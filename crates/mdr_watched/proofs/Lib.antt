@@ -3,6 +3,7 @@ pub mod KeptProofs
 pub mod WorkedProofs
 pub mod KeepLaws
 pub mod MemoryOrder
+pub mod Living
 pub mod OrderLaws
 pub mod CloseLaws
 pub mod TouchedLaws

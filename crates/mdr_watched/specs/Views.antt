@@ -1,5 +1,5 @@
 -- The visible sets of open upcalls, in a run's state.
-use Rattle.std.specs.Prelude.{ℕ, nat_lt, Bool, List, [], ◌∷◌, ◌++◌, Some, Result, Ok, Err}
+use Rattle.std.specs.Prelude.{ℕ, nat_lt, Bool, List, [], ◌∷◌, ◌++◌, filter, Some, Result, Ok, Err}
 use Rattle.mdr_core.specs.declared.place.At.{At}
 use Rattle.mdr_core.specs.declared.plan.Key.{Key}
 use Rattle.mdr_core.specs.declared.program.Program.{Program}
@@ -8,9 +8,13 @@ use Rattle.mdr_core.specs.Layout.{chosen}
 use Rattle.mdr_extents.specs.CellOrder.{cells}
 use Rattle.mdr_extents.specs.Reaching.{Failing, own_cells}
 use Rattle.mdr_model.specs.declared.memory.Cell.{Cell}
-use Rattle.mdr_model.specs.Memory.{Memory}
+use Rattle.mdr_model.specs.Memory.{Memory, is_live}
 use Rattle.mdr_paths.specs.Paths.{is_in}
 use Rattle.mdr_plain.specs.World.{World, Ran, Stopped}
+
+-- the cells of a set whose blocks live
+abbrev pub living : Memory → List Cell → List Cell
+living m set = filter (λ (c : Cell). is_live m c.serial) set
 
 -- the innermost upcall's set, and those of the others
 abbrev pub top : List (List Cell) → List Cell

@@ -17,7 +17,7 @@ use Rattle.mdr_paths.specs.Paths.{is_in}
 use Rattle.mdr_paths.proofs.NodeLists.{is_in-filter, is_in-head, is_in-tail}
 use Rattle.mdr_plain.specs.Storage.{without}
 use Rattle.mdr_watched.specs.Order.{AreLive}
-use Rattle.mdr_viewed.specs.Viewed.{living}
+use Rattle.mdr_watched.specs.Views.{living}
 
 -- ---- lists
 
