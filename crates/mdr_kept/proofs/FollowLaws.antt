@@ -1,5 +1,5 @@
 -- A strict run that meets no stop is the followed run, and the watched one.
-use Rattle.std.proofs.Common.{◌≡◌, ℕ, zero, suc, Bool, true, false, List, [], ◌∷◌, Option, Some, None, Result, Ok, Err, refl, sym, ◌∙◌, ap, subst}
+use Rattle.std.proofs.Common.{is_some, ◌≡◌, ℕ, zero, suc, Bool, true, false, List, [], ◌∷◌, Option, Some, None, Result, Ok, Err, refl, sym, ◌∙◌, ap, subst}
 use Rattle.std.specs.Prelude.{map}
 use Rattle.mdr_core.specs.declared.place.At.{At}
 use Rattle.mdr_core.specs.declared.stop.StopKind.{StopKind}
@@ -13,6 +13,7 @@ use Rattle.mdr_model.specs.declared.command.Command.{Command}
 use Rattle.mdr_model.specs.declared.command.Command.TheVariants as command
 use Rattle.mdr_model.specs.declared.memory.Cell.{Cell}
 use Rattle.mdr_model.specs.declared.outcome.End.TheVariants as ends
+use Rattle.mdr_model.specs.Memory.{Memory, normal}
 use Rattle.mdr_plain.specs.Gate.{are_none, due}
 use Rattle.mdr_plain.specs.Plain.{never}
 use Rattle.mdr_plain.specs.Running.{Before, Crossing, Setting, all_cells, call, handled, interrupted, interrupts, nothing, run}
@@ -27,7 +28,8 @@ use Rattle.mdr_watched.specs.Views.{may_touch, taken}
 use Rattle.mdr_watched.specs.Watched.{Tries, closing, does as does_by, downcall, entered as entered_by, held, kernel_of, serves, upcall as upcall_by, watched_of}
 use Rattle.mdr_watched.proofs.WaitLaws.{none_due}
 use Rattle.mdr_kept.specs.Laws.{StrictRunsAreFollowed}
-use Rattle.mdr_kept.specs.Strict.{asks, called, crosses_nowhere, does, entered, goes_down, is_any_dead, is_dead, lone_kernel, now, serves_awake, sleeps, strict_of, tries, unless, upcall}
+use Rattle.mdr_kept.specs.Strict.{asks, call_alone, called, crosses_nowhere, does, entered, goes_down, handled_alone, is_any_gone, is_gone, now, run_alive, strict_of, tries, unless, upcall}
+use Rattle.mdr_kept.proofs.EvenLaws.{normal_alive}
 
 -- ---- work that ends alike
 
@@ -60,7 +62,7 @@ leads_counted : {A : Type 0} (n : ℕ) (at : Option At) (w : World) (go go' : Wo
 leads_counted zero at w go go' each = same (counted zero at w go)
 leads_counted (suc n) at w go go' each = each _
 
-leads_unless : {A : Type 0} (b : Bool) (at : At) (w : World) (r s : Ran A) → Leads r s → Leads (unless b at w r) s
+leads_unless : {A : Type 0} (b : Bool) (at : Option At) (w : World) (r s : Ran A) → Leads r s → Leads (unless b at w r) s
 leads_unless true at w r s h = never_ends _ _ w s
 leads_unless false at w r s h = h
 
@@ -74,6 +76,10 @@ leads_closing (Stopped kind at w) s h = never_ends kind at w (closing s)
 
 -- ---- code
 
+ends_alive : (m : Memory) (v : Wire) (w : World) (b : Bool) → is_gone m v ≡ b → Leads (unless b None w (Ended v w)) (Ended (normal m v) w)
+ends_alive m v w true e = never_ends _ _ w _
+ends_alive m v w false e = subst (λ x. Leads (Ended v w) (Ended x w)) (sym (normal_alive m v e)) (same _)
+
 module _ (a : Accesses World) (asked asked' : Asked → World → Ran (List Wire)) (crosses crosses' : Crossing) (before before' : Before)
     (tried : (d : ℕ) (w : World) → Leads (before d w) (before' d w))
     (asks_lead : (q : Asked) (w : World) → Leads (asked q w) (asked' q w))
@@ -84,11 +90,11 @@ module _ (a : Accesses World) (asked asked' : Asked → World → Ran (List Wire
   abbrev other : Setting
   other = record { accesses = a; serves = asked'; crosses = crosses' }
 
-  runs_lead : (t : Tree) (w : World) → Leads (run one before t w) (run other before' t w)
-  unfolding run
+  runs_lead : (t : Tree) (w : World) → Leads (run_alive one before t w) (run other before' t w)
+  unfolding run run_alive
   runs_lead Tree.Idle w = same _
   runs_lead (Tree.Waits k) w = same _
-  runs_lead (Tree.Done v t) w = same _
+  runs_lead (Tree.Done v t) w = ends_alive w.memory v w (is_gone w.memory v) refl
   runs_lead (Tree.Stop kind at) w = same _
   runs_lead (Tree.Tick at d t) w = leads_then _ _ _ _ (tried d w) (λ w'. leads_counted w'.clock.rest (Some at) w' _ _ (λ w''. runs_lead t w''))
   runs_lead (Tree.Load at p k) w = leads_given (a.load w p) at w _ _ (λ v. runs_lead (k v) w)
@@ -103,20 +109,17 @@ module _ (a : Accesses World) (asked asked' : Asked → World → Ran (List Wire
 module _ (d : Driver) where
   -- ---- the kernel half
 
-  awake_leads : (q : Asked) (w : World) → Leads (serves_awake d.program q w) (served d.program q w)
-  awake_leads q w = leads_unless (sleeps q w) q.at w _ _ (same _)
-
   calls_lead : (before before' : Before) → ((n : ℕ) (w : World) → Leads (before n w) (before' n w)) → (f : ℕ) (args : List Wire) (depth : ℕ) (w : World)
-      → Leads (call (lone_kernel d) before f args depth w) (call (kernel_of d) before' f args depth w)
+      → Leads (call_alone d before f args depth w) (call (kernel_of d) before' f args depth w)
   unfolding call
   calls_lead before before' tried f args depth w =
-      runs_lead (accesses d.program all_cells) (serves_awake d.program) (served d.program) crosses_nowhere never before before' tried awake_leads (λ at g vs n w'. never_ends _ _ w' _) _ w
+      runs_lead (accesses d.program all_cells) (served d.program) (served d.program) (crosses_nowhere d) never before before' tried (λ q w'. same _) (λ at g vs n w'. leads_unless (is_some (d.user.own g)) (Some at) w' _ _ (same _)) _ w
 
-  handled_leads : (n : ℕ) (o : Option ℕ) (w : World) → Leads (handled (lone_kernel d) n o w) (handled (kernel_of d) n o w)
+  handled_leads : (n : ℕ) (o : Option ℕ) (w : World) → Leads (handled_alone d n o w) (handled (kernel_of d) n o w)
   handled_leads n None w = same _
   handled_leads n (Some f) w = leads_after _ _ _ _ (calls_lead nothing nothing (λ n' w'. same _) f [] n (interrupted f w)) (λ v w'. same _)
 
-  interrupts_lead : (n : ℕ) (w : World) → Leads (interrupts (lone_kernel d) n w) (interrupts (kernel_of d) n w)
+  interrupts_lead : (n : ℕ) (w : World) → Leads (handled_alone d n (due w) w) (interrupts (kernel_of d) n w)
   unfolding interrupts
   interrupts_lead n w = handled_leads n (due w) w
 
@@ -132,14 +135,14 @@ module _ (d : Driver) where
   tries_lead : (n : ℕ) (w : World) → Leads (tries d n w) (interrupts (kernel_of d) n w)
   tries_lead n w = of (are_none w.views) refl
     where
-      of : (t : Bool) → are_none w.views ≡ t → Leads (chosen t (interrupts (lone_kernel d) n w) (unless_due (due_plainly w) w)) (interrupts (kernel_of d) n w)
+      of : (t : Bool) → are_none w.views ≡ t → Leads (chosen t (handled_alone d n (due w) w) (unless_due (due_plainly w) w)) (interrupts (kernel_of d) n w)
       of true e = interrupts_lead n w
       of false e = subst (λ q. Leads (unless_due (due_plainly w) w) q) (sym (waited n w e)) (unless_leads (due_plainly w) w)
 
   tries_lead_freely : (n : ℕ) (w : World) → Leads (tries d n w) (meets_none (kernel_of d) n w)
   tries_lead_freely n w = of (are_none w.views)
     where
-      of : (t : Bool) → Leads (chosen t (interrupts (lone_kernel d) n w) (unless_due (due_plainly w) w)) (chosen t (interrupts (kernel_of d) n w) (unless_due (due_plainly w) w))
+      of : (t : Bool) → Leads (chosen t (handled_alone d n (due w) w) (unless_due (due_plainly w) w)) (chosen t (interrupts (kernel_of d) n w) (unless_due (due_plainly w) w))
       of true = interrupts_lead n w
       of false = same _
 
@@ -147,12 +150,11 @@ module _ (d : Driver) where
 
   module _ (by : Tries) (kernel_tried : (n : ℕ) (w : World) → Leads (tries d n w) (by.kernel n w)) (user_tried : (n : ℕ) (w : World) → Leads (meets_user n w) (by.user n w)) where
     asks_lead : (t : ℕ) (q : Asked) (w : World) → Leads (asks d t q w) (serves d by t q w)
-    asks_lead t q w = leads_unless (is_any_dead (now w q.args)) q.at w _ _ (leads_after _ _ _ _ (awake_leads q w) (λ results w'. same _))
+    asks_lead t q w = leads_unless (is_any_gone w.memory q.args) (Some q.at) w _ _ (same _)
 
     downs_lead : (t : ℕ) (at : At) (f : ℕ) (args : List Wire) (depth : ℕ) (w : World) → Leads (goes_down d t at f args depth w) (downcall d by t at f args depth w)
     downs_lead t at f args depth w =
-        leads_unless (is_any_dead (now w args)) at w _ _
-        (leads_after _ _ _ _ (calls_lead (tries d) by.kernel kernel_tried f (now w args) depth w) (λ v w'. leads_unless (is_dead v) at w' _ _ (same _)))
+        leads_unless (is_any_gone w.memory args) (Some at) w _ _ (leads_after _ _ _ _ (calls_lead (tries d) by.kernel kernel_tried f (now w args) depth w) (λ v w'. same _))
 
     entered_leads : (f : ℕ) (args : List Wire) (set : List Cell) (w : World) → Leads (entered d f args set w) (entered_by d by f args set w)
     entered_leads f args set w = leads_closing _ _

@@ -1,5 +1,5 @@
 -- Code of the kernel half, and of the user half, leads to the whole's code.
-use Rattle.std.proofs.Common.{◌≡◌, ℕ, suc, ◌<◌, ◌≤◌, Bool, true, false, not, List, [], ◌∷◌, Option, Some, None, Result, Ok, Err, refl, sym, ◌∙◌, ap, subst, arith, le_refl}
+use Rattle.std.proofs.Common.{is_some, ◌≡◌, ℕ, suc, ◌<◌, ◌≤◌, Bool, true, false, not, List, [], ◌∷◌, Option, Some, None, Result, Ok, Err, refl, sym, ◌∙◌, ap, subst, arith, le_refl}
 use Rattle.mdr_core.specs.declared.place.At.{At}
 use Rattle.mdr_core.specs.declared.plan.Plan.{Plan}
 use Rattle.mdr_core.specs.declared.program.Program.{Program}
@@ -7,6 +7,7 @@ use Rattle.mdr_core.specs.declared.types.Ty.TheVariants.{Void}
 use Rattle.mdr_core.specs.Layout.{chosen}
 use Rattle.mdr_extents.specs.Reaching.{Failing}
 use Rattle.mdr_meaning.specs.declared.wire.Wire.{Wire}
+use Rattle.mdr_meaning.specs.declared.wire.Wire.TheVariants as wire
 use Rattle.mdr_meaning.specs.Bodies.{body_of, kernel_side, known_of, means, started, user_side, whole_side}
 use Rattle.mdr_meaning.specs.Calls.{goes_to}
 use Rattle.mdr_meaning.specs.Lives.{asked_for, deaths_by}
@@ -14,6 +15,7 @@ use Rattle.mdr_meaning.specs.Sides.{Body, Here, Means, Side}
 use Rattle.mdr_meaning.specs.Tree.{Asked, Tree}
 use Rattle.mdr_model.specs.declared.memory.Cell.{Cell}
 use Rattle.mdr_model.specs.Memory.{normal}
+use Rattle.mdr_plain.specs.declared.outcome.Happened.TheVariants as happened
 use Rattle.mdr_plain.specs.Gate.{are_none, due}
 use Rattle.mdr_plain.specs.Plain.{never, whole}
 use Rattle.mdr_plain.specs.Running.{Before, KernelCode, all_cells, call, handled, handling, in_kernel, interrupted, interrupts, nothing, run}
@@ -24,15 +26,15 @@ use Rattle.mdr_watched.specs.Driver.{Driver, driver_of, is_user, touched_by}
 use Rattle.mdr_watched.specs.Kept.{due_plainly, free, meets_user, unless_due}
 use Rattle.mdr_watched.specs.Views.{gained, may_touch, opened, renewed, taken}
 use Rattle.mdr_watched.specs.Watched.{closing, returns_to}
-use Rattle.mdr_kept.specs.Laws.{bare}
-use Rattle.mdr_kept.specs.Strict.{asks, called, crosses_nowhere, gets, goes_down, in_user, is_any_dead, is_dead, lone_kernel, now, serves_awake, tries, unless}
-use Rattle.mdr_kept.proofs.BareLaws.{Leads, all_alive, awake_leads, ended, fewer, leads_after, leads_unless, never_ends, normal_alive}
-use Rattle.mdr_kept.proofs.GoesLaws.{Goes, after_after, asks_go, goes_ask, goes_birth, goes_born, goes_death, goes_fresh, goes_load, goes_read, goes_stop, goes_store, goes_tick}
-use Rattle.mdr_kept.proofs.PartLaws.{Absent, IsFar, IsPart, Rules, Same, starts_alike}
+use Rattle.mdr_kept.specs.Strict.{asks, call_alone, called, crosses_nowhere, goes_down, handled_alone, in_user, is_any_gone, is_gone, now, run_alive, tries, unless}
+use Rattle.mdr_kept.proofs.EvenLaws.{Both, Ends, Even, Leads, all_alive, deaths_alike, deaths_rest, due_alike, ended, even_noted, even_rest, fewer, leads_after, leads_unless, never_ends, normal_alive, normal_like, served_leads}
+use Rattle.mdr_kept.proofs.GoesLaws.{Goes, after_after, goes_ask, goes_birth, goes_born, goes_death, goes_fresh, goes_load, goes_read, goes_stop, goes_store, goes_tick}
+use Rattle.mdr_kept.proofs.LikeLaws.{AreLike, Like, Same, same_list}
+use Rattle.mdr_kept.proofs.PartLaws.{Absent, IsFar, IsPart, Rules, Shared, starts_alike}
 
 same_part : (o : Option Body) → IsPart o o
 same_part None = Absent None
-same_part (Some body) = Same body
+same_part (Some body) = Shared body
 
 kernel_part : (b : Bool) (o : Option Body) → IsPart (chosen b o None) o
 kernel_part true o = same_part o
@@ -42,6 +44,11 @@ user_part : (b : Bool) (o : Option Body) → IsPart (chosen b None o) o
 user_part true o = Absent o
 user_part false o = same_part o
 
+-- a function with a body has it in one of the halves
+neither_has : (b : Bool) (o : Option Body) → chosen b o None ≡ None → chosen b None o ≡ None → o ≡ None
+neither_has true o e f = e
+neither_has false o e f = f
+
 after_ended : {A : Type 0} (r : Ran A) → after r Ended ≡ r
 after_ended (Ended x w) = refl
 after_ended (Stopped kind at w) = refl
@@ -49,6 +56,17 @@ after_ended (Stopped kind at w) = refl
 none_is : (views : List (List Cell)) → are_none views ≡ true → views ≡ []
 none_is [] e = refl
 none_is (set ∷ sets) e = absurd cc
+
+even_handling : (b : Bool) (w w' : World) → Even w w' → Even (handling b w) (handling b w')
+even_handling b w w' e = record { is = ap (handling b) e.is; alone = e.alone }
+
+-- visible sets are set aside
+even_views : (w w' : World) (views : List (List Cell)) → Even w w' → Even (record w { views = views }) w'
+even_views w w' views e = record { is = e.is; alone = e.alone }
+
+-- what is alive is passed as it is, also where it is passed as a value now
+given_alive : (w w' : World) (v v' : Wire) → is_gone w.memory v ≡ false → Like v v' → Even w w' → Like v (normal w'.memory v')
+given_alive w w' v v' alive like e = subst (λ x. Like x (normal w'.memory v')) (normal_alive w.memory v alive) (normal_like w w' v v' e like)
 
 module _ (program : Program) (plan : Plan) where
   abbrev d : Driver
@@ -69,147 +87,163 @@ module _ (program : Program) (plan : Plan) where
   abbrev plain_kernel : KernelCode
   plain_kernel = whole program (whole_side program)
 
+  kernel_asks : (q : Asked) (args : List Wire) (w w' : World) → AreLike q.args args → Even w w' → Leads AreLike w.clock.rest (served program q w) (served program (record q { args = args }) w')
+  kernel_asks q args w w' like e = served_leads program q args w w' like e
+
   -- ---- the kernel half
 
-  module _ (before before' : Before) (go : Wire → World → Ran Wire) (tried : (n : ℕ) (w : World) → Leads w.clock.rest (before n w) (before' n (bare w))) where
+  module _ (before before' : Before) (go : Wire → World → Ran Wire) (tried : (n : ℕ) (w w' : World) → Even w w' → Leads Both w.clock.rest (before n w) (before' n w')) where
     abbrev InKernel : ℕ → Tree → Tree → Type 0
-    InKernel = Goes program all_cells (serves_awake program) crosses_nowhere before before' go tried (awake_leads program)
+    InKernel = Goes program all_cells (served program) (crosses_nowhere d) before before' go tried kernel_asks
 
-    kernel_rules : Rules InKernel false all
-    unfolding run
+    -- kernel code calls functions of its half alone, with or without a body
+    kernel_crosses : (r : ℕ) (here : Here) (at at' : At) (f : ℕ) (args args' : List Wire) (k l : Wire → Tree) (low : Means) → kernel_own f ≡ None → IsFar all r low → AreLike args args'
+        → ((q : ℕ) → q ≤ r → (v w : Wire) → Like v w → InKernel q (k v) (l w)) → InKernel r (Tree.Cross at f args here.depth k) (goes_to all low here at' f args' (body_of program f) l)
+    unfolding run run_alive user_side
+    kernel_crosses r here at at' f args args' k l low none far like e = record { by = λ w w' even h. of w w' even h (user_own f) refl }
+      where
+        of : (w w' : World) → Even w w' → w.clock.rest ≤ r → (o : Option Body) → user_own f ≡ o
+            → Leads Like r (after (after (unless (is_some o) (Some at) w (Ended wire.NoValue w)) (λ v u. run_alive (in_kernel program (crosses_nowhere d)) before (k v) u)) go) (run (in_kernel program never) before' (goes_to all low here at' f args' (body_of program f) l) w')
+        of w w' even h (Some body) is = never_ends Like r _ _ w _
+        of w w' even h None is =
+            subst (λ o. Leads Like r (after (run_alive (in_kernel program (crosses_nowhere d)) before (k wire.NoValue) w) go) (run (in_kernel program never) before' (goes_to all low here at' f args' o l) w')) (sym (neither_has (is_kernel f) (body_of program f) none is))
+            ((e r (le_refl r) wire.NoValue wire.NoValue (Same _)).by w w' even h)
+
+    kernel_rules : Rules InKernel false kernel_own all
     kernel_rules = record {
-      stop = goes_stop program all_cells (serves_awake program) crosses_nowhere before before' go tried (awake_leads program);
-      tick = goes_tick program all_cells (serves_awake program) crosses_nowhere before before' go tried (awake_leads program);
-      load = goes_load program all_cells (serves_awake program) crosses_nowhere before before' go tried (awake_leads program);
-      store = goes_store program all_cells (serves_awake program) crosses_nowhere before before' go tried (awake_leads program);
-      read = goes_read program all_cells (serves_awake program) crosses_nowhere before before' go tried (awake_leads program);
-      fresh = goes_fresh program all_cells (serves_awake program) crosses_nowhere before before' go tried (awake_leads program);
-      ask = goes_ask program all_cells (serves_awake program) crosses_nowhere before before' go tried (awake_leads program);
-      birth = goes_birth program all_cells (serves_awake program) crosses_nowhere before before' go tried (awake_leads program);
-      death = goes_death program all_cells (serves_awake program) crosses_nowhere before before' go tried (awake_leads program);
-      cross = λ r here at at' f args k l low far e. record { by = λ w h. never_ends r _ _ w _ };
+      stop = goes_stop program all_cells (served program) (crosses_nowhere d) before before' go tried kernel_asks;
+      tick = goes_tick program all_cells (served program) (crosses_nowhere d) before before' go tried kernel_asks;
+      load = goes_load program all_cells (served program) (crosses_nowhere d) before before' go tried kernel_asks;
+      store = goes_store program all_cells (served program) (crosses_nowhere d) before before' go tried kernel_asks;
+      read = goes_read program all_cells (served program) (crosses_nowhere d) before before' go tried kernel_asks;
+      fresh = goes_fresh program all_cells (served program) (crosses_nowhere d) before before' go tried kernel_asks;
+      ask = goes_ask program all_cells (served program) (crosses_nowhere d) before before' go tried kernel_asks;
+      birth = goes_birth program all_cells (served program) (crosses_nowhere d) before before' go tried kernel_asks;
+      death = goes_death program all_cells (served program) (crosses_nowhere d) before before' go tried kernel_asks;
+      cross = kernel_crosses;
     }
 
     -- a function of the kernel half, against the same one in its place
-    kernel_goes : (n r f : ℕ) (args : List Wire) (here : Here) (at : At) (l : Wire → Tree) (w : World) → w.clock.rest ≤ r → r < n
-        → ((q : ℕ) (v : Wire) (w' : World) → w'.clock.rest ≤ q → q ≤ r → Leads q (go (normal w'.memory v) w') (run (in_kernel program never) before' (l v) (bare w')))
-        → Leads w.clock.rest (after (call (lone_kernel d) before f args here.depth w) go) (run (in_kernel program never) before' (goes_to all (means all n) here at f args (body_of program f) l) (bare w))
-    unfolding call run kernel_side
-    kernel_goes n r f args here at l w h less leaf =
+    kernel_goes : (n r f : ℕ) (args args' : List Wire) → AreLike args args' → (here : Here) (at : At) (l : Wire → Tree) (w w' : World) → Even w w' → w.clock.rest ≤ r → r < n
+        → ((q : ℕ) (v v' : Wire) (u u' : World) → u.clock.rest ≤ q → q ≤ r → is_gone u.memory v ≡ false → Like v v' → Even u u' → Leads Like q (go v u) (run (in_kernel program never) before' (l v') u'))
+        → Leads Like w.clock.rest (after (call_alone d before f args here.depth w) go) (run (in_kernel program never) before' (goes_to all (means all n) here at f args' (body_of program f) l) w')
+    unfolding run run_alive kernel_side
+    kernel_goes n r f args args' like here at l w w' even h less leaf =
         (starts_alike InKernel false (known_of program) kernel_own (body_of program) (λ g. kernel_part (is_kernel g) (body_of program g)) kernel_rules
-        (suc w.clock.rest) n w.clock.rest f (omega arith) (omega (arith, h, less)) args here at l
-        (λ q few v. record { by = λ w' h'. leaf q v w' h' (omega (arith, few, h)) })).by w (le_refl w.clock.rest)
+        (suc w.clock.rest) n w.clock.rest f (omega arith) (omega (arith, h, less)) args args' like here at l
+        (λ q few v v' b. record { by = λ u u' even' h'. ends_alive q v v' b u u' even' h' few (is_gone u.memory v) refl })).by w w' even (le_refl w.clock.rest)
+      where
+        ends_alive : (q : ℕ) (v v' : Wire) → Like v v' → (u u' : World) → Even u u' → u.clock.rest ≤ q → q ≤ w.clock.rest → (b : Bool) → is_gone u.memory v ≡ b
+            → Leads Like q (after (unless b None u (Ended v u)) go) (run (in_kernel program never) before' (l v') u')
+        ends_alive q v v' b u u' even' h' few true is = never_ends Like q _ _ u _
+        ends_alive q v v' b u u' even' h' few false is = leaf q v v' u u' h' (omega (arith, few, h)) is b even'
 
-  calls_lead : (before before' : Before) → ((n : ℕ) (w : World) → Leads w.clock.rest (before n w) (before' n (bare w))) → (f : ℕ) (args : List Wire) (depth : ℕ) (w : World)
-      → Leads w.clock.rest (call (lone_kernel d) before f args depth w) (call plain_kernel before' f args depth (bare w))
+  calls_lead : (before before' : Before) → ((n : ℕ) (w w' : World) → Even w w' → Leads Both w.clock.rest (before n w) (before' n w')) → (f : ℕ) (args : List Wire) (depth : ℕ) (w w' : World) → Even w w'
+      → Leads Like w.clock.rest (call_alone d before f args depth w) (call plain_kernel before' f args depth w')
   unfolding call started run whole_side
-  calls_lead before before' tried f args depth w =
-      subst (λ q. Leads w.clock.rest q (call plain_kernel before' f args depth (bare w))) (after_ended (call (lone_kernel d) before f args depth w))
-      (kernel_goes before before' Ended tried (suc w.clock.rest) w.clock.rest f args (record { func = f; depth = depth; slots = []; result = Void }) (record { func = f; stmt = 0 }) (λ v. Tree.Done v Tree.Idle) w
-      (le_refl w.clock.rest) (omega arith) (λ q v w' h few. ended q (normal w'.memory v) w' h))
+  calls_lead before before' tried f args depth w w' even =
+      subst (λ q. Leads Like w.clock.rest q (call plain_kernel before' f args depth w')) (after_ended (call_alone d before f args depth w))
+      (kernel_goes before before' Ended tried (suc w'.clock.rest) w.clock.rest f args args (same_list args) (record { func = f; depth = depth; slots = []; result = Void }) (record { func = f; stmt = 0 }) (λ v. Tree.Done v Tree.Idle) w w' even
+      (le_refl w.clock.rest) (let same : w.clock.rest ≡ w'.clock.rest = even_rest w w' even in let less : w.clock.rest < suc w'.clock.rest = omega (arith, same) in less)
+      (λ q v v' u u' h few alive like even'. ended Like q v (normal u'.memory v') u u' (given_alive u u' v v' alive like even') even' h))
 
   -- ---- interrupts
 
-  handled_leads : (n : ℕ) (o : Option ℕ) (w : World) → Leads w.clock.rest (handled (lone_kernel d) n o w) (handled plain_kernel n o (bare w))
-  handled_leads n None w = ended w.clock.rest tt w (le_refl w.clock.rest)
-  handled_leads n (Some f) w =
-      leads_after w.clock.rest w.clock.rest _ _ _ _ (calls_lead nothing nothing (λ n' w'. ended w'.clock.rest tt w' (le_refl w'.clock.rest)) f [] n (interrupted f w))
-      (λ v w' h. ended w.clock.rest tt (handling false w') h)
+  even_interrupted : (f : ℕ) (w w' : World) → Even w w' → Even (interrupted f w) (interrupted f w')
+  even_interrupted f w w' even = even_handling true _ _ (even_noted (happened.Irq f) (happened.Irq f) w w' refl even)
 
-  unless_leads : (n : ℕ) (o : Option ℕ) (w : World) → Leads w.clock.rest (unless_due o w) (handled plain_kernel n o (bare w))
-  unless_leads n None w = ended w.clock.rest tt w (le_refl w.clock.rest)
-  unless_leads n (Some f) w = never_ends w.clock.rest _ _ w _
+  handled_leads : (n : ℕ) (o : Option ℕ) (w w' : World) → Even w w' → Leads Both w.clock.rest (handled_alone d n o w) (handled plain_kernel n o w')
+  handled_leads n None w w' even = ended Both w.clock.rest tt tt w w' tt even (le_refl w.clock.rest)
+  handled_leads n (Some f) w w' even =
+      leads_after Like Both w.clock.rest w.clock.rest _ _ _ _
+      (calls_lead nothing nothing (λ n' u u' e. ended Both u.clock.rest tt tt u u' tt e (le_refl u.clock.rest)) f [] n (interrupted f w) (interrupted f w') (even_interrupted f w w' even))
+      (λ v v' u u' like e h. ended Both w.clock.rest tt tt (handling false u) (handling false u') tt (even_handling false u u' e) h)
 
-  pub tries_lead : (n : ℕ) (w : World) → Leads w.clock.rest (tries d n w) (interrupts plain_kernel n (bare w))
+  unless_leads : (n : ℕ) (o : Option ℕ) (w w' : World) → Even w w' → Leads Both w.clock.rest (unless_due o w) (handled plain_kernel n o w')
+  unless_leads n None w w' even = ended Both w.clock.rest tt tt w w' tt even (le_refl w.clock.rest)
+  unless_leads n (Some f) w w' even = never_ends Both w.clock.rest _ _ w _
+
+  pub tries_lead : (n : ℕ) (w w' : World) → Even w w' → Leads Both w.clock.rest (tries d n w) (interrupts plain_kernel n w')
   unfolding interrupts
-  tries_lead n w = of (are_none w.views) refl
+  tries_lead n w w' even = of (are_none w.views) refl
     where
-      of : (t : Bool) → are_none w.views ≡ t → Leads w.clock.rest (chosen t (handled (lone_kernel d) n (due w) w) (unless_due (due_plainly w) w)) (handled plain_kernel n (due (bare w)) (bare w))
+      of : (t : Bool) → are_none w.views ≡ t → Leads Both w.clock.rest (chosen t (handled_alone d n (due w) w) (unless_due (due_plainly w) w)) (handled plain_kernel n (due w') w')
       of true e =
-          let same : due w ≡ due (bare w) = ap (λ (vs : List (List Cell)). due (record w { views = vs })) (none_is w.views e) in
-          subst (λ o. Leads w.clock.rest (handled (lone_kernel d) n o w) (handled plain_kernel n (due (bare w)) (bare w))) (sym same) (handled_leads n (due (bare w)) w)
-      of false e = unless_leads n (due_plainly w) w
+          let same : due w ≡ due w' = ap (λ (vs : List (List Cell)). due (record w { views = vs })) (none_is w.views e) ∙ due_alike w w' even in
+          subst (λ o. Leads Both w.clock.rest (handled_alone d n o w) (handled plain_kernel n (due w') w')) (sym same) (handled_leads n (due w') w w' even)
+      of false e = subst (λ o. Leads Both w.clock.rest (unless_due o w) (handled plain_kernel n (due w') w')) (sym (due_alike w w' even)) (unless_leads n (due w') w w' even)
 
-  user_tries_lead : (n : ℕ) (w : World) → Leads w.clock.rest (meets_user n w) (interrupts plain_kernel n (bare w))
+  user_tries_lead : (n : ℕ) (w w' : World) → Even w w' → Leads Both w.clock.rest (meets_user n w) (interrupts plain_kernel n w')
   unfolding interrupts
-  user_tries_lead n w = unless_leads n (due_plainly w) w
+  user_tries_lead n w w' even = subst (λ o. Leads Both w.clock.rest (unless_due o w) (handled plain_kernel n (due w') w')) (sym (due_alike w w' even)) (unless_leads n (due w') w w' even)
 
-  pub kernel_leads : (f : ℕ) (args : List Wire) (depth : ℕ) (w : World) → Leads w.clock.rest (call (lone_kernel d) (tries d) f args depth w) (call plain_kernel (interrupts plain_kernel) f args depth (bare w))
-  kernel_leads f args depth w = calls_lead (tries d) (interrupts plain_kernel) tries_lead f args depth w
+  pub kernel_leads : (f : ℕ) (args : List Wire) (depth : ℕ) (w w' : World) → Even w w' → Leads Like w.clock.rest (call_alone d (tries d) f args depth w) (call plain_kernel (interrupts plain_kernel) f args depth w')
+  kernel_leads f args depth w w' even = calls_lead (tries d) (interrupts plain_kernel) tries_lead f args depth w w' even
 
   -- ---- the user half
 
-  gains_leads : (t : ℕ) (q : Asked) (w : World) → Leads w.clock.rest (after (serves_awake program q w) (λ results w'. Ended results (gained program (touched_by plan t) (next_serial w) w'))) (served program q (bare w))
-  gains_leads t q w =
-      subst (λ s. Leads w.clock.rest (after (serves_awake program q w) (λ results w'. Ended results (gained program (touched_by plan t) (next_serial w) w'))) s) (after_ended (served program q (bare w)))
-      (leads_after w.clock.rest w.clock.rest _ _ _ _ (awake_leads program q w) (λ results w' h. ended w.clock.rest results (gained program (touched_by plan t) (next_serial w) w') h))
+  gains_leads : (t : ℕ) (q : Asked) (args : List Wire) (w w' : World) → AreLike q.args args → Even w w'
+      → Leads AreLike w.clock.rest (after (served program q w) (λ results u. Ended results (gained program (touched_by plan t) (next_serial w) u))) (served program (record q { args = args }) w')
+  gains_leads t q args w w' like even =
+      subst (λ s. Leads AreLike w.clock.rest (after (served program q w) (λ results u. Ended results (gained program (touched_by plan t) (next_serial w) u))) s) (after_ended (served program (record q { args = args }) w'))
+      (leads_after AreLike AreLike w.clock.rest w.clock.rest _ _ _ _ (served_leads program q args w w' like even)
+      (λ results results' u u' a e h. ended AreLike w.clock.rest results results' (gained program (touched_by plan t) (next_serial w) u) u' a (even_views u u' _ e) h))
 
-  asks_lead : (t : ℕ) (q : Asked) (w : World) → Leads w.clock.rest (asks d t q w) (served program q (bare w))
-  asks_lead t q w = leads_unless _ (is_any_dead (now w q.args)) q.at w _ _ (λ e. gains_leads t q w)
+  asks_lead : (t : ℕ) (q : Asked) (args : List Wire) (w w' : World) → AreLike q.args args → Even w w' → Leads AreLike w.clock.rest (asks d t q w) (served program (record q { args = args }) w')
+  asks_lead t q args w w' like even = leads_unless AreLike _ (is_any_gone w.memory q.args) (Some q.at) w _ _ (λ e. gains_leads t q args w w' like even)
 
   module _ (t : ℕ) where
     abbrev InUser : ℕ → Tree → Tree → Type 0
     InUser = Goes program may_touch (asks d t) (goes_down d t) meets_user (interrupts plain_kernel) Ended user_tries_lead (asks_lead t)
 
     -- deaths that are asked for, of what is alive
-    user_dies : (r : ℕ) (at : At) (ps : List Wire) (u u' : Tree) → InUser r u u' → InUser r (deaths_by true at ps u) (Tree.Death at ps u')
-    unfolding run served
-    user_dies r at ps u u' e = record { by = λ w h. of w h (is_any_dead (now w ps)) refl }
+    user_dies : (r : ℕ) (at : At) (ps qs : List Wire) (u u' : Tree) → AreLike ps qs → InUser r u u' → InUser r (deaths_by true at ps u) (Tree.Death at qs u')
+    unfolding run run_alive served
+    user_dies r at ps qs u u' like e = record { by = λ w w' even h. of w w' even h (is_any_gone w.memory ps) refl }
       where
-        more : World → List Wire → World → Ran Wire
-        more w0 results w = run (in_user d t) meets_user u w
+        gain : World → List Wire → World → Ran (List Wire)
+        gain w results x = Ended results (gained program (touched_by plan t) (next_serial w) x)
 
-        of : (w : World) → w.clock.rest ≤ r → (b : Bool) → is_any_dead (now w ps) ≡ b
-            → Leads r (after (after (unless b at w (after (serves_awake program (asked_for 14 at ps [] []) w) (λ results w'. Ended results (gained program (touched_by plan t) (next_serial w) w')))) (λ results w'. run (in_user d t) meets_user u w')) Ended)
-            (run (in_kernel program never) (interrupts plain_kernel) u' (deaths ps (bare w)))
-        of w h true alive = never_ends r _ _ w _
-        of w h false alive =
-            subst (λ qs. Leads r (after (after (after (serves_awake program (asked_for 14 at ps [] []) w) (λ results w'. Ended results (gained program (touched_by plan t) (next_serial w) w'))) (λ results w'. run (in_user d t) meets_user u w')) Ended)
-            (run (in_kernel program never) (interrupts plain_kernel) u' (deaths qs (bare w)))) (all_alive w.memory ps alive)
-            (asks_go r Ended w.clock.rest _ (served program (asked_for 14 at ps [] []) (bare w)) (λ results w'. run (in_user d t) meets_user u w') (λ results w'. run (in_kernel program never) (interrupts plain_kernel) u' w')
-            (gains_leads t (asked_for 14 at ps [] []) w) (λ results w' h'. e.by w' (let x : w'.clock.rest ≤ r = omega (arith, h', h) in x)))
+        more : List Wire → World → Ran Wire
+        more results x = run_alive (in_user d t) meets_user u x
+
+        of : (w w' : World) → Even w w' → w.clock.rest ≤ r → (b : Bool) → is_any_gone w.memory ps ≡ b
+            → Leads Like r (after (after (unless b (Some at) w (after (served program (asked_for 14 at ps [] []) w) (gain w))) more) Ended)
+            (run (in_kernel program never) (interrupts plain_kernel) u' (deaths qs w'))
+        of w w' even h true alive = never_ends Like r _ _ w _
+        of w w' even h false alive =
+            subst (λ xs. Leads Like r (after (after (after (Ended [] (deaths xs w)) (gain w)) more) Ended) (run (in_kernel program never) (interrupts plain_kernel) u' (deaths qs w'))) (sym (all_alive w.memory ps alive))
+            (e.by (gained program (touched_by plan t) (next_serial w) (deaths ps w)) (deaths qs w') (even_views (deaths ps w) (deaths qs w') _ (deaths_alike ps qs w w' like even))
+            (let same : (deaths ps w).clock.rest ≡ w.clock.rest = deaths_rest ps w in omega (arith, same, h)))
 
     -- what user code goes on with behind a function of the kernel half
     abbrev onward : (Wire → Tree) → At → ℕ → List Wire → Wire → World → Ran Wire
-    onward k at f args v w = after (after (gets d t at f args v w) (λ v' w'. run (in_user d t) meets_user (k v') w')) Ended
+    onward k at f args v w = after (after (returns_to d (free d) t at f args v w) (λ v' u. run_alive (in_user d t) meets_user (k v') u)) Ended
 
-    set_goes : (q : ℕ) (k l : Wire → Tree) (at : At) (o : Result (List Cell) Failing) (v : Wire) (w : World) → w.clock.rest ≤ q → InUser q (k v) (l v)
-        → Leads q (after (after (taken o at w (λ set. Ended v (renewed set w))) (λ v' w'. run (in_user d t) meets_user (k v') w')) Ended) (run (in_kernel program never) (interrupts plain_kernel) (l v) (bare w))
-    set_goes q k l at (Ok set) v w h e = e.by (renewed set w) h
-    set_goes q k l at (Err failing) v w h e = never_ends q _ _ w _
+    set_goes : (q : ℕ) (k l : Wire → Tree) (at : At) (o : Result (List Cell) Failing) (v v' : Wire) (w w' : World) → Even w w' → w.clock.rest ≤ q → InUser q (k v) (l v')
+        → Leads Like q (after (after (taken o at w (λ set. Ended v (renewed set w))) (λ x u. run_alive (in_user d t) meets_user (k x) u)) Ended) (run (in_kernel program never) (interrupts plain_kernel) (l v') w')
+    set_goes q k l at (Ok set) v v' w w' even h e = e.by (renewed set w) w' (even_views w w' _ even) h
+    set_goes q k l at (Err failing) v v' w w' even h e = never_ends Like q _ _ w _
 
-    onward_goes : (q : ℕ) (k l : Wire → Tree) (at : At) (f : ℕ) (args : List Wire) (v : Wire) (w : World) → w.clock.rest ≤ q → ((x : Wire) → InUser q (k x) (l x))
-        → Leads q (onward k at f args (normal w.memory v) w) (run (in_kernel program never) (interrupts plain_kernel) (l v) (bare w))
-    onward_goes q k l at f args v w h e = of (is_dead (normal w.memory v)) refl
+    user_crosses : (r : ℕ) (here : Here) (at at' : At) (f : ℕ) (args args' : List Wire) (k l : Wire → Tree) (low : Means) → user_own f ≡ None → IsFar all r low → AreLike args args'
+        → ((q : ℕ) → q ≤ r → (v w : Wire) → Like v w → InUser q (k v) (l w)) → InUser r (Tree.Cross at f args here.depth k) (goes_to all low here at' f args' (body_of program f) l)
+    unfolding run run_alive
+    user_crosses r here at at' f args args' k l low none far like e = record { by = λ w w' even h. of w w' even h (is_any_gone w.memory args) refl }
       where
-        of : (b : Bool) → is_dead (normal w.memory v) ≡ b
-            → Leads q (after (after (unless b at w (returns_to d (free d) t at f args (normal w.memory v) w)) (λ v' w'. run (in_user d t) meets_user (k v') w')) Ended) (run (in_kernel program never) (interrupts plain_kernel) (l v) (bare w))
-        of true alive = never_ends q _ _ w _
-        of false alive =
-            subst (λ x. Leads q (after (after (returns_to d (free d) t at f args (normal w.memory v) w) (λ v' w'. run (in_user d t) meets_user (k v') w')) Ended) (run (in_kernel program never) (interrupts plain_kernel) (l x) (bare w)))
-            (normal_alive w.memory v alive) (set_goes q k l at _ (normal w.memory v) w h (e (normal w.memory v)))
+        of : (w w' : World) → Even w w' → w.clock.rest ≤ r → (b : Bool) → is_any_gone w.memory args ≡ b
+            → Leads Like r (after (after (unless b (Some at) w (after (call_alone d (tries d) f (now w args) here.depth w) (λ v u. returns_to d (free d) t at f (now w args) v u))) (λ v' u. run_alive (in_user d t) meets_user (k v') u)) Ended)
+            (run (in_kernel program never) (interrupts plain_kernel) (goes_to all low here at' f args' (body_of program f) l) w')
+        of w w' even h true alive = never_ends Like r _ _ w _
+        of w w' even h false alive =
+            let joined = ap (λ (q : Ran Wire). after q Ended) (after_after (call_alone d (tries d) f (now w args) here.depth w) (λ v u. returns_to d (free d) t at f (now w args) v u) (λ v' u. run_alive (in_user d t) meets_user (k v') u))
+            ∙ after_after (call_alone d (tries d) f (now w args) here.depth w) (λ v u. after (returns_to d (free d) t at f (now w args) v u) (λ v' x. run_alive (in_user d t) meets_user (k v') x)) Ended in
+            subst (λ q. Leads Like r q (run (in_kernel program never) (interrupts plain_kernel) (goes_to all low here at' f args' (body_of program f) l) w')) (sym joined)
+            (fewer Like w.clock.rest r _ _ h
+            (subst (λ (m : Means). Leads Like w.clock.rest (after (call_alone d (tries d) f (now w args) here.depth w) (onward k at f (now w args))) (run (in_kernel program never) (interrupts plain_kernel) (goes_to all m here at' f args' (body_of program f) l) w')) (sym far.is)
+            (kernel_goes (tries d) (interrupts plain_kernel) (onward k at f (now w args)) tries_lead far.fuel r f (now w args) args' (subst (λ vs. AreLike vs args') (sym (all_alive w.memory args alive)) like) here at' l w w' even h far.enough
+            (λ q v v' u u' h' few living like' even'. set_goes q k l at _ v v' u u' even' h' (e q few v v' like')))))
 
-    user_crosses : (r : ℕ) (here : Here) (at at' : At) (f : ℕ) (args : List Wire) (k l : Wire → Tree) (low : Means) → IsFar all r low → ((q : ℕ) → q ≤ r → (v : Wire) → InUser q (k v) (l v))
-        → InUser r (Tree.Cross at f args here.depth k) (goes_to all low here at' f args (body_of program f) l)
-    unfolding run
-    user_crosses r here at at' f args k l low far e = record { by = λ w h. of w h (is_any_dead (now w args)) refl }
-      where
-        of : (w : World) → w.clock.rest ≤ r → (b : Bool) → is_any_dead (now w args) ≡ b
-            → Leads r (after (after (unless b at w (after (call (lone_kernel d) (tries d) f (now w args) here.depth w) (λ v w'. gets d t at f (now w args) v w'))) (λ v' w'. run (in_user d t) meets_user (k v') w')) Ended)
-            (run (in_kernel program never) (interrupts plain_kernel) (goes_to all low here at' f args (body_of program f) l) (bare w))
-        of w h true alive = never_ends r _ _ w _
-        of w h false alive =
-            let joined = ap (λ (q : Ran Wire). after q Ended) (after_after (call (lone_kernel d) (tries d) f (now w args) here.depth w) (λ v w'. gets d t at f (now w args) v w') (λ v' w'. run (in_user d t) meets_user (k v') w'))
-            ∙ after_after (call (lone_kernel d) (tries d) f (now w args) here.depth w) (λ v w'. after (gets d t at f (now w args) v w') (λ v' w''. run (in_user d t) meets_user (k v') w'')) Ended in
-            subst (λ q. Leads r q (run (in_kernel program never) (interrupts plain_kernel) (goes_to all low here at' f args (body_of program f) l) (bare w))) (sym joined)
-            (fewer w.clock.rest r _ _ h
-            (subst (λ (m : Means). Leads w.clock.rest (after (call (lone_kernel d) (tries d) f (now w args) here.depth w) (onward k at f (now w args))) (run (in_kernel program never) (interrupts plain_kernel) (goes_to all m here at' f args (body_of program f) l) (bare w))) (sym far.is)
-            (subst (λ vs. Leads w.clock.rest (after (call (lone_kernel d) (tries d) f (now w args) here.depth w) (onward k at f (now w args))) (run (in_kernel program never) (interrupts plain_kernel) (goes_to all (means all far.fuel) here at' f vs (body_of program f) l) (bare w)))
-            (all_alive w.memory args alive)
-            (kernel_goes (tries d) (interrupts plain_kernel) (onward k at f (now w args)) tries_lead far.fuel r f (now w args) here at' l w h far.enough
-            (λ q v w' h' few. onward_goes q k l at f (now w args) v w' h' (λ x. e q few x))))))
-
-    user_rules : Rules InUser true all
+    user_rules : Rules InUser true user_own all
     user_rules = record {
       stop = goes_stop program may_touch (asks d t) (goes_down d t) meets_user (interrupts plain_kernel) Ended user_tries_lead (asks_lead t);
       tick = goes_tick program may_touch (asks d t) (goes_down d t) meets_user (interrupts plain_kernel) Ended user_tries_lead (asks_lead t);
@@ -223,25 +257,33 @@ module _ (program : Program) (plan : Plan) where
       cross = user_crosses;
     }
 
-    user_leads : (args : List Wire) (w : World)
-        → Leads w.clock.rest (run (in_user d t) meets_user (started d.user (suc w.clock.rest) t args 0 Tree.Idle) w) (call plain_kernel (interrupts plain_kernel) t args 0 (bare w))
-    unfolding call started run user_side whole_side
-    user_leads args w =
-        subst (λ q. Leads w.clock.rest q (call plain_kernel (interrupts plain_kernel) t args 0 (bare w))) (after_ended (run (in_user d t) meets_user (started d.user (suc w.clock.rest) t args 0 Tree.Idle) w))
+    user_leads : (args : List Wire) (w w' : World) → Even w w'
+        → Leads Like w.clock.rest (run_alive (in_user d t) meets_user (started d.user (suc w.clock.rest) t args 0 Tree.Idle) w) (call plain_kernel (interrupts plain_kernel) t args 0 w')
+    unfolding call started run run_alive user_side whole_side
+    user_leads args w w' even =
+        subst (λ q. Leads Like w.clock.rest q (call plain_kernel (interrupts plain_kernel) t args 0 w')) (after_ended (run_alive (in_user d t) meets_user (started d.user (suc w.clock.rest) t args 0 Tree.Idle) w))
         ((starts_alike InUser true (known_of program) user_own (body_of program) (λ g. user_part (is_kernel g) (body_of program g)) user_rules
-        (suc w.clock.rest) (suc w.clock.rest) w.clock.rest t (omega arith) (omega arith) args (record { func = t; depth = 0; slots = []; result = Void }) (record { func = t; stmt = 0 }) (λ v. Tree.Done v Tree.Idle)
-        (λ q few v. record { by = λ w' h'. ended q (normal w'.memory v) w' h' })).by w (le_refl w.clock.rest))
+        (suc w.clock.rest) (suc w'.clock.rest) w.clock.rest t (omega arith) (let same : w.clock.rest ≡ w'.clock.rest = even_rest w w' even in let less : w.clock.rest < suc w'.clock.rest = omega (arith, same) in less) args args (same_list args)
+        (record { func = t; depth = 0; slots = []; result = Void }) (record { func = t; stmt = 0 }) (λ v. Tree.Done v Tree.Idle)
+        (λ q few v v' like. record { by = λ u u' even' h'. ends_alive q v v' like u u' even' h' (is_gone u.memory v) refl })).by w w' even (le_refl w.clock.rest))
+      where
+        ends_alive : (q : ℕ) (v v' : Wire) → Like v v' → (u u' : World) → Even u u' → u.clock.rest ≤ q → (b : Bool) → is_gone u.memory v ≡ b
+            → Leads Like q (after (unless b None u (Ended v u)) Ended) (Ended (normal u'.memory v') u')
+        ends_alive q v v' like u u' even' h' true is = never_ends Like q _ _ u _
+        ends_alive q v v' like u u' even' h' false is = ended Like q v (normal u'.memory v') u u' (given_alive u u' v v' is like even') even' h'
 
   -- ---- calls
 
-  closing_leads : (n : ℕ) (r s : Ran Wire) → Leads n r s → Leads n (closing r) s
-  closing_leads n (Ended v w) s h = subst (λ q. Leads n (closing (Ended v w)) q) (sym (h.by v w refl)) (ended n v _ (h.few v w refl))
-  closing_leads n (Stopped kind at w) s h = never_ends n kind at w s
+  closing_leads : (n : ℕ) (r s : Ran Wire) → Leads Like n r s → Leads Like n (closing r) s
+  closing_leads n (Ended v w) s h =
+      let e : Ends Like v w s = h.by v w refl in
+      subst (λ q. Leads Like n (closing (Ended v w)) q) (sym e.is) (ended Like n v e.value _ e.world e.like (even_views w e.world _ e.even) (h.few v w refl))
+  closing_leads n (Stopped kind at w) s h = never_ends Like n kind at w s
 
-  taken_leads : (n : ℕ) (o : Result (List Cell) Failing) (at : At) (w : World) (go : List Cell → Ran Wire) (s : Ran Wire) → ((set : List Cell) → Leads n (go set) s) → Leads n (taken o at w go) s
+  taken_leads : (n : ℕ) (o : Result (List Cell) Failing) (at : At) (w : World) (go : List Cell → Ran Wire) (s : Ran Wire) → ((set : List Cell) → Leads Like n (go set) s) → Leads Like n (taken o at w go) s
   taken_leads n (Ok set) at w go s each = each set
-  taken_leads n (Err failing) at w go s each = never_ends n _ _ w s
+  taken_leads n (Err failing) at w go s each = never_ends Like n _ _ w s
 
-  pub called_leads : (b : Bool) (f : ℕ) (args : List Wire) (w : World) → Leads w.clock.rest (called d b f args w) (call plain_kernel (interrupts plain_kernel) f args 0 (bare w))
-  called_leads true f args w = taken_leads w.clock.rest _ _ w _ _ (λ set. closing_leads w.clock.rest _ _ (user_leads f args (opened set w)))
-  called_leads false f args w = kernel_leads f args 0 w
+  pub called_leads : (b : Bool) (f : ℕ) (args : List Wire) (w w' : World) → Even w w' → Leads Like w.clock.rest (called d b f args w) (call plain_kernel (interrupts plain_kernel) f args 0 w')
+  called_leads true f args w w' even = taken_leads w.clock.rest _ _ w _ _ (λ set. closing_leads w.clock.rest _ _ (user_leads f args (opened set w) w' (even_views w w' _ even)))
+  called_leads false f args w w' even = kernel_leads f args 0 w w' even

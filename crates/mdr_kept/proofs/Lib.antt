@@ -1,7 +1,10 @@
+pub mod LikeLaws
 pub mod PartLaws
-pub mod BareLaws
+pub mod SpunLaws
+pub mod EvenLaws
 pub mod GoesLaws
 pub mod HalfLaws
 pub mod FollowLaws
 pub mod PlainLaws
+pub mod ShownLaws
 pub mod WorkedProofs

@@ -1,3 +1,4 @@
+pub mod Alike
 pub mod Strict
 pub mod Laws
 pub mod Worked

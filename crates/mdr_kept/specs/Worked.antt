@@ -1,11 +1,11 @@
 -- Small drivers in two halves, worked out: where their watched runs and their plain runs are told apart, and where not.
-use Rattle.std.specs.Prelude.{◌≡◌, List, true, false, [], ◌∷◌, codes, Some}
+use Rattle.std.specs.Prelude.{◌≡◌, List, true, false, [], ◌∷◌, codes, Some, None}
 use Rattle.mdr_core.specs.declared.stop.StopKind.TheVariants as stop
 use Rattle.mdr_core.specs.declared.types.Ty.{Ty}
 use Rattle.mdr_core.specs.declared.types.Ty.TheVariants as ty
 use Rattle.mdr_core.specs.declared.value.LockState.TheVariants.{Free, Spin, Sleep}
 use Rattle.mdr_core.specs.declared.value.Value.TheVariants as value
-use Rattle.mdr_core.specs.Code.{Term, Lvalue, Called, Goal, Code}
+use Rattle.mdr_core.specs.Code.{Term, Lvalue, Called, Goal, Code, Codes}
 use Rattle.mdr_meaning.specs.Sides.{Body}
 use Rattle.mdr_meaning.specs.Worked.{at_stmt, behind, body, form, local, node, node_pointer, object, u32}
 use Rattle.mdr_model.specs.declared.command.Command.TheVariants as command
@@ -16,6 +16,7 @@ use Rattle.mdr_plain.specs.Scripts.{Finish}
 use Rattle.mdr_plain.specs.Worked.{Driver as Written, calls, global_named, just, named, program_of, serves, side_of}
 use Rattle.mdr_plain.specs.WorkedRuns.{setup_and_take}
 use Rattle.mdr_script.specs.declared.bound.Bound.{Bound}
+use Rattle.mdr_watched.specs.Driver.{Driver}
 use Rattle.mdr_watched.specs.Kept.{followed_of}
 use Rattle.mdr_watched.specs.Worked.{aliases, arrays, began, cut, objects, returned, setup_then}
 use Rattle.mdr_kept.specs.Strict.{strict_of}
@@ -48,8 +49,9 @@ take_and_show = just (calls 0 ∷ command.Show 0 ∷ [])
 abbrev pub plainly : Written → Bound → Finish
 plainly d script = plain_of (program_of d) (side_of d) script 100
 
--- user code takes it, and it sleeps; in the plain run it spins. Both are printed as held, and `show` notes which
+-- user code takes it, and it sleeps; in the plain run it spins. `show` notes which, and both are printed as held
 pub record TellsLocks : Type 0 where
+  pub strict : (strict_of (cut locking (true ∷ []) ([] ∷ [])) take_and_show 100).end ≡ ends.Ok
   pub kept : (followed_of (cut locking (true ∷ []) ([] ∷ [])) take_and_show 100).end ≡ ends.Ok
   pub followed : (followed_of (cut locking (true ∷ []) ([] ∷ [])) take_and_show 100).world.kept.events ≡ began (codes "take") [] ∷ returned ∷ happened.Show (codes "l") (value.Lock Sleep ∷ []) ∷ []
   pub plain : (plainly locking take_and_show).world.kept.events ≡ began (codes "take") [] ∷ returned ∷ happened.Show (codes "l") (value.Lock Spin ∷ []) ∷ []
@@ -60,8 +62,8 @@ abbrev pub gives : Body
 gives = body (object u32 ∷ []) ty.VoidPtr (Code.Declare 1 0 ∷ Code.Return 2 (Some (Term.ToVoid (Term.Addr (Lvalue.Object 0)))) ∷ [])
 
 -- the result is converted, and followed or not
-abbrev pub uses : List Code → Body
-uses more = body (local node_pointer ∷ local u32 ∷ []) ty.Void (Code.Declare 1 0 ∷ Code.Declare 2 1 ∷ Code.Call 3 (Goal.Into (Lvalue.Slot 0)) (form (Called.Direct 0) []) ∷ more)
+abbrev pub uses_as : Ty → List Code → Body
+uses_as t more = body (local t ∷ local u32 ∷ []) ty.Void (Code.Declare 1 0 ∷ Code.Declare 2 1 ∷ Code.Call 3 (Goal.Into (Lvalue.Slot 0)) (form (Called.Direct 0) []) ∷ more)
 
 abbrev pub reads_it : List Code
 reads_it = Code.Assign 4 (Lvalue.Slot 1) (Term.Load (behind 0 0)) ∷ []
@@ -72,19 +74,37 @@ giving more = record {
   pointer = node_pointer;
   globals = [];
   funcs = record (named (codes "give")) { result = ty.VoidPtr } ∷ named (codes "use") ∷ [];
-  bodies = gives ∷ uses more ∷ [];
+  bodies = gives ∷ uses_as node_pointer more ∷ [];
 }
 
 abbrev pub used : Bound
 used = just (calls 1 ∷ [])
 
 -- user code that gets it from the kernel half
+abbrev pub divided : Written → Driver
+divided d = cut d (false ∷ true ∷ []) ([] ∷ [] ∷ [])
+
 abbrev pub apart : Written → Finish
-apart d = followed_of (cut d (false ∷ true ∷ []) ([] ∷ [] ∷ [])) used 100
+apart d = followed_of (divided d) used 100
 
 -- the address of a function's own object is dead where it arrives, in place as across the halves: it converts to any type, and stops where it is followed
 pub record DeadResultsAreAlike : Type 0 where
+  pub strict : (strict_of (divided (giving [])) used 100).end ≡ ends.Ok
   pub kept : (apart (giving [])).end ≡ ends.Ok
   pub plain : (plainly (giving []) used).end ≡ ends.Ok
   pub kept_followed : (apart (giving reads_it)).end ≡ ends.Stop stop.Dead (Some (at_stmt 1 4))
   pub plain_followed : (plainly (giving reads_it) used).end ≡ ends.Stop stop.Dead (Some (at_stmt 1 4))
+
+-- ---- an object that is named behind its block, as no source does: void *give(void){{u32 x;} return &x;}
+
+abbrev pub gives_left : Body
+gives_left = body (object u32 ∷ []) ty.VoidPtr (Code.Block (Codes.Then (Code.Declare 1 0) Codes.End) ∷ Code.Return 2 (Some (Term.ToVoid (Term.Addr (Lvalue.Object 0)))) ∷ [])
+
+abbrev pub leaving : Ty → Written
+leaving t = record (giving []) { bodies = gives_left ∷ uses_as t [] ∷ [] }
+
+-- the object died before its function ended, so that its address is dead across the halves alone. The strict run ends there
+pub record TellsLeftObjects : Type 0 where
+  pub kept : (apart (leaving node_pointer)).end ≡ ends.Ok
+  pub plain : (plainly (leaving node_pointer) used).end ≡ ends.Stop stop.BadCast (Some (at_stmt 1 3))
+  pub strict : (strict_of (divided (leaving node_pointer)) used 100).end ≡ ends.Stop stop.Annotation None

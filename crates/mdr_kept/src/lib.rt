@@ -5,5 +5,11 @@
 mod laws;
 mod worked;
 
-pub use laws::{strict_outcomes_agree, strict_runs_are_followed, strict_runs_are_plain};
-pub use worked::{dead_results_are_alike, locks_are_told_apart, ordinary_runs_are_strict};
+pub use laws::{
+    locks_are_held, strict_outcomes_agree, strict_reports_agree, strict_runs_are_followed,
+    strict_runs_are_plain,
+};
+pub use worked::{
+    dead_results_are_alike, left_objects_are_told_apart, locks_are_told_apart,
+    ordinary_runs_are_strict,
+};

@@ -1,0 +1,3 @@
+pub mod LivingLaws
+pub mod ValueLaws
+pub mod TreeLaws
