@@ -40,8 +40,8 @@ abbrev pub NameRoots : List Wire → Roots → Memory → Type 0
 NameRoots values roots m = (serial : ℕ) → is_live m serial ≡ true → is_named (values_in roots.values) serial ≡ true → is_named values serial ≡ true
 
 -- of what lives, the copy has the globals, and the blocks of the set from which a new one is taken
-pub record HasBegun (program : Program) (known : List Cell) (copy m : Memory) : Type 0 where
-  pub known : (c : Cell) → is_in cells known c ≡ true → is_live m c.serial ≡ true → is_live copy c.serial ≡ true
+pub record HasBegun (program : Program) (old : List Cell) (copy m : Memory) : Type 0 where
+  pub known : (c : Cell) → is_in cells old c ≡ true → is_live m c.serial ≡ true → is_live copy c.serial ≡ true
   pub globals : (serial : ℕ) → nat_lt serial (length program.globals) ≡ true → is_live m serial ≡ true → is_live copy serial ≡ true
 
 -- ---- locks

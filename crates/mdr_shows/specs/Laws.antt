@@ -51,23 +51,23 @@ pub record VisibleMayBeShown : Type 0 where
 -- each cell of a set lives, and where no key is a lock's none is a lock
 pub record SetsAreOpen : Type 0 where
   pub live : (program : Program) (touched : List Key) (m : Memory) (set : List Cell) → IsSetOf program touched m set → AreLive m set
-  pub open : (program : Program) (touched : List Key) (m : Memory) (set : List Cell) → AreOpenKeys program touched → GlobalsAreTyped program m → IsSetOf program touched m set → HasNoLocks program m set
+  pub no_locks : (program : Program) (touched : List Key) (m : Memory) (set : List Cell) → AreOpenKeys program touched → GlobalsAreTyped program m → IsSetOf program touched m set → HasNoLocks program m set
   -- no key of a plan that suits the program is a lock's
   pub keys : (program : Program) (plan : Plan) (t : ℕ) → IsSuited plan program → AreOpenKeys program (touched_by plan t)
   -- a store is no matter
-  pub stored : (program : Program) (touched : List Key) (m : Memory) (set : List Cell) (c : Cell) (v : Wire) → IsSetOf program touched m set → IsSetOf program touched (put m c v) set
+  pub stores : (program : Program) (touched : List Key) (m : Memory) (set : List Cell) (c : Cell) (v : Wire) → IsSetOf program touched m set → IsSetOf program touched (put m c v) set
 
 -- ---- deaths
 
 -- what a death leaves of a set are its cells that still live
 pub record DeathsLeaveSets : Type 0 where
-  pub left : (m : Memory) (serial : ℕ) (set : List Cell) → AreLive m set → without serial set ≡ filter (still_live (killed serial m)) set
+  pub one : (m : Memory) (serial : ℕ) (set : List Cell) → AreLive m set → without serial set ≡ filter (still_live (killed serial m)) set
   pub live : (m : Memory) (serial : ℕ) (set : List Cell) → AreLive m set → AreLive (killed serial m) (without serial set)
   pub all : (serial : ℕ) (w : World) → AllAreLive w.memory w.views → AllAreLive (died serial w).memory (died serial w).views
   pub set : (program : Program) (touched : List Key) (m : Memory) (serial : ℕ) (set : List Cell) → IsSetOf program touched m set → IsSetOf program touched (killed serial m) (without serial set)
   -- so of each set of a world, when a service is done, and when code of the kernel half has run
-  pub served : (program : Program) (a : Asked) (w : World) → IsInOrder w → (left (served program a w)).views ≡ map (λ (set : List Cell). filter (still_live (left (served program a w)).memory) set) w.views
-  pub called :
+  pub services : (program : Program) (a : Asked) (w : World) → IsInOrder w → (left (served program a w)).views ≡ map (λ (set : List Cell). filter (still_live (left (served program a w)).memory) set) w.views
+  pub kernel :
       (d : Driver) (f : ℕ) (args : List Wire) (depth : ℕ) (w : World) → IsInOrder w
       → (left (call (kernel_of d) (interrupts (kernel_of d)) f args depth w)).views
       ≡ map (λ (set : List Cell). filter (still_live (left (call (kernel_of d) (interrupts (kernel_of d)) f args depth w)).memory) set) w.views
@@ -97,15 +97,15 @@ KernelCodeMayFollow = (d : Driver) (f : ℕ) (args : List Wire) (depth : ℕ) (w
 
 -- through what user code knows an access comes to the same in the whole run's memory and in the user half's, and what comes of it is known
 pub record AccessesAgree (program : Program) (known : Serials) (next : ℕ) (copy m : Memory) (w : World) (u : Memory) : Type 0 where
-  pub load : (p : Wire) → IsKnown known p → loaded (may_touch w) w.memory p ≡ loaded (is_in (top w.views)) u p
-  pub loads_known : (p v : Wire) → IsKnown known p → loaded (may_touch w) w.memory p ≡ Ok v → IsKnown known v
-  pub store : (p v : Wire) → IsKnown known p → IsKnown known v → StoresAlike program known next (top w.views) copy m (stored (may_touch w) w.memory p v) (stored (is_in (top w.views)) u p v)
-  pub read : (p : Wire) (n : ℕ) → IsKnown known p → read (may_touch w) w.memory p n ≡ read (is_in (top w.views)) u p n
-  pub fresh : (v : Wire) → IsKnown known v → fresh w.memory v ≡ fresh u v
+  pub loads : (p : Wire) → IsKnown known p → loaded (may_touch w) w.memory p ≡ loaded (is_in (top w.views)) u p
+  pub loaded_known : (p v : Wire) → IsKnown known p → loaded (may_touch w) w.memory p ≡ Ok v → IsKnown known v
+  pub stores : (p v : Wire) → IsKnown known p → IsKnown known v → StoresAlike program known next (top w.views) copy m (stored (may_touch w) w.memory p v) (stored (is_in (top w.views)) u p v)
+  pub reads : (p : Wire) (n : ℕ) → IsKnown known p → read (may_touch w) w.memory p n ≡ read (is_in (top w.views)) u p n
+  pub freshens : (v : Wire) → IsKnown known v → fresh w.memory v ≡ fresh u v
   pub fresh_known : (v x : Wire) → IsKnown known v → fresh w.memory v ≡ Ok x → IsKnown known x
-  pub normal : (v : Wire) → IsKnown known v → normal w.memory v ≡ normal u v
+  pub normals : (v : Wire) → IsKnown known v → normal w.memory v ≡ normal u v
   pub normal_known : (v : Wire) → IsKnown known v → IsKnown known (normal w.memory v)
-  pub held : (c : Cell) → is_in (top w.views) c ≡ true → cell_at w.memory c ≡ cell_at u c
+  pub holds : (c : Cell) → is_in (top w.views) c ≡ true → cell_at w.memory c ≡ cell_at u c
   pub held_known : (c : Cell) (v : Wire) → is_in (top w.views) c ≡ true → cell_at w.memory c ≡ Some v → IsKnown known v
 
 abbrev pub AccessesAreShared : Type 0
@@ -127,7 +127,7 @@ pub record RunsAreSets : Type 0 where
 
 -- what the answer to a service makes of the user half's set is the whole run's: the cells of the dead leave, those of the blocks that are told join
 pub record AnswersGrowSets : Type 0 where
-  pub gained :
+  pub joins :
       (program : Program) (known : Serials) (touched : List Key) (a : Asked) (w w' : World) (results : List Wire) (copy m u : Memory)
       → IsServed program a w results w' → IsShared program known (next_serial w) (top w.views) copy m w.memory u
       → new_cells program touched (next_serial w) w'.memory ≡ told_cells program touched (told_news [] results u w'.memory)
