@@ -1,1 +1,7 @@
 pub mod Membership
+pub mod Named
+pub mod Visible
+pub mod Leaves
+pub mod Open
+pub mod Reaches
+pub mod Accesses

@@ -15,12 +15,12 @@ use Rattle.mdr_model.specs.Agreement.{IsBelow, IsFormed, IsKnown, IsShared, IsSh
 use Rattle.mdr_model.specs.Copies.{agreed_after, tells, told_news}
 use Rattle.mdr_model.specs.Memory.{Memory, cell_at, killed, loaded, normal, put, stored}
 use Rattle.mdr_model.specs.Sets.{cells_of_run, cells_of_runs, is_in, rises_after, runs_of_cells}
-use Rattle.mdr_model.specs.User.{still_live}
 use Rattle.mdr_paths.specs.Paths.{Rises, is_in as is_among}
 use Rattle.mdr_plain.specs.Running.{call, interrupts}
 use Rattle.mdr_plain.specs.Services.{served}
 use Rattle.mdr_plain.specs.Storage.{died, fresh, next_serial, read, without}
 use Rattle.mdr_plain.specs.World.{World, left}
+use Rattle.mdr_viewed.specs.Viewed.{living}
 use Rattle.mdr_watched.specs.Driver.{Driver, entry_roots, result_roots, touched_by}
 use Rattle.mdr_watched.specs.Order.{AllAreLive, AreLive, IsInOrder}
 use Rattle.mdr_watched.specs.Views.{gained, may_touch, new_cells, top}
@@ -61,16 +61,16 @@ pub record SetsAreOpen : Type 0 where
 
 -- what a death leaves of a set are its cells that still live
 pub record DeathsLeaveSets : Type 0 where
-  pub one : (m : Memory) (serial : ℕ) (set : List Cell) → AreLive m set → without serial set ≡ filter (still_live (killed serial m)) set
+  pub one : (m : Memory) (serial : ℕ) (set : List Cell) → AreLive m set → without serial set ≡ living (killed serial m) set
   pub live : (m : Memory) (serial : ℕ) (set : List Cell) → AreLive m set → AreLive (killed serial m) (without serial set)
   pub all : (serial : ℕ) (w : World) → AllAreLive w.memory w.views → AllAreLive (died serial w).memory (died serial w).views
   pub set : (program : Program) (touched : List Key) (m : Memory) (serial : ℕ) (set : List Cell) → IsSetOf program touched m set → IsSetOf program touched (killed serial m) (without serial set)
   -- so of each set of a world, when a service is done, and when code of the kernel half has run
-  pub services : (program : Program) (a : Asked) (w : World) → IsInOrder w → (left (served program a w)).views ≡ map (λ (set : List Cell). filter (still_live (left (served program a w)).memory) set) w.views
+  pub services : (program : Program) (a : Asked) (w : World) → IsInOrder w → (left (served program a w)).views ≡ map (λ (set : List Cell). living (left (served program a w)).memory set) w.views
   pub kernel :
       (d : Driver) (f : ℕ) (args : List Wire) (depth : ℕ) (w : World) → IsInOrder w
       → (left (call (kernel_of d) (interrupts (kernel_of d)) f args depth w)).views
-      ≡ map (λ (set : List Cell). filter (still_live (left (call (kernel_of d) (interrupts (kernel_of d)) f args depth w)).memory) set) w.views
+      ≡ map (λ (set : List Cell). living (left (call (kernel_of d) (interrupts (kernel_of d)) f args depth w)).memory set) w.views
 
 -- ---- services
 
@@ -135,4 +135,4 @@ pub record AnswersGrowSets : Type 0 where
       (program : Program) (known : Serials) (touched : List Key) (a : Asked) (w w' : World) (results : List Wire) (copy m u : Memory)
       → IsServed program a w results w' → IsShared program known (next_serial w) (top w.views) copy m w.memory u
       → top (gained program touched (next_serial w) w').views
-      ≡ filter (still_live (agreed_after program (tells program [] results u w'.memory) u)) (top w.views) ++ told_cells program touched (told_news [] results u w'.memory)
+      ≡ living (agreed_after program (tells program [] results u w'.memory) u) (top w.views) ++ told_cells program touched (told_news [] results u w'.memory)
