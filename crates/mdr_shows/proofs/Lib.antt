@@ -5,3 +5,7 @@ pub mod Leaves
 pub mod Open
 pub mod Reaches
 pub mod Accesses
+pub mod Normals
+pub mod Deaths
+pub mod Births
+pub mod Views
