@@ -9,3 +9,5 @@ pub mod Normals
 pub mod Deaths
 pub mod Births
 pub mod Views
+pub mod Effects
+pub mod Serving
