@@ -11,3 +11,7 @@ pub mod Births
 pub mod Views
 pub mod Effects
 pub mod Serving
+pub mod NewCells
+pub mod Served
+pub mod Runs
+pub mod Growing
