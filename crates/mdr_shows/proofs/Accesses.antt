@@ -1,12 +1,10 @@
 -- Accesses of user code come to the same in both memories, and keep what they share.
-use Rattle.std.proofs.Common.{◌≡◌, ◌+◌, ℕ, Bool, true, false, List, [], ◌∷◌, Option, Some, None, Result, Ok, Err, refl, sym, ◌∙◌, ap, subst}
+use Rattle.std.proofs.Common.{◌≡◌, ◌+◌, ℕ, Bool, true, false, List, [], ◌∷◌, Option, Some, Result, Ok, Err, refl, sym, ◌∙◌, ap, subst}
 use Rattle.std.specs.Prelude.{is_some, map, nat_le, nat_lt}
 use Rattle.std.specs.List.{list_all}
 use Rattle.std.proofs.lemmas.Bool.{and_parts, eq-eqb}
 use Rattle.mdr_core.specs.declared.program.Program.{Program}
 use Rattle.mdr_core.specs.declared.stop.StopKind.{StopKind}
-use Rattle.mdr_core.specs.declared.stop.StopKind.TheVariants as stop
-use Rattle.mdr_extents.specs.CellOrder.{cells}
 use Rattle.mdr_meaning.specs.declared.wire.Wire.{Wire}
 use Rattle.mdr_meaning.specs.declared.wire.Wire.TheVariants as wire
 use Rattle.mdr_meaning.specs.declared.wire.WireView.{WireView}
@@ -15,13 +13,12 @@ use Rattle.mdr_model.specs.declared.message.New.{New}
 use Rattle.mdr_model.specs.Agreement.{IsKnown, IsShared, Serials}
 use Rattle.mdr_model.specs.Memory.{Memory, cell_at, cell_of, is_live, loaded, loaded_cell, loaded_from, loaded_value, normal, put, reached, reached_by, stored, stored_into}
 use Rattle.mdr_model.specs.Sets.{is_in}
-use Rattle.mdr_model.specs.Values.{names_block}
 use Rattle.mdr_model.proofs.AgreedReplies.{alike, get, get_known, normal-known, put_keeps}
 use Rattle.mdr_model.proofs.LifeLaws.{names-normal}
 use Rattle.mdr_paths.specs.Paths.{is_in as is_among}
 use Rattle.mdr_plain.specs.Storage.{byte_at, bytes_from, cells_read, fresh, number_in, read}
 use Rattle.mdr_plain.specs.World.{World}
-use Rattle.mdr_watched.specs.Views.{may_touch, top}
+use Rattle.mdr_watched.specs.Views.{top}
 use Rattle.mdr_shows.specs.Cells.{StoresAlike, Stops, Goes}
 use Rattle.mdr_shows.specs.Laws.{AccessesAgree, AccessesAreShared}
 use Rattle.mdr_shows.proofs.Reaches.{IsLoaded, loaded_there, reached_allowed, value_is}

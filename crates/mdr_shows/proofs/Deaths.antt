@@ -1,6 +1,6 @@
 -- What deaths leave of a memory.
-use Rattle.std.proofs.Common.{◌≡◌, ℕ, ◌+◌, ◌<◌, ◌≤◌, Bool, true, false, cond, List, [], ◌∷◌, ◌++◌, Option, Some, None, refl, sym, ◌∙◌, ap, subst, arith}
-use Rattle.std.specs.Prelude.{is_some, option_map, ◌==◌}
+use Rattle.std.proofs.Common.{◌≡◌, ℕ, ◌+◌, true, cond, List, [], ◌∷◌, ◌++◌, sym, ◌∙◌, ap, subst, arith}
+use Rattle.std.specs.Prelude.{option_map}
 use Rattle.std.proofs.lemmas.List.Sums.{sum_by-append}
 use Rattle.mdr_core.specs.declared.program.Program.{Program}
 use Rattle.mdr_mem.specs.declared.cells.Life.{Life}
@@ -9,8 +9,8 @@ use Rattle.mdr_mem.specs.Contents.{births_in, is_birth}
 use Rattle.mdr_meaning.specs.declared.wire.Wire.{Wire}
 use Rattle.mdr_meaning.specs.declared.wire.Wire.TheVariants as wire
 use Rattle.mdr_model.specs.declared.memory.Cell.{Cell}
-use Rattle.mdr_model.specs.Agreement.{IsBelow, IsFormed, MayFollow, names_it}
-use Rattle.mdr_model.specs.Memory.{Memory, born_at, cell_at, is_live, killed, normal, swept}
+use Rattle.mdr_model.specs.Agreement.{IsBelow, IsFormed, MayFollow}
+use Rattle.mdr_model.specs.Memory.{Memory, cell_at, is_live, killed, normal}
 use Rattle.mdr_model.proofs.KernelSteps.{steps_may_follow}
 use Rattle.mdr_model.proofs.LifeLaws.{born_at-killed, cell_at-killed}
 use Rattle.mdr_plain.specs.Storage.{deaths, died, died_at, next_serial}

@@ -20,13 +20,13 @@ use Rattle.mdr_model.specs.declared.memory.Cell.{Cell}
 use Rattle.mdr_model.specs.declared.message.BirthKind.{BirthKind}
 use Rattle.mdr_model.specs.declared.message.BirthKind.TheVariants.{Auto, Heap}
 use Rattle.mdr_model.specs.Copies.{is_named}
-use Rattle.mdr_model.specs.Memory.{Memory, born_at, cell_at, everywhere, put, reached}
+use Rattle.mdr_model.specs.Memory.{born_at, cell_at, everywhere, put, reached}
 use Rattle.mdr_plain.specs.declared.outcome.Happened.TheVariants as happened
 use Rattle.mdr_plain.specs.Locks.{acquire, acquired, changed, is_locked, lock_in, release, released, taken_as, with_lock}
 use Rattle.mdr_plain.specs.Services.{allocated, as_now, as_served, asked_once_more, fails_now, freed, freed_by, gives, gives_none, is_no_block, is_whole, register_read, register_written, requested, served, served_by, stops, was_read, when_changed, with_device}
 use Rattle.mdr_plain.specs.Storage.{births, deaths, with_memory}
 use Rattle.mdr_plain.specs.World.{World, Clock, Kept, Ran, Ended, Stopped, noted}
-use Rattle.mdr_shows.specs.Cells.{NamesLock, takes_lock}
+use Rattle.mdr_shows.specs.Cells.{takes_lock}
 
 -- the world with another clock, and with other things that services keep
 abbrev pub beside : World → Clock → Kept → World

@@ -1,5 +1,5 @@
 -- What the answer to a service makes of the user half's set.
-use Rattle.std.proofs.Common.{◌≡◌, ℕ, zero, suc, ◌<◌, ◌≤◌, Bool, true, false, not, ◌&&◌, ◌||◌, ◌⊎◌, inl, inr, List, [], ◌∷◌, ◌++◌, Option, Some, None, length, refl, sym, ◌∙◌, ap, subst, arith}
+use Rattle.std.proofs.Common.{◌≡◌, ℕ, suc, ◌<◌, ◌≤◌, Bool, true, false, not, ◌&&◌, ◌||◌, List, [], ◌∷◌, ◌++◌, Option, Some, length, refl, sym, ◌∙◌, ap, arith}
 use Rattle.std.specs.Prelude.{cond, filter, is_some, map, nat_lt, slice_get, ◌==◌}
 use Rattle.std.proofs.lemmas.Bool.{both_ways, eq-eqb, eqb-true, lt-ltb, ltb-true}
 use Rattle.std.proofs.lemmas.List.{append-nil}
@@ -14,10 +14,10 @@ use Rattle.mdr_meaning.specs.Tree.{Asked}
 use Rattle.mdr_model.specs.declared.memory.Cell.{Cell}
 use Rattle.mdr_model.specs.declared.memory.MemoryBlock.{MemoryBlock}
 use Rattle.mdr_model.specs.declared.message.New.{New}
-use Rattle.mdr_model.specs.Agreement.{IsFormed, IsShared, Serials, SerialsRise, has_index}
+use Rattle.mdr_model.specs.Agreement.{IsShared, Serials, SerialsRise, has_index}
 use Rattle.mdr_model.specs.Copies.{agreed_after, changed_cells, changed_values, is_named, left_of, news_of, tells, told_news}
 use Rattle.mdr_model.specs.Memory.{Memory, born_at, cell_at, is_live, leaves_of, size_of, zero_block, zero_of}
-use Rattle.mdr_model.specs.Sets.{cells_from, is_in}
+use Rattle.mdr_model.specs.Sets.{cells_from}
 use Rattle.mdr_model.proofs.AgreedMessages.{live-after, live-left}
 use Rattle.mdr_model.proofs.LifeLaws.{there}
 use Rattle.mdr_paths.specs.Paths.{is_in as is_among}

@@ -1,6 +1,6 @@
 -- Each cell has the type of what its key names, so one whose key is no lock's is no lock.
 use Rattle.std.proofs.Common.{◌≡◌, ℕ, zero, suc, ◌+◌, Bool, true, false, not, List, [], ◌∷◌, ◌++◌, Option, Some, None, refl, sym, ◌∙◌, ap, subst, arith}
-use Rattle.std.specs.Prelude.{slice_get, option_map, length, nat_lt, ◌==◌}
+use Rattle.std.specs.Prelude.{slice_get, option_map, ◌==◌}
 use Rattle.std.specs.List.{AllByRecursion}
 use Rattle.std.proofs.lemmas.Bool.{both_ways}
 use Rattle.mdr_core.specs.declared.plan.Key.{Key}
@@ -8,7 +8,6 @@ use Rattle.mdr_core.specs.declared.plan.Key.TheVariants as key
 use Rattle.mdr_core.specs.declared.program.Field.{Field}
 use Rattle.mdr_core.specs.declared.program.GlobalDef.{GlobalDef}
 use Rattle.mdr_core.specs.declared.program.Program.{Program}
-use Rattle.mdr_core.specs.declared.program.StructDef.{StructDef}
 use Rattle.mdr_core.specs.declared.types.Ty.{Ty, out-Ty}
 use Rattle.mdr_core.specs.declared.types.Ty.TheOpen.{Ty-F}
 use Rattle.mdr_core.specs.Layout.{Home, Alone, Within, Leaf, cells, cells_at, cells_or, chosen, field_leaves, fields_of, key_by, leaves, leaves_below, leaves_by, repeated, struct_cells}

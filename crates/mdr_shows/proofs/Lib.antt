@@ -15,3 +15,4 @@ pub mod NewCells
 pub mod Served
 pub mod Runs
 pub mod Growing
+pub mod KernelCode

@@ -1,7 +1,5 @@
 -- The two tests of whether a cell is in a set are one.
-use Rattle.std.proofs.Common.{◌≡◌, refl, List}
-use Rattle.mdr_extents.specs.CellOrder.{cells}
-use Rattle.mdr_model.specs.declared.memory.Cell.{Cell}
+use Rattle.std.proofs.Common.{refl}
 use Rattle.mdr_model.specs.Sets.{is_in}
 use Rattle.mdr_paths.specs.Paths.{is_in as is_among}
 use Rattle.mdr_shows.specs.Laws.{MembershipIsOne}

@@ -1,6 +1,6 @@
 -- The cells of blocks that were born since some serial was the next one.
-use Rattle.std.proofs.Common.{◌≡◌, ℕ, ◌<◌, ◌≤◌, Bool, true, false, ◌||◌, ◌⊎◌, inl, inr, List, [], ◌∷◌, ◌++◌, Option, Some, None, length, refl, sym, ◌∙◌, ap, subst, arith}
-use Rattle.std.specs.Prelude.{cond, filter, is_some, nat_lt, ◌==◌}
+use Rattle.std.proofs.Common.{◌≡◌, ℕ, ◌<◌, ◌≤◌, Bool, true, false, ◌⊎◌, inl, inr, List, [], ◌∷◌, Some, length, refl, sym, ◌∙◌, ap, subst, arith}
+use Rattle.std.specs.Prelude.{cond, nat_lt, ◌==◌}
 use Rattle.std.proofs.lemmas.Bool.{and_parts, both_ways, eq-eqb, eqb-true, lt-ltb, or_cases}
 use Rattle.mdr_core.specs.declared.plan.Key.{Key}
 use Rattle.mdr_core.specs.declared.program.Program.{Program}
@@ -11,9 +11,8 @@ use Rattle.mdr_extents.specs.Reaching.{cells_of_block, counts, counts_in, own_ce
 use Rattle.mdr_extents.proofs.CellLists.{from_rises, in_block, rises_append}
 use Rattle.mdr_model.specs.declared.memory.Cell.{Cell}
 use Rattle.mdr_model.specs.declared.memory.MemoryBlock.{MemoryBlock}
-use Rattle.mdr_model.specs.declared.message.New.{New}
 use Rattle.mdr_model.specs.Agreement.{SerialsRise}
-use Rattle.mdr_model.specs.Memory.{Memory, born_at, is_live}
+use Rattle.mdr_model.specs.Memory.{Memory, born_at}
 use Rattle.mdr_paths.specs.Paths.{Rises, is_in}
 use Rattle.mdr_paths.proofs.NodeLists.{in_both, is_in-filter, none_in, rises-filter}
 use Rattle.mdr_watched.specs.Views.{new_cells}

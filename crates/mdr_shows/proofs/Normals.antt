@@ -1,12 +1,11 @@
 -- Values as they are kept, in one memory after another.
-use Rattle.std.proofs.Common.{◌≡◌, ℕ, Bool, true, false, not, ◌&&◌, cond, Option, Some, None, refl, sym, ◌∙◌, ap, arith}
-use Rattle.std.specs.Prelude.{is_some, option_map, ◌==◌}
+use Rattle.std.proofs.Common.{◌≡◌, ℕ, Bool, true, false, Option, Some, None, refl, sym, ap, arith}
+use Rattle.std.specs.Prelude.{option_map}
 use Rattle.std.proofs.lemmas.Bool.{both_ways, eq-eqb}
 use Rattle.mdr_meaning.specs.declared.wire.Wire.{Wire}
 use Rattle.mdr_meaning.specs.declared.wire.Wire.TheVariants as wire
-use Rattle.mdr_meaning.specs.declared.wire.WireView.{WireView}
 use Rattle.mdr_model.specs.Agreement.{names_it}
-use Rattle.mdr_model.specs.Memory.{Memory, born_at, is_live, killed, normal, normal_if, swept}
+use Rattle.mdr_model.specs.Memory.{Memory, is_live, killed, normal, normal_if, swept}
 use Rattle.mdr_model.proofs.LifeLaws.{born_at-killed}
 
 -- a value that names only live blocks is as it is kept

@@ -1,15 +1,15 @@
 -- Cells of sets live, and none is a lock.
-use Rattle.std.proofs.Common.{◌≡◌, ℕ, Bool, true, false, List, [], ◌∷◌, Option, Some, None, refl, sym, ◌∙◌, ap, subst}
-use Rattle.std.specs.Prelude.{cond, length, nat_lt, option_map, slice_get, unwrap_or, ◌==◌}
+use Rattle.std.proofs.Common.{◌≡◌, ℕ, ◌<◌, ◌≤◌, Bool, true, false, List, [], ◌∷◌, Option, Some, None, refl, sym, ◌∙◌, ap, subst, arith}
+use Rattle.std.specs.Prelude.{cond, is_some, length, nat_lt, option_map, slice_get, unwrap_or, ◌==◌}
 use Rattle.std.proofs.lemmas.Bool.{both_ways, eqb-true}
-use Rattle.mdr_access.specs.KeyOrder.{keys}
+use Rattle.std.proofs.lemmas.Option.{slice_get_within}
 use Rattle.mdr_access.proofs.OwnedLaws.{one_of}
 use Rattle.mdr_core.specs.declared.plan.Key.{Key}
 use Rattle.mdr_core.specs.declared.plan.Plan.{Plan}
 use Rattle.mdr_core.specs.declared.program.GlobalDef.{GlobalDef}
 use Rattle.mdr_core.specs.declared.program.Program.{Program}
 use Rattle.mdr_core.specs.Layout.{Leaf, chosen, key_by}
-use Rattle.mdr_core.specs.Suited.{IsSuited, is_key, is_lock}
+use Rattle.mdr_core.specs.Suited.{IsSuited}
 use Rattle.mdr_extents.specs.Around.{global_of, key_of}
 use Rattle.mdr_extents.specs.CellOrder.{cells}
 use Rattle.mdr_extents.specs.Extent.{has_key, is_touched}
@@ -17,11 +17,10 @@ use Rattle.mdr_extents.specs.Reaching.{counts, counts_in}
 use Rattle.mdr_meaning.specs.declared.wire.Wire.{Wire}
 use Rattle.mdr_model.specs.declared.memory.Cell.{Cell}
 use Rattle.mdr_model.specs.declared.message.New.{New}
-use Rattle.mdr_model.specs.Memory.{Memory, born_at, leaf_at, put}
+use Rattle.mdr_model.specs.Agreement.{MayFollow}
+use Rattle.mdr_model.specs.Memory.{Memory, born_at, is_live, leaf_at, put}
 use Rattle.mdr_model.proofs.MemoryLaws.{born_at-put}
 use Rattle.mdr_paths.specs.Paths.{is_in}
-use Rattle.mdr_paths.proofs.NodeLists.{none_in}
-use Rattle.mdr_watched.specs.Driver.{touched_by}
 use Rattle.mdr_shows.specs.Cells.{AreOpenKeys, GlobalsAreTyped, IsSetOf, is_lock_at, is_lock_in, is_lock_leaf}
 use Rattle.mdr_shows.specs.Laws.{SetsAreOpen}
 use Rattle.mdr_shows.proofs.Leaves.{block_open}
@@ -76,10 +75,20 @@ unfolding is_in
 listed_open program plan t None suited e k h = absurd (both_ways false refl h)
 listed_open program plan t (Some ks) suited e k h = let one = (one_of ks k true (sym h)).0 refl in suited.keys t one.at ks k e one.is
 
+-- ---- globals
+
+globals_typed : (program : Program) (next next' : ℕ) (m m' : Memory) → length program.globals ≤ next → MayFollow program next m next' m' → GlobalsAreTyped program m → GlobalsAreTyped program m'
+unfolding is_live
+globals_typed program next next' m m' few follows typed serial block g born is =
+    let inside : serial < length program.globals = slice_get_within program.globals serial g is in
+    let live : is_some (born_at m' serial) ≡ true = ap (λ (o : Option New). is_some o) born in
+    typed serial block g (sym (follows.old serial live (omega (arith, inside, few))) ∙ born) is
+
 pub sets_are_open : SetsAreOpen
 sets_are_open = record {
   live = λ program touched m set s c h. counts_live program touched m c (s.counted c h);
   no_locks = λ program touched m set open_keys typed s c h. counts_open program touched m open_keys typed c (s.counted c h);
   keys = λ program plan t suited. listed_open program plan t (slice_get plan.keys t) suited refl;
+  globals = globals_typed;
   stores = set_stored;
 }

@@ -1,5 +1,5 @@
 -- Sets as runs of cells, and back.
-use Rattle.std.proofs.Common.{◌≡◌, ℕ, suc, ◌<◌, Bool, true, false, cond, ◌&&◌, List, [], ◌∷◌, ◌++◌, refl, sym, ◌∙◌, ap, arith}
+use Rattle.std.proofs.Common.{◌≡◌, suc, Bool, true, false, cond, List, [], ◌∷◌, ◌++◌, refl, ◌∙◌, ap, arith}
 use Rattle.std.specs.Prelude.{nat_lt}
 use Rattle.std.specs.List.{list_all}
 use Rattle.std.proofs.lemmas.Bool.{and_from, and_parts, lt-ltb}
@@ -17,7 +17,8 @@ before_next : (c : Cell) (cs : List Cell) → ((d : Cell) → is_in cells cs d �
 before_next c [] h = tt
 before_next c (d ∷ ds) h = h d (is_in-head cells d ds)
 
-by_next : (cs : List Cell) → Rises cells cs → RisesByNext cs
+-- so the order of sets of nodes is the order of `mdr_model`'s sets
+pub by_next : (cs : List Cell) → Rises cells cs → RisesByNext cs
 by_next [] rises = tt
 by_next (c ∷ cs) rises = (before_next c cs rises.0, by_next cs rises.1)
 

@@ -1,5 +1,5 @@
 -- What a service makes of the set of the innermost upcall.
-use Rattle.std.proofs.Common.{◌≡◌, ℕ, ◌<◌, ◌≤◌, Bool, true, false, ◌||◌, ◌⊎◌, inl, inr, List, [], ◌∷◌, ◌++◌, Ok, refl, sym, ◌∙◌, ap, subst, arith}
+use Rattle.std.proofs.Common.{◌≡◌, ℕ, ◌<◌, ◌≤◌, true, ◌⊎◌, inl, inr, List, [], ◌∷◌, ◌++◌, sym, ◌∙◌, ap, subst, arith}
 use Rattle.std.specs.Prelude.{map, option_map}
 use Rattle.std.proofs.lemmas.Bool.{both_ways, or_cases}
 use Rattle.mdr_core.specs.declared.plan.Key.{Key}
@@ -17,7 +17,7 @@ use Rattle.mdr_model.specs.Memory.{Memory, born_at, cell_at, is_live, normal}
 use Rattle.mdr_model.specs.Sets.{is_in}
 use Rattle.mdr_paths.specs.Paths.{Rises, is_in as is_among}
 use Rattle.mdr_paths.proofs.NodeLists.{in_both, none_in}
-use Rattle.mdr_plain.specs.Services.{as_now, served}
+use Rattle.mdr_plain.specs.Services.{as_now}
 use Rattle.mdr_plain.specs.Storage.{next_serial}
 use Rattle.mdr_plain.specs.World.{World, Ran, left}
 use Rattle.mdr_viewed.specs.Viewed.{living}

@@ -1,5 +1,5 @@
 -- What a service does to the cells of live blocks and to memory as a whole.
-use Rattle.std.proofs.Common.{◌≡◌, ℕ, ◌<◌, ◌≤◌, Bool, true, false, ◌||◌, List, [], ◌∷◌, Option, Some, None, Ok, refl, sym, ◌∙◌, ap, subst, arith}
+use Rattle.std.proofs.Common.{◌≡◌, ℕ, ◌<◌, ◌≤◌, Bool, true, false, List, [], Option, refl, sym, ◌∙◌, ap, subst}
 use Rattle.std.specs.Prelude.{cond, is_some, option_map}
 use Rattle.std.proofs.lemmas.Bool.{both_ways}
 use Rattle.mdr_core.specs.declared.program.Program.{Program}
@@ -10,14 +10,14 @@ use Rattle.mdr_meaning.specs.declared.wire.Wire.TheVariants as wire
 use Rattle.mdr_meaning.specs.Tree.{Asked}
 use Rattle.mdr_model.specs.declared.memory.Cell.{Cell}
 use Rattle.mdr_model.specs.declared.message.New.{New}
-use Rattle.mdr_model.specs.Agreement.{IsBelow, IsFormed, MayFollow, born_cell, names_it}
+use Rattle.mdr_model.specs.Agreement.{IsBelow, IsFormed, MayFollow, born_cell}
 use Rattle.mdr_model.specs.Copies.{is_named}
 use Rattle.mdr_model.specs.Memory.{Memory, born_at, cell_at, is_live, normal, put}
 use Rattle.mdr_model.specs.Sets.{is_same_cell}
 use Rattle.mdr_model.proofs.KernelSteps.{steps_may_follow}
 use Rattle.mdr_model.proofs.MemoryLaws.{births-put, cell_at-put, is_live-births, replaced, same_cell}
 use Rattle.mdr_plain.specs.Services.{as_now, served}
-use Rattle.mdr_plain.specs.Storage.{births, deaths, next_serial}
+use Rattle.mdr_plain.specs.Storage.{deaths, next_serial}
 use Rattle.mdr_plain.specs.World.{World, Ran, Ended, Stopped, left}
 use Rattle.mdr_shows.proofs.Births.{Grows, births_follow, births_grow, grows_none}
 use Rattle.mdr_shows.proofs.Deaths.{Shrinks, deaths_follow, deaths_shrink}

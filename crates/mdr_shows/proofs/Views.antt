@@ -1,12 +1,11 @@
 -- What is left of the sets of open upcalls when blocks die.
-use Rattle.std.proofs.Common.{◌≡◌, ℕ, ◌<◌, ◌≤◌, Bool, true, false, not, List, [], ◌∷◌, ◌++◌, Some, None, refl, sym, ◌∙◌, ap, subst, arith}
-use Rattle.std.specs.Prelude.{filter, map, ◌==◌}
-use Rattle.std.proofs.lemmas.Bool.{and_from, and_parts}
+use Rattle.std.proofs.Common.{◌≡◌, ℕ, ◌<◌, ◌≤◌, true, List, [], ◌∷◌, ◌++◌, refl, sym, ◌∙◌, ap, subst, arith}
+use Rattle.std.specs.Prelude.{map}
+use Rattle.std.proofs.lemmas.Bool.{and_parts}
 use Rattle.mdr_core.specs.declared.plan.Key.{Key}
 use Rattle.mdr_core.specs.declared.program.Program.{Program}
 use Rattle.mdr_extents.specs.CellOrder.{cells}
-use Rattle.mdr_extents.specs.Reaching.{counts, counts_in}
-use Rattle.mdr_mem.specs.declared.cells.Life.{Life}
+use Rattle.mdr_extents.specs.Reaching.{counts_in}
 use Rattle.mdr_meaning.specs.declared.wire.Wire.{Wire}
 use Rattle.mdr_meaning.specs.Tree.{Asked}
 use Rattle.mdr_model.specs.declared.memory.Cell.{Cell}
@@ -14,8 +13,8 @@ use Rattle.mdr_model.specs.declared.memory.MemoryBlock.{MemoryBlock}
 use Rattle.mdr_model.specs.Agreement.{IsBelow}
 use Rattle.mdr_model.specs.Memory.{Memory, born_at, is_live, killed, put}
 use Rattle.mdr_model.proofs.LifeLaws.{born_at-killed}
-use Rattle.mdr_paths.specs.Paths.{Rises, is_in}
-use Rattle.mdr_paths.proofs.NodeLists.{is_in-filter, rises-filter}
+use Rattle.mdr_paths.specs.Paths.{is_in}
+use Rattle.mdr_paths.proofs.NodeLists.{rises-filter}
 use Rattle.mdr_plain.specs.Running.{call, interrupts}
 use Rattle.mdr_plain.specs.Services.{served}
 use Rattle.mdr_plain.specs.Storage.{born, died, next_serial, without}
@@ -27,7 +26,6 @@ use Rattle.mdr_watched.specs.Order.{AllAreLive, AreLive, IsInOrder}
 use Rattle.mdr_watched.specs.Views.{top}
 use Rattle.mdr_watched.specs.Watched.{kernel_of}
 use Rattle.mdr_watched.proofs.KeepLaws.{IsKept, kernel_call_keeps, served_keeps}
-use Rattle.mdr_watched.proofs.MemoryOrder.{order_kept}
 use Rattle.mdr_shows.specs.Cells.{IsSetOf}
 use Rattle.mdr_shows.specs.Laws.{DeathsLeaveSets}
 use Rattle.mdr_shows.proofs.Named.{counts_live}

@@ -1,7 +1,6 @@
 -- A set that is taken may be shown.
-use Rattle.std.proofs.Common.{◌≡◌, ℕ, true, false, ◌||◌, ◌&&◌, ◌⊎◌, inl, inr, List, [], ◌∷◌, ◌++◌, Option, Some, None, Ok, refl, sym, ◌∙◌, ap}
-use Rattle.std.specs.Prelude.{filter, length, map, nat_lt, slice_get}
-use Rattle.std.specs.List.{list_any}
+use Rattle.std.proofs.Common.{◌≡◌, ℕ, true, false, ◌||◌, ◌⊎◌, inl, inr, List, [], ◌∷◌, ◌++◌, Option, Some, None, Ok, refl, sym, ◌∙◌}
+use Rattle.std.specs.Prelude.{length, map, nat_lt, slice_get}
 use Rattle.std.proofs.lemmas.Bool.{and_from, and_parts, both_ways, or_cases, or_left, or_right}
 use Rattle.mdr_core.specs.declared.plan.Key.{Key}
 use Rattle.mdr_core.specs.declared.program.Func.{Func}
@@ -15,13 +14,12 @@ use Rattle.mdr_model.specs.declared.memory.Cell.{Cell}
 use Rattle.mdr_model.specs.Agreement.{IsShown, SerialsRise, is_named_in, names_it}
 use Rattle.mdr_model.specs.Copies.{is_named}
 use Rattle.mdr_model.specs.Memory.{Memory, cell_at, is_live, normal}
-use Rattle.mdr_model.specs.Sets.{is_in}
 use Rattle.mdr_model.specs.Values.{names_block}
 use Rattle.mdr_model.proofs.LifeLaws.{names-normal}
-use Rattle.mdr_paths.specs.Paths.{Path, counted, is_in as is_among}
+use Rattle.mdr_paths.specs.Paths.{Path, is_in as is_among}
 use Rattle.mdr_paths.proofs.NodeLists.{found_any, in_both, is_in-filter}
 use Rattle.mdr_paths.proofs.ReachLaws.{path_counts}
-use Rattle.mdr_watched.specs.Driver.{entry_roots, given_by, param_roots, passed_to, result_roots}
+use Rattle.mdr_watched.specs.Driver.{given_by, param_roots, passed_to}
 use Rattle.mdr_shows.specs.Cells.{HasBegun, IsSetOf, NameRoots, values_in}
 use Rattle.mdr_shows.specs.Laws.{VisibleMayBeShown}
 use Rattle.mdr_shows.proofs.Membership.{membership_is_one}

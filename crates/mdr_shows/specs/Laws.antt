@@ -1,12 +1,12 @@
 -- Laws of the sets of cells that user code sees in a split run.
-use Rattle.std.specs.Prelude.{◌≡◌, ◌≤◌, ℕ, Bool, true, false, ◌&&◌, List, [], ◌∷◌, ◌++◌, filter, length, map, nat_lt, None, Some, Ok}
+use Rattle.std.specs.Prelude.{◌≡◌, ◌≤◌, ℕ, Bool, true, ◌&&◌, List, [], ◌∷◌, ◌++◌, length, map, nat_lt, None, Some, Ok}
 use Rattle.std.specs.List.{list_all}
 use Rattle.mdr_core.specs.declared.plan.Key.{Key}
 use Rattle.mdr_core.specs.declared.plan.Plan.{Plan}
 use Rattle.mdr_core.specs.declared.program.Program.{Program}
 use Rattle.mdr_core.specs.Suited.{IsSuited}
 use Rattle.mdr_extents.specs.CellOrder.{cells}
-use Rattle.mdr_extents.specs.Reaching.{Roots, counts, visible}
+use Rattle.mdr_extents.specs.Reaching.{Roots, visible}
 use Rattle.mdr_meaning.specs.declared.wire.Wire.{Wire}
 use Rattle.mdr_meaning.specs.Tree.{Asked}
 use Rattle.mdr_model.specs.declared.memory.Cell.{Cell}
@@ -25,7 +25,7 @@ use Rattle.mdr_watched.specs.Driver.{Driver, entry_roots, result_roots, touched_
 use Rattle.mdr_watched.specs.Order.{AllAreLive, AreLive, IsInOrder}
 use Rattle.mdr_watched.specs.Views.{gained, may_touch, new_cells, top}
 use Rattle.mdr_watched.specs.Watched.{kernel_of}
-use Rattle.mdr_shows.specs.Cells.{AreOpenKeys, GlobalsAreTyped, HasBegun, HasNoLocks, IsServed, IsSetOf, NameRoots, NamesLock, StoresAlike, is_lock_at, told_cells}
+use Rattle.mdr_shows.specs.Cells.{AreOpenKeys, GlobalsAreTyped, HasBegun, HasNoLocks, IsServed, IsSetOf, NameRoots, NamesLock, StoresAlike, told_cells}
 
 -- ---- membership
 
@@ -54,6 +54,8 @@ pub record SetsAreOpen : Type 0 where
   pub no_locks : (program : Program) (touched : List Key) (m : Memory) (set : List Cell) → AreOpenKeys program touched → GlobalsAreTyped program m → IsSetOf program touched m set → HasNoLocks program m set
   -- no key of a plan that suits the program is a lock's
   pub keys : (program : Program) (plan : Plan) (t : ℕ) → IsSuited plan program → AreOpenKeys program (touched_by plan t)
+  -- globals keep their types, whatever code of the kernel half does
+  pub globals : (program : Program) (next next' : ℕ) (m m' : Memory) → length program.globals ≤ next → MayFollow program next m next' m' → GlobalsAreTyped program m → GlobalsAreTyped program m'
   -- a store is no matter
   pub stores : (program : Program) (touched : List Key) (m : Memory) (set : List Cell) (c : Cell) (v : Wire) → IsSetOf program touched m set → IsSetOf program touched (put m c v) set
 
