@@ -16,3 +16,4 @@ pub mod Served
 pub mod Runs
 pub mod Growing
 pub mod KernelCode
+pub mod Copied

@@ -11,8 +11,8 @@ use Rattle.mdr_meaning.specs.declared.wire.Wire.{Wire}
 use Rattle.mdr_meaning.specs.Tree.{Asked}
 use Rattle.mdr_model.specs.declared.memory.Cell.{Cell}
 use Rattle.mdr_model.specs.declared.message.SetRun.{SetRun}
-use Rattle.mdr_model.specs.Agreement.{IsBelow, IsFormed, IsKnown, IsShared, IsShown, KeepsShown, MayFollow, Serials, SerialsRise}
-use Rattle.mdr_model.specs.Copies.{agreed_after, tells, told_news}
+use Rattle.mdr_model.specs.Agreement.{IsAgreed, IsBelow, IsFormed, IsKnown, IsShared, IsShown, KeepsShown, MayFollow, Serials, SerialsRise}
+use Rattle.mdr_model.specs.Copies.{agreed_after, begun_copy, tells, told_news}
 use Rattle.mdr_model.specs.Memory.{Memory, cell_at, killed, loaded, normal, put, stored}
 use Rattle.mdr_model.specs.Sets.{cells_of_run, cells_of_runs, is_in, rises_after, runs_of_cells}
 use Rattle.mdr_paths.specs.Paths.{Rises, is_in as is_among}
@@ -58,6 +58,15 @@ pub record SetsAreOpen : Type 0 where
   pub globals : (program : Program) (next next' : ℕ) (m m' : Memory) → length program.globals ≤ next → MayFollow program next m next' m' → GlobalsAreTyped program m → GlobalsAreTyped program m'
   -- a store is no matter
   pub stores : (program : Program) (touched : List Key) (m : Memory) (set : List Cell) (c : Cell) (v : Wire) → IsSetOf program touched m set → IsSetOf program touched (put m c v) set
+
+-- the user half finds each cell of a set in a block of its own, with its key: in its copy once a message's deaths and births are in it, and in its memory while it has control
+pub record SetsAreCopied : Type 0 where
+  pub message :
+      (program : Program) (known : Serials) (next : ℕ) (touched : List Key) (view : List Cell) (values : List Wire) (copy m : Memory)
+      → IsAgreed program known next copy m → IsShown view values copy m → IsSetOf program touched m view → IsSetOf program touched (begun_copy program view values copy m) view
+  pub user :
+      (program : Program) (known : Serials) (next : ℕ) (touched : List Key) (view : List Cell) (copy m w u : Memory)
+      → IsShared program known next view copy m w u → IsSetOf program touched w view → IsSetOf program touched u view
 
 -- ---- deaths
 

@@ -1,6 +1,6 @@
 // Laws, each as a function that does nothing.
 
-ghost use Rattle.mdr_shows.specs.Laws.{AccessesAreShared, AnswersGrowSets, DeathsLeaveSets, KernelCodeMayFollow, MembershipIsOne, RunsAreSets, ServicesKeepSets, SetsAreOpen, VisibleMayBeShown};
+ghost use Rattle.mdr_shows.specs.Laws.{AccessesAreShared, AnswersGrowSets, DeathsLeaveSets, KernelCodeMayFollow, MembershipIsOne, RunsAreSets, ServicesKeepSets, SetsAreCopied, SetsAreOpen, VisibleMayBeShown};
 
 /// The memories that a split run compares, and the sets that annotations give, ask in two ways whether a cell is in a set.
 pub fn membership_is_one()
@@ -16,6 +16,11 @@ pub fn visible_may_be_shown()
 /// A lock is in no set, where the keys of a plan that suits the program are taken.
 pub fn sets_are_open()
     ensures { SetsAreOpen }
+{}
+
+/// A cell that is shown stands in a block that the user half has, with the key for which it is shown.
+pub fn sets_are_copied()
+    ensures { SetsAreCopied }
 {}
 
 /// Services and code of the kernel half take the dead from the sets of open upcalls, and nothing else.
