@@ -1,0 +1,4 @@
+// Nothing is promised here so far.
+
+/// The definitions stand.
+pub fn defined() {}
