@@ -1,10 +1,8 @@
 -- The kernel half as a machine over answers: it waits at each message that it sends, judges the answer, and goes on.
 use Rattle.std.specs.Prelude.{ℕ, suc, List, [], ◌∷◌, Option, Some, None, Ok, Err, unwrap_or}
-use Rattle.mdr_core.specs.declared.place.At.{At}
 use Rattle.mdr_core.specs.declared.refusal.RefuseKind.TheVariants as refusal
 use Rattle.mdr_core.specs.declared.stop.StopKind.TheVariants as stop
 use Rattle.mdr_extents.specs.Reaching.{visible}
-use Rattle.mdr_meaning.specs.declared.shape.Shape64.{Shape64}
 use Rattle.mdr_meaning.specs.declared.wire.Wire.{Wire}
 use Rattle.mdr_meaning.specs.Tree.{Asked}
 use Rattle.mdr_model.specs.declared.command.Command.{Command}
@@ -26,7 +24,7 @@ use Rattle.mdr_plain.specs.Scripts.{Beginning, Did, Opens, begin, first_world, r
 use Rattle.mdr_plain.specs.World.{World, Ran, Ended, Stopped, Work, advanced, done}
 use Rattle.mdr_script.specs.declared.bound.Bound.{Bound}
 use Rattle.mdr_split.specs.Legal.{fault_of}
-use Rattle.mdr_split.specs.Services.{entered_after}
+use Rattle.mdr_split.specs.Services.{counted}
 use Rattle.mdr_split.specs.State.{Kernel, Open, Rest, Noted, Pending, Over, Waits}
 use Rattle.mdr_watched.specs.Driver.{Driver, entry_roots, is_user, touched_by}
 use Rattle.mdr_watched.specs.Views.{closed, opened, taken as with_set, top}
@@ -104,9 +102,6 @@ downcalled d (Ended v w) k upcall rest script = comes_back d v w k upcall rest s
 downcalled d (Stopped kind at w) k upcall rest script = over (ends.Stop kind at) w k
 
 -- the objects that were born and those that died are counted
-abbrev pub counted : Asked → (results : List Wire) → Open → Open
-counted asked results upcall = record upcall { entered = entered_after asked.service asked.args results upcall.entered }
-
 abbrev pub serviced : Driver → Asked → Ran (List Wire) → Kernel → Open → Rest → List Command → Pending
 serviced d asked (Ended results w) k upcall rest script = answers d results w k (counted asked results upcall) rest script
 serviced d asked (Stopped kind at w) k upcall rest script = over (ends.Stop kind at) w k

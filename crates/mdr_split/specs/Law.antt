@@ -1,5 +1,5 @@
 -- The law: a split run with an honest far side is the watched run on one memory.
-use Rattle.std.specs.Prelude.{◌≡◌, ℕ, ◌+◌, ◌*◌, ◌≤◌, true, not, List, [], ◌∷◌, ◌++◌, map, Option, Some, None, Ok, slice_get, is_some}
+use Rattle.std.specs.Prelude.{◌≡◌, ℕ, ◌+◌, ◌*◌, ◌<◌, ◌≤◌, true, not, List, [], ◌∷◌, ◌++◌, Some, Ok, slice_get, is_some}
 use Rattle.std.specs.Option.{option_map}
 use Rattle.mdr_access.specs.Keys.{IsPlan}
 use Rattle.mdr_core.specs.declared.plan.Plan.{Plan}
@@ -7,8 +7,10 @@ use Rattle.mdr_core.specs.declared.program.Func.{Func}
 use Rattle.mdr_core.specs.declared.program.Program.{Program}
 use Rattle.mdr_core.specs.Sound.{IsSound}
 use Rattle.mdr_core.specs.Typing.{function_type}
+use Rattle.mdr_device.specs.declared.rule.Effect.{Effect}
+use Rattle.mdr_device.specs.declared.rule.Effect.TheVariants as effect
+use Rattle.mdr_device.specs.declared.rule.Rule.{Rule}
 use Rattle.mdr_meaning.specs.Fuel.{IsUserPart}
-use Rattle.mdr_model.specs.declared.command.Command.{Command}
 use Rattle.mdr_model.specs.declared.message.Message.{Message}
 use Rattle.mdr_model.specs.declared.outcome.End.{End}
 use Rattle.mdr_model.specs.KernelState.{Reading}
@@ -16,8 +18,8 @@ use Rattle.mdr_model.specs.Law.{IsOwn, read}
 use Rattle.mdr_plain.specs.Outcome.{outcome_of}
 use Rattle.mdr_plain.specs.Scripts.{finish}
 use Rattle.mdr_script.specs.declared.bound.Bound.{Bound}
-use Rattle.mdr_script.specs.declared.line.LineWhat.{LineWhat}
-use Rattle.mdr_script.specs.Binding.{command_bound}
+use Rattle.mdr_script.specs.declared.script.Script.{Script}
+use Rattle.mdr_script.specs.Binding.{bound_of}
 use Rattle.mdr_slice.specs.declared.halves.Halves.{Halves}
 use Rattle.mdr_slice.specs.Graph.{AreRoots}
 use Rattle.mdr_slice.specs.Halves.{AreHalves}
@@ -40,14 +42,21 @@ pub record IsPlanOf (program : Program) (plan : Plan) : Type 0 where
   pub are_halves : AreHalves program roots halves
   pub is_plan : IsPlan program halves plan
 
--- a command that some line of a script is bound to
-pub record IsBoundCommand (program : Program) (c : Command) : Type 0 where
-  pub line : LineWhat
-  pub bound : command_bound program line ≡ Ok c
+-- a word of 32 bits
+abbrev pub IsWord : ℕ → Type 0
+IsWord n = n < 4294967296
 
-abbrev pub AreBound : Program → List Command → Type 0
-AreBound program [] = Unit {0}
-AreBound program (c ∷ cs) = IsBoundCommand program c × AreBound program cs
+abbrev pub PutsWord : Effect → Type 0
+PutsWord (effect.Set r mask) = IsWord mask
+PutsWord (effect.Put r word) = IsWord word
+PutsWord _ = Unit {0}
+
+-- a script that is bound to the program, whose numbers for registers are words
+pub record IsScript (program : Program) (script : Bound) : Type 0 where
+  pub text : Script
+  pub bound : bound_of text program ≡ Ok script
+  pub words : (i : ℕ) (word : ℕ × ℕ) → slice_get script.words i ≡ Some word → IsWord word.1
+  pub rules : (i j : ℕ) (rule : Rule) (e : Effect) → slice_get script.rules i ≡ Some rule → slice_get rule.effects j ≡ Some e → PutsWord e
 
 -- ---- an honest far side
 
@@ -80,7 +89,7 @@ pub record IsOneMemory (d : Driver) (script : Bound) (budget : ℕ) : Type 0 whe
 -- the law for every sound program in which each function has a body, with its plan, every bound script and every budget. In a sound program no code calls back through the kernel: that service isn't built
 abbrev pub SplitIsOneMemory : Type 0
 SplitIsOneMemory =
-    (program : Program) (plan : Plan) (script : Bound) (budget : ℕ) → IsSound program → HaveBodies program → IsPlanOf program plan → AreBound program script.commands
+    (program : Program) (plan : Plan) (script : Bound) (budget : ℕ) → IsSound program → HaveBodies program → IsPlanOf program plan → IsScript program script
     → IsOneMemory (driver_of program plan) script budget
 
 -- ---- what the user half knows

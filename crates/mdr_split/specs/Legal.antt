@@ -4,7 +4,6 @@ use Rattle.std.specs.List.{list_all}
 use Rattle.mdr_core.specs.declared.place.At.{At}
 use Rattle.mdr_core.specs.declared.program.Func.{Func}
 use Rattle.mdr_core.specs.declared.program.Param.{Param}
-use Rattle.mdr_core.specs.declared.program.Program.{Program}
 use Rattle.mdr_core.specs.declared.refusal.RefuseKind.TheVariants as refusal
 use Rattle.mdr_core.specs.declared.types.Ty.{Ty}
 use Rattle.mdr_core.specs.declared.types.Ty.TheVariants as type
@@ -24,7 +23,7 @@ use Rattle.mdr_model.specs.declared.reply.Reply.{Reply}
 use Rattle.mdr_model.specs.declared.reply.Reply.TheVariants as replies
 use Rattle.mdr_model.specs.Copies.{CellValue, numbered}
 use Rattle.mdr_model.specs.Faults.{fault, first_fault, is_known, or_else, set_run_of, unless}
-use Rattle.mdr_model.specs.Memory.{Memory, born_at, leaf_at}
+use Rattle.mdr_model.specs.Memory.{born_at, leaf_at}
 use Rattle.mdr_model.specs.ReplyFaults.{is_stop}
 use Rattle.mdr_model.specs.Sets.{follows_maybe, is_in}
 use Rattle.mdr_paths.specs.Numbers.{numbers}
@@ -33,7 +32,7 @@ use Rattle.mdr_slice.specs.Calls.{names_of}
 use Rattle.mdr_split.specs.Fits.{Places, fits, fits_result, is_view}
 use Rattle.mdr_split.specs.Services.{Terms, may_die, shapes_fit, terms_of, types_of}
 use Rattle.mdr_split.specs.State.{Kernel, Open, Rest}
-use Rattle.mdr_watched.specs.Driver.{Driver, is_user}
+use Rattle.mdr_watched.specs.Driver.{Driver}
 use Rattle.mdr_watched.specs.Views.{top}
 
 -- ---- arguments

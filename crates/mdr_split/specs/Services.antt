@@ -1,5 +1,5 @@
 -- What each service takes and gives, as messages carry it: one table, which both halves read.
-use Rattle.std.specs.Prelude.{ℕ, ◌*◌, Bool, true, false, not, ◌&&◌, ◌==◌, nat_lt, nat_le, List, [], ◌∷◌, ◌++◌, length, map, filter, Option, Some, None, is_some, slice_get}
+use Rattle.std.specs.Prelude.{ℕ, ◌*◌, Bool, true, false, not, ◌&&◌, ◌==◌, nat_le, List, [], ◌∷◌, ◌++◌, map, filter, Option, Some, None, is_some, slice_get}
 use Rattle.std.specs.List.{list_all}
 use Rattle.mdr_core.specs.declared.kind.Kind.{Kind}
 use Rattle.mdr_core.specs.declared.kind.Kind.TheVariants.{U32, S32}
@@ -13,11 +13,11 @@ use Rattle.mdr_core.specs.Suited.{is_lock}
 use Rattle.mdr_meaning.specs.declared.shape.Shape64.{Shape64}
 use Rattle.mdr_meaning.specs.declared.wire.Wire.{Wire}
 use Rattle.mdr_meaning.specs.declared.wire.Wire.TheVariants as wire
-use Rattle.mdr_meaning.specs.declared.wire.WireView.{WireView}
 use Rattle.mdr_meaning.specs.Pointers.{size}
 use Rattle.mdr_meaning.specs.Tree.{Asked}
 use Rattle.mdr_model.specs.declared.message.New.{New}
 use Rattle.mdr_model.specs.Agreement.{has, news_at}
+use Rattle.mdr_split.specs.State.{Open}
 
 -- ---- the table
 
@@ -138,6 +138,10 @@ less gone serials = filter (λ (n : ℕ). not (has gone n)) serials
 -- the objects that live behind an answer
 unfoldable pub entered_after : (service : ℕ) → (args results : List Wire) → (entered : List ℕ) → List ℕ
 entered_after service args results entered = less (leaving service args) entered ++ entering_by (service_numbered service) results
+
+-- the upcall with those
+abbrev pub counted : Asked → (results : List Wire) → Open → Open
+counted asked results upcall = record upcall { entered = entered_after asked.service asked.args results upcall.entered }
 
 -- ---- what it gives
 

@@ -1,12 +1,10 @@
 -- The user half's reply to the messages so far. It knows its own half's text, the plan and the messages alone.
-use Rattle.std.specs.Prelude.{ℕ, suc, ◌+◌, ◌-◌, Bool, true, false, not, ◌&&◌, List, [], ◌∷◌, ◌++◌, map, filter, Option, Some, None, slice_get, Result, Ok, Err, nat_lt, nat_le, is_none}
+use Rattle.std.specs.Prelude.{ℕ, suc, ◌+◌, ◌-◌, Bool, true, false, not, ◌&&◌, List, [], ◌∷◌, ◌++◌, map, filter, None, slice_get, Ok, Err, nat_lt, nat_le, is_none}
 use Rattle.std.specs.List.{list_all}
 use Rattle.mdr_core.specs.declared.plan.Key.{Key}
 use Rattle.mdr_core.specs.declared.program.Program.{Program}
-use Rattle.mdr_core.specs.declared.stop.StopKind.{StopKind}
 use Rattle.mdr_core.specs.declared.stop.StopKind.TheVariants as stop
-use Rattle.mdr_extents.specs.Extent.{is_touched}
-use Rattle.mdr_extents.specs.Reaching.{own_cells}
+use Rattle.mdr_extents.specs.Reaching.{counts, own_cells}
 use Rattle.mdr_meaning.specs.declared.wire.Wire.{Wire}
 use Rattle.mdr_meaning.specs.declared.wire.Wire.TheVariants as wire
 use Rattle.mdr_meaning.specs.Bodies.{started}
@@ -22,14 +20,14 @@ use Rattle.mdr_model.specs.declared.message.Told.{Told}
 use Rattle.mdr_model.specs.Agreement.{has}
 use Rattle.mdr_model.specs.Copies.{agreed_after, changes, put_runs}
 use Rattle.mdr_model.specs.KernelState.{Reading}
-use Rattle.mdr_model.specs.Memory.{Memory, born_at, loaded, normal, stored, zero_block}
+use Rattle.mdr_model.specs.Memory.{Memory, loaded, normal, stored, zero_block}
 use Rattle.mdr_model.specs.ReplyFaults.{stop_number}
 use Rattle.mdr_model.specs.Sets.{cells_of_run, cells_of_runs, is_in, rises_after}
 use Rattle.mdr_model.specs.User.{allowance, lives_fit, renewed_copy, still_live}
 use Rattle.mdr_plain.specs.Storage.{first_memory, fresh, read}
 use Rattle.mdr_split.specs.Fits.{Places, fits, fits_result}
 use Rattle.mdr_split.specs.Legal.{args_fault, params_of, result_of, runs_fault}
-use Rattle.mdr_split.specs.Services.{entered_after, leaving, results_fit}
+use Rattle.mdr_split.specs.Services.{counted, leaving, results_fit}
 use Rattle.mdr_split.specs.State.{Open}
 use Rattle.mdr_watched.specs.Driver.{Driver, is_user, touched_by}
 
@@ -52,17 +50,9 @@ pub record User : Type 0 where
 abbrev pub user_places : Driver → (copy : Memory) → Places
 user_places d copy = record { program = d.program; passes = λ f. true; paired = copy; memory = copy }
 
-abbrev pub is_seen : Program → (touched : List Key) → Option New → (index : ℕ) → Bool
-is_seen program touched None index = false
-is_seen program touched (Some block) index = is_touched program touched block index
-
--- the cell is one of a known block, and the called function may touch it
-abbrev pub may_see : Program → (touched : List Key) → Memory → Cell → Bool
-may_see program touched copy c = is_seen program touched (born_at copy c.serial) c.index
-
--- there are cells, and each may be seen
+-- there are cells, and each is one of a known block that the called function may touch
 abbrev pub may_show : Program → (touched : List Key) → Memory → SetRun → Bool
-may_show program touched copy r = nat_lt 0 r.len && list_all (may_see program touched copy) (cells_of_run r)
+may_show program touched copy r = nat_lt 0 r.len && list_all (counts program touched copy) (cells_of_run r)
 
 unfoldable pub view_fits : Program → (touched : List Key) → Memory → List SetRun → Bool
 view_fits program touched copy view = rises_after None view && list_all (may_show program touched copy) view
@@ -113,9 +103,6 @@ cells_of_news program touched (n ∷ news) = own_cells program touched (zero_blo
 -- the visible cells behind an answer: those that are left, and those of the new blocks
 abbrev pub grown : Driver → (stub : ℕ) → (copy : Memory) → List New → List Cell → List Cell
 grown d stub copy news seen = filter (still_live copy) seen ++ cells_of_news d.program (touched_by d.plan stub) news
-
-abbrev pub counted : Asked → (results : List Wire) → Open → Open
-counted asked results upcall = record upcall { entered = entered_after asked.service asked.args results upcall.entered }
 
 -- a message is refused, 2 where its kind isn't awaited, 3 where its content doesn't fit; or a tree runs, with so many ticks, in an upcall, over these visible cells and this copy
 pub data Opened : Type 0 where
