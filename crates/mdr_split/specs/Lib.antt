@@ -7,3 +7,4 @@ pub mod User
 pub mod Law
 pub mod AnyAnswers
 pub mod Refusals
+pub mod Worked

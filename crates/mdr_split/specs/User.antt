@@ -1,5 +1,5 @@
 -- The user half's reply to the messages so far. It knows its own half's text, the plan and the messages alone.
-use Rattle.std.specs.Prelude.{ℕ, suc, ◌+◌, ◌-◌, Bool, true, false, not, ◌&&◌, List, [], ◌∷◌, ◌++◌, map, filter, None, slice_get, Ok, Err, nat_lt, nat_le, is_none}
+use Rattle.std.specs.Prelude.{ℕ, suc, ◌-◌, Bool, true, false, not, ◌&&◌, List, [], ◌∷◌, ◌++◌, map, filter, None, slice_get, Ok, Err, nat_lt, nat_le, is_none}
 use Rattle.std.specs.List.{list_all}
 use Rattle.mdr_core.specs.declared.plan.Key.{Key}
 use Rattle.mdr_core.specs.declared.program.Program.{Program}

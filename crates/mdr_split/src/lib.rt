@@ -1,8 +1,8 @@
 //! What a driver does in two halves that pass messages: the kernel half as a machine over answers, the user half's reply to
 //! the messages so far, and the law that an honest pair does what the driver does on one memory while it is watched.
-//! Definitions and laws alone: nothing here runs.
+//! Definitions, worked examples and laws alone: nothing here runs.
 #![tactic(auto)]
 
-mod state;
+mod worked;
 
-pub use state::defined;
+pub use worked::messages_are_passed;

@@ -1,4 +1,0 @@
-// Nothing is promised here so far.
-
-/// The definitions stand.
-pub fn defined() {}
