@@ -1,5 +1,5 @@
 -- The values of a sound program's expressions are known and fit.
-use Rattle.std.proofs.Common.{◌≡◌, ℕ, Bool, true, false, not, List, Option, Some, None, slice_get, Result, Ok, Err, ℤ, refl, sym, ap, ◌∙◌, subst}
+use Rattle.std.proofs.Common.{◌≡◌, ℕ, Bool, true, false, not, List, Option, Some, None, slice_get, Result, Ok, Err, ℤ, IsTrue, refl, sym, ap, ◌∙◌, subst}
 use Rattle.mdr_core.specs.declared.kind.Kind.{Kind}
 use Rattle.mdr_core.specs.declared.kind.Kind.TheVariants.{S32, S64}
 use Rattle.mdr_core.specs.declared.place.At.{At}
@@ -17,7 +17,7 @@ use Rattle.mdr_core.specs.Kinds.{is_in_range}
 use Rattle.mdr_core.specs.Layout.{chosen, fields_of, fields_or}
 use Rattle.mdr_core.specs.Operators.{operated, negated, flipped, is_right_operand}
 use Rattle.mdr_core.specs.Sound.{IsSound}
-use Rattle.mdr_core.specs.Types.{HasNumber}
+use Rattle.mdr_core.specs.Types.{HasNumber, is_scalar}
 use Rattle.mdr_core.specs.Typing.{Slot, Extent, One, Many, extent, Has, Designates, RightOperand}
 use Rattle.mdr_core.proofs.Conversions.{converted-in_range}
 use Rattle.mdr_core.proofs.Operators.{fitted-in_range, result-in_range, right_operand_in_range}
@@ -25,7 +25,7 @@ use Rattle.mdr_meaning.specs.declared.wire.Wire.{Wire}
 use Rattle.mdr_meaning.specs.declared.wire.Wire.TheVariants as wire
 use Rattle.mdr_meaning.specs.Bodies.{known_of}
 use Rattle.mdr_meaning.specs.Expressions.{given, gives, loads, place, read, slot_of, value}
-use Rattle.mdr_meaning.specs.Fair.{Fair, IsPlace}
+use Rattle.mdr_meaning.specs.Fair.{FairTo, IsPlace, LoadsScalar}
 use Rattle.mdr_meaning.specs.FairExpressions.{ExpressionsAreFair, LvaluesAreFair}
 use Rattle.mdr_meaning.specs.Fit.{Knowledge, KnowsGlobals, IsInteger, PointsTo, Fits}
 use Rattle.mdr_meaning.specs.Pointers.{cast, difference, global, member, moved, related, steps}
@@ -71,15 +71,24 @@ pub named_slot : (b : Bool) (t u : Ty) (n : ℕ) → One t ≡ extent b u n → 
 named_slot true t u n e = absurd cc
 named_slot false t u n e = cc
 
-module _ (program : Program) (sound : IsSound program) (side : Side) (result : Ty) (K : Knowledge) (live : List Wire) (globals : KnowsGlobals program K) (at : At) (here : IsPlace side at) where
+loads_scalar : (t : Ty) (v : Wire) → IsTrue (is_scalar t) → LoadsScalar t v
+loads_scalar t (wire.Ptr p) h = h
+loads_scalar t (wire.Int k n) h = tt
+loads_scalar t wire.Null h = tt
+loads_scalar t wire.Dead h = tt
+loads_scalar t (wire.Fn f) h = tt
+loads_scalar t (wire.Lock s) h = tt
+loads_scalar t wire.NoValue h = tt
+
+module _ (most : ℕ) (program : Program) (sound : IsSound program) (side : Side) (result : Ty) (K : Knowledge) (live : List Wire) (globals : KnowsGlobals program K) (at : At) (here : IsPlace side at) where
   -- what goes on with a value that has P is fair
   pub record Goes (P : Wire → Type 0) (k : Wire → Tree) : Type 0 where
-    pub by : (v : Wire) → P v → Fair program side result K live (k v)
+    pub by : (v : Wire) → P v → FairTo most program side result K live (k v)
 
   pub record Gives (P : Wire → Type 0) (f : (Wire → Tree) → Tree) : Type 0 where
-    pub by : (k : Wire → Tree) → Goes P k → Fair program side result K live (f k)
+    pub by : (k : Wire → Tree) → Goes P k → FairTo most program side result K live (f k)
 
-  pub given_fair : (P : Wire → Type 0) (r : Result Wire StopKind) (k : Wire → Tree) → Yields P r → Goes P k → Fair program side result K live (given at r k)
+  pub given_fair : (P : Wire → Type 0) (r : Result Wire StopKind) (k : Wire → Tree) → Yields P r → Goes P k → FairTo most program side result K live (given at r k)
   given_fair P (Ok v) k h g = g.by v h
   given_fair P (Err kind) k h g = (here, h)
 
@@ -113,8 +122,8 @@ module _ (program : Program) (sound : IsSound program) (side : Side) (result : T
   read_fair t (wire.Lock s) h = gives_fair (Fits program K t) (wire.Lock s) h
   read_fair t wire.NoValue h = gives_fair (Fits program K t) wire.NoValue h
 
-  load_fair : (t : Ty) (found : (Wire → Tree) → Tree) → Gives (PointsTo program K t) found → Gives (Fits program K t) (λ k. found (λ p. Tree.Load at p k))
-  load_fair t found h = record { by = λ k g. h.by (λ p. Tree.Load at p k) (record { by = λ p points. (here, (t, points, g.by)) }) }
+  load_fair : (t : Ty) (found : (Wire → Tree) → Tree) → IsTrue (is_scalar t) → Gives (PointsTo program K t) found → Gives (Fits program K t) (λ k. found (λ p. Tree.Load at p k))
+  load_fair t found scalar h = record { by = λ k g. h.by (λ p. Tree.Load at p k) (record { by = λ p points. (here, (t, points, loads_scalar t p scalar, g.by)) }) }
 
   bool_fits : (b : Bool) → Fits program K (ty.Int S32) (truth b)
   bool_fits b = of_integer program K S32 (truth b) (truth_fits program K b)
@@ -154,18 +163,18 @@ module _ (program : Program) (sound : IsSound program) (side : Side) (result : T
       by_object true q h = subst (λ u. PointsTo program K u (slot_of held i)) (sym (ap elements is ∙ elements_extent s.array s.ty s.count)) h
       by_object false q h = absurd cc
 
-    loads_fair : (p : Lvalue) (t : Ty) (found : (Wire → Tree) → Tree) → Designates program slots p (One t) → Gives (PointsTo program K t) found → Gives (Fits program K t) (loads at held p found)
-    loads_fair (Lvalue.Slot i) t found h a = read_fair t (slot_of held i) (slot_value i t h.slot h.names h.kept h.is)
-    loads_fair (Lvalue.Object i) t found h a = load_fair t found a
-    loads_fair (Lvalue.Global g) t found h a = load_fair t found a
-    loads_fair (Lvalue.Deref e) t found h a = load_fair t found a
-    loads_fair (Lvalue.Member p f) t found h a = load_fair t found a
-    loads_fair (Lvalue.Index p e) t found h a = load_fair t found a
+    loads_fair : (p : Lvalue) (t : Ty) (found : (Wire → Tree) → Tree) → Designates program slots p (One t) → IsTrue (is_scalar t) → Gives (PointsTo program K t) found → Gives (Fits program K t) (loads at held p found)
+    loads_fair (Lvalue.Slot i) t found h scalar a = read_fair t (slot_of held i) (slot_value i t h.slot h.names h.kept h.is)
+    loads_fair (Lvalue.Object i) t found h scalar a = load_fair t found scalar a
+    loads_fair (Lvalue.Global g) t found h scalar a = load_fair t found scalar a
+    loads_fair (Lvalue.Deref e) t found h scalar a = load_fair t found scalar a
+    loads_fair (Lvalue.Member p f) t found h scalar a = load_fair t found scalar a
+    loads_fair (Lvalue.Index p e) t found h scalar a = load_fair t found scalar a
 
     mutual
       pub value_fair : (e : Term) (t : Ty) → Has program slots e t → TermWithin K.uses.taken e → Gives (Fits program K t) (value (known_of program) at held e)
       value_fair (Term.Lit v) t h w = gives_fair (Fits program K t) (wire_of v) (literal_fits program K v t h w)
-      value_fair (Term.Load p) t h w = loads_fair p t (place (known_of program) at held p) h.object (place_fair p (One t) h.object w)
+      value_fair (Term.Load p) t h w = loads_fair p t (place (known_of program) at held p) h.object h.scalar (place_fair p (One t) h.object w)
       value_fair (Term.Addr p) t h w = at_type _ t _ h.is (weaker _ _ _ (λ v q. of_pointer program K h.type v q) (place_fair p (One h.type) h.object w))
       value_fair (Term.Decay p) t h w = at_type _ t _ h.is (weaker _ _ _ (λ v q. of_pointer program K h.type v q) (place_fair p (Many h.type h.count) h.array w))
       value_fair (Term.Neg k e) t h w =
@@ -244,8 +253,8 @@ module _ (program : Program) (sound : IsSound program) (side : Side) (result : T
 
 pub expressions_are_fair : ExpressionsAreFair
 expressions_are_fair program side result K live at slots held h e t typed w k goes =
-    (value_fair program h.sound side result K live h.globals at h.here slots held h.fit e t typed w).by k (record { by = goes })
+    (value_fair 256 program h.sound side result K live h.globals at h.here slots held h.fit e t typed w).by k (record { by = goes })
 
 pub lvalues_are_fair : LvaluesAreFair
 lvalues_are_fair program side result K live at slots held h p x typed w k goes =
-    (place_fair program h.sound side result K live h.globals at h.here slots held h.fit p x typed w).by k (record { by = goes })
+    (place_fair 256 program h.sound side result K live h.globals at h.here slots held h.fit p x typed w).by k (record { by = goes })

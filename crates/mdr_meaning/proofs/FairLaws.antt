@@ -35,8 +35,8 @@ use Rattle.mdr_meaning.specs.Asking.{allocated, asks, serves, serves_by}
 use Rattle.mdr_meaning.specs.Bodies.{body_by, body_from, body_of, kernel_side, known_of, means, started, user_side, whole_side, without_funcs}
 use Rattle.mdr_meaning.specs.Calls.{call, call_by, deep, direct, enters, goes_to, keep, put, received, through}
 use Rattle.mdr_meaning.specs.Expressions.{given, place, slot_of, value, values}
-use Rattle.mdr_meaning.specs.Fair.{AllFit, AreBirths, AreBorn, AreKnown, Begins, Fair, IsAsk, IsPlace, IsServed, Leaves, TakesArgs, TakesShape, after, is_first_type, stands}
-use Rattle.mdr_meaning.specs.FairTrees.{IsSideOf, SidesAreOfPrograms, TreesAreFair}
+use Rattle.mdr_meaning.specs.Fair.{AllFit, AreBirths, AreBorn, AreKnown, Begins, FairTo, IsAsk, IsPlace, IsServed, Leaves, TakesArgs, TakesShape, after, is_first_type, stands}
+use Rattle.mdr_meaning.specs.FairTrees.{IsSideOf, SidesAreOfPrograms, TreesAreFair, TreesAreFairTo}
 use Rattle.mdr_meaning.specs.Fit.{Knowledge, Grows, KnowsGlobals, IsInteger, IsDataPointer, PointsTo, Fits, FitsLayer, IsFunction, IsResult}
 use Rattle.mdr_meaning.specs.Lives.{after_deaths, asked_for, births, births_by, closes, deaths, deaths_by, ends, fills, in_block, object_params, param_shapes, returned, shape_of, with_object}
 use Rattle.mdr_meaning.specs.Named.{named_type, slot_type}
@@ -50,7 +50,7 @@ use Rattle.mdr_meaning.proofs.ExpressionLaws.{Gives, given_fair, named_slot, pla
 use Rattle.mdr_meaning.proofs.FitLaws.{literal_fits, of_integer, of_pointer, to_integer, to_pointer}
 use Rattle.mdr_meaning.proofs.GrowthLaws.{all_grow, are_grow, data_known, fits_result, globals_grow, grows_on, grows_same, known_append, result_grows, result_outlives}
 use Rattle.mdr_meaning.proofs.NumberLaws.{left_of, numbered_in}
-use Rattle.mdr_meaning.proofs.PlacedLaws.{IsHere, Inside, InsideCode, first_inside, only_inside, own_first, rest_inside}
+use Rattle.mdr_meaning.proofs.PlacedLaws.{Inside, InsideCode, first_inside, only_inside, own_first, rest_inside}
 use Rattle.mdr_meaning.proofs.PointerLaws.{at_index_fits}
 use Rattle.mdr_meaning.proofs.SlotLaws.{AreSoundSlots, Filling, Holds, born_points, filling_begins, filling_ends, filling_fills, filling_names, filling_passes, filling_value, framed_holds, holds_grows, object_held, object_holds, params_are_births, plain_holds, set_keeps, sound_slots, zero_fits}
 use Rattle.mdr_meaning.proofs.TargetLaws.{callee, named, received_fits, store_fair}
@@ -82,12 +82,12 @@ code_in : (program : Program) → IsSound program → (f : ℕ) (func : Func) (b
 unfolding body_of
 code_in program sound f func body names e = code_by program func func.body body (sound.funcs f func names).body (sym (ap body_from names) ∙ e)
 
-module _ (program : Program) (sound : IsSound program) (own : ℕ → Option Body) (asking : Bool) (bodies : (f : ℕ) (body : Body) → own f ≡ Some body → body_of program f ≡ Some body) (uses : Uses) (within : (f : ℕ) (body : Body) → own f ≡ Some body → CodesWithin program uses body.slots f body.code) (top : Ty) where
+module _ (most : ℕ) (wide : 256 ≤ most) (program : Program) (sound : IsSound program) (own : ℕ → Option Body) (asking : Bool) (bodies : (f : ℕ) (body : Body) → own f ≡ Some body → body_of program f ≡ Some body) (uses : Uses) (within : (f : ℕ) (body : Body) → own f ≡ Some body → CodesWithin program uses body.slots f body.code) (top : Ty) where
   abbrev side : Side
   side = record { known = known_of program; own = own; asks = asking }
 
   abbrev F : Knowledge → List Wire → Tree → Type 0
-  F K live t = Fair program side top K live t
+  F K live t = FairTo most program side top K live t
 
   -- ---- what stands where code goes on
 
@@ -156,7 +156,7 @@ module _ (program : Program) (sound : IsSound program) (own : ℕ → Option Bod
   value_goes : (at : At) → IsPlace side at → (K : Knowledge) (slots : List Slot) (live base : List Wire) (l : Locals) → Stands K slots live base l → (e : Term) (t : Ty) → Has program slots e t → TermWithin uses.taken e → (k : Wire → Tree)
       → ((v : Wire) → Fits program K t v → F K live (k v)) → F K live (value (known_of program) at l.slots e k)
   value_goes at w K slots live base l h e t typed c k n =
-      (value_fair program sound side top K live h.globals.globals at w slots l.slots (slots_fit K slots live base l h) e t typed (subst (λ (u : Uses). TermWithin u.taken e) (sym h.globals.uses_are) c)).by k (record { by = n })
+      (value_fair most program sound side top K live h.globals.globals at w slots l.slots (slots_fit K slots live base l h) e t typed (subst (λ (u : Uses). TermWithin u.taken e) (sym h.globals.uses_are) c)).by k (record { by = n })
 
   values_go : (at : At) → IsPlace side at → (K : Knowledge) (slots : List Slot) (live base : List Wire) (l : Locals) → Stands K slots live base l → (es : List Term) (ts : List Ty) → HaveAll program slots es ts → TermsWithin uses.taken es → (k : List Wire → Tree)
       → ((vs : List Wire) → AllFit program K vs ts → F K live (k vs)) → F K live (values (known_of program) at l.slots es k)
@@ -295,7 +295,7 @@ module _ (program : Program) (sound : IsSound program) (own : ℕ → Option Bod
       → (go : Locals → Tree) → ((l' : Locals) → Stands K slots live base l' → F K live (go l')) → F K live (put (known_of program) at p v l go)
   put_fair at w K slots live base l st p t d c v fits go n = by_form p d c where
     stored : (q : Lvalue) → Designates program slots q (One t) → LvalueWithin uses.taken q → F K live (place (known_of program) at l.slots q (λ a. Tree.Store at a v (go l)))
-    stored q d c = (place_fair program sound side top K live st.globals.globals at w slots l.slots (slots_fit K slots live base l st) q (One t) d (lvalue_within K st.globals q c)).by (λ a. Tree.Store at a v (go l)) (record { by = λ a points. (w, (t, points, fits), n l st) })
+    stored q d c = (place_fair most program sound side top K live st.globals.globals at w slots l.slots (slots_fit K slots live base l st) q (One t) d (lvalue_within K st.globals q c)).by (λ a. Tree.Store at a v (go l)) (record { by = λ a points. (w, (t, points, fits), n l st) })
 
     by_form : (q : Lvalue) → Designates program slots q (One t) → LvalueWithin uses.taken q → F K live (put (known_of program) at q v l go)
     by_form (Lvalue.Slot i) d c =
@@ -313,14 +313,14 @@ module _ (program : Program) (sound : IsSound program) (own : ℕ → Option Bod
   into_fair at w K slots live base l st p from to d c b v r go n = by_form p d c where
     stored : (q : Lvalue) → Designates program slots q (One to) → LvalueWithin uses.taken q → F K live (given at (received (known_of program) (named_type (without_funcs program) slots q) v) (λ x. place (known_of program) at l.slots q (λ a. Tree.Store at a x (go l))))
     stored q d c =
-        store_fair program sound side top K live st.globals.globals at w slots l.slots (slots_fit K slots live base l st) q (named_type (without_funcs program) slots q) from to d
-        (lvalue_within K st.globals q c) (named program sound side top K live st.globals.globals at w slots l.slots (slots_fit K slots live base l st) q (One to) d (lvalue_within K st.globals q c)) b v r (go l) (n l st)
+        store_fair most program sound side top K live st.globals.globals at w slots l.slots (slots_fit K slots live base l st) q (named_type (without_funcs program) slots q) from to d
+        (lvalue_within K st.globals q c) (named most program sound side top K live st.globals.globals at w slots l.slots (slots_fit K slots live base l st) q (One to) d (lvalue_within K st.globals q c)) b v r (go l) (n l st)
 
     by_form : (q : Lvalue) → Designates program slots q (One to) → LvalueWithin uses.taken q → F K live (given at (received (known_of program) (named_type (without_funcs program) slots q) v) (λ x. put (known_of program) at q x l go))
     by_form (Lvalue.Slot i) d c =
         let type : d.slot.ty ≡ to = named_slot d.slot.array to d.slot.ty d.slot.count d.is in
         subst (λ o. F K live (given at (received (known_of program) (option_map slot_type o) v) (λ x. put (known_of program) at (Lvalue.Slot i) x l go))) (sym d.names)
-        (given_fair program sound side top K live st.globals.globals at w (Fits program K to) (received (known_of program) (Some d.slot.ty) v) (λ x. put (known_of program) at (Lvalue.Slot i) x l go) (received_fits program K d.slot.ty from to type b v r)
+        (given_fair most program sound side top K live st.globals.globals at w (Fits program K to) (received (known_of program) (Some d.slot.ty) v) (λ x. put (known_of program) at (Lvalue.Slot i) x l go) (received_fits program K d.slot.ty from to type b v r)
         (record { by = λ x fits. put_fair at w K slots live base l st (Lvalue.Slot i) to d c x fits go n }))
     by_form (Lvalue.Object i) d c = stored (Lvalue.Object i) d c
     by_form (Lvalue.Global g) d c = stored (Lvalue.Global g) d c
@@ -461,13 +461,18 @@ module _ (program : Program) (sound : IsSound program) (own : ℕ → Option Bod
 
   -- ---- in a function of the side
 
+  record IsDeep (here : Here) : Type 0 where
+    whole : IsPlace side (in_here here 0)
+    some : 1 ≤ here.depth
+    limited : here.depth ≤ most
+
   record Runs (here : Here) : Type 0 where
-    place : IsHere side here
+    place : IsDeep here
     slots : AreSoundSlots program here.slots
 
   module _ (low : Means) (later : (in_loop : Bool) (here : Here) → Runs here → (cs : Codes) → Inside side here cs → AreTyped program here.slots here.result in_loop cs → CodesWithin program uses here.slots here.func cs → GoFair here (low here cs)) where
-    -- a body is entered, with fewer than 256 functions active before
-    made_fair : (caller : Here) → caller.depth < 256 → (f : ℕ) (func : Func) → slice_get program.funcs f ≡ Some func → (cs : Codes) → AreTyped program (slots_of func) func.result false cs → own f ≡ Some (made func cs)
+    -- a body is entered, with fewer functions active before
+    made_fair : (caller : Here) → caller.depth < most → (f : ℕ) (func : Func) → slice_get program.funcs f ≡ Some func → (cs : Codes) → AreTyped program (slots_of func) func.result false cs → own f ≡ Some (made func cs)
         → (K : Knowledge) (live : List Wire) → Knows K → (vs : List Wire) → AllFit program K vs (map (λ (p : Param). p.ty) func.params) → (k : Wire → Tree) → ValueFair K live func.result k
         → F K live (enters side low caller (record { func = f; depth = suc caller.depth; slots = slots_of func; result = func.result }) (made func cs) vs k)
     made_fair caller d f func names cs typed is K live globals vs all k n =
@@ -481,7 +486,7 @@ module _ (program : Program) (sound : IsSound program) (own : ℕ → Option Bod
         (filling_begins program K' (slots_of func) (framed (slots_of func) vs) (framed_holds program K' func.params func.locals vs (all_grow program K K' g vs (map (λ (p : Param). p.ty) func.params) all) (sound.funcs f func names).locals)) tt refl born
         (λ l. low inner cs l (closes side inner k)) (λ l st. (later false inner runs cs inside typed (within f (made func cs) is)).by K' (live ++ ps) live l st (closes side inner k) (closes_fair inner whole K' live k (value_grows K K' g live func.result k n))))
 
-    entered_fair : (caller : Here) → caller.depth < 256 → (f : ℕ) (func : Func) → slice_get program.funcs f ≡ Some func → (body : Body) → own f ≡ Some body → (K : Knowledge) (live : List Wire) → Knows K → (vs : List Wire) → AllFit program K vs (map (λ (p : Param). p.ty) func.params)
+    entered_fair : (caller : Here) → caller.depth < most → (f : ℕ) (func : Func) → slice_get program.funcs f ≡ Some func → (body : Body) → own f ≡ Some body → (K : Knowledge) (live : List Wire) → Knows K → (vs : List Wire) → AllFit program K vs (map (λ (p : Param). p.ty) func.params)
         → (k : Wire → Tree) → ValueFair K live func.result k → (at : At) → F K live (goes_to side low caller at f vs (Some body) k)
     entered_fair caller d f func names body is K live globals vs all k n at =
         let code = code_in program sound f func body names (bodies f body is) in
@@ -491,7 +496,7 @@ module _ (program : Program) (sound : IsSound program) (own : ℕ → Option Bod
       goes_to_fair : (at : At) → IsPlace side at → (K : Knowledge) (live : List Wire) → Knows K → (f : ℕ) (func : Func) → slice_get program.funcs f ≡ Some func → (vs : List Wire) → AllFit program K vs (map (λ (p : Param). p.ty) func.params)
           → (body : Option Body) → own f ≡ body → here.depth < 256 → uses.calls at.func f ≡ true → (k : Wire → Tree) → ValueFair K live func.result k → F K live (goes_to side low here at f vs body k)
       goes_to_fair at w K live globals f func names vs all None is d c k n = (w, (func, record { calls = ap (λ (u : Uses). u.calls at.func f) globals.uses_are ∙ c; names = names; fit = all; some = h.place.some; limited = omega (arith, d) }, n.by))
-      goes_to_fair at w K live globals f func names vs all (Some body) is d c k n = entered_fair here d f func names body is K live globals vs all k n at
+      goes_to_fair at w K live globals f func names vs all (Some body) is d c k n = entered_fair here (omega (arith, d, wide)) f func names body is K live globals vs all k n at
 
       direct_fair : (at : At) → IsPlace side at → (K : Knowledge) (live : List Wire) → Knows K → (f : ℕ) (func : Func) → slice_get program.funcs f ≡ Some func → (vs : List Wire) → AllFit program K vs (map (λ (p : Param). p.ty) func.params)
           → uses.calls at.func f ≡ true → (k : Wire → Tree) → ValueFair K live func.result k → F K live (direct side low here at f vs k)
@@ -529,12 +534,12 @@ module _ (program : Program) (sound : IsSound program) (own : ℕ → Option Bod
           values_go at w K here.slots live base l st form.args (map (λ (p : Param). p.ty) c.func.params) c.call_is.args xs (λ vs. direct side low here at f vs k) (λ vs all. direct_fair at w K live st.globals f c.func c.names vs all x k (subst (λ u. ValueFair K live u k) c.is n))
       call_fair at w K live base l st form (Called.Through e) t c x xs k n =
           by_type
-          (callee program sound side top K live st.globals.globals at w here.slots l.slots (slots_fit K here.slots live base l st) e (t ∷ c.params) c.pointer (subst (λ (u : Uses). TermWithin u.taken e) (sym st.globals.uses_are) x.0))
+          (callee most program sound side top K live st.globals.globals at w here.slots l.slots (slots_fit K here.slots live base l st) e (t ∷ c.params) c.pointer (subst (λ (u : Uses). TermWithin u.taken e) (sym st.globals.uses_are) x.0))
         where
           calls_on : Wire → Tree
           calls_on v = values (known_of program) at l.slots form.args (λ vs. through side low here at v vs k)
 
-          by_type : (called_type program here.slots e ≡ Some (ty.Fun (t ∷ c.params))) ⊎ Gives program sound side top K live st.globals.globals at w (λ v. v ≡ wire.Null) (value (known_of program) at l.slots e)
+          by_type : (called_type program here.slots e ≡ Some (ty.Fun (t ∷ c.params))) ⊎ Gives most program sound side top K live st.globals.globals at w (λ v. v ≡ wire.Null) (value (known_of program) at l.slots e)
               → F K live (value (known_of program) at l.slots e calls_on)
           by_type (inl q) =
               value_goes at w K here.slots live base l st e (ty.Fun (t ∷ c.params)) c.pointer x.0 calls_on
@@ -593,7 +598,7 @@ module _ (program : Program) (sound : IsSound program) (own : ℕ → Option Bod
       goal_fair at w Goal.Back form d c x K live base l st k n =
           call_fair at w K live base l st form form.callee d.given d.call_gives x.0 x.1 (λ v. keep (known_of program) here at Goal.Back v l k)
           (record {
-            by = λ K' g v r. given_fair program sound side top K' live (stands_grow K K' g here.slots live base l st).globals.globals at w (Fits program K' here.result) (received (known_of program) (Some here.result) v) (λ x. k (Gave x) l)
+            by = λ K' g v r. given_fair most program sound side top K' live (stands_grow K K' g here.slots live base l st).globals.globals at w (Fits program K' here.result) (received (known_of program) (Some here.result) v) (λ x. k (Gave x) l)
                 (received_fits program K' here.result d.given here.result refl d.becomes v r) (record { by = λ x fits. n.by K' g live (Gave x) l (stands_grow K K' g here.slots live base l st) (fits_result program K' here.result x fits) });
           })
 
@@ -605,36 +610,34 @@ module _ (program : Program) (sound : IsSound program) (own : ℕ → Option Bod
       turn_fair : (again step body : Go) → GoFair here again → GoFair here step → GoFair here body → GoFair here (turn side low here again step body)
       turn_fair again step body a b e = record { by = λ K live base l st k n. (block_fair here h.place.whole body e).by K live base l st (around again step k) (around_fair K here base again step k a b n) }
 
+      -- a statement begins with a tick, before which more may become known
+      tick_fair : (n : ℕ) → IsPlace side (in_here here n) → (go : Go) → GoFair here go → GoFair here (λ l k. Tree.Tick (in_here here n) here.depth (go l k))
+      tick_fair n w go a = record {
+        by = λ K live base l st k q. (w, h.place.some, h.place.limited, λ K' g. a.by K' live base l (stands_grow K K' g here.slots live base l st) k (next_grows K K' g here base k q));
+      }
+
       mutual
         stmt_fair : (in_loop : Bool) (code : Code) → IsTyped program here.slots here.result in_loop code → CodeWithin program uses here.slots here.func code → InsideCode side here code → GoFair here (stmt side low here code)
-        stmt_fair in_loop (Code.Declare n i) t c p = let w = p.each n (eq-eqb n n refl) in record { by = λ K live base l st k q. (w, h.place.some, h.place.limited, declare_fair i t.right K live base l st k q) }
-        stmt_fair in_loop (Code.Text n i bytes) t c p = let w = p.each n (eq-eqb n n refl) in record { by = λ K live base l st k q. (w, h.place.some, h.place.limited, text_fair (in_here here n) w i bytes t.right K live base l st k q) }
+        stmt_fair in_loop (Code.Declare n i) t c p = let w = p.each n (eq-eqb n n refl) in tick_fair n w _ (record { by = λ K live base l st k q. declare_fair i t.right K live base l st k q })
+        stmt_fair in_loop (Code.Text n i bytes) t c p = let w = p.each n (eq-eqb n n refl) in tick_fair n w _ (record { by = λ K live base l st k q. text_fair (in_here here n) w i bytes t.right K live base l st k q })
         stmt_fair in_loop (Code.Assign n target e) t c p =
             let w = p.each n (eq-eqb n n refl) in
-            record {
-              by = λ K live base l st k q. (
-                w,
-                h.place.some,
-                h.place.limited,
-                value_goes (in_here here n) w K here.slots live base l st e t.right.type t.right.value c.1 (λ v. put (known_of program) (in_here here n) target v l (k Ends))
-                    (λ v fits. put_fair (in_here here n) w K here.slots live base l st target t.right.type t.right.object c.0 v fits (k Ends) (λ l' st'. q.by K (grows_same K) live Ends l' st' tt)),
-              );
-            }
-        stmt_fair in_loop (Code.Call n goal form) t c p = let w = p.each n (eq-eqb n n refl) in record { by = λ K live base l st k q. (w, h.place.some, h.place.limited, goal_fair (in_here here n) w goal form t.right c.0 c.1 K live base l st k q) }
+            tick_fair n w _
+            (record {
+              by = λ K live base l st k q. value_goes (in_here here n) w K here.slots live base l st e t.right.type t.right.value c.1 (λ v. put (known_of program) (in_here here n) target v l (k Ends))
+                  (λ v fits. put_fair (in_here here n) w K here.slots live base l st target t.right.type t.right.object c.0 v fits (k Ends) (λ l' st'. q.by K (grows_same K) live Ends l' st' tt));
+            })
+        stmt_fair in_loop (Code.Call n goal form) t c p = let w = p.each n (eq-eqb n n refl) in tick_fair n w _ (record { by = λ K live base l st k q. goal_fair (in_here here n) w goal form t.right c.0 c.1 K live base l st k q })
         stmt_fair in_loop (Code.If n e one other) t c p =
             let w = p.each n (own_first n (stands n one || stands n other)) in
             let first : Inside side here one = record { each = λ m q. p.each m (or_right (m == n) _ (or_left (stands m one) (stands m other) q)) } in
             let second : Inside side here other = record { each = λ m q. p.each m (or_right (m == n) _ (or_right (stands m one) (stands m other) q)) } in
             let branches = λ (v : Wire). pick_fair (is_true v) here (stmts side low here one) (stmts side low here other) (stmts_fair in_loop one t.first c.1 first) (stmts_fair in_loop other t.second c.2 second) in
-            record {
-              by = λ K live base l st k q. (
-                w,
-                h.place.some,
-                h.place.limited,
-                value_goes (in_here here n) w K here.slots live base l st e t.condition.type t.condition.operand c.0 (λ v. in_block side here (chosen (is_true v) (stmts side low here one) (stmts side low here other)) l k)
-                    (λ v fits. (block_fair here h.place.whole _ (branches v)).by K live base l st k q),
-              );
-            }
+            tick_fair n w _
+            (record {
+              by = λ K live base l st k q. value_goes (in_here here n) w K here.slots live base l st e t.condition.type t.condition.operand c.0 (λ v. in_block side here (chosen (is_true v) (stmts side low here one) (stmts side low here other)) l k)
+                  (λ v fits. (block_fair here h.place.whole _ (branches v)).by K live base l st k q);
+            })
         stmt_fair in_loop (Code.Loop n e step body) t c p =
             let w = p.each n (own_first n (stands n step || stands n body)) in
             let first : Inside side here step = record { each = λ m q. p.each m (or_right (m == n) _ (or_left (stands m step) (stands m body) q)) } in
@@ -642,18 +645,14 @@ module _ (program : Program) (sound : IsSound program) (own : ℕ → Option Bod
             let loop : Codes = Codes.Then (Code.Loop n e step body) Codes.End in
             let again : GoFair here (low here loop) = later in_loop here h loop (only_inside side here (Code.Loop n e step body) p) (t, tt) (c, tt) in
             let turned = turn_fair (low here loop) (stmts side low here step) (stmts side low here body) again (stmts_fair false step t.stepped c.1 first) (stmts_fair true body t.turn c.2 second) in
-            record {
-              by = λ K live base l st k q. (
-                w,
-                h.place.some,
-                h.place.limited,
-                value_goes (in_here here n) w K here.slots live base l st e t.condition.type t.condition.operand c.0
-                    (λ v. chosen (is_true v) (turn side low here (low here loop) (stmts side low here step) (stmts side low here body)) leaves l k) (λ v fits. (pick_fair (is_true v) here _ leaves turned (leaves_fair here)).by K live base l st k q),
-              );
-            }
+            tick_fair n w _
+            (record {
+              by = λ K live base l st k q. value_goes (in_here here n) w K here.slots live base l st e t.condition.type t.condition.operand c.0
+                  (λ v. chosen (is_true v) (turn side low here (low here loop) (stmts side low here step) (stmts side low here body)) leaves l k) (λ v fits. (pick_fair (is_true v) here _ leaves turned (leaves_fair here)).by K live base l st k q);
+            })
         stmt_fair in_loop (Code.Block cs) t c p = block_fair here h.place.whole (stmts side low here cs) (stmts_fair in_loop cs t c (record { each = p.each }))
-        stmt_fair in_loop (Code.Return n e) t c p = let w = p.each n (eq-eqb n n refl) in record { by = λ K live base l st k q. (w, h.place.some, h.place.limited, returns_fair (in_here here n) w e t.right c K live base l st k q) }
-        stmt_fair in_loop (Code.Jump n way) t c p = let w = p.each n (eq-eqb n n refl) in record { by = λ K live base l st k q. (w, h.place.some, h.place.limited, q.by K (grows_same K) live (flow_of way) l st (jumps K here.result way)) }
+        stmt_fair in_loop (Code.Return n e) t c p = let w = p.each n (eq-eqb n n refl) in tick_fair n w _ (record { by = λ K live base l st k q. returns_fair (in_here here n) w e t.right c K live base l st k q })
+        stmt_fair in_loop (Code.Jump n way) t c p = let w = p.each n (eq-eqb n n refl) in tick_fair n w _ (record { by = λ K live base l st k q. q.by K (grows_same K) live (flow_of way) l st (jumps K here.result way) })
 
         stmts_fair : (in_loop : Bool) (cs : Codes) → AreTyped program here.slots here.result in_loop cs → CodesWithin program uses here.slots here.func cs → Inside side here cs → GoFair here (stmts side low here cs)
         stmts_fair in_loop Codes.End t c p = leaves_fair here
@@ -664,11 +663,11 @@ module _ (program : Program) (sound : IsSound program) (own : ℕ → Option Bod
 
   means_fair : (n : ℕ) (in_loop : Bool) (here : Here) → Runs here → (cs : Codes) → Inside side here cs → AreTyped program here.slots here.result in_loop cs → CodesWithin program uses here.slots here.func cs → GoFair here (means side n here cs)
   unfolding means
-  means_fair zero in_loop here h cs p t c = record { by = λ K live base l st k q. (h.place.whole, h.place.some, h.place.limited, (h.place.whole, refl)) }
+  means_fair zero in_loop here h cs p t c = record { by = λ K live base l st k q. (h.place.whole, h.place.some, h.place.limited, λ K' g. (h.place.whole, refl)) }
   means_fair (suc n) in_loop here h cs p t c = record { by = (stmts_fair (means side n) (means_fair n) here h in_loop cs t c p).by }
 
   -- a function that is started, where its result is that of the tree
-  body_fair : (n f : ℕ) (func : Func) → slice_get program.funcs f ≡ Some func → func.result ≡ top → (K : Knowledge) → Knows K → (vs : List Wire) → AllFit program K vs (map (λ (p : Param). p.ty) func.params) → (depth : ℕ) → depth < 256
+  body_fair : (n f : ℕ) (func : Func) → slice_get program.funcs f ≡ Some func → func.result ≡ top → (K : Knowledge) → Knows K → (vs : List Wire) → AllFit program K vs (map (λ (p : Param). p.ty) func.params) → (depth : ℕ) → depth < most
       → (below : Tree) (o : Option Body) (body : Body) → own f ≡ o → o ≡ Some body
       → F K [] (goes_to side (means side n) (record { func = f; depth = depth; slots = []; result = ty.Void }) (record { func = f; stmt = 0 }) f vs o (λ v. Tree.Done v below))
   body_fair n f func names same K globals vs all depth d below None body is some = absurd cc
@@ -679,11 +678,14 @@ module _ (program : Program) (sound : IsSound program) (own : ℕ → Option Bod
 same_side : (program : Program) (side : Side) → IsSideOf program side → record { known = known_of program; own = side.own; asks = side.asks } ≡ side
 same_side program side h = λ i. record { known = sym h.known i; own = side.own; asks = side.asks }
 
-pub trees_are_fair : TreesAreFair
+pub trees_are_fair_to : TreesAreFairTo
 unfolding started
-trees_are_fair program sound side h n f func K args depth start below =
-    subst (λ (x : Side). Fair program x func.result K [] (started x n f args depth below)) (same_side program side h)
-    (body_fair program sound side.own side.asks h.bodies K.uses start.within.bodies func.result n f func start.names refl K (record { globals = start.globals; uses_are = refl }) args start.fit depth start.limited below (side.own f) start.body refl start.own)
+trees_are_fair_to program sound side h most wide n f func K args depth start below =
+    subst (λ (x : Side). FairTo most program x func.result K [] (started x n f args depth below)) (same_side program side h)
+    (body_fair most wide program sound side.own side.asks h.bodies K.uses start.within.bodies func.result n f func start.names refl K (record { globals = start.globals; uses_are = refl }) args start.fit depth start.limited below (side.own f) start.body refl start.own)
+
+pub trees_are_fair : TreesAreFair
+trees_are_fair program sound side h n f func K args depth start below = trees_are_fair_to program sound side h 256 (omega arith) n f func K args depth start below
 
 chosen_body : (b : Bool) (o : Option Body) (body : Body) → chosen b o None ≡ Some body → o ≡ Some body
 chosen_body true o body e = e

@@ -22,7 +22,7 @@ use Rattle.mdr_meaning.specs.declared.wire.Wire.TheVariants as wire
 use Rattle.mdr_meaning.specs.Bodies.{known_of, without_funcs}
 use Rattle.mdr_meaning.specs.Calls.{received}
 use Rattle.mdr_meaning.specs.Expressions.{given, place, value}
-use Rattle.mdr_meaning.specs.Fair.{Fair, IsPlace}
+use Rattle.mdr_meaning.specs.Fair.{FairTo, IsPlace}
 use Rattle.mdr_meaning.specs.Fit.{Knowledge, KnowsGlobals, Fits, FitsLayer, IsResult}
 use Rattle.mdr_meaning.specs.Named.{field_of, field_type, global_type, member_type, named_type, pointed_type, slot_type, target_by, target_of}
 use Rattle.mdr_meaning.specs.Pointers.{become, become_by, member, moved, steps}
@@ -113,9 +113,9 @@ module _ (program : Program) (K : Knowledge) where
 
 -- ---- the type of what is named
 
-module _ (program : Program) (sound : IsSound program) (side : Side) (result : Ty) (K : Knowledge) (live : List Wire) (globals : KnowsGlobals program K) (at : At) (here : IsPlace side at) where
+module _ (most : ℕ) (program : Program) (sound : IsSound program) (side : Side) (result : Ty) (K : Knowledge) (live : List Wire) (globals : KnowsGlobals program K) (at : At) (here : IsPlace side at) where
   abbrev Reaches : (Wire → Type 0) → ((Wire → Tree) → Tree) → Type 0
-  Reaches P f = Gives program sound side result K live globals at here P f
+  Reaches P f = Gives most program sound side result K live globals at here P f
 
   -- the type is that of what is reached; where there is none, only null is
   abbrev pub Named : Option Ty → Ty → ((Wire → Tree) → Tree) → Type 0
@@ -129,8 +129,8 @@ module _ (program : Program) (sound : IsSound program) (side : Side) (result : T
   null_moved v n q = subst (λ x. Yields (λ y. y ≡ wire.Null) (moved x n)) (sym q) refl
 
   -- nothing is loaded through a null pointer
-  null_load : (k : Wire → Tree) (v : Wire) → v ≡ wire.Null → Fair program side result K live (Tree.Load at v k)
-  null_load k v q = subst (λ x. Fair program side result K live (Tree.Load at x k)) (sym q) (here, (ty.Void, tt, λ x bad. elim (subst (λ l. FitsLayer program K l x) outs-Void bad) [ ]))
+  null_load : (k : Wire → Tree) (v : Wire) → v ≡ wire.Null → FairTo most program side result K live (Tree.Load at v k)
+  null_load k v q = subst (λ x. FairTo most program side result K live (Tree.Load at x k)) (sym q) (here, (ty.Void, tt, tt, λ x bad. elim (subst (λ l. FitsLayer program K l x) outs-Void bad) [ ]))
 
   null_found : (found : (Wire → Tree) → Tree) → Reaches (λ v. v ≡ wire.Null) found → Reaches (λ v. v ≡ wire.Null) (λ k. found (λ p. Tree.Load at p k))
   null_found found n = record { by = λ k g. n.by (λ p. Tree.Load at p k) (record { by = λ v q. null_load k v q }) }
@@ -159,27 +159,27 @@ module _ (program : Program) (sound : IsSound program) (side : Side) (result : T
         ap (λ t. member_type (without_funcs program) (Some t) f) n ∙ ap (λ l. field_of (without_funcs program) (struct_by l) f) (outs-Struct s) ∙ ap (option_map field_type) names
         in
         subst (λ o. Named o (elements x) (at_place (Lvalue.Member p f))) (sym there) same
-    member_by p f x None s field names same n = tested program sound side result K live globals at here (λ v. v ≡ wire.Null) (λ v. v ≡ wire.Null) (at_place p) (λ a. member (known_of program) a f) (null_member f) n
+    member_by p f x None s field names same n = tested most program sound side result K live globals at here (λ v. v ≡ wire.Null) (λ v. v ≡ wire.Null) (at_place p) (λ a. member (known_of program) a f) (null_member f) n
 
     index_by : (p : Lvalue) (e : Term) (x : Extent) (o : Option Ty) (t : Ty) (k : Kind) → x ≡ One t → Has program slots e (ty.Int k) → TermWithin K.uses.taken e → Named o t (at_place p) → Named o (elements x) (at_place (Lvalue.Index p e))
     index_by p e x (Some u) t k is h w n = n ∙ sym (ap elements is)
     index_by p e x None t k is h w n =
-        and_then program sound side result K live globals at here (λ v. v ≡ wire.Null) (λ v. v ≡ wire.Null) (at_place p) (λ a k'. of_term e (λ m. given at (moved a (integer m)) k')) n
-        (λ a q. tested program sound side result K live globals at here (Fits program K (ty.Int k)) (λ v. v ≡ wire.Null) (of_term e) (λ m. moved a (integer m)) (λ m r. null_moved a (integer m) q)
-        (value_fair program sound side result K live globals at here slots held fit e (ty.Int k) h w))
+        and_then most program sound side result K live globals at here (λ v. v ≡ wire.Null) (λ v. v ≡ wire.Null) (at_place p) (λ a k'. of_term e (λ m. given at (moved a (integer m)) k')) n
+        (λ a q. tested most program sound side result K live globals at here (Fits program K (ty.Int k)) (λ v. v ≡ wire.Null) (of_term e) (λ m. moved a (integer m)) (λ m r. null_moved a (integer m) q)
+        (value_fair most program sound side result K live globals at here slots held fit e (ty.Int k) h w))
 
     move_by : (back : Bool) (p i : Term) (o : Option Ty) (t u : Ty) (k : Kind) → u ≡ t → Has program slots i (ty.Int k) → TermWithin K.uses.taken i → Named o u (of_term p) → Named o t (of_term (Term.Move back p i))
     move_by back p i (Some v) t u k same h w n = n ∙ same
     move_by back p i None t u k same h w n =
-        and_then program sound side result K live globals at here (λ v. v ≡ wire.Null) (λ v. v ≡ wire.Null) (of_term p) (λ a k'. of_term i (λ m. given at (moved a (steps back (integer m))) k')) n
-        (λ a q. tested program sound side result K live globals at here (Fits program K (ty.Int k)) (λ v. v ≡ wire.Null) (of_term i) (λ m. moved a (steps back (integer m))) (λ m r. null_moved a (steps back (integer m)) q)
-        (value_fair program sound side result K live globals at here slots held fit i (ty.Int k) h w))
+        and_then most program sound side result K live globals at here (λ v. v ≡ wire.Null) (λ v. v ≡ wire.Null) (of_term p) (λ a k'. of_term i (λ m. given at (moved a (steps back (integer m))) k')) n
+        (λ a q. tested most program sound side result K live globals at here (Fits program K (ty.Int k)) (λ v. v ≡ wire.Null) (of_term i) (λ m. moved a (steps back (integer m))) (λ m r. null_moved a (steps back (integer m)) q)
+        (value_fair most program sound side result K live globals at here slots held fit i (ty.Int k) h w))
 
     same_type : (o : Option Ty) (t u : Ty) (found : (Wire → Tree) → Tree) → t ≡ u → Named o t found → Named o u found
     same_type o t u found e n = subst (λ x. Named o x found) e n
 
     literal_by : (v : Value) (t : Ty) → Has program slots (Term.Lit v) (ty.Ptr t) → Reaches (λ x. x ≡ wire.Null) (of_term (Term.Lit v))
-    literal_by value.Null t h = gives_fair program sound side result K live globals at here (λ x. x ≡ wire.Null) wire.Null refl
+    literal_by value.Null t h = gives_fair most program sound side result K live globals at here (λ x. x ≡ wire.Null) wire.Null refl
     literal_by (value.Int k n) t h = elim (pointer_not_int t k h.0) [ ]
     literal_by (value.Fn f) t h = elim (pointer_not_function t _ h.2) [ ]
     literal_by (value.Ptr p) t h = elim h [ ]
@@ -235,7 +235,7 @@ module _ (program : Program) (sound : IsSound program) (side : Side) (result : T
 
     -- the type of a pointer to a function is known, or it is null
     pub callee : (e : Term) (ts : List Ty) → Has program slots e (ty.Fun ts) → TermWithin K.uses.taken e → (called_type program slots e ≡ Some (ty.Fun ts)) ⊎ Reaches (λ v. v ≡ wire.Null) (of_term e)
-    callee (Term.Lit value.Null) ts h w = inr (gives_fair program sound side result K live globals at here (λ x. x ≡ wire.Null) wire.Null refl)
+    callee (Term.Lit value.Null) ts h w = inr (gives_fair most program sound side result K live globals at here (λ x. x ≡ wire.Null) wire.Null refl)
     callee (Term.Lit (value.Fn f)) ts h w = inl (ap (option_map function_type) h.1 ∙ ap Some (sym h.2))
     callee (Term.Lit (value.Int k n)) ts h w = elim (function_not_int ts k h.0) [ ]
     callee (Term.Lit (value.Ptr p)) ts h w = elim h [ ]
@@ -268,11 +268,11 @@ module _ (program : Program) (sound : IsSound program) (side : Side) (result : T
 
     -- ---- a call's value is stored
 
-    pub store_fair : (p : Lvalue) (o : Option Ty) (from to : Ty) → Designates program slots p (One to) → LvalueWithin K.uses.taken p → Named o to (at_place p) → Becomes from to → (v : Wire) → IsResult program K from v → (t : Tree) → Fair program side result K live t
-        → Fair program side result K live (given at (received (known_of program) o v) (λ x. at_place p (λ q. Tree.Store at q x t)))
+    pub store_fair : (p : Lvalue) (o : Option Ty) (from to : Ty) → Designates program slots p (One to) → LvalueWithin K.uses.taken p → Named o to (at_place p) → Becomes from to → (v : Wire) → IsResult program K from v → (t : Tree) → FairTo most program side result K live t
+        → FairTo most program side result K live (given at (received (known_of program) o v) (λ x. at_place p (λ q. Tree.Store at q x t)))
     store_fair p (Some u) from to d w n b v h t f =
-        given_fair program sound side result K live globals at here (Fits program K to) (received (known_of program) (Some u) v) (λ x. at_place p (λ q. Tree.Store at q x t)) (received_fits program K u from to n b v h)
-        (record { by = λ x fits. (place_fair program sound side result K live globals at here slots held fit p (One to) d w).by (λ q. Tree.Store at q x t) (record { by = λ q points. (here, (to, points, fits), f) }) })
+        given_fair most program sound side result K live globals at here (Fits program K to) (received (known_of program) (Some u) v) (λ x. at_place p (λ q. Tree.Store at q x t)) (received_fits program K u from to n b v h)
+        (record { by = λ x fits. (place_fair most program sound side result K live globals at here slots held fit p (One to) d w).by (λ q. Tree.Store at q x t) (record { by = λ q points. (here, (to, points, fits), f) }) })
     store_fair p None from to d w n b v h t f =
-        given_fair program sound side result K live globals at here (Fits program K from) (received (known_of program) None v) (λ x. at_place p (λ q. Tree.Store at q x t)) (received_as_is program K from v h)
-        (record { by = λ x fits. n.by (λ q. Tree.Store at q x t) (record { by = λ q e. subst (λ y. Fair program side result K live (Tree.Store at y x t)) (sym e) (here, (from, tt, fits), f) }) })
+        given_fair most program sound side result K live globals at here (Fits program K from) (received (known_of program) None v) (λ x. at_place p (λ q. Tree.Store at q x t)) (received_as_is program K from v h)
+        (record { by = λ x fits. n.by (λ q. Tree.Store at q x t) (record { by = λ q e. subst (λ y. FairTo most program side result K live (Tree.Store at y x t)) (sym e) (here, (from, tt, fits), f) }) })

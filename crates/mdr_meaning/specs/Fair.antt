@@ -1,5 +1,5 @@
 -- Fair trees: what is known of the tree of a sound program's code. It names only what there is and what is known, uses values as their types allow, and comes to no stop but its own.
-use Rattle.std.specs.Prelude.{◌≡◌, ℕ, ◌≤◌, Bool, true, false, ◌||◌, ◌==◌, ◌⊎◌, List, [], ◌∷◌, ◌++◌, length, map, Some, slice_get}
+use Rattle.std.specs.Prelude.{◌≡◌, ℕ, ◌≤◌, Bool, true, false, ◌||◌, ◌==◌, ◌⊎◌, List, [], ◌∷◌, ◌++◌, length, map, Some, slice_get, IsTrue}
 use Rattle.mdr_core.specs.declared.kind.Kind.TheVariants.{U8, U32, S32}
 use Rattle.mdr_core.specs.declared.place.At.{At}
 use Rattle.mdr_core.specs.declared.stop.StopKind.{StopKind}
@@ -13,7 +13,7 @@ use Rattle.mdr_core.specs.Code.{Code, Codes}
 use Rattle.mdr_core.specs.Kinds.{is_in_range}
 use Rattle.mdr_core.specs.Services.{Service, Kzalloc, Kcalloc, Kfree, Readl, Writel, Printk, RequestIrq, FreeIrq, Deliver, Combolock, Combounlock, Bug, Enter, Leave, handler_type, service_numbered}
 use Rattle.mdr_core.specs.Sound.{all_cells}
-use Rattle.mdr_core.specs.Types.{HasNoLock}
+use Rattle.mdr_core.specs.Types.{HasNoLock, is_scalar}
 use Rattle.mdr_meaning.specs.declared.shape.Shape64.{Shape64}
 use Rattle.mdr_meaning.specs.declared.wire.Wire.{Wire}
 use Rattle.mdr_meaning.specs.declared.wire.Wire.TheVariants as wire
@@ -206,29 +206,38 @@ pub record IsCall (program : Program) (K : Knowledge) (func : Func) (caller f : 
 
 -- ---- trees
 
--- a tree of a side's code, under a function with this result, where so much is known and these objects of locals live. They are the side's own, and none of them lives when the function ends
-abbrev pub Fair : Program → Side → (result : Ty) → Knowledge → (live : List Wire) → Tree → Type 0
-Fair program side result K live Tree.Idle = ⊥
-Fair program side result K live (Tree.Waits k) = ⊥
-Fair program side result K live (Tree.Done v t) = IsResult program K result v × (live ≡ [])
-Fair program side result K live (Tree.Stop kind at) = IsPlace side at × (is_code_stop kind ≡ true)
-Fair program side result K live (Tree.Tick at d t) = IsPlace side at × (1 ≤ d) × (d ≤ 256) × Fair program side result K live t
-Fair program side result K live (Tree.Load at p k) =
-    IsPlace side at × ((ty : Ty) × PointsTo program K ty p × ((v : Wire) → Fits program K ty v → Fair program side result K live (k v)))
-Fair program side result K live (Tree.Store at p v t) = IsPlace side at × ((ty : Ty) × PointsTo program K ty p × Fits program K ty v) × Fair program side result K live t
-Fair program side result K live (Tree.Read at p n k) = IsPlace side at × PointsTo program K (type.Int U8) p × ((bs : List ℕ) → length bs ≡ n → Fair program side result K live (k bs))
-Fair program side result K live (Tree.Fresh at v k) = IsPlace side at × IsAddress program K v × Fair program side result K live (k v)
-Fair program side result K live (Tree.Birth at shapes k) =
+-- what a scalar's pointer loads; nothing is loaded through another value
+abbrev pub LoadsScalar : Ty → Wire → Type 0
+LoadsScalar ty (wire.Ptr p) = IsTrue (is_scalar ty)
+LoadsScalar ty _ = Unit {0}
+
+-- a tree of a side's code, under a function with this result, where so much is known and these objects of locals live. They are the side's own, and none of them lives when the function ends. At most so many functions are active at a tick, before which a handler of interrupts may run, so that more is known
+abbrev pub FairTo : (most : ℕ) → Program → Side → (result : Ty) → Knowledge → (live : List Wire) → Tree → Type 0
+FairTo most program side result K live Tree.Idle = ⊥
+FairTo most program side result K live (Tree.Waits k) = ⊥
+FairTo most program side result K live (Tree.Done v t) = IsResult program K result v × (live ≡ [])
+FairTo most program side result K live (Tree.Stop kind at) = IsPlace side at × (is_code_stop kind ≡ true)
+FairTo most program side result K live (Tree.Tick at d t) = IsPlace side at × (1 ≤ d) × (d ≤ most) × ((K' : Knowledge) → Grows K K' → FairTo most program side result K' live t)
+FairTo most program side result K live (Tree.Load at p k) =
+    IsPlace side at × ((ty : Ty) × PointsTo program K ty p × LoadsScalar ty p × ((v : Wire) → Fits program K ty v → FairTo most program side result K live (k v)))
+FairTo most program side result K live (Tree.Store at p v t) = IsPlace side at × ((ty : Ty) × PointsTo program K ty p × Fits program K ty v) × FairTo most program side result K live t
+FairTo most program side result K live (Tree.Read at p n k) = IsPlace side at × PointsTo program K (type.Int U8) p × ((bs : List ℕ) → length bs ≡ n → FairTo most program side result K live (k bs))
+FairTo most program side result K live (Tree.Fresh at v k) = IsPlace side at × IsAddress program K v × FairTo most program side result K live (k v)
+FairTo most program side result K live (Tree.Birth at shapes k) =
     IsPlace side at × AreBirths program shapes
-    × ((K' : Knowledge) → Grows K K' → (ps : List Wire) → AreBorn program K' shapes ps → Fair program side result K' (live ++ ps) (k ps))
-Fair program side result K live (Tree.Death at ps t) =
-    IsPlace side at × AreKnown program K ps × ((remains : List Wire) × (live ≡ remains ++ ps) × Fair program side result K remains t)
-Fair program side result K live (Tree.Ask a k) =
+    × ((K' : Knowledge) → Grows K K' → (ps : List Wire) → AreBorn program K' shapes ps → FairTo most program side result K' (live ++ ps) (k ps))
+FairTo most program side result K live (Tree.Death at ps t) =
+    IsPlace side at × AreKnown program K ps × ((remains : List Wire) × (live ≡ remains ++ ps) × FairTo most program side result K remains t)
+FairTo most program side result K live (Tree.Ask a k) =
     IsPlace side a.at
     × ((s : Service) × (service_numbered a.service ≡ Some s) × IsAsk program K a s
     × ((remains : List Wire) × Leaves s a live remains
-    × ((K' : Knowledge) → Grows K K' → (rs : List Wire) → IsServed program K' a s rs → Fair program side result K' (after s remains rs) (k rs))))
-Fair program side result K live (Tree.Cross at f args depth k) =
+    × ((K' : Knowledge) → Grows K K' → (rs : List Wire) → IsServed program K' a s rs → FairTo most program side result K' (after s remains rs) (k rs))))
+FairTo most program side result K live (Tree.Cross at f args depth k) =
     IsPlace side at
     × ((func : Func) × IsCall program K func at.func f args depth
-    × ((K' : Knowledge) → Grows K K' → (v : Wire) → IsResult program K' func.result v → Fair program side result K' live (k v)))
+    × ((K' : Knowledge) → Grows K K' → (v : Wire) → IsResult program K' func.result v → FairTo most program side result K' live (k v)))
+
+-- the same of code that is called: at most 256 functions are active
+abbrev pub Fair : Program → Side → (result : Ty) → Knowledge → (live : List Wire) → Tree → Type 0
+Fair program side result K live t = FairTo 256 program side result K live t

@@ -2,7 +2,7 @@
 
 ghost use Rattle.mdr_meaning.specs.Cut.{CutIsAlike, CutsCut};
 ghost use Rattle.mdr_meaning.specs.FairExpressions.{ExpressionsAreFair, LvaluesAreFair};
-ghost use Rattle.mdr_meaning.specs.FairTrees.{SidesAreOfPrograms, TreesAreFair};
+ghost use Rattle.mdr_meaning.specs.FairTrees.{SidesAreOfPrograms, TreesAreFair, TreesAreFairTo};
 ghost use Rattle.mdr_meaning.specs.Few.{QuestionsAreFew};
 ghost use Rattle.mdr_meaning.specs.Fuel.{FuelIsNoMatter, StartedFuelIsNoMatter, UserTreesAreEqual};
 ghost use Rattle.mdr_meaning.specs.Numbers.{ProgramsAreNumbered};
@@ -63,10 +63,12 @@ pub fn trees_are_placed()
 
 /// The tree of a sound program's function, started with arguments that fit, is fair whatever fitting values it is
 /// answered with: it names known blocks alone, passes on values that fit, asks each service as it wants to be asked,
-/// calls only functions that its code may call, ends its objects of locals, and stops for its own reasons. This holds
-/// on each side of a program; and as a bound on what code does with functions, no bound will do.
+/// calls only functions that its code may call, ends its objects of locals, and stops for its own reasons. So is that of
+/// a function that is started where more functions are active, as a handler of interrupts may be. This holds on each side
+/// of a program; and as a bound on what code does with functions, no bound will do.
 pub fn trees_are_fair()
     ensures fair { TreesAreFair }
+    ensures deep { TreesAreFairTo }
     ensures sides { SidesAreOfPrograms }
     ensures all { AllKeepToIt }
 {}
