@@ -1,1 +1,2 @@
+pub mod FuelLaws
 pub mod WorkedProofs

@@ -1,5 +1,6 @@
 pub mod State
 pub mod Fits
+pub mod Fuel
 pub mod Services
 pub mod Legal
 pub mod Kernel

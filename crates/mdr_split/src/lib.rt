@@ -3,6 +3,8 @@
 //! Definitions, worked examples and laws alone: nothing here runs.
 #![tactic(auto)]
 
+mod laws;
 mod worked;
 
+pub use laws::replies_take_any_fuel;
 pub use worked::messages_are_passed;
