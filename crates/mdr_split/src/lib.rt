@@ -6,5 +6,6 @@
 mod laws;
 mod worked;
 
+pub use laws::refused_messages_change_nothing;
 pub use laws::replies_take_any_fuel;
 pub use worked::messages_are_passed;
