@@ -1,0 +1,3 @@
+pub mod FuelLaws
+pub mod RefusalLaws
+pub mod WorkedProofs

@@ -1,0 +1,160 @@
+-- The kernel half as a machine over answers: it waits at each message that it sends, judges the answer, and goes on.
+use Rattle.std.specs.Prelude.{ℕ, suc, List, [], ◌∷◌, Option, Some, None, Ok, Err, unwrap_or}
+use Rattle.mdr_core.specs.declared.refusal.RefuseKind.TheVariants as refusal
+use Rattle.mdr_core.specs.declared.stop.StopKind.TheVariants as stop
+use Rattle.mdr_extents.specs.Reaching.{visible}
+use Rattle.mdr_meaning.specs.declared.wire.Wire.{Wire}
+use Rattle.mdr_meaning.specs.Tree.{Asked}
+use Rattle.mdr_model.specs.declared.command.Command.{Command}
+use Rattle.mdr_model.specs.declared.message.Fault.{Fault}
+use Rattle.mdr_model.specs.declared.message.Message.{Message}
+use Rattle.mdr_model.specs.declared.message.Message.TheVariants as message
+use Rattle.mdr_model.specs.declared.message.Run.{Run}
+use Rattle.mdr_model.specs.declared.message.Told.{Told}
+use Rattle.mdr_model.specs.declared.outcome.End.{End}
+use Rattle.mdr_model.specs.declared.outcome.End.TheVariants as ends
+use Rattle.mdr_model.specs.declared.reply.Reply.{Reply}
+use Rattle.mdr_model.specs.declared.reply.Reply.TheVariants as replies
+use Rattle.mdr_model.specs.Copies.{agreed_after, put_runs, tells}
+use Rattle.mdr_model.specs.Faults.{fault}
+use Rattle.mdr_model.specs.KernelState.{Reading}
+use Rattle.mdr_model.specs.ReplyFaults.{reply_of, user_stop}
+use Rattle.mdr_plain.specs.Running.{interrupts}
+use Rattle.mdr_plain.specs.Scripts.{Beginning, Did, Opens, begin, first_world, returned}
+use Rattle.mdr_plain.specs.World.{World, Ran, Ended, Stopped, Work, advanced, done}
+use Rattle.mdr_script.specs.declared.bound.Bound.{Bound}
+use Rattle.mdr_split.specs.Legal.{fault_of}
+use Rattle.mdr_split.specs.Services.{counted}
+use Rattle.mdr_split.specs.State.{Kernel, Open, Rest, Noted, Pending, Over, Waits}
+use Rattle.mdr_watched.specs.Driver.{Driver, entry_roots, is_user, touched_by}
+use Rattle.mdr_watched.specs.Views.{closed, opened, taken as with_set, top}
+use Rattle.mdr_watched.specs.Watched.{downcall, held, kernel_of, serves}
+
+-- ---- sending
+
+abbrev pub values_of_result : Wire → List Wire
+values_of_result v = v ∷ []
+
+abbrev pub sent : Driver → World → Told → Kernel → Kernel
+sent d w told k = record { world = w; agreed = agreed_after d.program told k.agreed; exchanges = suc k.exchanges }
+
+abbrev pub over : End → World → Kernel → Pending
+over end w k = Over end (record k { world = w })
+
+-- an upcall begins: its set is taken from its arguments and the globals. A failing pointer is told of the function as a whole
+abbrev pub begins : Driver → (func : ℕ) → (args : List Wire) → World → Work
+begins d f args w = with_set (visible d.program (touched_by d.plan f) w.memory [] (entry_roots d.program f args)) (record { func = f; stmt = 0 }) w (λ set. done (opened set w))
+
+-- and the call is told
+abbrev pub called : Driver → (func : ℕ) → (args : List Wire) → Work → Kernel → List Command → Pending
+called d f args (Ended x w) k script =
+    let told : Told = tells d.program (top w.views) args k.agreed w.memory in
+    Waits (message.Call f 0 w.clock.rest args told) (sent d w told k) (record { func = f; entered = [] }) Noted script
+called d f args (Stopped kind at w) k script = over (ends.Stop kind at) w k
+
+unfoldable pub calls : Driver → (func : ℕ) → (args : List Wire) → World → Kernel → List Command → Pending
+calls d f args w k script = called d f args (begins d f args w) k script
+
+-- a downcall came back, and its set was taken anew: the result is told
+unfoldable pub comes_back : Driver → Wire → World → Kernel → Open → Rest → List Command → Pending
+comes_back d v w k upcall rest script =
+    let told : Told = tells d.program (top w.views) (values_of_result v) k.agreed w.memory in
+    Waits (message.Back w.clock.rest v told) (sent d w told k) upcall rest script
+
+-- a service was done, and its results are told, and no cells
+unfoldable pub answers : Driver → List Wire → World → Kernel → Open → Rest → List Command → Pending
+answers d results w k upcall rest script =
+    let told : Told = tells d.program [] results k.agreed w.memory in
+    Waits (message.Answer results told.deaths told.news) (sent d w told k) upcall rest script
+
+-- ---- the run
+
+-- what follows a command that the kernel half does
+abbrev pub then_split : Work → Kernel → (Kernel → Pending) → Pending
+then_split (Ended x w) k go = go (record k { world = w })
+then_split (Stopped kind at w) k go = over (ends.Stop kind at) w k
+
+abbrev pub split_by : Beginning → Driver → List Command → Kernel → (Kernel → Pending) → Pending
+split_by (Did work) d script k go = then_split work k go
+split_by (Opens f args w) d script k go = calls d f args w k script
+
+-- the commands of a script up to the first message
+unfoldable pub split_commands : Driver → List Command → Kernel → Pending
+split_commands d [] k = Over ends.Ok k
+split_commands d (c ∷ cs) k = split_by (begin (kernel_of d) (is_user d.plan) c k.world) d cs k (λ k'. split_commands d cs k')
+
+-- a legal reply is applied: its ticks are spent, and its runs are stored in the memory and in the agreed copy
+abbrev pub spent : ℕ → List Run → World → World
+spent ticks runs w = record w { memory = put_runs runs w.memory; clock = advanced ticks w.clock }
+
+unfoldable pub applied : ℕ → List Run → Kernel → Kernel
+applied ticks runs k = record k { world = spent ticks runs k.world; agreed = put_runs runs k.agreed }
+
+-- the upcall ended: its result is noted, and then the interrupt rule is tried
+abbrev pub ended : Driver → Wire → World → Work
+ended d v w = returned (interrupts (kernel_of d)) (Ended v (closed w))
+
+abbrev pub continued : Driver → Wire → Kernel → Rest → List Command → Pending
+continued d v k Noted script = then_split (ended d v k.world) k (λ k'. split_commands d script k')
+
+abbrev pub downcalled : Driver → Ran Wire → Kernel → Open → Rest → List Command → Pending
+downcalled d (Ended v w) k upcall rest script = comes_back d v w k upcall rest script
+downcalled d (Stopped kind at w) k upcall rest script = over (ends.Stop kind at) w k
+
+-- the objects that were born and those that died are counted
+abbrev pub serviced : Driver → Asked → Ran (List Wire) → Kernel → Open → Rest → List Command → Pending
+serviced d asked (Ended results w) k upcall rest script = answers d results w k (counted asked results upcall) rest script
+serviced d asked (Stopped kind at w) k upcall rest script = over (ends.Stop kind at) w k
+
+-- a reply with a fault ends the run, and nothing of it is applied
+abbrev pub refused : Fault → Kernel → Pending
+refused f k = Over (ends.Refused k.exchanges f.kind f.number) k
+
+-- what a legal reply does. A function of the kernel half runs in place, and a service is done, as where there is one memory
+unfoldable pub taken : Driver → Reply → Kernel → Open → Rest → List Command → Pending
+taken d (replies.Return ticks result runs) k upcall rest script = continued d result (applied ticks runs k) rest script
+taken d (replies.Down ticks at depth func args runs) k upcall rest script =
+    let k' : Kernel = applied ticks runs k in downcalled d (downcall d (held d) upcall.func at func args depth k'.world) k' upcall rest script
+taken d (replies.Ask ticks at service args shapes bytes runs) k upcall rest script =
+    let k' : Kernel = applied ticks runs k in
+    let asked : Asked = record { service = service; at = at; args = args; shapes = shapes; bytes = bytes } in
+    serviced d asked (serves d (held d) upcall.func asked k'.world) k' upcall rest script
+taken d (replies.Stop ticks number at runs) k upcall rest script =
+    Over (ends.Stop (unwrap_or (user_stop number) stop.Bug) (Some at)) (applied ticks runs k)
+
+abbrev pub judged : Driver → Option Fault → Reply → Kernel → Open → Rest → List Command → Pending
+judged d (Some f) reply k upcall rest script = refused f k
+judged d None reply k upcall rest script = taken d reply k upcall rest script
+
+-- a message that is no reply isn't awaited
+abbrev pub answered : Driver → Option Reply → Kernel → Open → Rest → List Command → Pending
+answered d None k upcall rest script = refused (fault refusal.NotAwaited 0) k
+answered d (Some reply) k upcall rest script = judged d (fault_of d k upcall rest reply) reply k upcall rest script
+
+-- the next state after an answer
+unfoldable pub next : Driver → Reading → Kernel → Open → Rest → List Command → Pending
+next d (Err f) k upcall rest script = refused f k
+next d (Ok m) k upcall rest script = answered d (reply_of m) k upcall rest script
+
+-- the globals are agreed as they are born
+abbrev pub beginning : World → Kernel
+beginning w = record { world = w; agreed = w.memory; exchanges = 0 }
+
+unfoldable pub first_kernel : Driver → Bound → (budget : ℕ) → Kernel
+first_kernel d script budget = beginning (first_world d.kernel.known script budget)
+
+-- the messages sent, and where the run stands after the answers
+pub record SplitRun : Type 0 where
+  pub sent : List Message
+  pub pending : Pending
+
+unfoldable pub run_from_pending : Driver → List Reading → Pending → SplitRun
+run_from_pending d readings (Over end k) = record { sent = []; pending = Over end k }
+run_from_pending d [] (Waits m k upcall rest script) = record { sent = m ∷ []; pending = Waits m k upcall rest script }
+run_from_pending d (a ∷ readings) (Waits m k upcall rest script) =
+    let later : SplitRun = run_from_pending d readings (next d a k upcall rest script) in
+    record { sent = m ∷ later.sent; pending = later.pending }
+
+-- the split run of a script under a budget of ticks, over the answers in turn
+unfoldable pub split_run : Driver → Bound → (budget : ℕ) → List Reading → SplitRun
+split_run d script budget readings = run_from_pending d readings (split_commands d script.commands (first_kernel d script budget))

@@ -1,0 +1,11 @@
+pub mod State
+pub mod Fits
+pub mod Fuel
+pub mod Services
+pub mod Legal
+pub mod Kernel
+pub mod User
+pub mod Law
+pub mod AnyAnswers
+pub mod Refusals
+pub mod Worked

@@ -1,0 +1,97 @@
+-- Small drivers in two halves, worked out: the messages of their runs.
+use Rattle.std.specs.Prelude.{◌≡◌, ℕ, Bool, true, false, List, [], ◌∷◌, codes, pos}
+use Rattle.mdr_core.specs.declared.kind.Kind.TheVariants.{U32}
+use Rattle.mdr_core.specs.declared.plan.Key.TheVariants as key
+use Rattle.mdr_core.specs.declared.types.Ty.TheVariants as ty
+use Rattle.mdr_meaning.specs.declared.wire.Wire.{Wire}
+use Rattle.mdr_meaning.specs.declared.wire.Wire.TheVariants as wire
+use Rattle.mdr_meaning.specs.Sides.{Body}
+use Rattle.mdr_meaning.specs.Worked.{add, at_stmt, body, calls as calls_func, glob, node, node_pointer, number, u32}
+use Rattle.mdr_model.specs.declared.message.Message.{Message}
+use Rattle.mdr_model.specs.declared.message.Message.TheVariants as message
+use Rattle.mdr_model.specs.declared.message.Run.{Run}
+use Rattle.mdr_model.specs.declared.message.SetRun.{SetRun}
+use Rattle.mdr_model.specs.declared.message.Told.{Told}
+use Rattle.mdr_model.specs.declared.outcome.End.TheVariants as ends
+use Rattle.mdr_model.specs.Law.{read}
+use Rattle.mdr_plain.specs.Outcome.{outcome_of}
+use Rattle.mdr_plain.specs.Scripts.{finish}
+use Rattle.mdr_plain.specs.Worked.{calls, just, named, of_type, serves, zero_u32}
+use Rattle.mdr_plain.specs.WorkedInterrupts.{sets}
+use Rattle.mdr_script.specs.declared.bound.Bound.{Bound}
+use Rattle.mdr_split.specs.Kernel.{split_run}
+use Rattle.mdr_split.specs.Law.{IsHonest}
+use Rattle.mdr_split.specs.State.{Kernel, Over}
+use Rattle.mdr_watched.specs.Driver.{Driver}
+use Rattle.mdr_watched.specs.Watched.{watched_of}
+use Rattle.mdr_watched.specs.Worked.{cut}
+
+-- ---- words
+
+-- functions of the kernel half that user code may call
+abbrev pub with_stubs : List Bool → Driver → Driver
+with_stubs down d = record d { plan = record d.plan { down = down } }
+
+-- ---- u32 count; void bump(void){count=count+1;} void open(void){bump(); writel(count,4); bump();}   where `open` is of the user half
+
+abbrev pub bumps : Body
+bumps = body [] ty.Void (sets 1 0 (add (glob 0) (number 1)) ∷ [])
+
+abbrev pub opens : Body
+opens = body [] ty.Void (calls_func 1 0 [] ∷ serves 2 5 (glob 0 ∷ number 4 ∷ []) ∷ calls_func 3 0 [] ∷ [])
+
+abbrev pub bump : Driver
+bump = with_stubs (true ∷ false ∷ [])
+    (cut
+    (record {
+      struct = node;
+      pointer = node_pointer;
+      globals = of_type u32 (zero_u32 ∷ []) ∷ [];
+      funcs = named (codes "bump") ∷ named (codes "open") ∷ [];
+      bodies = bumps ∷ opens ∷ [];
+    })
+    (false ∷ true ∷ [])
+    ([] ∷ (key.Global 0 ∷ []) ∷ []))
+
+abbrev pub call_open : Bound
+call_open = just (calls 1 ∷ [])
+
+abbrev pub u32_value : ℕ → Wire
+u32_value n = wire.Int U32 (pos n)
+
+-- the one global, visible
+abbrev pub count_view : List SetRun
+count_view = record { serial = 0; first = 0; len = 1 } ∷ []
+
+-- and its value
+abbrev pub count_is : ℕ → List Run
+count_is n = record { serial = 0; first = 0; values = u32_value n ∷ [] } ∷ []
+
+-- a message that tells of it and of these changes, and of no births and deaths
+abbrev pub count_told : List Run → Told
+count_told runs = record { deaths = []; news = []; view = count_view; runs = runs }
+
+abbrev pub bump_sent : List Message
+bump_sent =
+    message.Call 1 0 1000000 [] (count_told [])
+    ∷ message.Back 999998 wire.NoValue (count_told (count_is 1))
+    ∷ message.Answer [] [] []
+    ∷ message.Back 999995 wire.NoValue (count_told (count_is 2))
+    ∷ []
+
+abbrev pub bump_answers : List Message
+bump_answers =
+    message.Down 1 (at_stmt 1 1) 1 0 [] []
+    ∷ message.Ask 1 (at_stmt 1 2) 5 (u32_value 1 ∷ u32_value 4 ∷ []) [] [] []
+    ∷ message.Down 1 (at_stmt 1 3) 1 0 [] []
+    ∷ message.Return 0 wire.NoValue []
+    ∷ []
+
+-- the eight messages: these are sent over these answers, these answers are honest, and the run is over with the outcome of the watched run
+pub record BumpSends : Type 0 where
+  pub sent : (split_run bump call_open 1000000 (read bump_answers)).sent ≡ bump_sent
+  pub honest : IsHonest bump [] bump_sent bump_answers
+  pub kernel : Kernel
+  pub over : (split_run bump call_open 1000000 (read bump_answers)).pending ≡ Over ends.Ok kernel
+  pub outcome : outcome_of bump.program (finish ends.Ok kernel.world) ≡ outcome_of bump.program (watched_of bump call_open 1000000)
+  pub exchanges : kernel.exchanges ≡ 4
