@@ -4,6 +4,10 @@
 #[cfg(test)]
 mod arithmetic;
 #[cfg(test)]
+mod expect;
+#[cfg(test)]
+mod hex;
+#[cfg(test)]
 mod items;
 #[cfg(test)]
 mod messages;
