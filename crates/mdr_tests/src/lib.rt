@@ -18,6 +18,8 @@ mod paths;
 #[cfg(test)]
 mod report;
 #[cfg(test)]
+mod top;
+#[cfg(test)]
 mod user;
 #[cfg(test)]
 mod worked;
