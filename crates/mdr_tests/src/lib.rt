@@ -4,6 +4,10 @@
 #[cfg(test)]
 mod arithmetic;
 #[cfg(test)]
+mod expect;
+#[cfg(test)]
+mod hex;
+#[cfg(test)]
 mod items;
 #[cfg(test)]
 mod messages;
@@ -13,6 +17,8 @@ mod outside;
 mod paths;
 #[cfg(test)]
 mod report;
+#[cfg(test)]
+mod top;
 #[cfg(test)]
 mod user;
 #[cfg(test)]

@@ -4,24 +4,16 @@ mod damaged;
 mod large;
 mod whole;
 
+use mdr_msg::{Message, can_encode, encode};
 use std::alloc::Global;
 use std::test::Fail;
 
-fn digit(letter: u8) -> u8 {
-    if letter >= b'a' {
-        letter.wrapping_sub(b'a').wrapping_add(10)
-    } else {
-        letter.wrapping_sub(b'0')
+fn written(alloc: Global, message: &Message) -> Result<Vec<u8>, Fail> {
+    if !can_encode(message) {
+        return Err("the message has no spelling".into());
     }
-}
-
-/// The bytes that pairs of hexadecimal digits are.
-fn bytes_of(alloc: Global, hex: &str) -> Result<Vec<u8>, Fail> {
-    let mut bytes = Vec::new(alloc);
-    for pair in hex.as_bytes().chunks(2) {
-        if let [high, low] = pair {
-            bytes.push(digit(*high).wrapping_mul(16).wrapping_add(digit(*low)))?;
-        }
+    match encode(alloc, message) {
+        Ok(bytes) => Ok(bytes),
+        Err(_) => Err("memory was wanting".into()),
     }
-    Ok(bytes)
 }

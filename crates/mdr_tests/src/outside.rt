@@ -2,5 +2,5 @@
 
 mod far;
 mod files;
-mod shelf;
+pub(crate) mod shelf;
 mod sink;

@@ -63,12 +63,11 @@ fn types(alloc: Global) -> Result<Items<Ty>, Fail> {
 fn program(alloc: Global) -> Result<Program, Fail> {
     let types = types(alloc)?;
     let globals = globals(alloc)?;
-    let funcs = funcs(alloc)?;
     Ok(Program {
         types,
         structs: Items::new(alloc),
         globals,
-        funcs,
+        funcs: funcs(alloc)?,
     })
 }
 
@@ -114,18 +113,30 @@ fn outcome(alloc: Global, end: End) -> Result<Outcome, Fail> {
     })
 }
 
+fn printed(alloc: Global, program: &Program, outcome: &Outcome) -> Result<Vec<u8>, Fail> {
+    match report(alloc, program, outcome) {
+        Ok(text) => Ok(text),
+        Err(_) => Err("memory was wanting".into()),
+    }
+}
+
+/// The report of a run that ended so.
+fn report_of(alloc: Global, program: &Program, end: End) -> Result<Vec<u8>, Fail> {
+    let outcome = outcome(alloc, end)?;
+    let text = printed(alloc, program, &outcome);
+    drop(outcome);
+    text
+}
+
 /// The report of a run that ended so has this line.
-fn is_told(
+fn expect_line(
     rt: &impl Abort,
     alloc: Global,
     program: &Program,
     end: End,
     line: &str,
 ) -> Result<(), Fail> {
-    let outcome = outcome(alloc, end)?;
-    let printed = report(alloc, program, &outcome)
-        .ok()
-        .ok_or("memory was wanting")?;
+    let printed = report_of(alloc, program, end)?;
     let expected = format!(in alloc;
         "call open -7 null\nW 4 1\nret none\nret &bump\nret held\n{line}\nticks 5\nlive 3\nobj 1 u32 x1: 2\nobj 2 s8 x2: -128 null\nobj 3 combolock_t x4: free held @2+1 &open\n"
     )?;
@@ -133,25 +144,34 @@ fn is_told(
     Ok(())
 }
 
-#[test]
-fn prints_events_end_and_objects(rt: HostRuntime) -> Result<(), Fail> {
-    let alloc = rt.alloc();
-    let program = program(alloc)?;
-    let place = At { func: 1, stmt: 2 };
-    for (end, line) in [
-        (End::Ok, "end ok"),
-        (
-            End::Stop(StopKind::Bounds, Some(place)),
-            "stop Bounds at open 2",
-        ),
-        (End::Stop(StopKind::Ticks, None), "stop Ticks at -"),
-        (
-            End::Refused(3, RefuseKind::NotAwaited, 0),
-            "refused 3 NotAwaited 0",
-        ),
-        (End::FarFault(2), "far fault 2"),
-    ] {
-        is_told(&rt, alloc, &program, end, line)?;
+const PLACE: At = At { func: 1, stmt: 2 };
+
+/// Ends of a run, and the lines that tell them.
+const ENDS: &[(End, &str)] = &[
+    (End::Ok, "end ok"),
+    (
+        End::Stop(StopKind::Bounds, Some(PLACE)),
+        "stop Bounds at open 2",
+    ),
+    (End::Stop(StopKind::Ticks, None), "stop Ticks at -"),
+    (
+        End::Refused(3, RefuseKind::NotAwaited, 0),
+        "refused 3 NotAwaited 0",
+    ),
+    (End::FarFault(2), "far fault 2"),
+];
+
+fn expect_ends(rt: &impl Abort, alloc: Global, program: &Program) -> Result<(), Fail> {
+    for (end, line) in ENDS {
+        expect_line(rt, alloc, program, *end, line)?;
     }
     Ok(())
+}
+
+#[test]
+fn prints_events_end_and_objects(rt: HostRuntime) -> Result<(), Fail> {
+    let program = program(rt.alloc())?;
+    let told = expect_ends(&rt, rt.alloc(), &program);
+    drop(program);
+    told
 }

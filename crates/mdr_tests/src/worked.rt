@@ -6,13 +6,12 @@
 
 mod walk;
 
-use mdr_core::{OutOfMemory, Program};
+use mdr_core::{Func, Program};
 use mdr_source::{Refusal, Source, source};
 use std::alloc::Global;
-use std::mem;
 use std::process::Abort;
 use std::test::Fail;
-use walk::put_function;
+use walk::{Text, put_function};
 
 /// The network driver, `examples/nic.c`.
 const NIC: &str = "#include <linux/module.h>
@@ -172,65 +171,57 @@ U8
 8 slot 5 = conv S64(Sub S32(conv S32(load(slot 1)), conv S32(load(object 2[Int(S32, 1)]))))
 9 return conv U8(load(slot 5))";
 
+/// A function's number in its source, and its code.
+type Worked = (usize, &'static str);
+
 /// A function's code is this text.
-fn is_worked(
-    rt: &impl Abort,
-    alloc: Global,
-    program: &Program,
-    number: usize,
-    worked: &str,
-) -> Result<(), Fail> {
-    let mut text = String::new(alloc);
-    if let Some(func) = program.funcs.as_slice().get(number) {
-        put_function(alloc, &mut text, func)?;
+fn expect_code(rt: &impl Abort, alloc: Global, func: Option<&Func>, code: &str) {
+    let mut text = Text::new(alloc);
+    if let Some(func) = func {
+        put_function(&mut text, func);
     }
-    assert_eq!(rt; text.as_str(), worked);
-    Ok(())
+    assert_eq!(rt; text.whole(), Some(code));
 }
 
-fn program_of(read: &Result<Result<Source, Refusal>, OutOfMemory>) -> Option<&Program> {
-    match read {
-        Ok(Ok(source)) => Some(&source.program),
-        Ok(Err(_)) => None,
-        Err(_) => None,
+fn expect_codes(rt: &impl Abort, alloc: Global, program: &Program, rows: &[Worked]) {
+    for (number, code) in rows {
+        expect_code(rt, alloc, program.funcs.as_slice().get(*number), code);
     }
 }
 
-/// The functions of these numbers in a program have these codes.
-fn are_in(
+fn expect_made(
     rt: &impl Abort,
     alloc: Global,
-    program: Option<&Program>,
-    worked: &[(usize, &str)],
+    made: Result<Source, Refusal>,
+    rows: &[Worked],
 ) -> Result<(), Fail> {
-    let program = program.ok_or("the source is a program")?;
-    for (number, code) in worked {
-        is_worked(rt, alloc, program, *number, code)?;
-    }
-    Ok(())
-}
-
-/// The functions of these numbers in a source have these codes. The source isn't let go of: the test ends with it.
-fn are_worked(
-    rt: &impl Abort,
-    alloc: Global,
-    text: &str,
-    worked: &[(usize, &str)],
-) -> Result<(), Fail> {
-    let read = source(alloc, text.as_bytes());
-    let told = are_in(rt, alloc, program_of(&read), worked);
-    mem::forget(read);
+    let told = match &made {
+        Ok(source) => {
+            expect_codes(rt, alloc, &source.program, rows);
+            Ok(())
+        }
+        Err(_) => Err("the source is a program".into()),
+    };
+    drop(made);
     told
 }
 
+/// The functions of these numbers in a source have these codes.
+fn expect_worked(rt: &impl Abort, alloc: Global, text: &str, rows: &[Worked]) -> Result<(), Fail> {
+    let made = source(alloc, text.as_bytes())?;
+    expect_made(rt, alloc, made, rows)
+}
+
+const NIC_CODES: &[Worked] = &[(3, PROBE), (5, TRANSMIT), (6, IOCTL)];
+
 #[test]
 fn the_network_drivers_code(rt: HostRuntime) -> Result<(), Fail> {
-    let alloc = rt.alloc();
-    are_worked(&rt, alloc, NIC, &[(3, PROBE), (5, TRANSMIT), (6, IOCTL)])
+    expect_worked(&rt, rt.alloc(), NIC, NIC_CODES)
 }
+
+const MIXED_CODES: &[Worked] = &[(0, MIXED_CODE)];
 
 #[test]
 fn code_with_conversions(rt: HostRuntime) -> Result<(), Fail> {
-    let alloc = rt.alloc();
-    are_worked(&rt, alloc, MIXED, &[(0, MIXED_CODE)])
+    expect_worked(&rt, rt.alloc(), MIXED, MIXED_CODES)
 }

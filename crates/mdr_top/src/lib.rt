@@ -16,6 +16,3 @@ mod words;
 pub use laws::run_is_meaning;
 pub use mdr_due::Status;
 pub use top::run;
-
-#[cfg(test)]
-mod tests;

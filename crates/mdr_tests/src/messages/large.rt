@@ -1,8 +1,10 @@
 // A message with many runs, to measure by: time goes with the number of bytes.
 
+use super::written;
 use mdr_core::{Items, Kind};
-use mdr_msg::{Message, Run, Wire, can_encode, decode, encode};
+use mdr_msg::{Message, Run, Wire, decode};
 use std::alloc::Global;
+use std::process::Abort;
 use std::test::Fail;
 
 const RUNS: u64 = 100_000;
@@ -29,24 +31,28 @@ fn many_runs(alloc: Global) -> Result<Message, Fail> {
     })
 }
 
-fn written(alloc: Global, message: &Message) -> Result<Vec<u8>, Fail> {
-    if can_encode(message) {
-        Ok(encode(alloc, message).ok().ok_or("memory was wanting")?)
-    } else {
-        Err("the message has no spelling")?
-    }
+fn is_message(alloc: Global, bytes: &[u8]) -> bool {
+    let read = decode(alloc, bytes);
+    let is_ok = read.is_ok();
+    drop(read);
+    is_ok
 }
 
-fn is_message(alloc: Global, bytes: &[u8]) -> bool {
-    decode(alloc, bytes).is_ok()
+fn expect_large(rt: &impl Abort, alloc: Global, bytes: &[u8]) {
+    assert_eq!(rt; bytes.len(), 2_400_020);
+    assert!(rt; is_message(alloc, bytes));
+}
+
+fn many_bytes(alloc: Global) -> Result<Vec<u8>, Fail> {
+    let message = many_runs(alloc)?;
+    let bytes = written(alloc, &message);
+    drop(message);
+    bytes
 }
 
 #[test]
 fn a_message_of_many_runs_is_written_and_read(rt: HostRuntime) -> Result<(), Fail> {
-    let alloc = rt.alloc();
-    let message = many_runs(alloc)?;
-    let bytes = written(alloc, &message)?;
-    assert_eq!(rt; bytes.len(), 2_400_020);
-    assert!(rt; is_message(alloc, bytes.as_slice()));
+    let bytes = many_bytes(rt.alloc())?;
+    expect_large(&rt, rt.alloc(), bytes.as_slice());
     Ok(())
 }

@@ -1,68 +1,74 @@
 // The adapters over real files, in the folder where the test runs.
 
-use super::shelf::{bytes_of, word_of};
-use mdr_outside::{FolderShelf, OutSink, ReadAnswer, Shelf, Sink, SinkAnswer, WriteAnswer};
-use std::alloc::Global;
+use super::shelf::{Read, Written, expect_reads, is_written};
+use super::sink::{Piece, expect_pieces};
+use crate::expect::expect;
+use mdr_outside::{FolderShelf, OutSink, SinkAnswer, WriteAnswer};
+use std::alloc::AllocGlobal;
+use std::fs::Files;
+use std::process::Abort;
 use std::test::Fail;
 use std::{fs, io};
 
-fn read_of<S: Shelf>(shelf: &mut S, alloc: Global, name: &str, limit: u64) -> ReadAnswer {
-    shelf.read(alloc, name, limit)
-}
+const WRITES: &[Written] = &[
+    ("shelf.txt", b"123456", WriteAnswer::Ok),
+    ("shelf.txt", b"12345", WriteAnswer::Ok),
+    ("absent/a.txt", b"1", WriteAnswer::Failed),
+];
 
-fn write_to<S: Shelf>(shelf: &mut S, alloc: Global, name: &str, bytes: &[u8]) -> WriteAnswer {
-    shelf.write(alloc, name, bytes)
+const READS: &[Read] = &[
+    ("absent.txt", 10, "missing", b""),
+    ("shelf.txt", 4, "too large", b""),
+    ("shelf.txt", 5, "ok", b"12345"),
+    ("shelf.txt", u64::MAX, "ok", b"12345"),
+    (".", 10, "failed", b""),
+    ("no\0name", 10, "failed", b""),
+];
+
+fn writes_and_reads<R: Abort + AllocGlobal + Files>(rt: &R) {
+    let mut shelf = FolderShelf::new(rt);
+    for write in WRITES {
+        expect(rt, is_written(rt.alloc(), &mut shelf, write), write);
+    }
+    expect_reads(rt, rt.alloc(), &mut shelf, READS);
 }
 
 #[test]
 fn reads_and_writes_files(rt: HostRuntime) -> Result<(), Fail> {
-    let mut shelf = FolderShelf::new(&rt);
-    assert_eq!(rt;
-        write_to(&mut shelf, rt.alloc(), "shelf.txt", b"123456"),
-        WriteAnswer::Ok
-    );
-    assert_eq!(rt;
-        write_to(&mut shelf, rt.alloc(), "shelf.txt", b"12345"),
-        WriteAnswer::Ok
-    );
-    assert_eq!(rt;
-        write_to(&mut shelf, rt.alloc(), "absent/a.txt", b"1"),
-        WriteAnswer::Failed
-    );
-    for (name, limit, word, bytes) in [
-        ("absent.txt", 10, "missing", b"".as_slice()),
-        ("shelf.txt", 4, "too large", b"".as_slice()),
-        ("shelf.txt", 5, "ok", b"12345".as_slice()),
-        ("shelf.txt", u64::MAX, "ok", b"12345".as_slice()),
-        (".", 10, "failed", b"".as_slice()),
-        ("no\0name", 10, "failed", b"".as_slice()),
-    ] {
-        let answer = read_of(&mut shelf, rt.alloc(), name, limit);
-        assert_eq!(rt; word_of(&answer), word, "at {name} {limit}");
-        assert_eq!(rt; bytes_of(&answer), bytes, "at {name} {limit}");
-    }
+    writes_and_reads(&rt);
     fs::remove_file(&rt, "shelf.txt")?;
     Ok(())
 }
 
-fn write_out<S: Sink>(sink: &mut S, piece: &[u8]) -> SinkAnswer {
-    sink.write(piece)
+const LINES: &[Piece] = &[
+    (b"one\n", SinkAnswer::Ok(4)),
+    (b"", SinkAnswer::Ok(0)),
+    (b"two\n", SinkAnswer::Ok(4)),
+];
+
+const THREE: &[Piece] = &[(b"three\n", SinkAnswer::Failed)];
+
+/// A file that is made takes lines, and one that is open to be read doesn't.
+fn writes_lines<R: Abort + Files>(rt: &R) -> Result<(), Fail> {
+    let made = fs::create(rt, "out.txt")?;
+    expect_pieces(rt, &mut OutSink::new(made), LINES);
+    let open = fs::open(rt, "out.txt")?;
+    expect_pieces(rt, &mut OutSink::new(open), THREE);
+    Ok(())
 }
+
+fn are_lines(rt: &HostRuntime) -> Result<bool, Fail> {
+    let bytes = fs::read(rt, "out.txt")?;
+    Ok(bytes.as_slice() == b"one\ntwo\n".as_slice())
+}
+
+const WRITTEN: &[Piece] = &[(b"written\n", SinkAnswer::Ok(8))];
 
 #[test]
 fn writes_out(rt: HostRuntime) -> Result<(), Fail> {
-    let mut sink = OutSink::new(fs::create(&rt, "out.txt")?);
-    assert_eq!(rt; write_out(&mut sink, b"one\n"), SinkAnswer::Ok(4));
-    assert_eq!(rt; write_out(&mut sink, b""), SinkAnswer::Ok(0));
-    assert_eq!(rt; write_out(&mut sink, b"two\n"), SinkAnswer::Ok(4));
-    assert_eq!(rt;
-        fs::read(&rt, "out.txt")?.as_slice(),
-        b"one\ntwo\n".as_slice()
-    );
-    let mut sink = OutSink::new(fs::open(&rt, "out.txt")?);
-    assert_eq!(rt; write_out(&mut sink, b"three\n"), SinkAnswer::Failed);
-    let mut sink = OutSink::new(io::writer(&rt));
-    assert_eq!(rt; write_out(&mut sink, b"written\n"), SinkAnswer::Ok(8));
+    writes_lines(&rt)?;
+    assert!(rt; are_lines(&rt)?);
+    expect_pieces(&rt, &mut OutSink::new(io::writer(&rt)), WRITTEN);
     fs::remove_file(&rt, "out.txt")?;
     Ok(())
 }

@@ -1,11 +1,12 @@
 // The shelf in memory.
 
+use crate::expect::expect;
 use mdr_outside::{MapShelf, ReadAnswer, Shelf, WriteAnswer};
-use std::alloc::Global;
+use std::alloc::{AllocError, AllocGlobal, Global};
 use std::process::Abort;
 use std::test::Fail;
 
-pub(super) fn word_of(answer: &ReadAnswer) -> &'static str {
+fn word_of(answer: &ReadAnswer) -> &'static str {
     match answer {
         ReadAnswer::Ok(_) => "ok",
         ReadAnswer::Missing => "missing",
@@ -15,140 +16,164 @@ pub(super) fn word_of(answer: &ReadAnswer) -> &'static str {
     }
 }
 
-pub(super) fn bytes_of(answer: &ReadAnswer) -> &[u8] {
+fn bytes_of(answer: &ReadAnswer) -> &[u8] {
     match answer {
         ReadAnswer::Ok(bytes) => bytes.as_slice(),
         _ => &[],
     }
 }
 
-fn read_of<S: Shelf>(shelf: &mut S, alloc: Global, name: &str, limit: u64) -> ReadAnswer {
-    shelf.read(alloc, name, limit)
+/// A read's name and limit, and the word and the bytes of its answer.
+pub(crate) type Read = (&'static str, u64, &'static str, &'static [u8]);
+
+fn is_answer(answer: ReadAnswer, word: &str, bytes: &[u8]) -> bool {
+    word_of(&answer) == word && bytes_of(&answer) == bytes
 }
 
-fn write_to<S: Shelf>(shelf: &mut S, alloc: Global, name: &str, bytes: &[u8]) -> WriteAnswer {
-    shelf.write(alloc, name, bytes)
+pub(crate) fn is_read<S: Shelf>(alloc: Global, shelf: &mut S, read: &Read) -> bool {
+    let (name, limit, word, bytes) = read;
+    is_answer(shelf.read(alloc, name, *limit), word, bytes)
 }
 
-fn file(alloc: Global, name: &str, bytes: &[u8]) -> Result<(String, Vec<u8>), Fail> {
-    Ok((
-        String::from_str(alloc, name)?,
-        Vec::from_slice(alloc, bytes)?,
-    ))
+pub(super) fn expect_reads<S: Shelf>(rt: &impl Abort, alloc: Global, shelf: &mut S, rows: &[Read]) {
+    for read in rows {
+        expect(rt, is_read(alloc, shelf, read), read);
+    }
 }
 
-fn two_files<R: Abort + AllocGlobal>(rt: &R, fails: &[u64]) -> Result<MapShelf, Fail> {
-    let alloc = rt.alloc();
+/// A write's name and bytes, and its answer.
+pub(super) type Written = (&'static str, &'static [u8], WriteAnswer);
+
+pub(super) fn is_written<S: Shelf>(alloc: Global, shelf: &mut S, write: &Written) -> bool {
+    let (name, bytes, answer) = write;
+    shelf.write(alloc, name, bytes) == *answer
+}
+
+fn file(alloc: Global, name: &str, bytes: &[u8]) -> Result<(String, Vec<u8>), AllocError> {
+    let name = String::from_str(alloc, name)?;
+    Ok((name, Vec::from_slice(alloc, bytes)?))
+}
+
+pub(crate) fn files_of(
+    alloc: Global,
+    rows: &[(&str, &[u8])],
+) -> Result<Vec<(String, Vec<u8>)>, AllocError> {
     let mut files = Vec::new(alloc);
-    files.push(file(alloc, "five", b"12345")?)?;
-    files.push(file(alloc, "empty", b"")?)?;
-    assert!(rt; MapShelf::can_hold(&files));
-    Ok(MapShelf::new(files, Vec::from_slice(alloc, fails)?))
+    for (name, bytes) in rows {
+        files.push(file(alloc, name, bytes)?)?;
+    }
+    Ok(files)
 }
+
+pub(crate) fn shelf_of(
+    rt: &impl Abort,
+    files: Vec<(String, Vec<u8>)>,
+    fails: Vec<u64>,
+) -> MapShelf {
+    assert!(rt; MapShelf::can_hold(&files));
+    MapShelf::new(files, fails)
+}
+
+/// A shelf with the files `five` and `empty`, whose calls with these numbers fail.
+fn two_files<R: Abort + AllocGlobal>(rt: &R, fails: &[u64]) -> Result<MapShelf, AllocError> {
+    let alloc = rt.alloc();
+    let fails = Vec::from_slice(alloc, fails)?;
+    let files = files_of(alloc, &[("five", b"12345"), ("empty", b"")])?;
+    Ok(shelf_of(rt, files, fails))
+}
+
+const READS: &[Read] = &[
+    ("absent", 10, "missing", b""),
+    ("five", 4, "too large", b""),
+    ("five", 5, "ok", b"12345"),
+    ("five", u64::MAX, "ok", b"12345"),
+    ("empty", 0, "ok", b""),
+    ("", 10, "missing", b""),
+    ("five", 5, "failed", b""),
+    ("five", 5, "ok", b"12345"),
+];
 
 #[test]
 fn reads(rt: HostRuntime) -> Result<(), Fail> {
     let mut shelf = two_files(&rt, &[7])?;
-    for (name, limit, word, bytes) in [
-        ("absent", 10, "missing", b"".as_slice()),
-        ("five", 4, "too large", b"".as_slice()),
-        ("five", 5, "ok", b"12345".as_slice()),
-        ("five", u64::MAX, "ok", b"12345".as_slice()),
-        ("empty", 0, "ok", b"".as_slice()),
-        ("", 10, "missing", b"".as_slice()),
-        ("five", 5, "failed", b"".as_slice()),
-        ("five", 5, "ok", b"12345".as_slice()),
-    ] {
-        let answer = read_of(&mut shelf, rt.alloc(), name, limit);
-        assert_eq!(rt; word_of(&answer), word, "at {name} {limit}");
-        assert_eq!(rt; bytes_of(&answer), bytes, "at {name} {limit}");
-    }
+    expect_reads(&rt, rt.alloc(), &mut shelf, READS);
+    drop(shelf);
     Ok(())
+}
+
+/// A write, and the files `five` and `new` after it.
+type Change = (Written, &'static [u8], Option<&'static [u8]>);
+
+const CHANGES: &[Change] = &[
+    (("five", b"6", WriteAnswer::Ok), b"6", None),
+    (("five", b"77", WriteAnswer::Failed), b"6", None),
+    (("new", b"888", WriteAnswer::Ok), b"6", Some(b"888")),
+    (("new", b"9", WriteAnswer::Failed), b"6", Some(b"888")),
+    (("five", b"", WriteAnswer::Ok), b"", Some(b"888")),
+];
+
+fn is_file(file: Option<&[u8]>, bytes: Option<&[u8]>) -> bool {
+    match (file, bytes) {
+        (Some(file), Some(bytes)) => file == bytes,
+        (None, None) => true,
+        _ => false,
+    }
+}
+
+fn is_change(alloc: Global, shelf: &mut MapShelf, change: &Change) -> bool {
+    let (write, five, new) = change;
+    is_written(alloc, shelf, write)
+        && is_file(shelf.file("five"), Some(five))
+        && is_file(shelf.file("empty"), Some(b""))
+        && is_file(shelf.file("new"), *new)
 }
 
 #[test]
 fn writes(rt: HostRuntime) -> Result<(), Fail> {
     let mut shelf = two_files(&rt, &[2, 4])?;
-    for (name, bytes, answer, five, new) in [
-        (
-            "five",
-            b"6".as_slice(),
-            WriteAnswer::Ok,
-            b"6".as_slice(),
-            None,
-        ),
-        (
-            "five",
-            b"77".as_slice(),
-            WriteAnswer::Failed,
-            b"6".as_slice(),
-            None,
-        ),
-        (
-            "new",
-            b"888".as_slice(),
-            WriteAnswer::Ok,
-            b"6".as_slice(),
-            Some(b"888".as_slice()),
-        ),
-        (
-            "new",
-            b"9".as_slice(),
-            WriteAnswer::Failed,
-            b"6".as_slice(),
-            Some(b"888".as_slice()),
-        ),
-        (
-            "five",
-            b"".as_slice(),
-            WriteAnswer::Ok,
-            b"".as_slice(),
-            Some(b"888".as_slice()),
-        ),
-    ] {
-        assert_eq!(rt;
-            write_to(&mut shelf, rt.alloc(), name, bytes),
-            answer,
-            "at {name}"
-        );
-        assert_eq!(rt; shelf.file("five"), Some(five), "after {name}");
-        assert_eq!(rt; shelf.file("empty"), Some(b"".as_slice()), "after {name}");
-        assert_eq!(rt; shelf.file("new"), new, "after {name}");
+    for change in CHANGES {
+        expect(&rt, is_change(rt.alloc(), &mut shelf, change), change);
     }
+    drop(shelf);
     Ok(())
+}
+
+const FIVE: Read = ("five", 5, "ok", b"12345");
+
+const REFUSED: Written = ("five", b"6", WriteAnswer::Failed);
+
+const NO_FIVE: Read = ("five", 5, "failed", b"");
+
+const WRITTEN: Written = ("five", b"6", WriteAnswer::Ok);
+
+const SIX: Read = ("five", 5, "ok", b"6");
+
+fn are_counted(alloc: Global, shelf: &mut MapShelf) -> bool {
+    is_read(alloc, shelf, &FIVE)
+        && is_written(alloc, shelf, &REFUSED)
+        && is_read(alloc, shelf, &NO_FIVE)
+        && is_written(alloc, shelf, &WRITTEN)
+        && is_read(alloc, shelf, &SIX)
 }
 
 #[test]
 fn counts_reads_and_writes_together(rt: HostRuntime) -> Result<(), Fail> {
     let mut shelf = two_files(&rt, &[2, 3])?;
-    assert_eq!(rt; word_of(&read_of(&mut shelf, rt.alloc(), "five", 5)), "ok");
-    assert_eq!(rt;
-        write_to(&mut shelf, rt.alloc(), "five", b"6"),
-        WriteAnswer::Failed
-    );
-    assert_eq!(rt;
-        word_of(&read_of(&mut shelf, rt.alloc(), "five", 5)),
-        "failed"
-    );
-    assert_eq!(rt;
-        write_to(&mut shelf, rt.alloc(), "five", b"6"),
-        WriteAnswer::Ok
-    );
-    assert_eq!(rt;
-        bytes_of(&read_of(&mut shelf, rt.alloc(), "five", 5)),
-        b"6".as_slice()
-    );
+    let holds = are_counted(rt.alloc(), &mut shelf);
+    drop(shelf);
+    assert!(rt; holds);
     Ok(())
+}
+
+fn can_hold(alloc: Global, rows: &[(&str, &[u8])]) -> Result<bool, AllocError> {
+    let files = files_of(alloc, rows)?;
+    Ok(MapShelf::can_hold(&files))
 }
 
 #[test]
 fn refuses_a_name_that_stands_twice(rt: HostRuntime) -> Result<(), Fail> {
     let alloc = rt.alloc();
-    let mut files = Vec::new(alloc);
-    files.push(file(alloc, "a", b"1")?)?;
-    files.push(file(alloc, "b", b"2")?)?;
-    assert!(rt; MapShelf::can_hold(&files));
-    files.push(file(alloc, "a", b"3")?)?;
-    assert!(rt; !MapShelf::can_hold(&files));
+    assert!(rt; can_hold(alloc, &[("a", b"1"), ("b", b"2")])?);
+    assert!(rt; !can_hold(alloc, &[("a", b"1"), ("b", b"2"), ("a", b"3")])?);
     Ok(())
 }

@@ -1,24 +1,25 @@
 // The kernel half by itself, over replies that it is given: the messages that it counts, and its memory.
 
-ghost use Rattle.std.specs.Prelude.{◌≡◌, [], IfOk};
+ghost use Rattle.std.specs.Prelude.{◌≡◌, []};
 ghost use Rattle.mdr_core.specs.Sound.{IsSound};
 ghost use Rattle.mdr_model.specs.Built.{IsBuilt};
 ghost use Rattle.mdr_outside.specs.Far.{IsLoaded};
+ghost use Rattle.mdr_ready.specs.Ready.{Ready};
 
 use super::BUMP;
 use super::answers::{FIRST, FOURTH, SECOND, THIRD, answers_of};
-use crate::program::program;
 use mdr_core::{Items, Program};
-use mdr_due::Stage;
 use mdr_kernel::KernelHalf;
 use mdr_model::{Command, End, Wire};
 use mdr_outside::{Far, LoadAnswer, LyingFar};
-use std::alloc::{AllocGlobal, Global};
+use mdr_ready::ready;
+use mdr_source::Refusal;
+use std::alloc::{AllocError, Global};
 use std::process::Abort;
 use std::test::Fail;
 
 /// A call of the driver's function in the user half.
-fn opening(alloc: Global) -> Result<Vec<Command>, Fail> {
+fn opening(alloc: Global) -> Result<Vec<Command>, AllocError> {
     let mut script = Vec::new(alloc);
     script.push(Command::Call(1, Items::new(alloc)))?;
     Ok(script)
@@ -49,47 +50,86 @@ fn is_counted(
         [block] => block.cells.as_slice().first().copied(),
         _ => None,
     };
-    matches!(outcome.end, End::FarFault(_)) == fails
+    let is_failed = matches!(outcome.end, End::FarFault(_));
+    drop(outcome);
+    is_failed == fails
         && half.messages() == messages
         && matches!(held, Some(Wire::Int(_, n)) if n == count)
 }
 
 /// Runs the driver over these replies, behind which the far side fails.
-fn expect<R: Abort + AllocGlobal>(
-    rt: &R,
+fn expect_count(
+    rt: &impl Abort,
+    alloc: Global,
+    program: &Program,
     replies: &[&[u32]],
     fails: bool,
     messages: u64,
     count: i128,
-) -> Result<(), Fail> {
-    let alloc = rt.alloc();
+) -> Result<(), Fail>
+    requires sound { IsSound program.now }
+    requires built { IsBuilt program.now }
+{
     let script = opening(alloc)?;
-    let mut far = LyingFar::new(alloc, LoadAnswer::Ok, answers_of(alloc, replies)?);
-    let LoadAnswer::Ok = far.load(alloc, b"", b"") else {
-        return Err("the text is loaded".into());
-    };
-    let Ok(Stage::Goes(program)) = program(alloc, BUMP.as_bytes()) else {
-        return Err("the driver is a program".into());
-    };
+    let answers = answers_of(alloc, replies)?;
+    let mut far = LyingFar::new(alloc, LoadAnswer::Ok, answers);
+    let is_ok = far.load(alloc, b"", b"") == LoadAnswer::Ok;
+    assert!(rt; is_ok);
     let holds = is_counted(
         alloc,
-        &program,
+        program,
         script.as_slice(),
         &mut far,
         fails,
         messages,
         count,
     );
+    drop(far);
     assert!(rt; holds, "{messages} messages");
     Ok(())
 }
 
+const NONE: &[&[u32]] = &[];
+
+const ONE: &[&[u32]] = &[FIRST];
+
+const TWO: &[&[u32]] = &[FIRST, SECOND];
+
+const THREE: &[&[u32]] = &[FIRST, SECOND, THIRD];
+
+const FOUR: &[&[u32]] = &[FIRST, SECOND, THIRD, FOURTH];
+
+fn expect_counts(rt: &impl Abort, alloc: Global, program: &Program) -> Result<(), Fail>
+    requires sound { IsSound program.now }
+    requires built { IsBuilt program.now }
+{
+    expect_count(rt, alloc, program, NONE, true, 1, 0)?;
+    expect_count(rt, alloc, program, ONE, true, 3, 1)?;
+    expect_count(rt, alloc, program, TWO, true, 5, 1)?;
+    expect_count(rt, alloc, program, THREE, true, 7, 2)?;
+    expect_count(rt, alloc, program, FOUR, false, 8, 2)
+}
+
+/// What the driver comes to is a program that is ready.
+fn expect_ready(
+    rt: &impl Abort,
+    alloc: Global,
+    source: &[u8],
+    made: Result<Program, Refusal>,
+) -> Result<(), Fail>
+    requires { Ready source.now made }
+{
+    let told = match &made {
+        Ok(program) => expect_counts(rt, alloc, program),
+        Err(_) => Err("the driver is a program".into()),
+    };
+    drop(made);
+    told
+}
+
 #[test]
 fn a_half_counts_the_messages_sent_and_got(rt: HostRuntime) -> Result<(), Fail> {
-    let replies: [&[u32]; 4] = [FIRST, SECOND, THIRD, FOURTH];
-    expect(&rt, &replies[..0], true, 1, 0)?;
-    expect(&rt, &replies[..1], true, 3, 1)?;
-    expect(&rt, &replies[..2], true, 5, 1)?;
-    expect(&rt, &replies[..3], true, 7, 2)?;
-    expect(&rt, &replies, false, 8, 2)
+    let source = BUMP.as_bytes();
+    let made = ready(rt.alloc(), source)?;
+    expect_ready(&rt, rt.alloc(), source, made)
 }

@@ -1,36 +1,36 @@
 // Far sides that give the answers that they were told to give. Numbers are words of four bytes.
 
-use super::{BUMP, REPORT, RUN, expect_run, shelf_of};
-use crate::Status;
+use super::{REPORT, RUN, expect_run, shelf_of};
 use mdr_core::Items;
 use mdr_outside::{DeliverAnswer, LoadAnswer, LyingFar};
-use std::alloc::{AllocGlobal, Global};
+use mdr_top::Status;
+use std::alloc::{AllocError, Global};
 use std::process::Abort;
 use std::test::Fail;
 
 /// In the driver's run the user half first calls a function of the kernel half.
-pub(crate) const FIRST: &[u32] = &[3, 0, 1, 1, 1, 1, 0, 0, 0];
+pub(super) const FIRST: &[u32] = &[3, 0, 1, 1, 1, 1, 0, 0, 0];
 
 /// Then it asks for a register to be written.
-pub(crate) const SECOND: &[u32] = &[5, 0, 1, 1, 2, 5, 2, 2, 1, 2, 4, 0, 0, 0];
+pub(super) const SECOND: &[u32] = &[5, 0, 1, 1, 2, 5, 2, 2, 1, 2, 4, 0, 0, 0];
 
 /// It calls again.
-pub(crate) const THIRD: &[u32] = &[3, 0, 1, 1, 3, 1, 0, 0, 0];
+pub(super) const THIRD: &[u32] = &[3, 0, 1, 1, 3, 1, 0, 0, 0];
 
 /// And it returns.
-pub(crate) const FOURTH: &[u32] = &[2, 0, 0, 12, 0];
+pub(super) const FOURTH: &[u32] = &[2, 0, 0, 12, 0];
 
 /// The second reply with no tick spent.
 const NO_TICK: &[u32] = &[5, 0, 0, 1, 2, 5, 2, 2, 1, 2, 4, 0, 0, 0];
 
 /// The first with 5 for the global.
-pub(crate) const FIVE: &[u32] = &[3, 0, 1, 1, 1, 1, 0, 0, 1, 0, 0, 0, 1, 2, 5];
+const FIVE: &[u32] = &[3, 0, 1, 1, 1, 1, 0, 0, 1, 0, 0, 0, 1, 2, 5];
 
 /// The last lines where nothing was applied.
 const UNCHANGED: &str = "ticks 0\nlive 1\nobj 1 u32 x1: 0\n";
 
 /// First replies that are refused, most of them the honest one with a change.
-const REFUSED: [(&[u32], &str); 23] = [
+const REFUSED: &[(&[u32], &str)] = &[
     (&[], "Short 0"),
     (&[9], "Kind 0"),
     // the message that it replies to
@@ -84,7 +84,7 @@ const REFUSED: [(&[u32], &str); 23] = [
 ];
 
 /// Runs of several replies. Where these are used up the far side fails.
-const ENDS: [(&[&[u32]], Status, &str); 7] = [
+const ENDS: &[(&[&[u32]], Status, &str)] = &[
     (
         &[],
         Status::FarFault,
@@ -119,7 +119,7 @@ const ENDS: [(&[&[u32]], Status, &str); 7] = [
 ];
 
 /// The bytes of numbers, four each.
-fn bytes_of(alloc: Global, numbers: &[u32]) -> Result<Vec<u8>, Fail> {
+fn bytes_of(alloc: Global, numbers: &[u32]) -> Result<Vec<u8>, AllocError> {
     let mut bytes = Vec::new(alloc);
     for number in numbers {
         bytes.extend_from_slice(&number.to_be_bytes())?;
@@ -127,30 +127,11 @@ fn bytes_of(alloc: Global, numbers: &[u32]) -> Result<Vec<u8>, Fail> {
     Ok(bytes)
 }
 
-/// Runs the driver over a far side.
-fn expect<R: Abort + AllocGlobal>(
-    rt: &R,
-    load: LoadAnswer,
-    replies: Vec<DeliverAnswer>,
-    status: Status,
-    text: &str,
-) -> Result<(), Fail> {
-    let mut far = LyingFar::new(rt.alloc(), load, replies);
-    let mut shelf = shelf_of(rt, BUMP, "call open\n")?;
-    expect_run(rt, &RUN, &mut shelf, &mut far, status, text)
-}
-
-/// The first reply is refused for this cause.
-fn expect_refused<R: Abort + AllocGlobal>(rt: &R, reply: Vec<u8>, cause: &str) -> Result<(), Fail> {
-    let alloc = rt.alloc();
-    let mut replies = Vec::new(alloc);
-    replies.push(DeliverAnswer::Ok(Items::from_vec(reply)))?;
-    let text = format!(in alloc; "call open\nrefused 1 {cause}\n{UNCHANGED}")?;
-    expect(rt, LoadAnswer::Ok, replies, Status::Marshal, text.as_str())
-}
-
 /// These replies as answers.
-pub(crate) fn answers_of(alloc: Global, replies: &[&[u32]]) -> Result<Vec<DeliverAnswer>, Fail> {
+pub(super) fn answers_of(
+    alloc: Global,
+    replies: &[&[u32]],
+) -> Result<Vec<DeliverAnswer>, AllocError> {
     let mut answers = Vec::new(alloc);
     for reply in replies {
         answers.push(DeliverAnswer::Ok(Items::from_vec(bytes_of(alloc, reply)?)))?;
@@ -158,43 +139,133 @@ pub(crate) fn answers_of(alloc: Global, replies: &[&[u32]]) -> Result<Vec<Delive
     Ok(answers)
 }
 
+/// Runs the driver over a far side.
+fn expect_over(
+    rt: &impl Abort,
+    alloc: Global,
+    far: &mut LyingFar,
+    status: Status,
+    text: &str,
+) -> Result<(), Fail> {
+    let mut shelf = shelf_of(rt, alloc, "call open\n", &[])?;
+    let told = expect_run(rt, alloc, RUN, &mut shelf, far, status, text);
+    drop(shelf);
+    told
+}
+
+fn expect(
+    rt: &impl Abort,
+    alloc: Global,
+    load: LoadAnswer,
+    replies: Vec<DeliverAnswer>,
+    status: Status,
+    text: &str,
+) -> Result<(), Fail> {
+    let mut far = LyingFar::new(alloc, load, replies);
+    let told = expect_over(rt, alloc, &mut far, status, text);
+    drop(far);
+    told
+}
+
+fn one_answer(alloc: Global, reply: &[u8]) -> Result<Vec<DeliverAnswer>, AllocError> {
+    let mut answers = Vec::new(alloc);
+    answers.push(DeliverAnswer::Ok(Items::from_slice(alloc, reply)?))?;
+    Ok(answers)
+}
+
+/// The first reply is refused for this cause.
+fn expect_refused(rt: &impl Abort, alloc: Global, reply: &[u8], cause: &str) -> Result<(), Fail> {
+    let text = format!(in alloc; "call open\nrefused 1 {cause}\n{UNCHANGED}")?;
+    let answers = one_answer(alloc, reply)?;
+    expect(
+        rt,
+        alloc,
+        LoadAnswer::Ok,
+        answers,
+        Status::Marshal,
+        text.as_str(),
+    )
+}
+
+fn expect_numbers_refused(
+    rt: &impl Abort,
+    alloc: Global,
+    reply: &[u32],
+    cause: &str,
+) -> Result<(), Fail> {
+    let reply = bytes_of(alloc, reply)?;
+    expect_refused(rt, alloc, reply.as_slice(), cause)
+}
+
 #[test]
 fn a_refused_reply_is_reported_and_nothing_of_it_is_applied(rt: HostRuntime) -> Result<(), Fail> {
     for (reply, cause) in REFUSED {
-        expect_refused(&rt, bytes_of(rt.alloc(), reply)?, cause)?;
+        expect_numbers_refused(&rt, rt.alloc(), reply, cause)?;
     }
     Ok(())
 }
 
+fn a_byte_less(alloc: Global) -> Result<Vec<u8>, AllocError> {
+    let mut bytes = bytes_of(alloc, FIRST)?;
+    let _last = bytes.pop();
+    Ok(bytes)
+}
+
+fn a_byte_more(alloc: Global) -> Result<Vec<u8>, AllocError> {
+    let mut bytes = bytes_of(alloc, FIRST)?;
+    bytes.push(0)?;
+    Ok(bytes)
+}
+
 #[test]
 fn a_reply_with_a_byte_less_or_more_is_refused(rt: HostRuntime) -> Result<(), Fail> {
-    let mut less = bytes_of(rt.alloc(), FIRST)?;
-    let _last = less.pop();
-    expect_refused(&rt, less, "Short 32")?;
-    let mut more = bytes_of(rt.alloc(), FIRST)?;
-    more.push(0)?;
-    expect_refused(&rt, more, "Trailing 36")
+    expect_refused(&rt, rt.alloc(), &a_byte_less(rt.alloc())?, "Short 32")?;
+    expect_refused(&rt, rt.alloc(), &a_byte_more(rt.alloc())?, "Trailing 36")
+}
+
+fn expect_end(
+    rt: &impl Abort,
+    alloc: Global,
+    replies: &[&[u32]],
+    status: Status,
+    text: &str,
+) -> Result<(), Fail> {
+    let answers = answers_of(alloc, replies)?;
+    expect(rt, alloc, LoadAnswer::Ok, answers, status, text)
 }
 
 #[test]
 fn a_run_ends_where_the_replies_end_or_are_too_many(rt: HostRuntime) -> Result<(), Fail> {
     for (replies, status, text) in ENDS {
-        let answers = answers_of(rt.alloc(), replies)?;
-        expect(&rt, LoadAnswer::Ok, answers, status, text)?;
+        expect_end(&rt, rt.alloc(), replies, *status, text)?;
     }
     Ok(())
 }
 
+/// Answers to the texts, and what comes of them.
+const LOADS: &[(LoadAnswer, Status, &str)] = &[
+    (
+        LoadAnswer::Refused(1),
+        Status::Marshal,
+        "refused 0 Load 0\nticks 0\nlive 1\nobj 1 u32 x1: 0\n",
+    ),
+    (
+        LoadAnswer::Refused(2),
+        Status::Marshal,
+        "refused 0 Load 0\nticks 0\nlive 1\nobj 1 u32 x1: 0\n",
+    ),
+    (
+        LoadAnswer::Failed,
+        Status::FarFault,
+        "far fault 0\nticks 0\nlive 1\nobj 1 u32 x1: 0\n",
+    ),
+];
+
 #[test]
 fn a_source_that_is_not_loaded_is_reported(rt: HostRuntime) -> Result<(), Fail> {
-    for (load, status, end) in [
-        (LoadAnswer::Refused(1), Status::Marshal, "refused 0 Load 0"),
-        (LoadAnswer::Refused(2), Status::Marshal, "refused 0 Load 0"),
-        (LoadAnswer::Failed, Status::FarFault, "far fault 0"),
-    ] {
-        let alloc = rt.alloc();
-        let text = format!(in alloc; "{end}\n{UNCHANGED}")?;
-        expect(&rt, load, Vec::new(alloc), status, text.as_str())?;
+    for (load, status, text) in LOADS {
+        let none = Vec::new(rt.alloc());
+        expect(&rt, rt.alloc(), *load, none, *status, text)?;
     }
     Ok(())
 }
