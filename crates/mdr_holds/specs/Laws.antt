@@ -41,13 +41,17 @@ use Rattle.mdr_plain.specs.World.{World, Ran, left, noted}
 use Rattle.mdr_script.specs.declared.bound.Bound.{Bound}
 use Rattle.mdr_script.specs.declared.script.Script.{Script}
 use Rattle.mdr_script.specs.Binding.{bound_of}
+use Rattle.mdr_script.specs.Scripts.{script_of}
 use Rattle.mdr_slice.specs.declared.halves.Halves.{Halves}
+use Rattle.mdr_paths.specs.Numbers.{numbers}
+use Rattle.mdr_paths.specs.Paths.{is_in}
+use Rattle.mdr_slice.specs.Calls.{handlers_of}
 use Rattle.mdr_slice.specs.Graph.{AreCallees}
 use Rattle.mdr_slice.specs.Halves.{AreHalves}
 use Rattle.mdr_watched.specs.Driver.{Driver, driver_of, is_user}
 use Rattle.mdr_watched.specs.Order.{IsInOrder}
 use Rattle.mdr_watched.specs.Watched.{does, downcall, held, kernel_of, serves, upcall, watched_of}
-use Rattle.mdr_holds.specs.Holding.{Holds, IsWord, PutWords, first_knowledge, shape_of}
+use Rattle.mdr_holds.specs.Holding.{Holds, IsHandler, IsWord, PutWords, first_knowledge, shape_of}
 use Rattle.mdr_holds.specs.Leaving.{AreObjects, IsAsBefore, Later, Leads, Returns, ViewsStay}
 
 -- ---- states
@@ -79,7 +83,7 @@ pub record StatesHold : Type 0 where
 
 -- ---- services
 
--- a service that was asked for gave what it gives. No tick passed
+-- a service that was asked for gave what it gives
 pub record GivesServed (program : Program) (a : Asked) (s : Service) (from : ℕ) (remains : List Wire) (w : World) (K' : Knowledge) (rs : List Wire) (w' : World) : Type 0 where
   pub served : IsServed program K' a s rs
   pub objects : AreObjects w'.memory from (after s remains rs)
@@ -237,6 +241,10 @@ pub record RunsHold : Type 0 where
 abbrev pub BoundCommandsFit : Type 0
 BoundCommandsFit = (program : Program) → IsSound program → (script : Script) (bound : Bound) → bound_of script program ≡ Ok bound → AreCommands program bound.commands
 
+-- so a script that is read from a text and bound to the program is one for it
+abbrev pub TextScriptsFit : Type 0
+TextScriptsFit = (program : Program) → IsSound program → (text : List ℕ) (script : Script) (bound : Bound) → script_of text ≡ Ok script → bound_of script program ≡ Ok bound → IsScript program bound
+
 -- each function has a body
 abbrev pub HaveBodies : Program → Type 0
 HaveBodies program = (f : ℕ) (func : Func) → slice_get program.funcs f ≡ Some func → (body : Body) × (body_of program f ≡ Some body)
@@ -248,3 +256,6 @@ pub record ProgramsAreDrivers : Type 0 where
   -- where the plan has the halves, and each function has a body, code of the kernel half calls no other function
   pub kernel : (program : Program) (plan : Plan) (roots : List ℕ) (halves : Halves) → AreHalves program roots halves → plan.halves ≡ halves.halves → HaveBodies program → (callees : List (List ℕ)) → AreCallees program false callees
       → CallsItself (uses_by program callees) (driver_of program plan).kernel
+  -- and where all that handle interrupts are roots, each has its body in the kernel half
+  pub handlers : (program : Program) (plan : Plan) (roots : List ℕ) (halves : Halves) → AreHalves program roots halves → plan.halves ≡ halves.halves → HaveBodies program → (callees : List (List ℕ))
+      → ((f : ℕ) → is_in numbers (handlers_of program) f ≡ true → is_in numbers roots f ≡ true) → (f : ℕ) → IsHandler program (uses_by program callees) f → (body : Body) × ((driver_of program plan).kernel.own f ≡ Some body)
