@@ -19,14 +19,16 @@ use Rattle.mdr_meaning.specs.Bodies.{body_from, body_of, kernel_side}
 use Rattle.mdr_meaning.specs.FairTrees.{IsSideOf}
 use Rattle.mdr_meaning.specs.Sides.{Body, Side}
 use Rattle.mdr_meaning.proofs.FairLaws.{sides_are_of_programs}
+use Rattle.mdr_paths.specs.Chains.{Begin}
 use Rattle.mdr_paths.specs.Numbers.{numbers}
 use Rattle.mdr_paths.specs.Paths.{is_in}
 use Rattle.mdr_paths.proofs.NodeLists.{in_both, is_in-head}
-use Rattle.mdr_slice.specs.Calls.{body_names, global_names, value_names, values_names}
+use Rattle.mdr_slice.specs.Calls.{body_names, global_names, handlers_of, value_names, values_names}
 use Rattle.mdr_slice.specs.declared.halves.Halves.{Halves}
 use Rattle.mdr_slice.specs.Graph.{AreCallees}
 use Rattle.mdr_slice.specs.Halves.{AreHalves}
 use Rattle.mdr_watched.specs.Driver.{driver_of, is_user, is_user_half}
+use Rattle.mdr_holds.specs.Holding.{IsHandler}
 use Rattle.mdr_holds.specs.Laws.{CallsItself, HaveBodies, IsCode, IsDriver, ProgramsAreDrivers, TakesFirst}
 use Rattle.mdr_holds.proofs.Fitting.{some_is}
 
@@ -100,5 +102,13 @@ module _ (program : Program) (plan : Plan) (roots : List ℕ) (halves : Halves) 
   unfolding kernel_side
   stays callees h f g body own calls none = kernel_body g (nowhere program roots halves are callees h f g (kernel_half f body own) calls) none
 
+  handler_body : (callees : List (List ℕ)) → ((f : ℕ) → is_in numbers (handlers_of program) f ≡ true → is_in numbers roots f ≡ true) → (f : ℕ) → IsHandler program (uses_by program callees) f → (body : Body) × ((driver_of program plan).kernel.own f ≡ Some body)
+  unfolding kernel_side
+  handler_body callees rooted f x =
+      let kernel : slice_get halves.halves f ≡ Some Kernel = (are.kernel f).1 (Begin f (rooted f x.handles)) in
+      let ours : is_user plan f ≡ false = ap (λ (hs : List Half). is_user_half (slice_get hs f)) same ∙ ap is_user_half kernel in
+      let body = bodies f x.func x.names in
+      (body.0, ap (λ (b : Bool). chosen (not b) (body_of program f) None) ours ∙ body.1)
+
 pub programs_are_drivers : ProgramsAreDrivers
-programs_are_drivers = record { driver = is_driver; first = takes_first; kernel = λ program plan roots halves are same bodies callees h. stays program plan roots halves are same bodies callees h }
+programs_are_drivers = record { driver = is_driver; first = takes_first; kernel = λ program plan roots halves are same bodies callees h. stays program plan roots halves are same bodies callees h; handlers = λ program plan roots halves are same bodies callees rooted f x. handler_body program plan roots halves are same bodies callees rooted f x }

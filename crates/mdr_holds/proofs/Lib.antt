@@ -18,5 +18,6 @@ pub mod Globals
 pub mod First
 pub mod Bindings
 pub mod Drivers
+pub mod ScriptTexts
 pub mod Scripts
 pub mod Services

@@ -7,8 +7,11 @@ use Rattle.mdr_core.specs.declared.program.Func.{Func}
 use Rattle.mdr_core.specs.declared.program.GlobalDef.{GlobalDef}
 use Rattle.mdr_core.specs.declared.program.Param.{Param}
 use Rattle.mdr_core.specs.declared.program.Program.{Program}
-use Rattle.mdr_core.specs.declared.types.Ty.{Ty}
+use Rattle.mdr_core.specs.declared.types.Ty.{Ty, out-Ty}
+use Rattle.mdr_core.specs.declared.types.Ty.TheOpen.{Ty-F}
+use Rattle.mdr_core.specs.declared.types.Ty.TheVariants as type
 use Rattle.mdr_core.specs.declared.value.Value.TheVariants as value
+use Rattle.mdr_core.specs.Layout.{Leaf}
 use Rattle.mdr_core.specs.Services.{Service, service_numbered}
 use Rattle.mdr_core.specs.Sound.{IsSound}
 use Rattle.mdr_meaning.specs.declared.wire.Wire.{Wire}
@@ -27,7 +30,7 @@ use Rattle.mdr_model.specs.declared.command.Command.TheVariants as command
 use Rattle.mdr_model.specs.declared.memory.Cell.{Cell}
 use Rattle.mdr_model.specs.declared.message.New.{New}
 use Rattle.mdr_model.specs.Agreement.{AreBlocks}
-use Rattle.mdr_model.specs.Memory.{born_at, normal}
+use Rattle.mdr_model.specs.Memory.{Memory, born_at, everywhere, leaf_at, normal, reached}
 use Rattle.mdr_plain.specs.declared.outcome.Happened.TheVariants as happened
 use Rattle.mdr_plain.specs.Plain.{never, plain_of, whole}
 use Rattle.mdr_plain.specs.Running.{Before, Crossing, call, interrupts, nothing, run}
@@ -38,16 +41,28 @@ use Rattle.mdr_plain.specs.World.{World, Ran, left, noted}
 use Rattle.mdr_script.specs.declared.bound.Bound.{Bound}
 use Rattle.mdr_script.specs.declared.script.Script.{Script}
 use Rattle.mdr_script.specs.Binding.{bound_of}
+use Rattle.mdr_script.specs.Scripts.{script_of}
 use Rattle.mdr_slice.specs.declared.halves.Halves.{Halves}
+use Rattle.mdr_paths.specs.Numbers.{numbers}
+use Rattle.mdr_paths.specs.Paths.{is_in}
+use Rattle.mdr_slice.specs.Calls.{handlers_of}
 use Rattle.mdr_slice.specs.Graph.{AreCallees}
 use Rattle.mdr_slice.specs.Halves.{AreHalves}
 use Rattle.mdr_watched.specs.Driver.{Driver, driver_of, is_user}
 use Rattle.mdr_watched.specs.Order.{IsInOrder}
 use Rattle.mdr_watched.specs.Watched.{does, downcall, held, kernel_of, serves, upcall, watched_of}
-use Rattle.mdr_holds.specs.Holding.{Holds, IsWord, PutWords, first_knowledge, shape_of}
+use Rattle.mdr_holds.specs.Holding.{Holds, IsHandler, IsWord, PutWords, first_knowledge, shape_of}
 use Rattle.mdr_holds.specs.Leaving.{AreObjects, IsAsBefore, Later, Leads, Returns, ViewsStay}
 
 -- ---- states
+
+-- the cell is a lock
+pub record IsLockCell (program : Program) (m : Memory) (c : Cell) : Type 0 where
+  pub block : New
+  pub leaf : Leaf
+  pub born : born_at m c.serial ≡ Some block
+  pub there : leaf_at program block c.index ≡ Some leaf
+  pub lock : out-Ty leaf.type ≡ Ty-F.Lock
 
 -- what follows for a state that holds
 pub record StatesHold : Type 0 where
@@ -56,6 +71,11 @@ pub record StatesHold : Type 0 where
   pub globals : (program : Program) (K : Knowledge) (w : World) → Holds program K w → KnowsGlobals program K
   -- a pointer that is known names a block of the shape that is known
   pub pointers : (program : Program) (K : Knowledge) (w : World) (p : WireView) (b : New) → Holds program K w → (v : IsKnownView program K p) → born_at w.memory p.serial ≡ Some b → shape_of b ≡ v.shape
+  -- a global's block has its type
+  pub typed : (program : Program) → IsSound program → (K : Knowledge) (w : World) → Holds program K w → (serial : ℕ) (b : New) (g : GlobalDef) → born_at w.memory serial ≡ Some b → slice_get program.globals serial ≡ Some g
+      → slice_get program.types b.ty ≡ Some g.ty
+  -- a pointer to locks reaches none but a lock
+  pub locks : (program : Program) → IsSound program → (K : Knowledge) (w : World) → Holds program K w → (v : Wire) → Fits program K (type.Ptr type.Lock) v → (c : Cell) → reached everywhere w.memory v ≡ Ok c → IsLockCell program w.memory c
   -- a value is passed as it is now, and fits what it fitted
   pub passed : (program : Program) (K : Knowledge) (w : World) (args : List Wire) (types : List Ty) → AllFit program K args types → AllFit program K (map (normal w.memory) args) types
   -- a value that fits, and names a block that is known by less, fits by less
@@ -63,7 +83,7 @@ pub record StatesHold : Type 0 where
 
 -- ---- services
 
--- a service that was asked for gave what it gives. No tick passed
+-- a service that was asked for gave what it gives
 pub record GivesServed (program : Program) (a : Asked) (s : Service) (from : ℕ) (remains : List Wire) (w : World) (K' : Knowledge) (rs : List Wire) (w' : World) : Type 0 where
   pub served : IsServed program K' a s rs
   pub objects : AreObjects w'.memory from (after s remains rs)
@@ -221,6 +241,10 @@ pub record RunsHold : Type 0 where
 abbrev pub BoundCommandsFit : Type 0
 BoundCommandsFit = (program : Program) → IsSound program → (script : Script) (bound : Bound) → bound_of script program ≡ Ok bound → AreCommands program bound.commands
 
+-- so a script that is read from a text and bound to the program is one for it
+abbrev pub TextScriptsFit : Type 0
+TextScriptsFit = (program : Program) → IsSound program → (text : List ℕ) (script : Script) (bound : Bound) → script_of text ≡ Ok script → bound_of script program ≡ Ok bound → IsScript program bound
+
 -- each function has a body
 abbrev pub HaveBodies : Program → Type 0
 HaveBodies program = (f : ℕ) (func : Func) → slice_get program.funcs f ≡ Some func → (body : Body) × (body_of program f ≡ Some body)
@@ -232,3 +256,6 @@ pub record ProgramsAreDrivers : Type 0 where
   -- where the plan has the halves, and each function has a body, code of the kernel half calls no other function
   pub kernel : (program : Program) (plan : Plan) (roots : List ℕ) (halves : Halves) → AreHalves program roots halves → plan.halves ≡ halves.halves → HaveBodies program → (callees : List (List ℕ)) → AreCallees program false callees
       → CallsItself (uses_by program callees) (driver_of program plan).kernel
+  -- and where all that handle interrupts are roots, each has its body in the kernel half
+  pub handlers : (program : Program) (plan : Plan) (roots : List ℕ) (halves : Halves) → AreHalves program roots halves → plan.halves ≡ halves.halves → HaveBodies program → (callees : List (List ℕ))
+      → ((f : ℕ) → is_in numbers (handlers_of program) f ≡ true → is_in numbers roots f ≡ true) → (f : ℕ) → IsHandler program (uses_by program callees) f → (body : Body) × ((driver_of program plan).kernel.own f ≡ Some body)

@@ -1,3 +1,4 @@
+pub mod Living
 pub mod Steps
 pub mod KernelCode
 pub mod Sets

@@ -10,7 +10,7 @@ use Rattle.mdr_paths.specs.Paths.{is_in}
 use Rattle.mdr_plain.specs.Gate.{are_none}
 use Rattle.mdr_plain.specs.Storage.{next_serial}
 use Rattle.mdr_plain.specs.World.{World, Ran, Ended, Stopped, left}
-use Rattle.mdr_watched.specs.Views.{living}
+pub use Rattle.mdr_watched.specs.Views.{living}
 
 -- the world with the set in it: user code may touch those of its cells whose blocks live
 abbrev pub viewed : List Cell → World → World
