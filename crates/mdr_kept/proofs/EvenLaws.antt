@@ -39,10 +39,10 @@ use Rattle.mdr_kept.proofs.SpunLaws.{born_at_spun, cell_at_spun, fresh_spun, is_
 
 -- ---- no visible sets
 
-NoViews : World → Type 0
+unfoldable pub NoViews : World → Type 0
 NoViews w = w.views ≡ []
 
-none_kept : IsKept NoViews
+pub none_kept : IsKept NoViews
 unfolding NoViews died
 none_kept = record {
   memory = λ w m e. e;

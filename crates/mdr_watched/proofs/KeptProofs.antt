@@ -27,8 +27,8 @@ use Rattle.mdr_watched.proofs.WaitLaws.{none_due}
 -- ---- work that ends alike
 
 -- where the one ends, the other ends alike
-record Leads {A : Type 0} (r s : Ran A) : Type 0 where
-  by : (x : A) (w : World) → r ≡ Ended x w → s ≡ Ended x w
+pub record Leads {A : Type 0} (r s : Ran A) : Type 0 where
+  pub by : (x : A) (w : World) → r ≡ Ended x w → s ≡ Ended x w
 
 same : {A : Type 0} (r : Ran A) → Leads r r
 same r = record { by = λ x w e. e }
@@ -93,7 +93,7 @@ waited : (kernel : KernelCode) (d : ℕ) (w : World) → are_none w.views ≡ fa
 unfolding interrupts
 waited kernel d w e = ap (λ o. handled kernel d o w) (none_due w e)
 
-tries_lead : (kernel : KernelCode) (d : ℕ) (w : World) → Leads (meets_none kernel d w) (interrupts kernel d w)
+pub tries_lead : (kernel : KernelCode) (d : ℕ) (w : World) → Leads (meets_none kernel d w) (interrupts kernel d w)
 tries_lead kernel d w = of (are_none w.views) refl
   where
     of : (t : Bool) → are_none w.views ≡ t → Leads (chosen t (interrupts kernel d w) (unless_due (due_plainly w) w)) (interrupts kernel d w)
@@ -103,13 +103,13 @@ tries_lead kernel d w = of (are_none w.views) refl
 -- ---- upcalls and commands
 
 module _ (d : Driver) where
-  calls_lead : (f : ℕ) (args : List Wire) (depth : ℕ) (w : World) → Leads (call (kernel_of d) (meets_none (kernel_of d)) f args depth w) (call (kernel_of d) (interrupts (kernel_of d)) f args depth w)
+  pub calls_lead : (f : ℕ) (args : List Wire) (depth : ℕ) (w : World) → Leads (call (kernel_of d) (meets_none (kernel_of d)) f args depth w) (call (kernel_of d) (interrupts (kernel_of d)) f args depth w)
   unfolding call
   calls_lead f args depth w =
       runs_lead (accesses d.program (λ w' c. true)) (served d.program) (served d.program) never never (meets_none (kernel_of d)) (interrupts (kernel_of d))
       (tries_lead (kernel_of d)) (λ q w'. same _) (λ at g vs n w'. same _) _ w
 
-  downcalls_lead : (t : ℕ) (at : At) (f : ℕ) (args : List Wire) (depth : ℕ) (w : World) → Leads (downcall d (free d) t at f args depth w) (downcall d (held d) t at f args depth w)
+  pub downcalls_lead : (t : ℕ) (at : At) (f : ℕ) (args : List Wire) (depth : ℕ) (w : World) → Leads (downcall d (free d) t at f args depth w) (downcall d (held d) t at f args depth w)
   downcalls_lead t at f args depth w = leads_after _ _ _ _ (calls_lead f _ depth w) (λ v w'. same _)
 
   leads_closing : (r s : Ran Wire) → Leads r s → Leads (closing r) (closing s)
@@ -125,7 +125,7 @@ module _ (d : Driver) where
   leads_taken (Ok set) at w go go' each = each set
   leads_taken (Err failing) at w go go' each = same _
 
-  upcalls_lead : (f : ℕ) (args : List Wire) (w : World) → Leads (upcall d (free d) f args w) (upcall d (held d) f args w)
+  pub upcalls_lead : (f : ℕ) (args : List Wire) (w : World) → Leads (upcall d (free d) f args w) (upcall d (held d) f args w)
   unfolding upcall
   upcalls_lead f args w = leads_taken _ _ w _ _ (λ set. entered_leads f args set w)
 

@@ -1,0 +1,6 @@
+pub mod LiveLaws
+pub mod AliveLaws
+pub mod CallLaws
+pub mod KernelLaws
+pub mod UserLaws
+pub mod RunLaws
