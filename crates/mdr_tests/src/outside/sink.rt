@@ -23,8 +23,12 @@ pub(super) fn expect_pieces<S: Sink>(rt: &impl Abort, sink: &mut S, pieces: &[Pi
 /// A piece, what the sink answers, and the bytes that it then holds.
 type Held = (&'static [u8], SinkAnswer, &'static [u8]);
 
+fn holds(sink: &VecSink, bytes: &[u8]) -> bool {
+    sink.bytes() == bytes
+}
+
 fn is_held(sink: &mut VecSink, piece: &Held) -> bool {
-    sink.write(piece.0) == piece.1 && sink.bytes() == piece.2
+    sink.write(piece.0) == piece.1 && holds(sink, piece.2)
 }
 
 fn expect_held(rt: &impl Abort, sink: &mut VecSink, pieces: &[Held]) {
