@@ -1,3 +1,10 @@
+pub mod ViewsAreViews
+pub mod FitLaws
+pub mod RunLaws
+pub mod ObjectLaws
+pub mod QuestionFits
+pub mod AnswerFits
+pub mod ServiceFits
 pub mod FuelLaws
 pub mod RefusalLaws
 pub mod WorkedProofs
