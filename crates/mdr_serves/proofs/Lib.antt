@@ -7,7 +7,6 @@ pub mod Relations
 pub mod Known
 pub mod ShownCells
 pub mod Accesses
-pub mod Loaded
 pub mod Fresh
 pub mod Judged
 pub mod Replies
