@@ -7,4 +7,5 @@ pub mod AnswerFits
 pub mod ServiceFits
 pub mod FuelLaws
 pub mod RefusalLaws
+pub mod Unchanged
 pub mod WorkedProofs
