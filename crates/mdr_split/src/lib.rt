@@ -6,5 +6,7 @@
 mod laws;
 mod worked;
 
-pub use laws::{refused_answers_change_nothing, refused_messages_change_nothing, replies_take_any_fuel};
+pub use laws::{
+    refused_answers_change_nothing, refused_messages_change_nothing, replies_take_any_fuel,
+};
 pub use worked::messages_are_passed;
