@@ -1,0 +1,9 @@
+// Laws, each as a function that does nothing.
+
+ghost use Rattle.mdr_split.specs.AnyAnswers.{LegalIsContained};
+
+/// Wherever a run waits, storing what a legal answer tells changes cells that user code may touch alone, and of them no
+/// lock; no block is born, dies or becomes another.
+pub fn legal_answers_are_contained()
+    ensures { LegalIsContained }
+{}
