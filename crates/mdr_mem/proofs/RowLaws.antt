@@ -6,6 +6,7 @@ use Rattle.std.proofs.lemmas.List.{map-set}
 use Rattle.mdr_core.specs.declared.value.Block.{Block}
 use Rattle.mdr_core.specs.declared.value.Value.{Value}
 use Rattle.mdr_meaning.specs.declared.wire.Wire.{Wire}
+use Rattle.mdr_model.specs.declared.message.New.{New}
 use Rattle.mdr_model.specs.declared.memory.MemoryBlock.{MemoryBlock}
 use Rattle.mdr_model.specs.Memory.{born_at, cell_at, put, killed, swept_block}
 use Rattle.mdr_mem.specs.declared.rows.Held.{Held}
@@ -191,3 +192,23 @@ unfolding blocks_of
 no-place alive slots [] place e = refl
 no-place alive slots (h ∷ hs) zero e = absurd cc
 no-place alive slots (h ∷ hs) (suc place) e = no-place alive slots hs place e
+
+abbrev pub born_in : MemoryBlock → New
+born_in b = b.born
+
+pub born-place : (alive : List Block) (slots : Slots) (hs : List Block) (place : ℕ) (b : Block) (x : Held)
+    → slice_get hs place ≡ Some b → in_slot slots b.slot ≡ Some x
+    → option_map born_in (slice_get (blocks_of alive slots hs) place) ≡ Some x.born
+unfolding blocks_of
+born-place alive slots [] place b x e was = absurd cc
+born-place alive slots (h ∷ hs) zero b x e was =
+    let same : h ≡ b = cc in
+    ap (λ (g : Block). Some (shown alive (in_slot slots g.slot)).born) same ∙ ap (λ o. Some (shown alive o).born) was
+born-place alive slots (h ∷ hs) (suc place) b x e was = born-place alive slots hs place b x e was
+
+pub no-born : (alive : List Block) (slots : Slots) (hs : List Block) (place : ℕ) → slice_get hs place ≡ None
+    → option_map born_in (slice_get (blocks_of alive slots hs) place) ≡ None
+unfolding blocks_of
+no-born alive slots [] place e = refl
+no-born alive slots (h ∷ hs) zero e = absurd cc
+no-born alive slots (h ∷ hs) (suc place) e = no-born alive slots hs place e

@@ -7,7 +7,7 @@ ghost use Rattle.mdr_mem.specs.Contents.{after_store, cell_in, is_handle, wire_i
 use crate::cells::Cells;
 use crate::rows::Rows;
 use mdr_core::{Block, OutOfMemory, Shape, Value};
-use mdr_model::BirthKind;
+use mdr_model::{BirthKind, New};
 use std::alloc::Global;
 use std::marker::Model;
 
@@ -53,6 +53,13 @@ impl Blocks {
         ensures { option_map (λ x. x.cells) (slice_get self.now.memory place) ≡ option_map (map (wire_in self.now.handles)) (option_copied result) }
     {
         self.rows.cells_at(place)
+    }
+
+    /// How the block at this place was born.
+    pub fn born_at(&self, place: usize) -> Option<New>
+        ensures { option_map (λ x. x.born) (slice_get self.now.memory place) ≡ result }
+    {
+        self.rows.born_at(place)
     }
 
     /// Puts a value into the cell. Past the end of the block nothing is done.

@@ -248,6 +248,17 @@ impl Rows {
         }
     }
 
+    // How the block at this place among those that live was born.
+    pub fn born_at(&self, place: usize) -> Option<New>
+        requires { AreSound self.now }
+        ensures { option_map (λ x. x.born) (slice_get (contents_of self.now).memory place) ≡ result }
+    {
+        match self.handle_at(place) {
+            Some(b) => Some(self.held(b).born),
+            None => None,
+        }
+    }
+
     pub fn find(&self, serial: u64) -> Option<Block>
         requires { AreSound self.now }
         ensures { result ≡ handle_of self.now.live.items serial }

@@ -146,6 +146,13 @@ impl<'a> World<'a> {
         Ok(())
     }
 
+    /// How many commands called a function.
+    pub fn calls(&self) -> u64
+        ensures { result ≡ self.now.world.kept.calls }
+    {
+        self.calls
+    }
+
     // ---- time
 
     /// The ticks that were counted.
