@@ -1,2 +1,4 @@
 pub mod Faultless
 pub mod Contained
+pub mod FewSteps
+pub mod FewMessages

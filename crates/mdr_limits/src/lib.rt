@@ -4,4 +4,4 @@
 
 mod laws;
 
-pub use laws::legal_answers_are_contained;
+pub use laws::{legal_answers_are_contained, messages_are_few};

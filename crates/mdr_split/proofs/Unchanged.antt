@@ -53,7 +53,7 @@ one_more d (x ∷ xs) a (Waits m' k' upcall' rest' script') m k upcall rest scri
 -- ---- which ends are refusals
 
 -- the run goes on, or it ends by itself
-abbrev EndsItself : Pending → Type 0
+abbrev pub EndsItself : Pending → Type 0
 EndsItself (Over end k) = IsOwn end
 EndsItself (Waits m k upcall rest script) = Unit {0}
 
@@ -74,7 +74,7 @@ module _ (d : Driver) where
   begun_ends (Did work) script k go later = then_ends work k go later
   begun_ends (Opens f args w) script k go later = calls_end f args w k script
 
-  commands_end : (script : List Command) (k : Kernel) → EndsItself (split_commands d script k)
+  pub commands_end : (script : List Command) (k : Kernel) → EndsItself (split_commands d script k)
   unfolding split_commands
   commands_end [] k = tt
   commands_end (c ∷ cs) k = begun_ends (begin (kernel_of d) (is_user d.plan) c k.world) cs k (λ k'. split_commands d cs k') (λ k'. commands_end cs k')
@@ -115,19 +115,19 @@ module _ (d : Driver) where
   answered_ends (Some reply) k upcall rest script e = subst (λ (o : Option Fault). EndsItself (judged d o reply k upcall rest script)) (sym e) (taken_ends reply k upcall rest script)
 
   -- a fault ends the run where it stands
-  next_refuses : (a : Reading) (k : Kernel) (upcall : Open) (rest : Rest) (script : List Command) (f : Fault) → answer_fault d k upcall rest a ≡ Some f → next d a k upcall rest script ≡ refused f k
+  pub next_refuses : (a : Reading) (k : Kernel) (upcall : Open) (rest : Rest) (script : List Command) (f : Fault) → answer_fault d k upcall rest a ≡ Some f → next d a k upcall rest script ≡ refused f k
   unfolding next
   next_refuses (Err g) k upcall rest script f e = let same : g ≡ f = Prim.cc in ap (λ (x : Fault). refused x k) same
   next_refuses (Ok m) k upcall rest script f e = answered_refuses (reply_of m) k upcall rest script f e
 
   -- without one it doesn't end refused
-  next_ends : (a : Reading) (k : Kernel) (upcall : Open) (rest : Rest) (script : List Command) → answer_fault d k upcall rest a ≡ None → EndsItself (next d a k upcall rest script)
+  pub next_ends : (a : Reading) (k : Kernel) (upcall : Open) (rest : Rest) (script : List Command) → answer_fault d k upcall rest a ≡ None → EndsItself (next d a k upcall rest script)
   unfolding next
   next_ends (Err g) k upcall rest script e = absurd (Prim.cc)
   next_ends (Ok m) k upcall rest script e = answered_ends (reply_of m) k upcall rest script e
 
   -- so a refusal tells the fault
-  next_only : (a : Reading) (k k' : Kernel) (upcall : Open) (rest : Rest) (script : List Command) (exchange : ℕ) (cause : RefuseKind) (number : ℕ) → next d a k upcall rest script ≡ Over (ends.Refused exchange cause number) k'
+  pub next_only : (a : Reading) (k k' : Kernel) (upcall : Open) (rest : Rest) (script : List Command) (exchange : ℕ) (cause : RefuseKind) (number : ℕ) → next d a k upcall rest script ≡ Over (ends.Refused exchange cause number) k'
       → (answer_fault d k upcall rest a ≡ Some (fault cause number)) × (exchange ≡ k.exchanges) × (k' ≡ k)
   next_only a k k' upcall rest script exchange cause number e = of (answer_fault d k upcall rest a) refl
     where
