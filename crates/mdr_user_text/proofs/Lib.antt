@@ -1,0 +1,5 @@
+pub mod Headings
+pub mod SameViews
+pub mod SameCells
+pub mod SameFits
+pub mod SameReplies

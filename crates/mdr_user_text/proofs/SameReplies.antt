@@ -1,0 +1,188 @@
+-- The user half's reply is the same with its own text alone.
+use Rattle.std.proofs.Common.{◌≡◌, ℕ, suc, Bool, true, false, not, ◌&&◌, nat_le, nat_lt, List, [], ◌∷◌, ◌++◌, filter, Option, None, Ok, Err, slice_get, is_none, refl, ap, ◌∙◌}
+use Rattle.std.specs.List.{list_all}
+use mathlib.Core.Path.{fun_ext}
+use Rattle.mdr_core.specs.declared.plan.Key.{Key}
+use Rattle.mdr_core.specs.declared.plan.Plan.{Plan}
+use Rattle.mdr_core.specs.declared.program.Func.{Func}
+use Rattle.mdr_core.specs.declared.program.Program.{Program}
+use Rattle.mdr_core.specs.declared.types.Ty.{Ty}
+use Rattle.mdr_core.specs.Layout.{chosen}
+use Rattle.mdr_meaning.specs.declared.wire.Wire.{Wire}
+use Rattle.mdr_meaning.specs.Bodies.{body_of, known_of, started, user_side}
+use Rattle.mdr_meaning.specs.Sides.{Body, Side}
+use Rattle.mdr_meaning.specs.Tree.{Asked, Tree}
+use Rattle.mdr_model.specs.declared.memory.Cell.{Cell}
+use Rattle.mdr_model.specs.declared.message.Fault.{Fault}
+use Rattle.mdr_model.specs.declared.message.Message.{Message}
+use Rattle.mdr_model.specs.declared.message.Message.TheVariants as message
+use Rattle.mdr_model.specs.declared.message.New.{New}
+use Rattle.mdr_model.specs.declared.message.Run.{Run}
+use Rattle.mdr_model.specs.declared.message.SetRun.{SetRun}
+use Rattle.mdr_model.specs.declared.message.Told.{Told}
+use Rattle.mdr_model.specs.KernelState.{Reading}
+use Rattle.mdr_model.specs.Memory.{Memory}
+use Rattle.mdr_model.specs.Sets.{cells_of_run, cells_of_runs, rises_after}
+use Rattle.mdr_model.specs.User.{allowance, renewed_copy, still_live}
+use Rattle.mdr_split.specs.Fits.{fits, fits_result}
+use Rattle.mdr_split.specs.Law.{RepliesNeedTheUserText}
+use Rattle.mdr_split.specs.Legal.{args_fault, params_of, result_of}
+use Rattle.mdr_split.specs.Services.{counted, leaving, results_fit}
+use Rattle.mdr_split.specs.State.{Open}
+use Rattle.mdr_split.specs.User.{AwaitsAnswer, AwaitsBack, Delivered, Nothing, Opened, Runs, User, Work, answer_fits, back_fits, call_fits, cells_fit, deliver, done, first_user, grown, may_show, objects_fit, opened, runs_fit, user_after, user_places, user_reply, view_fits, when_fits}
+use Rattle.mdr_watched.specs.Driver.{Driver, driver_of, is_user, touched_by}
+use Rattle.mdr_user_text.proofs.Headings.{heading, same_params, same_result, with_funcs}
+use Rattle.mdr_user_text.proofs.SameViews.{both}
+use Rattle.mdr_user_text.proofs.SameCells.{same_agreed, same_counts, same_lives, same_news_cells, same_renewed}
+use Rattle.mdr_user_text.proofs.SameFits.{same_args, same_fits_result, same_runs}
+
+-- ---- two drivers
+
+-- a driver with these functions in its program, and this for the side that isn't the user half's
+abbrev with_text : Driver → List Func → Side → Driver
+with_text d funcs kernel = record { program = with_funcs d.program funcs; plan = d.plan; kernel = kernel; user = d.user }
+
+module _ (d : Driver) (funcs : List Func) (kernel : Side) (headings : (f : ℕ) → heading (slice_get funcs f) ≡ heading (slice_get d.program.funcs f)) where
+  abbrev alone : Driver
+  alone = with_text d funcs kernel
+
+  -- ---- which messages are accepted
+
+  same_show : (touched : List Key) (copy : Memory) (r : SetRun) → may_show alone.program touched copy r ≡ may_show d.program touched copy r
+  same_show touched copy r =
+      ap (λ (shows : Cell → Bool). nat_lt 0 r.len && list_all shows (cells_of_run r)) (fun_ext (λ (c : Cell). same_counts d.program funcs touched copy c))
+
+  same_view_fits : (touched : List Key) (copy : Memory) (view : List SetRun) → view_fits alone.program touched copy view ≡ view_fits d.program touched copy view
+  unfolding view_fits
+  same_view_fits touched copy view = ap (λ (shows : SetRun → Bool). rises_after None view && list_all shows view) (fun_ext (λ (r : SetRun). same_show touched copy r))
+
+  same_runs_fit : (copy : Memory) (view : List Cell) (runs : List Run) → runs_fit alone copy view runs ≡ runs_fit d copy view runs
+  unfolding runs_fit
+  same_runs_fit copy view runs = ap (λ (f : Option Fault). is_none f) (same_runs d.program funcs headings copy view None 0 runs)
+
+  same_cells_fit : (stub : ℕ) (copy copy' : Memory) (view : List SetRun) (runs : List Run) → copy ≡ copy' → cells_fit alone stub copy view runs ≡ cells_fit d stub copy' view runs
+  same_cells_fit stub copy copy' view runs same =
+      both _ _ _ _ (same_view_fits (touched_by d.plan stub) copy view) (same_runs_fit copy (cells_of_runs view) runs)
+      ∙ ap (λ (m : Memory). cells_fit d stub m view runs) same
+
+  same_args_fit : (func : ℕ) (copy copy' : Memory) (args : List Wire) → copy ≡ copy'
+      → is_none (args_fault (fits (user_places alone copy)) 0 (params_of (slice_get funcs func)) args) ≡ is_none (args_fault (fits (user_places d copy')) 0 (params_of (slice_get d.program.funcs func)) args)
+  same_args_fit func copy copy' args same =
+      ap (λ (f : Option Fault). is_none f) (same_args d.program funcs headings copy (params_of (slice_get funcs func)) args)
+      ∙ ap (λ (types : List Ty). is_none (args_fault (fits (user_places d copy)) 0 types args)) (same_params (slice_get funcs func) (slice_get d.program.funcs func) (headings func))
+      ∙ ap (λ (m : Memory). is_none (args_fault (fits (user_places d m)) 0 (params_of (slice_get d.program.funcs func)) args)) same
+
+  same_result_fits : (func : ℕ) (copy copy' : Memory) (v : Wire) → copy ≡ copy'
+      → fits_result (user_places alone copy) (result_of (slice_get funcs func)) v ≡ fits_result (user_places d copy') (result_of (slice_get d.program.funcs func)) v
+  same_result_fits func copy copy' v same =
+      same_fits_result d.program funcs headings copy (result_of (slice_get funcs func)) v
+      ∙ ap (λ (ty : Ty). fits_result (user_places d copy) ty v) (same_result (slice_get funcs func) (slice_get d.program.funcs func) (headings func))
+      ∙ ap (λ (m : Memory). fits_result (user_places d m) (result_of (slice_get d.program.funcs func)) v) same
+
+  same_call : (copy : Memory) (func depth : ℕ) (args : List Wire) (told : Told) → call_fits alone copy func depth args told ≡ call_fits d copy func depth args told
+  unfolding call_fits
+  same_call copy func depth args told =
+      let renewed = same_renewed d.program funcs told.deaths told.news copy in
+      ap (λ (b : Bool). is_user d.plan func && (nat_le depth 255 && b))
+      (both _ _ _ _ (same_lives d.program funcs copy told.deaths told.news)
+      (both _ _ _ _ (same_args_fit func _ _ args renewed) (same_cells_fit func _ _ told.view told.runs renewed)))
+
+  same_back : (copy : Memory) (upcall : Open) (func : ℕ) (result : Wire) (told : Told) → back_fits alone copy upcall func result told ≡ back_fits d copy upcall func result told
+  unfolding back_fits
+  same_back copy upcall func result told =
+      let renewed = same_renewed d.program funcs told.deaths told.news copy in
+      both _ _ _ _ (same_lives d.program funcs copy told.deaths told.news)
+      (ap (λ (b : Bool). objects_fit [] told.deaths upcall.entered && b)
+      (both _ _ _ _ (same_result_fits func _ _ result renewed) (same_cells_fit upcall.func _ _ told.view told.runs renewed)))
+
+  same_answer : (copy : Memory) (upcall : Open) (asked : Asked) (results : List Wire) (deaths : List ℕ) (news : List New) → answer_fits alone copy upcall asked results deaths news ≡ answer_fits d copy upcall asked results deaths news
+  unfolding answer_fits
+  same_answer copy upcall asked results deaths news =
+      ap (λ (b : Bool). b && (objects_fit (leaving asked.service asked.args) deaths upcall.entered && results_fit asked news results)) (same_lives d.program funcs copy deaths news)
+
+  -- ---- what a message opens
+
+  same_when : (b b' : Bool) (x x' : Opened) → b ≡ b' → x ≡ x' → when_fits b x ≡ when_fits b' x'
+  same_when b b' x x' p q = ap (λ (t : Bool). when_fits t x) p ∙ ap (when_fits b') q
+
+  same_grown : (stub : ℕ) (copy copy' : Memory) (news : List New) (seen : List Cell) → copy ≡ copy' → grown alone stub copy news seen ≡ grown d stub copy' news seen
+  same_grown stub copy copy' news seen same =
+      ap (λ (cs : List Cell). filter (still_live copy) seen ++ cs) (same_news_cells d.program funcs (touched_by d.plan stub) news)
+      ∙ ap (λ (m : Memory). grown d stub m news seen) same
+
+  same_opened : (fuel : ℕ) (copy : Memory) (work : Work) (x : Message) → opened alone fuel copy work x ≡ opened d fuel copy work x
+  unfolding opened
+  same_opened fuel copy Nothing (message.Call func depth rest args told) =
+      same_when _ _ _ _ (same_call copy func depth args told)
+      (ap (λ (m : Memory). Runs (started d.user fuel func args depth Tree.Idle) rest (record { func = func; entered = [] }) (cells_of_runs told.view) m) (same_agreed d.program funcs told copy))
+  same_opened fuel copy Nothing _ = refl
+  same_opened fuel copy (AwaitsBack upcall func seen goes) (message.Back rest result told) =
+      same_when _ _ _ _ (same_back copy upcall func result told)
+      (ap (λ (m : Memory). Runs (goes result) rest upcall (cells_of_runs told.view) m) (same_agreed d.program funcs told copy))
+  same_opened fuel copy (AwaitsBack upcall func seen goes) _ = refl
+  same_opened fuel copy (AwaitsAnswer upcall asked seen left goes) (message.Answer results deaths news) =
+      let renewed = same_renewed d.program funcs deaths news copy in
+      same_when _ _ _ _ (same_answer copy upcall asked results deaths news)
+      (ap (λ (view : List Cell). Runs (goes results) left (counted asked results upcall) view (renewed_copy alone.program deaths news copy)) (same_grown upcall.func _ _ news seen renewed)
+      ∙ ap (λ (m : Memory). Runs (goes results) left (counted asked results upcall) (grown d upcall.func (renewed_copy d.program deaths news copy) news seen) m) renewed)
+  same_opened fuel copy (AwaitsAnswer upcall asked seen left goes) _ = refl
+
+  -- ---- messages in turn
+
+  same_deliver : (fuel : ℕ) (u : User) (x : Reading) → deliver alone fuel u x ≡ deliver d fuel u x
+  unfolding deliver
+  same_deliver fuel u (Ok m) = ap (done u) (same_opened fuel u.agreed u.work m)
+  same_deliver fuel u (Err f) = refl
+
+  same_after : (fuel : ℕ) (u : User) (xs : List Reading) → user_after alone fuel u xs ≡ user_after d fuel u xs
+  unfolding user_after
+  same_after fuel u [] = refl
+  same_after fuel u (x ∷ xs) =
+      ap (λ (v : Delivered). user_after alone fuel v.user xs) (same_deliver fuel u x)
+      ∙ same_after fuel (deliver d fuel u x).user xs
+
+  same_first : first_user alone ≡ first_user d
+  unfolding first_user
+  same_first = refl
+
+  same_reply : (before : List Reading) (last : Reading) → user_reply alone before last ≡ user_reply d before last
+  unfolding user_reply
+  same_reply before last =
+      let fuel : ℕ = suc (allowance (before ++ last ∷ [])) in
+      ap (λ (x : Delivered). x.reply)
+      (same_deliver fuel (user_after alone fuel (first_user alone) before) last
+      ∙ ap (λ (u : User). deliver d fuel u last) (same_after fuel (first_user alone) before ∙ ap (λ (u : User). user_after d fuel u before) same_first))
+
+-- ---- the text
+
+-- a program that is declared alike is the program with its functions
+same_text : (program text : Program) → text.types ≡ program.types → text.structs ≡ program.structs → text.globals ≡ program.globals → text ≡ with_funcs program text.funcs
+same_text program text p q r = λ i. record { types = p i; structs = q i; globals = r i; funcs = text.funcs }
+
+same_own : (b : Bool) (own own' : Option Body) → (b ≡ false → own ≡ own') → chosen b None own ≡ chosen b None own'
+same_own true own own' same = refl
+same_own false own own' same = same refl
+
+module _ (plan : Plan) (program : Program) (funcs : List Func) where
+  abbrev is_kernel : ℕ → Bool
+  is_kernel f = not (is_user plan f)
+
+  -- equal bodies of the user half give its side
+  same_side : ((f : ℕ) → is_kernel f ≡ false → body_of (with_funcs program funcs) f ≡ body_of program f) → user_side is_kernel (with_funcs program funcs) ≡ user_side is_kernel program
+  unfolding user_side
+  same_side bodies =
+      ap (λ (own : ℕ → Option Body). record { known = known_of program; own = own; asks = true })
+      (fun_ext (λ (f : ℕ). same_own (is_kernel f) (body_of (with_funcs program funcs) f) (body_of program f) (bodies f)))
+
+pub replies_need_the_user_text : RepliesNeedTheUserText
+unfolding body_of
+replies_need_the_user_text program text plan is before last =
+    let funcs : List Func = text.funcs in
+    let side = same_side plan program funcs (λ f user. is.part.bodies f user) in
+    let whole : Driver = driver_of program plan in
+    let kernel : Side = (driver_of (with_funcs program funcs) plan).kernel in
+    let driver : driver_of (with_funcs program funcs) plan ≡ with_text whole funcs kernel =
+    ap (λ (user : Side). record { program = with_funcs program funcs; plan = plan; kernel = kernel; user = user }) side in
+    ap (λ (t : Program). user_reply (driver_of t plan) before last) (same_text program text is.part.types is.part.structs is.part.globals)
+    ∙ ap (λ (d : Driver). user_reply d before last) driver
+    ∙ same_reply whole funcs kernel is.heads before last
