@@ -98,7 +98,7 @@ module _ (program : Program) (uses : UseRule) (items : List Item) (right : typed
       of_pieces : (xs : List Piece) → AreNamed (program_of xs).structs → HasFormedPointers (program_of xs) → length (program_of xs).types ≤ 4294967296 → (t : Ty) → Occurs (program_of xs) t → IsObjectSort (sort_of (length (program_of xs).structs) t) → HasNumber (program_of xs) t
       of_pieces xs names pointers few t occurs sort = types_that_occur_have_numbers (parts_of xs) t names pointers few occurs sort
 
-  has_all : length program.types ≤ 4294967296 → HasAll program
+  pub has_all : length program.types ≤ 4294967296 → HasAll program
   has_all few t occurs =
       let f = file_of (body_rule profile_rules) uses items program right in
       numbered_in program f.pieces f.is named formed_pointers few t occurs (formed t occurs)

@@ -50,7 +50,7 @@ told_by : (name : Option (List ℕ)) (init : Option Written) (ls : Lines) (test 
 told_by None init ls test step body = refl
 told_by (Some name) init ls test step body = refl
 
-told_head : (l : Line) (ls : Lines) (test : Option Written) (step : Lines) (body : Line) → IsTold (head_taken l ls test step body) l (λ n. have Address n ls (tail test step body n))
+pub told_head : (l : Line) (ls : Lines) (test : Option Written) (step : Lines) (body : Line) → IsTold (head_taken l ls test step body) l (λ n. have Address n ls (tail test step body n))
 told_head (Line.Local p d init) ls test step body = told_by (out-Decl d).name init ls test step body
 told_head l ls test step body = tt
 
@@ -75,7 +75,7 @@ steps_same scope frame here (Lines.Then l ls) s = on l s.0 where
   on l s = refl
 
 module _ (program : Program) (slots : List Slot) (base : ℕ) (scope : Scope) (frame : Frame) (known : KnowsDeclarations program scope) where
-  simple_here : (here : Here) (t : Bool) (l : Line) (behind : List ℕ → Bool) → IsHere program slots base here (in_front l behind) → IsProper l → IsTold t l behind → AreDeclared slots base (simple_behind scope frame here t l).locals → IsHere program slots base (simple_behind scope frame here t l) behind
+  pub simple_here : (here : Here) (t : Bool) (l : Line) (behind : List ℕ → Bool) → IsHere program slots base here (in_front l behind) → IsProper l → IsTold t l behind → AreDeclared slots base (simple_behind scope frame here t l).locals → IsHere program slots base (simple_behind scope frame here t l) behind
   simple_here here t (Line.Local p d init) behind h proper told declared =
       here_less program slots base (with_local scope frame.locks t d here) _ behind (here_local program slots base scope frame known here t p d init behind h proper.0 told declared) (λ name e. or_right (perhaps_mentions Address name init) (behind name) e)
   simple_here here t l behind h proper told declared = here_less program slots base here (in_front l behind) behind h (λ name e. or_right (has Address name l) (behind name) e)

@@ -70,17 +70,17 @@ module _ (program : Program) (slots : List Slot) (base : ℕ) (scope : Scope) (f
       (here_less program slots base here (in_front l behind) behind h (λ name e. or_right (has Address name l) (behind name) e))
 
   -- behind a part of a statement
-  part_here : (here : Here) (l : Line) (rest : List ℕ → Bool) → IsHere program slots base here rest → IsStatement l → IsProper l → IsHere program slots base (line_behind scope frame here false l) rest
+  pub part_here : (here : Here) (l : Line) (rest : List ℕ → Bool) → IsHere program slots base here rest → IsStatement l → IsProper l → IsHere program slots base (line_behind scope frame here false l) rest
   part_here here l rest h s proper = here_same program slots base here (line_behind scope frame here false l) rest (line_grows scope frame here false l) (names_keep scope frame here false l s proper) h
 
   -- behind the head of a `for`
-  head_here : (here : Here) (init : Lines) (test : Option Written) (step : Lines) (body : Line) → IsHere program slots base (heads_behind scope frame here test step body init) (tail test step body) → AreStatements step → IsHere program slots base (behind_head scope frame here init test step body) (tail test step body)
+  pub head_here : (here : Here) (init : Lines) (test : Option Written) (step : Lines) (body : Line) → IsHere program slots base (heads_behind scope frame here test step body init) (tail test step body) → AreStatements step → IsHere program slots base (behind_head scope frame here init test step body) (tail test step body)
   unfolding behind_head
   head_here here init test step body h s =
       let b : Here = heads_behind scope frame here test step body init in
       here_numbered program slots base (steps_behind scope frame b step) (tail test step body) (subst (λ x. IsHere program slots base x (tail test step body)) (sym (steps_same scope frame b step s)) h)
 
-  head_declared : (here : Here) (init : Lines) (test : Option Written) (step : Lines) (body : Line) → AreStatements step → AreDeclared slots base (line_behind scope frame (behind_head scope frame here init test step body) false body).locals → AreDeclared slots base (heads_behind scope frame here test step body init).locals
+  pub head_declared : (here : Here) (init : Lines) (test : Option Written) (step : Lines) (body : Line) → AreStatements step → AreDeclared slots base (line_behind scope frame (behind_head scope frame here init test step body) false body).locals → AreDeclared slots base (heads_behind scope frame here test step body init).locals
   unfolding behind_head
   head_declared here init test step body s declared =
       let b : Here = heads_behind scope frame here test step body init in

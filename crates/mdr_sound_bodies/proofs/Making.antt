@@ -52,7 +52,7 @@ given_right scope siblings h v e =
     let b = after_right (annotated scope siblings h.place a.value h.ann) (given_by a.value) v a.made in
     a.right ∙ ap (λ (x : Given). Right x.ty) (same_right (record { ty = a.value; ann = b.value }) v b.made)
 
-heading_right : (scope : Scope) (h : Head) (g : Heading) → heading scope h ≡ Right g → IsHeaded scope (map (candidate scope) h.params) h g
+pub heading_right : (scope : Scope) (h : Head) (g : Heading) → heading scope h ≡ Right g → IsHeaded scope (map (candidate scope) h.params) h g
 unfolding heading
 heading_right scope h g e =
     let siblings = map (candidate scope) h.params in
@@ -73,7 +73,7 @@ body_right rules scope frame here objects ls body e =
     subst (λ x. IsBodied rules scope frame here objects ls x) (same_right (record { objects = objects; locals = b.left; statements = b.right }) body b.made)
     (record { locals = b.first; statements = b.second; marks = refl })
 
-mapped_many : {A B : Type 0} (f : A → B) (xs : List A) → length (map f xs) ≡ length xs
+pub mapped_many : {A B : Type 0} (f : A → B) (xs : List A) → length (map f xs) ≡ length xs
 mapped_many f [] = refl
 mapped_many f (x ∷ xs) = ap suc (mapped_many f xs)
 
@@ -93,7 +93,7 @@ module _ (program : Program) (rules : Rules) (scope : Scope) (h : Head) (nodes :
   unfolding frame_of
   told_from i d at = (from_lines scope (frame_of scope h) (first_here scope (lines_of nodes) h.params) (lines_of nodes) first_from).each i d at
 
-  result_told : (t : Ty) → head_result scope h ≡ Right t → (frame_of scope h).result ≡ Ok t
+  pub result_told : (t : Ty) → head_result scope h ≡ Right t → (frame_of scope h).result ≡ Ok t
   unfolding frame_of
   result_told t e = ap told e
 

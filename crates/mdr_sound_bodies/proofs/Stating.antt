@@ -111,11 +111,11 @@ module _ (program : Program) (slots : List Slot) (result : Ty) where
   continue_typed : (n : ℕ) (b : Bool) → IsTrue b → 1 ≤ n → AreTyped program slots result b (codes_of (stmt n step.Continue ∷ []))
   continue_typed n b h some = (subst (IsTyped program slots result b) (sym (code_is (stmt n step.Continue) step.Continue refl ∙ continue_is n)) (record { numbered = some; right = h }), tt)
 
-  record HasJumped (in_loop : Bool) (n : ℕ) (s : Step) (ss : List Stmt) : Type 0 where
+  pub record HasJumped (in_loop : Bool) (n : ℕ) (s : Step) (ss : List Stmt) : Type 0 where
     pub inside : in_loop ≡ true
     pub is : ss ≡ stmt n s ∷ []
 
-  jump_right : (p : Place) (in_loop : Bool) (n : ℕ) (s : Step) (ss : List Stmt) → stated n (jumped p in_loop s) ≡ Right ss → HasJumped in_loop n s ss
+  pub jump_right : (p : Place) (in_loop : Bool) (n : ℕ) (s : Step) (ss : List Stmt) → stated n (jumped p in_loop s) ≡ Right ss → HasJumped in_loop n s ss
   jump_right p true n s ss e = record { inside = refl; is = sym (same_right _ _ e) }
   jump_right p false n s ss e = not_right _ ss e
 
@@ -198,7 +198,7 @@ module _ (program : Program) (slots : List Slot) (base : ℕ) (scope : Scope) (f
       (formed_scalar program o.ty formed (and_first (is_scalar o.ty) (not o.array) c.holds))
       c.right
 
-  initial_sound : (here : Here) (t : Bool) (d : Decl) (w : Written) (s : Step) → IsAt slots scope frame.locks here.slot t d → KnowsLocals program slots (with_local scope frame.locks t d here).names → IsRight (with_local scope frame.locks t d here).names w → initial_step rules scope frame here t d w ≡ Right s → IsSoundStep program slots result s
+  pub initial_sound : (here : Here) (t : Bool) (d : Decl) (w : Written) (s : Step) → IsAt slots scope frame.locks here.slot t d → KnowsLocals program slots (with_local scope frame.locks t d here).names → IsRight (with_local scope frame.locks t d here).names w → initial_step rules scope frame here t d w ≡ Right s → IsSoundStep program slots result s
   unfolding initial_step
   initial_sound here t d w s at knows right e =
       let names = (with_local scope frame.locks t d here).names in

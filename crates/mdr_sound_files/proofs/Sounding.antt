@@ -94,7 +94,7 @@ keep_either (h ∷ hs) f g i e = by (bytes_eq h.name f.name) i e (λ j. keep_eit
 
 -- ---- the source of bodies
 
-proper_at : (before more : List Item) (i : Item) → AreBodiesProper ((before ++ i ∷ []) ++ more) → IsBodyProper i.what
+pub proper_at : (before more : List Item) (i : Item) → AreBodiesProper ((before ++ i ∷ []) ++ more) → IsBodyProper i.what
 proper_at [] more i all = all.0
 proper_at (b ∷ bs) more i all = proper_at bs more i all.1
 
@@ -121,16 +121,16 @@ head_params program objects ps h i p e =
 -- ---- a whole file
 
 module _ (program : Program) (rules : Rules) (items : List Item) (xs : List Piece) (right : pieces_behind (body_rule rules) items (first_known items) [] items ≡ Right xs) (made : IsMadeOf program (parts_behind no_parts xs)) (ranges : AreDefinesInRange items) (proper : AreBodiesProper items) (all : HasAll program) (sound_rules : (scope : Scope) → Knows program scope → (slots : List Slot) → AreSoundRules program slots scope rules) where
-  abbrev Whole : Parts
+  abbrev pub Whole : Parts
   Whole = parts_behind no_parts xs
 
-  abbrev Last : Known
+  abbrev pub Last : Known
   Last = known_behind items (first_known items) items
 
   abbrev Turn : List Item → Known → Item → Piece → Parts → Type 0
   Turn = IsPlace (body_rule rules) items Whole Last.functions
 
-  abbrev AtRest : Known → Parts → Type 0
+  abbrev pub AtRest : Known → Parts → Type 0
   AtRest = IsStanding program (body_rule rules) items xs right made ranges
 
   -- ---- how many elements globals have
@@ -179,7 +179,7 @@ module _ (program : Program) (rules : Rules) (items : List Item) (xs : List Piec
 
   -- ---- what is declared in a body
 
-  knows_declarations : (known : Known) (ps : Parts) (scope : Scope) → AtRest known ps → Stands program scope → scope.structs ≡ known.scope.structs → KnowsDeclarations program scope
+  pub knows_declarations : (known : Known) (ps : Parts) (scope : Scope) → AtRest known ps → Stands program scope → scope.structs ≡ known.scope.structs → KnowsDeclarations program scope
   knows_declarations known ps scope q st same =
       let low : AreNumbered scope (length program.structs) = tags_numbered program scope st in
       record {
@@ -190,11 +190,11 @@ module _ (program : Program) (rules : Rules) (items : List Item) (xs : List Piec
         fields = λ s f entry x e g. q.fields s f entry x (ap (λ es. slice_get es s) (sym same) ∙ e) g;
       }
 
-  body_scope_structs : (known : Known) (h : Head) → (body_scope items known h).structs ≡ known.scope.structs
+  pub body_scope_structs : (known : Known) (h : Head) → (body_scope items known h).structs ≡ known.scope.structs
   unfolding behind_function
   body_scope_structs known h = function_structs (is_taken known.scope h.name) known.scope (length known.functions) (is_defined items h.name) h
 
-  body_scope_tags : (known : Known) (h : Head) → known.scope.tags ≡ (body_scope items known h).tags
+  pub body_scope_tags : (known : Known) (h : Head) → known.scope.tags ≡ (body_scope items known h).tags
   unfolding behind_function
   body_scope_tags known h = function_tags (is_taken known.scope h.name) known.scope (length known.functions) (is_defined items h.name) h
 
@@ -210,7 +210,7 @@ module _ (program : Program) (rules : Rules) (items : List Item) (xs : List Piec
   head_sound known ps h headed q low numbered = heading_sound program known.scope h headed.heading q.stands numbered headed.listed
 
   -- a heading that stands among the functions of the file
-  abbrev headed_by : (before : List Item) (known : Known) (h : Head) (is_body : Bool) (g : Heading) → function_declared known.scope known.functions before h is_body ≡ Right g → Begins (functions_behind known.scope known.functions h) Last.functions → IsHeaded program (body_rule rules) items xs right made ranges known h
+  abbrev pub headed_by : (before : List Item) (known : Known) (h : Head) (is_body : Bool) (g : Heading) → function_declared known.scope known.functions before h is_body ≡ Right g → Begins (functions_behind known.scope known.functions h) Last.functions → IsHeaded program (body_rule rules) items xs right made ranges known h
   headed_by before known h is_body g e b = record { heading = g; listed = (ruled known.scope known.functions before h is_body g e).right; begins = b }
 
   prototype_sound : (before : List Item) (known : Known) (ps : Parts) (h : Head) (g : Heading) → function_declared known.scope known.functions before h false ≡ Right g → Begins (functions_behind known.scope known.functions h) Last.functions → AtRest known ps → AreNumbered known.scope (length program.structs) → IsPlaced program (remote h.name g) → IsSoundFunc program (remote h.name g)
@@ -281,7 +281,7 @@ module _ (program : Program) (rules : Rules) (items : List Item) (xs : List Piec
       let v = global_from program.types program.structs Whole.variables Whole.variables g def (ap (λ gs. slice_get gs g) (sym globals_are) ∙ e) in
       subst (IsSoundGlobal program g) v.2 (all_sound.globals g v.0 v.1 v.1)
 
-  func_placed : (f : ℕ) (func : Func) → slice_get program.funcs f ≡ Some func → CallsNothingBack program → IsPlaced program func
+  pub func_placed : (f : ℕ) (func : Func) → slice_get program.funcs f ≡ Some func → CallsNothingBack program → IsPlaced program func
   func_placed f func e back = record {
     params = λ i p n. all p.ty (occurs.OfParam f i func p e n refl);
     locals = λ i l n object. all l.ty (occurs.OfLocal f i func l e n refl);

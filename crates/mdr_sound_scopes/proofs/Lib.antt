@@ -1,0 +1,9 @@
+pub mod Hiding
+pub mod Seeing
+pub mod Living
+pub mod Steps
+pub mod Lines
+pub mod Making
+pub mod Filing
+pub mod Typing
+pub mod Sourced
