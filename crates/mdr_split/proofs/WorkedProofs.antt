@@ -20,7 +20,7 @@ use Rattle.mdr_split.specs.Worked.{BumpSends}
 use Rattle.mdr_watched.specs.Views.{new_cells}
 use Rattle.mdr_watched.specs.Watched.{upcall, watched_of}
 
-unfoldable passes : Unit {0}
+unfoldable pub passes : Unit {0}
 unfolding
     runs element_offsets field_offsets key_of offsets offsets_below offsets_of struct_offsets struct_start
     extent first_of is_touched length_now views_touched

@@ -1,0 +1,2 @@
+pub mod TimedProofs
+pub mod GraphProofs

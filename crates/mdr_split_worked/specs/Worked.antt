@@ -1,0 +1,287 @@
+-- Small drivers in two halves, worked out: their messages, and what their runs show.
+use Rattle.std.specs.Prelude.{◌≡◌, ℕ, suc, true, false, List, [], ◌∷◌, Option, Some, None, codes, pos}
+use Rattle.mdr_core.specs.declared.kind.Kind.TheVariants.{U32}
+use Rattle.mdr_core.specs.declared.plan.Key.{Key}
+use Rattle.mdr_core.specs.declared.plan.Key.TheVariants as key
+use Rattle.mdr_core.specs.declared.program.StructDef.{StructDef}
+use Rattle.mdr_core.specs.declared.types.Ann.TheVariants.{Single, Opaque}
+use Rattle.mdr_core.specs.declared.types.Ty.TheVariants as ty
+use Rattle.mdr_core.specs.declared.value.Value.TheVariants as value
+use Rattle.mdr_core.specs.Code.{Term, Lvalue, Code}
+use Rattle.mdr_meaning.specs.declared.shape.Shape64.{Shape64}
+use Rattle.mdr_meaning.specs.declared.wire.Wire.{Wire}
+use Rattle.mdr_meaning.specs.declared.wire.Wire.TheVariants as wire
+use Rattle.mdr_meaning.specs.Sides.{Body}
+use Rattle.mdr_meaning.specs.Worked.{add, at_stmt, behind, body, calls as calls_func, field, glob, node_pointer, number, object as object_slot, param, u32, var}
+use Rattle.mdr_model.specs.declared.command.Command.TheVariants as command
+use Rattle.mdr_model.specs.declared.memory.MemoryBlock.{MemoryBlock}
+use Rattle.mdr_model.specs.declared.message.BirthKind.{BirthKind}
+use Rattle.mdr_model.specs.declared.message.BirthKind.TheVariants.{Static, Heap, Auto}
+use Rattle.mdr_model.specs.declared.message.Message.{Message}
+use Rattle.mdr_model.specs.declared.message.Message.TheVariants as message
+use Rattle.mdr_model.specs.declared.message.New.{New}
+use Rattle.mdr_model.specs.declared.message.Run.{Run}
+use Rattle.mdr_model.specs.declared.message.SetRun.{SetRun}
+use Rattle.mdr_model.specs.declared.message.Told.{Told}
+use Rattle.mdr_model.specs.declared.outcome.End.{End}
+use Rattle.mdr_model.specs.declared.outcome.End.TheVariants as ends
+use Rattle.mdr_model.specs.declared.outcome.Seen.TheVariants as seen
+use Rattle.mdr_model.specs.Law.{read}
+use Rattle.mdr_model.specs.Memory.{Memory}
+use Rattle.mdr_model.specs.User.{allowance}
+use Rattle.mdr_plain.specs.declared.outcome.Happened.TheVariants as happened
+use Rattle.mdr_plain.specs.declared.outcome.Outcome.{Outcome}
+use Rattle.mdr_plain.specs.Outcome.{outcome_of}
+use Rattle.mdr_plain.specs.Scripts.{finish}
+use Rattle.mdr_plain.specs.Worked.{allocates, calls, just, named, of_type, serves, with_rules, zero_u32}
+use Rattle.mdr_plain.specs.WorkedInterrupts.{after_two, counts_hit, hitting, reads, requests, sets, writes}
+use Rattle.mdr_script.specs.declared.bound.Bound.{Bound}
+use Rattle.mdr_split.specs.Kernel.{split_run}
+use Rattle.mdr_split.specs.Law.{IsHonest}
+use Rattle.mdr_split.specs.State.{Kernel, Pending, Over, Waits}
+use Rattle.mdr_split.specs.User.{first_user, user_after}
+use Rattle.mdr_split.specs.Worked.{u32_value, with_stubs}
+use Rattle.mdr_watched.specs.Driver.{Driver}
+use Rattle.mdr_watched.specs.Watched.{watched_of}
+use Rattle.mdr_watched.specs.Worked.{began, cut, int, object, outcome, param_of, returned, word}
+
+-- ---- what is shown of a run of a million ticks
+
+abbrev pub end_of : Pending → Option End
+end_of (Over end k) = Some end
+end_of (Waits m k upcall rest script) = None
+
+abbrev pub state_of : Pending → Kernel
+state_of (Over end k) = k
+state_of (Waits m k upcall rest script) = k
+
+-- these messages are sent over these answers, and the answers are honest; the run ends well, with an outcome which is that of the watched run too; and then both halves hold this agreed copy
+pub record Passes (d : Driver) (script : Bound) (messages answers : List Message) (shows : Outcome) (copy : Memory) : Type 0 where
+  pub sent : (split_run d script 1000000 (read answers)).sent ≡ messages
+  pub honest : IsHonest d [] messages answers
+  pub end : end_of (split_run d script 1000000 (read answers)).pending ≡ Some ends.Ok
+  pub outcome : outcome_of d.program (finish ends.Ok (state_of (split_run d script 1000000 (read answers)).pending).world) ≡ shows
+  pub watched : outcome_of d.program (watched_of d script 1000000) ≡ shows
+  pub kernel : (state_of (split_run d script 1000000 (read answers)).pending).agreed ≡ copy
+  pub user : (user_after d (suc (allowance (read messages))) (first_user d) (read messages)).agreed ≡ copy
+
+-- ---- words
+
+-- so many cells of a block, visible
+abbrev pub cells : (serial first len : ℕ) → SetRun
+cells serial first n = record { serial = serial; first = first; len = n }
+
+-- one cell has this value
+abbrev pub holds : (serial index : ℕ) → Wire → Run
+holds serial index v = record { serial = serial; first = index; values = v ∷ [] }
+
+abbrev pub told : (deaths : List ℕ) → List New → List SetRun → List Run → Told
+told deaths news view runs = record { deaths = deaths; news = news; view = view; runs = runs }
+
+-- one element of a type
+abbrev pub one : (ty : ℕ) → Shape64
+one ty = record { ty = ty; count = 1 }
+
+-- a pointer to it
+abbrev pub points : (serial ty : ℕ) → Wire
+points serial ty = wire.Ptr (record { serial = serial; first = 0; ty = ty; count = 1; index = 0 })
+
+-- a block as it is held
+abbrev pub block : (serial : ℕ) → BirthKind → (ty : ℕ) → List Wire → MemoryBlock
+block serial kind ty held = record { born = record { serial = serial; kind = kind; ty = ty; count = 1 }; cells = held }
+
+-- ---- a graph: struct node {u32 v; u32 mark; struct node *next;};
+-- struct node *head; struct node *last; u32 got; u32 *secret __opaque;   A pointer's type is `void *` here, since what it points to doesn't compute
+-- void ring(void){head=kzalloc(struct node); last=kzalloc(struct node); head->next=last; last->next=head; secret=kzalloc(u32);}
+-- void unlink(u32 *p){kfree(last); kfree(secret); last=head; head->mark=9; *p=5;}
+-- void work(void){u32 x; got=1; unlink(&x); last->v=x; head->next=kzalloc(struct node); head->next->next=head; got=got+head->v;}   which is of the user half
+
+abbrev pub marked_node : StructDef
+marked_node = record { name = codes "node"; fields = field u32 ∷ field u32 ∷ field ty.VoidPtr ∷ [] }
+
+-- field f of the node that a global points to
+abbrev pub of_global : (global f : ℕ) → Lvalue
+of_global g f = Lvalue.Member (Lvalue.Deref (glob g)) f
+
+abbrev pub makes_node : (number : ℕ) → Lvalue → Code
+makes_node n p = allocates n 1 p (ty.Struct 0) []
+
+abbrev pub frees : (number global : ℕ) → Code
+frees n g = serves n 3 (glob g ∷ [])
+
+abbrev pub ring : Body
+ring = body [] ty.Void
+    (makes_node 1 (Lvalue.Global 0)
+    ∷ makes_node 2 (Lvalue.Global 1)
+    ∷ Code.Assign 3 (of_global 0 2) (glob 1)
+    ∷ Code.Assign 4 (of_global 1 2) (glob 0)
+    ∷ allocates 5 1 (Lvalue.Global 3) u32 []
+    ∷ [])
+
+abbrev pub unlink : Body
+unlink = body (param ty.VoidPtr ∷ []) ty.Void
+    (frees 1 1 ∷ frees 2 3 ∷ sets 3 1 (glob 0) ∷ Code.Assign 4 (of_global 0 1) (number 9) ∷ Code.Assign 5 (Lvalue.Deref (var 0)) (number 5) ∷ [])
+
+abbrev pub work : Body
+work = body (object_slot u32 ∷ []) ty.Void
+    (Code.Declare 1 0
+    ∷ sets 2 2 (number 1)
+    ∷ calls_func 3 1 (Term.ToVoid (Term.Addr (Lvalue.Object 0)) ∷ [])
+    ∷ Code.Assign 4 (of_global 1 0) (Term.Load (Lvalue.Object 0))
+    ∷ makes_node 5 (of_global 0 2)
+    ∷ Code.Assign 6 (Lvalue.Member (Lvalue.Deref (Term.Load (of_global 0 2))) 2) (glob 0)
+    ∷ sets 7 2 (add (glob 2) (Term.Load (of_global 0 0)))
+    ∷ [])
+
+abbrev pub graph : Driver
+graph = with_stubs (false ∷ true ∷ false ∷ [])
+    (cut
+    (record {
+      struct = marked_node;
+      pointer = ty.VoidPtr;
+      globals = of_type ty.VoidPtr (value.Null ∷ []) ∷ of_type ty.VoidPtr (value.Null ∷ []) ∷ of_type u32 (zero_u32 ∷ []) ∷ record (of_type ty.VoidPtr (value.Null ∷ [])) { ann = Opaque } ∷ [];
+      funcs = named (codes "ring") ∷ record (named (codes "unlink")) { params = param_of ty.VoidPtr Single ∷ [] } ∷ named (codes "work") ∷ [];
+      bodies = ring ∷ unlink ∷ work ∷ [];
+    })
+    (false ∷ false ∷ true ∷ [])
+    ([] ∷ [] ∷ (key.Global 0 ∷ key.Global 1 ∷ key.Global 2 ∷ key.Global 3 ∷ key.Field 0 0 ∷ key.Field 0 2 ∷ key.Elem 2 ∷ []) ∷ []))
+
+abbrev pub ring_and_work : Bound
+ring_and_work = just (calls 0 ∷ calls 2 ∷ [])
+
+abbrev pub node_at : (serial : ℕ) → Wire
+node_at n = points n 9
+
+abbrev pub u32_at : (serial : ℕ) → Wire
+u32_at n = points n 2
+
+abbrev pub new_node : (serial : ℕ) → New
+new_node n = record { serial = n; kind = Heap; ty = 9; count = 1 }
+
+-- the globals, and of nodes the fields that user code touches
+abbrev pub seen_of : (nodes rest : List SetRun) → List SetRun
+seen_of nodes rest = cells 0 0 1 ∷ cells 1 0 1 ∷ cells 2 0 1 ∷ cells 3 0 1 ∷ cells 4 0 1 ∷ cells 4 2 1 ∷ rest
+
+abbrev pub graph_sent : List Message
+graph_sent =
+    -- the nodes point to each other; the block behind the opaque pointer is told, and not seen
+    message.Call 2 0 999995 []
+    (told []
+    (new_node 4 ∷ new_node 5 ∷ record { serial = 6; kind = Heap; ty = 2; count = 1 } ∷ [])
+    (cells 0 0 1 ∷ cells 1 0 1 ∷ cells 2 0 1 ∷ cells 3 0 1 ∷ cells 4 0 1 ∷ cells 4 2 1 ∷ cells 5 0 1 ∷ cells 5 2 1 ∷ [])
+    (holds 0 0 (node_at 4) ∷ holds 1 0 (node_at 5) ∷ holds 3 0 (u32_at 6) ∷ holds 4 2 (node_at 5) ∷ holds 5 2 (node_at 4) ∷ []))
+    -- the object is born
+    ∷ message.Answer (u32_at 7 ∷ []) [] (record { serial = 7; kind = Auto; ty = 2; count = 1 } ∷ [])
+    -- two blocks died, one of which was never seen: pointers to them die on both sides. The mark isn't told, nor what user code wrote itself
+    ∷ message.Back 999987 wire.NoValue
+    (told (5 ∷ 6 ∷ []) []
+    (cells 0 0 1 ∷ cells 1 0 1 ∷ cells 2 0 1 ∷ cells 3 0 1 ∷ cells 4 0 1 ∷ cells 4 2 1 ∷ cells 7 0 1 ∷ [])
+    (holds 1 0 (node_at 4) ∷ holds 7 0 (u32_value 5) ∷ []))
+    -- a node is born, and the object dies
+    ∷ message.Answer (node_at 8 ∷ []) [] (new_node 8 ∷ [])
+    ∷ message.Answer [] (7 ∷ []) []
+    ∷ []
+
+abbrev pub graph_answers : List Message
+graph_answers =
+    message.Ask 1 (at_stmt 2 1) 13 [] (one 2 ∷ []) [] []
+    ∷ message.Down 2 (at_stmt 2 3) 1 1 (u32_at 7 ∷ []) (holds 2 0 (u32_value 1) ∷ [])
+    ∷ message.Ask 2 (at_stmt 2 5) 1 [] (one 9 ∷ []) [] (holds 4 0 (u32_value 5) ∷ [])
+    -- what was written through `last` is read through `head`, and the new node points back
+    ∷ message.Ask 2 (at_stmt 2 0) 14 (u32_at 7 ∷ []) [] [] (holds 2 0 (u32_value 6) ∷ holds 4 2 (node_at 8) ∷ holds 8 2 (node_at 4) ∷ [])
+    ∷ message.Return 0 wire.NoValue []
+    ∷ []
+
+abbrev pub graph_outcome : Outcome
+graph_outcome =
+    outcome (began (codes "ring") [] ∷ returned ∷ began (codes "work") [] ∷ returned ∷ []) ends.Ok 17 6
+    (object 10 1 (seen.At 5 0 ∷ [])
+    ∷ object 10 1 (seen.At 5 0 ∷ [])
+    ∷ word 6
+    ∷ object 10 1 (seen.Dead ∷ [])
+    ∷ object 9 1 (int 5 ∷ int 9 ∷ seen.At 6 0 ∷ [])
+    ∷ object 9 1 (int 0 ∷ int 0 ∷ seen.At 5 0 ∷ [])
+    ∷ [])
+
+-- the mark was never told
+abbrev pub graph_copy : Memory
+graph_copy =
+    block 0 Static 10 (node_at 4 ∷ [])
+    ∷ block 1 Static 10 (node_at 4 ∷ [])
+    ∷ block 2 Static 2 (u32_value 6 ∷ [])
+    ∷ block 3 Static 10 (wire.Dead ∷ [])
+    ∷ block 4 Heap 9 (u32_value 5 ∷ u32_value 0 ∷ node_at 8 ∷ [])
+    ∷ block 8 Heap 9 (u32_value 0 ∷ u32_value 0 ∷ node_at 4 ∷ [])
+    ∷ []
+
+abbrev pub TellsGraph : Type 0
+TellsGraph = Passes graph ring_and_work graph_sent graph_answers graph_outcome graph_copy
+
+-- ---- a device: u32 hits; u32 seen;   with `h` of `mdr_plain`, which counts hits and lowers the line
+-- void start(void){request_irq(h);} void poke(void){seen=seen+1;}
+-- void go(void){writel(1,0); seen=1; seen=2; seen=readl(3); poke(); seen=seen+hits;}   which is of the user half
+
+abbrev pub starts : Body
+starts = body [] ty.Void (requests 1 ∷ [])
+
+abbrev pub pokes : Body
+pokes = body [] ty.Void (sets 1 1 (add (glob 1) (number 1)) ∷ [])
+
+abbrev pub goes : Body
+goes = body [] ty.Void
+    (writes 1 1 0 ∷ sets 2 1 (number 1) ∷ sets 3 1 (number 2) ∷ reads 4 1 3 ∷ calls_func 5 2 [] ∷ sets 6 1 (add (glob 1) (glob 0)) ∷ [])
+
+abbrev pub timed : Driver
+timed = with_stubs (false ∷ false ∷ true ∷ false ∷ [])
+    (cut
+    (record hitting {
+      funcs = named (codes "h") ∷ named (codes "start") ∷ named (codes "poke") ∷ named (codes "go") ∷ [];
+      bodies = counts_hit ∷ starts ∷ pokes ∷ goes ∷ [];
+    })
+    (false ∷ false ∷ false ∷ true ∷ [])
+    ([] ∷ [] ∷ [] ∷ (key.Global 0 ∷ key.Global 1 ∷ []) ∷ []))
+
+-- two ticks behind the first write register 3 is 7, and the line rises
+abbrev pub start_and_go : Bound
+start_and_go = with_rules after_two (calls 1 ∷ calls 3 ∷ [])
+
+abbrev pub both_seen : List SetRun
+both_seen = cells 0 0 1 ∷ cells 1 0 1 ∷ []
+
+abbrev pub timed_sent : List Message
+timed_sent =
+    message.Call 3 0 999999 [] (told [] [] both_seen [])
+    ∷ message.Answer [] [] []
+    ∷ message.Answer (u32_value 7 ∷ []) [] []
+    -- no interrupt was taken
+    ∷ message.Back 999993 wire.NoValue (told [] [] both_seen (holds 1 0 (u32_value 8) ∷ []))
+    ∷ []
+
+abbrev pub timed_answers : List Message
+timed_answers =
+    message.Ask 1 (at_stmt 3 1) 5 (u32_value 1 ∷ u32_value 0 ∷ []) [] [] []
+    ∷ message.Ask 3 (at_stmt 3 4) 4 (u32_value 3 ∷ []) [] [] (holds 1 0 (u32_value 2) ∷ [])
+    ∷ message.Down 1 (at_stmt 3 5) 1 2 [] (holds 1 0 (u32_value 7) ∷ [])
+    ∷ message.Return 1 wire.NoValue []
+    ∷ []
+
+abbrev pub timed_outcome : Outcome
+timed_outcome =
+    outcome
+    (began (codes "start") []
+    ∷ returned
+    ∷ began (codes "go") []
+    ∷ happened.Wrote 0 1
+    ∷ happened.Read 3 7
+    ∷ returned
+    ∷ happened.Irq 0
+    ∷ happened.Wrote 1 0
+    ∷ [])
+    ends.Ok 10 2 (word 1 ∷ word 8 ∷ [])
+
+-- the hit came behind the last message
+abbrev pub timed_copy : Memory
+timed_copy = block 0 Static 2 (u32_value 0 ∷ []) ∷ block 1 Static 2 (u32_value 8 ∷ []) ∷ []
+
+abbrev pub KeepsTime : Type 0
+KeepsTime = Passes timed start_and_go timed_sent timed_answers timed_outcome timed_copy

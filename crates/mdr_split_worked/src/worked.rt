@@ -1,0 +1,15 @@
+// Small drivers worked out, each as a function that does nothing.
+
+ghost use Rattle.mdr_split_worked.specs.Worked.{KeepsTime, TellsGraph};
+
+/// The messages of a driver whose nodes point to each other, of which kernel code frees one while user code runs, and
+/// another block that user code may not look at; user code has an object, lends it to kernel code, and allocates.
+pub fn graphs_are_told()
+    ensures { TellsGraph }
+{}
+
+/// The messages of a driver whose device counts the ticks of user code. Its line rises in an upcall, and the interrupt
+/// waits for the end of that, also where user code calls the kernel half meanwhile.
+pub fn devices_keep_time()
+    ensures { KeepsTime }
+{}
