@@ -4,6 +4,7 @@ use Rattle.mdr_extents.specs.Around.{element_offsets, field_offsets, key_of, off
 use Rattle.mdr_extents.specs.Extent.{extent, first_of, is_touched, length_now, views_touched}
 use Rattle.mdr_extents.specs.Reaching.{all_cells, extent_at, first_failing, graph, own_cells, root_cells, root_extent, visible}
 use Rattle.mdr_meaning.specs.Walk.{walk}
+use Rattle.mdr_model.specs.Agreement.{has}
 use Rattle.mdr_model.specs.Copies.{agreed_after, begun_copy, changed_cells, changed_values, changes, died, held, inserted, left_of, news_of, numbered, put_all, put_runs, tells, told_news, values_of_runs, with_news, without}
 use Rattle.mdr_model.specs.ReplyFaults.{user_stop}
 use Rattle.mdr_model.specs.Sets.{cells_of_runs, is_in, rises_after, runs_of_cells}
@@ -27,7 +28,7 @@ unfolding
     all_cells extent_at first_failing graph own_cells root_cells root_extent visible
     adds counted fails first is_among is_led leads round rounds found visible_set
     new_cells upcall watched_of walk
-    agreed_after begun_copy changed_cells changed_values changes died held inserted left_of news_of numbered put_all put_runs tells told_news values_of_runs with_news without
+    has agreed_after begun_copy changed_cells changed_values changes died held inserted left_of news_of numbered put_all put_runs tells told_news values_of_runs with_news without
     user_stop cells_of_runs is_in rises_after runs_of_cells allowance lives_fit is_same is_same_view
     fits fits_result is_in_below is_in_fields is_in_structs is_named is_view_of
     answers applied calls comes_back first_kernel next run_from_pending split_commands split_run taken

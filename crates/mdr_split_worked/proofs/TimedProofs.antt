@@ -6,10 +6,11 @@ use Rattle.mdr_model.specs.User.{allowance}
 use Rattle.mdr_plain.specs.Outcome.{outcome_of}
 use Rattle.mdr_plain.specs.Scripts.{finish}
 use Rattle.mdr_split.proofs.WorkedProofs.{passes}
+use Rattle.mdr_split.specs.AnyAnswers.{kernel_in}
 use Rattle.mdr_split.specs.Kernel.{split_run}
 use Rattle.mdr_split.specs.Law.{IsHonest}
 use Rattle.mdr_split.specs.User.{first_user, user_after}
-use Rattle.mdr_split_worked.specs.Worked.{KeepsTime, end_of, state_of, timed, start_and_go, timed_sent, timed_answers, timed_outcome, timed_copy}
+use Rattle.mdr_split_worked.specs.Worked.{KeepsTime, end_of, timed, start_and_go, timed_sent, timed_answers, timed_outcome, timed_copy}
 use Rattle.mdr_watched.specs.Watched.{watched_of}
 
 sent : (split_run timed start_and_go 1000000 (read timed_answers)).sent ≡ timed_sent
@@ -24,7 +25,7 @@ end : end_of (split_run timed start_and_go 1000000 (read timed_answers)).pending
 unfolding passes
 end = refl
 
-outcome : outcome_of timed.program (finish ends.Ok (state_of (split_run timed start_and_go 1000000 (read timed_answers)).pending).world) ≡ timed_outcome
+outcome : outcome_of timed.program (finish ends.Ok (kernel_in (split_run timed start_and_go 1000000 (read timed_answers)).pending).world) ≡ timed_outcome
 unfolding passes
 outcome = refl
 
@@ -32,7 +33,7 @@ watched : outcome_of timed.program (watched_of timed start_and_go 1000000) ≡ t
 unfolding passes
 watched = refl
 
-kernel : (state_of (split_run timed start_and_go 1000000 (read timed_answers)).pending).agreed ≡ timed_copy
+kernel : (kernel_in (split_run timed start_and_go 1000000 (read timed_answers)).pending).agreed ≡ timed_copy
 unfolding passes
 kernel = refl
 

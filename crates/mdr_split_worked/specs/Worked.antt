@@ -36,6 +36,7 @@ use Rattle.mdr_plain.specs.Scripts.{finish}
 use Rattle.mdr_plain.specs.Worked.{allocates, calls, just, named, of_type, serves, with_rules, zero_u32}
 use Rattle.mdr_plain.specs.WorkedInterrupts.{after_two, counts_hit, hitting, reads, requests, sets, writes}
 use Rattle.mdr_script.specs.declared.bound.Bound.{Bound}
+use Rattle.mdr_split.specs.AnyAnswers.{kernel_in}
 use Rattle.mdr_split.specs.Kernel.{split_run}
 use Rattle.mdr_split.specs.Law.{IsHonest}
 use Rattle.mdr_split.specs.State.{Kernel, Pending, Over, Waits}
@@ -51,18 +52,14 @@ abbrev pub end_of : Pending → Option End
 end_of (Over end k) = Some end
 end_of (Waits m k upcall rest script) = None
 
-abbrev pub state_of : Pending → Kernel
-state_of (Over end k) = k
-state_of (Waits m k upcall rest script) = k
-
 -- these messages are sent over these answers, and the answers are honest; the run ends well, with an outcome which is that of the watched run too; and then both halves hold this agreed copy
 pub record Passes (d : Driver) (script : Bound) (messages answers : List Message) (shows : Outcome) (copy : Memory) : Type 0 where
   pub sent : (split_run d script 1000000 (read answers)).sent ≡ messages
   pub honest : IsHonest d [] messages answers
   pub end : end_of (split_run d script 1000000 (read answers)).pending ≡ Some ends.Ok
-  pub outcome : outcome_of d.program (finish ends.Ok (state_of (split_run d script 1000000 (read answers)).pending).world) ≡ shows
+  pub outcome : outcome_of d.program (finish ends.Ok (kernel_in (split_run d script 1000000 (read answers)).pending).world) ≡ shows
   pub watched : outcome_of d.program (watched_of d script 1000000) ≡ shows
-  pub kernel : (state_of (split_run d script 1000000 (read answers)).pending).agreed ≡ copy
+  pub kernel : (kernel_in (split_run d script 1000000 (read answers)).pending).agreed ≡ copy
   pub user : (user_after d (suc (allowance (read messages))) (first_user d) (read messages)).agreed ≡ copy
 
 -- ---- words
@@ -158,33 +155,41 @@ u32_at n = points n 2
 abbrev pub new_node : (serial : ℕ) → New
 new_node n = record { serial = n; kind = Heap; ty = 9; count = 1 }
 
--- the globals, and of nodes the fields that user code touches
-abbrev pub seen_of : (nodes rest : List SetRun) → List SetRun
-seen_of nodes rest = cells 0 0 1 ∷ cells 1 0 1 ∷ cells 2 0 1 ∷ cells 3 0 1 ∷ cells 4 0 1 ∷ cells 4 2 1 ∷ rest
+-- the globals, of the first node the fields that user code touches, and others
+abbrev pub seen_of : (others : List SetRun) → List SetRun
+seen_of others = cells 0 0 1 ∷ cells 1 0 1 ∷ cells 2 0 1 ∷ cells 3 0 1 ∷ cells 4 0 1 ∷ cells 4 2 1 ∷ others
 
-abbrev pub graph_sent : List Message
-graph_sent =
-    -- the nodes point to each other; the block behind the opaque pointer is told, and not seen
+-- the nodes point to each other; the block behind the opaque pointer is told, and not seen
+abbrev pub graph_call : Message
+graph_call =
     message.Call 2 0 999995 []
     (told []
     (new_node 4 ∷ new_node 5 ∷ record { serial = 6; kind = Heap; ty = 2; count = 1 } ∷ [])
-    (cells 0 0 1 ∷ cells 1 0 1 ∷ cells 2 0 1 ∷ cells 3 0 1 ∷ cells 4 0 1 ∷ cells 4 2 1 ∷ cells 5 0 1 ∷ cells 5 2 1 ∷ [])
+    (seen_of (cells 5 0 1 ∷ cells 5 2 1 ∷ []))
     (holds 0 0 (node_at 4) ∷ holds 1 0 (node_at 5) ∷ holds 3 0 (u32_at 6) ∷ holds 4 2 (node_at 5) ∷ holds 5 2 (node_at 4) ∷ []))
-    -- the object is born
-    ∷ message.Answer (u32_at 7 ∷ []) [] (record { serial = 7; kind = Auto; ty = 2; count = 1 } ∷ [])
-    -- two blocks died, one of which was never seen: pointers to them die on both sides. The mark isn't told, nor what user code wrote itself
-    ∷ message.Back 999987 wire.NoValue
-    (told (5 ∷ 6 ∷ []) []
-    (cells 0 0 1 ∷ cells 1 0 1 ∷ cells 2 0 1 ∷ cells 3 0 1 ∷ cells 4 0 1 ∷ cells 4 2 1 ∷ cells 7 0 1 ∷ [])
-    (holds 1 0 (node_at 4) ∷ holds 7 0 (u32_value 5) ∷ []))
-    -- a node is born, and the object dies
-    ∷ message.Answer (node_at 8 ∷ []) [] (new_node 8 ∷ [])
-    ∷ message.Answer [] (7 ∷ []) []
-    ∷ []
+
+-- the object is born
+abbrev pub graph_object : Message
+graph_object = message.Answer (u32_at 7 ∷ []) [] (record { serial = 7; kind = Auto; ty = 2; count = 1 } ∷ [])
+
+-- two blocks died, one of which was never seen: pointers to them die on both sides. The mark isn't told, nor what user code wrote itself
+abbrev pub graph_back : Message
+graph_back = message.Back 999987 wire.NoValue (told (5 ∷ 6 ∷ []) [] (seen_of (cells 7 0 1 ∷ [])) (holds 1 0 (node_at 4) ∷ holds 7 0 (u32_value 5) ∷ []))
+
+-- a node is born
+abbrev pub graph_node : Message
+graph_node = message.Answer (node_at 8 ∷ []) [] (new_node 8 ∷ [])
+
+-- the object dies
+abbrev pub graph_gone : Message
+graph_gone = message.Answer [] (7 ∷ []) []
+
+abbrev pub graph_sent : List Message
+graph_sent = graph_call ∷ graph_object ∷ graph_back ∷ graph_node ∷ graph_gone ∷ []
 
 abbrev pub graph_answers : List Message
 graph_answers =
-    message.Ask 1 (at_stmt 2 1) 13 [] (one 2 ∷ []) [] []
+    message.Ask 1 (at_stmt 2 0) 13 [] (one 2 ∷ []) [] []
     ∷ message.Down 2 (at_stmt 2 3) 1 1 (u32_at 7 ∷ []) (holds 2 0 (u32_value 1) ∷ [])
     ∷ message.Ask 2 (at_stmt 2 5) 1 [] (one 9 ∷ []) [] (holds 4 0 (u32_value 5) ∷ [])
     -- what was written through `last` is read through `head`, and the new node points back
