@@ -145,13 +145,22 @@ user = ap (λ (u : User). u.agreed) (followed_so graph 1999983 (first_user graph
 
 honest : IsHonest graph [] graph_sent graph_answers
 unfolding passes
-honest =
-    (sym (replies_so graph 999996 (first_user graph) [] graph_call tt early_fits.0)
-    , (sym (replies_so graph 999996 (first_user graph) (graph_call ∷ []) graph_object (early_fits.0, tt) early_fits.1.0)
-    , (sym (replies_so graph 1999983 (first_user graph) (graph_call ∷ graph_object ∷ []) graph_back (fits.0, (fits.1.0, tt)) fits.1.1.0)
-    , (sym (replies_so graph 1999983 (first_user graph) (graph_call ∷ graph_object ∷ graph_back ∷ []) graph_node (fits.0, (fits.1.0, (fits.1.1.0, tt))) fits.1.1.1.0)
-    , (sym (replies_so graph 1999983 (first_user graph) (graph_call ∷ graph_object ∷ graph_back ∷ graph_node ∷ []) graph_gone (fits.0, (fits.1.0, (fits.1.1.0, (fits.1.1.1.0, tt)))) fits.1.1.1.1.0)
-    , tt)))))
+honest = (
+  sym (replies_so graph 999996 (first_user graph) [] graph_call tt early_fits.0),
+  (
+    sym (replies_so graph 999996 (first_user graph) (graph_call ∷ []) graph_object (early_fits.0, tt) early_fits.1.0),
+    (
+      sym (replies_so graph 1999983 (first_user graph) (graph_call ∷ graph_object ∷ []) graph_back (fits.0, (fits.1.0, tt)) fits.1.1.0),
+      (
+        sym (replies_so graph 1999983 (first_user graph) (graph_call ∷ graph_object ∷ graph_back ∷ []) graph_node (fits.0, (fits.1.0, (fits.1.1.0, tt))) fits.1.1.1.0),
+        (
+          sym (replies_so graph 1999983 (first_user graph) (graph_call ∷ graph_object ∷ graph_back ∷ graph_node ∷ []) graph_gone (fits.0, (fits.1.0, (fits.1.1.0, (fits.1.1.1.0, tt)))) fits.1.1.1.1.0),
+          tt,
+        ),
+      ),
+    ),
+  ),
+)
 
 pub tells_graph : TellsGraph
 tells_graph = record {

@@ -1,7 +1,5 @@
 -- Small drivers in two halves, worked out: their messages, and what their runs show.
-use Rattle.std.specs.Prelude.{◌≡◌, ℕ, suc, true, false, List, [], ◌∷◌, Option, Some, None, codes, pos}
-use Rattle.mdr_core.specs.declared.kind.Kind.TheVariants.{U32}
-use Rattle.mdr_core.specs.declared.plan.Key.{Key}
+use Rattle.std.specs.Prelude.{◌≡◌, ℕ, suc, true, false, List, [], ◌∷◌, Option, Some, None, codes}
 use Rattle.mdr_core.specs.declared.plan.Key.TheVariants as key
 use Rattle.mdr_core.specs.declared.program.StructDef.{StructDef}
 use Rattle.mdr_core.specs.declared.types.Ann.TheVariants.{Single, Opaque}
@@ -12,8 +10,7 @@ use Rattle.mdr_meaning.specs.declared.shape.Shape64.{Shape64}
 use Rattle.mdr_meaning.specs.declared.wire.Wire.{Wire}
 use Rattle.mdr_meaning.specs.declared.wire.Wire.TheVariants as wire
 use Rattle.mdr_meaning.specs.Sides.{Body}
-use Rattle.mdr_meaning.specs.Worked.{add, at_stmt, behind, body, calls as calls_func, field, glob, node_pointer, number, object as object_slot, param, u32, var}
-use Rattle.mdr_model.specs.declared.command.Command.TheVariants as command
+use Rattle.mdr_meaning.specs.Worked.{add, at_stmt, behind, body, calls as calls_func, field, glob, number, object as object_slot, param, u32, var}
 use Rattle.mdr_model.specs.declared.memory.MemoryBlock.{MemoryBlock}
 use Rattle.mdr_model.specs.declared.message.BirthKind.{BirthKind}
 use Rattle.mdr_model.specs.declared.message.BirthKind.TheVariants.{Static, Heap, Auto}
@@ -39,7 +36,7 @@ use Rattle.mdr_script.specs.declared.bound.Bound.{Bound}
 use Rattle.mdr_split.specs.AnyAnswers.{kernel_in}
 use Rattle.mdr_split.specs.Kernel.{split_run}
 use Rattle.mdr_split.specs.Law.{IsHonest}
-use Rattle.mdr_split.specs.State.{Kernel, Pending, Over, Waits}
+use Rattle.mdr_split.specs.State.{Pending, Over, Waits}
 use Rattle.mdr_split.specs.User.{first_user, user_after}
 use Rattle.mdr_split.specs.Worked.{u32_value, with_stubs}
 use Rattle.mdr_watched.specs.Driver.{Driver}
