@@ -1,3 +1,4 @@
 pub mod Rules
 pub mod Machines
+pub mod Stillness
 pub mod Worked

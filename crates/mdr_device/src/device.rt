@@ -1,12 +1,14 @@
 // The device.
 
-ghost use Rattle.std.specs.Prelude.{◌≡◌, IfOk};
+ghost use Rattle.std.specs.Prelude.{◌≡◌, ℕ, IfOk, IsTrue, false};
 ghost use Rattle.mdr_device.specs.Machines.{zeros, first_words, made, read, written, ticked, advanced};
+ghost use Rattle.mdr_device.specs.Stillness.{is_still, later};
 
 use crate::copies::copied_rules;
-use crate::firing::{advance, fire};
+use crate::firing::{advance, are_idle, fire};
 use crate::rule::{Rule, Trigger};
 use crate::state::State;
+use crate::stillness::{are_past, later};
 use mdr_core::{Items, OutOfMemory};
 use std::alloc::{AllocError, Global};
 use std::marker::Model;
@@ -93,8 +95,8 @@ impl Device {
         self.ticks = advance(self.rules.as_slice(), self.ticks, &mut self.state);
     }
 
-    /// Lets so many ticks pass.
-    pub fn advance(&mut self, ticks: u64)
+    /// Lets so many ticks pass, one after the other.
+    fn tick_each(&mut self, ticks: u64)
         ensures { self.new ≡ advanced ticks self.old }
     {
         let mut left = ticks;
@@ -102,6 +104,45 @@ impl Device {
             self.tick();
             left -= 1;
         }
+    }
+
+    /// Whether ticks alone change nothing: no rule waits for a later one, and no count-down goes on.
+    fn is_still(&self) -> bool
+        ensures { result ≡ is_still self.now }
+    {
+        are_past(self.ticks, self.rules.as_slice()) && are_idle(&self.state.counts)
+    }
+
+    /// Counts so many ticks, and does nothing else.
+    fn skip(&mut self, ticks: u64)
+        ensures { self.new ≡ record self.old { ticks = later ticks self.old.ticks } }
+    {
+        self.ticks = later(self.ticks, ticks);
+    }
+
+    /// Lets so many ticks pass. Where they change nothing they are counted at once.
+    #[tactic(auto, using(crate::proofs::Quiet::passes_at_once))]
+    pub fn advance(&mut self, ticks: u64)
+        ensures { self.new ≡ advanced ticks self.old }
+    {
+        if ticks == 0 {
+            return;
+        }
+        if self.is_still() {
+            self.skip(ticks);
+        } else {
+            self.tick_each(ticks);
+        }
+    }
+
+    /// Whether the interrupt line is low, and ticks alone don't raise it.
+    pub fn stays_low(&self) -> bool
+        ensures { IsTrue result → (n : ℕ) → (advanced n self.now).state.line ≡ false }
+    {
+        if self.state.line {
+            return false;
+        }
+        self.is_still()
     }
 
     /// Whether the interrupt line is raised.

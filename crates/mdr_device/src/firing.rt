@@ -84,7 +84,7 @@ fn ring_all(rules: &[Rule], left: &[u32], state: &mut State)
 }
 
 /// Whether no count-down goes on.
-fn are_idle(counts: &[u32]) -> bool
+pub fn are_idle(counts: &[u32]) -> bool
     ensures { result ≡ list_all is_zero counts.now }
 {
     counts.iter().all(|n| *n == 0)

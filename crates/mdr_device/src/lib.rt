@@ -7,6 +7,7 @@ mod firing;
 mod laws;
 mod rule;
 mod state;
+mod stillness;
 
 pub use copies::copied_rules;
 pub use device::Device;

@@ -1,4 +1,5 @@
 pub mod BlockLaws
+pub mod GateLaws
 pub mod HandleLaws
 pub mod LockLaws
 pub mod ReachLaws

@@ -1,10 +1,11 @@
 -- A driver that runs: what its code does to it.
-use Rattle.std.specs.Prelude.{◌≡◌, ℕ, suc, Bool, true, false, List, [], ◌∷◌, Result, Ok, Err}
+use Rattle.std.specs.Prelude.{◌≡◌, ℕ, suc, Bool, true, false, ◌||◌, List, [], ◌∷◌, Option, Some, None, Result, Ok, Err}
 use Rattle.mdr_core.specs.declared.program.Program.{Program}
 use Rattle.mdr_core.specs.declared.stop.StopKind.{StopKind}
 use Rattle.mdr_meaning.specs.Tree.{Tree}
 use Rattle.mdr_meaning.specs.Walk.{Accesses, Born, Walked, walk, walked}
 use Rattle.mdr_model.specs.declared.memory.Cell.{Cell}
+use Rattle.mdr_plain.specs.Gate.{due}
 use Rattle.mdr_plain.specs.Running.{all_cells}
 use Rattle.mdr_plain.specs.Storage.{accesses}
 use Rattle.mdr_plain.specs.World.{World, advanced}
@@ -51,6 +52,15 @@ driven_accesses = driven_by all_cells
 abbrev pub Ticks : Bool → Driven → Driven → Type 0
 Ticks false old new = (old.world.clock.rest ≡ 0) × (new ≡ old)
 Ticks true old new = (n : ℕ) × (old.world.clock.rest ≡ suc n) × (new ≡ driver old.program (record old.world { clock = advanced 1 old.world.clock }))
+
+-- no interrupt is due now or at a later tick, where ticks pass and code changes memory alone
+abbrev pub NoneIsDue : World → Type 0
+NoneIsDue w = (n : ℕ) (now : World) → now.kept ≡ w.kept → now.clock ≡ advanced n w.clock → due now ≡ None
+
+-- none comes where no function handles interrupts, where the one that does runs, or where the line stays low
+abbrev pub none_comes : (handler : Option ℕ) (in_handler low : Bool) → Bool
+none_comes None in_handler low = true
+none_comes (Some f) in_handler low = in_handler || low
 
 -- ---- a driver's walk is its world's
 

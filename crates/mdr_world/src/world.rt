@@ -1,6 +1,6 @@
 // The state of a run.
 
-ghost use Rattle.std.specs.Prelude.{◌≡◌, ◌+◌, ◌==◌, [], ℕ, false, true, IfOk, OnOk, OnErr, length};
+ghost use Rattle.std.specs.Prelude.{◌≡◌, ◌+◌, ◌==◌, [], ℕ, false, true, IfOk, IsTrue, OnOk, OnErr, length};
 ghost use Rattle.std.specs.List.{list_any};
 ghost use Rattle.mdr_core.specs.Sound.{IsSound};
 ghost use Rattle.mdr_device.specs.Machines.{Machine, read, written};
@@ -18,7 +18,7 @@ ghost use Rattle.mdr_plain.specs.Scripts.{block_cells, first_world};
 ghost use Rattle.mdr_plain.specs.Services.{asked_once_more, fails_now, with_device, with_handler};
 ghost use Rattle.mdr_plain.specs.Storage.{births, born, deaths, died, died_at, new_of, pointer_to, remembers};
 ghost use Rattle.mdr_plain.specs.World.{advanced, noted};
-ghost use Rattle.mdr_world.specs.Driven.{Ticks, driven_accesses, driver, driver_if, open_views};
+ghost use Rattle.mdr_world.specs.Driven.{NoneIsDue, Ticks, driven_accesses, driver, driver_if, none_comes, open_views};
 
 use crate::births::{shape_of, zeros};
 use crate::globals::first_storage;
@@ -182,6 +182,19 @@ impl<'a> World<'a> {
         true
     }
 
+    /// So many ticks. Where fewer are left that answers want of memory.
+    pub fn count(&mut self, ticks: u64) -> Result<(), OutOfMemory>
+        ensures { OnOk result (self.new ≡ driver self.old.program (record self.old.world { clock = advanced ticks self.old.world.clock })) }
+    {
+        if ticks > self.rest {
+            return Err(OutOfMemory);
+        }
+        self.rest -= ticks;
+        self.ticks += ticks;
+        self.device.advance(ticks);
+        Ok(())
+    }
+
     // ---- interrupts
 
     fn is_open(&self) -> bool
@@ -208,6 +221,14 @@ impl<'a> World<'a> {
             Some(f) => { if self.is_open() { Some(f) } else { None } }
             None => None,
         }
+    }
+
+    /// Whether no interrupt is due now or at a later tick, where ticks pass and code changes memory alone.
+    pub fn is_calm(&self) -> bool
+        ensures { IsTrue result → NoneIsDue self.now.world }
+    {
+        let low = self.device.stays_low();
+        none_comes(self.handler, self.in_handler, low)
     }
 
     /// An interrupt is taken.
@@ -452,6 +473,15 @@ impl<'a> World<'a> {
         ensures kept { OnErr result (self.new ≡ self.old) }
     {
         access::store(&mut self.storage.blocks, pointer, value)
+    }
+}
+
+fn none_comes(handler: Option<u32>, in_handler: bool, low: bool) -> bool
+    ensures { result ≡ none_comes handler in_handler low }
+{
+    match handler {
+        Some(_) => in_handler || low,
+        None => true,
     }
 }
 
