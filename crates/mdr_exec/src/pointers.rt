@@ -1,6 +1,7 @@
 // What is done with pointers in hand.
 
-ghost use Rattle.std.specs.Prelude.{◌≡◌, ◌+ℤ◌, ◌-ℤ◌, IfOk, Some, option_copied, pos, slice_get};
+ghost use Rattle.std.specs.Prelude.{◌≡◌, ◌↔◌, ◌+ℤ◌, ◌-ℤ◌, IfOk, IsTrue, Some, option_copied, pos, slice_get};
+ghost use Rattle.mdr_core.specs.declared.types.Ty.TheVariants as type_is;
 ghost use Rattle.mdr_core.specs.Sound.{IsSound};
 ghost use Rattle.mdr_meaning.specs.Bodies.{known_of, without_funcs};
 ghost use Rattle.mdr_meaning.specs.declared.wire.Wire.TheVariants as wire;
@@ -155,13 +156,39 @@ fn is_same_type(a: &Ty, b: &Ty) -> bool
     same_type(a, b)
 }
 
+fn is_kind(kind: Kind, b: &Ty) -> bool
+    ensures { IsTrue result ↔ (type_is.Int kind ≡ b.now) }
+{
+    match b {
+        Ty::Int(other) => kind == *other,
+        _ => false,
+    }
+}
+
+/// Whether an integer's type is another one.
+fn is_integer(kind: Kind, b: &Ty) -> bool
+    ensures { result ≡ is_same_type (type_is.Int kind) b.now }
+{
+    is_kind(kind, b)
+}
+
+/// Whether two types are one, where most are integers'.
+fn is_alike(a: &Ty, b: &Ty) -> bool
+    ensures { result ≡ is_same_type a.now b.now }
+{
+    match a {
+        Ty::Int(kind) => is_integer(*kind, b),
+        _ => is_same_type(a, b),
+    }
+}
+
 /// The first place of a type in a list; behind its end where it isn't there.
 #[tactic(auto, unfolding(mdr_meaning::specs::Numbers::number_in))]
 pub(crate) fn number_in(types: &[Ty], ty: &Ty) -> usize
     ensures { result ≡ number_in types.now ty.now }
 {
     for i in 0..types.len() {
-        if is_same_type(&types[i], ty) {
+        if is_alike(&types[i], ty) {
             return i;
         }
     }
