@@ -1,11 +1,12 @@
 -- What stands at a place.
-use Rattle.std.proofs.Common.{◌≡◌, ℕ, zero, suc, ◌-◌, ◌==◌, Bool, true, false, List, [], ◌∷◌, length, Option, Some, None, option_map, slice_get, refl, ap, sym, ◌∙◌, arith}
+use Rattle.std.proofs.Common.{◌≡◌, ℕ, zero, suc, ◌-◌, ◌==◌, Bool, true, false, List, [], ◌∷◌, length, Option, Some, None, option_map, slice_get, refl, ap, sym, ◌∙◌, arith, ne_eqb}
 use Rattle.mdr_core.specs.Code.{Code, Codes}
-use Rattle.mdr_core.specs.Folds.{code_of}
+use Rattle.mdr_core.specs.Folds.{code_of, codes_of}
 use Rattle.mdr_core.specs.declared.code.Stmt.{Stmt}
+use Rattle.mdr_exec.specs.declared.places.Part.{Part}
 use Rattle.mdr_exec.specs.declared.places.Turn.{Turn}
 use Rattle.mdr_exec.specs.Found.{codes_with, next_turn, turn_code}
-use Rattle.mdr_exec.specs.Places.{code_at, code_before}
+use Rattle.mdr_exec.specs.Places.{code_at, code_before, list_of, part_of}
 
 pub found_at : (ss : List Stmt) (t : Option Turn) (i : ℕ) (s : Stmt) → Some s ≡ slice_get ss i → ◌≡◌ {A = Option Code} (Some (code_of s)) (code_at (codes_with ss t) i)
 unfolding code_at
@@ -37,3 +38,7 @@ turn_found (x ∷ ss) (Some t) (suc i) h = ap (λ b. option_map turn_code (next_
 pub before_is : (cs : Codes) (next : ℕ) → (next == 0) ≡ false → code_before cs next ≡ code_at cs (next - 1)
 before_is cs zero h = absurd (cc h)
 before_is cs (suc i) h = let back : suc i - 1 ≡ i = omega arith in rw back refl
+
+-- a list of the statement in front of a place
+pub listed_before : (ss : List Stmt) (next : ℕ) (s : Stmt) (part : Part) → (next ≡ 0 → ⊥) → Some s ≡ slice_get ss (next - 1) → list_of part (code_of s) ≡ part_of part (code_before (codes_of ss) next)
+listed_before ss next s part some h = ap (part_of part) (found_at ss None (next - 1) s h ∙ sym (before_is (codes_of ss) next (ne_eqb next 0 some)))

@@ -1,7 +1,7 @@
 // Lists of statements are left.
 
 ghost use Rattle.std.specs.Prelude.{◌≡◌, ◌++◌, ◌∷◌, [], List, Some, true, IfOk, OnOk, MatchOption};
-ghost use Rattle.mdr_core.specs.Folds.{code_of};
+ghost use Rattle.mdr_core.specs.Folds.{code_of, codes_of};
 ghost use Rattle.mdr_core.specs.declared.program.Program.{Program as AnyProgram};
 ghost use Rattle.mdr_meaning.specs.Sides.{Ends, Side as AnySide};
 ghost use Rattle.mdr_exec.specs.declared.frame.Frame.{Frame as AnyFrame};
@@ -14,7 +14,9 @@ ghost use Rattle.mdr_exec.specs.Places.{code_before, inner};
 ghost use Rattle.mdr_exec.specs.Steps.{IsSame, front_after};
 
 use crate::frame::{Flow, Front, Machine};
-use crate::places::{Found, Part, Position, Standing, block_at, body_of, standing_at};
+use crate::places::{
+    Found, Part, Position, Standing, block_at, body_of, inside, only, standing_at, statements_of,
+};
 use mdr_core::{Items, Program, Step, Stmt, Value};
 use std::alloc::{AllocError, Global};
 use std::mem;
@@ -82,8 +84,26 @@ fn is_behind_loop<'a>(found: Found<'a>, next: usize) -> bool
     }
 }
 
+/// Whether a `while` stands in front of a place in a list.
+fn is_behind_while(statements: &[Stmt], next: usize) -> bool
+    ensures { result ≡ is_loop (code_before (codes_of statements.now) next) }
+{
+    is_behind_loop(only(statements), next)
+}
+
 /// Whether a loop stands in front of a place in the block of the machine's place.
 pub(crate) fn goes_round(machine: &Machine, program: &Program, next: usize) -> bool
+    ensures { result ≡ is_loop (code_before (block_of program.now machine.now.top) next) }
+{
+    let body = statements_of(program, machine.top.func);
+    match inside(body, machine.top.path.as_slice()) {
+        Some(list) => is_behind_while(list, next),
+        None => goes_round_behind(machine, program, next),
+    }
+}
+
+/// The same, on any path.
+fn goes_round_behind(machine: &Machine, program: &Program, next: usize) -> bool
     ensures { result ≡ is_loop (code_before (block_of program.now machine.now.top) next) }
 {
     let block = block_at(

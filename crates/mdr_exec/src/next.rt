@@ -11,12 +11,23 @@ ghost use Rattle.mdr_exec.specs.Places.{code_at};
 ghost use Rattle.mdr_exec.specs.Steps.{IsSame};
 
 use crate::frame::{Flow, Front, Machine};
-use crate::places::{Standing, block_at, body_of, standing_at};
+use crate::places::{Standing, block_at, body_of, inside, listed_at, standing_at, statements_of};
 use mdr_core::{Program, Value};
 use std::alloc::AllocError;
 
 /// The statement that comes next, or the loop of a `for`.
 pub(crate) fn stands_next<'a>(machine: &Machine, program: &'a Program) -> Option<Standing<'a>>
+    ensures { option_map code_in result ≡ code_at (block_of program.now machine.now.top) machine.now.top.next }
+{
+    let body = statements_of(program, machine.top.func);
+    match inside(body, machine.top.path.as_slice()) {
+        Some(list) => listed_at(list, machine.top.next),
+        None => stands_behind(machine, program),
+    }
+}
+
+/// The same, on any path.
+fn stands_behind<'a>(machine: &Machine, program: &'a Program) -> Option<Standing<'a>>
     ensures { option_map code_in result ≡ code_at (block_of program.now machine.now.top) machine.now.top.next }
 {
     let block = block_at(

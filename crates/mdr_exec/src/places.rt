@@ -1,6 +1,6 @@
 // Places in a function's body, by numbers, and the code that stands there.
 
-ghost use Rattle.std.specs.Prelude.{◌≡◌, slice_get, option_copied};
+ghost use Rattle.std.specs.Prelude.{◌≡◌, IfSome, slice_get, option_copied};
 ghost use Rattle.std.specs.Option.{option_map};
 ghost use Rattle.mdr_core.specs.Folds.{code_of, codes_of};
 ghost use Rattle.mdr_exec.specs.Places.{code_at, inner, list_of, part_of, code_before};
@@ -53,7 +53,7 @@ pub(crate) enum Standing<'a> {
     Turn(Turn<'a>),
 }
 
-fn only<'a>(statements: &'a [Stmt]) -> Found<'a>
+pub(crate) fn only<'a>(statements: &'a [Stmt]) -> Found<'a>
     ensures { codes_in result ≡ codes_of statements.now }
 {
     Found {
@@ -160,6 +160,57 @@ fn part_before<'a>(found: Found<'a>, next: usize, part: Part) -> Found<'a>
     }
 }
 
+/// A list of a statement, where it isn't a `for` and has it.
+fn list_in<'a>(statement: &'a Stmt, part: Part) -> Option<&'a [Stmt]>
+    ensures { IfSome result (λ list. codes_of list.now ≡ list_of part (code_of statement.now)) }
+{
+    match &statement.step {
+        Step::If(_, one, other) => match part {
+            Part::One => Some(one.as_slice()),
+            Part::Other => Some(other.as_slice()),
+            Part::Body | Part::Step | Part::Inner => None,
+        },
+        Step::While(_, body) => match part {
+            Part::Body => Some(body.as_slice()),
+            Part::Step => Some(&[]),
+            Part::One | Part::Other | Part::Inner => None,
+        },
+        Step::Block(body) => match part {
+            Part::Inner => Some(body.as_slice()),
+            Part::One | Part::Other | Part::Body | Part::Step => None,
+        },
+        _ => None,
+    }
+}
+
+/// A list of the statement in front of a place, where it isn't a `for` and has it.
+fn list_before<'a>(statements: &'a [Stmt], next: usize, part: Part) -> Option<&'a [Stmt]>
+    ensures { IfSome result (λ list. codes_of list.now ≡ part_of part (code_before (codes_of statements.now) next)) }
+{
+    if next == 0 {
+        return None;
+    }
+    match statement_at(statements, next - 1) {
+        Some(statement) => list_in(statement, part),
+        None => None,
+    }
+}
+
+/// The statements of the block that a path leads to, where it leads through no `for`.
+#[tactic(auto, unfolding(crate::specs::Places::inner))]
+pub(crate) fn inside<'a>(statements: &'a [Stmt], path: &[Position]) -> Option<&'a [Stmt]>
+    ensures { IfSome result (λ list. codes_of list.now ≡ inner path.now (codes_of statements.now)) }
+{
+    let mut list = statements;
+    for position in path {
+        match list_before(list, position.next, position.part) {
+            Some(other) => list = other,
+            None => return None,
+        }
+    }
+    Some(list)
+}
+
 /// The block that a path leads to.
 #[tactic(auto, unfolding(crate::specs::Places::inner))]
 pub(crate) fn block_at<'a>(body: Found<'a>, path: &[Position]) -> Found<'a>
@@ -172,16 +223,30 @@ pub(crate) fn block_at<'a>(body: Found<'a>, path: &[Position]) -> Found<'a>
     block
 }
 
+/// The statements of a function; of one that has no body, none.
 #[tactic(auto, unfolding(crate::specs::Found::body_codes))]
+pub(crate) fn statements_of<'a>(program: &'a Program, func: u32) -> &'a [Stmt]
+    ensures { codes_of result.now ≡ body_codes program.now func }
+{
+    match program.funcs.as_slice().get(func as usize) {
+        Some(func) => match &func.body {
+            Some(body) => body.as_slice(),
+            None => &[],
+        },
+        None => &[],
+    }
+}
+
 /// The body of a function; of one that has none, nothing.
 pub(crate) fn body_of<'a>(program: &'a Program, func: u32) -> Found<'a>
     ensures { codes_in result ≡ body_codes program.now func }
 {
-    match program.funcs.as_slice().get(func as usize) {
-        Some(func) => match &func.body {
-            Some(body) => only(body.as_slice()),
-            None => only(&[]),
-        },
-        None => only(&[]),
-    }
+    only(statements_of(program, func))
+}
+
+/// What stands at an index of a list.
+pub(crate) fn listed_at<'a>(statements: &'a [Stmt], i: usize) -> Option<Standing<'a>>
+    ensures { option_map code_in result ≡ code_at (codes_of statements.now) i }
+{
+    standing_at(only(statements), i)
 }
