@@ -3,7 +3,6 @@ use Rattle.std.proofs.Common.{◌≡◌, ℕ, zero, suc, ◌+◌, ◌-◌, ◌�
 use Rattle.mdr_core.specs.declared.place.At.{At}
 use Rattle.mdr_core.specs.declared.program.Program.{Program}
 use Rattle.mdr_core.specs.declared.stop.StopKind.{StopKind}
-use Rattle.mdr_device.specs.Machines.{Machine, advanced as passed, ticked as tick_of}
 use Rattle.mdr_exec.specs.declared.event.Event.{Event}
 use Rattle.mdr_exec.specs.declared.event.Event.TheVariants as event
 use Rattle.mdr_exec.specs.Events.{asked_as}
@@ -37,7 +36,7 @@ use Rattle.mdr_whole.specs.Going.{IsCalm}
 abbrev pub at_clock : Clock → World → World
 at_clock c w = record w { clock = c }
 
-pub advanced_none : (c : Clock) → advanced 0 c ≡ c
+advanced_none : (c : Clock) → advanced 0 c ≡ c
 advanced_none c =
     let p : c.ticks + 0 ≡ c.ticks = omega arith in
     let q : c.rest - 0 ≡ c.rest = omega arith in
@@ -53,19 +52,6 @@ one_more k c =
     let p : c.ticks + 1 + k ≡ c.ticks + suc k = omega arith in
     let q : c.rest - 1 - k ≡ c.rest - suc k = omega arith in
     λ i. record { ticks = p i; rest = q i; device = (advanced (suc k) c).device }
-
-passed_last : (n : ℕ) (d : Machine) → passed n (tick_of d) ≡ tick_of (passed n d)
-passed_last zero d = refl
-passed_last (suc n) d = passed_last n (tick_of d)
-
--- one tick more behind so many
-pub one_behind : (k : ℕ) (c : Clock) → advanced 1 (advanced k c) ≡ advanced (k + 1) c
-one_behind k c =
-    let p : c.ticks + k + 1 ≡ c.ticks + (k + 1) = omega arith in
-    let q : c.rest - k - 1 ≡ c.rest - (k + 1) = omega arith in
-    let more : suc k ≡ k + 1 = omega arith in
-    let r : tick_of (passed k c.device) ≡ passed (k + 1) c.device = sym (passed_last k c.device) ∙ ap (λ n. passed n c.device) more in
-    λ i. record { ticks = p i; rest = q i; device = r i }
 
 -- ---- no access looks at the clock
 

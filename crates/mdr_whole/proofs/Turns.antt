@@ -1,8 +1,7 @@
 -- A machine in a driver that runs goes from event to event.
-use Rattle.std.proofs.Common.{◌≡◌, ℕ, ◌+◌, ◌≤◌, Bool, true, false, List, Option, Some, None, ◌-◌, slice_get, refl, sym, ◌∙◌, ap, arith, subst, le_refl}
+use Rattle.std.proofs.Common.{◌≡◌, ℕ, ◌+◌, ◌≤◌, Bool, true, false, List, Option, Some, ◌-◌, slice_get, refl, sym, ◌∙◌, ap, arith, subst, le_refl}
 use Rattle.std.proofs.lemmas.Bool.{eqb-true}
 use Rattle.mdr_core.specs.declared.place.At.{At}
-use Rattle.mdr_core.specs.Layout.{chosen}
 use Rattle.mdr_core.specs.declared.code.Stmt.{Stmt}
 use Rattle.mdr_core.specs.declared.program.Func.{Func}
 use Rattle.mdr_core.specs.declared.program.Program.{Program}
@@ -30,17 +29,16 @@ use Rattle.mdr_meaning.specs.Walk.{Walked, walked}
 use Rattle.mdr_model.specs.Memory.{normal}
 use Rattle.mdr_plain.specs.Laws.{GivesNoTicks}
 use Rattle.mdr_plain.specs.Plain.{whole}
-use Rattle.mdr_plain.specs.Gate.{due, is_open}
 use Rattle.mdr_plain.specs.Running.{Before, all_cells, call, handled, interrupts}
 use Rattle.mdr_plain.specs.Services.{served}
-use Rattle.mdr_plain.specs.World.{World, Kept, Stopped, advanced}
+use Rattle.mdr_plain.specs.World.{World, Stopped, advanced}
 use Rattle.mdr_runs.specs.Following.{Stands, goes_on, tried_by}
 use Rattle.mdr_runs.specs.Laws.{Went}
 use Rattle.mdr_runs.specs.Seen.{IsSeen}
 use Rattle.mdr_runs.proofs.Ends.{budgets_end, services_end, stops_end, tries_end, values_end}
 use Rattle.mdr_runs.proofs.Stand.{calls_are_started, runs_stand, services_are_answered, ticks_stand}
 use Rattle.mdr_runs.proofs.Tries.{tries_give_none}
-use Rattle.mdr_world.specs.Driven.{Driven, Ticks, driven_accesses, driver}
+use Rattle.mdr_world.specs.Driven.{Driven, NoneIsDue, Ticks, driven_accesses, driver}
 use Rattle.mdr_world.proofs.WalkLaws.{drivers_walk}
 use Rattle.mdr_services.specs.declared.answer.Served.{Served}
 use Rattle.mdr_services.specs.declared.answer.Served.TheVariants as served_is
@@ -53,7 +51,7 @@ use Rattle.mdr_whole.specs.declared.next.Next.{Next}
 use Rattle.mdr_whole.specs.declared.next.Next.TheVariants as next
 use Rattle.mdr_whole.specs.Ending.{fits, gave_as, worked_as}
 use Rattle.mdr_whole.specs.Going.{Began, Counted, Follows, GoesOn, GoesOnWith, IsCalm, IsStarted, NextAt, Passed, RanThrough, StandsAt, machine_does}
-use Rattle.mdr_whole.proofs.Calm.{advanced_none, at_clock, one_behind, runs_through}
+use Rattle.mdr_whole.proofs.Calm.{at_clock, runs_through}
 
 -- ---- a driver that runs is seen as its world
 
@@ -87,27 +85,11 @@ module _ (program : Program) (side : Side) (m m' : Machine) (d d' : Driven) (e :
 
 -- ---- all ticks that are left
 
-none_due : (open_now : Bool) (h : Option ℕ) → h ≡ None → chosen open_now h None ≡ None
-none_due true h e = e
-none_due false h e = refl
-
--- where no function handles interrupts, none is taken before any tick
-pub calm_without : (tries : Bool) (program : Program) (side : Side) (w : World) → w.kept.handler ≡ None → IsCalm (tried_by tries program side) w.kept w.clock
-unfolding interrupts due
-calm_without true program side w none = λ j d w' same is.
-    ap (λ o. handled (whole program side) d o w') (none_due (is_open w') w'.kept.handler (ap (λ (k : Kept). k.handler) same ∙ none))
-calm_without false program side w none = λ j d w' same is. refl
-
--- ticks are counted one by one
-pub count_begins : (d : Driven) → d ≡ driver d.program (record d.world { clock = advanced 0 d.world.clock })
-count_begins d = ap (λ c. driver d.program (record d.world { clock = c })) (sym (advanced_none d.world.clock))
-
-pub count_goes : (t : Bool) (d d1 d2 : Driven) (i : ℕ) → t ≡ true → d1 ≡ driver d.program (record d.world { clock = advanced i d.world.clock }) → Ticks t d1 d2
-    → d2 ≡ driver d.program (record d.world { clock = advanced (i + 1) d.world.clock })
-count_goes false d d1 d2 i h is t = absurd (cc h)
-count_goes true d d1 d2 i h is t =
-    t.2 ∙ ap (λ x. driver x.program (record x.world { clock = advanced 1 x.world.clock })) is
-    ∙ ap (λ c. driver d.program (record d.world { clock = c })) (one_behind i d.world.clock)
+-- where none is due, none is taken before any tick
+pub calm_while : (tries : Bool) (program : Program) (side : Side) (w : World) → NoneIsDue w → IsCalm (tried_by tries program side) w.kept w.clock
+unfolding interrupts
+calm_while true program side w none = λ j d w' same is. ap (λ o. handled (whole program side) d o w') (none j w' same is)
+calm_while false program side w none = λ j d w' same is. refl
 
 spent_is : (ticks used : ℕ) → used ≤ ticks → ticks - (ticks - used) ≡ used
 spent_is ticks used less = let l : used ≤ ticks = less in omega (arith, l)

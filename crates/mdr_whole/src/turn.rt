@@ -1,6 +1,6 @@
 // A machine runs from event to event.
 
-ghost use Rattle.std.specs.Prelude.{◌≡◌, ◌≤◌, ◌-◌, None, true, IfOk, OnOk, IsTrue};
+ghost use Rattle.std.specs.Prelude.{◌≡◌, ◌≤◌, ◌-◌, true, IfOk, OnOk, IsTrue};
 ghost use Rattle.mdr_core.specs.Sound.{IsSound};
 ghost use Rattle.mdr_exec.specs.declared.event.Event.TheVariants as event;
 ghost use Rattle.mdr_exec.specs.Going.{RanTo};
@@ -8,8 +8,7 @@ ghost use Rattle.mdr_exec.specs.Holding.{FitQuestion, held_of, waits, wires_of};
 ghost use Rattle.mdr_plain.specs.Laws.{GivesNoTicks};
 ghost use Rattle.mdr_plain.specs.Running.{Before as AnyBefore};
 ghost use Rattle.mdr_runs.specs.Following.{tried_by};
-ghost use Rattle.mdr_plain.specs.World.{advanced};
-ghost use Rattle.mdr_world.specs.Driven.{driven_accesses, driver};
+ghost use Rattle.mdr_world.specs.Driven.{NoneIsDue, driven_accesses};
 ghost use Rattle.mdr_whole.specs.Ending.{fits, gave_as};
 ghost use Rattle.mdr_whole.specs.Going.{Began, Follows, GoesOn, GoesOnWith, Passed, RanThrough, machine_does, side_of};
 
@@ -92,18 +91,6 @@ fn pass(
     Ok(Next::Gave(Gave::Stopped(StopKind::Ticks, Some(at))))
 }
 
-/// So many ticks are counted.
-fn count(world: &mut World, ticks: u64) -> Result<(), OutOfMemory>
-    ensures { OnOk result (world.new ≡ driver world.old.program (record world.old.world { clock = advanced ticks world.old.world.clock })) }
-{
-    for _tick in 0..ticks {
-        if !world.tick() {
-            return Err(OutOfMemory);
-        }
-    }
-    Ok(())
-}
-
 /// Runs a machine with all ticks that are left, where nothing is done before them, and counts those that it took.
 fn run_through(
     machine: &mut Machine,
@@ -117,21 +104,18 @@ fn run_through(
 {
     let ticks = world.rest();
     let event = go(machine, alloc, code, world, ticks)?;
-    count(world, machine.used())?;
+    world.count(machine.used())?;
     Ok(event)
 }
 
-/// Whether ticks are left and no function handles interrupts, so that none is taken before a tick.
+/// Whether ticks are left, and no interrupt is taken before any of them.
 fn is_calm(world: &World) -> bool
-    ensures { IsTrue result → world.now.world.kept.handler ≡ None }
+    ensures { IsTrue result → NoneIsDue world.now.world }
 {
     if world.rest() == 0 {
         return false;
     }
-    match world.handler() {
-        Some(_) => false,
-        None => true,
-    }
+    world.is_calm()
 }
 
 /// A tick is wanted: what stands before it is tried first.

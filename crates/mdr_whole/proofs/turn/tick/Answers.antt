@@ -2,13 +2,13 @@ use Rattle.mdr_whole.specs.Going.{side_of}
 use Rattle.std.proofs.lemmas.Result.{IfOk-weaker}
 use Rattle.mdr_runs.specs.Following.{tried_by}
 use Rattle.mdr_runs.proofs.Tries.{tries_give_none}
-use Rattle.mdr_whole.proofs.Turns.{calm_without, tried_on, tried_out}
+use Rattle.mdr_whole.proofs.Turns.{calm_while, tried_on, tried_out}
 use Rattle.mdr_whole.proofs.turn.tick.Goals as goal
 
 pub returns-then-is_calm : goal.returns-then-is_calm
 returns-then-is_calm g c = λ fuel all s.
     c.in_ok-event.ensures (tried_by g.B.Before.tries c.args.code.program.now (side_of c.args.code)) (tries_give_none g.B.Before.tries c.args.code.program.now (side_of c.args.code)) fuel all c.args.at
-    (calm_without g.B.Before.tries c.args.code.program.now (side_of c.args.code) c.args.world.now.world (c.is_calm.ensures c.if-is_calm.true)) s
+    (calm_while g.B.Before.tries c.args.code.program.now (side_of c.args.code) c.args.world.now.world (c.is_calm.ensures c.if-is_calm.true)) s
 
 pub returns-in-Done : goal.returns-in-Done
 returns-in-Done g c =
