@@ -47,6 +47,7 @@ use Rattle.mdr_kept.specs.Strict.{call_alone, crosses_nowhere, handled_alone, in
 use Rattle.mdr_reports.specs.Laws.{IsDriven}
 use Rattle.mdr_reports.proofs.AliveLaws.{AreAliveAround, EndsAround, Reaches, code_alive, ended_is, reaches}
 use Rattle.mdr_reports.proofs.CallLaws.{AnswersCurrent, LeavesWithout, served_current, served_keep, served_left}
+use Rattle.mdr_reports.proofs.Graphs.{graph_is, graph_of}
 use Rattle.mdr_reports.proofs.LiveLaws.{knows}
 
 -- what leaves states that hold leaves such states where it ends
@@ -72,13 +73,13 @@ module _ (program : Program) (plan : Plan) (driven : IsDriven program plan) wher
   d = driver_of program plan
 
   abbrev pub uses : Uses
-  uses = uses_by program driven.sliced.callees
+  uses = uses_by program (graph_of program)
 
   abbrev halves : Halves
   halves = driven.sliced.halves
 
   pub driver : IsDriver d uses
-  driver = programs_are_drivers.driver program driven.sound plan false driven.sliced.callees driven.sliced.are_callees
+  driver = programs_are_drivers.driver program driven.sound plan false (graph_of program) (graph_is program)
 
   -- ---- functions of the kernel half
 
@@ -115,7 +116,7 @@ module _ (program : Program) (plan : Plan) (driven : IsDriven program plan) wher
 
   crossing_apart : (at : At) (f : ℕ) → IsPlace d.kernel at → uses.calls at.func f ≡ true → d.user.own f ≡ None
   crossing_apart at f place calls =
-      kernel_apart f (nowhere program driven.sliced.roots halves driven.sliced.are_halves driven.sliced.callees driven.sliced.are_callees at.func f (kernel_half at.func place.body place.own) calls)
+      kernel_apart f (nowhere program driven.sliced.roots halves driven.sliced.are_halves (graph_of program) (graph_is program) at.func f (kernel_half at.func place.body place.own) calls)
 
   handler_apart : (K : Knowledge) → K.uses ≡ uses → (f : ℕ) → IsHandler program K.uses f → d.user.own f ≡ None
   handler_apart K same f x =

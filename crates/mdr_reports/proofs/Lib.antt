@@ -1,3 +1,4 @@
+pub mod Graphs
 pub mod LiveLaws
 pub mod AliveLaws
 pub mod CallLaws

@@ -51,6 +51,7 @@ use Rattle.mdr_kept.proofs.ShownLaws.{strict_reports_agree}
 use Rattle.mdr_reports.specs.Laws.{FollowedRunsAreStrict, IsDriven, KeptReportsAgree}
 use Rattle.mdr_reports.proofs.AliveLaws.{Reaches, ended_is, reaches}
 use Rattle.mdr_reports.proofs.CallLaws.{arguments_current}
+use Rattle.mdr_reports.proofs.Graphs.{graph_of}
 use Rattle.mdr_reports.proofs.KernelLaws.{calls_same, d, driver, ends_with_interrupts, interrupts_same, no_user_body, uses}
 use Rattle.mdr_reports.proofs.LiveLaws.{knows}
 use Rattle.mdr_reports.proofs.UserLaws.{upcall_same}
@@ -187,7 +188,7 @@ module _ (program : Program) (plan : Plan) (driven : IsDriven program plan) wher
     known = first_knowledge program u;
     uses_are = refl;
     holds = subst (λ (known : Numbered). Holds program (first_knowledge program u) (first_world known script budget)) (sym (driver program plan driven).kernel.bodies.known)
-        (first_holds program driven.sound u (programs_are_drivers.first program driven.sliced.callees) script fits budget);
+        (first_holds program driven.sound u (programs_are_drivers.first program (graph_of program)) script fits budget);
     alone = refl;
   }
 

@@ -17,15 +17,17 @@ use Rattle.mdr_watched.specs.Kept.{Kept, followed_of}
 use Rattle.mdr_watched.specs.Watched.{watched}
 use Rattle.mdr_kept.specs.Strict.{strict_of}
 
--- the plan has the halves that the program's roots give, as each plan that the slicer makes; and the program has a call graph
+-- each program has a call graph, in which the service that calls back doesn't count
+abbrev pub ProgramsHaveGraphs : Type 0
+ProgramsHaveGraphs = (program : Program) → (callees : List (List ℕ)) × AreCallees program false callees
+
+-- the plan has the halves that the program's roots give, as each plan that the slicer makes
 pub record IsSliced (program : Program) (plan : Plan) : Type 0 where
   pub roots : List ℕ
   pub are_roots : AreRoots program roots
   pub halves : Halves
   pub are_halves : AreHalves program roots halves
   pub halves_are : plan.halves ≡ halves.halves
-  pub callees : List (List ℕ)
-  pub are_callees : AreCallees program false callees
 
 -- a sound program that names objects where they live, with its plan
 pub record IsDriven (program : Program) (plan : Plan) : Type 0 where

@@ -1,6 +1,11 @@
 // Laws, each as a function that does nothing.
 
-ghost use Rattle.mdr_reports.specs.Laws.{FollowedRunsAreStrict, KeptReportsAgree};
+ghost use Rattle.mdr_reports.specs.Laws.{FollowedRunsAreStrict, KeptReportsAgree, ProgramsHaveGraphs};
+
+/// Each program has a call graph, in which the service that calls back doesn't count.
+pub fn programs_have_graphs()
+    ensures { ProgramsHaveGraphs }
+{}
 
 /// A followed run of a sound program passes no pointer to a block that has died, and its kernel code calls no user code,
 /// where code names objects of locals only where they live.

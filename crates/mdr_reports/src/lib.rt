@@ -3,4 +3,4 @@
 
 mod laws;
 
-pub use laws::{followed_runs_are_strict, kept_reports_agree};
+pub use laws::{followed_runs_are_strict, kept_reports_agree, programs_have_graphs};
