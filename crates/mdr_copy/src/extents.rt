@@ -9,13 +9,14 @@ use mdr_model::{Run, SetRun};
 
 /// Where the cells of a run lie.
 #[derive(Clone, Copy)]
-pub(crate) struct Extent {
-    pub(crate) serial: u64,
-    pub(crate) first: u32,
-    pub(crate) len: usize,
+pub struct Extent {
+    pub serial: u64,
+    pub first: u32,
+    pub len: usize,
 }
 
-pub(crate) fn extent_of(run: &Run) -> Extent
+/// Where the cells of a run of values lie.
+pub fn extent_of(run: &Run) -> Extent
     ensures { set_run result ≡ set_run_of run.now }
 {
     Extent {
@@ -34,7 +35,8 @@ fn follows(before: Extent, run: Extent) -> bool
             && before.len <= (run.first - before.first) as usize)
 }
 
-pub(crate) fn follows_maybe(before: Option<Extent>, run: Extent) -> bool
+/// Whether a run begins after the beginning of the one before it, and not before its end.
+pub fn follows_maybe(before: Option<Extent>, run: Extent) -> bool
     ensures { result ≡ follows_maybe (option_map set_run before) (set_run run) }
 {
     match before {

@@ -10,7 +10,7 @@ use std::alloc::Global;
 
 /// Whether a set has the cell of a block at an index.
 #[tactic(auto, unfolding(mdr_model::specs::Sets::is_in))]
-pub(crate) fn is_in_at(cells: &[Cell], serial: u64, index: usize) -> bool
+pub fn is_in_at(cells: &[Cell], serial: u64, index: usize) -> bool
     ensures { result ≡ is_in cells.now (record { serial = serial; index = index }) }
 {
     cells

@@ -218,7 +218,7 @@ fn add_globals(defs: &[GlobalDef], out: &mut Vec<u32>) -> Result<(), AllocError>
 }
 
 /// The functions whose addresses are taken somewhere in a program, each as often as it is named.
-pub(crate) fn names_of(alloc: Global, program: &Program) -> Result<Vec<u32>, AllocError>
+pub fn names_of(alloc: Global, program: &Program) -> Result<Vec<u32>, AllocError>
     ensures { IfOk result (λ names. names.items ≡ names_of program.now) }
 {
     let mut names = Vec::new(alloc);

@@ -150,7 +150,7 @@ fn has_signature(func: &Func, types: &[Ty]) -> bool
 }
 
 /// Whether a function's address has the type.
-fn has_function_type(func: &Func, ty: &Ty) -> bool
+pub fn has_function_type(func: &Func, ty: &Ty) -> bool
     ensures { IsTrue result ↔ (ty.now ≡ function_type func.now) }
 {
     match ty {
