@@ -1,22 +1,19 @@
 // The state of a run while a function of the user half is active.
 
-ghost use Rattle.std.specs.Prelude.{◌≡◌, [], IfOk};
+ghost use Rattle.std.specs.Prelude.{◌≡◌, []};
 ghost use Rattle.mdr_meaning.specs.Values.{wire_of};
 ghost use Rattle.mdr_model.specs.Memory.{normal};
 ghost use Rattle.mdr_viewed.specs.Viewed.{IsOlder, viewed};
 ghost use Rattle.mdr_watched.specs.Order.{AreLive};
-ghost use Rattle.mdr_watched.specs.Views.{closed, opened, top};
+ghost use Rattle.mdr_watched.specs.Views.{closed, opened};
 ghost use Rattle.mdr_world.specs.Driven.{Ticks, driver};
 ghost use Rattle.mdr_watch.specs.Guarding.{IsGuarded};
 
-use crate::alive::living;
 use crate::kept_out::{are_kept_out, is_kept_out};
 use mdr_cells::CellSet;
-use mdr_core::{Items, OutOfMemory, StopKind, Value};
+use mdr_core::{Items, StopKind, Value};
 use mdr_exec::Memory;
 use mdr_meaning::Shape64;
-use mdr_mem::Blocks;
-use mdr_model::Cell;
 use mdr_world::World;
 use std::alloc::{AllocError, Global};
 use std::marker::Model;
@@ -98,41 +95,6 @@ impl<'a> Guarded<'a> {
         ensures { Ticks result self.old self.new }
     {
         self.world.tick()
-    }
-
-    /// The ticks that were counted.
-    pub fn ticks(&self) -> u64
-        ensures { result ≡ self.now.world.clock.ticks }
-    {
-        self.world.ticks()
-    }
-
-    /// The ticks that the budget leaves.
-    pub fn rest(&self) -> u64
-        ensures { result ≡ self.now.world.clock.rest }
-    {
-        self.world.rest()
-    }
-
-    /// How many commands called a function.
-    pub fn calls(&self) -> u64
-        ensures { result ≡ self.now.world.kept.calls }
-    {
-        self.world.calls()
-    }
-
-    /// The memory.
-    pub fn blocks(&self) -> &Blocks
-        ensures { result.now.memory ≡ self.now.world.memory }
-    {
-        self.world.blocks()
-    }
-
-    /// The cells that user code may touch, in their order: those of the set whose blocks live.
-    pub fn cells(&self, alloc: Global) -> Result<Items<Cell>, OutOfMemory>
-        ensures { IfOk result (λ cells. cells ≡ top self.now.world.views) }
-    {
-        living(alloc, &self.world, &self.set)
     }
 
     /// A value as it is now: a pointer whose block doesn't live is a dead one.

@@ -6,10 +6,9 @@
 //! code calls no function of the user half.
 #![tactic(auto)]
 
-mod alive;
 mod asks;
 mod commands;
-mod downcalls;
+mod downcall;
 mod guarded;
 mod kept_out;
 mod next;
@@ -19,10 +18,6 @@ mod upcall;
 mod watch;
 mod whole;
 
-pub use asks::ask;
-pub use downcalls::downcall;
 pub use guarded::Guarded;
-pub use next::{Answer, Ended};
-pub use roots::entry_roots;
-pub use watch::{Upcall, Watch, is_fit, is_user, kernel_code, touched};
+pub use watch::{Upcall, Watch};
 pub use whole::run_watched;

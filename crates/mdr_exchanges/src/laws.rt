@@ -1,0 +1,15 @@
+// Laws, each as a function that does nothing.
+
+ghost use Rattle.mdr_exchanges.specs.Ends.{EndedRunsAreAsBefore, ExchangesAreFew};
+
+/// Where an answer is refused, or none comes, the run had waited for it, and its memory is what it was before: the answer's
+/// number and its first fault are told.
+pub fn ended_runs_are_as_before()
+    ensures { EndedRunsAreAsBefore }
+{}
+
+/// Of exchanges whose messages are a run's, the messages and answers are at most 4 for each tick and 6 for each command that
+/// called a function.
+pub fn exchanges_are_few()
+    ensures { ExchangesAreFew }
+{}

@@ -1,0 +1,9 @@
+pub mod ArgumentTests
+pub mod FirstFaults
+pub mod Layers
+pub mod NewTests
+pub mod ObjectTests
+pub mod OpenCells
+pub mod ParameterLaws
+pub mod RowTests
+pub mod TypeTests

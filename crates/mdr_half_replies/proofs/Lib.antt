@@ -1,0 +1,2 @@
+pub mod SameFuncs
+pub mod Printed

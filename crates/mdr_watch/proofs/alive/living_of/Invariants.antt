@@ -1,7 +1,0 @@
-use Rattle.std.proofs.Common.{◌≡◌, ◌++◌, drop}
-use Rattle.mdr_cells.specs.Names.{named}
-use Rattle.mdr_watched.specs.Views.{living}
-use Rattle.mdr_watch.proofs.alive.living_of.Given as goal
-
-abbrev pub invariant-loop-name : goal.invariant-loop-name
-invariant-loop-name l = l.cells ++ living l.world.world.memory (named (drop l.name-index l.names)) ≡ living l.world.world.memory (named l.names)
