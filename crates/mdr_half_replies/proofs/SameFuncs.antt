@@ -33,7 +33,7 @@ user_same plan (h ∷ hs) (f ∷ fs) (g ∷ gs) shown halves (suc n) user = user
 
 -- ---- types
 
-type_in : Ty × Ann → Ty
+abbrev type_in : Ty × Ann → Ty
 type_in x = x.0
 
 types_in : (ps : List Param) → map (λ (p : Param). p.ty) ps ≡ map type_in (map unnamed ps)
