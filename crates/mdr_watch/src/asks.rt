@@ -17,7 +17,7 @@ use mdr_services::{Served, serve};
 use std::alloc::Global;
 
 /// A service is served, and the cells of what is born join the set.
-pub(crate) fn ask<'a>(
+pub fn ask<'a>(
     alloc: Global,
     upcall: Upcall,
     guarded: Guarded<'a>,

@@ -45,14 +45,14 @@ impl<'a> Model for Guarded<'a> {
 
 /// The world and the set beside it.
 #[derive(Drop)]
-pub(crate) struct Parts<'a> {
-    pub(crate) world: World<'a>,
-    pub(crate) set: CellSet,
+pub struct Parts<'a> {
+    pub world: World<'a>,
+    pub set: CellSet,
 }
 
 impl<'a> Guarded<'a> {
     /// A world with a set beside it.
-    pub(crate) fn beside(world: World<'a>, set: CellSet) -> Guarded<'a>
+    pub fn beside(world: World<'a>, set: CellSet) -> Guarded<'a>
         requires { IsGuarded set world.world }
         ensures { result ≡ driver world.entry.program (viewed set world.entry.world) }
     {
@@ -60,7 +60,7 @@ impl<'a> Guarded<'a> {
     }
 
     /// The world and the set.
-    pub(crate) fn parts(self) -> Parts<'a>
+    pub fn parts(self) -> Parts<'a>
         ensures is { driver result.world.program (viewed result.set result.world.world) ≡ self.entry }
         ensures guarded { IsGuarded result.set result.world.world }
     {

@@ -8,7 +8,7 @@
 
 mod asks;
 mod commands;
-mod downcall;
+mod downcalls;
 mod guarded;
 mod kept_out;
 mod next;
@@ -18,6 +18,10 @@ mod upcall;
 mod watch;
 mod whole;
 
-pub use guarded::Guarded;
-pub use watch::{Upcall, Watch};
+pub use asks::ask;
+pub use downcalls::downcall;
+pub use guarded::{Guarded, Parts};
+pub use next::{Answer, Ended};
+pub use roots::entry_roots;
+pub use watch::{Upcall, Watch, is_fit, is_user, kernel_code, touched};
 pub use whole::run_watched;

@@ -47,7 +47,7 @@ fn add_params(roots: &mut Items<Root>, params: &[Param], args: &[Value]) -> Resu
 }
 
 /// The arguments of a function that is entered, each with the annotation of its parameter, behind a result that is none.
-pub(crate) fn entry_roots(
+pub fn entry_roots(
     alloc: Global,
     program: &Program,
     func: u32,

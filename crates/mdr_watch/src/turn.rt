@@ -11,7 +11,7 @@ ghost use Rattle.mdr_watch.specs.Guarding.{guarded_accesses};
 ghost use Rattle.mdr_watch.specs.Watching.{IsFit, driver_in};
 
 use crate::asks::ask;
-use crate::downcall::downcall;
+use crate::downcalls::downcall;
 use crate::guarded::Guarded;
 use crate::next::{Answer, Ended, Turn};
 use crate::watch::Upcall;

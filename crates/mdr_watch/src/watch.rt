@@ -25,14 +25,14 @@ pub struct Upcall<'a> {
 }
 
 /// Whether each function has a half.
-pub(crate) fn is_fit(watch: Watch) -> bool
+pub fn is_fit(watch: Watch) -> bool
     ensures { result ≡ (length watch.entry.plan.now.halves == length watch.entry.program.now.funcs) }
 {
     watch.plan.halves.len() == watch.program.funcs.len()
 }
 
 /// The code of the kernel half.
-pub(crate) fn kernel_code<'a>(watch: Watch<'a>) -> Code<'a>
+pub fn kernel_code<'a>(watch: Watch<'a>) -> Code<'a>
     requires { IsFit watch }
     ensures code { driver_code result ≡ kernel_of (driver_in watch.entry) }
     ensures program { result.program.now ≡ watch.entry.program.now }
@@ -45,7 +45,7 @@ pub(crate) fn kernel_code<'a>(watch: Watch<'a>) -> Code<'a>
 }
 
 /// Whether a function is of the user half.
-pub(crate) fn is_user(plan: &Plan, func: u32) -> bool
+pub fn is_user(plan: &Plan, func: u32) -> bool
     ensures { result ≡ is_user plan.now func }
 {
     match plan.halves.as_slice().get(func as usize) {
@@ -56,7 +56,7 @@ pub(crate) fn is_user(plan: &Plan, func: u32) -> bool
 }
 
 /// The keys of what a function of the user half may touch, with all that it calls in its half.
-pub(crate) fn touched<'a>(plan: &'a Plan, func: u32) -> &'a [Key]
+pub fn touched<'a>(plan: &'a Plan, func: u32) -> &'a [Key]
     ensures { result.now ≡ touched_by plan.now func }
 {
     match plan.keys.as_slice().get(func as usize) {

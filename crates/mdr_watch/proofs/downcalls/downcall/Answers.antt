@@ -5,7 +5,7 @@ use Rattle.mdr_model.specs.Memory.{normal}
 use Rattle.mdr_whole.specs.Ending.{gave_as}
 use Rattle.mdr_whole.specs.Going.{driver_code}
 use Rattle.mdr_watch.proofs.Calls.{down_goes, down_stays, down_stops}
-use Rattle.mdr_watch.proofs.downcall.downcall.Goals as goal
+use Rattle.mdr_watch.proofs.downcalls.downcall.Goals as goal
 
 pub come_back-requires-clause-guarded : goal.come_back-requires-clause-guarded
 come_back-requires-clause-guarded c =

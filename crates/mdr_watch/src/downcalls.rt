@@ -66,7 +66,7 @@ fn come_back<'a>(
 }
 
 /// A function of the kernel half is called, which runs in place.
-pub(crate) fn downcall<'a>(
+pub fn downcall<'a>(
     alloc: Global,
     upcall: Upcall,
     guarded: Guarded<'a>,
