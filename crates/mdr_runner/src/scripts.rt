@@ -53,7 +53,7 @@ fn judged(alloc: Global, program: &Program, bytes: &[u8]) -> Result<Stage<Bound>
 }
 
 /// Reads a script, and gives it for a program, or what is due where there is none.
-pub(crate) fn script_of<S: Shelf>(
+pub fn script_of<S: Shelf>(
     alloc: Global,
     shelf: &mut S,
     program: &Program,

@@ -1,0 +1,4 @@
+mod OfHalves
+mod Seen
+mod Terms
+mod Walks

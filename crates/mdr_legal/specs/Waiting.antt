@@ -1,0 +1,45 @@
+-- Where the kernel half waits, as far as an answer is judged by it.
+use Rattle.std.specs.Prelude.{◌≡◌, ℕ, false, List, [], ◌∷◌, None}
+use Rattle.mdr_device.specs.Machines.{made}
+use Rattle.mdr_legal.specs.declared.standing.Standing.{Standing}
+use Rattle.mdr_model.specs.declared.memory.Cell.{Cell}
+use Rattle.mdr_model.specs.Memory.{Memory}
+use Rattle.mdr_split.specs.State.{Kernel, Open}
+use Rattle.mdr_watched.specs.Driver.{Driver, driver_of}
+use Rattle.mdr_watched.specs.Views.{top}
+
+-- the kernel half is in this state, and this upcall is open
+pub record IsWhere (s : Standing) (k : Kernel) (upcall : Open) : Type 0 where
+  pub memory : k.world.memory ≡ s.memory.now
+  pub agreed : k.agreed ≡ s.agreed.now
+  pub view : top k.world.views ≡ s.view.now
+  pub exchanges : k.exchanges ≡ s.exchanges
+  pub ticks : k.world.clock.ticks ≡ s.ticks
+  pub rest : k.world.clock.rest ≡ s.rest
+  pub calls : k.world.kept.calls ≡ s.calls
+  pub func : upcall.func ≡ s.func
+  pub entered : upcall.entered ≡ s.entered.now
+
+-- ---- a state with no more in it than an answer is judged by
+
+abbrev pub kernel_with : (memory agreed : Memory) → (view : List Cell) → (exchanges ticks rest calls : ℕ) → Kernel
+kernel_with memory agreed view exchanges ticks rest calls = record {
+  world = record {
+    memory = memory;
+    lives = [];
+    views = view ∷ [];
+    clock = record { ticks = ticks; rest = rest; device = made [] [] };
+    kept = record { events = []; calls = calls; handler = None; in_handler = false; allocations = 0; fails = [] };
+  };
+  agreed = agreed;
+  exchanges = exchanges;
+}
+
+abbrev pub driver_at : Standing → Driver
+driver_at s = driver_of s.program.now s.plan.now
+
+abbrev pub kernel_at : Standing → Kernel
+kernel_at s = kernel_with s.memory.now s.agreed.now s.view.now s.exchanges s.ticks s.rest s.calls
+
+abbrev pub open_at : Standing → Open
+open_at s = record { func = s.func; entered = s.entered.now }

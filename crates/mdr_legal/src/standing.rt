@@ -1,0 +1,23 @@
+// Where the kernel half waits.
+
+use mdr_core::{Plan, Program};
+use mdr_model::{Cell, MemoryBlock};
+
+/// Where the kernel half waits for an answer, as far as an answer is judged by it: the driver and its plan, the functions
+/// whose addresses its program takes, the agreed copy, the memory, the cells that user code may touch, the function that
+/// was called and the objects of locals that were born in it and live, and what was counted.
+#[derive(Clone, Copy)]
+pub struct Standing<'a> {
+    pub program: &'a Program,
+    pub plan: &'a Plan,
+    pub passes: &'a [u32],
+    pub agreed: &'a [MemoryBlock],
+    pub memory: &'a [MemoryBlock],
+    pub view: &'a [Cell],
+    pub func: u32,
+    pub entered: &'a [u64],
+    pub exchanges: u64,
+    pub ticks: u64,
+    pub rest: u64,
+    pub calls: u64,
+}
