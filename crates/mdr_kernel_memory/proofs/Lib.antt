@@ -1,0 +1,3 @@
+pub mod Blockwise
+pub mod Storing
+pub mod Beside

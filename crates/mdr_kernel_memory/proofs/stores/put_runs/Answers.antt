@@ -1,0 +1,12 @@
+use Rattle.mdr_model.specs.Copies.{put_runs}
+use Rattle.mdr_kernel_memory.specs.Holding.{holding}
+use Rattle.mdr_kernel_memory.proofs.Storing.{runs_all, runs_next}
+use Rattle.mdr_kernel_memory.proofs.stores.put_runs.Goals as goal
+
+pub loop-run-preserved : goal.loop-run-preserved
+loop-run-preserved c =
+    runs_next c.args.runs.now c.loop-run.run-index c.run-item.result c.loop-run.world c.put_run.new.world (holding (put_runs c.args.runs.now c.args.world.now.world.memory) c.args.world.now) c.loop-run-test.true c.run-item.is
+    c.in_ok-put_run.ensures c.loop-run.invariant
+
+pub returns : goal.returns
+returns c = runs_all c.args.runs.now c.loop-run.run-index c.loop-run.world (holding (put_runs c.args.runs.now c.args.world.now.world.memory) c.args.world.now) c.loop-run-test.false c.loop-run.invariant
