@@ -1,0 +1,93 @@
+-- From the reply to one message to the replies to messages in turn.
+use Rattle.std.proofs.Common.{◌≡◌, ℕ, suc, ◌+◌, ◌≤◌, List, [], ◌∷◌, ◌++◌, Ok, Err, refl, sym, ◌∙◌, ap, subst, le_trans, arith}
+use Rattle.mdr_core.specs.declared.plan.Plan.{Plan}
+use Rattle.mdr_core.specs.declared.program.Program.{Program}
+use Rattle.mdr_exec.specs.Held.{bare}
+use Rattle.mdr_exec.specs.Steps.{child}
+use Rattle.mdr_meaning.specs.Bodies.{known_of, user_side}
+use Rattle.mdr_model.specs.declared.message.Fault.{Fault}
+use Rattle.mdr_model.specs.declared.message.Message.{Message}
+use Rattle.mdr_model.specs.declared.message.Message.TheVariants as message
+use Rattle.mdr_model.specs.KernelState.{Reading}
+use Rattle.mdr_model.specs.User.{allowance, granted}
+use Rattle.mdr_model.proofs.FuelLaws.{allowance-append, allowance_one}
+use Rattle.mdr_plain.specs.Storage.{first_memory}
+use Rattle.mdr_split.specs.User.{Delivered, User, Opened, deliver, done, first_user, user_after, user_reply}
+use Rattle.mdr_split.proofs.FuelLaws.{reply_with_fuel, same_deliver, user_after-append}
+use Rattle.mdr_watched.specs.Driver.{Driver, driver_of}
+use Rattle.mdr_user_code.specs.declared.opening.Opening.TheVariants as opening
+use Rattle.mdr_user_code.specs.declared.opening.Turn.{Turn}
+use Rattle.mdr_user_code.specs.declared.state.Awaits.TheVariants as awaits
+use Rattle.mdr_user_code.specs.declared.state.State.{State}
+use Rattle.mdr_user_code.specs.Opening.{func_for, opening_for, opens_as, tree_for}
+use Rattle.mdr_user_code.specs.Replying.{Proceeds}
+use Rattle.mdr_user_code.specs.Standing.{Follows, Replies, cut_delivered, cut_user, kept_by, replies_so, user_of, work_by, upcall_of, held_in}
+use Rattle.mdr_user_code.proofs.OpeningLaws.{opens_is, rest_is}
+
+-- ---- one message
+
+pub replies_refused : (d : Driver) (s : State) (m reply : Message) (reason : ℕ) → reply ≡ message.Refuse reason → opening_for d s m ≡ opening.Refuses reason → Replies d s (Ok m) reply s
+unfolding deliver
+replies_refused d s m reply reason same e = record {
+  kept = omega arith;
+  by = λ fuel more fits.
+      ap (λ (o : Opened). cut_delivered more (done (user_of d fuel s) o)) (opens_is d fuel s m ∙ ap (opens_as (tree_for d fuel s m) (func_for s m)) e)
+      ∙ ap (λ (r : Message). cut_delivered more (replies_so d fuel r s)) (sym same);
+}
+
+unread : (d : Driver) (s : State) (f : Fault) → Replies d s (Err f) (message.Refuse 1) s
+unfolding deliver
+unread d s f = record { kept = omega arith; by = λ fuel more fits. refl }
+
+pub replies_unread : (d : Driver) (s : State) (x : Reading) (f : Fault) (reply : Message) → x ≡ Err f → reply ≡ message.Refuse 1 → Replies d s x reply s
+replies_unread d s x f reply is same = subst (λ y. Replies d s y reply s) (sym is) (subst (λ r. Replies d s (Err f) r s) (sym same) (unread d s f))
+
+pub replies_goes : (d : Driver) (s s' : State) (m : Message) (turn : Turn) (reply : Message) → opening_for d s m ≡ opening.Goes turn → Proceeds d s m turn reply s' → Replies d s (Ok m) reply s'
+unfolding deliver
+replies_goes d s s' m turn reply e p =
+    let rest : turn.rest ≤ kept_by s.awaits + granted (Ok m) = rest_is d s turn m e in
+    record {
+      kept = le_trans p.kept rest;
+      by = λ fuel more fits.
+          ap (λ (o : Opened). cut_delivered more (done (user_of d fuel s) o)) (opens_is d fuel s m ∙ ap (opens_as (tree_for d fuel s m) (func_for s m)) e)
+          ∙ p.by fuel more (omega (arith, rest, fits));
+    }
+
+-- ---- messages in turn
+
+pub begins_so : (program : Program) (plan : Plan) (s : State) → s.agreed ≡ first_memory (known_of program) → s.awaits ≡ awaits.Nothing → Follows (driver_of program plan) [] s
+unfolding user_after first_user user_side allowance
+begins_so program plan s agreed none = record {
+  kept = let zero : kept_by s.awaits ≡ 0 = ap kept_by none in omega (arith, zero);
+  by = λ fuel more fits.
+      let d : Driver = driver_of program plan in
+      λ i. cut_user more (record { agreed = sym agreed i; work = work_by (sym none i) (upcall_of s) s.view (child (bare d.user fuel (held_in d s))) });
+}
+
+module _ (d : Driver) (before : List Reading) (s s' : State) (x : Reading) (reply : Message) (follows : Follows d before s) (replies : Replies d s x reply s') where
+  abbrev held : (fuel : ℕ) → User
+  held fuel = user_after d (suc fuel) (first_user d) before
+
+  -- the message finds what the state stands for
+  delivered_so : (fuel more : ℕ) → allowance before + granted x + more ≤ fuel → cut_delivered more (deliver d (suc fuel) (held fuel) x) ≡ cut_delivered more (replies_so d fuel reply s')
+  delivered_so fuel more fits =
+      let kept = follows.kept in
+      same_deliver d (suc fuel) (suc fuel) more (held fuel) (user_of d fuel s) x (omega (arith, fits)) (omega (arith, fits)) (follows.by fuel (more + granted x) (omega (arith, fits)))
+      ∙ replies.by fuel more (omega (arith, fits, kept))
+
+  pub reply_is : reply ≡ user_reply d before x
+  reply_is =
+      let fuel : ℕ = allowance before + granted x in
+      sym (reply_with_fuel d (suc fuel) before x (omega arith) ∙ ap (λ (y : Delivered). y.reply) (delivered_so fuel 0 (omega arith)))
+
+  all_granted : allowance (before ++ x ∷ []) ≡ allowance before + granted x
+  all_granted = omega (arith, allowance-append before (x ∷ []), allowance_one x)
+
+  pub follows_on : Follows d (before ++ x ∷ []) s'
+  unfolding user_after
+  follows_on = record {
+    kept = let one = follows.kept in let two = replies.kept in omega (arith, all_granted, one, two);
+    by = λ fuel more fits.
+        ap (cut_user more) (user_after-append d (suc fuel) (first_user d) before (x ∷ []))
+        ∙ ap (λ (y : Delivered). y.user) (delivered_so fuel more (omega (arith, all_granted, fits)));
+  }

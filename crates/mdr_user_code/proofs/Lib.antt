@@ -1,0 +1,9 @@
+mod Sides
+mod CopiedWalks
+mod RunLaws
+mod OpeningLaws
+mod ReadyLaws
+mod FollowLaws
+mod KeyLaws
+mod ByteLaws
+mod GrownLaws

@@ -1,0 +1,6 @@
+use Rattle.std.proofs.Common.{◌≡◌, ◌++◌, drop}
+use Rattle.mdr_exec.specs.Holding.{wires_of}
+use Rattle.mdr_user_code.proofs.values.wires_of.Given as goal
+
+abbrev pub invariant-loop-value : goal.invariant-loop-value
+invariant-loop-value l = l.wires ++ wires_of (drop l.value-index l.values) ≡ wires_of l.values

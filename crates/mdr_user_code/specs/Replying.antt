@@ -1,0 +1,104 @@
+-- The reply of an event, and what is open behind it.
+use Rattle.std.specs.Prelude.{◌≡◌, ◌≤◌, ℕ, suc, ◌+◌, ◌-◌, ◌==◌, Bool, List, map, length}
+use Rattle.mdr_core.specs.declared.program.Program.{Program}
+use Rattle.mdr_core.specs.declared.stop.StopKind.TheVariants as stop
+use Rattle.mdr_core.specs.declared.value.Value.{Value}
+use Rattle.mdr_exec.specs.declared.event.Asked.{Asked as Service}
+use Rattle.mdr_exec.specs.declared.event.Event.{Event}
+use Rattle.mdr_exec.specs.declared.event.Event.TheVariants as event
+use Rattle.mdr_exec.specs.declared.frame.Front.{Front}
+use Rattle.mdr_exec.specs.declared.frame.Front.TheVariants as front
+use Rattle.mdr_exec.specs.declared.frame.Machine.{Machine}
+use Rattle.mdr_exec.specs.Held.{Held, tree}
+use Rattle.mdr_exec.specs.Holding.{held_of, waits, wires_of}
+use Rattle.mdr_exec.specs.Steps.{child}
+use Rattle.mdr_meaning.specs.declared.wire.Wire.{Wire}
+use Rattle.mdr_meaning.specs.Bodies.{started}
+use Rattle.mdr_meaning.specs.Cut.{cut}
+use Rattle.mdr_meaning.specs.Sides.{Side}
+use Rattle.mdr_meaning.specs.Tree.{Tree}
+use Rattle.mdr_meaning.specs.Values.{wire_of}
+use Rattle.mdr_meaning.specs.Walk.{walk}
+use Rattle.mdr_model.specs.declared.memory.Cell.{Cell}
+use Rattle.mdr_model.specs.declared.message.Message.{Message}
+use Rattle.mdr_model.specs.declared.message.Message.TheVariants as message
+use Rattle.mdr_model.specs.declared.message.Run.{Run}
+use Rattle.mdr_model.specs.Copies.{changes, put_runs}
+use Rattle.mdr_model.specs.Memory.{Memory, normal}
+use Rattle.mdr_model.specs.ReplyFaults.{stop_number}
+use Rattle.mdr_split.specs.State.{Open}
+use Rattle.mdr_split.specs.User.{guarded, replied_to}
+use Rattle.mdr_watched.specs.Driver.{Driver}
+use Rattle.mdr_user_code.specs.declared.opening.Turn.{Turn}
+use Rattle.mdr_user_code.specs.declared.state.Awaits.{Awaits}
+use Rattle.mdr_user_code.specs.declared.state.Awaits.TheVariants as awaits
+use Rattle.mdr_user_code.specs.declared.state.Question.{Question}
+use Rattle.mdr_user_code.specs.declared.state.State.{State}
+use Rattle.mdr_user_code.specs.Copied.{Copied}
+use Rattle.mdr_user_code.specs.Opening.{func_for, tree_for}
+use Rattle.mdr_user_code.specs.Standing.{cut_delivered, held_in, kept_by, replies_so}
+
+-- ---- the machine is made ready
+
+-- a function was started in a machine that held nothing
+pub record IsStarted (d : Driver) (func : ℕ) (args : List Wire) (depth : ℕ) (m : Machine) : Type 0 where
+  pub by : (fuel r : ℕ) → r ≤ fuel → tree d.user fuel (held_of d.program m) r ≡ cut r (started d.user (suc fuel) func args depth Tree.Idle)
+
+-- a question is answered
+pub record IsResumed (results : List Wire) (m m' : Machine) : Type 0 where
+  pub by : (program : Program) (side : Side) (fuel r : ℕ) → tree side fuel (held_of program m') r ≡ child (tree side fuel (held_of program m) r) results
+
+pub record Resumed (results : List Wire) (s s' : State) : Type 0 where
+  pub func : s'.func ≡ s.func
+  pub machine : IsResumed results s.machine s'.machine
+
+abbrev pub is_ready : Front → List Value → Bool
+is_ready (front.WaitsParams room) results = length results == length room.items
+is_ready f results = waits f
+
+-- the machine holds what a message runs
+pub record Prepared (d : Driver) (s : State) (m : Message) (s' : State) : Type 0 where
+  pub func : s'.func ≡ func_for s m
+  pub holds : (fuel r : ℕ) → r ≤ fuel → tree d.user fuel (held_in d s') r ≡ cut r (tree_for d fuel s m)
+
+-- ---- what is told
+
+abbrev pub told_as : (ticks : ℕ) → Memory → List Run → Event → Message
+told_as ticks m runs (event.Done v) = message.Return ticks (normal m (wire_of v)) runs
+told_as ticks m runs (event.Cross c) = message.Down ticks c.at c.depth c.func (map (normal m) (wires_of c.args)) runs
+told_as ticks m runs (event.Service q) = message.Ask ticks q.at q.service (map (normal m) (wires_of q.args)) q.shapes q.bytes runs
+told_as ticks m runs (event.TicksOut at) = message.Stop ticks (stop_number stop.Ticks) at runs
+told_as ticks m runs (event.Stop kind at) = message.Stop ticks (stop_number kind) at runs
+
+abbrev pub question_as : Service → Question
+question_as q = record { service = q.service; at = q.at; args = wires_of q.args; shapes = q.shapes; bytes = q.bytes }
+
+abbrev pub awaits_as : (left : ℕ) → Event → Awaits
+awaits_as left (event.Done v) = awaits.Nothing
+awaits_as left (event.Cross c) = awaits.Back c.func
+awaits_as left (event.Service q) = awaits.Answer (question_as q) left
+awaits_as left (event.TicksOut at) = awaits.Nothing
+awaits_as left (event.Stop kind at) = awaits.Nothing
+
+-- the state behind an event: the agreed copy has the changes that are told
+abbrev pub settled : State → (rest : ℕ) → (copy : Memory) → Copied → Event → State
+settled s rest copy c e = record s {
+  agreed = put_runs (changes c.view copy c.memory) copy;
+  view = c.view;
+  awaits = awaits_as (rest - s.machine.used) e;
+}
+
+-- ---- user code runs
+
+-- what is held runs with so many ticks over a copy, whatever ticks later messages grant
+pub record RunReplies (d : Driver) (held : Held) (upcall : Open) (rest : ℕ) (view : List Cell) (copy : Memory) (reply : Message) (s' : State) : Type 0 where
+  pub kept : kept_by s'.awaits ≤ rest
+  pub by : (fuel more : ℕ) (t : Tree) → rest + more ≤ fuel → tree d.user fuel held (rest + more) ≡ cut (rest + more) t
+      → cut_delivered more (replied_to upcall view rest copy (walk (guarded view) rest t copy)) ≡ cut_delivered more (replies_so d fuel reply s')
+
+-- user code goes on with a message
+pub record Proceeds (d : Driver) (s : State) (m : Message) (turn : Turn) (reply : Message) (s' : State) : Type 0 where
+  pub kept : kept_by s'.awaits ≤ turn.rest
+  pub by : (fuel more : ℕ) → turn.rest + more ≤ fuel
+      → cut_delivered more (replied_to (record { func = func_for s m; entered = turn.entered }) turn.sight.view turn.rest turn.sight.copy (walk (guarded turn.sight.view) turn.rest (tree_for d fuel s m) turn.sight.copy))
+      ≡ cut_delivered more (replies_so d fuel reply s')

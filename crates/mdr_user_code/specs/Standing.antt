@@ -1,0 +1,86 @@
+-- What the state of the code stands for, and what it tells of the messages so far.
+use Rattle.std.specs.Prelude.{◌≡◌, ℕ, suc, ◌+◌, ◌≤◌, List, [], ◌∷◌, length}
+use Rattle.mdr_core.specs.declared.plan.Plan.{Plan}
+use Rattle.mdr_core.specs.declared.program.Program.{Program}
+use Rattle.mdr_exec.specs.Held.{Held, bare}
+use Rattle.mdr_exec.specs.Holding.{held_of}
+use Rattle.mdr_exec.specs.Steps.{child}
+use Rattle.mdr_meaning.specs.declared.wire.Wire.{Wire}
+use Rattle.mdr_meaning.specs.Cut.{cut}
+use Rattle.mdr_meaning.specs.Tree.{Asked, Tree}
+use Rattle.mdr_model.specs.declared.memory.Cell.{Cell}
+use Rattle.mdr_model.specs.declared.message.Message.{Message}
+use Rattle.mdr_model.specs.KernelState.{Reading}
+use Rattle.mdr_model.specs.User.{allowance, granted}
+use Rattle.mdr_split.specs.State.{Open}
+use Rattle.mdr_split.specs.User.{AwaitsAnswer, AwaitsBack, Delivered, Nothing, User, Work, deliver, first_user, user_after}
+use Rattle.mdr_watched.specs.Driver.{Driver, driver_of}
+use Rattle.mdr_user_code.specs.declared.scene.Scene.{Scene}
+use Rattle.mdr_user_code.specs.declared.state.Awaits.{Awaits}
+use Rattle.mdr_user_code.specs.declared.state.Awaits.TheVariants as awaits
+use Rattle.mdr_user_code.specs.declared.state.Question.{Question}
+use Rattle.mdr_user_code.specs.declared.state.State.{State}
+
+-- each function has a half
+abbrev pub IsFit : Plan → Program → Type 0
+IsFit plan program = length plan.halves ≡ length program.funcs
+
+abbrev pub driver_in : Scene → Driver
+driver_in s = driver_of s.program.now s.plan.now
+
+-- ---- what the state stands for
+
+abbrev pub upcall_of : State → Open
+upcall_of s = record { func = s.func; entered = s.entered }
+
+abbrev pub asked_of : Question → Asked
+asked_of q = record { service = q.service; at = q.at; args = q.args; shapes = q.shapes; bytes = q.bytes }
+
+abbrev pub work_by : Awaits → Open → List Cell → (goes : List Wire → Tree) → Work
+work_by awaits.Nothing upcall view goes = Nothing
+work_by (awaits.Back func) upcall view goes = AwaitsBack upcall func view (λ v. goes (v ∷ []))
+work_by (awaits.Answer question left) upcall view goes = AwaitsAnswer upcall (asked_of question) view left goes
+
+abbrev pub held_in : Driver → State → Held
+held_in d s = held_of d.program s.machine
+
+-- with fuel for so many turns of loops and calls
+abbrev pub user_of : Driver → (fuel : ℕ) → State → User
+user_of d fuel s = record { agreed = s.agreed; work = work_by s.awaits (upcall_of s) s.view (child (bare d.user fuel (held_in d s))) }
+
+-- the ticks that an answer goes on with
+abbrev pub kept_by : Awaits → ℕ
+kept_by awaits.Nothing = 0
+kept_by (awaits.Back func) = 0
+kept_by (awaits.Answer question left) = left
+
+-- ---- up to so many ticks that later messages grant
+
+abbrev pub cut_work : ℕ → Work → Work
+cut_work r Nothing = Nothing
+cut_work r (AwaitsBack upcall func view goes) = AwaitsBack upcall func view (λ v. cut r (goes v))
+cut_work r (AwaitsAnswer upcall asked view left goes) = AwaitsAnswer upcall asked view left (λ vs. cut (r + left) (goes vs))
+
+abbrev pub cut_user : ℕ → User → User
+cut_user r u = record { agreed = u.agreed; work = cut_work r u.work }
+
+abbrev pub cut_delivered : ℕ → Delivered → Delivered
+cut_delivered r d = record { reply = d.reply; user = cut_user r d.user }
+
+-- a reply, and the state after it
+abbrev pub replies_so : Driver → (fuel : ℕ) → Message → State → Delivered
+replies_so d fuel reply s = record { reply = reply; user = user_of d fuel s }
+
+-- ---- one message
+
+-- the reply to a message, and what is open after it, whatever ticks later messages grant
+pub record Replies (d : Driver) (s : State) (x : Reading) (reply : Message) (s' : State) : Type 0 where
+  pub kept : kept_by s'.awaits ≤ kept_by s.awaits + granted x
+  pub by : (fuel more : ℕ) → kept_by s.awaits + granted x + more ≤ fuel → cut_delivered more (deliver d (suc fuel) (user_of d fuel s) x) ≡ cut_delivered more (replies_so d fuel reply s')
+
+-- ---- messages in turn
+
+-- what is open after messages, whatever ticks later ones grant
+pub record Follows (d : Driver) (before : List Reading) (s : State) : Type 0 where
+  pub kept : kept_by s.awaits ≤ allowance before
+  pub by : (fuel more : ℕ) → allowance before + more ≤ fuel → cut_user more (user_after d (suc fuel) (first_user d) before) ≡ cut_user more (user_of d fuel s)

@@ -1,0 +1,121 @@
+// One message.
+
+ghost use Rattle.std.specs.Prelude.{◌≡◌, [], ◌∷◌, ◌++◌, List, Ok, IfOk, OnOk};
+ghost use Rattle.mdr_core.specs.Sound.{IsSound};
+ghost use Rattle.mdr_model.specs.declared.message.Message.TheVariants as message_is;
+ghost use Rattle.mdr_model.specs.KernelState.{Reading};
+ghost use Rattle.mdr_split.specs.User.{user_reply};
+ghost use Rattle.mdr_watched.specs.Driver.{driver_of};
+ghost use Rattle.mdr_user_code.specs.Replying.{Proceeds};
+ghost use Rattle.mdr_user_code.specs.Standing.{Follows, IsFit, Replies, driver_in};
+
+use crate::first::first_memory;
+use crate::opening::{Opening, Turn, opens};
+use crate::ready::prepare;
+use crate::running::run;
+use crate::scene::Scene;
+use crate::state::{Awaits, State};
+use mdr_core::{Items, OutOfMemory, Plan, Program};
+use mdr_exec::{Machine, Side};
+use mdr_model::{Fault, Message};
+use std::alloc::Global;
+
+/// The state before any message.
+pub fn begins(alloc: Global, program: &Program, plan: &Plan) -> Result<State, OutOfMemory>
+    ensures { IfOk result (λ s. Follows (driver_of program.now plan.now) [] s) }
+{
+    let _ = plan;
+    let agreed = first_memory(alloc, program)?;
+    Ok(State {
+        agreed,
+        machine: Machine::new(alloc, Side::User),
+        func: 0,
+        entered: Items::new(alloc),
+        view: Items::new(alloc),
+        awaits: Awaits::Nothing,
+    })
+}
+
+/// A refusal changes nothing.
+fn refused(reason: u32) -> Message
+    ensures { result ≡ message_is.Refuse reason }
+{
+    Message::Refuse { reason }
+}
+
+/// User code goes on with a message.
+fn proceed(
+    alloc: Global,
+    scene: Scene,
+    state: &mut State,
+    message: &Message,
+    turn: Turn,
+) -> Result<Message, OutOfMemory>
+    requires sound { IsSound scene.program.now }
+    requires fit { IsFit scene.plan.now scene.program.now }
+    ensures { IfOk result (λ r. Proceeds (driver_in scene.entry) state.old message.now turn r state.new) }
+{
+    prepare(alloc, scene, state, message)?;
+    let Turn {
+        rest,
+        entered,
+        sight,
+    } = turn;
+    state.entered = entered;
+    let reply = run(alloc, scene, state, rest, sight)?;
+    Ok(reply)
+}
+
+fn deliver(
+    alloc: Global,
+    scene: Scene,
+    state: &mut State,
+    message: &Message,
+) -> Result<Message, OutOfMemory>
+    requires sound { IsSound scene.program.now }
+    requires fit { IsFit scene.plan.now scene.program.now }
+    ensures { IfOk result (λ r. Replies (driver_in scene.entry) state.old (Ok message.now) r state.new) }
+{
+    let opening = opens(alloc, scene, state, message)?;
+    match opening {
+        Opening::Refuses(reason) => Ok(refused(reason)),
+        Opening::Goes(turn) => {
+            let reply = proceed(alloc, scene, state, message, turn)?;
+            Ok(reply)
+        }
+    }
+}
+
+fn reply_to(
+    alloc: Global,
+    scene: Scene,
+    state: &mut State,
+    message: &Result<Message, Fault>,
+) -> Result<Message, OutOfMemory>
+    requires sound { IsSound scene.program.now }
+    requires fit { IsFit scene.plan.now scene.program.now }
+    ensures { IfOk result (λ r. Replies (driver_in scene.entry) state.old message.now r state.new) }
+{
+    match message {
+        Ok(message) => deliver(alloc, scene, state, message),
+        Err(_fault) => Ok(refused(1)),
+    }
+}
+
+/// The reply to a message, which is read already. Where memory is wanting, nothing is promised of the state.
+pub fn delivered(
+    alloc: Global,
+    program: &Program,
+    plan: &Plan,
+    state: &mut State,
+    message: &Result<Message, Fault>,
+) -> Result<Message, OutOfMemory>
+    requires sound { IsSound program.now }
+    requires fit { IsFit plan.now program.now }
+    ensures reply { IfOk result (λ r. (before : List Reading) → Follows (driver_of program.now plan.now) before state.old → r ≡ user_reply (driver_of program.now plan.now) before message.now) }
+    ensures follows { OnOk result ((before : List Reading) → Follows (driver_of program.now plan.now) before state.old → Follows (driver_of program.now plan.now) (before ++ message.now ∷ []) state.new) }
+{
+    let scene = Scene { program, plan };
+    let reply = reply_to(alloc, scene, state, message)?;
+    Ok(reply)
+}

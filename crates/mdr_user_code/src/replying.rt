@@ -1,0 +1,196 @@
+// The reply of an event, and what is open behind it.
+
+ghost use Rattle.std.specs.Prelude.{◌≡◌, ◌≤◌, ◌-◌, map, IfOk, OnOk};
+ghost use Rattle.mdr_exec.specs.Holding.{wires_of};
+ghost use Rattle.mdr_meaning.specs.Values.{wire_of};
+ghost use Rattle.mdr_model.specs.declared.message.Message.TheVariants as message;
+ghost use Rattle.mdr_model.specs.Copies.{changes, put_runs};
+ghost use Rattle.mdr_model.specs.Memory.{normal};
+ghost use Rattle.mdr_model.specs.ReplyFaults.{stop_number};
+ghost use Rattle.mdr_user_code.specs.Replying.{awaits_as, question_as, settled, told_as};
+
+use crate::memory::UserMemory;
+use crate::sight::told_copy;
+use crate::state::{Awaits, Question, State};
+use crate::values::wires_of;
+use mdr_copy::{changes, normal, normals, wire_of};
+use mdr_core::{Items, OutOfMemory, StopKind, Value};
+use mdr_exec::{Asked, Crossing, Event};
+use mdr_model::{MemoryBlock, Message, Run, Wire};
+use std::alloc::Global;
+
+/// A stop's number, from 1.
+fn stop_number(kind: StopKind) -> u32
+    ensures { result ≡ stop_number kind }
+{
+    match kind {
+        StopKind::Null => 1,
+        StopKind::Dead => 2,
+        StopKind::Bounds => 3,
+        StopKind::Overflow => 4,
+        StopKind::DivZero => 5,
+        StopKind::Shift => 6,
+        StopKind::Compare => 7,
+        StopKind::BadCast => 8,
+        StopKind::BadCall => 9,
+        StopKind::NoValue => 10,
+        StopKind::LockHeld => 11,
+        StopKind::LockFree => 12,
+        StopKind::Depth => 13,
+        StopKind::Bug => 14,
+        StopKind::Annotation => 15,
+        StopKind::Ticks => 16,
+        StopKind::Atomic => 17,
+    }
+}
+
+/// Values as messages carry them.
+fn told_values(
+    alloc: Global,
+    memory: &[MemoryBlock],
+    values: &[Value],
+) -> Result<Items<Wire>, OutOfMemory>
+    ensures { IfOk result (λ vs. vs ≡ map (normal memory.now) (wires_of values.now)) }
+{
+    let wires = wires_of(alloc, values)?;
+    let told = normals(alloc, memory, wires.as_slice())?;
+    Ok(told)
+}
+
+/// The reply that asks for a service.
+fn ask(
+    alloc: Global,
+    ticks: u64,
+    memory: &[MemoryBlock],
+    runs: Items<Run>,
+    asked: &Asked,
+) -> Result<Message, OutOfMemory>
+    ensures { IfOk result (λ r. r ≡ message.Ask ticks asked.now.at asked.now.service (map (normal memory.now) (wires_of asked.now.args)) asked.now.shapes asked.now.bytes runs) }
+{
+    Ok(Message::Ask {
+        ticks,
+        at: asked.at,
+        service: asked.service,
+        args: told_values(alloc, memory, asked.args.as_slice())?,
+        shapes: Items::from_slice(alloc, asked.shapes.as_slice())?,
+        bytes: Items::from_slice(alloc, asked.bytes.as_slice())?,
+        runs,
+    })
+}
+
+/// The reply that calls a function of the kernel half.
+fn call_down(
+    alloc: Global,
+    ticks: u64,
+    memory: &[MemoryBlock],
+    runs: Items<Run>,
+    crossing: &Crossing,
+) -> Result<Message, OutOfMemory>
+    ensures { IfOk result (λ r. r ≡ message.Down ticks crossing.now.at crossing.now.depth crossing.now.func (map (normal memory.now) (wires_of crossing.now.args)) runs) }
+{
+    Ok(Message::Down {
+        ticks,
+        at: crossing.at,
+        depth: crossing.depth,
+        func: crossing.func,
+        args: told_values(alloc, memory, crossing.args.as_slice())?,
+        runs,
+    })
+}
+
+/// The reply of an event, with the ticks since the message.
+fn tell(
+    alloc: Global,
+    ticks: u64,
+    memory: &[MemoryBlock],
+    runs: Items<Run>,
+    event: &Event,
+) -> Result<Message, OutOfMemory>
+    ensures { IfOk result (λ r. r ≡ told_as ticks memory.now runs event.now) }
+{
+    match event {
+        Event::Done(value) => Ok(Message::Return {
+            ticks,
+            result: normal(memory, wire_of(*value)),
+            runs,
+        }),
+        Event::Cross(crossing) => call_down(alloc, ticks, memory, runs, crossing),
+        Event::Service(asked) => ask(alloc, ticks, memory, runs, asked),
+        Event::TicksOut(at) => Ok(Message::Stop {
+            ticks,
+            stop: stop_number(StopKind::Ticks),
+            at: *at,
+            runs,
+        }),
+        Event::Stop(kind, at) => Ok(Message::Stop {
+            ticks,
+            stop: stop_number(*kind),
+            at: *at,
+            runs,
+        }),
+    }
+}
+
+fn question_of(alloc: Global, asked: &Asked) -> Result<Question, OutOfMemory>
+    ensures { IfOk result (λ q. q ≡ question_as asked.now) }
+{
+    Ok(Question {
+        service: asked.service,
+        at: asked.at,
+        args: wires_of(alloc, asked.args.as_slice())?,
+        shapes: Items::from_slice(alloc, asked.shapes.as_slice())?,
+        bytes: Items::from_slice(alloc, asked.bytes.as_slice())?,
+    })
+}
+
+/// What is awaited behind an event that left so many ticks.
+fn awaits_behind(alloc: Global, event: &Event, left: u64) -> Result<Awaits, OutOfMemory>
+    ensures { IfOk result (λ a. a ≡ awaits_as left event.now) }
+{
+    match event {
+        Event::Done(_) => Ok(Awaits::Nothing),
+        Event::Cross(crossing) => Ok(Awaits::Back(crossing.func)),
+        Event::Service(asked) => Ok(Awaits::Answer(question_of(alloc, asked)?, left)),
+        Event::TicksOut(_) => Ok(Awaits::Nothing),
+        Event::Stop(_, _) => Ok(Awaits::Nothing),
+    }
+}
+
+/// Puts a value in place of another.
+fn put<T: Drop>(place: &mut T, value: T)
+    ensures { place.new ≡ value }
+{
+    *place = value;
+}
+
+/// What is awaited behind an event is kept.
+fn keep(alloc: Global, state: &mut State, event: &Event, left: u64) -> Result<(), OutOfMemory>
+    ensures { OnOk result (state.new ≡ record state.old { awaits = awaits_as left event.now }) }
+{
+    let awaits = awaits_behind(alloc, event, left)?;
+    put(&mut state.awaits, awaits);
+    Ok(())
+}
+
+/// The reply of an event, where the machine ran with so many ticks, from this copy to this memory. The agreed copy has then
+/// the changes that are told.
+pub(crate) fn settle(
+    alloc: Global,
+    state: &mut State,
+    rest: u64,
+    copy: Items<MemoryBlock>,
+    memory: UserMemory,
+    event: &Event,
+) -> Result<Message, OutOfMemory>
+    requires { state.old.machine.used ≤ rest }
+    ensures reply { IfOk result (λ r. r ≡ told_as state.old.machine.used memory.memory (changes memory.view copy memory.memory) event.now) }
+    ensures state { OnOk result (state.new ≡ settled state.old rest copy memory event.now) }
+{
+    let used = state.machine.used();
+    let runs = changes(alloc, memory.view(), copy.as_slice(), memory.blocks())?;
+    keep(alloc, state, event, rest - used)?;
+    state.agreed = told_copy(copy, runs.as_slice());
+    let reply = tell(alloc, used, memory.blocks(), runs, event)?;
+    state.view = memory.into_view();
+    Ok(reply)
+}

@@ -1,0 +1,61 @@
+// User code runs up to its next event.
+
+ghost use Rattle.std.specs.Prelude.{◌≡◌, ◌≤◌, ◌-◌, IfOk, OnOk};
+ghost use Rattle.mdr_core.specs.Sound.{IsSound};
+ghost use Rattle.mdr_exec.specs.Going.{RanTo};
+ghost use Rattle.mdr_exec.specs.Holding.{held_of};
+ghost use Rattle.mdr_user_code.specs.Copied.{copy_accesses};
+ghost use Rattle.mdr_user_code.specs.Replying.{RunReplies};
+ghost use Rattle.mdr_user_code.specs.Standing.{IsFit, driver_in, held_in, upcall_of};
+
+use crate::memory::UserMemory;
+use crate::replying::settle;
+use crate::scene::Scene;
+use crate::sight::Sight;
+use crate::state::State;
+use mdr_copy::copied;
+use mdr_core::OutOfMemory;
+use mdr_exec::{Event, Machine, Side};
+use mdr_model::Message;
+use std::alloc::Global;
+
+/// Runs a machine with so many ticks, on the code of the user half.
+fn go(
+    machine: &mut Machine,
+    alloc: Global,
+    scene: Scene,
+    memory: &mut UserMemory,
+    ticks: u64,
+) -> Result<Event, OutOfMemory>
+    requires sound { IsSound scene.program.now }
+    requires fit { IsFit scene.plan.now scene.program.now }
+    ensures ran { IfOk result (λ e. RanTo copy_accesses (driver_in scene.entry).user (held_of scene.entry.program.now machine.old) memory.old ticks e (held_of scene.entry.program.now machine.new) memory.new (ticks - machine.new.used)) }
+    ensures used { OnOk result (machine.new.used ≤ ticks) }
+{
+    machine.side = Side::User;
+    let halves = scene.plan.halves.as_slice();
+    match machine.go(alloc, scene.program, halves, memory, ticks) {
+        Ok(event) => Ok(event),
+        Err(_) => Err(OutOfMemory),
+    }
+}
+
+/// Runs what the machine holds, with so many ticks, over what is seen: the reply, and what is open behind it.
+pub(crate) fn run(
+    alloc: Global,
+    scene: Scene,
+    state: &mut State,
+    rest: u64,
+    sight: Sight,
+) -> Result<Message, OutOfMemory>
+    requires sound { IsSound scene.program.now }
+    requires fit { IsFit scene.plan.now scene.program.now }
+    ensures { IfOk result (λ r. RunReplies (driver_in scene.entry) (held_in (driver_in scene.entry) state.old) (upcall_of state.old) rest sight.view sight.copy r state.new) }
+{
+    let Sight { view, copy } = sight;
+    let blocks = copied(alloc, copy.as_slice())?;
+    let mut memory = UserMemory::new(blocks, view);
+    let event = go(&mut state.machine, alloc, scene, &mut memory, rest)?;
+    let reply = settle(alloc, state, rest, copy, memory, &event)?;
+    Ok(reply)
+}

@@ -1,0 +1,38 @@
+// What the user half keeps between messages.
+
+use mdr_core::{At, Items};
+use mdr_exec::Machine;
+use mdr_meaning::Shape64;
+use mdr_model::{Cell, MemoryBlock, Wire};
+
+/// A service that was asked for.
+#[derive(Debug, Drop)]
+pub struct Question {
+    pub service: u32,
+    pub at: At,
+    pub args: Items<Wire>,
+    pub shapes: Items<Shape64>,
+    pub bytes: Items<u8>,
+}
+
+/// What is open.
+#[derive(Debug, Drop)]
+pub enum Awaits {
+    Nothing,
+    /// A downcall of a function.
+    Back(u32),
+    /// A service, with the ticks that are left.
+    Answer(Question, u64),
+}
+
+/// What the user half keeps between messages: the agreed copy, the code that waits, the function that the open upcall called
+/// and the objects of locals that live in it, the visible cells, and what is awaited.
+#[derive(Debug, Drop)]
+pub struct State {
+    pub(crate) agreed: Items<MemoryBlock>,
+    pub(crate) machine: Machine,
+    pub(crate) func: u32,
+    pub(crate) entered: Items<u64>,
+    pub(crate) view: Items<Cell>,
+    pub(crate) awaits: Awaits,
+}
