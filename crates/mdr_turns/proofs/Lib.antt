@@ -1,0 +1,4 @@
+mod Calling
+mod Stepping
+mod Ends
+mod Taking

@@ -1,0 +1,43 @@
+-- What a legal reply does.
+use Rattle.std.proofs.Common.{◌≡◌, List, sym, ◌∙◌, ap, subst}
+use Rattle.mdr_core.specs.declared.value.Value.{Value}
+use Rattle.mdr_exec.specs.declared.event.Asked.{Asked as Question}
+use Rattle.mdr_exec.specs.Events.{asked_as}
+use Rattle.mdr_exec.specs.Holding.{wires_of}
+use Rattle.mdr_meaning.specs.declared.wire.Wire.{Wire}
+use Rattle.mdr_meaning.specs.Lives.{asked_for}
+use Rattle.mdr_meaning.specs.Values.{wire_of}
+use Rattle.mdr_model.specs.declared.command.Command.{Command}
+use Rattle.mdr_plain.specs.Running.{KernelCode, interrupts}
+use Rattle.mdr_plain.specs.Scripts.{returned}
+use Rattle.mdr_plain.specs.World.{World, Ran, Ended}
+use Rattle.mdr_services.specs.declared.answer.Served.{Served}
+use Rattle.mdr_services.specs.declared.answer.Served.TheVariants as served
+use Rattle.mdr_services.specs.Serving.{served_as}
+use Rattle.mdr_split.specs.Kernel.{answers, continued, serviced, split_commands, then_split}
+use Rattle.mdr_split.specs.Services.{counted}
+use Rattle.mdr_split.specs.State.{Kernel, Open, Noted}
+use Rattle.mdr_turns.specs.declared.state.Pending.{Pending as CodePending}
+use Rattle.mdr_turns.specs.declared.state.Ledger.{Ledger}
+use Rattle.mdr_turns.specs.Coming.{ComesTo}
+use Rattle.mdr_turns.specs.States.{kernel_with}
+use Rattle.mdr_watched.specs.Driver.{Driver}
+use Rattle.mdr_watched.specs.Views.{closed}
+use Rattle.mdr_watched.specs.Watched.{kernel_of}
+use Rattle.mdr_whole.specs.declared.ending.Worked.{Worked}
+use Rattle.mdr_whole.specs.Ending.{worked_as}
+
+-- the result of the upcall is noted, and then the interrupt rule is tried
+pub continued_is : (d : Driver) (v : Wire) (k : Kernel) (s : List Command) (code : KernelCode) (value : Value) (e : Worked) (w w1 : World) → code ≡ kernel_of d → wire_of value ≡ v → w ≡ closed k.world
+    → worked_as e w1 ≡ returned (interrupts code) (Ended (wire_of value) w)
+    → then_split (worked_as e w1) k (λ k'. split_commands d s k') ≡ continued d v k Noted s
+continued_is d v k s code value e w w1 is val there so =
+    ap (λ x. then_split x k (λ k'. split_commands d s k')) (so ∙ ap (λ c. returned (interrupts c) (Ended (wire_of value) w)) is ∙ (λ i. returned (interrupts (kernel_of d)) (Ended (val i) (there i))))
+
+-- a service gave results, and they are told
+pub service_told : (d : Driver) (l : Ledger) (w w1 : World) (upcall : Open) (s script : List Command) (q : Question) (args : List Wire) (rs rs' : List Value) (g : Served) (r : Ran (List Wire)) (p : CodePending) → wires_of q.args ≡ args → rs' ≡ rs → g ≡ served.Done rs
+    → served_as g q.at w1 ≡ r → ComesTo p script (answers d (wires_of rs') w1 (kernel_with l w) (counted (asked_for q.service q.at args q.shapes q.bytes) (wires_of rs') upcall) Noted s) → ComesTo p script (serviced d (asked_as q) r (kernel_with l w) upcall Noted s)
+service_told d l w w1 upcall s script q args rs rs' g r p are same done is there =
+    subst (λ x. ComesTo p script (serviced d (asked_as q) x (kernel_with l w) upcall Noted s)) (sym (ap (λ x. served_as x q.at w1) done) ∙ is)
+    (subst (λ x. ComesTo p script (answers d (wires_of x) w1 (kernel_with l w) (counted (asked_as q) (wires_of x) upcall) Noted s)) same
+    (subst (λ x. ComesTo p script (answers d (wires_of rs') w1 (kernel_with l w) (counted (asked_for q.service q.at x q.shapes q.bytes) (wires_of rs') upcall) Noted s)) (sym are) there))

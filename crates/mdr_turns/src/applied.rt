@@ -1,0 +1,55 @@
+// A legal reply is applied.
+
+ghost use Rattle.std.specs.Prelude.{◌≡◌, IfOk};
+ghost use Rattle.mdr_split.specs.Kernel.{applied};
+ghost use Rattle.mdr_watch.specs.declared.watch.Watch.{Watch as AnyWatch};
+ghost use Rattle.mdr_turns.specs.States.{IsActive, agreed_with, kernel_in};
+
+use crate::state::{Active, Ledger};
+use mdr_copy::put_runs;
+use mdr_core::{Items, OutOfMemory};
+use mdr_kernel_memory::apply;
+use mdr_model::Run;
+
+/// Its runs are stored in the agreed copy.
+fn agreed_applied(ledger: Ledger, runs: &[Run]) -> Ledger
+    ensures { result ≡ agreed_with runs.now ledger }
+{
+    let Ledger {
+        agreed,
+        exchanges,
+        passes,
+    } = ledger;
+    let mut copy = agreed.into_vec();
+    put_runs(&mut copy, runs);
+    Ledger {
+        agreed: Items::from_vec(copy),
+        exchanges,
+        passes,
+    }
+}
+
+/// It is applied: its ticks are spent, and its runs are stored in the memory and in the agreed copy.
+#[tactic(auto, unfolding(mdr_split::specs::Kernel::applied))]
+pub(crate) fn applied<'a>(
+    active: Active<'a>,
+    ticks: u64,
+    runs: &[Run],
+) -> Result<Active<'a>, OutOfMemory>
+    ensures is { IfOk result (λ a. kernel_in a ≡ applied ticks runs.now (kernel_in active.entry)) }
+    ensures open { IfOk result (λ a. a.open ≡ active.entry.open) }
+    ensures kept { IfOk result (λ a. (watch : AnyWatch) → IsActive watch active.entry → IsActive watch a) }
+{
+    let Active {
+        guarded,
+        ledger,
+        open,
+    } = active;
+    let left = apply(guarded, ticks, runs)?;
+    let ledger = agreed_applied(ledger, runs);
+    Ok(Active {
+        guarded: left,
+        ledger,
+        open,
+    })
+}

@@ -1,0 +1,109 @@
+// A command of a script.
+
+ghost use Rattle.std.specs.Prelude.{◌≡◌, List, drop, true, IfOk};
+ghost use Rattle.mdr_core.specs.Sound.{IsSound};
+ghost use Rattle.mdr_model.specs.declared.command.Command.{Command as AnyCommand};
+ghost use Rattle.mdr_model.specs.declared.command.Command.TheVariants as command;
+ghost use Rattle.mdr_plain.specs.Scripts.{begin};
+ghost use Rattle.mdr_plain.specs.World.{World as AnyWorld};
+ghost use Rattle.mdr_split.specs.Kernel.{split_by, then_split};
+ghost use Rattle.mdr_split.specs.State.{Kernel as AnyKernel, Pending as AnyPending};
+ghost use Rattle.mdr_watched.specs.Driver.{is_user as is_user_in};
+ghost use Rattle.mdr_watched.specs.Watched.{kernel_of as kernel_code_of};
+ghost use Rattle.mdr_watch.specs.declared.watch.Watch.{Watch as AnyWatch};
+ghost use Rattle.mdr_watch.specs.Watching.{IsFit, IsKernel, driver_in};
+ghost use Rattle.mdr_whole.specs.Ending.{worked_as};
+ghost use Rattle.mdr_turns.specs.Coming.{CommandedFor, CommandedTo};
+ghost use Rattle.mdr_turns.specs.States.{IsBetween, kernel_at, kernel_with};
+
+use crate::state::{Between, Commanded, Pending};
+use crate::upcalls::calls;
+use mdr_core::{OutOfMemory, Value};
+use mdr_model::{Command, End};
+use mdr_services::note_call;
+use mdr_watch::{Watch, is_user, kernel_code};
+use mdr_whole::{Worked, do_command};
+use std::alloc::Global;
+
+/// A function of the user half is called, which is the command before `begun` commands have begun.
+fn upcall_command<'a>(
+    alloc: Global,
+    watch: Watch<'a>,
+    func: u32,
+    args: &[Value],
+    between: Between<'a>,
+    begun: usize,
+) -> Result<Commanded<'a>, OutOfMemory>
+    requires between { IsBetween watch between }
+    requires user { is_user_in watch.plan.now func ≡ true }
+    ensures kept { IfOk result (CommandedFor watch.entry) }
+    ensures comes { IfOk result (λ c. (script : List AnyCommand) (go : AnyKernel → AnyPending) → CommandedTo c script go (split_by (begin (kernel_code_of (driver_in watch.entry)) (is_user_in watch.entry.plan.now) (command.Call func args.now) between.entry.world.world) (driver_in watch.entry) (drop begun script) (kernel_at between.entry) go)) }
+{
+    let Between { world, ledger } = between;
+    let mut world = world;
+    note_call(alloc, &mut world, func, args)?;
+    let noted = Between { world, ledger };
+    let pending = calls(alloc, watch, func, args, noted, begun)?;
+    Ok(Commanded::Rests(pending))
+}
+
+/// What follows work that the kernel half did.
+pub(crate) fn behind<'a>(worked: Worked, between: Between<'a>) -> Commanded<'a>
+    ensures kept { (watch : AnyWatch) → IsBetween watch between.entry → CommandedFor watch result }
+    ensures comes { (script : List AnyCommand) (before : AnyWorld) (go : AnyKernel → AnyPending) → CommandedTo result script go (then_split (worked_as worked between.entry.world.world) (kernel_with between.entry.ledger before) go) }
+{
+    match worked {
+        Worked::Done => Commanded::Goes(between),
+        Worked::Stopped(kind, at) => {
+            let Between { world, ledger } = between;
+            drop(ledger);
+            Commanded::Rests(Pending::Over(End::Stop(kind, at), world))
+        }
+    }
+}
+
+/// A command in which no function of the user half is called.
+fn kernel_command<'a>(
+    alloc: Global,
+    watch: Watch<'a>,
+    command: &Command,
+    between: Between<'a>,
+) -> Result<Commanded<'a>, OutOfMemory>
+    requires sound { IsSound watch.program.now }
+    requires fit { IsFit watch }
+    requires between { IsBetween watch between }
+    requires kernel { IsKernel watch.plan.now command.now }
+    ensures kept { IfOk result (CommandedFor watch.entry) }
+    ensures comes { IfOk result (λ c. (script left : List AnyCommand) (go : AnyKernel → AnyPending) → CommandedTo c script go (split_by (begin (kernel_code_of (driver_in watch.entry)) (is_user_in watch.entry.plan.now) command.now between.entry.world.world) (driver_in watch.entry) left (kernel_at between.entry) go)) }
+{
+    let Between { world, ledger } = between;
+    let mut world = world;
+    let worked = do_command(alloc, kernel_code(watch), &mut world, command)?;
+    Ok(behind(worked, Between { world, ledger }))
+}
+
+/// A command, which is the one before `begun` commands have begun.
+pub(crate) fn command<'a>(
+    alloc: Global,
+    watch: Watch<'a>,
+    command: &Command,
+    between: Between<'a>,
+    begun: usize,
+) -> Result<Commanded<'a>, OutOfMemory>
+    requires sound { IsSound watch.program.now }
+    requires fit { IsFit watch }
+    requires between { IsBetween watch between }
+    ensures kept { IfOk result (CommandedFor watch.entry) }
+    ensures comes { IfOk result (λ c. (script : List AnyCommand) (go : AnyKernel → AnyPending) → CommandedTo c script go (split_by (begin (kernel_code_of (driver_in watch.entry)) (is_user_in watch.entry.plan.now) command.now between.entry.world.world) (driver_in watch.entry) (drop begun script) (kernel_at between.entry) go)) }
+{
+    match command {
+        Command::Call(func, args) => {
+            if is_user(watch.plan, *func) {
+                return upcall_command(alloc, watch, *func, args.as_slice(), between, begun);
+            }
+            kernel_command(alloc, watch, command, between)
+        }
+        Command::Idle(_) => kernel_command(alloc, watch, command, between),
+        Command::Show(_) => kernel_command(alloc, watch, command, between),
+    }
+}

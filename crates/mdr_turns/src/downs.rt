@@ -1,0 +1,101 @@
+// Calls of functions of the kernel half.
+
+ghost use Rattle.std.specs.Prelude.{◌≡◌, List, drop, IfOk};
+ghost use Rattle.mdr_core.specs.Sound.{IsSound};
+ghost use Rattle.mdr_exec.specs.Holding.{wires_of};
+ghost use Rattle.mdr_model.specs.declared.command.Command.{Command as AnyCommand};
+ghost use Rattle.mdr_split.specs.Kernel.{downcalled};
+ghost use Rattle.mdr_split.specs.State.{Noted};
+ghost use Rattle.mdr_watched.specs.Watched.{downcall, held};
+ghost use Rattle.mdr_watch.specs.Watching.{IsFit, driver_in};
+ghost use Rattle.mdr_turns.specs.Coming.{ComesTo, KeptFor};
+ghost use Rattle.mdr_turns.specs.States.{IsActive, kernel_in, upcall_of};
+
+use crate::ending::over;
+use crate::replies::{WithValues, given};
+use crate::sending::back_told;
+use crate::state::{Active, Pending};
+use mdr_core::{At, OutOfMemory};
+use mdr_exec::Crossing;
+use mdr_model::{End, Wire};
+use mdr_watch::{Ended, Upcall, Watch, downcall};
+use mdr_whole::Gave;
+use std::alloc::Global;
+
+/// A function of the kernel half is called, and its result is told.
+fn crossed<'a>(
+    alloc: Global,
+    watch: Watch<'a>,
+    crossing: &Crossing,
+    active: Active<'a>,
+) -> Result<Pending<'a>, OutOfMemory>
+    requires sound { IsSound watch.program.now }
+    requires fit { IsFit watch }
+    requires active { IsActive watch active }
+    ensures kept { IfOk result (KeptFor watch.entry) }
+    ensures comes { IfOk result (λ p. (script : List AnyCommand) → ComesTo p script (downcalled (driver_in watch.entry) (downcall (driver_in watch.entry) (held (driver_in watch.entry)) active.entry.open.func crossing.now.at crossing.now.func (wires_of crossing.now.args) crossing.now.depth active.entry.guarded.world) (kernel_in active.entry) (upcall_of active.entry.open) Noted (drop active.entry.open.done script))) }
+{
+    let Active {
+        guarded,
+        ledger,
+        open,
+    } = active;
+    let upcall = Upcall {
+        watch,
+        func: open.func,
+    };
+    let Ended {
+        gave,
+        guarded: left,
+    } = downcall(alloc, upcall, guarded, crossing)?;
+    match gave {
+        Gave::Value(value) => {
+            let active = Active {
+                guarded: left,
+                ledger,
+                open,
+            };
+            back_told(alloc, watch, value, active)
+        }
+        Gave::Stopped(kind, at) => Ok(over(End::Stop(kind, at), left)),
+    }
+}
+
+/// A reply calls a function of the kernel half, which runs in place.
+pub(crate) fn goes_down<'a>(
+    alloc: Global,
+    watch: Watch<'a>,
+    at: At,
+    depth: u32,
+    func: u32,
+    args: &[Wire],
+    active: Active<'a>,
+) -> Result<Pending<'a>, OutOfMemory>
+    requires sound { IsSound watch.program.now }
+    requires fit { IsFit watch }
+    requires active { IsActive watch active }
+    ensures kept { IfOk result (KeptFor watch.entry) }
+    ensures comes { IfOk result (λ p. (script : List AnyCommand) → ComesTo p script (downcalled (driver_in watch.entry) (downcall (driver_in watch.entry) (held (driver_in watch.entry)) active.entry.open.func at func args.now depth active.entry.guarded.world) (kernel_in active.entry) (upcall_of active.entry.open) Noted (drop active.entry.open.done script))) }
+{
+    let Active {
+        guarded,
+        ledger,
+        open,
+    } = active;
+    let WithValues {
+        guarded: same,
+        values,
+    } = given(alloc, guarded, args)?;
+    let crossing = Crossing {
+        at,
+        func,
+        args: values,
+        depth,
+    };
+    let active = Active {
+        guarded: same,
+        ledger,
+        open,
+    };
+    crossed(alloc, watch, &crossing, active)
+}

@@ -1,0 +1,128 @@
+// An answer is judged.
+
+ghost use Rattle.std.specs.Prelude.{◌≡◌, drop, List, IfOk};
+ghost use Rattle.mdr_core.specs.Sound.{IsSound};
+ghost use Rattle.mdr_model.specs.declared.command.Command.{Command as AnyCommand};
+ghost use Rattle.mdr_split.specs.Kernel.{answered, judged, refused};
+ghost use Rattle.mdr_split.specs.Legal.{fault_of};
+ghost use Rattle.mdr_split.specs.State.{Noted};
+ghost use Rattle.mdr_watch.specs.declared.watch.Watch.{Watch as AnyWatch};
+ghost use Rattle.mdr_watch.specs.Watching.{IsFit, driver_in};
+ghost use Rattle.mdr_turns.specs.Coming.{ComesTo, KeptFor};
+ghost use Rattle.mdr_turns.specs.States.{IsActive, StandsFor, kernel_in, kernel_of, open_of};
+
+use crate::ending::over;
+use crate::state::{Active, Pending, Seen, Waiting};
+use crate::taken::taken;
+use mdr_core::{OutOfMemory, RefuseKind};
+use mdr_legal::{Standing, fault_of};
+use mdr_model::{Command, End, Fault, Reply};
+use mdr_watch::Watch;
+use std::alloc::Global;
+
+/// The first fault of a reply.
+fn fault_in(watch: Watch, waiting: &Waiting, reply: &Reply) -> Option<Fault>
+    requires sound { IsSound watch.program.now }
+    requires stands { StandsFor watch waiting.now }
+    ensures { result ≡ fault_of (driver_in watch.entry) (kernel_of waiting.now) (open_of waiting.now) Noted reply.now }
+{
+    let standing = Standing {
+        program: watch.program,
+        plan: watch.plan,
+        passes: waiting.ledger.passes.as_slice(),
+        agreed: waiting.ledger.agreed.as_slice(),
+        memory: waiting.seen.memory.as_slice(),
+        view: waiting.seen.view.as_slice(),
+        func: waiting.open.func,
+        entered: waiting.open.entered.as_slice(),
+        exchanges: waiting.ledger.exchanges,
+        ticks: waiting.seen.tally.ticks,
+        rest: waiting.seen.tally.rest,
+        calls: waiting.seen.tally.calls,
+    };
+    fault_of(standing, reply)
+}
+
+/// The kernel half without what it saw when it sent its message.
+fn active_in<'a>(waiting: Waiting<'a>) -> Active<'a>
+    ensures kernel { kernel_in result ≡ kernel_of waiting.entry }
+    ensures open { result.open ≡ waiting.entry.open }
+    ensures kept { (watch : AnyWatch) → StandsFor watch waiting.entry → IsActive watch result }
+{
+    let Waiting { seen, ledger, open } = waiting;
+    let Seen {
+        guarded,
+        memory,
+        view,
+        ..
+    } = seen;
+    drop(memory);
+    drop(view);
+    Active {
+        guarded,
+        ledger,
+        open,
+    }
+}
+
+/// A reply with a fault ends the run, and nothing of it is applied.
+pub(crate) fn refused<'a>(fault: Fault, waiting: Waiting<'a>) -> Pending<'a>
+    ensures kept { (watch : AnyWatch) → StandsFor watch waiting.entry → KeptFor watch result }
+    ensures comes { (script : List AnyCommand) → ComesTo result script (refused fault (kernel_of waiting.entry)) }
+{
+    let exchange = waiting.ledger.exchanges;
+    let Active {
+        guarded,
+        ledger,
+        open,
+    } = active_in(waiting);
+    drop(ledger);
+    drop(open);
+    over(End::Refused(exchange, fault.kind, fault.number), guarded)
+}
+
+/// A reply is judged: one with a fault is refused, and any other does what it says.
+fn judged<'a>(
+    alloc: Global,
+    watch: Watch<'a>,
+    script: &[Command],
+    waiting: Waiting<'a>,
+    reply: Reply,
+) -> Result<Pending<'a>, OutOfMemory>
+    requires sound { IsSound watch.program.now }
+    requires fit { IsFit watch }
+    requires stands { StandsFor watch waiting }
+    ensures kept { IfOk result (KeptFor watch.entry) }
+    ensures comes { IfOk result (λ p. ComesTo p script.now (judged (driver_in watch.entry) (fault_of (driver_in watch.entry) (kernel_of waiting.entry) (open_of waiting.entry) Noted reply) reply (kernel_of waiting.entry) (open_of waiting.entry) Noted (drop waiting.entry.open.done script.now))) }
+{
+    match fault_in(watch, &waiting, &reply) {
+        Some(fault) => Ok(refused(fault, waiting)),
+        None => taken(alloc, watch, script, active_in(waiting), reply),
+    }
+}
+
+/// An answer that is a message: one that is no reply isn't awaited.
+pub(crate) fn answered<'a>(
+    alloc: Global,
+    watch: Watch<'a>,
+    script: &[Command],
+    waiting: Waiting<'a>,
+    reply: Option<Reply>,
+) -> Result<Pending<'a>, OutOfMemory>
+    requires sound { IsSound watch.program.now }
+    requires fit { IsFit watch }
+    requires stands { StandsFor watch waiting }
+    ensures kept { IfOk result (KeptFor watch.entry) }
+    ensures comes { IfOk result (λ p. ComesTo p script.now (answered (driver_in watch.entry) reply (kernel_of waiting.entry) (open_of waiting.entry) Noted (drop waiting.entry.open.done script.now))) }
+{
+    match reply {
+        Some(reply) => judged(alloc, watch, script, waiting, reply),
+        None => {
+            let fault = Fault {
+                kind: RefuseKind::NotAwaited,
+                number: 0,
+            };
+            Ok(refused(fault, waiting))
+        }
+    }
+}

@@ -1,0 +1,89 @@
+// A function of the user half is called.
+
+ghost use Rattle.std.specs.Prelude.{◌≡◌, [], List, drop, IfOk};
+ghost use Rattle.mdr_exec.specs.Holding.{wires_of};
+ghost use Rattle.mdr_model.specs.declared.command.Command.{Command as AnyCommand};
+ghost use Rattle.mdr_plain.specs.World.{World as AnyWorld, done};
+ghost use Rattle.mdr_slice.specs.Calls.{names_of};
+ghost use Rattle.mdr_split.specs.Kernel.{called, calls};
+ghost use Rattle.mdr_viewed.specs.Viewed.{IsOlder};
+ghost use Rattle.mdr_watched.specs.Order.{AreLive};
+ghost use Rattle.mdr_watched.specs.Views.{opened};
+ghost use Rattle.mdr_watch.specs.Watching.{driver_in};
+ghost use Rattle.mdr_turns.specs.Coming.{ComesTo, KeptFor};
+ghost use Rattle.mdr_turns.specs.States.{IsBetween, kernel_with};
+
+use crate::sending::call_told;
+use crate::state::{Between, Ledger, Pending};
+use mdr_cells::CellSet;
+use mdr_core::{At, OutOfMemory, StopKind, Value};
+use mdr_model::End;
+use mdr_reach::visible;
+use mdr_watch::{Guarded, Watch, entry_roots, touched};
+use mdr_world::World;
+use std::alloc::Global;
+
+/// An upcall begins with a set, and is told.
+fn call_opened<'a>(
+    alloc: Global,
+    watch: Watch<'a>,
+    func: u32,
+    args: &[Value],
+    set: CellSet,
+    world: World<'a>,
+    ledger: Ledger,
+    begun: usize,
+) -> Result<Pending<'a>, OutOfMemory>
+    requires same { world.program ≡ watch.program.now }
+    requires passes { ledger.passes ≡ names_of watch.program.now }
+    requires alone { world.world.views ≡ [] }
+    requires live { AreLive world.world.memory set }
+    requires older { IsOlder set world.world }
+    ensures kept { IfOk result (KeptFor watch.entry) }
+    ensures comes { IfOk result (λ p. (script : List AnyCommand) (before : AnyWorld) → ComesTo p script (called (driver_in watch.entry) func (wires_of args.now) (done (opened set world.entry.world)) (kernel_with ledger before) (drop begun script))) }
+{
+    let guarded = Guarded::new(world, set);
+    call_told(alloc, watch, func, args, guarded, ledger, begun)
+}
+
+/// An upcall begins: its set is taken, from its arguments and the globals. A call while another function of the user half
+/// is active answers want of memory.
+#[tactic(auto, unfolding(mdr_split::specs::Kernel::calls))]
+pub(crate) fn calls<'a>(
+    alloc: Global,
+    watch: Watch<'a>,
+    func: u32,
+    args: &[Value],
+    between: Between<'a>,
+    begun: usize,
+) -> Result<Pending<'a>, OutOfMemory>
+    requires between { IsBetween watch between }
+    ensures kept { IfOk result (KeptFor watch.entry) }
+    ensures comes { IfOk result (λ p. (script : List AnyCommand) (before : AnyWorld) → ComesTo p script (calls (driver_in watch.entry) func (wires_of args.now) between.entry.world.world (kernel_with between.entry.ledger before) (drop begun script))) }
+{
+    let Between { world, ledger } = between;
+    if world.is_in_user() {
+        return Err(OutOfMemory);
+    }
+    let _in_order = world.births();
+    let keys = touched(watch.plan, func);
+    let roots = entry_roots(alloc, watch.program, func, args)?;
+    let none = CellSet::new(alloc);
+    let memory = world.blocks();
+    let taken = visible(
+        alloc,
+        watch.program,
+        keys,
+        memory,
+        &none,
+        roots.as_slice(),
+        args,
+    )?;
+    match taken {
+        Some(set) => call_opened(alloc, watch, func, args, set, world, ledger, begun),
+        None => Ok(Pending::Over(
+            End::Stop(StopKind::Annotation, Some(At { func, stmt: 0 })),
+            world,
+        )),
+    }
+}
