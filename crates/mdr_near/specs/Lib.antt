@@ -1,0 +1,4 @@
+pub mod Turns
+pub mod Endings
+pub mod HalfState
+pub mod HalfView
