@@ -1,0 +1,167 @@
+-- The texts of a source's user half and of its plan are loaded.
+use Rattle.std.proofs.Common.{◌≡◌, ℕ, zero, suc, ◌+◌, ◌<◌, ◌≤◌, Bool, true, false, ◌||◌, List, [], ◌∷◌, length, Some, slice_get, refl, sym, ap, ◌∙◌, subst, arith}
+use Rattle.std.specs.Prelude.{is_some}
+use Rattle.std.proofs.lemmas.Option.{slice_get_within}
+use Rattle.mdr_core.specs.declared.plan.Half.TheVariants.{User}
+use Rattle.mdr_core.specs.declared.plan.Plan.{Plan}
+use Rattle.mdr_core.specs.declared.program.Func.{Func}
+use Rattle.mdr_core.specs.declared.program.Program.{Program}
+use Rattle.mdr_core.specs.declared.types.Ty.{Ty}
+use Rattle.mdr_core.specs.declared.types.Ty.TheVariants as type
+use Rattle.mdr_core.specs.Sound.{IsObjectSort, IsSound, IsTable}
+use Rattle.mdr_core.specs.TypeText.{Occurs}
+use Rattle.mdr_core.specs.Types.{sort_of}
+use Rattle.mdr_slice.specs.declared.halves.Halves.{Halves}
+use Rattle.mdr_slice.specs.Halves.{AreHalves}
+use Rattle.mdr_access.specs.Keys.{HasEach}
+use Rattle.mdr_roundtrip.specs.Again.{IsPrintedAsSource}
+use Rattle.mdr_body.specs.Bodies.{body_rule}
+use Rattle.mdr_body.specs.Mentions.{uses}
+use Rattle.mdr_typing.specs.Profile.{profile_rules}
+use Rattle.mdr_check.specs.Whole.{file_pieces}
+use Rattle.mdr_program.specs.Programs.{program_of, program_right}
+use Rattle.mdr_source.specs.declared.outcome.Source.{Source}
+use Rattle.mdr_source.specs.Backs.{body_calls_back, functions_call_back}
+use Rattle.mdr_source.specs.Sources.{IsSource}
+use Rattle.mdr_half.specs.Halves.{half_of, is_same_half, user_text, user_tree}
+use Rattle.mdr_half.specs.Plans.{plan_text}
+use Rattle.mdr_half_pieces.specs.Bodies.{HaveBodies as HaveEach}
+use Rattle.mdr_half_pieces.specs.Sides.{AreShown, IsShown}
+use Rattle.mdr_half_read.specs.Reading.{ComesToPart}
+use Rattle.mdr_half_whole.specs.Whole.{IsReadOf, IsWhole}
+use Rattle.mdr_half_whole.proofs.Sourced.{sources_have}
+use Rattle.mdr_half_whole.proofs.Together.{user_text_gives}
+use Rattle.mdr_half_replies.specs.Replies.{RepliesAsTheWhole}
+use Rattle.mdr_half_replies.proofs.Printed.{the_user_text_replies_as_the_whole}
+use Rattle.mdr_cut.specs.Cuts.{IsPlanOf}
+use Rattle.mdr_plan.specs.Texts.{IsPlanText}
+use Rattle.mdr_sound.proofs.Sourced.{ranges_of, sources_sound}
+use Rattle.mdr_sound_code.proofs.Rights.{after_right, same_right}
+use Rattle.mdr_sound_files.proofs.Filed.{types_of_files}
+use Rattle.mdr_sound_files.proofs.Sorts.{not_wrong}
+use Rattle.mdr_sound_sources.proofs.Itemising.{bytes_proper}
+use Rattle.mdr_sound_typing.proofs.Allocating.{profile_formed}
+use Rattle.mdr_source_plans.proofs.Sources.{plans_of_sources_are_read}
+use Rattle.mdr_split.specs.Law.{HaveBodies, IsPlanOf as IsItsPlan}
+use Rattle.mdr_texts.proofs.HalvesAgain.{half_again}
+use Rattle.mdr_type_table.specs.Tabled.{HasFormedPointers}
+use Rattle.mdr_canonical.specs.Plannable.{HasShortNumbers as AreShort}
+use Rattle.mdr_outside.specs.declared.far.LoadAnswer.TheVariants as loads
+use Rattle.mdr_honest.specs.Loading.{AreItsHalf, HasShortNumbers, IsCut, TextsOfSourcesAreLoaded, TextsOfSourcesAreTaken}
+use Rattle.mdr_honest.proofs.Halves.{calls_nothing_back, none_of, not_refused}
+
+-- ---- a source
+
+pub is_whole : (bytes : List ℕ) (source : Source) → IsSource bytes source → IsWhole bytes source.tree source.program
+is_whole bytes source s = record { tokens = s.tokens; lexed = s.are_tokens; reads = s.reads; right = s.judged; types = s.types }
+
+pub source_sound : (bytes : List ℕ) (source : Source) → IsSource bytes source → IsSound source.program
+source_sound bytes source s =
+    sources_sound bytes false uses source.program (record { tokens = s.tokens; tree = source.tree; lexed = s.are_tokens; read = s.reads; typed = s.judged }) s.types (calls_nothing_back source.program s.no_back)
+
+same_func : (a b : Func) → Some a ≡ Some b → a ≡ b
+same_func a b e = cc
+
+bodies_at : (fs : List Func) → HaveEach fs → (f : ℕ) (func : Func) → slice_get fs f ≡ Some func → is_some func.body ≡ true
+bodies_at [] h f func e = absurd cc
+bodies_at (g ∷ gs) h zero func e = subst (λ (x : Func). is_some x.body ≡ true) (same_func g func e) h.0
+bodies_at (g ∷ gs) h (suc f) func e = bodies_at gs h.1 f func e
+
+pub source_bodies : (bytes : List ℕ) (source : Source) → IsSource bytes source → HaveBodies source.program
+source_bodies bytes source s =
+    let a = after_right (file_pieces (body_rule profile_rules) uses source.tree.items) program_right source.program s.judged in
+    let each : HaveEach source.program.funcs =
+    subst (λ (p : Program). HaveEach p.funcs) (same_right (program_of a.value) source.program a.made) (sources_have bytes s.tokens source.tree a.value s.are_tokens s.reads a.right) in
+    bodies_at source.program.funcs each
+
+-- ---- its plan
+
+pub its_plan : (program : Program) (plan : Plan) → IsPlanOf program plan → IsItsPlan program plan
+its_plan program plan is = record { roots = is.roots; are_roots = is.are_roots; halves = is.halves; are_halves = is.are_halves; is_plan = is.is_plan }
+
+has_each : (program : Program) (roots : List ℕ) (halves : Halves) → AreHalves program roots halves → HasEach program halves
+has_each program roots halves h = record { halves_size = h.halves_size; roots_size = h.roots_size; down_size = h.down_size }
+
+-- the pointer types that occur are formed
+formed_pointers : (bytes : List ℕ) (source : Source) → IsSource bytes source → HasFormedPointers source.program
+formed_pointers bytes source s =
+    let proper = bytes_proper bytes false s.tokens source.tree s.are_tokens s.reads in
+    let formed : (t : Ty) → Occurs source.program t → IsObjectSort (sort_of (length source.program.structs) t) =
+    types_of_files source.program profile_rules uses source.tree.items s.judged (ranges_of source.tree.items proper) (profile_formed source.program) in
+    record { formed = λ t occurs pointer. record { formed = λ wrong. not_wrong (subst IsObjectSort wrong (formed t occurs)) } }
+
+-- each struct stands in the type table
+few_structs : (program : Program) → IsTable program → length program.types ≤ 4294967296 → length program.structs ≤ 4294967296
+few_structs program table few = by (length program.structs) refl
+  where
+    by : (n : ℕ) → length program.structs ≡ n → length program.structs ≤ 4294967296
+    by zero e = omega (arith, e)
+    by (suc n) e =
+        let inside : 9 + n < length program.types = slice_get_within program.types (9 + n) (type.Struct n) (table.structs n (omega (arith, e))) in
+        omega (arith, e, few, inside)
+
+are_short : (program : Program) → IsSound program → length program.types ≤ 4294967296 → HasShortNumbers program → AreShort program
+are_short program sound few short =
+    let structs = few_structs program sound.table few in
+    let globals = short.globals in
+    record { structs = omega (arith, structs); fields = sound.few; globals = omega (arith, globals); types = omega (arith, few); funcs = short.funcs }
+
+plan_is_read : (bytes : List ℕ) (source : Source) (plan : Plan) → IsCut bytes source plan → IsPlanText (plan_text source.program plan) plan
+plan_is_read bytes source plan cut =
+    let s = cut.source_is in
+    let is = cut.plan_is in
+    plans_of_sources_are_read (body_rule profile_rules) uses bytes source.program is.halves plan
+    (record { tree = source.tree; source = record { tokens = s.tokens; lexed = s.are_tokens; read = s.reads }; right = s.judged })
+    (formed_pointers bytes source s) (are_short source.program (source_sound bytes source s) s.types cut.short) (has_each source.program is.roots is.halves is.are_halves) is.is_plan
+
+-- ---- what a half has of a program that calls nothing back calls nothing back
+
+neither : (a b : Bool) → a ≡ false → b ≡ false → (a || b) ≡ false
+neither true b e d = absurd cc
+neither false b e d = d
+
+shown_back : (mine : Bool) (f g : Func) → IsShown mine f g → body_calls_back f.body ≡ false → body_calls_back g.body ≡ false
+shown_back true f g same none = ap (λ (x : Func). body_calls_back x.body) same ∙ none
+shown_back false f g bare none = ap body_calls_back bare.body
+
+part_back : (plan : Plan) (fs gs : List Func) → AreShown User plan fs gs → functions_call_back fs ≡ false → functions_call_back gs ≡ false
+unfolding functions_call_back
+part_back plan [] [] shown none = refl
+part_back plan [] (g ∷ gs) shown none = absurd shown
+part_back plan (f ∷ fs) [] shown none = refl
+part_back plan (f ∷ fs) (g ∷ gs) shown none =
+    let parts = none_of (body_calls_back f.body) (functions_call_back fs) none in
+    neither (body_calls_back g.body) (functions_call_back gs) (shown_back (is_same_half (half_of plan f.name) User) f g shown.0 parts.0) (part_back plan fs gs shown.1 parts.1)
+
+-- ---- its texts are loaded
+
+pub texts_are_loaded : TextsOfSourcesAreLoaded
+texts_are_loaded bytes source plan cut =
+    let s = cut.source_is in
+    let is = cut.plan_is in
+    let whole : IsWhole bytes source.tree source.program = is_whole bytes source s in
+    let each : HasEach source.program is.halves = has_each source.program is.roots is.halves is.are_halves in
+    let printed : IsPrintedAsSource true (user_tree plan source.tree) = half_again bytes s.tokens source.tree User plan s.are_tokens s.reads in
+    let again = printed.is_source in
+    let of : IsReadOf plan source.tree again.read = record { tokens = printed.tokens; lexed = printed.is_text; reads = again.is_read } in
+    let r : RepliesAsTheWhole plan again.read source.program = the_user_text_replies_as_the_whole bytes source.tree again.read source.program is.halves plan whole each is.is_plan of in
+    let c : ComesToPart User plan again.read source.program = user_text_gives bytes source.tree again.read source.program is.halves plan whole each is.is_plan of in
+    let same : c.part ≡ r.part = same_right c.part r.part (sym c.typed ∙ r.typed) in
+    record {
+      part = r.part;
+      loaded = record {
+        planned = plan_is_read bytes source plan cut;
+        comes = record { tokens = printed.tokens; tree = again.read; lexed = printed.is_text; read = again.is_read; typed = r.typed };
+        no_back = subst (λ (p : Program). functions_call_back p.funcs ≡ false) same (part_back plan source.program.funcs (c.part).funcs (c.is_part).funcs s.no_back);
+        types = subst (λ (ts : List Ty). length ts ≤ 4294967296) (sym (is.is_plan).types) s.types;
+      };
+      replies = r.replies;
+    }
+
+pub texts_are_taken : TextsOfSourcesAreTaken
+texts_are_taken bytes source plan loads.Ok cut h = tt
+texts_are_taken bytes source plan (loads.Refused cause) cut h =
+    let half : AreItsHalf source plan = texts_are_loaded bytes source plan cut in
+    not_refused (user_text plan source.tree) (plan_text source.program plan) half.part plan cause half.loaded h
+texts_are_taken bytes source plan loads.Failed cut h = tt
+texts_are_taken bytes source plan loads.OutOfMemory cut h = h

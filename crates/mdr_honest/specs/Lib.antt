@@ -1,0 +1,4 @@
+pub mod Honest
+pub mod Loading
+pub mod Scripts
+pub mod Meanings

@@ -1,0 +1,41 @@
+// Laws, each as a function that does nothing.
+
+ghost use Rattle.mdr_honest.specs.Loading.{LoadedHalvesAreSound, LoadedTextsAreNotRefused, TextsLoadOneThing, TextsOfSourcesAreLoaded, TextsOfSourcesAreTaken};
+ghost use Rattle.mdr_honest.specs.Meanings.{RunIsMeaning};
+ghost use Rattle.mdr_honest.specs.Scripts.{ScriptsHaveWords};
+
+/// Texts are loaded as one program and one plan.
+pub fn texts_load_one_thing()
+    ensures { TextsLoadOneThing }
+{}
+
+/// Texts that are loaded are refused for no cause.
+pub fn loaded_texts_are_not_refused()
+    ensures { LoadedTextsAreNotRefused }
+{}
+
+/// The program that is loaded is sound, and the plan suits it.
+pub fn loaded_halves_are_sound()
+    ensures { LoadedHalvesAreSound }
+{}
+
+/// The texts of the user half and of the plan of a source are loaded, as a half that gives the replies of the whole program.
+pub fn texts_of_sources_are_loaded()
+    ensures { TextsOfSourcesAreLoaded }
+{}
+
+/// So an honest far side doesn't refuse them.
+pub fn texts_of_sources_are_taken()
+    ensures { TextsOfSourcesAreTaken }
+{}
+
+/// In a script that is read and bound the numbers for registers are words of 32 bits.
+pub fn scripts_have_words()
+    ensures { ScriptsHaveWords }
+{}
+
+/// A run over an honest far side means what one memory does, within 4 messages for each tick and 6 for each command that
+/// called a function, or the far side failed.
+pub fn run_is_meaning()
+    ensures { RunIsMeaning }
+{}
