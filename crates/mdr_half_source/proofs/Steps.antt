@@ -1,0 +1,111 @@
+-- What a user half's text comes to, from one stage to the next.
+use Rattle.std.proofs.Common.{◌≡◌, refl, sym, subst, ap, ◌∙◌, ◌≤◌, ℕ, Bool, true, false, List, length, Option, Some, None, Result, Ok, Err}
+use Rattle.std.specs.Prelude.{IfOk, MatchOption}
+use Rattle.mdr_core.specs.declared.memory_error.OutOfMemory.{OutOfMemory}
+use Rattle.mdr_core.specs.declared.plan.Plan.{Plan}
+use Rattle.mdr_core.specs.declared.program.Func.{Func}
+use Rattle.mdr_core.specs.declared.program.Program.{Program}
+use Rattle.mdr_syntax.specs.declared.error.LexError.{LexError}
+use Rattle.mdr_syntax.specs.declared.token.Token.{Token}
+use Rattle.mdr_syntax.specs.declared.tree.Tree.{Tree}
+use Rattle.mdr_syntax.specs.Tokens.{tokens_of}
+use Rattle.mdr_grammar.specs.Grammar.{Reads}
+use Rattle.mdr_grammar.proofs.Exact.{one_tree, no_tree}
+use Rattle.mdr_parse.specs.declared.error.ParseError.{ParseError}
+use Rattle.mdr_parse.specs.declared.error.ParseError.TheVariants as parse
+use Rattle.mdr_parse.specs.Parsing.{Parses}
+use Rattle.mdr_faults.specs.declared.fault.Fault.{Fault}
+use Rattle.mdr_faults.specs.Faults.{Checked, Right, IsFirst}
+use Rattle.mdr_plan.specs.declared.plan_error.PlanError.{PlanError}
+use Rattle.mdr_plan.specs.declared.plan_error.PlanError.TheVariants as planning
+use Rattle.mdr_plan.specs.declared.plan_error.PlanKind.{PlanKind}
+use Rattle.mdr_plan.specs.Texts.{Fails, IsFault, IsPlanText}
+use Rattle.mdr_plan.proofs.Running.{no_fault}
+use Rattle.mdr_source.specs.Backs.{functions_call_back}
+use Rattle.mdr_honest.specs.Honest.{AreRefused, Loads}
+use Rattle.mdr_half_source.specs.declared.misfit.Misfit.{Misfit}
+use Rattle.mdr_half_source.specs.declared.misfit.Misfit.TheVariants as misfit
+use Rattle.mdr_half_source.specs.declared.outcome.HalfSource.{HalfSource}
+use Rattle.mdr_half_source.specs.Halves.{ComeTo}
+use Rattle.mdr_half_source.specs.Stages.{Finds, HasHalf, IsFaulty, IsFound, IsMissing, IsNone, IsSmall, Judged, Reading, typed_half}
+
+-- ---- programs
+
+-- what is said of a program that perhaps calls back
+abbrev Settled : (back : Bool) → Program → Option Program → Type 0
+Settled back program o = MatchOption o (back ≡ true) (λ p. (p ≡ program) × (back ≡ false))
+
+same_right : (p q : Program) → Right p ≡ Right q → p ≡ q
+same_right p q e = cc
+
+pub kept_program : (program : Program) (fs : List Func) (back : Bool) (o : Option Program) → fs ≡ program.funcs → back ≡ functions_call_back fs → Settled back program o → Judged (Right program) o
+kept_program program fs back None e b s = λ other is.
+    ap functions_call_back (sym (e ∙ ap (λ (p : Program). p.funcs) (same_right program other is))) ∙ sym b ∙ s
+kept_program program fs back (Some p) e b (same, none) =
+    record { right = ap Right (sym same); no_back = ap (λ (x : Program). functions_call_back x.funcs) same ∙ ap functions_call_back (sym e) ∙ sym b ∙ none }
+
+no_first : {A : Type 0} (c : Checked Program) (p : Program) (f : Fault) → c ≡ Right p → IsFirst f c → A
+no_first c p f e i = absurd (subst (λ (d : Checked Program). IsFirst f d) e i)
+
+-- a program with a fault isn't right
+pub faulty : (c : Checked Program) (f : Fault) → IsFirst f c → IsNone c
+faulty c f i = λ program is. no_first c program f is i
+
+-- ---- tokens
+
+-- what the tree means is what the tokens mean
+read_tree : (plan : Plan) (ts : List Token) (tree : Tree) (o : Option Program) → Reads true ts tree → Judged (typed_half plan tree) o → Reading plan ts o
+read_tree plan ts tree (Some program) r j = record { tree = tree; reads = r; right = j }
+read_tree plan ts tree None r j = λ other s. subst (λ (t : Tree). IsNone (typed_half plan t)) (one_tree true ts tree other r s) j
+
+pub read_found : (plan : Plan) (ts : List Token) (tree : Tree) (o : Result (Option Program) OutOfMemory) → Reads true ts tree → IfOk o (Judged (typed_half plan tree)) → IfOk o (Reading plan ts)
+read_found plan ts tree (Ok o) r j = read_tree plan ts tree o r j
+read_found plan ts tree (Err e) r j = tt
+
+nowhere : {A : Type 0} → ⊥ → A
+nowhere x = absurd x
+
+pub no_reading : (plan : Plan) (ts : List Token) (e : ParseError) → IsFaulty e → Parses true ts (Err e) → Reading plan ts None
+no_reading plan ts (parse.NotInProfile p word) f (n, first, is) = λ tree r. nowhere (no_tree true ts n tree first r)
+no_reading plan ts (parse.Expected p) f (n, first, is) = λ tree r. nowhere (no_tree true ts n tree first r)
+no_reading plan ts parse.OutOfMemory f h = absurd f
+
+pub unread_found : (plan : Plan) (ts : List Token) (e : ParseError) (o : Result (Option Program) OutOfMemory) → Parses true ts (Err e) → IfOk o (λ x. (x ≡ None) × IsFaulty e) → IfOk o (Reading plan ts)
+unread_found plan ts e (Ok x) h (n, f) = subst (λ y. Reading plan ts y) (sym n) (no_reading plan ts e f h)
+unread_found plan ts e (Err x) h f = tt
+
+-- ---- texts
+
+same_tokens : (ts us : List Token) → ◌≡◌ {A = Result (List Token) LexError} (Ok ts) (Ok us) → ts ≡ us
+same_tokens ts us e = cc
+
+pub found_tokens : (user : List ℕ) (plan : Plan) (ts : List Token) (o : Option Program) → tokens_of user ≡ Ok ts → Reading plan ts o → Finds user plan o
+found_tokens user plan ts (Some program) e r = record {
+  comes = record { tokens = ts; tree = r.tree; lexed = e; read = r.reads; typed = (r.right).right };
+  no_back = (r.right).no_back;
+}
+found_tokens user plan ts None e r = λ program is.
+    let same : is.tokens ≡ ts = same_tokens is.tokens ts (sym is.lexed ∙ e) in
+    r is.tree (subst (λ (us : List Token). Reads true us is.tree) same is.read) program is.typed
+
+-- bytes that are no tokens
+pub no_tokens : (user : List ℕ) (plan : Plan) (x : LexError) → tokens_of user ≡ Err x → IsMissing user plan
+no_tokens user plan x e = λ program is. differ (functions_call_back program.funcs) is.tokens (sym is.lexed ∙ e)
+  where
+    differ : (b : Bool) (ts : List Token) → ◌≡◌ {A = Result (List Token) LexError} (Ok ts) (Err x) → b ≡ true
+    differ b ts q = absurd cc
+
+pub small_half : (user : List ℕ) (plan : Plan) (count : ℕ) (o : Option Program) → count ≡ length plan.types → count ≤ 4294967296 → Finds user plan o → HasHalf user plan o
+small_half user plan count (Some program) n m f = record { found = f; types = subst (λ (k : ℕ). k ≤ 4294967296) n m }
+small_half user plan count None n m f = f
+
+-- ---- both texts
+
+pub loads_half : (user text : List ℕ) (plan : Plan) (program : Program) → IsPlanText text plan → IsSmall user plan program → Loads user text program plan
+loads_half user text plan program is h = record { planned = is; comes = (h.found).comes; no_back = (h.found).no_back; types = h.types }
+
+pub refused_half : (user text : List ℕ) (plan : Plan) → IsPlanText text plan → IsMissing user plan → AreRefused user text 2
+refused_half user text plan is none = AreRefused.no_program plan refl is none
+
+pub refused_plan : (user text : List ℕ) (n : ℕ) (kind : PlanKind) → IsFault text n kind → AreRefused user text 1
+refused_plan user text n kind f = AreRefused.no_plan refl (λ plan is. no_fault text plan n kind is f)

@@ -1,0 +1,70 @@
+-- The program of a user half's text, stage by stage.
+use Rattle.std.specs.Prelude.{◌≡◌, ◌≤◌, ℕ, true, false, List, length, Option, Some, None}
+use Rattle.mdr_core.specs.declared.plan.Plan.{Plan}
+use Rattle.mdr_core.specs.declared.program.Program.{Program}
+use Rattle.mdr_syntax.specs.declared.token.Token.{Token}
+use Rattle.mdr_syntax.specs.declared.tree.Tree.{Tree}
+use Rattle.mdr_parse.specs.declared.error.ParseError.{ParseError}
+use Rattle.mdr_parse.specs.declared.error.ParseError.TheVariants as parse
+use Rattle.mdr_grammar.specs.Grammar.{Reads}
+use Rattle.mdr_faults.specs.Faults.{Checked, Right}
+use Rattle.mdr_body.specs.Bodies.{body_rule}
+use Rattle.mdr_body.specs.Mentions.{uses}
+use Rattle.mdr_typing.specs.Profile.{profile_rules}
+use Rattle.mdr_check_half.specs.HalfPrograms.{half_typed}
+use Rattle.mdr_source.specs.Backs.{functions_call_back}
+use Rattle.mdr_honest.specs.Honest.{ComesTo}
+
+-- the program of a tree with a plan, or all faults in it
+abbrev pub typed_half : Plan → Tree → Checked Program
+typed_half plan tree = half_typed (body_rule profile_rules) uses plan tree.items
+
+-- a program that is right and calls nothing back
+pub record IsRight (c : Checked Program) (program : Program) : Type 0 where
+  pub right : c ≡ Right program
+  pub no_back : functions_call_back program.funcs ≡ false
+
+-- one that is right calls back
+abbrev pub IsNone : Checked Program → Type 0
+IsNone c = (program : Program) → c ≡ Right program → functions_call_back program.funcs ≡ true
+
+abbrev pub Judged : Checked Program → Option Program → Type 0
+Judged c (Some program) = IsRight c program
+Judged c None = IsNone c
+
+-- the tokens are read as a tree of such a program
+pub record IsRead (plan : Plan) (ts : List Token) (program : Program) : Type 0 where
+  pub tree : Tree
+  pub reads : Reads true ts tree
+  pub right : IsRight (typed_half plan tree) program
+
+abbrev pub Reading : Plan → List Token → Option Program → Type 0
+Reading plan ts (Some program) = IsRead plan ts program
+Reading plan ts None = (tree : Tree) → Reads true ts tree → IsNone (typed_half plan tree)
+
+-- the tokens are at fault, and not memory
+abbrev pub IsFaulty : ParseError → Type 0
+IsFaulty (parse.NotInProfile p word) = Unit {0}
+IsFaulty (parse.Expected p) = Unit {0}
+IsFaulty parse.OutOfMemory = ⊥
+
+-- the bytes come to such a program
+pub record IsFound (user : List ℕ) (plan : Plan) (program : Program) : Type 0 where
+  pub comes : ComesTo user plan program
+  pub no_back : functions_call_back program.funcs ≡ false
+
+abbrev pub IsMissing : List ℕ → Plan → Type 0
+IsMissing user plan = (program : Program) → ComesTo user plan program → functions_call_back program.funcs ≡ true
+
+abbrev pub Finds : List ℕ → Plan → Option Program → Type 0
+Finds user plan (Some program) = IsFound user plan program
+Finds user plan None = IsMissing user plan
+
+-- and its plan numbers its types with 32 bits
+pub record IsSmall (user : List ℕ) (plan : Plan) (program : Program) : Type 0 where
+  pub found : IsFound user plan program
+  pub types : length plan.types ≤ 4294967296
+
+abbrev pub HasHalf : List ℕ → Plan → Option Program → Type 0
+HasHalf user plan (Some program) = IsSmall user plan program
+HasHalf user plan None = IsMissing user plan
