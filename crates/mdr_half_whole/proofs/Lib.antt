@@ -8,3 +8,8 @@ pub mod UsedLines
 pub mod UsedInits
 pub mod UsedFiles
 pub mod Sourced
+pub mod Agreeing
+pub mod Headed
+pub mod Kept
+pub mod SameFuncs
+pub mod Printed

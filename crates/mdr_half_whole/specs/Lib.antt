@@ -4,3 +4,5 @@ pub mod Sourced
 pub mod SameTypes
 pub mod HalfTypes
 pub mod Whole
+pub mod Headings
+pub mod Replies

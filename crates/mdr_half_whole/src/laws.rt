@@ -2,6 +2,8 @@
 
 ghost use Rattle.mdr_half_whole.specs.Defined.{DefinedFunctionsHaveBodies};
 ghost use Rattle.mdr_half_whole.specs.HalfTypes.{PlansHaveTheTypes, TypesOfHalvesOccur};
+ghost use Rattle.mdr_half_whole.specs.Headings.{FunctionsKeepTheirHeadings, TheUserTextKeepsTheHeadings};
+ghost use Rattle.mdr_half_whole.specs.Replies.{TheUserTextRepliesAsTheWhole};
 ghost use Rattle.mdr_half_whole.specs.SameTypes.{FunctionsKeepTheirTypes};
 ghost use Rattle.mdr_half_whole.specs.Sourced.{SourcesHaveBodies};
 ghost use Rattle.mdr_half_whole.specs.Usable.{BodiesUseWhatIsDefined};
@@ -42,4 +44,21 @@ pub fn bodies_use_what_is_defined()
 /// Each function of the program of a source without faults has its body.
 pub fn sources_have_bodies()
     ensures { SourcesHaveBodies }
+{}
+
+/// Each function has in a half's text the result, the types of parameters and the annotations that it has in the whole
+/// source, also where its body is in the other half.
+pub fn functions_keep_their_headings()
+    ensures { FunctionsKeepTheirHeadings }
+{}
+
+/// So it is of the program to which the text that is printed of the user half of a source comes, read with any plan.
+pub fn the_user_text_keeps_the_headings()
+    ensures { TheUserTextKeepsTheHeadings }
+{}
+
+/// The text that is printed of the user half of a source, read with the source's plan, comes to a program whose user half
+/// gives to any messages the replies of the source's program.
+pub fn the_user_text_replies_as_the_whole()
+    ensures { TheUserTextRepliesAsTheWhole }
 {}

@@ -31,8 +31,8 @@ use Rattle.mdr_half_read.specs.Reading.{ComesToPart}
 use Rattle.mdr_half_whole.specs.Whole.{IsReadOf, IsWhole}
 use Rattle.mdr_half_whole.proofs.Sourced.{sources_have}
 use Rattle.mdr_half_whole.proofs.Together.{user_text_gives}
-use Rattle.mdr_half_replies.specs.Replies.{RepliesAsTheWhole}
-use Rattle.mdr_half_replies.proofs.Printed.{the_user_text_replies_as_the_whole}
+use Rattle.mdr_half_whole.specs.Replies.{RepliesAsTheWhole}
+use Rattle.mdr_half_whole.proofs.Printed.{the_user_text_replies_as_the_whole}
 use Rattle.mdr_cut.specs.Cuts.{IsPlanOf}
 use Rattle.mdr_plan.specs.Texts.{IsPlanText}
 use Rattle.mdr_sound.proofs.Sourced.{ranges_of, sources_sound}

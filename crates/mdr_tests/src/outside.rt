@@ -1,6 +1,6 @@
 // Each object, through the bound under which it is used.
 
-mod far;
+pub(crate) mod far;
 mod files;
 pub(crate) mod shelf;
 mod sink;

@@ -3,13 +3,13 @@
 mod answers;
 mod cuts;
 mod files;
-mod halves;
 mod output;
+mod sent;
 
 use crate::outside::shelf;
+use mdr_far::LocalFar;
 use mdr_outside::{Far, MapShelf, VecSink};
 use mdr_top::{Status, run};
-use mdr_user::LocalFar;
 use std::alloc::{AllocError, Global};
 use std::process::Abort;
 use std::test::Fail;

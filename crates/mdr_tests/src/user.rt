@@ -2,19 +2,23 @@
 
 use crate::expect::expect;
 use crate::hex::bytes_of;
+use mdr_far::{LoadError, LocalFar, UserHalf};
 use mdr_outside::{DeliverAnswer, Far, LoadAnswer};
-use mdr_user::{LoadError, LocalFar, UserHalf};
 use std::alloc::Global;
 use std::process::Abort;
 use std::test::Fail;
 
-/// A function of the user half that calls one of the kernel half twice, and writes a register between.
+/// A user half that calls a function of the kernel half twice, and writes a register between.
 const BUMP: &str =
-    "u32 count; __critical void bump(void){count=count+1;} void open(void){bump(); writel(count,4); bump();}";
+    "u32 count;\n__remote void bump(void);\nvoid open(void) {\n\tbump();\n\twritel(count, 4);\n\tbump();\n}\n";
 
-/// What the user half sets, and the kernel half sets back.
+/// One that sets what the kernel half sets back.
 const RESET: &str =
-    "u32 a; __critical void reset(void){a=0;} void f(void){a=1; reset(); writel(a,0);}";
+    "u32 count;\n__remote void bump(void);\nvoid open(void) {\n\tcount = 1;\n\tbump();\n\twritel(count, 0);\n}\n";
+
+/// The plan of both.
+const PLAN: &str =
+    "plan 1\ntype 0 u8\ntype 1 u16\ntype 2 u32\ntype 3 u64\ntype 4 s8\ntype 5 s16\ntype 6 s32\ntype 7 s64\ntype 8 combolock_t\nfunction 0 bump kernel root\nfunction 1 open user\ndown 0\nup 1\nkey 1 global 0\nend\n";
 
 const CALL: &str =
     "00000001000000010000000000000000000f4240000000000000000000000000000000010000000000000000000000000000000100000000";
@@ -24,7 +28,7 @@ const ANSWER: &str = "00000006000000000000000000000000";
 const DOWN: &str = "000000030000000000000001000000010000000100000001000000000000000000000000";
 
 /// The messages of the run of `BUMP`, each with its reply.
-const BUMP_RUN: &[(&str, &str)] = &[
+pub(crate) const BUMP_RUN: &[(&str, &str)] = &[
     (CALL, DOWN),
     (
         "0000000400000000000f423e0000000c0000000000000000000000010000000000000000000000000000000100000001000000000000000000000000000000010000000200000001",
@@ -54,9 +58,9 @@ const RESET_RUN: &[(&str, &str)] = &[
 ];
 
 fn half_of(alloc: Global) -> Result<UserHalf, Fail> {
-    match UserHalf::load(alloc, BUMP.as_bytes(), &[]) {
+    match UserHalf::load(alloc, BUMP.as_bytes(), PLAN.as_bytes()) {
         Ok(half) => Ok(half),
-        Err(_) => Err("the source is a program".into()),
+        Err(_) => Err("the texts are those of a user half".into()),
     }
 }
 
@@ -107,10 +111,10 @@ fn run_over<F: Far>(
     far: &mut F,
     alloc: Global,
     rt: &impl Abort,
-    source: &str,
+    user: &str,
     run: &[(&str, &str)],
 ) -> Result<(), Fail> {
-    let answer = far.load(alloc, source.as_bytes(), &[]);
+    let answer = far.load(alloc, user.as_bytes(), PLAN.as_bytes());
     let is_ok = answer == LoadAnswer::Ok;
     assert!(rt; is_ok);
     for (sent, reply) in run {
@@ -234,15 +238,7 @@ const BEGUN: &[(&str, &str)] = &[
     (CALL, DOWN),
 ];
 
-#[test]
-fn after_refused_messages_a_run_begins(rt: HostRuntime) -> Result<(), Fail> {
-    let mut half = half_of(rt.alloc())?;
-    let told = expect_replies(&rt, rt.alloc(), &mut half, BEGUN);
-    drop(half);
-    told
-}
-
-/// A call whose budget is used up, and one behind it.
+/// A call of which the budget is used up, and one behind it.
 const WANTING: &[(&str, &str)] = &[
     (
         "0000000100000001000000000000000000000000000000000000000000000000000000010000000000000000000000000000000100000000",
@@ -251,44 +247,60 @@ const WANTING: &[(&str, &str)] = &[
     (CALL, DOWN),
 ];
 
-#[test]
-fn a_tick_that_is_wanting_is_told_as_a_stop(rt: HostRuntime) -> Result<(), Fail> {
-    let mut half = half_of(rt.alloc())?;
-    let told = expect_replies(&rt, rt.alloc(), &mut half, WANTING);
+fn expect_from_a_new_half(
+    rt: &impl Abort,
+    alloc: Global,
+    rows: &[(&str, &str)],
+) -> Result<(), Fail> {
+    let mut half = half_of(alloc)?;
+    let told = expect_replies(rt, alloc, &mut half, rows);
     drop(half);
     told
 }
 
-fn is_refused(alloc: Global, source: &str) -> bool {
-    let loaded = UserHalf::load(alloc, source.as_bytes(), &[]);
-    let is_refused = matches!(&loaded, Err(LoadError::Source));
+#[test]
+fn a_run_begins_behind_refused_messages_or_a_tick_that_is_wanting(
+    rt: HostRuntime,
+) -> Result<(), Fail> {
+    for rows in [BEGUN, WANTING] {
+        expect_from_a_new_half(&rt, rt.alloc(), rows)?;
+    }
+    Ok(())
+}
+
+/// Texts of a user half and of a plan, and which of the two is refused. The plan is judged first.
+type Misfit = (&'static str, &'static str, LoadError, u32);
+
+const MISFITS: &[Misfit] = &[
+    ("u32", PLAN, LoadError::Source, 2),
+    ("\u{1}", PLAN, LoadError::Source, 2),
+    ("void f(void){g();}", PLAN, LoadError::Source, 2),
+    ("u32 a; u32 a;", PLAN, LoadError::Source, 2),
+    (BUMP, "", LoadError::Plan, 1),
+    (BUMP, "plan 1\nend", LoadError::Plan, 1),
+    (BUMP, "plan 1\ntype 0 u16\nend\n", LoadError::Plan, 1),
+    ("u32", "", LoadError::Plan, 1),
+];
+
+fn is_refused(alloc: Global, row: &Misfit) -> bool {
+    let loaded = UserHalf::load(alloc, row.0.as_bytes(), row.1.as_bytes());
+    let is_refused = matches!(&loaded, Err(error) if *error == row.2);
     drop(loaded);
     is_refused
 }
 
-fn is_not_loaded<F: Far>(far: &mut F, alloc: Global, source: &str) -> bool {
-    far.load(alloc, source.as_bytes(), &[]) == LoadAnswer::Refused(2) && far.exchanges().is_empty()
-}
-
-fn is_not_loaded_here(alloc: Global, source: &str) -> bool {
+fn is_not_loaded(alloc: Global, row: &Misfit) -> bool {
     let mut far = LocalFar::new();
-    let holds = is_not_loaded(&mut far, alloc, source);
+    let answer = far.load(alloc, row.0.as_bytes(), row.1.as_bytes());
+    let is_empty = far.exchanges().is_empty();
     drop(far);
-    holds
+    answer == LoadAnswer::Refused(row.3) && is_empty
 }
-
-const NOT_READY: &[&str] = &[
-    "u32",
-    "void f(void){g();}",
-    "u32 a; u32 a;",
-    "u32 *p;",
-    "\u{1}",
-];
 
 #[test]
-fn a_text_whose_program_is_not_ready_is_refused(rt: HostRuntime) {
-    for source in NOT_READY {
-        expect(&rt, is_refused(rt.alloc(), source), source);
-        expect(&rt, is_not_loaded_here(rt.alloc(), source), source);
+fn texts_that_do_not_fit_are_refused(rt: HostRuntime) {
+    for row in MISFITS {
+        expect(&rt, is_refused(rt.alloc(), row), row);
+        expect(&rt, is_not_loaded(rt.alloc(), row), row);
     }
 }

@@ -1,27 +1,28 @@
 -- Where nothing outside fails, what is accepted runs to its end.
-use Rattle.std.proofs.Common.{◌≡◌, ℕ, ◌<◌, ◌⊎◌, inl, inr, List, length, Option, Some, None, Result, Ok, Err, sym, ap, subst, arith}
-use Rattle.std.specs.Prelude.{IsSomeAnd}
-use Rattle.mdr_core.specs.declared.program.Program.{Program}
-use Rattle.mdr_model.specs.Runnable.{IsBound}
-use Rattle.mdr_outside.specs.declared.shelf.ReadAnswer.TheVariants as reads
-use Rattle.mdr_outside.specs.declared.far.Loaded.{Loaded}
-use Rattle.mdr_outside.specs.declared.far.Exchange.{Exchange}
-use Rattle.mdr_outside.specs.Count.{Rose}
-use Rattle.mdr_outside.specs.Shelf.{ReadsFrom}
-use Rattle.mdr_model.specs.declared.command.Command.{Command}
-use Rattle.mdr_top.specs.Commands.{commands_of}
-use Rattle.mdr_user.specs.Honest.{IsHonest}
+use Rattle.std.proofs.Common.{◌≡◌, ℕ, ◌<◌, ◌≤◌, ◌⊎◌, inl, inr, Bool, List, length, Option, Some, None, Result, Ok, Err, refl, sym, ap, ◌∙◌, subst, arith}
+use Rattle.std.proofs.lemmas.Bool.{le-ltb}
 use Rattle.mdr_due.specs.declared.status.Status.{Status}
 use Rattle.mdr_due.specs.declared.status.Status.TheVariants as status
-use Rattle.mdr_top.specs.Words.{Task, Cut, Whole, Run, command_of}
-use Rattle.mdr_top.specs.Cuts.{WriteCause}
-use Rattle.mdr_top.proofs.CutLaws.{cut_no_run, whole_no_run}
-use Rattle.mdr_due.specs.Statuses.{Counts, HasReadCause}
 use Rattle.mdr_due.specs.Reads.{Files, longest_source, longest_script}
-use Rattle.mdr_top.specs.Answers.{Unread, HasProgram, Ran, Called, Scripted, Compiled, Sourced, Answered, Prints}
-use Rattle.mdr_top.specs.Headline.{IsMeaning, IsAccepted, Rests, AreTold, EndsAsMeant, Completes}
-use Rattle.mdr_top.proofs.Programs.{same_program, not_refused}
-use Rattle.mdr_top.proofs.Headline.{ran_means}
+use Rattle.mdr_due.specs.Statuses.{Counts, HasReadCause}
+use Rattle.mdr_outside.specs.Calls.{ShelfCall}
+use Rattle.mdr_outside.specs.Count.{Rose}
+use Rattle.mdr_outside.specs.declared.far.Exchange.{Exchange}
+use Rattle.mdr_outside.specs.declared.far.Loaded.{Loaded}
+use Rattle.mdr_runner.specs.Scripts.{script_for}
+use Rattle.mdr_runner.proofs.Stages.{outcome_own}
+use Rattle.mdr_script.specs.declared.bound.Bound.{Bound}
+use Rattle.mdr_script.specs.declared.script_error.ScriptKind.{ScriptKind}
+use Rattle.mdr_source.specs.declared.outcome.Source.{Source}
+use Rattle.mdr_source.specs.declared.refusal.Refusal.{Refusal}
+use Rattle.mdr_source.specs.Sources.{Comes}
+use Rattle.mdr_source.proofs.OneThing.{one_thing}
+use Rattle.mdr_split_runner.specs.Means.{while_watched}
+use Rattle.mdr_top.specs.Comes.{IsBoundDue, IsSizedDue, IsScriptDue, IsRunDue, IsDueFor, IsDueOrFault, IsExact}
+use Rattle.mdr_top.specs.Cuts.{WriteCause}
+use Rattle.mdr_top.specs.Headline.{IsSplit, MeansBy, Means, Rests, EndsAsMeant, Completes}
+use Rattle.mdr_top.specs.Splits.{IsOfRun}
+use Rattle.mdr_top.specs.Words.{Task, Cut, Whole, Run, command_of}
 
 -- ---- answers exclude each other
 
@@ -31,25 +32,24 @@ some_same o x y e f = Prim.cc
 ok_same : {X Y : Type 0} (r : Result X Y) (x y : X) → r ≡ Ok x → r ≡ Ok y → x ≡ y
 ok_same r x y e f = Prim.cc
 
-pub not_some : {X : Type 0} (o : Option X) (x : X) → o ≡ Some x → o ≡ None → ⊥
+not_some : {X : Type 0} (o : Option X) (x : X) → o ≡ Some x → o ≡ None → ⊥
 not_some o x e f = Prim.cc
 
-pub not_ok : {X Y : Type 0} (r : Result X Y) (x : X) (y : Y) → r ≡ Ok x → r ≡ Err y → ⊥
-not_ok r x y e f = Prim.cc
+ok_is : {a b : Source} → ◌≡◌ {A = Result Source Refusal} (Ok a) (Ok b) → a ≡ b
+ok_is e = Prim.cc
 
-pub same_file : (files : Files) (name : List ℕ) (limit : ℕ) (a b : List ℕ) → AreTold files → ReadsFrom files name limit (reads.Ok a) → ReadsFrom files name limit (reads.Ok b) → a ≡ b
-same_file None name limit a b told r r' = elim told [ ]
-same_file (Some f) name limit a b told r r' = some_same (f name) a b r.0 r'.0
+not_err : {a : Source} {e : Refusal} → ◌≡◌ {A = Result Source Refusal} (Ok a) (Err e) → ⊥
+not_err q = Prim.cc
 
-pub not_missing : (files : Files) (name : List ℕ) (limit : ℕ) (a : List ℕ) → AreTold files → ReadsFrom files name limit (reads.Ok a) → ReadsFrom files name limit reads.Missing → ⊥
-not_missing None name limit a told r r' = told
-not_missing (Some f) name limit a told r r' = not_some (f name) a r.0 r'
+-- bytes that come to a source come to no other, and aren't refused
+one_source : (bytes other : List ℕ) (a b : Source) → other ≡ bytes → Comes bytes (Ok a) → Comes other (Ok b) → b ≡ a
+one_source bytes other a b same x y = ok_is (one_thing bytes (Ok b) (Ok a) (subst (λ (bs : List ℕ). Comes bs (Ok b)) same y) x)
 
-pub not_long : (files : Files) (name : List ℕ) (limit : ℕ) (a : List ℕ) → AreTold files → ReadsFrom files name limit (reads.Ok a) → ReadsFrom files name limit reads.TooLarge → ⊥
-not_long None name limit a told r r' = told
-not_long (Some f) name limit a told r r' =
-    let long : limit < length a = subst (λ (o : Option (List ℕ)). IsSomeAnd o (λ b. limit < length b)) r.0 r' in
-    omega (arith, long, r.1)
+no_refusal : (bytes other : List ℕ) (a : Source) (e : Refusal) → other ≡ bytes → Comes bytes (Ok a) → Comes other (Err e) → ⊥
+no_refusal bytes other a e same x y = not_err (one_thing bytes (Ok a) (Err e) x (subst (λ (bs : List ℕ). Comes bs (Err e)) same y))
+
+too_long : (limit : ℕ) (bytes other : List ℕ) → other ≡ bytes → length bytes ≤ limit → limit < length other → ⊥
+too_long limit bytes other same le long = let long' : limit < length bytes = subst (λ (bs : List ℕ). limit < length bs) same long in omega (arith, le, long')
 
 -- the names in a task, and its budget
 abbrev source_in : Task → List ℕ
@@ -67,7 +67,7 @@ ticks_in (Cut how name) = 0
 ticks_in (Whole source_name script_name manner) = manner.ticks
 ticks_in (Run source_name script_name ticks) = ticks
 
--- of a run, a write fault is the output's
+-- of a run over two halves, a write fault is the output's
 of_output : (w w' u u' : ℕ) (command : Option Task) (source_name script_name : List ℕ) (ticks : ℕ) → command ≡ Some (Run source_name script_name ticks) → WriteCause command w w' u u' → Rose w w'
 of_output w w' u u' command source_name script_name ticks e cause = of (subst (λ (c : Option Task). WriteCause c w w' u u') e cause)
   where
@@ -75,72 +75,94 @@ of_output w w' u u' command source_name script_name ticks e cause = of (subst (�
     of (inl r) = r
     of (inr none) = absurd none
 
+-- ---- words and files name one source, one script and one budget
+
+record AreSame (source other : Source) (script script' : Bound) (ticks ticks' : ℕ) : Type 0 where
+  sources : other ≡ source
+  scripts : script' ≡ script
+  budgets : ticks' ≡ ticks
+
+module _ (words : List (List ℕ)) (f : List ℕ → Option (List ℕ)) (source other : Source) (script script' : Bound) (ticks ticks' : ℕ) (a : IsSplit words (Some f) source script ticks) (b : IsSplit words (Some f) other script' ticks') where
+  same_task : Run b.source_name b.script_name ticks' ≡ Run a.source_name a.script_name ticks
+  same_task = some_same (command_of words) (Run b.source_name b.script_name ticks') (Run a.source_name a.script_name ticks) b.command a.command
+
+  same_bytes : b.bytes ≡ a.bytes
+  same_bytes = some_same (f a.source_name) b.bytes a.bytes (sym (ap (λ (t : Task). f (source_in t)) same_task) ∙ b.source_read.0) a.source_read.0
+
+  same_lines : b.lines ≡ a.lines
+  same_lines = some_same (f a.script_name) b.lines a.lines (sym (ap (λ (t : Task). f (script_in t)) same_task) ∙ b.script_read.0) a.script_read.0
+
+  same_source : other ≡ source
+  same_source = one_source a.bytes b.bytes source other same_bytes a.compiled.comes b.compiled.comes
+
+  are_same : AreSame source other script script' ticks ticks'
+  are_same = record {
+    sources = same_source;
+    scripts = ok_same (script_for source.program a.lines) script' script (sym (λ i. script_for (same_source i).program (same_lines i)) ∙ b.bound) a.bound;
+    budgets = ap ticks_in same_task;
+  }
+
 -- ---- what is accepted runs
 
--- a run of the program
-pub record RanOn (source : List ℕ) (program : Program) (calls : List Command) (ticks : ℕ) (loaded : Option Loaded) (es : List Exchange) (s : Status) (text : List ℕ) : Type 0 where
-  pub bound : IsBound program calls
-  pub ran : Ran program source calls ticks loaded es s text
+-- a status that a run ends with
+data Ended (s : Status) : Type 0 where
+  itself : (s ≡ status.Done) ⊎ (s ≡ status.Stopped) → Ended s
+  refused : s ≡ status.Marshal → Ended s
+  failed : s ≡ status.FarFault → Ended s
 
-module _ (words : List (List ℕ)) (files : Files) (loaded : Option Loaded) (es : List Exchange) (s : Status) (text : List ℕ) (source : List ℕ) (program : Program) (calls : List Command) (ticks : ℕ) where
-  called_runs : (script : List ℕ) → commands_of program.funcs script ≡ Ok calls → Called program source script ticks loaded es s text → RanOn source program calls ticks loaded es s text
-  called_runs script c (Called.refused n) = absurd (not_ok (commands_of program.funcs script) calls n.line c n.refused)
-  called_runs script c (Called.accepted others b r) =
-      let same : others ≡ calls = ok_same (commands_of program.funcs script) others calls b.read c in
-      record {
-        bound = subst (IsBound program) same b.bound;
-        ran = subst (λ (cs : List Command). Ran program source cs ticks loaded es s text) same r;
-      }
+ended : (s : Status) → IsOfRun s → Ended s
+ended status.Done h = Ended.itself (inl refl)
+ended status.Usage h = absurd h
+ended status.SourceRefused h = absurd h
+ended status.ScriptRefused h = absurd h
+ended status.ReadFault h = absurd h
+ended status.WriteFault h = absurd h
+ended status.FarFault h = Ended.failed refl
+ended status.Marshal h = Ended.refused refl
+ended status.Stopped h = Ended.itself (inr refl)
+ended status.OutOfMemory h = absurd h
+ended status.Missing h = absurd h
+ended status.TooLarge h = absurd h
 
-  scripted_runs : (name script : List ℕ) → AreTold files → ReadsFrom files name longest_script (reads.Ok script) → commands_of program.funcs script ≡ Ok calls
-      → Scripted files name program source ticks loaded es s text → (s ≡ status.ReadFault) ⊎ RanOn source program calls ticks loaded es s text
-  scripted_runs name script told r c (Scripted.unread (Unread.missing r' e t)) = absurd (not_missing files name longest_script script told r r')
-  scripted_runs name script told r c (Scripted.unread (Unread.long r' e t)) = absurd (not_long files name longest_script script told r r')
-  scripted_runs name script told r c (Scripted.unread (Unread.failed e t)) = inl e
-  scripted_runs name script told r c (Scripted.read other r' d) =
-      let same : other ≡ script = same_file files name longest_script other script told r' r in
-      inr (called_runs script c (subst (λ (b : List ℕ). Called program source b ticks loaded es s text) same d))
+module _ (words : List (List ℕ)) (f : List ℕ → Option (List ℕ)) (s : Status) (source : Source) (script : Bound) (ticks : ℕ) (a : IsSplit words (Some f) source script ticks) where
+  script_runs : (other : Source) → other ≡ source → IsScriptDue other.program (λ bound. IsOfRun s) (f a.script_name) s → IsOfRun s
+  script_runs other same due =
+      subst (λ (given : Result Bound (ℕ × ScriptKind)). IsBoundDue (λ bound. IsOfRun s) given s) a.bound
+      (subst (λ (long : Bool). IsSizedDue long (IsBoundDue (λ bound. IsOfRun s) (script_for source.program a.lines) s) s) (le-ltb longest_script (length a.lines) a.script_read.1)
+      (subst (λ (o : Option (List ℕ)). IsScriptDue source.program (λ bound. IsOfRun s) o s) a.script_read.0
+      (subst (λ (x : Source). IsScriptDue x.program (λ bound. IsOfRun s) (f a.script_name) s) same due)))
 
-  compiled_runs : (name script : List ℕ) → AreTold files → HasProgram source program → ReadsFrom files name longest_script (reads.Ok script) → commands_of program.funcs script ≡ Ok calls
-      → Compiled files source name ticks loaded es s text → (s ≡ status.ReadFault) ⊎ RanOn source program calls ticks loaded es s text
-  compiled_runs name script told h r c (Compiled.refused n) = absurd (not_refused source program s text h n)
-  compiled_runs name script told h r c (Compiled.accepted q k d) =
-      scripted_runs name script told r c (subst (λ (p : Program). Scripted files name p source ticks loaded es s text) (same_program source q program k h) d)
+  source_runs : IsRunDue (λ program bound. IsOfRun s) (f a.source_name) (f a.script_name) s → IsOfRun s
+  source_runs (IsRunDue.missing e is) = absurd (not_some (f a.source_name) a.bytes a.source_read.0 e)
+  source_runs (IsRunDue.long bytes e long is) = absurd (too_long longest_source a.bytes bytes (some_same (f a.source_name) bytes a.bytes e a.source_read.0) a.source_read.1 long)
+  source_runs (IsRunDue.refused bytes refusal e le comes is) = absurd (no_refusal a.bytes bytes source refusal (some_same (f a.source_name) bytes a.bytes e a.source_read.0) a.compiled.comes comes)
+  source_runs (IsRunDue.accepted bytes other e le comes due) = script_runs other (one_source a.bytes bytes source other (some_same (f a.source_name) bytes a.bytes e a.source_read.0) a.compiled.comes comes) due
 
-  sourced_runs : (name script_name script : List ℕ) → AreTold files → ReadsFrom files name longest_source (reads.Ok source) → HasProgram source program → ReadsFrom files script_name longest_script (reads.Ok script) → commands_of program.funcs script ≡ Ok calls
-      → Sourced files name script_name ticks loaded es s text → (s ≡ status.ReadFault) ⊎ RanOn source program calls ticks loaded es s text
-  sourced_runs name script_name script told r h r' c (Sourced.unread (Unread.missing m e t)) = absurd (not_missing files name longest_source source told r m)
-  sourced_runs name script_name script told r h r' c (Sourced.unread (Unread.long m e t)) = absurd (not_long files name longest_source source told r m)
-  sourced_runs name script_name script told r h r' c (Sourced.unread (Unread.failed e t)) = inl e
-  sourced_runs name script_name script told r h r' c (Sourced.read other m d) =
-      let same : other ≡ source = same_file files name longest_source other source told m r in
-      compiled_runs script_name script told h r' c (subst (λ (b : List ℕ). Compiled files b script_name ticks loaded es s text) same d)
+  -- and ends as is meant
+  ends_as_meant : (shelf shelf' : List ShelfCall) (loaded : Option Loaded) (es : List Exchange) (old new : Option (List ℕ)) → MeansBy words (Some f) shelf shelf' loaded es old new s → EndsAsMeant source.program script ticks s
+  ends_as_meant shelf shelf' loaded es old new m =
+      let same = are_same words f source m.source script m.script ticks m.ticks a m.accepted in
+      let ends : EndsAsMeant m.source.program m.script m.ticks s = record {
+        ends = record { outcome = m.same.outcome; is_outcome = m.same.is_outcome; status_is = m.same.status_is };
+        own = outcome_own m.source.program m.script (while_watched m.ticks) m.same.outcome m.same.is_outcome;
+      } in
+      subst (λ (n : ℕ). EndsAsMeant source.program script n s) same.budgets
+      (subst (λ (b : Bound). EndsAsMeant source.program b m.ticks s) same.scripts
+      (subst (λ (x : Source). EndsAsMeant x.program m.script m.ticks s) same.sources ends))
 
-  pub accepted_runs : AreTold files → IsAccepted words files source program calls ticks → Answered words files loaded es s text → (s ≡ status.ReadFault) ⊎ RanOn source program calls ticks loaded es s text
-  accepted_runs told a (Answered.usage e is t) = absurd (not_some (command_of words) (Run a.source_name a.script_name ticks) a.command e)
-  accepted_runs told a (Answered.cut how name e d) = absurd (cut_no_run (command_of words) how name a.source_name a.script_name ticks e a.command)
-  accepted_runs told a (Answered.whole name script_name manner e d) = absurd (whole_no_run (command_of words) name script_name manner a.source_name a.script_name ticks e a.command)
-  accepted_runs told a (Answered.command name script_name budget e d) =
-      let same : Run a.source_name a.script_name ticks ≡ Run name script_name budget = some_same (command_of words) (Run a.source_name a.script_name ticks) (Run name script_name budget) a.command e in
-      sourced_runs name script_name a.script told
-      (subst (λ (x : Task). ReadsFrom files (source_in x) longest_source (reads.Ok source)) same a.source_read) a.compiled
-      (subst (λ (x : Task). ReadsFrom files (script_in x) longest_script (reads.Ok a.script)) same a.script_read) a.called.read
-      (subst (λ (n : ℕ). Sourced files name script_name n loaded es s text) (sym (ap ticks_in same)) d)
-
--- ---- and ends as is meant
-
-pub completes : (words : List (List ℕ)) (files : Files) (loaded : Option Loaded) (es : List Exchange) (old new : Option (List ℕ)) (s : Status) (before after : Counts) (w w' u u' f f' : ℕ)
-    → Prints words files loaded es old new s → HasReadCause before after s → (s ≡ status.WriteFault → WriteCause (command_of words) w w' u u') → (s ≡ status.FarFault → Rose f f')
-    → Rests before.faults after.faults → Rests w w' → Rests f f' → IsHonest loaded es → Completes words files s
-completes words files loaded es old new s before after w w' u u' f f' (Prints.cut due text n is a within adds) reads_cause writes_cause far_cause reads_rest writes_rest far_rest honest source program calls ticks told accepted = absurd (writes_rest (of_output w w' u u' (command_of words) accepted.source_name accepted.script_name ticks accepted.command (writes_cause is)))
-completes words files loaded es old new s before after w w' u u' f f' (Prints.nothing is same) reads_cause writes_cause far_cause reads_rest writes_rest far_rest honest source program calls ticks told accepted = inl is
-completes words files loaded es old new s before after w w' u u' f f' (Prints.whole text a adds) reads_cause writes_cause far_cause reads_rest writes_rest far_rest honest source program calls ticks told accepted =
-    of (accepted_runs words files loaded es s text source program calls ticks told accepted a)
+pub completes : (words : List (List ℕ)) (files : Files) (shelf shelf' : List ShelfCall) (loaded : Option Loaded) (es : List Exchange) (old new : Option (List ℕ)) (s : Status) (before after : Counts) (w w' u u' far far' : ℕ)
+    → IsExact words files s → Means words files shelf shelf' loaded es old new s → HasReadCause before after s → (s ≡ status.WriteFault → WriteCause (command_of words) w w' u u') → (s ≡ status.FarFault → Rose far far')
+    → Rests before.faults after.faults → Rests w w' → Rests far far' → Completes words files s
+completes words None shelf shelf' loaded es old new s before after w w' u u' far far' exact means cause wrote fails reads_rest out_rest far_rest source script ticks told a = elim told [ ]
+completes words (Some f) shelf shelf' loaded es old new s before after w w' u u' far far' exact means cause wrote fails reads_rest out_rest far_rest source script ticks told a = of exact
   where
-    ended : (s ≡ status.FarFault) ⊎ IsMeaning program calls ticks es s text → (s ≡ status.OutOfMemory) ⊎ EndsAsMeant program calls ticks s
-    ended (inl is) = absurd (far_rest (far_cause is))
-    ended (inr m) = inr (record { status_is = m.reported.status_is; own = m.own })
+    by_status : Ended s → (s ≡ status.OutOfMemory) ⊎ EndsAsMeant source.program script ticks s
+    by_status (Ended.itself is) = inr (ends_as_meant words f s source script ticks a shelf shelf' loaded es old new (means.means a.source_name a.script_name ticks a.command is))
+    by_status (Ended.refused is) = absurd (means.never is)
+    by_status (Ended.failed is) = absurd (far_rest (fails is))
 
-    of : (s ≡ status.ReadFault) ⊎ RanOn source program calls ticks loaded es s text → (s ≡ status.OutOfMemory) ⊎ EndsAsMeant program calls ticks s
-    of (inl is) = absurd (reads_rest (subst (HasReadCause before after) is reads_cause))
-    of (inr r) = ended (ran_means program source calls ticks loaded es s text accepted.compiled r.bound honest r.ran)
+    of : IsDueOrFault (IsDueFor (command_of words) f s) s → (s ≡ status.OutOfMemory) ⊎ EndsAsMeant source.program script ticks s
+    of (inl is) = absurd (reads_rest (subst (HasReadCause before after) is cause))
+    of (inr (inl is)) = absurd (out_rest (of_output w w' u u' (command_of words) a.source_name a.script_name ticks a.command (wrote is)))
+    of (inr (inr (inl is))) = inl is
+    of (inr (inr (inr due))) = by_status (ended s (source_runs words f s source script ticks a (subst (λ (c : Option Task). IsDueFor c f s) a.command due)))

@@ -1,8 +1,6 @@
-pub mod Bound
 pub mod CutLaws
 pub mod WholeLaws
-pub mod Programs
-pub mod Meanings
+pub mod SplitLaws
 pub mod Headline
 pub mod Complete
 pub mod Comes

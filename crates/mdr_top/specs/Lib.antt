@@ -1,10 +1,9 @@
 pub mod Words
 pub mod Lines
-pub mod Commands
 pub mod Cuts
 pub mod Answers
 pub mod Done
-pub mod Meanings
 pub mod Headline
 pub mod Wholes
+pub mod Splits
 pub mod Comes

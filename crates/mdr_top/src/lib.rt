@@ -3,16 +3,12 @@
 
 mod answer;
 mod cutting;
-mod laws;
 mod lines;
-mod program;
-mod script;
 mod split;
 mod ticks;
 mod top;
 mod whole;
 mod words;
 
-pub use laws::run_is_meaning;
 pub use mdr_due::Status;
 pub use top::run;

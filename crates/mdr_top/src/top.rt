@@ -6,7 +6,7 @@ ghost use Rattle.mdr_outside.specs.Sink.{Takes};
 ghost use Rattle.mdr_outside.specs.declared.sink.SinkAnswer.TheVariants as sinks;
 ghost use Rattle.mdr_due.specs.declared.status.Status.TheVariants as status;
 ghost use Rattle.mdr_due.specs.Statuses.{HasReadCause};
-ghost use Rattle.mdr_user.specs.Honest.{IsHonest};
+ghost use Rattle.mdr_honest.specs.Honest.{IsHonest};
 ghost use Rattle.mdr_top.specs.Answers.{Prints, AddsPart};
 ghost use Rattle.mdr_top.specs.Done.{Does};
 ghost use Rattle.mdr_top.specs.Cuts.{WriteCause};
@@ -71,8 +71,8 @@ fn printed<S: Shelf, O: Sink, F: Far>(
 }
 
 /// Does what the words say: reads a source from the shelf, and writes its texts to files, or reports on it, or runs a
-/// script over it on one memory, or over the far side; and prints what came of it, or why there is nothing. Nothing is
-/// printed before all of it is made.
+/// script over it, on one memory or over its two halves, of which the user half runs in the far side; and prints what came
+/// of it, or why there is nothing. Nothing is printed before all of it is made.
 pub fn run<S: Shelf, O: Sink, F: Far>(
     alloc: Global,
     words: &Vec<String>,

@@ -4,9 +4,9 @@
 ghost use Rattle.std.specs.Prelude.{◌≡◌, ◌≢◌};
 ghost use Rattle.std.specs.IoError.{error_kind};
 
+use mdr_far::LocalFar;
 use mdr_outside::{FolderShelf, OutSink};
 use mdr_top::{Status, run};
-use mdr_user::LocalFar;
 use std::alloc::AllocGlobal;
 use std::env::Env;
 use std::io::ErrorKind;

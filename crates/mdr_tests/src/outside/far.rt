@@ -52,7 +52,7 @@ fn is_got(got: &Option<Items<u8>>, reply: Option<&[u8]>) -> bool {
     }
 }
 
-fn is_exchange(exchange: Option<&Exchange>, sent: &[u8], got: Option<&[u8]>) -> bool {
+pub(crate) fn is_exchange(exchange: Option<&Exchange>, sent: &[u8], got: Option<&[u8]>) -> bool {
     match exchange {
         Some(exchange) => exchange.sent.as_slice() == sent && is_got(&exchange.got, got),
         None => false,

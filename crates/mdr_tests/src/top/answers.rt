@@ -9,19 +9,22 @@ use std::process::Abort;
 use std::test::Fail;
 
 /// In the driver's run the user half first calls a function of the kernel half.
-pub(super) const FIRST: &[u32] = &[3, 0, 1, 1, 1, 1, 0, 0, 0];
+const FIRST: &[u32] = &[3, 0, 1, 1, 1, 1, 0, 0, 0];
 
 /// Then it asks for a register to be written.
-pub(super) const SECOND: &[u32] = &[5, 0, 1, 1, 2, 5, 2, 2, 1, 2, 4, 0, 0, 0];
+const SECOND: &[u32] = &[5, 0, 1, 1, 2, 5, 2, 2, 1, 2, 4, 0, 0, 0];
 
 /// It calls again.
-pub(super) const THIRD: &[u32] = &[3, 0, 1, 1, 3, 1, 0, 0, 0];
+const THIRD: &[u32] = &[3, 0, 1, 1, 3, 1, 0, 0, 0];
 
 /// And it returns.
-pub(super) const FOURTH: &[u32] = &[2, 0, 0, 12, 0];
+const FOURTH: &[u32] = &[2, 0, 0, 12, 0];
 
-/// The second reply with no tick spent.
-const NO_TICK: &[u32] = &[5, 0, 0, 1, 2, 5, 2, 2, 1, 2, 4, 0, 0, 0];
+/// With no tick spent it asks for a register to be read.
+const READ: &[u32] = &[5, 0, 0, 1, 2, 4, 1, 2, 7, 0, 0, 0];
+
+/// It asks for an object of a local.
+const ENTER: &[u32] = &[5, 0, 0, 1, 0, 13, 0, 1, 2, 0, 1, 0, 0];
 
 /// The first with 5 for the global.
 const FIVE: &[u32] = &[3, 0, 1, 1, 1, 1, 0, 0, 1, 0, 0, 0, 1, 2, 5];
@@ -50,10 +53,13 @@ const REFUSED: &[(&[u32], &str)] = &[
     // the stop of a service, and the end of a budget that isn't used up
     (&[7, 0, 0, 11, 1, 1, 0], "BadStop 0"),
     (&[7, 0, 1, 16, 1, 1, 0], "BadStop 0"),
-    // services that aren't built
+    // no service, an object without cells, and a read that has a shape
     (&[5, 0, 0, 1, 1, 15, 0, 0, 0, 0], "BadService 0"),
     (&[5, 0, 0, 1, 1, 13, 0, 1, 2, 0, 0, 0, 0], "BadService 0"),
-    (&[5, 0, 0, 1, 2, 4, 1, 2, 7, 0, 0, 0], "BadService 0"),
+    (
+        &[5, 0, 0, 1, 2, 4, 1, 2, 7, 1, 2, 0, 1, 0, 0],
+        "BadService 0",
+    ),
     // an argument too few
     (&[5, 0, 0, 1, 2, 5, 1, 2, 1, 0, 0, 0], "BadArgs 1"),
     // a run twice, one of a block that isn't there, and one of two cells
@@ -64,7 +70,7 @@ const REFUSED: &[(&[u32], &str)] = &[
         "RunOrder 1",
     ),
     (
-        &[3, 0, 1, 1, 1, 1, 0, 0, 1, 0, 7, 0, 1, 2, 5],
+        &[3, 0, 1, 1, 1, 1, 0, 0, 1, 0, 7, 0, 1, 2, 0],
         "OutsideSet 0",
     ),
     (
@@ -112,9 +118,14 @@ const ENDS: &[(&[&[u32]], Status, &str)] = &[
         "call open\nfar fault 2\nticks 2\nlive 1\nobj 1 u32 x1: 6\n",
     ),
     (
-        &[NO_TICK, NO_TICK, NO_TICK],
+        &[READ, READ, READ],
         Status::Marshal,
-        "call open\nW 4 1\nW 4 1\nrefused 3 NotAwaited 0\nticks 0\nlive 1\nobj 1 u32 x1: 0\n",
+        "call open\nR 7 0\nR 7 0\nrefused 3 NotAwaited 0\nticks 0\nlive 1\nobj 1 u32 x1: 0\n",
+    ),
+    (
+        &[ENTER, FOURTH],
+        Status::Marshal,
+        "call open\nrefused 2 StillEntered 0\nticks 0\nlive 2\nobj 1 u32 x1: 0\n",
     ),
 ];
 
@@ -128,10 +139,7 @@ fn bytes_of(alloc: Global, numbers: &[u32]) -> Result<Vec<u8>, AllocError> {
 }
 
 /// These replies as answers.
-pub(super) fn answers_of(
-    alloc: Global,
-    replies: &[&[u32]],
-) -> Result<Vec<DeliverAnswer>, AllocError> {
+fn answers_of(alloc: Global, replies: &[&[u32]]) -> Result<Vec<DeliverAnswer>, AllocError> {
     let mut answers = Vec::new(alloc);
     for reply in replies {
         answers.push(DeliverAnswer::Ok(Items::from_vec(bytes_of(alloc, reply)?)))?;
@@ -262,7 +270,7 @@ const LOADS: &[(LoadAnswer, Status, &str)] = &[
 ];
 
 #[test]
-fn a_source_that_is_not_loaded_is_reported(rt: HostRuntime) -> Result<(), Fail> {
+fn texts_that_are_not_loaded_are_reported(rt: HostRuntime) -> Result<(), Fail> {
     for (load, status, text) in LOADS {
         let none = Vec::new(rt.alloc());
         expect(&rt, rt.alloc(), *load, none, *status, text)?;

@@ -1,9 +1,9 @@
 // Outputs that take little or nothing.
 
 use super::{REPORT, RUN, expect_printed, shelf_of};
+use mdr_far::LocalFar;
 use mdr_outside::VecSink;
 use mdr_top::Status;
-use mdr_user::LocalFar;
 use std::alloc::Global;
 use std::process::Abort;
 use std::test::Fail;

@@ -1,6 +1,6 @@
 use Rattle.std.proofs.Common.{subst}
 use Rattle.mdr_source.specs.Sources.{Comes}
-use Rattle.mdr_ready.proofs.Sound.{source_sound}
+use Rattle.mdr_slicer.proofs.Sound.{source_sound}
 use Rattle.mdr_slicer.proofs.sources.compiled.Goals as goal
 
 -- src/sources.rt:18:1

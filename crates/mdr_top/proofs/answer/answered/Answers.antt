@@ -6,7 +6,8 @@ use Rattle.mdr_slicer.proofs.Steps.{ok_so}
 use Rattle.mdr_top.specs.Cuts.{CutDone, CutPart}
 use Rattle.mdr_top.specs.Done.{Done, DonePart}
 use Rattle.mdr_runner.specs.Runs.{Runs, RunsPart}
-use Rattle.mdr_top.proofs.CutLaws.{cut_command, whole_command}
+use Rattle.mdr_split_runner.specs.SplitRuns.{SplitRuns, SplitRunsPart}
+use Rattle.mdr_top.proofs.CutLaws.{cut_command, whole_command, run_command}
 use Rattle.mdr_top.proofs.answer.answered.Goals as goal
 
 pub returns-in-Some-clause-done : goal.returns-in-Some-clause-done
@@ -30,3 +31,14 @@ pub returns-in-Some-whole_of-clause-part : goal.returns-in-Some-whole_of-clause-
 returns-in-Some-whole_of-clause-part g c =
     err_weaker c.run_whole.result (RunsPart (g.S.Shelf.files c.args.shelf.now) c.in-Some-whole_of.source_name.now c.in-Some-whole_of.script_name.now (g.S.Shelf.calls c.args.shelf.now) (g.S.Shelf.calls c.run_whole.new.shelf)) (DonePart (map string_bytes c.args.words.now) (g.S.Shelf.files c.args.shelf.now) (g.S.Shelf.files c.run_whole.new.shelf) (g.S.Shelf.calls c.args.shelf.now) (g.S.Shelf.calls c.run_whole.new.shelf) (g.F.Far.calls c.args.far.now) (g.F.Far.calls c.args.far.now) (g.F.Far.loaded c.args.far.now) (g.F.Far.exchanges c.args.far.now))
     (λ d. DonePart.whole_part c.in-Some-whole_of.source_name.now c.in-Some-whole_of.script_name.now c.in-Some-whole_of.manner (whole_command (map string_bytes c.args.words.now) c.in-Some-whole_of.source_name.now c.in-Some-whole_of.script_name.now c.in-Some-whole_of.manner (search rules) c.in-Some-whole_of.ensures) c.run_whole.ensures.kept d refl) c.run_whole.ensures.part
+
+pub returns-clause-done : goal.returns-clause-done
+returns-clause-done g c =
+    ok_so c.run_split.result (λ (due : Due). SplitRuns (g.S.Shelf.files c.args.shelf.now) c.in-Some-run_of.source_name.now c.in-Some-run_of.script_name.now c.in-Some-run_of.ticks (g.S.Shelf.calls c.args.shelf.now) (g.S.Shelf.calls c.run_split.new.shelf) (g.F.Far.calls c.args.far.now) (g.F.Far.calls c.run_split.new.far) (g.F.Far.loaded c.run_split.new.far) (g.F.Far.exchanges c.run_split.new.far) due.status due.text.items)
+    (λ (due : Due). Done (map string_bytes c.args.words.now) (g.S.Shelf.files c.args.shelf.now) (g.S.Shelf.files c.run_split.new.shelf) (g.S.Shelf.calls c.args.shelf.now) (g.S.Shelf.calls c.run_split.new.shelf) (g.F.Far.calls c.args.far.now) (g.F.Far.calls c.run_split.new.far) (g.F.Far.loaded c.run_split.new.far) (g.F.Far.exchanges c.run_split.new.far) due.status due.text.items)
+    (λ due d. Done.split c.in-Some-run_of.source_name.now c.in-Some-run_of.script_name.now c.in-Some-run_of.ticks (run_command (map string_bytes c.args.words.now) c.in-Some-run_of.source_name.now c.in-Some-run_of.script_name.now c.in-Some-run_of.ticks (search rules) (search rules) c.in-Some-run_of.ensures) c.run_split.ensures.kept d) c.run_split.ensures.done
+
+pub returns-clause-part : goal.returns-clause-part
+returns-clause-part g c =
+    err_weaker c.run_split.result (SplitRunsPart (g.S.Shelf.files c.args.shelf.now) c.in-Some-run_of.source_name.now c.in-Some-run_of.script_name.now c.in-Some-run_of.ticks (g.S.Shelf.calls c.args.shelf.now) (g.S.Shelf.calls c.run_split.new.shelf) (g.F.Far.calls c.args.far.now) (g.F.Far.calls c.run_split.new.far) (g.F.Far.exchanges c.run_split.new.far)) (DonePart (map string_bytes c.args.words.now) (g.S.Shelf.files c.args.shelf.now) (g.S.Shelf.files c.run_split.new.shelf) (g.S.Shelf.calls c.args.shelf.now) (g.S.Shelf.calls c.run_split.new.shelf) (g.F.Far.calls c.args.far.now) (g.F.Far.calls c.run_split.new.far) (g.F.Far.loaded c.run_split.new.far) (g.F.Far.exchanges c.run_split.new.far))
+    (λ d. DonePart.split_part c.in-Some-run_of.source_name.now c.in-Some-run_of.script_name.now c.in-Some-run_of.ticks (run_command (map string_bytes c.args.words.now) c.in-Some-run_of.source_name.now c.in-Some-run_of.script_name.now c.in-Some-run_of.ticks (search rules) (search rules) c.in-Some-run_of.ensures) c.run_split.ensures.kept d) c.run_split.ensures.part

@@ -13,8 +13,9 @@ pub returns-clause-meaning : goal.returns-clause-meaning
 returns-clause-meaning g c = λ honest. does_mean _ _ _ _ _ _ _ _ _ _ _ _ c.printed.ensures.does honest
 
 pub returns-clause-complete : goal.returns-clause-complete
-returns-clause-complete g c = λ reads writes far honest source program calls ticks told accepted.
-    completes _ _ _ _ _ _ _ _ _ _ _ _ _ _ _ (prints_so _ _ _ _ _ _ _ _ _ _ _ _ c.printed.ensures.does) c.printed.ensures.read_cause c.printed.ensures.write_cause c.printed.ensures.far_cause reads writes far honest source program calls ticks told accepted
+returns-clause-complete g c = λ reads writes far honest.
+    completes (map string_bytes c.args.words.now.items) _ _ _ _ _ _ _ _ _ _ _ _ _ _ _ _ (prints_exactly (map string_bytes c.args.words.now.items) _ _ _ _ _ _ (prints_so (map string_bytes c.args.words.now.items) _ _ _ _ _ _ _ _ _ _ _ c.printed.ensures.does))
+    (does_mean (map string_bytes c.args.words.now.items) _ _ _ _ _ _ _ _ _ _ _ c.printed.ensures.does honest) c.printed.ensures.read_cause c.printed.ensures.write_cause c.printed.ensures.far_cause reads writes far
 
 pub returns-clause-comes : goal.returns-clause-comes
 returns-clause-comes g c = prints_comes _ _ _ _ _ _ _ (prints_so _ _ _ _ _ _ _ _ _ _ _ _ c.printed.ensures.does)

@@ -1,0 +1,89 @@
+-- The user half from message to message.
+use Rattle.std.proofs.Common.{◌≡◌, ℕ, List, [], ◌∷◌, ◌++◌, Option, Some, None, Result, Ok, Err, IfSome, IfOk, OnOk, refl, sym, ◌∙◌, ap, subst, append_assoc, append-nil}
+use Rattle.mdr_core.specs.declared.plan.Plan.{Plan}
+use Rattle.mdr_core.specs.declared.program.Program.{Program}
+use Rattle.mdr_core.specs.Sound.{IsSound}
+use Rattle.mdr_exchanges.specs.Runs.{sent_of}
+use Rattle.mdr_honest.specs.Honest.{Honest, Loads}
+use Rattle.mdr_honest.proofs.Halves.{half_is}
+use Rattle.mdr_model.specs.Bytes.{readings}
+use Rattle.mdr_model.specs.declared.message.Message.{Message}
+use Rattle.mdr_model.specs.declared.message.Message.TheVariants.{Refuse}
+use Rattle.mdr_model.specs.KernelState.{Reading}
+use Rattle.mdr_model.specs.Reading.{reading_of}
+use Rattle.mdr_model.specs.Text.{text}
+use Rattle.mdr_model.proofs.RefusalLaws.{readings-append, shown_refusal}
+use Rattle.mdr_msg.specs.WellFormed.{IsMessage}
+use Rattle.mdr_outside.specs.declared.far.Exchange.{Exchange}
+use Rattle.mdr_outside.specs.Far.{exchange}
+use Rattle.mdr_over_bytes.specs.OverBytes.{IsHonestReply, user_reply_to_bytes}
+use Rattle.mdr_split.specs.User.{user_reply}
+use Rattle.mdr_user_code.specs.declared.state.State.{State}
+use Rattle.mdr_user_code.specs.Standing.{Follows, IsFit}
+use Rattle.mdr_watched.specs.Driver.{Driver}
+use Rattle.mdr_far.proofs.Refusals.{replies_without}
+
+-- ---- one message
+
+-- a reply as bytes
+pub honest_reply : (d : Driver) (before : List (List ℕ)) (last reply : List ℕ) (m : Message) → m ≡ user_reply d (readings before) (reading_of last) → IsMessage m → reply ≡ text m → IsHonestReply d before last reply
+unfolding user_reply_to_bytes
+honest_reply d before last reply m e fits is = record { spelled = subst IsMessage e fits; bytes = is ∙ ap text e }
+
+-- the messages as they are read
+pub follows_read : (d : Driver) (before : List (List ℕ)) (bytes : List ℕ) (r : Reading) (s : State) → r ≡ reading_of bytes → Follows d (readings before ++ r ∷ []) s → Follows d (readings (before ++ bytes ∷ [])) s
+follows_read d before bytes r s e f =
+    subst (λ (rs : List Reading). Follows d rs s) (ap (λ (x : Reading). readings before ++ x ∷ []) e ∙ sym (readings-append before (bytes ∷ []))) f
+
+-- ---- the exchanges
+
+sent_more : (es : List Exchange) (e : Exchange) → sent_of (es ++ e ∷ []) ≡ sent_of es ++ e.sent ∷ []
+sent_more [] e = refl
+sent_more (x ∷ es) e = ap (λ (bs : List (List ℕ)). x.sent ∷ bs) (sent_more es e)
+
+pub follows_next : (d : Driver) (es es' : List Exchange) (s : State) (bytes reply : List ℕ) → es' ≡ es ++ exchange bytes (Some reply) ∷ [] → Follows d (readings (sent_of es ++ bytes ∷ [])) s → Follows d (readings (sent_of es')) s
+follows_next d es es' s bytes reply added f =
+    subst (λ (bs : List (List ℕ)). Follows d (readings bs) s) (sym (ap sent_of added ∙ sent_more es (exchange bytes (Some reply)))) f
+
+honest_after : (d : Driver) (before : List (List ℕ)) (es : List Exchange) (bytes reply : List ℕ) → IsHonestReply d (before ++ sent_of es) bytes reply → Honest d before es
+    → Honest d before (es ++ exchange bytes (Some reply) ∷ [])
+honest_after d before [] bytes reply is h = (subst (λ (b : List (List ℕ)). IsHonestReply d b bytes reply) (append-nil before) is, tt)
+honest_after d before (x ∷ es) bytes reply is h =
+    (h.0, honest_after d (before ++ x.sent ∷ []) es bytes reply (subst (λ (b : List (List ℕ)). IsHonestReply d b bytes reply) (sym (append_assoc before (x.sent ∷ []) (sent_of es))) is) h.1)
+
+pub honest_more : (d : Driver) (es es' : List Exchange) (bytes reply : List ℕ) → es' ≡ es ++ exchange bytes (Some reply) ∷ [] → IsHonestReply d (sent_of es) bytes reply → Honest d [] es → Honest d [] es'
+honest_more d es es' bytes reply added is h = subst (Honest d []) (sym added) (honest_after d [] es bytes reply is h)
+
+-- a refused message changes no later reply
+pub replies_on : (d : Driver) (es es' : List Exchange) (bytes reply : List ℕ) (reason : ℕ) → es' ≡ es ++ exchange bytes (Some reply) ∷ [] → IsHonestReply d (sent_of es) bytes reply → reply ≡ text (Refuse reason)
+    → (more : List (List ℕ)) (last : List ℕ) → user_reply_to_bytes d (sent_of es' ++ more) last ≡ user_reply_to_bytes d (sent_of es ++ more) last
+unfolding user_reply_to_bytes
+replies_on d es es' bytes reply reason added is refused more last =
+    let sent : sent_of es' ≡ sent_of es ++ bytes ∷ [] = ap sent_of added ∙ sent_more es (exchange bytes (Some reply)) in
+    let messages : sent_of es' ++ more ≡ sent_of es ++ bytes ∷ more = ap (λ (xs : List (List ℕ)). xs ++ more) sent ∙ append_assoc (sent_of es) (bytes ∷ []) more in
+    ap (λ (xs : List (List ℕ)). user_reply_to_bytes d xs last) messages
+    ∙ replies_without d (sent_of es) bytes more last (shown_refusal (user_reply d (readings (sent_of es)) (reading_of bytes)) reason (sym is.bytes ∙ refused))
+
+-- ---- loads
+
+pub loaded_sound : (user text : List ℕ) (program : Program) (plan : Plan) → Loads user text program plan → IsSound program
+loaded_sound user text program plan l = (half_is user text program plan l).sound
+
+pub loaded_fit : (user text : List ℕ) (program : Program) (plan : Plan) → Loads user text program plan → IsFit plan program
+loaded_fit user text program plan l = ((half_is user text program plan l).suited).halves
+
+-- ---- what holds of a half that isn't lost
+
+pub at_some : {A : Type 0} (P : A → Type 0) (o : Option A) (x : A) → o ≡ Some x → IfSome o P → P x
+at_some P None x e h = absurd (Prim.cc)
+at_some P (Some y) x e h = let same : y ≡ x = Prim.cc in subst P same h
+
+-- ---- what is ensured of a result that is Ok
+
+pub at_ok : {A E : Type 0} (r : Result A E) (x : A) → r ≡ Ok x → (P : A → Type 0) → IfOk r P → P x
+at_ok (Ok y) x e P h = let same : y ≡ x = Prim.cc in subst P same h
+at_ok (Err f) x e P h = absurd (Prim.cc)
+
+pub on_ok : {A E : Type 0} (r : Result A E) (x : A) → r ≡ Ok x → (P : Type 0) → OnOk r P → P
+on_ok (Ok y) x e P h = h
+on_ok (Err f) x e P h = absurd (Prim.cc)

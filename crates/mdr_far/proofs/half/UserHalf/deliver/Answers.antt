@@ -1,0 +1,37 @@
+use Rattle.std.proofs.Common.{ℕ, List, ◌++◌, sym, ap, ◌∙◌}
+use Rattle.mdr_exchanges.specs.Runs.{sent_of}
+use Rattle.mdr_model.specs.Bytes.{readings}
+use Rattle.mdr_over_bytes.specs.OverBytes.{IsHonestReply, user_reply_to_bytes}
+use Rattle.mdr_user_code.specs.declared.state.State.{State}
+use Rattle.mdr_user_code.specs.Standing.{Follows}
+use Rattle.mdr_watched.specs.Driver.{driver_of}
+use Rattle.mdr_far.specs.Halves.{HalfState, driver_in}
+use Rattle.mdr_far.proofs.HalfSteps.{at_some, at_ok, on_ok, follows_next, honest_more, replies_on}
+use Rattle.mdr_far.proofs.half.UserHalf.deliver.Goals as goal
+
+pub invariant_of-self-in-Ok : goal.invariant_of-self-in-Ok
+invariant_of-self-in-Ok c =
+    let d = driver_of c.self.inside.program c.self.inside.plan in
+    let es = c.self.inside.exchanges in
+    let follows = at_some (λ (s : State). Follows d (readings (sent_of es)) s) c.self.inside.state c.in-Some.state (sym c.take.ensures.value ∙ c.in-Some.is) c.self.invariant.follows in
+    record {
+      sound = c.self.invariant.sound;
+      fit = c.self.invariant.fit;
+      honest =
+          honest_more d es c.recorded.new.exchanges c.args.bytes.now c.in-Ok.reply.items c.in-Ok.ensures.ok.1
+          (at_ok c.reply_to-reply.result c.in-Ok.reply c.in-Ok.ensures.ok.0 (λ r. (before : List (List ℕ)) → Follows d (readings before) c.in-Some.state → IsHonestReply d before c.args.bytes.now r.items) c.reply_to-reply.ensures.reply (sent_of es) follows)
+          c.self.invariant.honest;
+      follows =
+          follows_next d es c.recorded.new.exchanges c.reply_to-reply.new.state c.args.bytes.now c.in-Ok.reply.items c.in-Ok.ensures.ok.1
+          (on_ok c.reply_to-reply.result c.in-Ok.reply c.in-Ok.ensures.ok.0 _ c.reply_to-reply.ensures.follows (sent_of es) follows);
+    }
+
+pub returns-in-Ok-clause-refused : goal.returns-in-Ok-clause-refused
+returns-in-Ok-clause-refused c = λ reason refused more last.
+    let d = driver_of c.self.inside.program c.self.inside.plan in
+    let es = c.self.inside.exchanges in
+    let follows = at_some (λ (s : State). Follows d (readings (sent_of es)) s) c.self.inside.state c.in-Some.state (sym c.take.ensures.value ∙ c.in-Some.is) c.self.invariant.follows in
+    replies_on d es c.recorded.new.exchanges c.args.bytes.now c.in-Ok.reply.items reason c.in-Ok.ensures.ok.1
+    (at_ok c.reply_to-reply.result c.in-Ok.reply c.in-Ok.ensures.ok.0 (λ r. (before : List (List ℕ)) → Follows d (readings before) c.in-Some.state → IsHonestReply d before c.args.bytes.now r.items) c.reply_to-reply.ensures.reply (sent_of es) follows)
+    refused more last
+    ∙ ap (λ (h : HalfState). user_reply_to_bytes (driver_in h) (sent_of h.exchanges ++ more) last) c.self.view_is

@@ -1,0 +1,4 @@
+pub mod Halves
+pub mod HalfView
+pub mod Fars
+pub mod FarView

@@ -1,0 +1,70 @@
+// One message as bytes.
+
+ghost use Rattle.std.specs.Prelude.{◌≡◌, ℕ, [], ◌∷◌, ◌++◌, List, IfOk, OnOk};
+ghost use Rattle.mdr_core.specs.Sound.{IsSound};
+ghost use Rattle.mdr_model.specs.Bytes.{readings};
+ghost use Rattle.mdr_model.specs.KernelState.{Reading};
+ghost use Rattle.mdr_model.specs.Text.{text};
+ghost use Rattle.mdr_msg.specs.WellFormed.{IsMessage};
+ghost use Rattle.mdr_over_bytes.specs.OverBytes.{IsHonestReply};
+ghost use Rattle.mdr_split.specs.User.{user_reply};
+ghost use Rattle.mdr_user_code.specs.Standing.{Follows, IsFit};
+ghost use Rattle.mdr_watched.specs.Driver.{driver_of};
+
+use mdr_core::{OutOfMemory, Plan, Program};
+use mdr_model::{Fault, Message};
+use mdr_msg::{reading_of, spelled};
+use mdr_user_code::{State, delivered};
+use std::alloc::Global;
+
+/// What was made of a value, when the value is let go.
+fn apart<A, T: Drop>(made: A, _of: T) -> A
+    ensures { result ≡ made }
+{
+    made
+}
+
+/// The reply to what was read of bytes.
+fn told(
+    alloc: Global,
+    program: &Program,
+    plan: &Plan,
+    state: &mut State,
+    reading: Result<Message, Fault>,
+) -> Result<Message, OutOfMemory>
+    requires sound { IsSound program.now }
+    requires fit { IsFit plan.now program.now }
+    ensures reply { IfOk result (λ r. (before : List Reading) → Follows (driver_of program.now plan.now) before state.old → r ≡ user_reply (driver_of program.now plan.now) before reading) }
+    ensures follows { OnOk result ((before : List Reading) → Follows (driver_of program.now plan.now) before state.old → Follows (driver_of program.now plan.now) (before ++ reading ∷ []) state.new) }
+{
+    let reply = delivered(alloc, program, plan, state, &reading);
+    apart(reply, reading)
+}
+
+/// The bytes of a message.
+fn written(alloc: Global, message: Message) -> Result<Vec<u8>, OutOfMemory>
+    ensures written { IfOk result (λ bytes. bytes.items ≡ text message) }
+    ensures spelled { IfOk result (λ _. IsMessage message) }
+{
+    let bytes = spelled(alloc, &message);
+    apart(bytes, message)
+}
+
+/// The reply's bytes to a message's bytes.
+pub(crate) fn reply_to(
+    alloc: Global,
+    program: &Program,
+    plan: &Plan,
+    state: &mut State,
+    bytes: &[u8],
+) -> Result<Vec<u8>, OutOfMemory>
+    requires sound { IsSound program.now }
+    requires fit { IsFit plan.now program.now }
+    ensures reply { IfOk result (λ r. (before : List (List ℕ)) → Follows (driver_of program.now plan.now) (readings before) state.old → IsHonestReply (driver_of program.now plan.now) before bytes.now r.items) }
+    ensures follows { OnOk result ((before : List (List ℕ)) → Follows (driver_of program.now plan.now) (readings before) state.old → Follows (driver_of program.now plan.now) (readings (before ++ bytes.now ∷ [])) state.new) }
+{
+    let reading = reading_of(alloc, bytes)?;
+    let reply = told(alloc, program, plan, state, reading)?;
+    let written = written(alloc, reply)?;
+    Ok(written)
+}

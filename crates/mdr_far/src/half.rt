@@ -1,0 +1,155 @@
+// The user half over bytes.
+
+ghost use Rattle.std.specs.Prelude.{◌≡◌, ℕ, [], ◌∷◌, ◌++◌, false, Some, Ok, Err, IfOk, OnErr};
+ghost use Rattle.mdr_core.specs.Sound.{IsSound};
+ghost use Rattle.mdr_exchanges.specs.Runs.{sent_of};
+ghost use Rattle.mdr_honest.specs.Honest.{Honest};
+ghost use Rattle.mdr_model.specs.declared.message.Message.TheVariants.{Refuse};
+ghost use Rattle.mdr_model.specs.Text.{text};
+ghost use Rattle.mdr_outside.specs.Far.{exchange};
+ghost use Rattle.mdr_over_bytes.specs.OverBytes.{IsHonestReply};
+ghost use Rattle.mdr_user_code.specs.Standing.{Follows, IsFit};
+ghost use Rattle.mdr_watched.specs.Driver.{driver_of};
+ghost use Rattle.mdr_far.specs.Halves.{new_half, after_reply, lost, driver_in, ReplyAlike, Load};
+
+use crate::bytes::reply_to;
+use crate::load_error::LoadError;
+use crate::source::source;
+use mdr_core::{Items, OutOfMemory, Plan, Program};
+use mdr_half_source::HalfSource;
+use mdr_outside::Exchange;
+use mdr_user_code::{State, begins};
+use std::alloc::Global;
+use std::marker::Model;
+
+/// The user half of a driver: it gets messages and replies to them. Once memory was wanting it replies no more.
+#[derive(Debug, Drop)]
+pub struct UserHalf {
+    program: Program,
+    plan: Plan,
+    state: Option<State>,
+    exchanges: Items<Exchange>,
+}
+
+impl Model for UserHalf {
+    ghost use Rattle.std.specs.Coded.{codes};
+    ghost use Rattle.mdr_core.specs.contracts.types.Ty as t;
+    ghost use Rattle.mdr_core.specs.contracts.code.Stmt as s;
+    ghost use Rattle.mdr_far.specs.Halves.{HalfState};
+
+    ghost Value = { HalfState };
+
+    ghost coded = { Prim.hlevel (codes, t.the_row.coded, s.the_row.coded) };
+
+    ghost use Rattle.mdr_far.specs.HalfView.{half_state, IsKeptHalf};
+
+    ghost view = { half_state };
+
+    ghost invariant = { IsKeptHalf };
+}
+
+/// A message with its reply.
+fn exchange(alloc: Global, sent: &[u8], reply: &[u8]) -> Result<Exchange, OutOfMemory>
+    ensures { IfOk result (λ e. e ≡ exchange sent.now (Some reply.now)) }
+{
+    Ok(Exchange {
+        sent: Items::from_slice(alloc, sent)?,
+        got: Some(Items::from_slice(alloc, reply)?),
+    })
+}
+
+/// A reply is kept with its message, or there is none.
+fn recorded(
+    alloc: Global,
+    exchanges: &mut Items<Exchange>,
+    sent: &[u8],
+    reply: Result<Vec<u8>, OutOfMemory>,
+) -> Result<Vec<u8>, OutOfMemory>
+    ensures ok { IfOk result (λ r. (reply ≡ Ok r) × (exchanges.new ≡ exchanges.old ++ exchange sent.now (Some r.items) ∷ [])) }
+    ensures err { OnErr result (exchanges.new ≡ exchanges.old) }
+{
+    let reply = reply?;
+    let exchanged = exchange(alloc, sent, reply.as_slice())?;
+    exchanges.push(exchanged)?;
+    Ok(reply)
+}
+
+/// Where memory was wanting, what was at work is let go.
+fn given_up<A, T: Drop>(error: OutOfMemory, _at_work: T) -> Result<A, OutOfMemory>
+    ensures { result ≡ Err error }
+{
+    Err(error)
+}
+
+fn half_of(alloc: Global, source: HalfSource, state: State) -> UserHalf
+    requires sound { IsSound source.program }
+    requires fit { IsFit source.plan source.program }
+    requires begins { Follows (driver_of source.program source.plan) [] state }
+    ensures { result ≡ new_half source.program source.plan }
+{
+    let HalfSource { program, plan } = source;
+    UserHalf {
+        program,
+        plan,
+        state: Some(state),
+        exchanges: Items::new(alloc),
+    }
+}
+
+impl UserHalf {
+    fn begin(alloc: Global, source: HalfSource) -> Result<UserHalf, OutOfMemory>
+        requires sound { IsSound source.program }
+        requires fit { IsFit source.plan source.program }
+        ensures { IfOk result (λ h. h ≡ new_half source.program source.plan) }
+    {
+        match begins(alloc, &source.program, &source.plan) {
+            Ok(state) => Ok(half_of(alloc, source, state)),
+            Err(error) => given_up(error, source),
+        }
+    }
+
+    /// The half of the text of a user half and of the text of its plan. The plan's is judged first.
+    pub fn load(alloc: Global, user: &[u8], plan: &[u8]) -> Result<UserHalf, LoadError>
+        ensures { Load user.now plan.now result }
+    {
+        let source = source(alloc, user, plan)?;
+        let half = UserHalf::begin(alloc, source)?;
+        Ok(half)
+    }
+
+    /// The reply to a message. A message that is refused leaves the half as it was: it replies from then on as if
+    /// the message hadn't come.
+    pub fn deliver(&mut self, alloc: Global, bytes: &[u8]) -> Result<Vec<u8>, OutOfMemory>
+        ensures reply { IfOk result (λ reply. IsHonestReply (driver_in self.old) (sent_of self.old.exchanges) bytes.now reply.items) }
+        ensures kept { IfOk result (λ reply. self.new ≡ after_reply self.old bytes.now reply.items) }
+        ensures refused { IfOk result (λ reply. (reason : ℕ) → reply.items ≡ text (Refuse reason) → ReplyAlike self.new self.old) }
+        ensures err { OnErr result (self.new ≡ lost self.old) }
+        ensures held { IfOk result (λ reply. self.old.is_lost ≡ false) }
+    {
+        let Some(mut state) = self.state.take() else {
+            return Err(OutOfMemory);
+        };
+        let reply = reply_to(alloc, &self.program, &self.plan, &mut state, bytes);
+        match recorded(alloc, &mut self.exchanges, bytes, reply) {
+            Ok(reply) => {
+                self.state = Some(state);
+                Ok(reply)
+            }
+            Err(error) => given_up(error, state),
+        }
+    }
+
+    /// Lends the messages since the load, each with its reply.
+    pub fn exchanges(&self) -> &[Exchange]
+        ensures { result.now ≡ self.now.exchanges }
+    {
+        self.exchanges.as_slice()
+    }
+
+    /// Each reply is the user half's reply to the messages so far.
+    pub fn replies(&self)
+        ensures { Honest (driver_in self.now) [] self.now.exchanges }
+    {
+        let _ = &self.exchanges;
+    }
+}

@@ -1,2 +1,0 @@
-pub mod SameFuncs
-pub mod Printed

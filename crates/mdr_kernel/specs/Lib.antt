@@ -1,6 +1,0 @@
-pub mod States
-pub mod Runs
-pub mod Works
-pub mod HalfState
-pub mod Calls
-pub mod HalfView

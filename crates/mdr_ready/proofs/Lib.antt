@@ -1,4 +1,0 @@
-mod Settled
-pub mod Sound
-pub mod OneReason
-pub mod Small

@@ -1,0 +1,52 @@
+-- The stages of running a script over the halves of a source.
+use Rattle.std.proofs.Common.{◌≡◌, ℕ, List, Option, Some, refl, sym, ap, ◌∙◌, subst}
+use Rattle.mdr_core.specs.declared.program.Program.{Program}
+use Rattle.mdr_core.specs.declared.refusal.RefuseKind.TheVariants as refusal
+use Rattle.mdr_cut.specs.declared.texts.Texts.{Texts}
+use Rattle.mdr_due.specs.declared.status.Status.{Status}
+use Rattle.mdr_due.specs.declared.status.Status.TheVariants as status
+use Rattle.mdr_due.specs.Reads.{Files, WasRead, longest_script}
+use Rattle.mdr_model.specs.declared.outcome.End.{End}
+use Rattle.mdr_model.specs.declared.outcome.End.TheVariants as ends
+use Rattle.mdr_outside.specs.Calls.{FarCall, ShelfCall}
+use Rattle.mdr_outside.specs.declared.far.Exchange.{Exchange}
+use Rattle.mdr_outside.specs.declared.far.LoadAnswer.{LoadAnswer}
+use Rattle.mdr_outside.specs.declared.far.Loaded.{Loaded}
+use Rattle.mdr_outside.specs.Far.{loaded_with}
+use Rattle.mdr_plain.specs.Outcome.{outcome_of}
+use Rattle.mdr_runner.specs.Runs.{status_of}
+use Rattle.mdr_runner.specs.Scripts.{IsScriptOf, NoScriptOf}
+use Rattle.mdr_script.specs.declared.bound.Bound.{Bound}
+use Rattle.mdr_slicer.specs.Slicing.{IsSourceOf}
+use Rattle.mdr_source.specs.declared.outcome.Source.{Source}
+use Rattle.mdr_split_runner.specs.Reports.{Reported, nothing_ran}
+use Rattle.mdr_split_runner.specs.SplitRuns.{SplitRuns, SplitRunsOver, SplitRunsOverPart, SplitRunsPart}
+
+-- ---- a load
+
+-- what the far side holds are the texts
+pub held_texts : (texts : Texts) (user lines : List ℕ) (answer : LoadAnswer) (held : Option Loaded) → user ≡ texts.user → lines ≡ texts.plan → held ≡ Some (loaded_with user lines answer) → held ≡ Some (loaded_with texts.user texts.plan answer)
+held_texts texts user lines answer held user_is plan_is is =
+    is ∙ ap (λ (u : List ℕ). Some (loaded_with u lines answer)) user_is ∙ ap (λ (p : List ℕ). Some (loaded_with texts.user p answer)) plan_is
+
+-- ---- ends
+
+pub nothing_end : (program : Program) (script : Bound) (ticks : ℕ) (end : End) → (nothing_ran program script ticks end).end ≡ end
+unfolding outcome_of
+nothing_end program script ticks end = refl
+
+-- texts that are refused are no fault of the far side's
+pub refused_so : (A : Type 0) (program : Program) (script : Bound) (ticks : ℕ) (s : Status) (text : List ℕ) → Reported program (nothing_ran program script ticks (ends.Refused 0 refusal.Load 0)) s text → s ≡ status.FarFault → A
+refused_so A program script ticks s text r e =
+    let no : status.Marshal ≡ status.FarFault = sym (ap status_of (nothing_end program script ticks (ends.Refused 0 refusal.Load 0))) ∙ sym r.status_is ∙ e in absurd (Prim.cc)
+
+-- ---- the whole command
+
+module _ (files later : Files) (source_name script_name : List ℕ) (ticks : ℕ) (old between new : List ShelfCall) (far far' : List FarCall) (source : Source) (kept : later ≡ files) (read : IsSourceOf files source_name old between source) where
+  pub runs_so : (loaded : Option Loaded) (es : List Exchange) (s : Status) (text : List ℕ) → SplitRunsOver later source script_name ticks between new far far' loaded es s text → SplitRuns files source_name script_name ticks old new far far' loaded es s text
+  runs_so loaded es s text (SplitRunsOver.no_script none same) = SplitRuns.no_script source between read (subst (λ (f : Files). NoScriptOf f source.program script_name between new s text) kept none) same
+  runs_so loaded es s text (SplitRunsOver.ran script is run) = SplitRuns.ran source script between read (subst (λ (f : Files). IsScriptOf f source.program script_name between new script) kept is) run
+
+  pub runs_part : (es : List Exchange) → SplitRunsOverPart later source script_name ticks between new far far' es → SplitRunsPart files source_name script_name ticks old new far far' es
+  runs_part es (SplitRunsOverPart.script_read was same) = SplitRunsPart.script_read source between read (subst (λ (f : Files). WasRead f script_name longest_script between new) kept was) same
+  runs_part es (SplitRunsOverPart.ran_part script is part) = SplitRunsPart.ran_part source script between read (subst (λ (f : Files). IsScriptOf f source.program script_name between new script) kept is) part

@@ -1,0 +1,43 @@
+-- What is reported of a run over a far side that was loaded first.
+use Rattle.std.specs.Prelude.{◌≡◌, ℕ, List, Option, Some}
+use Rattle.mdr_core.specs.declared.plan.Plan.{Plan}
+use Rattle.mdr_core.specs.declared.program.Program.{Program}
+use Rattle.mdr_core.specs.declared.refusal.RefuseKind.TheVariants as refusal
+use Rattle.mdr_cut.specs.declared.texts.Texts.{Texts}
+use Rattle.mdr_due.specs.declared.status.Status.{Status}
+use Rattle.mdr_exchanges.specs.Runs.{IsRun}
+use Rattle.mdr_meaning.specs.Bodies.{known_of}
+use Rattle.mdr_model.specs.declared.outcome.End.{End}
+use Rattle.mdr_model.specs.declared.outcome.End.TheVariants as ends
+use Rattle.mdr_outside.specs.declared.far.Exchange.{Exchange}
+use Rattle.mdr_outside.specs.declared.far.LoadAnswer.TheVariants as loads
+use Rattle.mdr_outside.specs.declared.far.Loaded.{Loaded}
+use Rattle.mdr_outside.specs.Far.{loaded_with}
+use Rattle.mdr_plain.specs.declared.outcome.Outcome.{Outcome}
+use Rattle.mdr_plain.specs.Outcome.{outcome_of}
+use Rattle.mdr_plain.specs.Report.{report}
+use Rattle.mdr_plain.specs.Scripts.{finish, first_world}
+use Rattle.mdr_runner.specs.Runs.{status_of}
+use Rattle.mdr_script.specs.declared.bound.Bound.{Bound}
+use Rattle.mdr_watched.specs.Driver.{driver_of}
+
+-- the outcome where the far side loaded nothing: that of a run that began nothing, with this end
+abbrev pub nothing_ran : Program → Bound → (ticks : ℕ) → End → Outcome
+nothing_ran program script ticks end = outcome_of program (finish end (first_world (known_of program) script ticks))
+
+-- an outcome's status and report
+pub record Reported (program : Program) (o : Outcome) (s : Status) (text : List ℕ) : Type 0 where
+  pub status_is : s ≡ status_of o.end
+  pub text_is : text ≡ report program o
+
+-- the report of a run over what the far side answered
+pub record Began (program : Program) (plan : Plan) (script : Bound) (ticks : ℕ) (es : List Exchange) (s : Status) (text : List ℕ) : Type 0 where
+  pub outcome : Outcome
+  pub run_is : IsRun (driver_of program plan) script ticks es outcome
+  pub reported : Reported program outcome s text
+
+-- the far side holds the texts of the user half and of the plan with its answer to them, and what is due is the report
+pub data Ran (program : Program) (plan : Plan) (texts : Texts) (script : Bound) (ticks : ℕ) (loaded : Option Loaded) (es : List Exchange) (s : Status) (text : List ℕ) : Type 0 where
+  began : loaded ≡ Some (loaded_with texts.user texts.plan loads.Ok) → Began program plan script ticks es s text → Ran program plan texts script ticks loaded es s text
+  refused : (cause : ℕ) → loaded ≡ Some (loaded_with texts.user texts.plan (loads.Refused cause)) → Reported program (nothing_ran program script ticks (ends.Refused 0 refusal.Load 0)) s text → Ran program plan texts script ticks loaded es s text
+  failed : loaded ≡ Some (loaded_with texts.user texts.plan loads.Failed) → Reported program (nothing_ran program script ticks (ends.FarFault 0)) s text → Ran program plan texts script ticks loaded es s text

@@ -1,0 +1,13 @@
+//! The command that cuts a source in two halves and runs a script over them: the kernel half here, the user half in the far
+//! side. And that over an honest far side its report is that of the run on one memory whose user half is held to its
+//! annotations.
+#![tactic(auto)]
+
+mod cutting;
+mod laws;
+mod loading;
+mod reporting;
+mod running;
+
+pub use laws::{split_runs_end, split_runs_mean};
+pub use running::split_over;

@@ -1,0 +1,77 @@
+// A run over a far side, which is loaded first.
+
+ghost use Rattle.std.specs.Prelude.{◌≡◌, ◌++◌, [], IfOk, OnErr};
+ghost use Rattle.mdr_core.specs.Sound.{IsSound};
+ghost use Rattle.mdr_due.specs.declared.status.Status.TheVariants as status;
+ghost use Rattle.mdr_due.specs.Statuses.{Counts, HasReadCause};
+ghost use Rattle.mdr_exchanges.specs.Calls.{sends};
+ghost use Rattle.mdr_exchanges.specs.Runs.{sent_of};
+ghost use Rattle.mdr_outside.specs.Count.{Rose};
+ghost use Rattle.mdr_outside.specs.Far.{IsLoaded};
+ghost use Rattle.mdr_split_runner.specs.Loads.{LoadedOnce, LoadedPart, SentPart};
+ghost use Rattle.mdr_split_runner.specs.Reports.{Began, Ran};
+
+use crate::cutting::Cut;
+use crate::reporting::{reported, unstarted};
+use mdr_core::{OutOfMemory, Plan, Program, RefuseKind};
+use mdr_due::Due;
+use mdr_model::End;
+use mdr_near::KernelHalf;
+use mdr_outside::{Far, LoadAnswer};
+use mdr_script::Bound;
+use std::alloc::Global;
+
+/// Runs a script under a budget over a far side that was loaded and got no message since, and makes the report.
+fn began<F: Far>(
+    alloc: Global,
+    program: &Program,
+    plan: &Plan,
+    script: &Bound,
+    ticks: u64,
+    far: &mut F,
+) -> Result<Due, OutOfMemory>
+    requires sound { IsSound program.now }
+    requires loaded { IsLoaded (F.loaded far.old) }
+    requires fresh { F.exchanges far.old ≡ [] }
+    ensures began { IfOk result (λ due. Began program.now plan.now script.now ticks (F.exchanges far.new) due.status due.text.items) }
+    ensures called { IfOk result (λ _. F.calls far.new ≡ F.calls far.old ++ sends (sent_of (F.exchanges far.new))) }
+    ensures part { OnErr result (SentPart program.now plan.now script.now ticks (F.calls far.old) (F.calls far.new) (F.exchanges far.new)) }
+    ensures loaded { IfOk result (λ _. F.loaded far.new ≡ F.loaded far.old) }
+    ensures failed { IfOk result (λ due. due.status ≡ status.FarFault → Rose (F.faults far.old) (F.faults far.new)) }
+    ensures read { IfOk result (λ due. (before after : Counts) → HasReadCause before after due.status) }
+{
+    let mut half = KernelHalf::new(alloc, program, plan)?;
+    let outcome = half.run(alloc, script, ticks, far)?;
+    let due = reported(alloc, program, &outcome)?;
+    Ok(due)
+}
+
+/// Loads the texts of the user half and of the plan into the far side, runs a script over it under a budget, and makes the
+/// report. Texts that weren't taken are told as the end of a run that began nothing.
+pub(crate) fn ran<F: Far>(
+    alloc: Global,
+    program: &Program,
+    cut: &Cut,
+    script: &Bound,
+    ticks: u64,
+    far: &mut F,
+) -> Result<Due, OutOfMemory>
+    requires { IsSound program.now }
+    ensures ran { IfOk result (λ due. Ran program.now cut.now.plan cut.now.texts script.now ticks (F.loaded far.new) (F.exchanges far.new) due.status due.text.items) }
+    ensures called { IfOk result (λ _. LoadedOnce cut.now.texts (F.calls far.old) (F.calls far.new) (sent_of (F.exchanges far.new))) }
+    ensures part { OnErr result (LoadedPart program.now cut.now.plan cut.now.texts script.now ticks (F.calls far.old) (F.calls far.new) (F.exchanges far.new)) }
+    ensures failed { IfOk result (λ due. due.status ≡ status.FarFault → Rose (F.faults far.old) (F.faults far.new)) }
+    ensures read { IfOk result (λ due. (before after : Counts) → HasReadCause before after due.status) }
+{
+    let user = cut.texts.user.as_slice();
+    let lines = cut.texts.plan.as_slice();
+    match far.load(alloc, user, lines) {
+        LoadAnswer::Ok => began(alloc, program, &cut.plan, script, ticks, far),
+        LoadAnswer::Refused(_) => {
+            let end = End::Refused(0, RefuseKind::Load, 0);
+            unstarted(alloc, program, script, ticks, end)
+        }
+        LoadAnswer::Failed => unstarted(alloc, program, script, ticks, End::FarFault(0)),
+        LoadAnswer::OutOfMemory => Err(OutOfMemory),
+    }
+}

@@ -1,0 +1,33 @@
+-- The statuses that a run over two halves ends with.
+use Rattle.mdr_due.specs.declared.status.Status.{Status}
+use Rattle.mdr_due.specs.declared.status.Status.TheVariants as status
+
+-- once its source and its script are accepted
+abbrev pub IsOfRun : Status → Type 0
+IsOfRun status.Done = Unit {0}
+IsOfRun status.Usage = ⊥
+IsOfRun status.SourceRefused = ⊥
+IsOfRun status.ScriptRefused = ⊥
+IsOfRun status.ReadFault = ⊥
+IsOfRun status.WriteFault = ⊥
+IsOfRun status.FarFault = Unit {0}
+IsOfRun status.Marshal = Unit {0}
+IsOfRun status.Stopped = Unit {0}
+IsOfRun status.OutOfMemory = ⊥
+IsOfRun status.Missing = ⊥
+IsOfRun status.TooLarge = ⊥
+
+-- the reads of both among them
+abbrev pub IsOfSplit : Status → Type 0
+IsOfSplit status.Done = Unit {0}
+IsOfSplit status.Usage = ⊥
+IsOfSplit status.SourceRefused = Unit {0}
+IsOfSplit status.ScriptRefused = Unit {0}
+IsOfSplit status.ReadFault = Unit {0}
+IsOfSplit status.WriteFault = ⊥
+IsOfSplit status.FarFault = Unit {0}
+IsOfSplit status.Marshal = Unit {0}
+IsOfSplit status.Stopped = Unit {0}
+IsOfSplit status.OutOfMemory = ⊥
+IsOfSplit status.Missing = Unit {0}
+IsOfSplit status.TooLarge = Unit {0}
