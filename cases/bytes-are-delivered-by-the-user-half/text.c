@@ -1,0 +1,1 @@
+u32 n; u8 *text __array(n); void make(u32 k){u32 i; text=kcalloc(k,u8); i=0; while(i<k){text[i]=65+i; i=i+1;} n=k; deliver(text,k); printk("%u bytes\n",n);} void send(void){deliver(text,n); kfree(text); text=NULL; n=0;}

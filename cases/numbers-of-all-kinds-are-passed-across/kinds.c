@@ -1,0 +1,1 @@
+u8 a; u16 b; u32 c; u64 d; s8 e; s16 f; s32 g; s64 h; __critical s64 down(u8 p, u16 q, u32 r, u64 s, s8 t, s16 u, s32 v, s64 w){a=p; b=q; c=r; d=s; e=t; f=u; g=v; h=w; return w;} s64 up(u64 x, s64 y){s64 z; z=down(x,x,x,x,y>>56,y>>48,y>>32,y); a=a-1; b=b-1; c=c-1; d=d-1; e=e+1; f=f+1; g=g+1; h=h+1; return z;}
