@@ -1,6 +1,6 @@
 -- A walk past cells: what was passed, and what is still to come.
 use Rattle.std.proofs.Common.{◌≡◌, ℕ, zero, suc, ◌+◌, ◌-◌, ◌<◌, ◌≤◌, true, false, List, [], ◌∷◌, ◌++◌, length, replicate, drop, get_or, slice_get, Option, Some, None, refl, sym, ◌∙◌, ap, subst, append_assoc, arith}
-use Rattle.std.specs.Prelude.{not, is_some, MatchOption}
+use Rattle.std.specs.Prelude.{is_some, MatchOption}
 use Rattle.std.specs.Option.{option_map}
 use Rattle.std.proofs.lemmas.List.{length-append, append-nil}
 use Rattle.mdr_core.specs.declared.types.Ty.{Ty, out-Ty}
@@ -13,9 +13,7 @@ use Rattle.mdr_core.specs.declared.program.Program.{Program}
 use Rattle.mdr_model.specs.declared.message.New.{New}
 use Rattle.mdr_meaning.specs.declared.wire.Wire.{Wire}
 use Rattle.mdr_meaning.specs.Values.{wire_of}
-use Rattle.mdr_model.specs.Values.{fits_type}
-use Rattle.mdr_model.specs.Memory.{leaves_of, leaf_at, fits_leaf, is_lock_type, zero_of}
-use Rattle.mdr_model.specs.Sets.{is_open_leaf}
+use Rattle.mdr_model.specs.Memory.{leaves_of, leaf_at, zero_of}
 use Rattle.mdr_copy.specs.CellTypes.{type_of, types_of, is_void, is_void_by}
 
 -- some of the cells were passed, the rest is still to come
@@ -23,9 +21,6 @@ pub record Walked (whole rest : List Ty) (start left : ℕ) : Type 0 where
   pub before : List Ty
   pub split : before ++ rest ≡ whole
   pub passed : length before + left ≡ start
-
-pub begin : (whole : List Ty) (start : ℕ) → Walked whole whole start start
-begin whole start = record { before = []; split = refl; passed = omega arith }
 
 pub onward : (whole xs ys : List Ty) (start left next : ℕ) → Walked whole (xs ++ ys) start left → length xs + next ≡ left → Walked whole ys start next
 onward whole xs ys start left next w e =
@@ -218,30 +213,13 @@ other_way (Some r) A A' B B' f g h = g r h
 
 -- ---- what is asked of a cell by its type
 
-pub fits_typed : (o : Option Leaf) (t : Ty) (v : Wire) → option_map type_of o ≡ Some t → fits_type t v ≡ fits_leaf o v
-fits_typed None t v e = absurd (Prim.cc)
-fits_typed (Some leaf) t v e = let same : leaf.type ≡ t = Prim.cc in ap (λ (x : Ty). fits_type x v) (sym same)
-
-pub open_typed : (o : Option Leaf) (t : Ty) → option_map type_of o ≡ Some t → not (is_lock_type t) ≡ is_open_leaf o
-open_typed None t e = absurd (Prim.cc)
-open_typed (Some leaf) t e = let same : leaf.type ≡ t = Prim.cc in ap (λ (x : Ty). not (is_lock_type x)) (sym same)
-
 pub zero_typed : (o : Option Leaf) (t : Ty) → option_map type_of o ≡ Some t → Some (wire_of (zero_value t)) ≡ option_map zero_of o
 zero_typed None t e = absurd (Prim.cc)
 zero_typed (Some leaf) t e = let same : leaf.type ≡ t = Prim.cc in ap (λ (x : Ty). Some (wire_of (zero_value x))) (sym same)
 
-pub fits_none : (o : Option Leaf) (v : Wire) → o ≡ None → false ≡ fits_leaf o v
-fits_none None v e = refl
-fits_none (Some leaf) v e = absurd (Prim.cc)
-
 pub zero_none : (o : Option Leaf) → o ≡ None → None ≡ option_map zero_of o
 zero_none None e = refl
 zero_none (Some leaf) e = absurd (Prim.cc)
-
-pub there_typed : {R : Type 0} (found : Option R) (o : Option Leaf) (type : R → Ty) → MatchOption found (o ≡ None) (λ (r : R). option_map type_of o ≡ Some (type r)) → is_some found ≡ is_some o
-there_typed None o type e = sym (ap (λ (x : Option Leaf). is_some x) e)
-there_typed (Some r) None type e = absurd (Prim.cc)
-there_typed (Some r) (Some leaf) type e = refl
 
 -- ---- a list that is made from its places
 

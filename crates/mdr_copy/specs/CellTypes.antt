@@ -1,12 +1,8 @@
 -- The types of cells.
-use Rattle.std.specs.Prelude.{ℕ, suc, Bool, true, false, ◌&&◌, List, [], ◌∷◌, map, Option}
+use Rattle.std.specs.Prelude.{Bool, true, false, List, map}
 use Rattle.mdr_core.specs.declared.types.Ty.{Ty, out-Ty}
 use Rattle.mdr_core.specs.declared.types.Ty.TheOpen.{Ty-F}
-use Rattle.mdr_core.specs.declared.program.Program.{Program}
 use Rattle.mdr_core.specs.Layout.{Leaf}
-use Rattle.mdr_meaning.specs.declared.wire.Wire.{Wire}
-use Rattle.mdr_model.specs.declared.message.New.{New}
-use Rattle.mdr_model.specs.Faults.{fits_block}
 
 abbrev pub type_of : Leaf → Ty
 type_of leaf = leaf.type
@@ -26,8 +22,3 @@ is_void_by Ty-F.Void = true
 -- the type has no values
 abbrev pub is_void : Ty → Bool
 is_void ty = is_void_by (out-Ty ty)
-
--- values fit the cells of a block from an index on
-abbrev pub all_fit : Program → Option New → ℕ → List Wire → Bool
-all_fit program block index [] = true
-all_fit program block index (v ∷ vs) = fits_block program block index v && all_fit program block (suc index) vs

@@ -1,15 +1,13 @@
 // Which cells a block has: the type of each, found by a walk over its elements.
 
-ghost use Rattle.std.specs.Prelude.{◌≡◌, ◌+◌, ℕ, List, length, nat_lt, slice_get, replicate, MatchOption, IfSome, Some, None};
+ghost use Rattle.std.specs.Prelude.{◌≡◌, ◌+◌, ℕ, List, length, nat_lt, slice_get, replicate, MatchOption, Some, None};
 ghost use Rattle.std.specs.Option.{option_map};
 ghost use Rattle.mdr_core.specs.Layout.{Leaf, Alone, repeated, leaves, leaves_below, struct_cells, struct_of, fields_of, zero_value};
 ghost use Rattle.mdr_meaning.specs.Values.{wire_of};
-ghost use Rattle.mdr_model.specs.Memory.{size_of, leaf_at, fits_at, is_lock_type};
-ghost use Rattle.mdr_model.specs.Sets.{is_open_leaf};
+ghost use Rattle.mdr_model.specs.Memory.{size_of, leaf_at};
 ghost use Rattle.mdr_model.specs.Agreement.{cell_zero};
 ghost use Rattle.mdr_copy.specs.CellTypes.{is_void, type_of, types_of};
 
-use crate::values::fits_type;
 use mdr_core::{Field, LockState, Program, StructDef, Ty};
 use mdr_model::{New, Wire};
 
@@ -169,36 +167,6 @@ pub(crate) fn has_cell(program: &Program, block: New, index: u64) -> bool
     cell_type(program, block, index).is_some()
 }
 
-/// How many cells a block has. It fails where they are more than the last index that a cell can have.
-pub(crate) fn size(program: &Program, block: New) -> Option<u32>
-    ensures { IfSome result (λ n. n ≡ size_of program.now block) }
-{
-    let mut counted: u32 = 0;
-    while has_cell(program, block, counted as u64) {
-        counted = counted.checked_add(1)?;
-    }
-    Some(counted)
-}
-
-fn is_lock(ty: &Ty) -> bool
-    ensures { result ≡ is_lock_type ty.now }
-{
-    match ty {
-        Ty::Lock => true,
-        Ty::Void | Ty::Struct(_) | Ty::Int(_) | Ty::Ptr(_) | Ty::VoidPtr | Ty::Fun(_) => false,
-    }
-}
-
-/// Whether a block has a cell at an index, and that is no lock.
-pub(crate) fn is_open(program: &Program, block: New, index: u64) -> bool
-    ensures { result ≡ is_open_leaf (leaf_at program.now block index) }
-{
-    match cell_type(program, block, index) {
-        Some(ty) => !is_lock(ty),
-        None => false,
-    }
-}
-
 fn zero(ty: &Ty) -> Wire
     ensures { result ≡ wire_of (zero_value ty.now) }
 {
@@ -216,15 +184,5 @@ pub(crate) fn cell_zero(program: &Program, block: New, index: u64) -> Option<Wir
     match cell_type(program, block, index) {
         Some(ty) => Some(zero(ty)),
         None => None,
-    }
-}
-
-/// Whether a block has a cell at an index, and a value fits it.
-pub fn fits_at(program: &Program, block: New, index: u64, value: Wire) -> bool
-    ensures { result ≡ fits_at program.now block index value }
-{
-    match cell_type(program, block, index) {
-        Some(ty) => fits_type(ty, value),
-        None => false,
     }
 }

@@ -1,17 +1,14 @@
-// Which births, deaths and visible cells of a message fit.
+// Which births and deaths of a message fit.
 
 ghost use Rattle.std.specs.Prelude.{◌≡◌, None, map};
 ghost use Rattle.std.specs.List.{list_all};
-ghost use Rattle.mdr_model.specs.User.{rise_after, may_die, deaths_fit, has_type, has_shape, may_come, news_fit, is_keyed_in, may_see, may_show, view_fits};
-ghost use Rattle.mdr_model.specs.Sets.{cells_of_run};
+ghost use Rattle.mdr_model.specs.User.{rise_after, may_die, deaths_fit, has_type, has_shape, may_come, news_fit};
 ghost use Rattle.mdr_copy.specs.Serials.{is_after};
 
 use crate::cell_types::has_cell;
-use crate::extents::rise;
-use crate::sets::is_keyed;
-use crate::store::{born_at, is_live};
+use crate::store::is_live;
 use mdr_core::Program;
-use mdr_model::{MemoryBlock, New, SetRun};
+use mdr_model::{MemoryBlock, New};
 
 fn is_after(before: Option<u64>, serial: u64) -> bool
     ensures { result ≡ is_after before serial }
@@ -98,47 +95,4 @@ pub fn news_fit(program: &Program, copy: &[MemoryBlock], news: &[New]) -> bool
     ensures { result ≡ news_fit program.now copy.now news.now }
 {
     births_rise(news) && all_may_come(program, copy, news)
-}
-
-fn is_keyed_in(program: &Program, block: Option<New>, index: u64) -> bool
-    ensures { result ≡ is_keyed_in program.now block index }
-{
-    match block {
-        Some(block) => is_keyed(program, block, index),
-        None => false,
-    }
-}
-
-/// Whether user code may touch each cell of a run.
-fn all_seen(program: &Program, copy: &[MemoryBlock], run: SetRun) -> bool
-    ensures { result ≡ list_all (may_see program.now copy.now) (cells_of_run run) }
-{
-    let block = born_at(copy, run.serial);
-    for i in 0..run.len {
-        if !is_keyed_in(program, block, run.first as u64 + i as u64) {
-            return false;
-        }
-    }
-    true
-}
-
-fn may_show(program: &Program, copy: &[MemoryBlock], run: SetRun) -> bool
-    ensures { result ≡ may_show program.now copy.now run }
-{
-    0 < run.len && all_seen(program, copy, run)
-}
-
-fn all_may_show(program: &Program, copy: &[MemoryBlock], view: &[SetRun]) -> bool
-    ensures { result ≡ list_all (may_show program.now copy.now) view.now }
-{
-    view.iter().all(|run| may_show(program, copy, *run))
-}
-
-/// Whether the visible cells of a message fit: the runs rise without overlap, and each has cells of a known
-/// block that user code may touch, and no other.
-#[tactic(auto, unfolding(mdr_model::specs::User::view_fits))]
-pub fn view_fits(program: &Program, copy: &[MemoryBlock], view: &[SetRun]) -> bool
-    ensures { result ≡ view_fits program.now copy.now view.now }
-{
-    rise(view) && all_may_show(program, copy, view)
 }

@@ -2,10 +2,10 @@
 
 ghost use Rattle.std.specs.Prelude.{◌≡◌, None, option_map};
 ghost use Rattle.mdr_copy.specs.Extents.{set_run};
-ghost use Rattle.mdr_model.specs.Sets.{follows, follows_maybe, rises_after};
+ghost use Rattle.mdr_model.specs.Sets.{follows, follows_maybe};
 ghost use Rattle.mdr_model.specs.Faults.{set_run_of};
 
-use mdr_model::{Run, SetRun};
+use mdr_model::Run;
 
 /// Where the cells of a run lie.
 #[derive(Clone, Copy)]
@@ -43,29 +43,4 @@ pub fn follows_maybe(before: Option<Extent>, run: Extent) -> bool
         Some(before) => follows(before, run),
         None => true,
     }
-}
-
-fn extent_of_cells(run: SetRun) -> Extent
-    ensures { set_run result ≡ run }
-{
-    Extent {
-        serial: run.serial,
-        first: run.first,
-        len: run.len as usize,
-    }
-}
-
-/// Whether each run of cells follows the one before it.
-pub(crate) fn rise(runs: &[SetRun]) -> bool
-    ensures { result ≡ rises_after None runs.now }
-{
-    let mut before = None;
-    for run in runs {
-        let extent = extent_of_cells(*run);
-        if !follows_maybe(before, extent) {
-            return false;
-        }
-        before = Some(extent);
-    }
-    true
 }

@@ -7,9 +7,8 @@ ghost use Rattle.mdr_copy.specs.InPlaces.{place_for};
 ghost use Rattle.mdr_model.specs.Copies.{inserted, without, with_news};
 
 use crate::cell_types::cell_zero;
-use crate::store::put_runs;
 use mdr_core::{Items, OutOfMemory, Program};
-use mdr_model::{MemoryBlock, New, Run, Wire};
+use mdr_model::{MemoryBlock, New, Wire};
 use std::alloc::Global;
 
 /// Whether a value is a pointer into the block with a serial.

@@ -2,21 +2,10 @@
 
 ghost use Rattle.std.specs.Prelude.{◌≡◌};
 ghost use Rattle.mdr_meaning.specs.Values.{wire_view, wire_of};
-ghost use Rattle.mdr_model.specs.Values.{type_number, lock_number, is_same_view, is_same, fits_type, fits_result, is_view_of};
+ghost use Rattle.mdr_model.specs.Values.{lock_number, is_same_view, is_same};
 
-use mdr_core::{LockState, Ty, Value, View};
-use mdr_model::{New, Wire, WireView};
-
-/// The number of a type in the table. Of the others than integers and the lock none is built, and none is in it.
-pub fn type_number(ty: &Ty) -> u32
-    ensures { result ≡ type_number ty.now }
-{
-    match ty {
-        Ty::Int(kind) => kind.number(),
-        Ty::Lock => 8,
-        Ty::Struct(_) | Ty::Ptr(_) | Ty::VoidPtr | Ty::Fun(_) | Ty::Void => 9,
-    }
-}
+use mdr_core::{LockState, Value, View};
+use mdr_model::{Wire, WireView};
 
 fn wire_view(view: View) -> WireView
     ensures { result ≡ wire_view view }
@@ -81,34 +70,4 @@ pub fn is_same(one: Wire, other: Wire) -> bool
         (Wire::NoValue, Wire::NoValue) => true,
         _ => false,
     }
-}
-
-/// Whether a value fits a cell, or a parameter, of a type.
-pub fn fits_type(ty: &Ty, value: Wire) -> bool
-    ensures { result ≡ fits_type ty.now value }
-{
-    match (ty, value) {
-        (Ty::Int(kind), Wire::Int(own, n)) => kind.number() == own.number() && kind.contains(n),
-        (Ty::Lock, Wire::Lock(_)) => true,
-        _ => false,
-    }
-}
-
-/// Whether a value fits a result. No value fits each.
-#[tactic(auto, unfolding(mdr_model::specs::Values::fits_result))]
-pub fn fits_result(ty: &Ty, value: Wire) -> bool
-    ensures { result ≡ fits_result ty.now value }
-{
-    match value {
-        Wire::NoValue => true,
-        _ => fits_type(ty, value),
-    }
-}
-
-/// Whether a pointer's view is one of a block as it was born.
-#[tactic(auto, unfolding(mdr_model::specs::Values::is_view_of))]
-pub fn is_view_of(block: New, view: WireView) -> bool
-    ensures { result ≡ is_view_of block view }
-{
-    view.first == 0 && view.ty == block.ty && view.count == block.count && view.index <= view.count
 }

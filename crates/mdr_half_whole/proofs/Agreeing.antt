@@ -9,7 +9,7 @@ use Rattle.mdr_headings.specs.declared.head.Heading.{Heading}
 use Rattle.mdr_headings.specs.Functions.{are_same_params, is_same_ann, is_same_heading, is_same_param}
 use Rattle.mdr_program.specs.Parts.{flagged, marked, remote, whole}
 use Rattle.mdr_sound_code.proofs.Alike.{left_of, right_of}
-use Rattle.mdr_sound_files.proofs.Functions.{same_headings}
+use Rattle.mdr_sound.proofs.Functions.{same_headings}
 use Rattle.mdr_half_whole.specs.Headings.{unnamed}
 
 -- ---- a function with this heading

@@ -19,8 +19,8 @@ use Rattle.mdr_half_pieces.specs.Bodies.{HaveBodies}
 use Rattle.mdr_half_pieces.proofs.Putting.{declared_keep, defined_put, keep_named, put_named}
 use Rattle.mdr_file_names.proofs.WholeFiles.{functions_once}
 use Rattle.mdr_sound_code.proofs.Rights.{both_right, same_right}
-use Rattle.mdr_sound_files.proofs.Extending.{pieces_parted}
-use Rattle.mdr_sound_files.proofs.Filed.{pieces_right}
+use Rattle.mdr_sound.proofs.Extending.{pieces_parted}
+use Rattle.mdr_sound.proofs.Filed.{pieces_right}
 use Rattle.mdr_half_whole.specs.Defined.{DefinedFunctionsHaveBodies}
 
 -- one of these has the name and a body

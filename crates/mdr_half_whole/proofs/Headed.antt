@@ -19,13 +19,13 @@ use Rattle.mdr_check.specs.Uses.{UseRule}
 use Rattle.mdr_check.specs.Whole.{file_pieces}
 use Rattle.mdr_program.specs.declared.parts.Parts.{Parts}
 use Rattle.mdr_program.specs.Parts.{behind_piece, parts_of, remote, whole}
-use Rattle.mdr_sound_files.specs.Counting.{Counts}
-use Rattle.mdr_sound_files.proofs.Along.{GoesOn, along}
-use Rattle.mdr_sound_files.proofs.CountedItems.{Ruled, new_declared, ruled}
-use Rattle.mdr_sound_files.proofs.Declaring.{declared_at, declared_keep, defined_put, keep_named, put_named}
-use Rattle.mdr_sound_files.proofs.Filed.{pieces_right}
-use Rattle.mdr_sound_files.proofs.Named.{bytes_same, found_at}
-use Rattle.mdr_sound_files.proofs.Viewed.{Comes, OfDefine, OfEnum, OfFunction, OfGlobal, OfPrototype, OfStruct, comes_to}
+use Rattle.mdr_sound.specs.Counting.{Counts}
+use Rattle.mdr_sound.proofs.Along.{GoesOn, along}
+use Rattle.mdr_sound.proofs.CountedItems.{Ruled, new_declared, ruled}
+use Rattle.mdr_sound.proofs.Declaring.{declared_at, declared_keep, defined_put, keep_named, put_named}
+use Rattle.mdr_sound.proofs.Filed.{pieces_right}
+use Rattle.mdr_sound.proofs.Named.{bytes_same, found_at}
+use Rattle.mdr_sound.proofs.Viewed.{Comes, OfDefine, OfEnum, OfFunction, OfGlobal, OfPrototype, OfStruct, comes_to}
 use Rattle.mdr_half_whole.proofs.Agreeing.{IsHeaded, earlier_headed, remote_headed, whole_headed}
 
 -- ---- what is found in a list that grows

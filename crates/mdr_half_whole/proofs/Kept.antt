@@ -40,9 +40,9 @@ use Rattle.mdr_half_pieces.proofs.Known.{first_there, known_there}
 use Rattle.mdr_half_pieces.proofs.Pieced.{halves_lead}
 use Rattle.mdr_placeless.proofs.Programs.{halves_alike, right_same}
 use Rattle.mdr_sound_code.proofs.Rights.{after_right, demand_right, same_ok, same_right}
-use Rattle.mdr_sound_files.specs.Counting.{AreDeclaredAs}
-use Rattle.mdr_sound_files.proofs.Along.{counted_all}
-use Rattle.mdr_sound_files.proofs.Filed.{pieces_right}
+use Rattle.mdr_sound.specs.Counting.{AreDeclaredAs}
+use Rattle.mdr_sound.proofs.Along.{counted_all}
+use Rattle.mdr_sound.proofs.Filed.{pieces_right}
 use Rattle.mdr_texts.proofs.HalvesAgain.{half_again}
 use Rattle.mdr_half_whole.proofs.Sourced.{sources_have}
 use Rattle.mdr_half_whole.specs.Headings.{FunctionsKeepTheirHeadings, HasSameHeading, HaveSameHeadings, TheUserTextKeepsTheHeadings, unnamed}

@@ -20,9 +20,9 @@ use Rattle.mdr_half_pieces.specs.Pieces.{piece_in}
 use Rattle.mdr_half_pieces.proofs.Bodied.{no_use_asked}
 use Rattle.mdr_half_pieces.proofs.Known.{first_there, known_there}
 use Rattle.mdr_half_pieces.proofs.Pieced.{halves_lead}
-use Rattle.mdr_sound_files.specs.Counting.{AreDeclaredAs, IsDeclaredAs, heading_type}
-use Rattle.mdr_sound_files.proofs.Along.{counted_all}
-use Rattle.mdr_sound_files.proofs.Filed.{pieces_right}
+use Rattle.mdr_sound.specs.Counting.{AreDeclaredAs, IsDeclaredAs, heading_type}
+use Rattle.mdr_sound.proofs.Along.{counted_all}
+use Rattle.mdr_sound.proofs.Filed.{pieces_right}
 use Rattle.mdr_half_whole.specs.SameTypes.{FunctionsKeepTheirTypes, HaveSameTypes}
 
 same_ok : (a b : Heading) → ◌≡◌ {A = Result Heading Fault} (Ok a) (Ok b) → a ≡ b

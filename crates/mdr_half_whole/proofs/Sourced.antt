@@ -35,10 +35,10 @@ use Rattle.mdr_file_names.specs.FileNames.{HaveNames, func_name, struct_name}
 use Rattle.mdr_file_names.proofs.WholeFiles.{names_are_of_items}
 use Rattle.mdr_sound_code.proofs.Alike.{left_of, right_of}
 use Rattle.mdr_sound_code.proofs.Rights.{both_right, demand_right}
-use Rattle.mdr_sound_files.specs.Counting.{AreDeclaredAs}
-use Rattle.mdr_sound_files.proofs.Along.{counted_all}
-use Rattle.mdr_sound_sources.specs.Sources.{AreProperItems}
-use Rattle.mdr_sound_sources.proofs.Itemising.{bytes_proper}
+use Rattle.mdr_sound.specs.Counting.{AreDeclaredAs}
+use Rattle.mdr_sound.proofs.Along.{counted_all}
+use Rattle.mdr_sound.specs.ProperSources.{AreProperItems}
+use Rattle.mdr_sound.proofs.Itemising.{bytes_proper}
 use Rattle.mdr_half_whole.specs.Sourced.{SourcesHaveBodies}
 use Rattle.mdr_half_whole.proofs.Defined.{defined_have}
 use Rattle.mdr_half_whole.proofs.UsedFiles.{IsDeclared, undefined_unused}

@@ -36,11 +36,11 @@ use Rattle.mdr_file_names.specs.FileNames.{HaveWords, struct_name}
 use Rattle.mdr_file_names.proofs.WholeFiles.{structs_are_named}
 use Rattle.mdr_sound_code.specs.Knowing.{IsFormed}
 use Rattle.mdr_sound_code.proofs.Alike.{alike_itself}
-use Rattle.mdr_sound_files.specs.Whole.{HasAll}
-use Rattle.mdr_sound_files.proofs.Filed.{types_of_files}
-use Rattle.mdr_sound_sources.specs.Sources.{AreProperItems, IsProperItem}
-use Rattle.mdr_sound_sources.proofs.Itemising.{bytes_proper}
-use Rattle.mdr_sound_typing.proofs.Allocating.{profile_formed}
+use Rattle.mdr_sound.specs.Whole.{HasAll}
+use Rattle.mdr_sound.proofs.Filed.{types_of_files}
+use Rattle.mdr_sound.specs.ProperSources.{AreProperItems, IsProperItem}
+use Rattle.mdr_sound.proofs.Itemising.{bytes_proper}
+use Rattle.mdr_sound.proofs.Allocating.{profile_formed}
 use Rattle.mdr_sound.proofs.Sourced.{ranges_of}
 use Rattle.mdr_half_whole.specs.HalfTypes.{PlansHaveTheTypes}
 use Rattle.mdr_half_whole.proofs.Sourced.{sources_have}

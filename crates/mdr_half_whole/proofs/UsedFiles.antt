@@ -33,8 +33,8 @@ use Rattle.mdr_check.specs.Files.{behind_head, behind_item, body_scope, define_p
 use Rattle.mdr_check.specs.Globals.{behind_global, global}
 use Rattle.mdr_check.specs.Uses.{is_used, uses_by}
 use Rattle.mdr_sound_code.proofs.Rights.{after_right, both_right, demand_right, same_right}
-use Rattle.mdr_sound_files.proofs.Extending.{pieces_parted}
-use Rattle.mdr_sound_sources.specs.Sources.{AreProperItems, IsProperItem}
+use Rattle.mdr_sound.proofs.Extending.{pieces_parted}
+use Rattle.mdr_sound.specs.ProperSources.{AreProperItems, IsProperItem}
 use Rattle.mdr_half_whole.specs.Usable.{GivesNothing, IsUseless}
 use Rattle.mdr_half_whole.proofs.UsedForms.{clash, neither}
 use Rattle.mdr_half_whole.proofs.UsedInits.{global_free}

@@ -20,7 +20,7 @@ use Rattle.mdr_check_half.specs.Planned.{IsPlanned}
 use Rattle.mdr_check_half.proofs.Accepted.{plans_suit}
 use Rattle.mdr_sound_bodies.specs.Grounded as grounded
 use Rattle.mdr_sound_code.proofs.Rights.{same_right}
-use Rattle.mdr_sound_files.specs.Whole.{CallsNothingBack}
+use Rattle.mdr_sound.specs.Whole.{CallsNothingBack}
 use Rattle.mdr_sound_half.proofs.HalfSounding.{halves_sound}
 use Rattle.mdr_sound_half.proofs.PlansRead.{plans_planned}
 use Rattle.mdr_honest.specs.Honest.{AreRefused, ComesTo}

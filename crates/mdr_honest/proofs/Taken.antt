@@ -37,10 +37,10 @@ use Rattle.mdr_cut.specs.Cuts.{IsPlanOf}
 use Rattle.mdr_plan.specs.Texts.{IsPlanText}
 use Rattle.mdr_sound.proofs.Sourced.{ranges_of, sources_sound}
 use Rattle.mdr_sound_code.proofs.Rights.{after_right, same_right}
-use Rattle.mdr_sound_files.proofs.Filed.{types_of_files}
-use Rattle.mdr_sound_files.proofs.Sorts.{not_wrong}
-use Rattle.mdr_sound_sources.proofs.Itemising.{bytes_proper}
-use Rattle.mdr_sound_typing.proofs.Allocating.{profile_formed}
+use Rattle.mdr_sound.proofs.Filed.{types_of_files}
+use Rattle.mdr_sound.proofs.Sorts.{not_wrong}
+use Rattle.mdr_sound.proofs.Itemising.{bytes_proper}
+use Rattle.mdr_sound.proofs.Allocating.{profile_formed}
 use Rattle.mdr_source_plans.proofs.Sources.{plans_of_sources_are_read}
 use Rattle.mdr_split.specs.Law.{HaveBodies, IsPlanOf as IsItsPlan}
 use Rattle.mdr_texts.proofs.HalvesAgain.{half_again}

@@ -10,7 +10,7 @@ use Rattle.mdr_plain.specs.Report.{report}
 use Rattle.mdr_reports.specs.Laws.{IsSliced}
 use Rattle.mdr_script.specs.declared.bound.Bound.{Bound}
 use Rattle.mdr_sound.specs.Sources.{IsProgramOf}
-use Rattle.mdr_sound_files.specs.Whole.{CallsNothingBack}
+use Rattle.mdr_sound.specs.Whole.{CallsNothingBack}
 use Rattle.mdr_watched.specs.Kept.{Kept}
 use Rattle.mdr_watched.specs.Watched.{watched}
 

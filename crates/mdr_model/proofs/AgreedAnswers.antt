@@ -1,5 +1,5 @@
 -- The answer to a service, which tells no cells: what may have changed meanwhile.
-use Rattle.std.proofs.Common.{◌≡◌, ℕ, ◌≤◌, Bool, true, false, cond, ◌⊎◌, inl, inr, List, [], Option, Some, None, refl, sym, ◌∙◌, ap, arith}
+use Rattle.std.proofs.Common.{◌≡◌, ℕ, ◌≤◌, Bool, true, false, cond, ◌⊎◌, inl, inr, List, [], Option, Some, None, refl, ◌∙◌, arith}
 use Rattle.std.specs.Prelude.{option_map}
 use Rattle.std.proofs.lemmas.Bool.{eq-eqb}
 use Rattle.mdr_core.specs.declared.program.Program.{Program}
@@ -79,23 +79,3 @@ answered {known} {next} {next'} {view} {copy} {m} {w} {u} program view' results 
         → cell_at (after program [] results u w') c ≡ cell_at w' c
     same c a live (inl h) = grind (arith, cell_at-kept program results u w' c a, r.placed c h.0, r.user_born c.serial, r.user_cells c, h.0, h.1)
     same c a live (inr h) = grind (arith, cell_at-fresh program results u w' c a, h.0, h.1, h.2, a.knows c.serial, r.agree.told c.serial)
-
--- each value of a memory is as it is kept
-normal_held : (m : Memory) (o : Option Wire) → ((s : ℕ) → names_it s o ≡ true → is_live m s ≡ true) → option_map (normal m) o ≡ o
-unfolding normal names_it
-normal_held m None h = refl
-normal_held m (Some (wire.Ptr p)) h = ap (λ (b : Bool). Some (normal_if b p)) (h p.serial (eq-eqb p.serial p.serial refl))
-normal_held m (Some (wire.Int k n)) h = refl
-normal_held m (Some wire.Null) h = refl
-normal_held m (Some wire.Dead) h = refl
-normal_held m (Some (wire.Fn f)) h = refl
-normal_held m (Some (wire.Lock l)) h = refl
-normal_held m (Some wire.NoValue) h = refl
-
--- a service that changes no memory
-pub left_alone : {known : Serials} {next : ℕ} {view : List Cell} {copy m w u : Memory} (program : Program) (results : List Wire) → IsShared program known next view copy m w u → KeepsShown program next view view results w w
-unfolding is_live
-left_alone {w = w} program results r = record {
-  live = λ c h. grind (arith, r.placed c h, r.live c.serial, r.whole_born c.serial);
-  cells = λ c h. inl (h, sym (normal_held w (cell_at w c) (r.whole.closed c)));
-}

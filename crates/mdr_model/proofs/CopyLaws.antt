@@ -59,10 +59,6 @@ pub births-put_runs : (runs : List Run) (m : Memory) → births (put_runs runs m
 unfolding put_runs
 births-put_runs runs m = births-put_all (values_of_runs runs) m
 
-is_in-cons : (c d : Cell) (cs : List Cell) → is_in (c ∷ cs) d ≡ (is_same_cell d c || is_in cs d)
-unfolding is_in
-is_in-cons c d cs = refl
-
 pub put_all-other : (now : Memory) (cs : List Cell) (m : Memory) (d : Cell) → is_in cs d ≡ false → cell_at (put_all (map (with_value now) cs) m) d ≡ cell_at m d
 unfolding put_all is_in
 put_all-other now [] m d out = refl
@@ -163,9 +159,6 @@ pub stores_outside : (view : List Cell) (agreed now m : Memory) (c : Cell) → i
 stores_outside view agreed now m c outside =
     ap (λ (m' : Memory). cell_at m' c) (put_runs-changes view agreed now m)
     ∙ put_all-other now (changed_cells view agreed now) m c (is_in-changed view agreed now c ∙ ap (λ (b : Bool). b && has_changed agreed now c) outside)
-
-pub births-stores : (view : List Cell) (agreed now m : Memory) → births (put_runs (changes view agreed now) m) ≡ births m
-births-stores view agreed now m = ap (λ (m' : Memory). births m') (put_runs-changes view agreed now m) ∙ births-put_all _ m
 
 -- both in one equation: the cells of the set become those that are now, where they were there; others stay
 pub cell_at-changes : (view : List Cell) (agreed now m : Memory) (c : Cell)

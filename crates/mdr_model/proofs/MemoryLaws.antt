@@ -1,11 +1,10 @@
 -- Laws of memories: cells after a store, and that two memories are the same where their blocks and cells are.
-use Rattle.std.proofs.Common.{◌≡◌, ◌≢◌, ℕ, zero, suc, ◌<◌, ◌≤◌, Bool, true, false, cond, List, [], ◌∷◌, Option, Some, None, refl, sym, ◌∙◌, ap, subst, arith}
+use Rattle.std.proofs.Common.{◌≡◌, ◌≢◌, ℕ, zero, suc, ◌<◌, Bool, true, false, cond, List, [], ◌∷◌, Option, Some, None, refl, sym, ◌∙◌, ap, subst, arith}
 use Rattle.std.specs.Prelude.{◌==◌, is_some, slice_get, slice_set}
 use Rattle.std.proofs.lemmas.Bool.{eqb-true, eq-eqb}
-use Rattle.mdr_core.specs.declared.program.GlobalDef.{GlobalDef}
 use Rattle.mdr_meaning.specs.declared.wire.Wire.{Wire}
 use Rattle.mdr_model.specs.declared.message.New.{New}
-use Rattle.mdr_model.specs.Memory.{Memory, Cell, births, born_at, is_live, cell_at, put, global_blocks}
+use Rattle.mdr_model.specs.Memory.{Memory, Cell, births, born_at, is_live, cell_at, put}
 use Rattle.mdr_model.specs.Sets.{is_same_cell}
 use Rattle.mdr_model.specs.Agreement.{SerialsRise}
 use Rattle.mdr_model.proofs.Tests.{same_number, is_same_number, not_both, and_both, and_left, and_right}
@@ -137,15 +136,6 @@ pub rises-put : (m : Memory) (c : Cell) (v : Wire) → SerialsRise m → Serials
 rises-put m c v r = rises-births m (put m c v) (sym (births-put m c v)) r
 
 -- ---- two memories that are the same
-
--- serials rise from a number on
-abbrev pub RisesFrom : ℕ → List New → Type 0
-RisesFrom n [] = Unit {0}
-RisesFrom n (b ∷ bs) = (n ≤ b.serial) × RisesFrom (suc b.serial) bs
-
-pub global_blocks-rise : (n : ℕ) (gs : List GlobalDef) → RisesFrom n (births (global_blocks n gs))
-global_blocks-rise n [] = tt
-global_blocks-rise n (g ∷ gs) = (omega arith, global_blocks-rise (suc n) gs)
 
 -- lists are the same where their elements are
 pub same_list : {A : Type 0} (xs ys : List A) → ((i : ℕ) → slice_get xs i ≡ slice_get ys i) → xs ≡ ys

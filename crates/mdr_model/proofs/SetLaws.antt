@@ -1,14 +1,11 @@
 -- Laws of sets of cells: runs name the cells that they were made of, and rise where the cells do.
-use Rattle.std.proofs.Common.{◌≡◌, ℕ, zero, suc, ◌+◌, ◌<◌, ◌≤◌, Bool, true, false, cond, ◌&&◌, ◌||◌, ◌⊎◌, List, [], ◌∷◌, ◌++◌, filter, Option, Some, None, refl, sym, ◌∙◌, ap, arith, inl, inr}
+use Rattle.std.proofs.Common.{◌≡◌, suc, ◌+◌, ◌<◌, ◌≤◌, Bool, true, false, cond, ◌&&◌, ◌||◌, ◌⊎◌, List, [], ◌∷◌, Some, None, refl, sym, ◌∙◌, ap, arith, inl, inr}
 use Rattle.std.specs.Prelude.{◌==◌, nat_lt, nat_le}
 use Rattle.std.proofs.lemmas.Bool.{ltb-true, lt-ltb, leb-true, le-leb}
-use Rattle.mdr_core.specs.declared.program.Program.{Program}
-use Rattle.mdr_model.specs.declared.message.New.{New}
 use Rattle.mdr_model.specs.declared.message.SetRun.{SetRun}
-use Rattle.mdr_model.specs.Memory.{Cell, size_of}
-use Rattle.mdr_model.specs.Sets.{cells_from, cells_of_runs, begins_behind, joined, runs_of_cells, follows, follows_maybe, rises_after, is_keyed, visible_of}
+use Rattle.mdr_model.specs.Memory.{Cell}
+use Rattle.mdr_model.specs.Sets.{cells_from, cells_of_runs, begins_behind, joined, runs_of_cells, follows, rises_after}
 use Rattle.mdr_model.proofs.Tests.{same_number, is_same_number, and_both, and_left, and_right}
-use Rattle.mdr_model.proofs.MemoryLaws.{RisesFrom}
 
 -- ---- runs and their cells
 
@@ -45,11 +42,6 @@ IsBeforeAll c (d ∷ ds) = IsBefore c d
 abbrev pub Rises : List Cell → Type 0
 Rises [] = Unit {0}
 Rises (c ∷ cs) = IsBeforeAll c cs × Rises cs
-
--- a run follows another, whether or not that one has cells
-abbrev pub Follows : Option SetRun → List SetRun → Type 0
-Follows before [] = Unit {0}
-Follows before (r ∷ rs) = follows_maybe before r ≡ true
 
 -- the runs of rising cells begin with the first cell
 abbrev pub BeginsAt : List SetRun → List Cell → Type 0
@@ -122,71 +114,3 @@ rising_runs (c ∷ cs) rising = joins c (runs_of_cells cs) cs rising.0 (rising_r
 
 pub runs_rise : (cs : List Cell) → Rises cs → rises_after None (runs_of_cells cs) ≡ true
 runs_rise cs rising = (rising_runs cs rising).rise
-
--- ---- the visible cells
-
--- the first cell lies in a later block
-abbrev pub StartsAbove : ℕ → List Cell → Type 0
-StartsAbove serial [] = Unit {0}
-StartsAbove serial (d ∷ ds) = serial < d.serial
-
--- the first cell is one of a row from an index on, or lies in a later block
-abbrev StartsFrom : (serial index : ℕ) → List Cell → Type 0
-StartsFrom serial index [] = Unit {0}
-StartsFrom serial index (d ∷ ds) = (serial < d.serial) ⊎ ((serial ≡ d.serial) × (index ≤ d.index))
-
-later_block : (serial index : ℕ) (rest : List Cell) → StartsAbove serial rest → StartsFrom serial index rest
-later_block serial index [] above = tt
-later_block serial index (d ∷ ds) above = inl above
-
-later_cell : (serial index : ℕ) (cs : List Cell) → StartsFrom serial (suc index) cs → StartsFrom serial index cs
-later_cell serial index [] h = tt
-later_cell serial index (d ∷ ds) (inl h) = inl h
-later_cell serial index (d ∷ ds) (inr h) = inr (h.0, omega (arith, h.1))
-
-before_all : (serial index : ℕ) (cs : List Cell) → StartsFrom serial (suc index) cs → IsBeforeAll (record { serial = serial; index = index }) cs
-before_all serial index [] h = tt
-before_all serial index (d ∷ ds) (inl h) = inl h
-before_all serial index (d ∷ ds) (inr h) = inr (h.0, omega (arith, h.1))
-
--- some cells of a row, before later ones
-abbrev some_from : (Cell → Bool) → (serial index n : ℕ) → List Cell → List Cell
-some_from p serial index n rest = filter p (cells_from serial index n) ++ rest
-
-some_start : (p : Cell → Bool) (serial index n : ℕ) (rest : List Cell) → StartsAbove serial rest → StartsFrom serial index (some_from p serial index n rest)
-unfolding cells_from
-some_start p serial index zero rest above = later_block serial index rest above
-some_start p serial index (suc n) rest above = of (p (record { serial = serial; index = index })) (some_start p serial (suc index) n rest above)
-  where
-    of : (t : Bool) → StartsFrom serial (suc index) (some_from p serial (suc index) n rest)
-        → StartsFrom serial index (cond t (record { serial = serial; index = index } ∷ filter p (cells_from serial (suc index) n)) (filter p (cells_from serial (suc index) n)) ++ rest)
-    of true later = inr (refl, omega arith)
-    of false later = later_cell serial index (some_from p serial (suc index) n rest) later
-
-some_rise : (p : Cell → Bool) (serial index n : ℕ) (rest : List Cell) → StartsAbove serial rest → Rises rest → Rises (some_from p serial index n rest)
-unfolding cells_from
-some_rise p serial index zero rest above rising = rising
-some_rise p serial index (suc n) rest above rising = of (p (record { serial = serial; index = index })) (some_start p serial (suc index) n rest above) (some_rise p serial (suc index) n rest above rising)
-  where
-    of : (t : Bool) → StartsFrom serial (suc index) (some_from p serial (suc index) n rest) → Rises (some_from p serial (suc index) n rest)
-        → Rises (cond t (record { serial = serial; index = index } ∷ filter p (cells_from serial (suc index) n)) (filter p (cells_from serial (suc index) n)) ++ rest)
-    of true start later = (before_all serial index (some_from p serial (suc index) n rest) start, later)
-    of false start later = later
-
-starts_later : (serial low index : ℕ) (cs : List Cell) → serial < low → StartsFrom low index cs → StartsAbove serial cs
-starts_later serial low index [] h s = tt
-starts_later serial low index (d ∷ ds) h (inl s) = omega (arith, h, s)
-starts_later serial low index (d ∷ ds) h (inr s) = omega (arith, h, s.0)
-
-pub starts_above : (program : Program) (serial n : ℕ) (bs : List New) → serial < n → RisesFrom n bs → StartsAbove serial (visible_of program bs)
-unfolding visible_of
-starts_above program serial n [] low rising = tt
-starts_above program serial n (b ∷ bs) low rising =
-    let above : StartsAbove b.serial (visible_of program bs) = starts_above program b.serial (suc b.serial) bs (omega arith) rising.1 in
-    starts_later serial b.serial 0 (visible_of program (b ∷ bs)) (omega (arith, low, rising.0)) (some_start (λ (c : Cell). is_keyed program b c.index) b.serial 0 (size_of program b) (visible_of program bs) above)
-
-pub visible_of-rises : (program : Program) (n : ℕ) (bs : List New) → RisesFrom n bs → Rises (visible_of program bs)
-unfolding visible_of
-visible_of-rises program n [] rising = tt
-visible_of-rises program n (b ∷ bs) rising =
-    some_rise (λ (c : Cell). is_keyed program b c.index) b.serial 0 (size_of program b) (visible_of program bs) (starts_above program b.serial (suc b.serial) bs (omega arith) rising.1) (visible_of-rises program (suc b.serial) bs rising.1)

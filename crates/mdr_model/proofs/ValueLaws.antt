@@ -1,23 +1,16 @@
 -- Laws of values: which are the same, and that a value of an integer or a lock is no pointer.
-use Rattle.std.proofs.Common.{◌≡◌, ℕ, zero, suc, true, false, ◌&&◌, Option, Some, None, refl, sym, ◌∙◌, ap}
+use Rattle.std.proofs.Common.{◌≡◌, ℕ, zero, suc, true, false, ◌&&◌, refl, sym, ◌∙◌, ap}
 use Rattle.std.specs.Prelude.{◌==◌}
 use Rattle.std.proofs.lemmas.Bool.Decides.{Decides-int_eq}
 use Rattle.mdr_core.specs.declared.kind.Kind.{Kind}
 use Rattle.mdr_core.specs.declared.kind.Kind.TheVariants.{U8, U16, U32, U64, S8, S16, S32, S64}
-use Rattle.mdr_core.specs.declared.types.Ty.{Ty}
-use Rattle.mdr_core.specs.declared.types.Ty.TheVariants as ty
 use Rattle.mdr_core.specs.declared.value.LockState.{LockState}
 use Rattle.mdr_core.specs.declared.value.LockState.TheVariants.{Free, Spin, Sleep}
-use Rattle.mdr_core.specs.declared.program.Program.{Program}
 use Rattle.mdr_core.specs.Kinds.{kind_number, is_same_kind}
 use Rattle.mdr_meaning.specs.declared.wire.Wire.{Wire}
 use Rattle.mdr_meaning.specs.declared.wire.Wire.TheVariants as wire
 use Rattle.mdr_meaning.specs.declared.wire.WireView.{WireView}
-use Rattle.mdr_core.specs.Layout.{Leaf}
-use Rattle.mdr_model.specs.declared.message.New.{New}
-use Rattle.mdr_model.specs.Values.{fits_type, fits_result, fits, fits_maybe, type_at, is_same, is_same_view, lock_number}
-use Rattle.mdr_model.specs.Memory.{Memory, leaf_at, fits_leaf, fits_at, normal}
-use Rattle.mdr_model.specs.Faults.{is_known, is_view}
+use Rattle.mdr_model.specs.Values.{is_same, is_same_view, lock_number}
 use Rattle.mdr_model.proofs.Tests.{is_same_number, and_left, and_right}
 
 -- ---- kinds and lock states by their numbers
@@ -89,86 +82,3 @@ same_value (wire.Fn f) (wire.Fn g) e = ap wire.Fn (is_same_number f g e)
 same_value (wire.Lock s) (wire.Lock t) e = ap wire.Lock (sym (lock_again s) ∙ ap lock_of_number (is_same_number _ _ e) ∙ lock_again t)
 same_value wire.NoValue wire.NoValue e = refl
 same_value _ _ e = differ e
-
--- ---- a value that fits a cell is no pointer
-
-fits_known : (t : Option Ty) (paired : Memory) (v : Wire) → fits_maybe t v ≡ true → is_known paired v ≡ true
-fits_known t paired (wire.Int k n) e = refl
-fits_known t paired wire.Null e = refl
-fits_known None paired (wire.Ptr p) e = differ e
-fits_known (Some (ty.Int k)) paired (wire.Ptr p) e = differ e
-fits_known (Some ty.Lock) paired (wire.Ptr p) e = differ e
-fits_known (Some _) paired (wire.Ptr p) e = differ e
-fits_known t paired wire.Dead e = refl
-fits_known t paired (wire.Fn f) e = refl
-fits_known t paired (wire.Lock s) e = refl
-fits_known t paired wire.NoValue e = refl
-
-fits_view : (t : Option Ty) (m : Memory) (v : Wire) → fits_maybe t v ≡ true → is_view m v ≡ true
-fits_view t m (wire.Int k n) e = refl
-fits_view t m wire.Null e = refl
-fits_view None m (wire.Ptr p) e = differ e
-fits_view (Some (ty.Int k)) m (wire.Ptr p) e = differ e
-fits_view (Some ty.Lock) m (wire.Ptr p) e = differ e
-fits_view (Some _) m (wire.Ptr p) e = differ e
-fits_view t m wire.Dead e = refl
-fits_view t m (wire.Fn f) e = refl
-fits_view t m (wire.Lock s) e = refl
-fits_view t m wire.NoValue e = refl
-
-pub fitting_is_known : (program : Program) (n : ℕ) (paired : Memory) (v : Wire) → fits program n v ≡ true → is_known paired v ≡ true
-unfolding fits
-fitting_is_known program n paired v e = fits_known (type_at program n) paired v e
-
-pub fitting_is_view : (program : Program) (n : ℕ) (m : Memory) (v : Wire) → fits program n v ≡ true → is_view m v ≡ true
-unfolding fits
-fitting_is_view program n m v e = fits_view (type_at program n) m v e
-
--- and stays as it is
-pub typed_is_normal : (t : Ty) (m : Memory) (v : Wire) → fits_type t v ≡ true → normal m v ≡ v
-unfolding normal
-typed_is_normal t m (wire.Int k n) e = refl
-typed_is_normal t m wire.Null e = refl
-typed_is_normal (ty.Int k) m (wire.Ptr p) e = differ e
-typed_is_normal ty.Lock m (wire.Ptr p) e = differ e
-typed_is_normal _ m (wire.Ptr p) e = differ e
-typed_is_normal t m wire.Dead e = refl
-typed_is_normal t m (wire.Fn f) e = refl
-typed_is_normal t m (wire.Lock s) e = refl
-typed_is_normal t m wire.NoValue e = refl
-
-pub result_is_normal : (t : Ty) (m : Memory) (v : Wire) → fits_result t v ≡ true → normal m v ≡ v
-unfolding fits_result normal
-result_is_normal t m (wire.Int k n) e = refl
-result_is_normal t m wire.Null e = refl
-result_is_normal t m (wire.Ptr p) e = typed_is_normal t m (wire.Ptr p) e
-result_is_normal t m wire.Dead e = refl
-result_is_normal t m (wire.Fn f) e = refl
-result_is_normal t m (wire.Lock s) e = refl
-result_is_normal t m wire.NoValue e = refl
-
-fits_normal : (t : Option Ty) (m : Memory) (v : Wire) → fits_maybe t v ≡ true → normal m v ≡ v
-fits_normal None m v e = differ e
-fits_normal (Some t) m v e = typed_is_normal t m v e
-
-pub fitting_is_normal : (program : Program) (n : ℕ) (m : Memory) (v : Wire) → fits program n v ≡ true → normal m v ≡ v
-unfolding fits
-fitting_is_normal program n m v e = fits_normal (type_at program n) m v e
-
--- ---- the same of a value that fits a cell
-
-pub cell_is_known : (program : Program) (b : New) (index : ℕ) (paired : Memory) (v : Wire) → fits_at program b index v ≡ true → is_known paired v ≡ true
-unfolding fits_at
-cell_is_known program b index paired v e = of (leaf_at program b index) e
-  where
-    of : (o : Option Leaf) → fits_leaf o v ≡ true → is_known paired v ≡ true
-    of None h = differ h
-    of (Some leaf) h = fits_known (Some leaf.type) paired v h
-
-pub cell_is_view : (program : Program) (b : New) (index : ℕ) (m : Memory) (v : Wire) → fits_at program b index v ≡ true → is_view m v ≡ true
-unfolding fits_at
-cell_is_view program b index m v e = of (leaf_at program b index) e
-  where
-    of : (o : Option Leaf) → fits_leaf o v ≡ true → is_view m v ≡ true
-    of None h = differ h
-    of (Some leaf) h = fits_view (Some leaf.type) m v h

@@ -1,12 +1,7 @@
 pub mod Values
 pub mod Memory
 pub mod Sets
-pub mod Tree
-pub mod Alike
-pub mod Walk
 pub mod Meaning
-pub mod World
-pub mod Watched
 pub mod Copies
 pub mod Faults
 pub mod Xdr
@@ -14,13 +9,10 @@ pub mod Text
 pub mod Reading
 pub mod KernelState
 pub mod ReplyFaults
-pub mod Kernel
 pub mod User
 pub mod Agreement
 pub mod Outcome
 pub mod Report
-pub mod Built
-pub mod Runnable
 pub mod Holds
 pub mod Law
 pub mod Bytes

@@ -1,21 +1,19 @@
 -- A memory is the list of its live blocks (C99 6.2.4): what was born and has not died.
-use Rattle.std.specs.Prelude.{ℕ, suc, ◌+◌, ◌*◌, Bool, true, false, cond, List, [], ◌∷◌, map, length, Option, Some, None, Result, Ok, Err, ◌==◌, nat_lt, is_some, slice_get, slice_set}
+use Rattle.std.specs.Prelude.{ℕ, ◌+◌, Bool, true, false, cond, List, [], ◌∷◌, map, length, Option, Some, None, Result, Ok, Err, ◌==◌, nat_lt, is_some, slice_get, slice_set}
 use Rattle.mdr_core.specs.declared.types.Ty.{Ty}
 use Rattle.mdr_core.specs.declared.types.Ty.TheVariants as ty
 use Rattle.mdr_core.specs.declared.stop.StopKind.{StopKind}
 use Rattle.mdr_core.specs.declared.stop.StopKind.TheVariants as stop
 use Rattle.mdr_core.specs.declared.program.Program.{Program}
-use Rattle.mdr_core.specs.declared.program.GlobalDef.{GlobalDef}
 pub use Rattle.mdr_model.specs.declared.memory.MemoryBlock.{MemoryBlock}
 pub use Rattle.mdr_model.specs.declared.memory.Cell.{Cell}
 use Rattle.mdr_meaning.specs.declared.wire.Wire.{Wire}
 use Rattle.mdr_meaning.specs.declared.wire.Wire.TheVariants as wire
 use Rattle.mdr_meaning.specs.declared.wire.WireView.{WireView}
 use Rattle.mdr_model.specs.declared.message.New.{New}
-use Rattle.mdr_model.specs.declared.message.BirthKind.TheVariants.{Static}
 use Rattle.mdr_core.specs.Layout.{Leaf, repeated, cells_at, zero_value}
 use Rattle.mdr_meaning.specs.Values.{wire_of}
-use Rattle.mdr_model.specs.Values.{type_number, fits_type, names_block}
+use Rattle.mdr_model.specs.Values.{names_block}
 
 -- ---- the cells of a block
 
@@ -28,14 +26,6 @@ size_of program n = length (leaves_of program n)
 
 abbrev pub leaf_at : Program → New → ℕ → Option Leaf
 leaf_at program n index = slice_get (leaves_of program n) index
-
-abbrev pub fits_leaf : Option Leaf → Wire → Bool
-fits_leaf None v = false
-fits_leaf (Some leaf) v = fits_type leaf.type v
-
--- a value fits a cell of a block: the cell is there, and of a type that takes the value
-unfoldable pub fits_at : Program → New → ℕ → Wire → Bool
-fits_at program n index v = fits_leaf (leaf_at program n index) v
 
 abbrev pub is_lock_type : Ty → Bool
 is_lock_type ty.Lock = true
@@ -108,27 +98,7 @@ normal m (wire.Fn f) = wire.Fn f
 normal m (wire.Lock s) = wire.Lock s
 normal m wire.NoValue = wire.NoValue
 
--- ---- the first memory
-
-abbrev pub global_block : ℕ → GlobalDef → MemoryBlock
-global_block number g = record {
-  born = record { serial = number; kind = Static; ty = type_number g.ty; count = g.count };
-  cells = map wire_of g.init;
-}
-
-abbrev pub global_blocks : ℕ → List GlobalDef → Memory
-global_blocks number [] = []
-global_blocks number (g ∷ gs) = global_block number g ∷ global_blocks (suc number) gs
-
--- the globals, born in their order, so that a global's serial is its number
-unfoldable pub first_memory : Program → Memory
-first_memory program = global_blocks 0 program.globals
-
 -- ---- accesses
-
--- where a pointer points: at the first cell of an element of its view
-unfoldable pub position_of : Program → WireView → Cell
-position_of program p = record { serial = p.serial; index = p.first + p.index * length (cells_at program p.ty) }
 
 -- the cell that is loaded or stored. Only scalars are loaded and stored, and a scalar has one cell: for those it is where the pointer points
 abbrev pub cell_of : WireView → Cell

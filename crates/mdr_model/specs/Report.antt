@@ -1,10 +1,6 @@
--- The printed report of an outcome.
-use Rattle.std.specs.Prelude.{ℕ, suc, List, [], ◌∷◌, ◌++◌, Option, Some, None, codes, decimal, slice_get}
+-- The lines of a printed report.
+use Rattle.std.specs.Prelude.{ℕ, List, [], ◌∷◌, ◌++◌, Option, Some, None, codes, decimal, slice_get}
 use Rattle.std.specs.Fmt.{signed_decimal}
-use Rattle.mdr_core.specs.declared.kind.Kind.{Kind}
-use Rattle.mdr_core.specs.declared.kind.Kind.TheVariants.{U8, U16, U32, U64, S8, S16, S32, S64}
-use Rattle.mdr_core.specs.declared.types.Ty.{Ty}
-use Rattle.mdr_core.specs.declared.types.Ty.TheVariants as ty
 use Rattle.mdr_core.specs.declared.value.Value.{Value}
 use Rattle.mdr_core.specs.declared.value.Value.TheVariants as value
 use Rattle.mdr_core.specs.declared.value.LockState.{LockState}
@@ -23,10 +19,7 @@ use Rattle.mdr_model.specs.declared.outcome.End.{End}
 use Rattle.mdr_model.specs.declared.outcome.End.TheVariants as ends
 use Rattle.mdr_model.specs.declared.outcome.Seen.{Seen}
 use Rattle.mdr_model.specs.declared.outcome.Seen.TheVariants as seen
-use Rattle.mdr_model.specs.declared.outcome.Object.{Object}
-use Rattle.mdr_model.specs.declared.outcome.Outcome.{Outcome}
 use Rattle.mdr_model.specs.Meaning.{func_at}
-use Rattle.mdr_model.specs.Values.{type_at}
 
 -- ---- names
 
@@ -86,27 +79,6 @@ refusal_name refusal.BadView = codes "BadView"
 refusal_name refusal.BadValue = codes "BadValue"
 refusal_name refusal.Load = codes "Load"
 
-abbrev pub kind_name : Kind → List ℕ
-kind_name U8 = codes "u8"
-kind_name U16 = codes "u16"
-kind_name U32 = codes "u32"
-kind_name U64 = codes "u64"
-kind_name S8 = codes "s8"
-kind_name S16 = codes "s16"
-kind_name S32 = codes "s32"
-kind_name S64 = codes "s64"
-
-abbrev pub type_name : Ty → List ℕ
-type_name (ty.Int k) = kind_name k
-type_name ty.Lock = codes "combolock_t"
-type_name ty.Void = codes "void"
--- other types aren't built: no object has one
-type_name _ = []
-
-abbrev pub type_name_or : Option Ty → List ℕ
-type_name_or None = []
-type_name_or (Some t) = type_name t
-
 -- ---- values
 
 abbrev pub lock_name : LockState → List ℕ
@@ -163,10 +135,6 @@ event_line program (happened.Call name args) = codes "call " ++ (name ++ (argume
 event_line program (happened.Wrote register n) = codes "W " ++ (decimal register ++ (codes " " ++ (decimal n ++ newline)))
 event_line program (happened.Ret v) = codes "ret " ++ (value_shown program v ++ newline)
 
-unfoldable pub event_lines : Program → List Happened → List ℕ
-event_lines program [] = []
-event_lines program (e ∷ es) = event_line program e ++ event_lines program es
-
 abbrev pub place_shown : Program → Option At → List ℕ
 place_shown program None = codes "-"
 place_shown program (Some at) = func_name program at.func ++ (codes " " ++ decimal at.stmt)
@@ -178,20 +146,5 @@ end_line program (ends.Refused exchange cause number) =
     codes "refused " ++ (decimal exchange ++ (codes " " ++ (refusal_name cause ++ (codes " " ++ (decimal number ++ newline)))))
 end_line program (ends.FarFault exchange) = codes "far fault " ++ (decimal exchange ++ newline)
 
-unfoldable pub object_line : Program → ℕ → Object → List ℕ
-object_line program n o =
-    codes "obj " ++ (decimal n ++ (codes " " ++ (type_name_or (type_at program o.ty) ++ (codes " x" ++ (decimal o.count ++ (codes ":" ++ (cells_shown program o.cells ++ newline)))))))
-
--- numbered from the given number on
-unfoldable pub object_lines : Program → ℕ → List Object → List ℕ
-object_lines program n [] = []
-object_lines program n (o ∷ os) = object_line program n o ++ object_lines program (suc n) os
-
 abbrev pub count_line : List ℕ → ℕ → List ℕ
 count_line word n = word ++ (decimal n ++ newline)
-
--- the events in order, the end, the ticks, the live blocks, and the objects, numbered from 1
-unfoldable pub report : Program → Outcome → List ℕ
-report program o =
-    event_lines program o.events
-    ++ (end_line program o.end ++ (count_line (codes "ticks ") o.ticks ++ (count_line (codes "live ") o.live ++ object_lines program 1 o.objects)))

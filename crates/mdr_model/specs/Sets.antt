@@ -1,11 +1,8 @@
 -- Sets of cells: rising lists of cells, and the same as runs of cells of one block that follow one another.
-use Rattle.std.specs.Prelude.{ℕ, zero, suc, ◌+◌, Bool, true, false, cond, not, filter, ◌&&◌, ◌||◌, List, [], ◌∷◌, ◌++◌, length, Option, Some, None, ◌==◌, nat_lt, nat_le}
+use Rattle.std.specs.Prelude.{ℕ, zero, suc, ◌+◌, Bool, true, cond, ◌&&◌, ◌||◌, List, [], ◌∷◌, ◌++◌, Option, Some, None, ◌==◌, nat_lt, nat_le}
 use Rattle.std.specs.List.{list_any}
-use Rattle.mdr_core.specs.declared.program.Program.{Program}
-use Rattle.mdr_model.specs.declared.message.New.{New}
 use Rattle.mdr_model.specs.declared.message.SetRun.{SetRun}
-use Rattle.mdr_core.specs.Layout.{Leaf}
-use Rattle.mdr_model.specs.Memory.{Memory, Cell, births, size_of, leaf_at, is_lock_type}
+use Rattle.mdr_model.specs.Memory.{Cell}
 
 abbrev pub is_same_cell : Cell → Cell → Bool
 is_same_cell c d = c.serial == d.serial && c.index == d.index
@@ -54,24 +51,3 @@ follows_maybe (Some r) s = follows r s
 unfoldable pub rises_after : Option SetRun → List SetRun → Bool
 rises_after before [] = true
 rises_after before (r ∷ rs) = follows_maybe before r && rises_after (Some r) rs
-
--- ---- the visible cells
-
-abbrev pub is_open_leaf : Option Leaf → Bool
-is_open_leaf None = false
-is_open_leaf (Some leaf) = not (is_lock_type leaf.type)
-
--- user code may touch a cell of a block: it is one of a global, and no lock
-unfoldable pub is_keyed : Program → New → ℕ → Bool
-is_keyed program block index = nat_lt block.serial (length program.globals) && is_open_leaf (leaf_at program block index)
-
-abbrev pub keyed_cells : Program → New → List Cell
-keyed_cells program block = filter (λ (c : Cell). is_keyed program block c.index) (cells_from block.serial 0 (size_of program block))
-
-unfoldable pub visible_of : Program → List New → List Cell
-visible_of program [] = []
-visible_of program (block ∷ blocks) = keyed_cells program block ++ visible_of program blocks
-
--- the cells that an upcall may touch: those of all globals, but for locks
-unfoldable pub visible : Program → Memory → List Cell
-visible program m = visible_of program (births m)

@@ -12,12 +12,10 @@ use Rattle.mdr_model.specs.declared.message.Run.{Run}
 use Rattle.mdr_model.specs.declared.message.SetRun.{SetRun}
 use Rattle.mdr_model.specs.declared.message.Told.{Told}
 use Rattle.mdr_model.specs.declared.message.BirthKind.TheVariants.{Static, Heap}
-use Rattle.mdr_model.specs.declared.message.Message.TheVariants as message
 use Rattle.mdr_model.specs.Memory.{Memory, MemoryBlock, killed}
 use Rattle.mdr_model.specs.Sets.{cells_of_runs}
-use Rattle.mdr_model.specs.Tree.{Tree}
 use Rattle.mdr_model.specs.Copies.{tells, agreed_after}
-use Rattle.mdr_model.specs.User.{AwaitsBack, Runs, lives_fit, opened}
+use Rattle.mdr_model.specs.User.{lives_fit}
 use Rattle.mdr_core.specs.Types.{first_types}
 
 -- u32 a[2]; no definition here reads more of a driver
@@ -54,12 +52,10 @@ whole serial = record { serial = serial; first = 0; len = 2 }
 abbrev pub told_as : List ℕ → List New → List SetRun → List Run → Told
 told_as deaths news view runs = record { deaths = deaths; news = news; view = view; runs = runs }
 
--- what a message that ends a downcall opens in a user half that has this copy: what the downcall's result leads to, over the visible cells and the copy that is agreed then
-abbrev pub Opens : (copy : Memory) → Told → (next : Memory) → Type 0
-Opens copy told next =
-    (fuel rest : ℕ) (goes : Wire → Tree)
-    → opened pair fuel copy (AwaitsBack 0 [] goes) (message.Back rest wire.NoValue told)
-    ≡ Runs (goes wire.NoValue) rest (cells_of_runs told.view) next
+-- what a message leaves in a user half that has this copy: the births and deaths fit, and this copy is agreed then
+pub record Takes (copy : Memory) (told : Told) (next : Memory) : Type 0 where
+  pub fits : lives_fit pair copy told.deaths told.news ≡ true
+  pub agreed : agreed_after pair told copy ≡ next
 
 -- ---- told in another order than born
 
@@ -76,11 +72,11 @@ without_one = block global_born (number 0) (number 0) ∷ block (heap_born 2) (n
 -- a message names block 2 alone, a later one names block 1: the copy has them by their serials. Both die: the deaths are 1, 2, and the user half takes them
 pub record DeathsRise : Type 0 where
   pub second : tells pair (cells_of_runs (whole 0 ∷ [])) (to 2 ∷ []) global_alone three_blocks ≡ told_as [] (heap_born 2 ∷ []) (whole 0 ∷ []) []
-  pub second_opens : Opens global_alone (told_as [] (heap_born 2 ∷ []) (whole 0 ∷ []) []) without_one
+  pub second_taken : Takes global_alone (told_as [] (heap_born 2 ∷ []) (whole 0 ∷ []) []) without_one
   pub first : tells pair (cells_of_runs (whole 0 ∷ [])) (to 1 ∷ []) without_one three_blocks ≡ told_as [] (heap_born 1 ∷ []) (whole 0 ∷ []) []
-  pub first_opens : Opens without_one (told_as [] (heap_born 1 ∷ []) (whole 0 ∷ []) []) three_blocks
+  pub first_taken : Takes without_one (told_as [] (heap_born 1 ∷ []) (whole 0 ∷ []) []) three_blocks
   pub deaths : tells pair (cells_of_runs (whole 0 ∷ [])) [] three_blocks global_alone ≡ told_as (1 ∷ 2 ∷ []) [] (whole 0 ∷ []) []
-  pub deaths_open : Opens three_blocks (told_as (1 ∷ 2 ∷ []) [] (whole 0 ∷ []) []) global_alone
+  pub deaths_taken : Takes three_blocks (told_as (1 ∷ 2 ∷ []) [] (whole 0 ∷ []) []) global_alone
 
 -- ---- a new block of zeros
 
@@ -117,10 +113,9 @@ cycle_gone = block global_born (number 3) wire.Dead ∷ []
 -- one message tells the cycle; the next one block 2's death alone, since the copy's own pointer to it dies with it; the last one block 1's death and the cell that was set
 pub record CycleIsTold : Type 0 where
   pub born : tells pair (cells_of_runs (whole 0 ∷ whole 1 ∷ whole 2 ∷ [])) [] global_alone cycle ≡ cycle_told
-  pub born_fits : lives_fit pair global_alone cycle_told.deaths cycle_told.news ≡ true
-  pub born_copy : agreed_after pair cycle_told global_alone ≡ cycle
+  pub born_taken : Takes global_alone cycle_told cycle
   pub death : killed 2 cycle ≡ cycle_left
   pub death_told : tells pair (cells_of_runs (whole 0 ∷ whole 1 ∷ [])) [] cycle cycle_left ≡ told_as (2 ∷ []) [] (whole 0 ∷ whole 1 ∷ []) []
-  pub death_opens : Opens cycle (told_as (2 ∷ []) [] (whole 0 ∷ []) []) cycle_left
+  pub death_taken : Takes cycle (told_as (2 ∷ []) [] (whole 0 ∷ []) []) cycle_left
   pub last_told : tells pair (cells_of_runs (whole 0 ∷ [])) [] cycle_left cycle_gone ≡ told_as (1 ∷ []) [] (whole 0 ∷ []) (record { serial = 0; first = 0; values = number 3 ∷ [] } ∷ [])
-  pub last_opens : Opens cycle_left (told_as (1 ∷ []) [] (whole 0 ∷ []) (record { serial = 0; first = 0; values = number 3 ∷ [] } ∷ [])) cycle_gone
+  pub last_taken : Takes cycle_left (told_as (1 ∷ []) [] (whole 0 ∷ []) (record { serial = 0; first = 0; values = number 3 ∷ [] } ∷ [])) cycle_gone

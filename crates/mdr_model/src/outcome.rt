@@ -46,13 +46,3 @@ pub struct Object {
     pub count: u32,
     pub cells: Items<Seen>,
 }
-
-/// What a run shows: its events in order, its end, the ticks used, the live blocks and the objects.
-#[derive(Debug, Drop)]
-pub struct Outcome {
-    pub events: Items<Happened>,
-    pub end: End,
-    pub ticks: u64,
-    pub live: u64,
-    pub objects: Items<Object>,
-}

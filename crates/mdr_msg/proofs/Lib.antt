@@ -2,5 +2,4 @@ pub mod Unsigned
 pub mod Loop
 pub mod Fields
 pub mod Messages
-pub mod Lifted
 pub mod Prefixes

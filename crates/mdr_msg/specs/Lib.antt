@@ -2,4 +2,4 @@ pub mod Encoding
 pub mod Decoding
 pub mod WellFormed
 pub mod OverBytes
-pub mod LegalBytes
+pub mod Alone

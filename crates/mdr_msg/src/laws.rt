@@ -4,8 +4,7 @@ ghost use Rattle.std.specs.Prelude.{◌≡◌, ◌++◌, [], List, ℕ};
 ghost use Rattle.mdr_model.specs.declared.message.Message.{Message};
 ghost use Rattle.mdr_model.specs.Text.{text};
 ghost use Rattle.mdr_msg.specs.WellFormed.{IsMessage};
-ghost use Rattle.mdr_msg.specs.OverBytes.{BytesAreOneMemory};
-ghost use Rattle.mdr_msg.specs.LegalBytes.{LegalRepliesStandAlone};
+ghost use Rattle.mdr_msg.specs.Alone.{MessagesStandAlone};
 
 /// Each message has one spelling: messages with one text are one.
 pub fn one_spelling()
@@ -17,13 +16,8 @@ pub fn no_spelling_begins_another()
     ensures { (m n : Message) (rest : List ℕ) → IsMessage m → IsMessage n → text m ++ rest ≡ text n → rest ≡ [] }
 {}
 
-/// A split run over bytes, with an honest far side, is the one-memory meaning: for every sound program, every script
-/// of its functions and every budget of ticks, as long as each message and each answer has a spelling.
-pub fn bytes_are_one_memory()
-    ensures { BytesAreOneMemory }
-{}
-
-/// No legal reply begins another: with its end cut off, or with bytes added, it is legal in no state of the run.
-pub fn no_legal_reply_begins_another()
-    ensures { LegalRepliesStandAlone }
+/// No message's bytes begin another's: with their end cut off, or with bytes added, they are no message, and so no legal
+/// reply.
+pub fn no_message_begins_another()
+    ensures { MessagesStandAlone }
 {}

@@ -15,9 +15,7 @@ mod writing;
 
 pub use encodable::can_encode;
 pub use error::MsgError;
-pub use laws::{
-    bytes_are_one_memory, no_legal_reply_begins_another, no_spelling_begins_another, one_spelling,
-};
+pub use laws::{no_message_begins_another, no_spelling_begins_another, one_spelling};
 pub use mdr_model::{BirthKind, Message, New, Run, SetRun, Shape64, Told, Wire, WireView};
 pub use reading::decode;
 pub use spelling::{reading_of, spelled};

@@ -1,7 +1,7 @@
 // The lines of events and of the end.
 
 ghost use Rattle.std.specs.Prelude.{◌≡◌, ◌++◌, OnOk, codes};
-ghost use Rattle.mdr_model.specs.Report.{event_line, event_lines, end_line, place_shown};
+ghost use Rattle.mdr_model.specs.Report.{event_line, end_line, place_shown};
 ghost use Rattle.mdr_model.specs.declared.outcome.Happened.TheVariants as happened;
 ghost use Rattle.mdr_plain.specs.Report.{register_line};
 
@@ -9,7 +9,7 @@ use crate::names::{put_func, refusal_word, stop_word};
 use crate::put::{put_bytes, put_newline, put_number, put_word};
 use crate::value::{put_arguments, put_value};
 use mdr_core::{At, Items, Name, Program, Value};
-use mdr_model::{End, Happened};
+use mdr_model::End;
 use std::alloc::{AllocError, Global};
 
 /// The line of a call.
@@ -74,37 +74,6 @@ pub fn put_ret(
     put_word(out, "ret ")?;
     put_value(alloc, out, program, value)?;
     put_newline(out)
-}
-
-fn put_event(
-    alloc: Global,
-    out: &mut Vec<u8>,
-    program: &Program,
-    event: &Happened,
-) -> Result<(), AllocError>
-    ensures { OnOk result (out.new.items ≡ out.old.items ++ event_line program.now event.now) }
-{
-    match event {
-        Happened::Call(name, args) => put_call(alloc, out, program, name, args),
-        Happened::Wrote(register, number) => put_wrote(alloc, out, program, *register, *number),
-        Happened::Ret(value) => put_ret(alloc, out, program, *value),
-    }
-}
-
-/// A line for each event.
-#[tactic(auto, unfolding(mdr_model::specs::Report::event_lines))]
-pub fn put_events(
-    alloc: Global,
-    out: &mut Vec<u8>,
-    program: &Program,
-    events: &[Happened],
-) -> Result<(), AllocError>
-    ensures { OnOk result (out.new.items ≡ out.old.items ++ event_lines program.now events.now) }
-{
-    for event in events {
-        put_event(alloc, out, program, event)?;
-    }
-    Ok(())
 }
 
 fn put_place(

@@ -1,4 +1,4 @@
-//! The printed report of a run: of one over halves that know few types, and of one of a whole driver.
+//! The printed report of a run.
 #![tactic(auto)]
 
 mod bytes;
@@ -12,5 +12,4 @@ mod whole;
 mod whole_event;
 mod whole_object;
 
-pub use text::report;
 pub use whole::report_whole;

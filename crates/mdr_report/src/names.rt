@@ -1,11 +1,10 @@
 // Names in reports.
 
 ghost use Rattle.std.specs.Prelude.{◌≡◌, ◌++◌, OnOk, codes};
-ghost use Rattle.mdr_model.specs.Report.{func_name, global_name, kind_name, stop_name, refusal_name, type_name, type_name_or};
-ghost use Rattle.mdr_model.specs.Values.{type_at};
+ghost use Rattle.mdr_model.specs.Report.{func_name, global_name, stop_name, refusal_name};
 
-use crate::put::{put_bytes, put_word};
-use mdr_core::{Kind, Program, RefuseKind, StopKind, Ty};
+use crate::put::put_bytes;
+use mdr_core::{Program, RefuseKind, StopKind};
 use std::alloc::AllocError;
 
 /// The name of a function, or nothing where there is none.
@@ -25,43 +24,6 @@ pub fn put_global(out: &mut Vec<u8>, program: &Program, global: u64) -> Result<(
     match program.globals.as_slice().get(global as usize) {
         Some(g) => put_bytes(out, g.name.as_slice()),
         None => Ok(()),
-    }
-}
-
-/// The name of a type of the table, or nothing where there is none.
-pub fn put_type(out: &mut Vec<u8>, program: &Program, ty: u32) -> Result<(), AllocError>
-    ensures { OnOk result (out.new.items ≡ out.old.items ++ type_name_or (type_at program.now ty)) }
-{
-    match program.types.as_slice().get(ty as usize) {
-        Some(t) => put_word(out, type_word(t)),
-        None => Ok(()),
-    }
-}
-
-fn type_word(ty: &Ty) -> &'static str
-    ensures { result.now ≡ type_name ty.now }
-{
-    match ty {
-        Ty::Int(kind) => kind_word(*kind),
-        Ty::Lock => "combolock_t",
-        Ty::Void => "void",
-        // No object has one of these: they aren't built.
-        Ty::Struct(_) | Ty::Ptr(_) | Ty::VoidPtr | Ty::Fun(_) => "",
-    }
-}
-
-fn kind_word(kind: Kind) -> &'static str
-    ensures { result.now ≡ kind_name kind }
-{
-    match kind {
-        Kind::U8 => "u8",
-        Kind::U16 => "u16",
-        Kind::U32 => "u32",
-        Kind::U64 => "u64",
-        Kind::S8 => "s8",
-        Kind::S16 => "s16",
-        Kind::S32 => "s32",
-        Kind::S64 => "s64",
     }
 }
 

@@ -1,9 +1,8 @@
 // The lines of objects.
 
 ghost use Rattle.std.specs.Prelude.{◌≡◌, ◌++◌, OnOk, codes, decimal};
-ghost use Rattle.mdr_model.specs.Report.{newline, cells_shown, object_line, object_lines};
+ghost use Rattle.mdr_model.specs.Report.{newline, cells_shown};
 
-use crate::names::put_type;
 use crate::put::{put_newline, put_number, put_word};
 use crate::value::put_cells;
 use mdr_core::Program;
@@ -33,35 +32,4 @@ pub fn put_contents(
     put_word(out, ":")?;
     put_cells(alloc, out, program, object.cells.as_slice())?;
     put_newline(out)
-}
-
-#[tactic(auto, unfolding(mdr_model::specs::Report::object_line))]
-fn put_object(
-    alloc: Global,
-    out: &mut Vec<u8>,
-    program: &Program,
-    number: u64,
-    object: &Object,
-) -> Result<(), AllocError>
-    ensures { OnOk result (out.new.items ≡ out.old.items ++ object_line program.now number object.now) }
-{
-    put_object_number(alloc, out, number)?;
-    put_type(out, program, object.ty)?;
-    put_contents(alloc, out, program, object)
-}
-
-/// A line for each object, numbered from 1.
-#[tactic(auto, unfolding(mdr_model::specs::Report::object_lines))]
-pub fn put_objects(
-    alloc: Global,
-    out: &mut Vec<u8>,
-    program: &Program,
-    objects: &[Object],
-) -> Result<(), AllocError>
-    ensures { OnOk result (out.new.items ≡ out.old.items ++ object_lines program.now 1 objects.now) }
-{
-    for (i, object) in objects.iter().enumerate() {
-        put_object(alloc, out, program, i as u64 + 1, object)?;
-    }
-    Ok(())
 }

@@ -22,13 +22,13 @@ use Rattle.mdr_type_table.specs.Tabled.{HasFormedPointers}
 use Rattle.mdr_type_table.proofs.Tabled.{types_that_occur_have_numbers}
 use Rattle.mdr_file_names.specs.FileNames.{struct_name, HaveWords}
 use Rattle.mdr_file_names.proofs.WholeFiles.{structs_are_named, tables_of_files_are_in_order}
-use Rattle.mdr_sound_files.specs.Whole.{HasAll, IsDefineInRange, AreDefinesInRange, IsBodyProper, AreBodiesProper}
-use Rattle.mdr_sound_files.proofs.Filed.{IsFile, file_of, types_of_files, files_sound}
-use Rattle.mdr_sound_files.proofs.Sorts.{not_wrong}
-use Rattle.mdr_sound_sources.specs.Sources.{IsProperItem, AreProperItems}
-use Rattle.mdr_sound_sources.proofs.Itemising.{bytes_proper}
-use Rattle.mdr_sound_typing.proofs.Allocating.{profile_formed}
-use Rattle.mdr_sound_typing.proofs.Stating.{profile_sound}
+use Rattle.mdr_sound.specs.Whole.{HasAll, IsDefineInRange, AreDefinesInRange, IsBodyProper, AreBodiesProper}
+use Rattle.mdr_sound.proofs.Filed.{IsFile, file_of, types_of_files, files_sound}
+use Rattle.mdr_sound.proofs.Sorts.{not_wrong}
+use Rattle.mdr_sound.specs.ProperSources.{IsProperItem, AreProperItems}
+use Rattle.mdr_sound.proofs.Itemising.{bytes_proper}
+use Rattle.mdr_sound.proofs.Allocating.{profile_formed}
+use Rattle.mdr_sound.proofs.Stating.{profile_sound}
 use Rattle.mdr_sound.specs.Sources.{IsProgramOf, SourcesHaveOrderedTables, SourcesAreSound}
 
 -- ---- what the grammar gives

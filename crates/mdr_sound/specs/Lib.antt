@@ -1,1 +1,12 @@
 pub mod Sources
+pub mod DeclarationLaws
+pub mod Declared
+pub mod Standing
+pub mod Counting
+pub mod Whole
+pub mod Globals
+pub mod GlobalLaws
+pub mod FileLaws
+pub mod Laws
+pub mod Allocating
+pub mod ProperSources

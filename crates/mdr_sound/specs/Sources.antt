@@ -12,7 +12,7 @@ use Rattle.mdr_check.specs.Uses.{UseRule}
 use Rattle.mdr_body.specs.Bodies.{body_rule}
 use Rattle.mdr_program.specs.Programs.{typed}
 use Rattle.mdr_typing.specs.Profile.{profile_rules}
-use Rattle.mdr_sound_files.specs.Whole.{CallsNothingBack}
+use Rattle.mdr_sound.specs.Whole.{CallsNothingBack}
 
 -- the source's tree comes to the program by the rules of types
 pub record IsProgramOf (bytes : List ℕ) (halves : Bool) (uses : UseRule) (program : Program) : Type 0 where

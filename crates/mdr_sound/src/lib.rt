@@ -1,6 +1,19 @@
 //! The program of each source in which no fault is found is sound.
 #![tactic(auto)]
 
+mod declaration_laws;
+mod file_laws;
+mod global_laws;
 mod laws;
+mod source_laws;
+mod typing_laws;
 
+pub use declaration_laws::{
+    annotations_are_sound, declarators_have_types, headings_are_sound, headings_have_signatures,
+    objects_are_sound, structs_are_known, structs_are_sound, tables_are_sound,
+};
+pub use file_laws::{files_are_sound, types_of_files_are_formed};
+pub use global_laws::globals_are_sound;
 pub use laws::{sources_are_sound, sources_have_ordered_tables};
+pub use source_laws::{read_sources_are_proper, sources_are_proper};
+pub use typing_laws::{profile_rules_are_sound, profile_steps_are_formed};

@@ -31,11 +31,11 @@ use Rattle.mdr_typing.specs.Profile.{profile_rules}
 use Rattle.mdr_type_table.proofs.Among.{tables_list_what_occurs}
 use Rattle.mdr_type_table.proofs.Placed.{Place, First, Later, place_in}
 use Rattle.mdr_sound_code.proofs.Alike.{alike_same}
-use Rattle.mdr_sound_files.specs.Whole.{HasAll, IsMadeOf}
-use Rattle.mdr_sound_files.proofs.Filed.{pieces_right}
-use Rattle.mdr_sound_files.proofs.Sounding.{program_sound}
-use Rattle.mdr_sound_sources.proofs.Itemising.{bytes_proper}
-use Rattle.mdr_sound_typing.proofs.Stating.{profile_sound}
+use Rattle.mdr_sound.specs.Whole.{HasAll, IsMadeOf}
+use Rattle.mdr_sound.proofs.Filed.{pieces_right}
+use Rattle.mdr_sound.proofs.Sounding.{program_sound}
+use Rattle.mdr_sound.proofs.Itemising.{bytes_proper}
+use Rattle.mdr_sound.proofs.Stating.{profile_sound}
 use Rattle.mdr_sound.proofs.Sourced.{ranges_of, bodies_of}
 use Rattle.mdr_check_half.specs.Suiting.{one_by, structs_in, has_type}
 use Rattle.mdr_check_half.specs.Planned.{IsPointer, ArePointers, IsPlanTable}

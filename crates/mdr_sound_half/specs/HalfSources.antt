@@ -11,7 +11,7 @@ use Rattle.mdr_faults.specs.Faults.{Right}
 use Rattle.mdr_check.specs.Uses.{UseRule}
 use Rattle.mdr_body.specs.Bodies.{body_rule}
 use Rattle.mdr_typing.specs.Profile.{profile_rules}
-use Rattle.mdr_sound_files.specs.Whole.{CallsNothingBack}
+use Rattle.mdr_sound.specs.Whole.{CallsNothingBack}
 use Rattle.mdr_check_half.specs.HalfPrograms.{half_typed}
 use Rattle.mdr_check_half.specs.Planned.{IsPlanned}
 

@@ -31,16 +31,16 @@ use Rattle.mdr_sound_code.specs.Knowing.{Knows}
 use Rattle.mdr_sound_bodies.specs.Bodies.{IsMade}
 use Rattle.mdr_sound_bodies.specs.Rules.{AreSoundRules}
 use Rattle.mdr_sound_bodies.specs.Written.{AreNamed, AreProper}
-use Rattle.mdr_sound_files.specs.Counting.{Begins}
-use Rattle.mdr_sound_files.specs.Whole.{HasAll, IsMadeOf, CallsNothingBack, AreDefinesInRange, IsBodyProper, AreBodiesProper}
-use Rattle.mdr_sound_files.proofs.Along.{GoesOn, along}
-use Rattle.mdr_sound_files.proofs.Declaring.{defined_put, declared_keep}
-use Rattle.mdr_sound_files.proofs.Filed.{file_of, file_made}
-use Rattle.mdr_sound_files.proofs.NamedTypes.{AreNumbered}
-use Rattle.mdr_sound_files.proofs.Outlines.{names_structs}
-use Rattle.mdr_sound_files.proofs.Scopes.{IsStanding, standing_goes_on, first_standing, function_stands}
-use Rattle.mdr_sound_files.proofs.Sounding.{IsPlaced, put_either, keep_either, proper_at, headed_by, knows_declarations, body_scope_structs, body_scope_tags, func_placed}
-use Rattle.mdr_sound_files.proofs.Viewed.{Comes, OfDefine, OfStruct, OfEnum, OfGlobal, OfPrototype, OfFunction, comes_to}
+use Rattle.mdr_sound.specs.Counting.{Begins}
+use Rattle.mdr_sound.specs.Whole.{HasAll, IsMadeOf, CallsNothingBack, AreDefinesInRange, IsBodyProper, AreBodiesProper}
+use Rattle.mdr_sound.proofs.Along.{GoesOn, along}
+use Rattle.mdr_sound.proofs.Declaring.{defined_put, declared_keep}
+use Rattle.mdr_sound.proofs.Filed.{file_of, file_made}
+use Rattle.mdr_sound.proofs.NamedTypes.{AreNumbered}
+use Rattle.mdr_sound.proofs.Outlines.{names_structs}
+use Rattle.mdr_sound.proofs.Scopes.{IsStanding, standing_goes_on, first_standing, function_stands}
+use Rattle.mdr_sound.proofs.Sounding.{IsPlaced, put_either, keep_either, proper_at, headed_by, knows_declarations, body_scope_structs, body_scope_tags, func_placed}
+use Rattle.mdr_sound.proofs.Viewed.{Comes, OfDefine, OfStruct, OfEnum, OfGlobal, OfPrototype, OfFunction, comes_to}
 use Rattle.mdr_sound_scopes.specs.Bodies.{ScopedWith, IsScopedFunc}
 use Rattle.mdr_sound_scopes.specs.Plain.{ArePlainRules}
 use Rattle.mdr_sound_scopes.proofs.Making.{bodies_scoped}

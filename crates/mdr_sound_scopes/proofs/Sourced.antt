@@ -1,8 +1,8 @@
 -- The program of a source names objects only where they live: the parts of the law together.
 use Rattle.mdr_sound.proofs.Sourced.{ranges_of, bodies_of, has_all}
 use Rattle.mdr_typing.specs.Profile.{profile_rules}
-use Rattle.mdr_sound_sources.proofs.Itemising.{bytes_proper}
-use Rattle.mdr_sound_typing.proofs.Stating.{profile_sound}
+use Rattle.mdr_sound.proofs.Itemising.{bytes_proper}
+use Rattle.mdr_sound.proofs.Stating.{profile_sound}
 use Rattle.mdr_sound_scopes.specs.Sources.{SourcesAreScoped}
 use Rattle.mdr_sound_scopes.proofs.Filing.{files_scoped}
 use Rattle.mdr_sound_scopes.proofs.Typing.{profile_plain}

@@ -3,7 +3,7 @@ use Rattle.std.specs.Prelude.{ℕ, ◌≤◌, Bool, List, length}
 use Rattle.mdr_core.specs.declared.program.Program.{Program}
 use Rattle.mdr_check.specs.Uses.{UseRule}
 use Rattle.mdr_scoped.specs.Scopes.{IsScoped}
-use Rattle.mdr_sound_files.specs.Whole.{CallsNothingBack}
+use Rattle.mdr_sound.specs.Whole.{CallsNothingBack}
 use Rattle.mdr_sound.specs.Sources.{IsProgramOf}
 
 -- if its types have numbers of 32 bits, and it doesn't call back

@@ -3,8 +3,9 @@
 use mdr_core::{
     Ann, At, Func, GlobalDef, Items, Kind, LockState, Program, RefuseKind, StopKind, Ty, Value,
 };
-use mdr_model::{End, Happened, Object, Outcome, Seen};
-use mdr_report::report;
+use mdr_model::{End, Object, Seen};
+use mdr_plain::{Happened, Outcome};
+use mdr_report::report_whole;
 use std::alloc::Global;
 use std::process::Abort;
 use std::test::Fail;
@@ -113,15 +114,15 @@ fn outcome(alloc: Global, end: End) -> Result<Outcome, Fail> {
     })
 }
 
-fn printed(alloc: Global, program: &Program, outcome: &Outcome) -> Result<Vec<u8>, Fail> {
-    match report(alloc, program, outcome) {
+fn printed(alloc: Global, program: &Program, outcome: &Outcome) -> Result<Items<u8>, Fail> {
+    match report_whole(alloc, program, outcome) {
         Ok(text) => Ok(text),
         Err(_) => Err("memory was wanting".into()),
     }
 }
 
 /// The report of a run that ended so.
-fn report_of(alloc: Global, program: &Program, end: End) -> Result<Vec<u8>, Fail> {
+fn report_of(alloc: Global, program: &Program, end: End) -> Result<Items<u8>, Fail> {
     let outcome = outcome(alloc, end)?;
     let text = printed(alloc, program, &outcome);
     drop(outcome);

@@ -1,6 +1,0 @@
-use Rattle.std.proofs.Common.{◌≡◌, ◌++◌, drop}
-use Rattle.mdr_model.specs.Report.{event_lines}
-use Rattle.mdr_report.proofs.event.put_events.Given as goal
-
-abbrev pub invariant-loop-event : goal.invariant-loop-event
-invariant-loop-event l = l.out.items ++ event_lines l.program (drop l.event-index l.events) ≡ l.initial.out.items ++ event_lines l.program l.events

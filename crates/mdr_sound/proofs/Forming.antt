@@ -1,0 +1,248 @@
+-- The types that occur in a file are types of objects, whatever stands in the type table.
+use Rattle.std.proofs.Common.{◌≡◌, ℕ, zero, suc, ◌<◌, Bool, true, false, List, [], ◌∷◌, ◌++◌, length, map, Option, Some, None, refl, sym, ap, ◌∙◌, subst, slice_get, ◌⊎◌, inl, inr, arith}
+use Rattle.std.proofs.lemmas.Option.{slice_get_within}
+use Rattle.mdr_core.specs.declared.code.Stmt.{Stmt}
+use Rattle.mdr_core.specs.declared.program.Field.{Field}
+use Rattle.mdr_core.specs.declared.program.Func.{Func}
+use Rattle.mdr_core.specs.declared.program.GlobalDef.{GlobalDef}
+use Rattle.mdr_core.specs.declared.program.Local.{Local}
+use Rattle.mdr_core.specs.declared.program.Param.{Param}
+use Rattle.mdr_core.specs.declared.program.Program.{Program}
+use Rattle.mdr_core.specs.declared.program.StructDef.{StructDef}
+use Rattle.mdr_core.specs.declared.types.Ty.{Ty}
+use Rattle.mdr_core.specs.Code.{Code, Codes}
+use Rattle.mdr_core.specs.Folds.{codes_of}
+use Rattle.mdr_core.specs.Layout.{fields_or, fields_of}
+use Rattle.mdr_core.specs.TypeText.{Occurs, Allocates, AllocatesIn}
+use Rattle.mdr_core.specs.TypeText as occurs
+use Rattle.mdr_syntax.specs.declared.tree.Decl.{out-Decl}
+use Rattle.mdr_syntax.specs.declared.tree.Head.{Head}
+use Rattle.mdr_syntax.specs.declared.tree.Item.{Item}
+use Rattle.mdr_syntax.specs.declared.tree.ItemWhat.{ItemWhat}
+use Rattle.mdr_syntax.specs.declared.tree.Node.{Node}
+use Rattle.mdr_faults.specs.declared.scope.Scope.{Scope}
+use Rattle.mdr_faults.specs.Faults.{Right}
+use Rattle.mdr_headings.specs.declared.body.Body.{Body}
+use Rattle.mdr_headings.specs.declared.head.Heading.{Heading}
+use Rattle.mdr_headings.specs.Functions.{function_declared, functions_behind, behind_function, is_taken, is_defined}
+use Rattle.mdr_headings.specs.Heads.{heading}
+use Rattle.mdr_check.specs.declared.file.Known.{Known}
+use Rattle.mdr_check.specs.declared.file.Piece.{Piece}
+use Rattle.mdr_check.specs.declared.variable.Variable.{Variable}
+use Rattle.mdr_check.specs.Files.{behind_item, known_behind, first_known, pieces_behind, body_scope}
+use Rattle.mdr_body.specs.Bodies.{body_rule}
+use Rattle.mdr_body.specs.Statements.{Rules}
+use Rattle.mdr_program.specs.declared.parts.Parts.{Parts}
+use Rattle.mdr_program.specs.Parts.{marked, remote, whole, behind_piece, parts_behind, no_parts}
+use Rattle.mdr_program.specs.Occurring.{shape_types, allocated, allocated_in}
+use Rattle.mdr_program.specs.Orders.{IsAmong}
+use Rattle.mdr_sound_code.specs.Knowing.{IsFormed, Knows}
+use Rattle.mdr_sound_bodies.specs.Allocating.{AllocateFormed, AreFormedSteps}
+use Rattle.mdr_sound_bodies.specs.Within.{KnowsDeclarations}
+use Rattle.mdr_sound_bodies.proofs.AllocatingLines.{allocations_formed}
+use Rattle.mdr_sound_bodies.proofs.Making.{locals_formed}
+use Rattle.mdr_sound.specs.Counting.{Begins}
+use Rattle.mdr_sound.specs.Standing.{Stands}
+use Rattle.mdr_sound.specs.Whole.{IsMadeOf, AreDefinesInRange}
+use Rattle.mdr_sound.proofs.Along.{IsPlace, GoesOn, along, counted_all}
+use Rattle.mdr_sound.proofs.CountedItems.{last_or_before, ruled}
+use Rattle.mdr_sound.proofs.Declaring.{defined_put, declared_keep}
+use Rattle.mdr_sound.proofs.Functions.{marked_types}
+use Rattle.mdr_sound.proofs.Headings.{head_result_is, heading_params}
+use Rattle.mdr_sound.proofs.NamedTypes.{AreNumbered, declarator_good}
+use Rattle.mdr_sound.proofs.Objects.{object_sound, tags_numbered}
+use Rattle.mdr_sound.proofs.Outlines.{names_structs}
+use Rattle.mdr_sound.proofs.Passing.{function_structs}
+use Rattle.mdr_sound.proofs.Reading.{get_map, get_mapped}
+use Rattle.mdr_sound.proofs.Scopes.{IsStanding, standing_goes_on, first_standing, function_stands, global_from}
+use Rattle.mdr_sound.proofs.SoundGlobals.{declared}
+use Rattle.mdr_sound.proofs.Sounding.{put_either, keep_either}
+use Rattle.mdr_sound.proofs.Viewed.{Comes, OfDefine, OfStruct, OfEnum, OfGlobal, OfPrototype, OfFunction, comes_to}
+
+abbrev IsBodyFormed : Program → Option (List Stmt) → Type 0
+IsBodyFormed program None = Unit {0}
+IsBodyFormed program (Some body) = AllocateFormed program (codes_of body)
+
+-- the types of a function
+record IsFormedFunc (program : Program) (f : Func) : Type 0 where
+  params : (i : ℕ) (p : Param) → slice_get f.params i ≡ Some p → IsFormed program p.ty
+  locals : (i : ℕ) (l : Local) → slice_get f.locals i ≡ Some l → IsFormed program l.ty
+  body : IsBodyFormed program f.body
+
+marked_formed : (program : Program) (objects : List Bool) (ps : List Param) → ((i : ℕ) (p : Param) → slice_get ps i ≡ Some p → IsFormed program p.ty) → (i : ℕ) (p : Param) → slice_get (marked objects 0 ps) i ≡ Some p → IsFormed program p.ty
+marked_formed program objects ps h i p e =
+    let there : slice_get (map (λ (p : Param). p.ty) (marked objects 0 ps)) i ≡ Some p.ty = get_map (λ (p : Param). p.ty) (marked objects 0 ps) i p e in
+    let also : slice_get (map (λ (p : Param). p.ty) ps) i ≡ Some p.ty = ap (λ (ts : List Ty). slice_get ts i) (sym (marked_types objects 0 ps)) ∙ there in
+    let m = get_mapped (λ (p : Param). p.ty) ps i p.ty also in
+    subst (IsFormed program) m.made (h i m.item m.names)
+
+either : {A B C D : Type 0} → (A → C) → (B → D) → A ⊎ B → C ⊎ D
+either f g (inl a) = inl (f a)
+either f g (inr b) = inr (g b)
+
+-- what is among one of two lists
+in_parts : (t : Ty) (ts us : List Ty) → IsAmong t ts ⊎ IsAmong t us → IsAmong t (ts ++ us)
+in_parts t [] us (inl m) = absurd m
+in_parts t [] us (inr m) = m
+in_parts t (x ∷ ts) us (inl (inl e)) = inl e
+in_parts t (x ∷ ts) us (inl (inr m)) = inr (in_parts t ts us (inl m))
+in_parts t (x ∷ ts) us (inr m) = inr (in_parts t ts us (inr m))
+
+shape_among : (t : Ty) (shape : Option Ty) → shape ≡ Some t → IsAmong t (shape_types shape)
+shape_among t None e = absurd cc
+shape_among t (Some u) e = inl (same e)
+  where
+    same : {a b : Ty} → Some a ≡ Some b → a ≡ b
+    same q = cc
+
+-- the types that code allocates
+mutual
+  allocated_among : (t : Ty) (c : Code) → Allocates t c → IsAmong t (allocated c)
+  allocated_among t (Code.Declare n i) h = h
+  allocated_among t (Code.Text n i bytes) h = h
+  allocated_among t (Code.Assign n p e) h = h
+  allocated_among t (Code.Call n goal call) h = shape_among t call.shape h
+  allocated_among t (Code.If n e one other) h = in_parts t (allocated_in one) (allocated_in other) (either (allocated_in_among t one) (allocated_in_among t other) h)
+  allocated_among t (Code.Loop n e step body) h = in_parts t (allocated_in step) (allocated_in body) (either (allocated_in_among t step) (allocated_in_among t body) h)
+  allocated_among t (Code.Block body) h = allocated_in_among t body h
+  allocated_among t (Code.Return n e) h = h
+  allocated_among t (Code.Jump n way) h = h
+
+  allocated_in_among : (t : Ty) (cs : Codes) → AllocatesIn t cs → IsAmong t (allocated_in cs)
+  allocated_in_among t Codes.End h = h
+  allocated_in_among t (Codes.Then c cs) h = in_parts t (allocated c) (allocated_in cs) (either (allocated_among t c) (allocated_in_among t cs) h)
+
+module _ (program : Program) (rules : Rules) (items : List Item) (xs : List Piece) (right : pieces_behind (body_rule rules) items (first_known items) [] items ≡ Right xs) (made : IsMadeOf program (parts_behind no_parts xs)) (ranges : AreDefinesInRange items) (steps : (scope : Scope) → Knows program scope → AreFormedSteps program scope rules) where
+  abbrev Whole : Parts
+  Whole = parts_behind no_parts xs
+
+  abbrev Last : Known
+  Last = known_behind items (first_known items) items
+
+  abbrev Turn : List Item → Known → Item → Piece → Parts → Type 0
+  Turn = IsPlace (body_rule rules) items Whole Last.functions
+
+  abbrev AtRest : Known → Parts → Type 0
+  AtRest = IsStanding program (body_rule rules) items xs right made ranges
+
+  -- the types of globals and functions so far
+  record AreFormedParts (known : Known) (ps : Parts) : Type 0 where
+    rests : AtRest known ps
+    globals : (g : ℕ) (v : Variable) → slice_get ps.variables g ≡ Some v → IsFormed program v.object.ty
+    funcs : (i : ℕ) (f : Func) → slice_get ps.funcs i ≡ Some f → IsFormedFunc program f
+
+  -- ---- one function
+
+  scope_structs : (known : Known) (h : Head) → (body_scope items known h).structs ≡ known.scope.structs
+  unfolding behind_function
+  scope_structs known h = function_structs (is_taken known.scope h.name) known.scope (length known.functions) (is_defined items h.name) h
+
+  knows_there : (known : Known) (ps : Parts) (scope : Scope) → AtRest known ps → Stands program scope → scope.structs ≡ known.scope.structs → KnowsDeclarations program scope
+  knows_there known ps scope q st same =
+      let low : AreNumbered scope (length program.structs) = tags_numbered program scope st in
+      record {
+        formed = λ limit d o e. (object_sound program scope limit d o st e).sort;
+        small = λ limit d o e. (object_sound program scope limit d o st e).small;
+        parameters = λ d t e. (declarator_good scope (length program.structs) d low).parameter t e;
+        results = λ h t e. head_result_is scope (length program.structs) h t low e;
+        fields = λ s f entry x e g. q.fields s f entry x (ap (λ es. slice_get es s) (sym same) ∙ e) g;
+      }
+
+  scope_stands : (before : List Item) (known : Known) (ps : Parts) (h : Head) (is_body : Bool) (g : Heading) → function_declared known.scope known.functions before h is_body ≡ Right g → Begins (functions_behind known.scope known.functions h) Last.functions → AtRest known ps → AreNumbered known.scope (length program.structs) → Stands program (body_scope items known h)
+  scope_stands before known ps h is_body g e b q low =
+      function_stands program (body_rule rules) items xs right made ranges known h (record { heading = g; listed = (ruled known.scope known.functions before h is_body g e).right; begins = b }) q.stands low
+
+  heading_formed : (before : List Item) (known : Known) (ps : Parts) (h : Head) (is_body : Bool) (g : Heading) → function_declared known.scope known.functions before h is_body ≡ Right g → Begins (functions_behind known.scope known.functions h) Last.functions → AtRest known ps → AreNumbered known.scope (length program.structs) → (i : ℕ) (p : Param) → slice_get g.params i ≡ Some p → IsFormed program p.ty
+  heading_formed before known ps h is_body g e b q low i p at =
+      let listed : heading known.scope h ≡ Right g = (ruled known.scope known.functions before h is_body g e).right in
+      inl (heading_params known.scope (length program.structs) h g low listed i p at)
+
+  prototype_formed : (before : List Item) (known : Known) (ps : Parts) (h : Head) (g : Heading) → function_declared known.scope known.functions before h false ≡ Right g → Begins (functions_behind known.scope known.functions h) Last.functions → AtRest known ps → AreNumbered known.scope (length program.structs) → IsFormedFunc program (remote h.name g)
+  prototype_formed before known ps h g e b q low = record {
+    params = heading_formed before known ps h false g e b q low;
+    locals = λ i l n. absurd cc;
+    body = tt;
+  }
+
+  body_formed : (before : List Item) (known : Known) (ps : Parts) (h : Head) (is_critical : Bool) (nodes : List Node) (g : Heading) (body : Body) → function_declared known.scope known.functions before h true ≡ Right g → body_rule rules (body_scope items known h) h nodes ≡ Right body → Begins (functions_behind known.scope known.functions h) Last.functions → AtRest known ps → AreNumbered known.scope (length program.structs) → IsFormedFunc program (whole h.name is_critical g body)
+  body_formed before known ps h is_critical nodes g body e f b q low =
+      let scope = body_scope items known h in
+      let st = scope_stands before known ps h true g e b q low in
+      record {
+        params = marked_formed program body.objects g.params (heading_formed before known ps h true g e b q low);
+        locals = locals_formed program rules scope h nodes body (knows_there known ps scope q st (scope_structs known h)) f;
+        body = (allocations_formed program scope rules (steps scope st.knows)).bodies h nodes body f;
+      }
+
+  one_formed : (fs : List Func) (f g : Func) → ((i : ℕ) (f : Func) → slice_get fs i ≡ Some f → IsFormedFunc program f) → IsFormedFunc program f → (i : ℕ) → (slice_get fs i ≡ Some g) ⊎ (f ≡ g) → IsFormedFunc program g
+  one_formed fs f g h own i (inl old) = h i g old
+  one_formed fs f g h own i (inr new) = subst (IsFormedFunc program) new own
+
+  one_global : (vs : List Variable) (v w : Variable) → ((g : ℕ) (v : Variable) → slice_get vs g ≡ Some v → IsFormed program v.object.ty) → IsFormed program v.object.ty → (g : ℕ) → (slice_get vs g ≡ Some w) ⊎ (v ≡ w) → IsFormed program w.object.ty
+  one_global vs v w h own g (inl old) = h g w old
+  one_global vs v w h own g (inr new) = subst (λ (u : Variable). IsFormed program u.object.ty) new own
+
+  formed_behind : (before : List Item) (known : Known) (ps : Parts) (what : ItemWhat) (x : Piece) → Comes (body_rule rules) items before known what x → Begins (behind_item items known what).functions Last.functions → AreNumbered known.scope (length program.structs) → AtRest (behind_item items known what) (behind_piece ps x) → AreFormedParts known ps → AreFormedParts (behind_item items known what) (behind_piece ps x)
+  formed_behind before known ps _ _ (OfDefine name is_negative n k) begins low rests q = record { rests = rests; globals = q.globals; funcs = q.funcs }
+  formed_behind before known ps _ _ (OfStruct at name ds fields) begins low rests q = record { rests = rests; globals = q.globals; funcs = q.funcs }
+  formed_behind before known ps _ _ (OfEnum es) begins low rests q = record { rests = rests; globals = q.globals; funcs = q.funcs }
+  formed_behind before known ps _ _ (OfGlobal d init v e) begins low rests q =
+      let own = (object_sound program known.scope (out-Decl d).place d v.object (q.rests).stands (declared known.scope known.globals d init v e).object).sort in
+      record { rests = rests; globals = λ g w n. one_global ps.variables v w q.globals own g (last_or_before ps.variables v g w n); funcs = q.funcs }
+  formed_behind before known ps _ _ (OfPrototype h is_remote g e) begins low rests q = record {
+    rests = rests;
+    globals = q.globals;
+    funcs = λ i f n. one_formed ps.funcs (remote h.name g) f q.funcs (prototype_formed before known ps h g e begins q.rests low) i (keep_either ps.funcs (remote h.name g) f i (ap (λ fs. slice_get fs i) (sym (declared_keep ps.funcs (remote h.name g))) ∙ n));
+  }
+  formed_behind before known ps _ _ (OfFunction h is_critical nodes g b e f) begins low rests q = record {
+    rests = rests;
+    globals = q.globals;
+    funcs = λ i k n. one_formed ps.funcs (whole h.name is_critical g b) k q.funcs (body_formed before known ps h is_critical nodes g b e f begins q.rests low) i (put_either ps.funcs (whole h.name is_critical g b) k i (ap (λ fs. slice_get fs i) (sym (defined_put ps.funcs (whole h.name is_critical g b))) ∙ n));
+  }
+
+  formed_goes_on : GoesOn (body_rule rules) items Whole Last.functions AreFormedParts
+  formed_goes_on = record {
+    behind = λ before known i x ps place q.
+        formed_behind before known ps i.what x (comes_to (body_rule rules) items before known i.place i.what x place.one)
+        place.declared
+        (names_structs program (body_rule rules) items xs right made known.scope (place.at).tags)
+        ((standing_goes_on program (body_rule rules) items xs right made ranges).behind before known i x ps place q.rests)
+        q;
+  }
+
+  all_formed : AreFormedParts Last Whole
+  all_formed = along (body_rule rules) items xs AreFormedParts right formed_goes_on (record { rests = first_standing program (body_rule rules) items xs right made ranges; globals = λ g v e. absurd cc; funcs = λ i f e. absurd cc })
+
+  -- ---- the program
+
+  there_is : {A : Type 0} (xs : List A) (i : ℕ) → i < length xs → (x : A) × (slice_get xs i ≡ Some x)
+  there_is [] i less = absurd (omega (arith, less))
+  there_is (x ∷ rest) zero less = (x, refl)
+  there_is (x ∷ rest) (suc i) less = there_is rest i (omega (arith, less))
+
+  structs_many : length Last.scope.structs ≡ length program.structs
+  structs_many = (counted_all (body_rule rules) items xs right).structs ∙ ap length (sym made.structs)
+
+  field_formed : (s f : ℕ) (def : StructDef) (x : Field) → slice_get program.structs s ≡ Some def → slice_get def.fields f ≡ Some x → IsFormed program x.ty
+  field_formed s f def x names e =
+      let inside = slice_get_within program.structs s def names in
+      let entry = there_is Last.scope.structs s (subst (λ n. s < n) (sym structs_many) inside) in
+      let at : slice_get (fields_of program.structs s) f ≡ Some x = ap (λ (o : Option StructDef). slice_get (fields_or o) f) names ∙ e in
+      let m = (all_formed.rests).fields s f entry.0 x entry.1 at in
+      subst (IsFormed program) m.ty (((all_formed.rests).stands.knows).members s f entry.0 m.member m.object entry.1 m.at m.means).formed
+
+  func_at : (f : ℕ) (func : Func) → slice_get program.funcs f ≡ Some func → IsFormedFunc program func
+  func_at f func e = all_formed.funcs f func (ap (λ fs. slice_get fs f) (sym made.funcs) ∙ e)
+
+  body_at : (f : ℕ) (func : Func) (body : List Stmt) → slice_get program.funcs f ≡ Some func → func.body ≡ Some body → AllocateFormed program (codes_of body)
+  body_at f func body e is = subst (IsBodyFormed program) is (func_at f func e).body
+
+  -- each type that occurs in the program of a file without faults is a type of objects
+  pub types_formed : (t : Ty) → Occurs program t → IsFormed program t
+  types_formed t (occurs.OfField s f def x names e is) = subst (IsFormed program) is (field_formed s f def x names e)
+  types_formed t (occurs.OfGlobal g def names is) =
+      let v = global_from program.types Whole.structs Whole.variables Whole.variables g def (ap (λ gs. slice_get gs g) (sym made.globals) ∙ names) in
+      subst (IsFormed program) (ap (λ (d : GlobalDef). d.ty) v.2 ∙ is) (all_formed.globals g v.0 v.1)
+  types_formed t (occurs.OfParam f i func p names e is) = subst (IsFormed program) is ((func_at f func names).params i p e)
+  types_formed t (occurs.OfLocal f i func l names e is) = subst (IsFormed program) is ((func_at f func names).locals i l e)
+  types_formed t (occurs.OfAllocation f func body names is m) = body_at f func body names is t (allocated_in_among t (codes_of body) m)

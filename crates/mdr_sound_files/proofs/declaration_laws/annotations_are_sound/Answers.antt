@@ -1,5 +1,0 @@
-use Rattle.mdr_sound_files.proofs.Annotating.{annotation_sound}
-use Rattle.mdr_sound_files.proofs.declaration_laws.annotations_are_sound.Goals as goal
-
-pub returns : goal.returns
-returns c = annotation_sound

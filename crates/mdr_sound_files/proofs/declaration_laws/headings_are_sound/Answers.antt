@@ -1,5 +1,0 @@
-use Rattle.mdr_sound_files.proofs.Headings.{heading_sound}
-use Rattle.mdr_sound_files.proofs.declaration_laws.headings_are_sound.Goals as goal
-
-pub returns : goal.returns
-returns c = heading_sound

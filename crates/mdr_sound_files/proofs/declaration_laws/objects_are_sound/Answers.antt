@@ -1,5 +1,0 @@
-use Rattle.mdr_sound_files.proofs.Objects.{object_sound}
-use Rattle.mdr_sound_files.proofs.declaration_laws.objects_are_sound.Goals as goal
-
-pub returns : goal.returns
-returns c = object_sound

@@ -1,5 +1,0 @@
-use Rattle.mdr_sound_files.proofs.StructsKnown.{struct_known}
-use Rattle.mdr_sound_files.proofs.declaration_laws.structs_are_known.Goals as goal
-
-pub returns : goal.returns
-returns c = struct_known

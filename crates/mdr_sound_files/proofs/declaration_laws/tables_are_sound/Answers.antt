@@ -1,5 +1,0 @@
-use Rattle.mdr_sound_files.proofs.Tables.{table_sound}
-use Rattle.mdr_sound_files.proofs.declaration_laws.tables_are_sound.Goals as goal
-
-pub returns : goal.returns
-returns c = table_sound

@@ -1,6 +1,0 @@
-pub mod Numbering
-pub mod Identifying
-pub mod Forming
-pub mod Named
-pub mod Lined
-pub mod Itemising

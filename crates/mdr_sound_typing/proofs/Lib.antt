@@ -1,6 +1,0 @@
-pub mod Parts
-pub mod Stepping
-pub mod Standing
-pub mod Giving
-pub mod Stating
-pub mod Allocating
