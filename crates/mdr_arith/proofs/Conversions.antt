@@ -7,7 +7,8 @@ use Rattle.std.proofs.lemmas.Nat.{pow_pos}
 use Rattle.mdr_core.specs.declared.kind.Kind.{Kind}
 use Rattle.mdr_core.specs.declared.kind.Kind.TheVariants.{U8, U16, U32, U64, S8, S16, S32, S64}
 use Rattle.mdr_core.specs.Conversions.{converted}
-use Rattle.mdr_core.specs.Kinds.{width, least, greatest}
+use Rattle.mdr_core.specs.Kinds.{width, least, greatest, is_in_range}
+use Rattle.mdr_core.proofs.Conversions.{converted-of_range}
 use Rattle.mdr_core.proofs.Ranges.{zero-le-greatest, greatest-is}
 use Rattle.mdr_arith.proofs.Residues.{residue, rem_add-low, rem_add-high}
 use Rattle.mdr_arith.proofs.Sizes.{modulus-small, greatest-high}
@@ -72,16 +73,13 @@ modulus-fits : (k : Kind) → FitsSigned w128 (pos (2 ^ width k))
 modulus-fits k = let small = modulus-small k in omega (arith, ints)
 
 -- the facts that the code has before its test
-pub record Knows (k : Kind) (n size low most : ℤ) : Type 0 where
+pub record Knows (k : Kind) (n low most : ℤ) : Type 0 where
   pub fits : FitsSigned w128 n
-  pub size_is : size ≡ pos (2 ^ width k)
-  pub low_is : low ≡ int_rem_euclid (to_z w128 (of_z w128 n)) (to_z w128 (of_z w128 size))
+  pub low_is : low ≡ int_rem_euclid (to_z w128 (of_z w128 n)) (pos (2 ^ width k))
   pub most_is : most ≡ greatest k
 
-read-low : (k : Kind) (n size low most : ℤ) → Knows k n size low most → low ≡ int_rem_euclid n (pos (2 ^ width k))
-read-low k n size low most s =
-    let whole : to_z w128 (of_z w128 size) ≡ pos (2 ^ width k) = ap (λ x. to_z w128 (of_z w128 x)) s.size_is ∙ to_z-of_z w128 (pos (2 ^ width k)) (modulus-fits k) in
-    s.low_is ∙ ap (λ x. int_rem_euclid x (to_z w128 (of_z w128 size))) (to_z-of_z w128 n s.fits) ∙ ap (int_rem_euclid n) whole
+read-low : (k : Kind) (n low most : ℤ) → Knows k n low most → low ≡ int_rem_euclid n (pos (2 ^ width k))
+read-low k n low most s = s.low_is ∙ ap (λ x. int_rem_euclid x (pos (2 ^ width k))) (to_z-of_z w128 n s.fits)
 
 held : (x y : ℤ) → x ≡ y → FitsSigned w128 y → to_z w128 (of_z w128 x) ≡ y
 held x y e f = ap (λ z. to_z w128 (of_z w128 z)) e ∙ to_z-of_z w128 y f
@@ -89,10 +87,10 @@ held x y e f = ap (λ z. to_z w128 (of_z w128 z)) e ∙ to_z-of_z w128 y f
 value-fits : (k : Kind) (v : ℕ) → v < 2 ^ width k → FitsSigned w128 (pos v)
 value-fits k v h = let small = modulus-small k in omega (arith, ints)
 
-pub conv-high : (k : Kind) (n size low most : ℤ) → Knows k n size low most → int_lt (to_z w128 (of_z w128 most)) (to_z w128 (of_z w128 low)) ≡ true → to_z w128 (of_z w128 (to_z w128 (of_z w128 low) -ℤ to_z w128 (of_z w128 size))) ≡ converted k n
-conv-high k n size low most s h =
+pub conv-high : (k : Kind) (n size low most : ℤ) → Knows k n low most → size ≡ pos (2 ^ width k) → int_lt (to_z w128 (of_z w128 most)) (to_z w128 (of_z w128 low)) ≡ true → to_z w128 (of_z w128 (to_z w128 (of_z w128 low) -ℤ to_z w128 (of_z w128 size))) ≡ converted k n
+conv-high k n size low most s whole h =
     let r = residue n (2 ^ width k) (pow_pos (width k)) in
-    let is : low ≡ pos r.value = read-low k n size low most s ∙ r.is in
+    let is : low ≡ pos r.value = read-low k n low most s ∙ r.is in
     let fits = value-fits k r.value r.small in
     let test = rw (held most (greatest k) s.most_is (greatest-fits k), held low (pos r.value) is fits) at h in
     let over = above-from (greatest k) (pos r.value) test in
@@ -100,15 +98,21 @@ conv-high k n size low most s h =
     let below = r.small in
     let last : to_z w128 (of_z w128 (pos r.value -ℤ pos (2 ^ width k))) ≡ pos r.value -ℤ pos (2 ^ width k) = omega (arith, ints) in
     ap (λ x. to_z w128 (of_z w128 (x -ℤ to_z w128 (of_z w128 size)))) (held low (pos r.value) is fits)
-    ∙ ap (λ x. to_z w128 (of_z w128 (pos r.value -ℤ x))) (held size (pos (2 ^ width k)) s.size_is (modulus-fits k))
+    ∙ ap (λ x. to_z w128 (of_z w128 (pos r.value -ℤ x))) (held size (pos (2 ^ width k)) whole (modulus-fits k))
     ∙ last
     ∙ sym (converted-high k n r.value r.is over)
 
-pub conv-low : (k : Kind) (n size low most : ℤ) → Knows k n size low most → int_lt (to_z w128 (of_z w128 most)) (to_z w128 (of_z w128 low)) ≡ false → to_z w128 (of_z w128 low) ≡ converted k n
-conv-low k n size low most s h =
+pub conv-low : (k : Kind) (n low most : ℤ) → Knows k n low most → int_lt (to_z w128 (of_z w128 most)) (to_z w128 (of_z w128 low)) ≡ false → to_z w128 (of_z w128 low) ≡ converted k n
+conv-low k n low most s h =
     let r = residue n (2 ^ width k) (pow_pos (width k)) in
-    let is : low ≡ pos r.value = read-low k n size low most s ∙ r.is in
+    let is : low ≡ pos r.value = read-low k n low most s ∙ r.is in
     let fits = value-fits k r.value r.small in
     let test = rw (held most (greatest k) s.most_is (greatest-fits k), held low (pos r.value) is fits) at h in
     let under = below-from (greatest k) (pos r.value) test in
     held low (pos r.value) is fits ∙ sym (converted-low k n r.value r.is under)
+
+-- a number of the range is returned as it is
+pub conv-whole : (k : Kind) (n : ℤ) → FitsSigned w128 n → is_in_range k (to_z w128 (of_z w128 n)) ≡ true → to_z w128 (of_z w128 n) ≡ converted k n
+conv-whole k n f h =
+    let same = to_z-of_z w128 n f in
+    same ∙ sym (converted-of_range k n (ap (is_in_range k) (sym same) ∙ h))

@@ -7,14 +7,14 @@ ghost use Rattle.mdr_core.specs.Kinds.{width, is_in_range};
 ghost use Rattle.mdr_core.specs.Operators.{bitwise, flipped};
 
 use crate::conversion::conv;
-use crate::fit::modulus;
+use crate::fit::residue;
 use mdr_core::Kind;
 
 /// The bits of a number at a kind.
 fn bits(kind: Kind, a: i128) -> u64
     ensures { pos result ≡ int_rem_euclid a (pos (2 ^ width kind)) }
 {
-    a.rem_euclid(modulus(kind)) as u64
+    residue(kind, a) as u64
 }
 
 /// The number of a kind that has these bits.

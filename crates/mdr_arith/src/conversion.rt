@@ -3,15 +3,26 @@
 ghost use Rattle.std.specs.Prelude.{◌≡◌};
 ghost use Rattle.mdr_core.specs.Conversions.{converted, promoted, common_kind};
 
-use crate::fit::modulus;
+use crate::fit::{modulus, residue};
 use mdr_core::Kind;
 
 /// A number converted to a kind. A signed kind wraps, as an unsigned one does.
 pub fn conv(kind: Kind, number: i128) -> i128
     ensures { result ≡ converted kind number }
 {
+    if kind.contains(number) {
+        number
+    } else {
+        wrapped(kind, number)
+    }
+}
+
+/// The number of a kind that has a number's residue.
+fn wrapped(kind: Kind, number: i128) -> i128
+    ensures { result ≡ converted kind number }
+{
     let size = modulus(kind);
-    let low = number.rem_euclid(size);
+    let low = residue(kind, number);
     if low > kind.greatest() {
         low - size
     } else {

@@ -1,6 +1,7 @@
 // A mathematical result at a kind.
 
 ghost use Rattle.std.specs.Prelude.{◌≡◌, ◌^◌, pos};
+ghost use Rattle.std.specs.Int.{int_rem_euclid};
 ghost use Rattle.mdr_core.specs.Kinds.{width};
 ghost use Rattle.mdr_core.specs.Operators.{fitted_or};
 
@@ -13,6 +14,19 @@ pub(crate) fn modulus(kind: Kind) -> i128
     1 << kind.width()
 }
 
+/// What a number leaves of how many numbers a kind has. No division is made where it is less than
+/// that.
+pub(crate) fn residue(kind: Kind, number: i128) -> i128
+    ensures { result ≡ int_rem_euclid number (pos (2 ^ width kind)) }
+{
+    let size = modulus(kind);
+    if 0 <= number && number < size {
+        number
+    } else {
+        number.rem_euclid(size)
+    }
+}
+
 /// A result at a kind: an unsigned kind wraps, a signed one has none that is out of its range, for
 /// that reason.
 #[tactic(auto, unfolding(mdr_core::specs::Operators::fitted_or))]
@@ -20,7 +34,7 @@ pub(crate) fn fit(reason: Undefined, kind: Kind, number: i128) -> Result<i128, U
     ensures { result ≡ fitted_or reason kind number }
 {
     if !kind.is_signed() {
-        Ok(number.rem_euclid(modulus(kind)))
+        Ok(residue(kind, number))
     } else if kind.contains(number) {
         Ok(number)
     } else {

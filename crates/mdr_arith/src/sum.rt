@@ -45,5 +45,11 @@ pub(crate) fn multiply(kind: Kind, a: i128, b: i128) -> Result<i128, Undefined>
         return fit(Undefined::Overflow, kind, a * b);
     }
     let product = a as u128 * b as u128;
-    Ok((product % modulus(kind) as u128) as i128)
+    let size = modulus(kind) as u128;
+    let left = if product < size {
+        product
+    } else {
+        product % size
+    };
+    Ok(left as i128)
 }

@@ -1,14 +1,6 @@
-use Rattle.mdr_arith.proofs.Conversions.{conv-high, conv-low}
+use Rattle.std.proofs.Common.{◌∙◌, sym}
+use Rattle.mdr_arith.proofs.Conversions.{conv-whole}
 use Rattle.mdr_arith.proofs.conversion.conv.Goals as goal
 
-pub returns-then-low-greatest : goal.returns-then-low-greatest
-returns-then-low-greatest c =
-    conv-high c.args.kind c.args.number c.modulus-size.result c.rem_euclid-low.result c.greatest.result
-    (record { fits = c.ranges.number; size_is = c.modulus-size.ensures; low_is = c.rem_euclid-low.ensures.value; most_is = c.greatest.ensures })
-    c.if-low-greatest.true
-
-pub returns-else-low-greatest : goal.returns-else-low-greatest
-returns-else-low-greatest c =
-    conv-low c.args.kind c.args.number c.modulus-size.result c.rem_euclid-low.result c.greatest.result
-    (record { fits = c.ranges.number; size_is = c.modulus-size.ensures; low_is = c.rem_euclid-low.ensures.value; most_is = c.greatest.ensures })
-    c.if-low-greatest.false
+pub returns-then-contains : goal.returns-then-contains
+returns-then-contains c = conv-whole c.args.kind c.args.number c.ranges.number (sym c.contains.ensures ∙ c.if-contains.true)
