@@ -91,14 +91,14 @@ stepping part.Other b h = absurd (cc h)
 stepping part.Inner b h = absurd (cc h)
 
 -- a statement that is under way and what follows it
-under_way : (cs : Codes) (next : ℕ) (c : Code) → code_before cs next ≡ Some c → behind cs (next - 1) ≡ Codes.Then c (behind cs next)
+pub under_way : (cs : Codes) (next : ℕ) (c : Code) → code_before cs next ≡ Some c → behind cs (next - 1) ≡ Codes.Then c (behind cs next)
 under_way cs zero c h = absurd (cc h)
 under_way cs (suc i) c h = let back : suc i - 1 ≡ i = omega arith in rw back (next_stands cs i c h)
 
 -- ---- what is held
 
 -- nothing follows at the end of a list
-nothing_more : (side : Side) (low : Means) (here : Here) (k : Next) → on_ends (stmts side low here Codes.End) k ≡ k
+pub nothing_more : (side : Side) (low : Means) (here : Here) (k : Next) → on_ends (stmts side low here Codes.End) k ≡ k
 nothing_more side low here k = fun_ext (λ flow. fun_ext (λ l. by_flow flow l)) where
   by_flow : (flow : Flow) (l : Locals) → on_ends (stmts side low here Codes.End) k flow l ≡ k flow l
   by_flow Ends l = refl

@@ -30,3 +30,7 @@ pub mod ArgumentLaws
 pub mod ParamLaws
 pub mod PrintLaws
 pub mod ReceivingLaws
+mod IntegerLaws
+mod QuickLaws
+mod BehindLaws
+mod TurningLaws

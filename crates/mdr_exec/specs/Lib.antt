@@ -23,3 +23,6 @@ pub mod Entering
 pub mod Printing
 pub mod Halves
 pub mod Going
+pub mod Integers
+pub mod Quick
+pub mod Behind

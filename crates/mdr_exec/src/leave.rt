@@ -7,6 +7,7 @@ ghost use Rattle.mdr_meaning.specs.Sides.{Ends, Side as AnySide};
 ghost use Rattle.mdr_exec.specs.declared.frame.Frame.{Frame as AnyFrame};
 ghost use Rattle.mdr_exec.specs.declared.frame.Front.TheVariants as front;
 ghost use Rattle.mdr_exec.specs.declared.places.Position.{Position as AnyPosition};
+ghost use Rattle.mdr_exec.specs.Behind.{is_stepless};
 ghost use Rattle.mdr_exec.specs.Found.{body_codes, codes_in};
 ghost use Rattle.mdr_exec.specs.Holding.{block_of, flow_as, front_in, held_of, is_running, wires_of};
 ghost use Rattle.mdr_exec.specs.Leaving.{LeavesNone, ending_by, goes_behind, goes_round, is_loop, leaves_list, passed_on, step_left, turn_left};
@@ -50,8 +51,9 @@ pub(crate) fn what_ends(part: Part, loops: bool) -> Ending
     }
 }
 
-fn is_while(statement: &Stmt) -> bool
-    ensures { result ≡ is_loop (Some (code_of statement.now)) }
+pub(crate) fn is_while(statement: &Stmt) -> bool
+    ensures loops { result ≡ is_loop (Some (code_of statement.now)) }
+    ensures stepless { result ≡ is_stepless (Some (code_of statement.now)) }
 {
     match &statement.step {
         Step::While(_, _) => true,

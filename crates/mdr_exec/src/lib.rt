@@ -12,12 +12,17 @@
 //! is left: what it answers is what a walk of the tree comes to, and what it holds then has the tree that is left. The side
 //! says which functions' bodies are entered, by the halves of the functions, and whether objects of locals are asked for.
 //!
+//! Most steps are written for every value and every way out. Statements in which all values are integers take a shorter
+//! way (`integers`, `quick`, `turning`, `behind`), one after another, with the same equations: what it meets that is no
+//! integer it leaves to the other.
+//!
 //! Where memory is wanting, or a value doesn't fit what is done with it (`Halt`), nothing is promised of the machine.
 #![tactic(auto)]
 
 mod arguments;
 mod assign;
 mod begin;
+mod behind;
 mod call;
 mod calling;
 mod close;
@@ -28,6 +33,8 @@ mod frame;
 mod go;
 mod halt;
 mod halves;
+mod integer;
+mod integers;
 mod keep;
 mod laws;
 mod layout;
@@ -41,6 +48,7 @@ mod params;
 mod places;
 mod pointers;
 mod printing;
+mod quick;
 mod receive;
 mod run;
 mod slots;
@@ -49,12 +57,14 @@ mod statement;
 mod step;
 mod text;
 mod turn;
+mod turning;
 mod unwind;
 mod values;
 
 pub use event::{Asked, Crossing, Event, Outcome};
 pub use frame::{Flow, Frame, Front, Machine, Side, Suspended, Until};
 pub use halt::Halt;
+pub use integer::Integer;
 pub use laws::{
     each_run_is_made, each_statement_steps, evaluation_is_walked, functions_are_started,
     held_work_goes_on, questions_are_answered, sides_are_halves, statements_want_ticks,

@@ -1,5 +1,6 @@
 // The memory that code runs on.
 
+use crate::integer::Integer;
 use mdr_core::{Items, StopKind, Value};
 use mdr_meaning::Shape64;
 use std::alloc::{AllocError, Global};
@@ -7,10 +8,11 @@ use std::alloc::{AllocError, Global};
 /// A memory, as code sees it. `accesses` is what is done to it, and what that comes to. A pointer's slot is where its
 /// block was seen last: it makes an access fast, and an access with any other slot comes to the same.
 pub trait Memory {
-    ghost use Rattle.std.specs.Prelude.{◌≡◌, IfOk, OnErr, OnOk};
+    ghost use Rattle.std.specs.Prelude.{◌≡◌, IfOk, IfSome, OnErr, OnOk, false, true};
     ghost use Rattle.mdr_meaning.specs.Values.{wire_of};
     ghost use Rattle.mdr_meaning.specs.Walk.{Accesses};
     ghost use Rattle.mdr_exec.specs.Holding.{wires_of};
+    ghost use Rattle.mdr_exec.specs.Integers.{FirstIs, FirstBecomes};
     ghost use Rattle.mdr_exec.specs.Outcomes.{wired, when_made};
 
     ghost accesses: { Accesses Self };
@@ -27,6 +29,15 @@ pub trait Memory {
     fn store(&mut self, pointer: Value, value: Value) -> Result<(), StopKind>
         ensures made { accesses.store self.old (wire_of pointer) (wire_of value) ≡ when_made result self.new }
         ensures kept { OnErr result (self.new ≡ self.old) };
+
+    /// The integer in the first cell of the block with this serial, where it is found at once.
+    fn first(&self, serial: u64) -> Option<Integer>
+        ensures { IfSome result (λ n. FirstIs accesses self.now serial n) };
+
+    /// Puts an integer there, if that is done at once.
+    fn set_first(&mut self, serial: u64, integer: Integer) -> bool
+        ensures done { result ≡ true → FirstBecomes accesses self.old serial integer self.new }
+        ensures kept { result ≡ false → self.new ≡ self.old };
 
     /// What so many bytes from a pointer on hold, as one access.
     fn read(

@@ -115,7 +115,7 @@ fn statement_list<'a>(statement: &'a Stmt, part: Part) -> Found<'a>
     }
 }
 
-fn statement_at<'a>(statements: &'a [Stmt], i: usize) -> Option<&'a Stmt>
+pub(crate) fn statement_at<'a>(statements: &'a [Stmt], i: usize) -> Option<&'a Stmt>
     ensures { option_copied result ≡ slice_get statements.now i }
 {
     statements.get(i)

@@ -266,7 +266,7 @@ fn global_pointer(program: &Program, slot: u32, number: u32, def: &GlobalDef) ->
     }))
 }
 
-fn global_at(program: &Program, number: u32) -> Option<&GlobalDef>
+pub(crate) fn global_at(program: &Program, number: u32) -> Option<&GlobalDef>
     ensures { option_copied result ≡ slice_get program.now.globals number }
 {
     program.globals.as_slice().get(number as usize)

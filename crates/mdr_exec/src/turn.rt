@@ -30,6 +30,7 @@ use crate::next::{run_out, stands_next, take_object};
 use crate::params::{enter_function, fill};
 use crate::places::{Standing, Turn};
 use crate::statement::{do_statement, do_turn};
+use crate::turning::run_integers;
 use crate::unwind::{Left, unwind};
 use mdr_core::{At, Half, Items, Program, Step, Stmt, Value};
 use std::alloc::Global;
@@ -292,7 +293,8 @@ pub(crate) fn step<C: Memory>(
 {
     match &machine.front {
         Front::Runs => {
-            let stepped = step_next(machine, alloc, program, halves, memory, left)?;
+            let rest = run_integers(machine, alloc, program, memory, left)?;
+            let stepped = step_next(machine, alloc, program, halves, memory, rest)?;
             Ok(stepped)
         }
         Front::Unwinds(flow) => {

@@ -6,7 +6,7 @@ ghost use Rattle.mdr_user_code.specs.Copied.{copied};
 use crate::access::{fresh, loaded, stored};
 use crate::bytes::read;
 use mdr_core::{Items, StopKind, Value};
-use mdr_exec::Memory;
+use mdr_exec::{Integer, Memory};
 use mdr_meaning::Shape64;
 use mdr_model::{Cell, MemoryBlock};
 use std::alloc::{AllocError, Global};
@@ -68,6 +68,14 @@ impl Memory for UserMemory {
 
     fn store(&mut self, pointer: Value, value: Value) -> Result<(), StopKind> {
         stored(self.view.as_slice(), &mut self.blocks, pointer, value)
+    }
+
+    fn first(&self, _serial: u64) -> Option<Integer> {
+        None
+    }
+
+    fn set_first(&mut self, _serial: u64, _integer: Integer) -> bool {
+        false
     }
 
     fn read(

@@ -1,14 +1,17 @@
 -- Accesses that are held to a set.
 use Rattle.std.proofs.Common.{◌≡◌, ℕ, suc, ◌+◌, ◌-◌, ◌<◌, ◌≤◌, arith, Bool, true, false, not, ◌&&◌, List, [], ◌∷◌, Result, Ok, Err, refl, sym, ◌∙◌, ap, subst}
-use Rattle.std.specs.Prelude.{OnErr, nat_le}
+use Rattle.std.specs.Prelude.{OnErr, nat_le, nat_lt}
 use Rattle.std.specs.List.{list_all}
 use Rattle.mdr_core.specs.declared.program.Program.{Program}
 use Rattle.mdr_core.specs.declared.stop.StopKind.{StopKind}
 use Rattle.mdr_core.specs.declared.stop.StopKind.TheVariants as stop
 use Rattle.mdr_extents.specs.CellOrder.{cells}
+use Rattle.mdr_exec.specs.declared.integer.Integer.{Integer}
+use Rattle.mdr_exec.specs.Integers.{FirstBecomes, FirstIs, IsFirst, integer_wire}
 use Rattle.mdr_exec.specs.Outcomes.{when_made}
 use Rattle.mdr_meaning.specs.declared.wire.Wire.{Wire}
 use Rattle.mdr_meaning.specs.declared.wire.Wire.TheVariants as wire
+use Rattle.mdr_meaning.specs.declared.wire.WireView.{WireView}
 use Rattle.mdr_model.specs.declared.memory.Cell.{Cell}
 use Rattle.mdr_model.specs.Memory.{Memory, cell_of, everywhere, is_live, loaded, loaded_from, reached, reached_by, stored, stored_into}
 use Rattle.mdr_model.specs.Sets.{cells_from}
@@ -155,6 +158,35 @@ store_guarded program set w (Ok m) (Ok x) d' g e kept = let same : driver progra
 store_guarded program set w (Ok m) (Err kind) d' g e kept = absurd (cc e)
 store_guarded program set w (Err kind) (Ok x) d' g e kept = absurd (cc e)
 store_guarded program set w (Err kind) (Err kind') d' g e kept = subst (λ (d : Driven). IsGuarded set d.world) (sym kept) g
+
+-- ---- first cells that are in the set
+
+abbrev at_first : ℕ → WireView
+at_first serial = record { serial = serial; first = 0; ty = 0; count = 1; index = 0 }
+
+none_out : (x y : Bool) → x && (y && false) ≡ false
+none_out true true = refl
+none_out true false = refl
+none_out false y = refl
+
+module _ (program : Program) (set : List Cell) (w : World) (serial : ℕ) (n : Integer) where
+  first_in : is_in cells set (record { serial = serial; index = 0 }) ≡ true → (v : WireView) → IsFirst serial v → is_kept_out set w.memory (wire.Ptr v) ≡ false
+  first_in has v f =
+      let start : v.first + v.index ≡ 0 = omega (arith, f.first, f.index) in
+      let here : is_in cells set (cell_of v) ≡ true = (λ i. is_in cells set (record { serial = f.block i; index = start i })) ∙ has in
+      ap (λ b. is_live w.memory v.serial && (nat_lt v.index v.count && not b)) here ∙ none_out _ _
+
+  pub first_goes : (g : Driven) → driver program (viewed set w) ≡ g → is_in cells set (record { serial = serial; index = 0 }) ≡ true → FirstIs driven_accesses (driver program w) serial n → FirstIs guarded_accesses g serial n
+  first_goes g is has e v f = sym (load_goes program set w g is (wire.Ptr v) (first_in has v f)) ∙ e v f
+
+  pub put_goes : (g : Driven) → driver program (viewed set w) ≡ g → is_in cells set (record { serial = serial; index = 0 }) ≡ true → (d' : Driven) → FirstBecomes driven_accesses (driver program w) serial n d'
+      → FirstBecomes guarded_accesses g serial n (driver d'.program (viewed set d'.world))
+  put_goes g is has d' e v f = store_goes program set w g is (wire.Ptr v) (integer_wire n) (first_in has v f) (Ok tt) d' (e v f)
+
+  pub put_guarded : (done : Bool) (d' : Driven) → IsGuarded set w → (done ≡ true → FirstBecomes driven_accesses (driver program w) serial n d') → (done ≡ false → d' ≡ driver program w) → IsGuarded set d'.world
+  put_guarded true d' g put kept =
+      store_guarded program set w (stored everywhere w.memory (wire.Ptr (at_first serial)) (integer_wire n)) (Ok tt) d' g (put refl (at_first serial) (record { block = refl; first = refl; index = refl; some = omega arith })) tt
+  put_guarded false d' g put kept = subst (λ (d : Driven). IsGuarded set d.world) (sym (kept refl)) g
 
 pub death_guarded : (set : List Cell) (w : World) (ps : List Wire) → IsGuarded set w → IsGuarded set (deaths ps w)
 death_guarded set w ps g = let b = deaths_keep (IsBeside set) (beside_kept set) ps w (record { upcall = g.upcall; older = g.older }) in record { upcall = b.upcall; older = b.older }

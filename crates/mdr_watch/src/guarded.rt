@@ -12,7 +12,7 @@ ghost use Rattle.mdr_watch.specs.Guarding.{IsGuarded};
 use crate::kept_out::{are_kept_out, is_kept_out};
 use mdr_cells::CellSet;
 use mdr_core::{Items, StopKind, Value};
-use mdr_exec::Memory;
+use mdr_exec::{Integer, Memory};
 use mdr_meaning::Shape64;
 use mdr_world::World;
 use std::alloc::{AllocError, Global};
@@ -126,6 +126,20 @@ impl<'a> Memory for Guarded<'a> {
             return Err(StopKind::Annotation);
         }
         self.world.store(pointer, value)
+    }
+
+    fn first(&self, serial: u64) -> Option<Integer> {
+        if !self.set.has(serial, 0) {
+            return None;
+        }
+        self.world.first(serial)
+    }
+
+    fn set_first(&mut self, serial: u64, integer: Integer) -> bool {
+        if !self.set.has(serial, 0) {
+            return false;
+        }
+        self.world.set_first(serial, integer)
     }
 
     fn read(

@@ -1,4 +1,5 @@
 pub mod BlockLaws
+mod FirstLaws
 pub mod GateLaws
 pub mod HandleLaws
 pub mod LockLaws

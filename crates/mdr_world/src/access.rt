@@ -1,6 +1,8 @@
 // What code does to cells.
 
-ghost use Rattle.std.specs.Prelude.{◌≡◌, ◌+◌, ◌≤◌, IfOk, IsTrue, OnErr, map, nat_le, option_map, slice_get, true};
+ghost use Rattle.std.specs.Prelude.{◌≡◌, ◌+◌, ◌≤◌, false, IfOk, IfSome, IsTrue, Ok, OnErr, Some, map, nat_le, option_map, slice_get, true};
+ghost use Rattle.mdr_core.specs.declared.value.Value.TheVariants as value;
+ghost use Rattle.mdr_exec.specs.Integers.{IsFirst, integer_wire};
 ghost use Rattle.mdr_exec.specs.Outcomes.{when_made, wired};
 ghost use Rattle.mdr_mem.specs.Contents.{cell_in, is_handle};
 ghost use Rattle.mdr_meaning.specs.Values.{natural_of, wire_of, wire_view};
@@ -9,10 +11,12 @@ ghost use Rattle.mdr_model.specs.Sets.{cells_from};
 ghost use Rattle.mdr_plain.specs.Storage.{byte_at, bytes_from, cells_read, fresh, number_in, read};
 ghost use Rattle.mdr_world.specs.Reaching.{with_memory};
 ghost use Rattle.mdr_meaning.specs.declared.wire.Wire.TheVariants as wire;
+ghost use Rattle.mdr_meaning.specs.declared.wire.WireView.{WireView};
 
 use crate::handles::{handle, held_now, value_now};
 use crate::reach::{Target, reached};
 use mdr_core::{Block, Items, StopKind, Value, View};
+use mdr_exec::Integer;
 use mdr_mem::{Blocks, Cells};
 use std::alloc::{AllocError, Global};
 
@@ -98,6 +102,84 @@ pub fn store(blocks: &mut Blocks, pointer: Value, v: Value) -> Result<(), StopKi
             Ok(())
         }
         Err(kind) => Err(kind),
+    }
+}
+
+// ---- the first cell of a block
+
+/// The handle of the live block with this serial, where its slot has the same number.
+fn block_with(blocks: &Blocks, serial: u64) -> Option<Block>
+    ensures alive { IfSome result (λ b. IsTrue (is_handle blocks.now.handles b)) }
+    ensures serial { IfSome result (λ b. b.serial ≡ serial) }
+{
+    if serial > 4294967295 {
+        return None;
+    }
+    let block = Block {
+        slot: serial as u32,
+        serial,
+    };
+    if blocks.alive(block) {
+        Some(block)
+    } else {
+        None
+    }
+}
+
+/// The first of these values, if it is an integer.
+fn first_integer(values: &[Value]) -> Option<Integer>
+    ensures { IfSome result (λ n. slice_get values.now 0 ≡ Some (value.Int n.kind n.number)) }
+{
+    match values.first() {
+        Some(Value::Int(kind, number)) => Some(Integer {
+            kind: *kind,
+            number: *number,
+        }),
+        _ => None,
+    }
+}
+
+/// The integer in a block's first cell.
+fn first_in(blocks: &Blocks, block: Block) -> Option<Integer>
+    requires { IsTrue (is_handle blocks.now.handles block) }
+    ensures { IfSome result (λ n. cell_at blocks.now.memory (cell_in block 0) ≡ Some (integer_wire n)) }
+{
+    first_integer(blocks.cells(block))
+}
+
+/// The integer in the first cell of the block with this serial, where it is found at once.
+pub fn first(blocks: &Blocks, serial: u64) -> Option<Integer>
+    ensures { IfSome result (λ n. (v : WireView) → IsFirst serial v → loaded everywhere blocks.now.memory (wire.Ptr v) ≡ Ok (integer_wire n)) }
+{
+    let _in_order = blocks.births();
+    match block_with(blocks, serial) {
+        Some(block) => first_in(blocks, block),
+        None => None,
+    }
+}
+
+/// Puts an integer into a block's first cell.
+#[tactic(auto, unfolding(mdr_mem::specs::Contents::current))]
+fn put_first(blocks: &mut Blocks, block: Block, integer: Integer)
+    requires { IsTrue (is_handle blocks.old.handles block) }
+    ensures { blocks.new ≡ with_memory (put blocks.old.memory (cell_in block 0) (integer_wire integer)) blocks.old }
+{
+    blocks.put(block, 0, Value::Int(integer.kind, integer.number));
+}
+
+/// Puts an integer there, if the block is found at once.
+pub fn set_first(blocks: &mut Blocks, serial: u64, integer: Integer) -> bool
+    ensures made { result ≡ true → (v : WireView) → IsFirst serial v → stored everywhere blocks.old.memory (wire.Ptr v) (integer_wire integer) ≡ Ok blocks.new.memory }
+    ensures rest { blocks.new ≡ with_memory blocks.new.memory blocks.old }
+    ensures kept { result ≡ false → blocks.new ≡ blocks.old }
+{
+    let _in_order = blocks.births();
+    match block_with(blocks, serial) {
+        Some(block) => {
+            put_first(blocks, block, integer);
+            true
+        }
+        None => false,
     }
 }
 

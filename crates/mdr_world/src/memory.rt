@@ -3,7 +3,7 @@
 use crate::access;
 use crate::world::World;
 use mdr_core::{Items, StopKind, Value};
-use mdr_exec::Memory;
+use mdr_exec::{Integer, Memory};
 use mdr_meaning::Shape64;
 use mdr_mem::Cells;
 use mdr_model::BirthKind;
@@ -24,6 +24,14 @@ impl<'a> Memory for World<'a> {
 
     fn store(&mut self, pointer: Value, value: Value) -> Result<(), StopKind> {
         self.put(pointer, value)
+    }
+
+    fn first(&self, serial: u64) -> Option<Integer> {
+        access::first(self.blocks(), serial)
+    }
+
+    fn set_first(&mut self, serial: u64, integer: Integer) -> bool {
+        self.put_first(serial, integer)
     }
 
     fn read(

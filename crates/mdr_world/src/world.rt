@@ -5,6 +5,7 @@ ghost use Rattle.std.specs.List.{list_any};
 ghost use Rattle.mdr_core.specs.Sound.{IsSound};
 ghost use Rattle.mdr_device.specs.Machines.{Machine, read, written};
 ghost use Rattle.mdr_exec.specs.Holding.{wires_of};
+ghost use Rattle.mdr_exec.specs.Integers.{FirstBecomes};
 ghost use Rattle.mdr_exec.specs.Outcomes.{when_made};
 ghost use Rattle.mdr_meaning.specs.Bodies.{known_of};
 ghost use Rattle.mdr_meaning.specs.Values.{wire_of};
@@ -27,6 +28,7 @@ use crate::storage::Storage;
 use crate::{access, locks};
 use mdr_core::{Block, Items, OutOfMemory, Program, StopKind, Value, View};
 use mdr_device::Device;
+use mdr_exec::Integer;
 use mdr_mem::{Blocks, Cells};
 use mdr_model::{BirthKind, New, Shape64};
 use mdr_plain::Happened;
@@ -465,6 +467,14 @@ impl<'a> World<'a> {
         ensures { self.new ≡ driver self.old.program (record self.old.world { views = open_views false }) }
     {
         self.in_user = false;
+    }
+
+    /// Puts an integer into the first cell of a block, where that is done at once.
+    pub(crate) fn put_first(&mut self, serial: u64, integer: Integer) -> bool
+        ensures done { result ≡ true → FirstBecomes driven_accesses self.old serial integer self.new }
+        ensures kept { result ≡ false → self.new ≡ self.old }
+    {
+        access::set_first(&mut self.storage.blocks, serial, integer)
     }
 
     /// A value is stored through a pointer.
