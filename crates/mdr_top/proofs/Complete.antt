@@ -20,7 +20,8 @@ use Rattle.mdr_source.proofs.OneThing.{one_thing}
 use Rattle.mdr_split_runner.specs.Means.{while_watched}
 use Rattle.mdr_top.specs.Comes.{IsBoundDue, IsSizedDue, IsScriptDue, IsRunDue, IsDueFor, IsDueOrFault, IsExact}
 use Rattle.mdr_top.specs.Cuts.{WriteCause}
-use Rattle.mdr_top.specs.Headline.{IsSplit, MeansBy, Means, Rests, EndsAsMeant, Completes}
+use Rattle.mdr_top.specs.Accepted.{AreAccepted, over_two_halves}
+use Rattle.mdr_top.specs.Headline.{MeansBy, Means, Rests, EndsAsMeant, Completes}
 use Rattle.mdr_top.specs.Splits.{IsOfRun}
 use Rattle.mdr_top.specs.Words.{Task, Cut, Whole, Run, command_of}
 
@@ -82,7 +83,7 @@ record AreSame (source other : Source) (script script' : Bound) (ticks ticks' : 
   scripts : script' ≡ script
   budgets : ticks' ≡ ticks
 
-module _ (words : List (List ℕ)) (f : List ℕ → Option (List ℕ)) (source other : Source) (script script' : Bound) (ticks ticks' : ℕ) (a : IsSplit words (Some f) source script ticks) (b : IsSplit words (Some f) other script' ticks') where
+module _ (words : List (List ℕ)) (f : List ℕ → Option (List ℕ)) (source other : Source) (script script' : Bound) (ticks ticks' : ℕ) (a : AreAccepted words (Some f) (over_two_halves ticks) source script) (b : AreAccepted words (Some f) (over_two_halves ticks') other script') where
   same_task : Run b.source_name b.script_name ticks' ≡ Run a.source_name a.script_name ticks
   same_task = some_same (command_of words) (Run b.source_name b.script_name ticks') (Run a.source_name a.script_name ticks) b.command a.command
 
@@ -124,7 +125,7 @@ ended status.OutOfMemory h = absurd h
 ended status.Missing h = absurd h
 ended status.TooLarge h = absurd h
 
-module _ (words : List (List ℕ)) (f : List ℕ → Option (List ℕ)) (s : Status) (source : Source) (script : Bound) (ticks : ℕ) (a : IsSplit words (Some f) source script ticks) where
+module _ (words : List (List ℕ)) (f : List ℕ → Option (List ℕ)) (s : Status) (source : Source) (script : Bound) (ticks : ℕ) (a : AreAccepted words (Some f) (over_two_halves ticks) source script) where
   script_runs : (other : Source) → other ≡ source → IsScriptDue other.program (λ bound. IsOfRun s) (f a.script_name) s → IsOfRun s
   script_runs other same due =
       subst (λ (given : Result Bound (ℕ × ScriptKind)). IsBoundDue (λ bound. IsOfRun s) given s) a.bound

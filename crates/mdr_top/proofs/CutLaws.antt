@@ -1,5 +1,5 @@
 -- What is done with a source that is cut is what is due for it.
-use Rattle.std.proofs.Common.{◌≡◌, ℕ, suc, List, ◌∷◌, Option, Some, None, Result, Ok, Err, slice_get, codes, refl, sym, ap, ◌∙◌, subst}
+use Rattle.std.proofs.Common.{◌≡◌, ℕ, suc, List, ◌∷◌, Option, Some, None, Result, Ok, Err, slice_get, codes, refl, sym, ap, subst}
 use Rattle.std.specs.Prelude.{IfOk}
 use Rattle.mdr_core.specs.declared.memory_error.OutOfMemory.{OutOfMemory}
 use Rattle.mdr_outside.specs.Calls.{ShelfCall}
@@ -12,12 +12,14 @@ use Rattle.mdr_due.specs.Reads.{Files, IsUnread, UnreadBy, longest_source}
 use Rattle.mdr_slicer.specs.Outputs.{NamedBytes, outputs, length_lines}
 use Rattle.mdr_slicer.specs.Writes.{Writes}
 use Rattle.mdr_slicer.specs.Slicing.{NoSourceOf, Splits, Reports}
+use Rattle.mdr_source.specs.declared.outcome.Source.{Source}
 use Rattle.mdr_runner.specs.declared.manner.Manner.{Manner}
 use Rattle.mdr_top.specs.declared.words.Cutting.{Cutting}
 use Rattle.mdr_top.specs.declared.words.Cutting.TheVariants as cutting
 use Rattle.mdr_top.specs.Words.{Task, Cut, Whole, Run, cut_of, whole_of, run_of, command_by, command_of}
-use Rattle.mdr_top.specs.Cuts.{CutDone, IsSplit, IsOfCut}
+use Rattle.mdr_top.specs.Cuts.{CutDone, IsSplit, IsCut, IsOfCut}
 use Rattle.mdr_top.specs.Answers.{Unread, CutAnswered}
+use Rattle.mdr_top.proofs.Statuses.{cut_answered_status}
 
 -- ---- words
 
@@ -29,9 +31,6 @@ whole_command words source_name script_name manner none e = λ i. command_by (sy
 
 pub run_command : (words : List (List ℕ)) (source_name script_name : List ℕ) (ticks : ℕ) → None ≡ cut_of words → None ≡ whole_of words → Some (source_name, script_name, ticks) ≡ run_of words → command_of words ≡ Some (Run source_name script_name ticks)
 run_command words source_name script_name ticks none neither e = λ i. command_by (sym none i) (sym neither i) (sym e i)
-
-pub no_command : (words : List (List ℕ)) → None ≡ cut_of words → None ≡ whole_of words → None ≡ run_of words → command_of words ≡ None
-no_command words none neither nothing = λ i. command_by (sym none i) (sym neither i) (sym nothing i)
 
 pub cut_no_run : (command : Option Task) (how : Cutting) (name source_name script_name : List ℕ) (ticks : ℕ) → command ≡ Some (Cut how name) → command ≡ Some (Run source_name script_name ticks) → ⊥
 cut_no_run command how name source_name script_name ticks e f = Prim.cc
@@ -88,31 +87,14 @@ cut_so cutting.Report files files' name old new s text d = report_so files name 
 
 -- ---- statuses
 
-of_cut : (s t : Status) → s ≡ t → IsOfCut t → IsOfCut s
-of_cut s t e h = subst IsOfCut (sym e) h
-
-answered_status : (how : Cutting) (files : Files) (name : List ℕ) (s : Status) (text : List ℕ) → CutAnswered how files name s text → IsOfCut s
-answered_status how files name s text (CutAnswered.unread (Unread.missing r e t)) = of_cut s status.Missing e tt
-answered_status how files name s text (CutAnswered.unread (Unread.long r e t)) = of_cut s status.TooLarge e tt
-answered_status how files name s text (CutAnswered.unread (Unread.failed e t)) = of_cut s status.ReadFault e tt
-answered_status how files name s text (CutAnswered.refused bytes r n) = of_cut s status.SourceRefused n.status_is tt
-answered_status cutting.Split files name s text (CutAnswered.accepted bytes source r h (IsSplit.whole texts are e t)) = of_cut s status.Done e tt
-answered_status cutting.Split files name s text (CutAnswered.accepted bytes source r h (IsSplit.failed texts i f are at e t)) = of_cut s status.WriteFault e tt
-answered_status cutting.Report files name s text (CutAnswered.accepted bytes source r h c) = of_cut s status.Done c.status_is tt
-
 pub cut_status : (how : Cutting) (files files' : Files) (name : List ℕ) (old new : List ShelfCall) (s : Status) (text : List ℕ) → CutDone how files files' name old new s text → IsOfCut s
-cut_status how files files' name old new s text d = answered_status how files name s text (cut_so how files files' name old new s text d)
-
--- a report writes to no file
-report_never : (files : Files) (name : List ℕ) (s : Status) (text : List ℕ) → CutAnswered cutting.Report files name s text → s ≡ status.WriteFault → ⊥
-report_never files name s text (CutAnswered.unread (Unread.missing r e t)) is = let differ : status.Missing ≡ status.WriteFault = sym e ∙ is in absurd (Prim.cc)
-report_never files name s text (CutAnswered.unread (Unread.long r e t)) is = let differ : status.TooLarge ≡ status.WriteFault = sym e ∙ is in absurd (Prim.cc)
-report_never files name s text (CutAnswered.unread (Unread.failed e t)) is = let differ : status.ReadFault ≡ status.WriteFault = sym e ∙ is in absurd (Prim.cc)
-report_never files name s text (CutAnswered.refused bytes r n) is = let differ : status.SourceRefused ≡ status.WriteFault = sym n.status_is ∙ is in absurd (Prim.cc)
-report_never files name s text (CutAnswered.accepted bytes source r h c) is = let differ : status.Done ≡ status.WriteFault = sym c.status_is ∙ is in absurd (Prim.cc)
-
-pub reports_write_nothing : (files : Files) (name : List ℕ) (old new : List ShelfCall) (s : Status) (text : List ℕ) → Reports files name old new s text → s ≡ status.WriteFault → ⊥
-reports_write_nothing files name old new s text r is = report_never files name s text (report_so files name old new s text r) is
+cut_status how files files' name old new s text d =
+    cut_answered_status IsOfCut (record { missing = tt; long = tt; failed = tt; refused = tt }) files s text how name (λ source c. of how source c) (cut_so how files files' name old new s text d)
+  where
+    of : (k : Cutting) (source : Source) → IsCut k name source s text → IsOfCut s
+    of cutting.Split source (IsSplit.whole texts are e t) = subst IsOfCut (sym e) tt
+    of cutting.Split source (IsSplit.failed texts i f are at e t) = subst IsOfCut (sym e) tt
+    of cutting.Report source c = subst IsOfCut (sym c.status_is) tt
 
 -- a report leaves the files as they are
 pub with_files : (r : Result Due OutOfMemory) (how : Cutting) (files files' : Files) (name : List ℕ) (old new : List ShelfCall) → how ≡ cutting.Report → files' ≡ files

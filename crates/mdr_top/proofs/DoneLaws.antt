@@ -2,13 +2,12 @@
 use Rattle.std.proofs.Common.{◌≡◌, ℕ, ◌⊎◌, List, Option, Some, None, sym, ap, ◌∙◌, subst}
 use Rattle.mdr_due.specs.declared.status.Status.{Status}
 use Rattle.mdr_due.specs.declared.status.Status.TheVariants as status
-use Rattle.mdr_due.specs.Reads.{Files}
+use Rattle.mdr_due.specs.Reads.{Files, longest_source, longest_script}
 use Rattle.mdr_honest.specs.Honest.{IsHonest}
 use Rattle.mdr_outside.specs.Calls.{ShelfCall, Read, FarCall, and_then}
 use Rattle.mdr_outside.specs.declared.far.Exchange.{Exchange}
 use Rattle.mdr_outside.specs.declared.far.Loaded.{Loaded}
 use Rattle.mdr_outside.specs.declared.shelf.ReadAnswer.TheVariants as reads
-use Rattle.mdr_due.specs.Reads.{longest_script}
 use Rattle.mdr_runner.specs.declared.manner.Manner.{Manner}
 use Rattle.mdr_runner.specs.Scripts.{NoScriptOf}
 use Rattle.mdr_runner.specs.Runs.{RunsOver, Runs}
@@ -23,9 +22,10 @@ use Rattle.mdr_top.specs.Headline.{MeansBy, Means}
 use Rattle.mdr_top.specs.declared.words.Cutting.{Cutting}
 use Rattle.mdr_top.specs.Wholes.{WholeMeansBy, IsOfWhole}
 use Rattle.mdr_top.specs.Words.{Task, Cut, Whole, Run, command_of}
-use Rattle.mdr_top.proofs.CutLaws.{cut_no_run, whole_no_run, cut_so, cut_status}
-use Rattle.mdr_top.proofs.Headline.{IsEarly, unread_early, not_early}
+use Rattle.mdr_top.proofs.CutLaws.{cut_no_run, whole_no_run, unread_so, cut_so, cut_status}
+use Rattle.mdr_top.proofs.Headline.{IsEarly, early_sourceless, not_early}
 use Rattle.mdr_top.proofs.SplitLaws.{split_so}
+use Rattle.mdr_top.proofs.Statuses.{unread_status}
 use Rattle.mdr_top.proofs.WholeLaws.{whole_so, whole_status}
 
 -- ---- what is printed
@@ -110,9 +110,9 @@ cut_no_whole command how name source_name script_name manner e f = Prim.cc
 module _ (words : List (List ℕ)) (files : Files) (shelf shelf' : List ShelfCall) (old new : Option (List ℕ)) (s : Status) (text : List ℕ) (adds : Adds old new text) (name script_name : List ℕ) (manner : Manner) (e : command_of words ≡ Some (Whole name script_name manner)) where
   -- what ran is what is meant
   runs_mean_whole : Runs files name script_name manner shelf shelf' s text → (s ≡ status.Done) ⊎ (s ≡ status.Stopped) → WholeMeansBy words files shelf shelf' old new s
-  runs_mean_whole (Runs.no_source (NoSourceOf.unread u)) is = absurd (not_early s (unread_early name u.answer s text u.why) is)
+  runs_mean_whole (Runs.no_source (NoSourceOf.unread u)) is = absurd (not_early s (unread_status IsEarly early_sourceless files s text name longest_source (unread_so files name longest_source shelf shelf' s text u)) is)
   runs_mean_whole (Runs.no_source (NoSourceOf.refused bytes read n)) is = absurd (not_early s (subst IsEarly (sym n.status_is) tt) is)
-  runs_mean_whole (Runs.sourced source between read (RunsOver.no_script (NoScriptOf.unread u))) is = absurd (not_early s (unread_early script_name u.answer s text u.why) is)
+  runs_mean_whole (Runs.sourced source between read (RunsOver.no_script (NoScriptOf.unread u))) is = absurd (not_early s (unread_status IsEarly early_sourceless files s text script_name longest_script (unread_so files script_name longest_script between shelf' s text u)) is)
   runs_mean_whole (Runs.sourced source between read (RunsOver.no_script (NoScriptOf.refused lines told n))) is = absurd (not_early s (subst IsEarly (sym n.status_is) tt) is)
   runs_mean_whole (Runs.sourced source between read (RunsOver.ran script given run')) is = record {
     source = source;

@@ -1,9 +1,8 @@
 -- Which statuses tell of no run.
-use Rattle.std.proofs.Common.{◌≡◌, ℕ, ◌⊎◌, inl, inr, List, sym, subst}
-use Rattle.mdr_outside.specs.declared.shelf.ReadAnswer.{ReadAnswer}
+use Rattle.std.proofs.Common.{◌≡◌, ◌⊎◌, inl, inr, subst}
 use Rattle.mdr_due.specs.declared.status.Status.{Status}
 use Rattle.mdr_due.specs.declared.status.Status.TheVariants as status
-use Rattle.mdr_due.specs.Reads.{IsUnread}
+use Rattle.mdr_top.proofs.Statuses.{HoldsSourceless}
 
 -- a status that tells of no run
 abbrev pub IsEarly : Status → Type 0
@@ -20,10 +19,9 @@ IsEarly status.OutOfMemory = Unit {0}
 IsEarly status.Missing = Unit {0}
 IsEarly status.TooLarge = Unit {0}
 
-pub unread_early : (name : List ℕ) (answer : ReadAnswer) (s : Status) (text : List ℕ) → IsUnread name answer s text → IsEarly s
-unread_early name answer s text (IsUnread.missing a e t) = subst IsEarly (sym e) tt
-unread_early name answer s text (IsUnread.long a e t) = subst IsEarly (sym e) tt
-unread_early name answer s text (IsUnread.failed a e t) = subst IsEarly (sym e) tt
+-- so is each with which there is no source
+pub early_sourceless : HoldsSourceless IsEarly
+early_sourceless = record { missing = tt; long = tt; failed = tt; refused = tt }
 
 pub not_early : (s : Status) → IsEarly s → (s ≡ status.Done) ⊎ (s ≡ status.Stopped) → ⊥
 not_early s early (inl e) = subst IsEarly e early

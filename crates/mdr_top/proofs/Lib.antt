@@ -1,3 +1,4 @@
+pub mod Statuses
 pub mod CutLaws
 pub mod WholeLaws
 pub mod SplitLaws

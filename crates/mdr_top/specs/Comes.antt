@@ -22,10 +22,9 @@ use Rattle.mdr_source.specs.declared.refusal.Refusal.{Refusal}
 use Rattle.mdr_source.specs.Sources.{Comes as ComesTo}
 use Rattle.mdr_split_runner.specs.Cuts.{IsCutInto}
 use Rattle.mdr_split_runner.specs.Ends.{EndsWith as SplitEndsWith}
+use Rattle.mdr_top.specs.Accepted.{AreAccepted, on_one_memory, over_two_halves}
 use Rattle.mdr_top.specs.declared.words.Cutting.{Cutting}
-use Rattle.mdr_top.specs.Headline.{IsSplit}
 use Rattle.mdr_top.specs.Splits.{IsOfRun}
-use Rattle.mdr_top.specs.Wholes.{IsWhole}
 use Rattle.mdr_top.specs.Words.{Task, Cut, Whole, Run, command_of}
 
 -- ---- what the words name
@@ -108,7 +107,7 @@ pub record IsSplitEnd (words : List (List ℕ)) (files : Files) (loaded : Option
   pub source : Source
   pub script : Bound
   pub ticks : ℕ
-  pub accepted : IsSplit words files source script ticks
+  pub accepted : AreAccepted words files (over_two_halves ticks) source script
   pub plan : Plan
   pub texts : Texts
   pub cut : IsCutInto source plan texts
@@ -119,7 +118,7 @@ pub record IsWholeEnd (words : List (List ℕ)) (files : Files) (s : Status) : T
   pub source : Source
   pub script : Bound
   pub manner : Manner
-  pub accepted : IsWhole words files source script manner
+  pub accepted : AreAccepted words files (on_one_memory manner) source script
   pub ends : EndsWith source.program script manner s
 
 -- ---- each status

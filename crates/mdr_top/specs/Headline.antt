@@ -14,35 +14,21 @@ use Rattle.mdr_outside.specs.declared.far.LoadAnswer.TheVariants as loads
 use Rattle.mdr_outside.specs.declared.far.Loaded.{Loaded}
 use Rattle.mdr_outside.specs.declared.shelf.ReadAnswer.TheVariants as reads
 use Rattle.mdr_outside.specs.Far.{loaded_with}
-use Rattle.mdr_outside.specs.Shelf.{ReadsFrom}
 use Rattle.mdr_runner.specs.Runs.{EndsWith, IsRun}
-use Rattle.mdr_runner.specs.Scripts.{HasScript}
 use Rattle.mdr_script.specs.declared.bound.Bound.{Bound}
-use Rattle.mdr_slicer.specs.Slicing.{HasSource}
 use Rattle.mdr_source.specs.declared.outcome.Source.{Source}
 use Rattle.mdr_split_runner.specs.Cuts.{IsCutInto}
 use Rattle.mdr_split_runner.specs.Means.{IsMeaning, while_watched}
+use Rattle.mdr_top.specs.Accepted.{AreAccepted, over_two_halves}
 use Rattle.mdr_top.specs.Answers.{Adds}
 use Rattle.mdr_top.specs.Words.{Run, command_of}
-
--- the words name a source and a script that is run over its two halves, and a budget; both are read, and are a source and a script for its program
-pub record IsSplit (words : List (List ℕ)) (files : Files) (source : Source) (script : Bound) (ticks : ℕ) : Type 0 where
-  pub source_name : List ℕ
-  pub script_name : List ℕ
-  pub command : command_of words ≡ Some (Run source_name script_name ticks)
-  pub bytes : List ℕ
-  pub source_read : ReadsFrom files source_name longest_source (reads.Ok bytes)
-  pub compiled : HasSource bytes source
-  pub lines : List ℕ
-  pub script_read : ReadsFrom files script_name longest_script (reads.Ok lines)
-  pub bound : HasScript source.program lines script
 
 -- the words are accepted for what these very reads gave, the far side holds the texts that the source is cut into, and what was added to the output is the report of what they mean, which is that of the same run on one memory
 pub record MeansBy (words : List (List ℕ)) (files : Files) (shelf shelf' : List ShelfCall) (loaded : Option Loaded) (es : List Exchange) (old new : Option (List ℕ)) (s : Status) : Type 0 where
   pub source : Source
   pub script : Bound
   pub ticks : ℕ
-  pub accepted : IsSplit words files source script ticks
+  pub accepted : AreAccepted words files (over_two_halves ticks) source script
   pub read : shelf' ≡ and_then (and_then shelf (Read accepted.source_name longest_source (reads.Ok accepted.bytes))) (Read accepted.script_name longest_script (reads.Ok accepted.lines))
   pub plan : Plan
   pub texts : Texts
@@ -75,4 +61,4 @@ pub record EndsAsMeant (program : Program) (script : Bound) (ticks : ℕ) (s : S
 -- where the words are accepted over files that are told the run ends as is meant, or memory was wanting
 abbrev pub Completes : List (List ℕ) → Files → Status → Type 0
 Completes words files s =
-    (source : Source) (script : Bound) (ticks : ℕ) → AreTold files → IsSplit words files source script ticks → (s ≡ status.OutOfMemory) ⊎ EndsAsMeant source.program script ticks s
+    (source : Source) (script : Bound) (ticks : ℕ) → AreTold files → AreAccepted words files (over_two_halves ticks) source script → (s ≡ status.OutOfMemory) ⊎ EndsAsMeant source.program script ticks s

@@ -2,6 +2,7 @@ pub mod Words
 pub mod Lines
 pub mod Cuts
 pub mod Answers
+pub mod Accepted
 pub mod Done
 pub mod Headline
 pub mod Wholes

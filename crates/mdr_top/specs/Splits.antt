@@ -16,18 +16,3 @@ IsOfRun status.Stopped = Unit {0}
 IsOfRun status.OutOfMemory = ⊥
 IsOfRun status.Missing = ⊥
 IsOfRun status.TooLarge = ⊥
-
--- the reads of both among them
-abbrev pub IsOfSplit : Status → Type 0
-IsOfSplit status.Done = Unit {0}
-IsOfSplit status.Usage = ⊥
-IsOfSplit status.SourceRefused = Unit {0}
-IsOfSplit status.ScriptRefused = Unit {0}
-IsOfSplit status.ReadFault = Unit {0}
-IsOfSplit status.WriteFault = ⊥
-IsOfSplit status.FarFault = Unit {0}
-IsOfSplit status.Marshal = Unit {0}
-IsOfSplit status.Stopped = Unit {0}
-IsOfSplit status.OutOfMemory = ⊥
-IsOfSplit status.Missing = Unit {0}
-IsOfSplit status.TooLarge = Unit {0}

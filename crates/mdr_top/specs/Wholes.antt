@@ -2,37 +2,23 @@
 use Rattle.std.specs.Prelude.{◌≡◌, ℕ, ◌⊎◌, List, Option, Some}
 use Rattle.mdr_outside.specs.declared.shelf.ReadAnswer.TheVariants as reads
 use Rattle.mdr_outside.specs.Calls.{ShelfCall, Read, and_then}
-use Rattle.mdr_outside.specs.Shelf.{ReadsFrom}
 use Rattle.mdr_script.specs.declared.bound.Bound.{Bound}
 use Rattle.mdr_source.specs.declared.outcome.Source.{Source}
-use Rattle.mdr_slicer.specs.Slicing.{HasSource}
 use Rattle.mdr_due.specs.declared.status.Status.{Status}
 use Rattle.mdr_due.specs.declared.status.Status.TheVariants as status
 use Rattle.mdr_due.specs.Reads.{Files, longest_source, longest_script}
 use Rattle.mdr_runner.specs.declared.manner.Manner.{Manner}
-use Rattle.mdr_runner.specs.Scripts.{HasScript}
 use Rattle.mdr_runner.specs.Runs.{IsRun}
+use Rattle.mdr_top.specs.Accepted.{AreAccepted, on_one_memory}
 use Rattle.mdr_top.specs.Words.{Whole, command_of}
 use Rattle.mdr_top.specs.Answers.{Adds}
-
--- the words name a source and a script that are run on one memory, and the manner; both are read, and are a source and a script for its program
-pub record IsWhole (words : List (List ℕ)) (files : Files) (source : Source) (script : Bound) (manner : Manner) : Type 0 where
-  pub source_name : List ℕ
-  pub script_name : List ℕ
-  pub command : command_of words ≡ Some (Whole source_name script_name manner)
-  pub bytes : List ℕ
-  pub source_read : ReadsFrom files source_name longest_source (reads.Ok bytes)
-  pub compiled : HasSource bytes source
-  pub lines : List ℕ
-  pub script_read : ReadsFrom files script_name longest_script (reads.Ok lines)
-  pub bound : HasScript source.program lines script
 
 -- the words are accepted for what these very reads gave, and what was added to the output is the report of the run on one memory
 pub record WholeMeansBy (words : List (List ℕ)) (files : Files) (shelf shelf' : List ShelfCall) (old new : Option (List ℕ)) (s : Status) : Type 0 where
   pub source : Source
   pub script : Bound
   pub manner : Manner
-  pub accepted : IsWhole words files source script manner
+  pub accepted : AreAccepted words files (on_one_memory manner) source script
   pub read : shelf' ≡ and_then (and_then shelf (Read accepted.source_name longest_source (reads.Ok accepted.bytes))) (Read accepted.script_name longest_script (reads.Ok accepted.lines))
   pub text : List ℕ
   pub printed : Adds old new text

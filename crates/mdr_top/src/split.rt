@@ -5,7 +5,6 @@ ghost use Rattle.mdr_due.specs.declared.status.Status.TheVariants as status;
 ghost use Rattle.mdr_due.specs.Statuses.{HasReadCause};
 ghost use Rattle.mdr_outside.specs.Count.{Rose};
 ghost use Rattle.mdr_split_runner.specs.SplitRuns.{SplitRuns, SplitRunsPart};
-ghost use Rattle.mdr_top.specs.Splits.{IsOfSplit};
 
 use mdr_core::OutOfMemory;
 use mdr_due::Due;
@@ -27,7 +26,6 @@ pub(crate) fn run_split<S: Shelf, F: Far>(
     ensures kept { S.files shelf.new ≡ S.files shelf.old }
     ensures read { IfOk result (λ due. HasReadCause (record { faults = S.faults shelf.old; absent = S.absent shelf.old; long = S.long shelf.old }) (record { faults = S.faults shelf.new; absent = S.absent shelf.new; long = S.long shelf.new }) due.status) }
     ensures failed { IfOk result (λ due. due.status ≡ status.FarFault → Rose (F.faults far.old) (F.faults far.new)) }
-    ensures own { IfOk result (λ due. IsOfSplit due.status) }
 {
     split_over(alloc, shelf, far, source_name, script_name, ticks)
 }
