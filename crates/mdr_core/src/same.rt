@@ -25,7 +25,7 @@ pub fn same_type(a: &Ty, b: &Ty) -> bool
 
 /// Whether two lists have the same types.
 #[cycle(same)]
-pub fn same_types(ts: &[Ty], us: &[Ty]) -> bool
+fn same_types(ts: &[Ty], us: &[Ty]) -> bool
     ensures { IsTrue result ↔ (ts.now ≡ us.now) }
 {
     if ts.len() != us.len() {

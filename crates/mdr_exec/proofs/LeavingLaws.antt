@@ -285,7 +285,3 @@ module _ (program : Program) (m : Machine) (path : List Position) where
   pub block_left : (flow : Leaving) (p : Position) (held : Held) → m.front ≡ front.Unwinds flow → m.top.path ≡ path ++ p ∷ []
       → ((side : Side) → IsSame side (leaves_list program placed (flow_as flow) p) held) → (side : Side) → IsSame side (held_of program m) held
   block_left flow p held is e s side = same_then side (held_of program m) (leaves_list program placed (flow_as flow) p) held (found_last flow p is e side) (s side)
-
-  pub place_kept : m.top.path ≡ [] → path ≡ [] → (side : Side) → IsSame side (held_of program m) (held_of program placed)
-  unfolding held_of
-  place_kept e e' side = rw (e, e') (record { by = λ f r. refl })

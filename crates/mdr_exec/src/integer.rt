@@ -60,7 +60,7 @@ pub(crate) fn slot_integer(slots: &[Value], i: u32) -> Option<Integer>
 
 /// Whether a number may stand to the right of an operator at a kind.
 #[tactic(auto, unfolding(mdr_core::specs::Operators::is_right_operand))]
-fn may_stand_right(op: BinOp, kind: Kind, number: i128) -> bool
+pub(crate) fn may_stand_right(op: BinOp, kind: Kind, number: i128) -> bool
     ensures { result ≡ is_right_operand op kind number }
 {
     match op {

@@ -5,13 +5,12 @@ ghost use Rattle.mdr_core.specs.Folds.{code_of, codes_of};
 ghost use Rattle.mdr_core.specs.declared.program.Program.{Program as AnyProgram};
 ghost use Rattle.mdr_meaning.specs.Sides.{Ends, Side as AnySide};
 ghost use Rattle.mdr_exec.specs.declared.frame.Frame.{Frame as AnyFrame};
-ghost use Rattle.mdr_exec.specs.declared.frame.Front.TheVariants as front;
 ghost use Rattle.mdr_exec.specs.declared.places.Position.{Position as AnyPosition};
 ghost use Rattle.mdr_exec.specs.Behind.{is_stepless};
-ghost use Rattle.mdr_exec.specs.Found.{body_codes, codes_in};
+ghost use Rattle.mdr_exec.specs.Found.{codes_in};
 ghost use Rattle.mdr_exec.specs.Holding.{block_of, flow_as, front_in, held_of, is_running, wires_of};
 ghost use Rattle.mdr_exec.specs.Leaving.{LeavesNone, ending_by, goes_behind, goes_round, is_loop, leaves_list, passed_on, step_left, turn_left};
-ghost use Rattle.mdr_exec.specs.Places.{code_before, inner};
+ghost use Rattle.mdr_exec.specs.Places.{code_before};
 ghost use Rattle.mdr_exec.specs.Steps.{IsSame, front_after};
 
 use crate::frame::{Flow, Front, Machine};
@@ -301,27 +300,5 @@ pub(crate) fn leave_list(
             leave_step(machine, flow, p.next);
             Ok(())
         }
-    }
-}
-
-/// Leaves the innermost list of statements, where the machine's place is in one of a statement. No object is left in it
-/// that would die.
-pub(crate) fn leave_block(
-    machine: &mut Machine,
-    alloc: Global,
-    program: &Program,
-    flow: Flow,
-) -> Result<(), AllocError>
-    requires unwinds { machine.old.front ≡ front.Unwinds flow }
-    requires none { (path : List AnyPosition) (p : AnyPosition) → machine.old.top.path ≡ path ++ p ∷ [] → LeavesNone (ending_by p.part (is_loop (code_before (inner path (body_codes program.now machine.old.top.func)) p.next))) (flow_as flow) (wires_of machine.old.top.born) }
-    ensures { OnOk result ((side : AnySide) → IsSame side (held_of program.now machine.old) (held_of program.now machine.new)) }
-{
-    match last_off(alloc, &mut machine.top.path) {
-        Some(p) => {
-            let ending = ending_at(machine, program, p.part, p.next);
-            leave_list(machine, alloc, program, flow, p, ending)?;
-            Ok(())
-        }
-        None => Ok(()),
     }
 }

@@ -2,7 +2,7 @@
 
 ghost use Rattle.std.specs.Prelude.{◌≡◌, IfOk, MatchOption, Ok, Result, not};
 ghost use Rattle.mdr_core.specs.Conversions.{converted};
-ghost use Rattle.mdr_core.specs.Operators.{flipped, is_right_operand, negated, operated};
+ghost use Rattle.mdr_core.specs.Operators.{flipped, negated, operated};
 ghost use Rattle.mdr_core.specs.declared.stop.StopKind.{StopKind};
 ghost use Rattle.mdr_meaning.specs.declared.wire.Wire.{Wire};
 ghost use Rattle.mdr_meaning.specs.declared.wire.Wire.TheVariants as wire;
@@ -11,6 +11,7 @@ ghost use Rattle.mdr_exec.specs.Evaluation.{after_value, and_of, or_of};
 ghost use Rattle.mdr_exec.specs.Outcomes.{wired};
 
 use crate::halt::Halt;
+use crate::integer::may_stand_right;
 use crate::values::{at_kind, integer, is_true, truth};
 use mdr_arith::{bin, conv, flip, neg};
 use mdr_core::{BinOp, Kind, StopKind, Value};
@@ -84,25 +85,6 @@ pub(crate) fn converted(kind: Kind, operand: Result<Value, StopKind>) -> Result<
     match operand {
         Ok(value) => Ok(Value::Int(kind, conv(kind, integer(value)))),
         Err(stop) => Err(stop),
-    }
-}
-
-/// Whether a number may stand to the right of an operator at a kind.
-#[tactic(auto, unfolding(mdr_core::specs::Operators::is_right_operand))]
-fn may_stand_right(op: BinOp, kind: Kind, number: i128) -> bool
-    ensures { result ≡ is_right_operand op kind number }
-{
-    match op {
-        BinOp::Shl => true,
-        BinOp::Shr => true,
-        BinOp::Add => kind.contains(number),
-        BinOp::Sub => kind.contains(number),
-        BinOp::Mul => kind.contains(number),
-        BinOp::Div => kind.contains(number),
-        BinOp::Rem => kind.contains(number),
-        BinOp::BitAnd => kind.contains(number),
-        BinOp::BitOr => kind.contains(number),
-        BinOp::BitXor => kind.contains(number),
     }
 }
 
