@@ -1,3 +1,4 @@
+pub mod Backs
 pub mod Mentions
 pub mod Locals
 pub mod Simple

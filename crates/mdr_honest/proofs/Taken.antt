@@ -48,7 +48,8 @@ use Rattle.mdr_type_table.specs.Tabled.{HasFormedPointers}
 use Rattle.mdr_canonical.specs.Plannable.{HasShortNumbers as AreShort}
 use Rattle.mdr_outside.specs.declared.far.LoadAnswer.TheVariants as loads
 use Rattle.mdr_honest.specs.Loading.{AreItsHalf, HasShortNumbers, IsCut, TextsOfSourcesAreLoaded, TextsOfSourcesAreTaken}
-use Rattle.mdr_honest.proofs.Halves.{calls_nothing_back, none_of, not_refused}
+use Rattle.mdr_source.proofs.Backs.{body_calls_nothing_back, none_of}
+use Rattle.mdr_honest.proofs.Halves.{not_refused}
 
 -- ---- a source
 
@@ -57,7 +58,7 @@ is_whole bytes source s = record { tokens = s.tokens; lexed = s.are_tokens; read
 
 pub source_sound : (bytes : List ℕ) (source : Source) → IsSource bytes source → IsSound source.program
 source_sound bytes source s =
-    sources_sound bytes false uses source.program (record { tokens = s.tokens; tree = source.tree; lexed = s.are_tokens; read = s.reads; typed = s.judged }) s.types (calls_nothing_back source.program s.no_back)
+    sources_sound bytes false uses source.program (record { tokens = s.tokens; tree = source.tree; lexed = s.are_tokens; read = s.reads; typed = s.judged }) s.types (body_calls_nothing_back (source.program).funcs s.no_back)
 
 same_func : (a b : Func) → Some a ≡ Some b → a ≡ b
 same_func a b e = cc

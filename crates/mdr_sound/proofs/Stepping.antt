@@ -17,7 +17,8 @@ use Rattle.mdr_core.proofs.Coded.{code_is, assign_is, call_is, return_is, return
 use Rattle.mdr_body.specs.Statements.{stmt}
 use Rattle.mdr_program.specs.Occurring.{shape_types}
 use Rattle.mdr_program.specs.Orders.{IsAmong}
-use Rattle.mdr_sound_bodies.specs.Grounded.{is_back, IsGrounded}
+use Rattle.mdr_body.specs.Backs.{is_back}
+use Rattle.mdr_sound_bodies.specs.Grounded.{IsGrounded}
 use Rattle.mdr_sound_bodies.specs.Rules.{IsSoundStep}
 use Rattle.mdr_sound_bodies.proofs.Stating.{step_is}
 

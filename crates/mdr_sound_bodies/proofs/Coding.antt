@@ -12,7 +12,8 @@ use Rattle.mdr_core.proofs.Coded.{code_is, if_is, while_is, for_is, block_is}
 use Rattle.mdr_body.specs.Statements.{stmt}
 use Rattle.mdr_program.specs.Occurring.{allocated, allocated_in}
 use Rattle.mdr_program.specs.Orders.{IsAmong}
-use Rattle.mdr_sound_bodies.specs.Grounded.{calls_back, call_back, IsGrounded, AreGrounded}
+use Rattle.mdr_body.specs.Backs.{calls_back, call_back}
+use Rattle.mdr_sound_bodies.specs.Grounded.{IsGrounded, AreGrounded}
 use Rattle.mdr_sound_bodies.proofs.Joined.{or_left, or_right, or_both}
 
 -- ---- types of joined lists

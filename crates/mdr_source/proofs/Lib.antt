@@ -1,3 +1,4 @@
+pub mod Backs
 pub mod Loops
 pub mod Firsts
 pub mod OneThing
