@@ -9,7 +9,7 @@ use Rattle.mdr_grammar.proofs.Exact.{one_tree}
 use Rattle.mdr_body.specs.Bodies.{body_rule}
 use Rattle.mdr_body.specs.Mentions.{uses}
 use Rattle.mdr_typing.specs.Profile.{profile_rules}
-use Rattle.mdr_source.proofs.Backs.{body_calls_nothing_back}
+use Rattle.mdr_source.proofs.NothingBack.{body_calls_nothing_back}
 use Rattle.mdr_plan.proofs.Running.{plan_once}
 use Rattle.mdr_check_half.specs.HalfPrograms.{half_typed}
 use Rattle.mdr_check_half.specs.Planned.{IsPlanned}

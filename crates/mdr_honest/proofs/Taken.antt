@@ -48,7 +48,7 @@ use Rattle.mdr_type_table.specs.Tabled.{HasFormedPointers}
 use Rattle.mdr_canonical.specs.Plannable.{HasShortNumbers as AreShort}
 use Rattle.mdr_outside.specs.declared.far.LoadAnswer.TheVariants as loads
 use Rattle.mdr_honest.specs.Loading.{AreItsHalf, HasShortNumbers, IsCut, TextsOfSourcesAreLoaded, TextsOfSourcesAreTaken}
-use Rattle.mdr_source.proofs.Backs.{body_calls_nothing_back, none_of}
+use Rattle.mdr_source.proofs.NothingBack.{body_calls_nothing_back, none_of}
 use Rattle.mdr_honest.proofs.Halves.{not_refused}
 
 -- ---- a source

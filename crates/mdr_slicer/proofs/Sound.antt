@@ -4,7 +4,7 @@ use Rattle.mdr_core.specs.Sound.{IsSound}
 use Rattle.mdr_body.specs.Mentions.{uses}
 use Rattle.mdr_source.specs.declared.outcome.Source.{Source}
 use Rattle.mdr_source.specs.Sources.{Comes}
-use Rattle.mdr_source.proofs.Backs.{body_calls_nothing_back}
+use Rattle.mdr_source.proofs.NothingBack.{body_calls_nothing_back}
 use Rattle.mdr_source.proofs.Whose.{come_source}
 use Rattle.mdr_sound.specs.Sources.{IsProgramOf}
 use Rattle.mdr_sound.proofs.Sourced.{sources_sound}

@@ -1,4 +1,4 @@
-pub mod Backs
+pub mod NothingBack
 pub mod Loops
 pub mod Firsts
 pub mod OneThing
