@@ -1,5 +1,4 @@
 pub mod Halves
 pub mod Taken
-pub mod Words
-pub mod Ended
+pub mod FittingScripts
 pub mod Meant

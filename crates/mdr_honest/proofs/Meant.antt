@@ -36,9 +36,8 @@ use Rattle.mdr_honest.specs.Honest.{Honest, IsHonestSince, Loads}
 use Rattle.mdr_honest.specs.Loading.{AreItsHalf}
 use Rattle.mdr_honest.specs.Meanings.{HasTexts, IsMeant, RunIsMeaning}
 use Rattle.mdr_honest.specs.Scripts.{IsScriptFor}
-use Rattle.mdr_honest.proofs.Ended.{ends_as_watched}
 use Rattle.mdr_honest.proofs.Taken.{its_plan, source_bodies, source_sound, texts_are_loaded}
-use Rattle.mdr_honest.proofs.Words.{good_script, have_words}
+use Rattle.mdr_honest.proofs.FittingScripts.{scripts_fit}
 
 -- ---- honest exchanges
 
@@ -102,12 +101,12 @@ module _ (program : Program) (plan : Plan) (script : Bound) (budget : ℕ) (es :
   ran_over = run_over d script budget es
 
   is_meant : (end : End) (k : Kernel) → sent_of es ≡ map text ran_over.sent → ran_over.pending ≡ Over end k → o ≡ outcome_of program (finish end k.world) → IsWatched d script budget end k
-      → k.world ≡ (watched program plan script budget).world → IsMeant program plan script budget es o
-  is_meant end k sent over is w same =
+      → IsMeant program plan script budget es o
+  is_meant end k sent over is w =
       let kernel : kernel_in ran_over.pending ≡ k = ap kernel_in over in
       let exchanged : k.exchanges ≡ length ran_over.sent + 0 = ap (λ (x : Kernel). x.exchanges) (sym kernel) ∙ total_of d script budget (answers_of es) in
       let messages : length es ≡ length ran_over.sent = as_many es ran_over.sent sent in
-      let calls : k.world.kept.calls ≡ (watched program plan script budget).world.kept.calls = ap (λ (x : World). x.kept.calls) same in
+      let calls : k.world.kept.calls ≡ (watched program plan script budget).world.kept.calls = ap (λ (x : World). x.kept.calls) w.world in
       let ticks : o.ticks ≡ k.world.clock.ticks = ap (λ (x : Outcome). x.ticks) is ∙ ticks_of program (finish end k.world) in
       record {
         outcome = is ∙ w.outcome;
@@ -120,7 +119,7 @@ module _ (program : Program) (plan : Plan) (script : Bound) (budget : ℕ) (es :
   means sound bodies planned bytes scripted honest ran = of ran_over.pending refl
     where
       law : IsOneMemoryOverBytes d script budget
-      law = split_over_bytes_is_one_memory program plan script budget sound bodies planned (have_words program bytes script sound scripted)
+      law = split_over_bytes_is_one_memory program plan script budget sound bodies planned (scripts_fit program bytes script sound scripted)
 
       fair : IsHonestOverBytes d [] (map text ran_over.sent) (answers_of es)
       fair = subst (λ (sent : List (List ℕ)). IsHonestOverBytes d [] sent (answers_of es)) ran.messages (honest_answers d [] es honest)
@@ -131,8 +130,7 @@ module _ (program : Program) (plan : Plan) (script : Bound) (budget : ℕ) (es :
       of : (p : Pending) → ran_over.pending ≡ p → IsFarFault o.end ⊎ IsMeant program plan script budget es o
       of (Over end k) e =
           let run : IsHonestRun d script budget (answers_of es) end k = record { honest = fair; over = e } in
-          inr (is_meant end k ran.messages e (ends_so (Over end k) e) (law.same (answers_of es) end k ran.spelled run)
-          (ends_as_watched program plan script budget sound bodies planned (good_script program bytes script sound scripted) (answers_of es) end k ran.spelled run))
+          inr (is_meant end k ran.messages e (ends_so (Over end k) e) (law.same (answers_of es) end k ran.spelled run))
       of (Waits m k upcall rest left) e = inl (subst (λ (x : Outcome). IsFarFault x.end) (sym (ends_so (Waits m k upcall rest left) e)) (fails program (finish_of (Waits m k upcall rest left)) tt))
 
 pub meaning : RunIsMeaning

@@ -2,11 +2,11 @@
 use Rattle.std.specs.Prelude.{◌≡◌, ℕ, List, Ok}
 use Rattle.mdr_core.specs.declared.program.Program.{Program}
 use Rattle.mdr_core.specs.Sound.{IsSound}
+use Rattle.mdr_holds.specs.Laws.{IsScript}
 use Rattle.mdr_script.specs.declared.bound.Bound.{Bound}
 use Rattle.mdr_script.specs.declared.script.Script.{Script}
 use Rattle.mdr_script.specs.Binding.{bound_of}
 use Rattle.mdr_script.specs.Scripts.{script_of}
-use Rattle.mdr_split.specs.Law.{IsScript}
 
 -- the bytes are read as a script, which is bound to the program
 pub record IsScriptFor (program : Program) (bytes : List ℕ) (script : Bound) : Type 0 where
@@ -14,6 +14,6 @@ pub record IsScriptFor (program : Program) (bytes : List ℕ) (script : Bound) :
   pub is_read : script_of bytes ≡ Ok read
   pub is_bound : bound_of read program ≡ Ok script
 
--- its numbers for registers are words
-abbrev pub ScriptsHaveWords : Type 0
-ScriptsHaveWords = (program : Program) (bytes : List ℕ) (script : Bound) → IsSound program → IsScriptFor program bytes script → IsScript program script
+-- its commands fit the program, and its numbers for registers are words
+abbrev pub ScriptsFit : Type 0
+ScriptsFit = (program : Program) (bytes : List ℕ) (script : Bound) → IsSound program → IsScriptFor program bytes script → IsScript program script

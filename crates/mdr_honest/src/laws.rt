@@ -2,7 +2,7 @@
 
 ghost use Rattle.mdr_honest.specs.Loading.{LoadedHalvesAreSound, LoadedTextsAreNotRefused, TextsLoadOneThing, TextsOfSourcesAreLoaded, TextsOfSourcesAreTaken};
 ghost use Rattle.mdr_honest.specs.Meanings.{RunIsMeaning};
-ghost use Rattle.mdr_honest.specs.Scripts.{ScriptsHaveWords};
+ghost use Rattle.mdr_honest.specs.Scripts.{ScriptsFit};
 
 /// Texts are loaded as one program and one plan.
 pub fn texts_load_one_thing()
@@ -29,9 +29,10 @@ pub fn texts_of_sources_are_taken()
     ensures { TextsOfSourcesAreTaken }
 {}
 
-/// In a script that is read and bound the numbers for registers are words of 32 bits.
-pub fn scripts_have_words()
-    ensures { ScriptsHaveWords }
+/// A script that is read and bound fits its program: each command names a function or a global of it, with arguments that
+/// fit, and the numbers for registers are words of 32 bits.
+pub fn scripts_fit()
+    ensures { ScriptsFit }
 {}
 
 /// A run over an honest far side means what one memory does, within 4 messages for each tick and 6 for each command that

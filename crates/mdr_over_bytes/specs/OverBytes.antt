@@ -3,6 +3,7 @@ use Rattle.std.specs.Prelude.{◌≡◌, ℕ, List, [], ◌∷◌, ◌++◌, map
 use Rattle.mdr_core.specs.declared.plan.Plan.{Plan}
 use Rattle.mdr_core.specs.declared.program.Program.{Program}
 use Rattle.mdr_core.specs.Sound.{IsSound}
+use Rattle.mdr_holds.specs.Laws.{IsScript}
 use Rattle.mdr_model.specs.declared.message.Message.{Message}
 use Rattle.mdr_model.specs.declared.outcome.End.{End}
 use Rattle.mdr_model.specs.Bytes.{readings}
@@ -13,7 +14,7 @@ use Rattle.mdr_msg.specs.OverBytes.{HaveSpellings}
 use Rattle.mdr_msg.specs.WellFormed.{IsMessage}
 use Rattle.mdr_script.specs.declared.bound.Bound.{Bound}
 use Rattle.mdr_split.specs.Kernel.{SplitRun, split_run}
-use Rattle.mdr_split.specs.Law.{HaveBodies, IsHonest, IsPlanOf, IsScript, IsWatched}
+use Rattle.mdr_split.specs.Law.{HaveBodies, IsHonest, IsPlanOf, IsWatched}
 use Rattle.mdr_split.specs.State.{Kernel, Over}
 use Rattle.mdr_split.specs.User.{user_reply}
 use Rattle.mdr_watched.specs.Driver.{Driver, driver_of}
@@ -69,7 +70,7 @@ pub record IsOneMemoryOverBytes (d : Driver) (script : Bound) (budget : ℕ) : T
       → IsWatched d script budget end k
   pub ends : HasHonestRun d script budget
 
--- the law for every sound program in which each function has a body, with its plan, every bound script and every budget
+-- the law for every sound program in which each function has a body, with its plan, every script whose commands fit it and every budget
 abbrev pub SplitOverBytesIsOneMemory : Type 0
 SplitOverBytesIsOneMemory =
     (program : Program) (plan : Plan) (script : Bound) (budget : ℕ) → IsSound program → HaveBodies program → IsPlanOf program plan → IsScript program script

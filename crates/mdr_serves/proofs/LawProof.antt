@@ -5,13 +5,10 @@ use Rattle.mdr_callees.specs.Callees.{uses_by}
 use Rattle.mdr_core.specs.declared.program.Program.{Program}
 use Rattle.mdr_core.specs.declared.types.Shape.{Shape}
 use Rattle.mdr_core.specs.Sound.{IsSound}
-use Rattle.mdr_device.specs.declared.rule.Effect.{Effect}
-use Rattle.mdr_device.specs.declared.rule.Effect.TheVariants as effect
-use Rattle.mdr_holds.proofs.Bindings.{bound_commands_fit}
 use Rattle.mdr_holds.proofs.Scripts.{commands_leave}
 use Rattle.mdr_holds.proofs.States.{states_hold}
-use Rattle.mdr_holds.specs.Holding.{Holds, PutsWord as MayPut, first_knowledge}
-use Rattle.mdr_holds.specs.Laws.{IsScript as IsGoodScript}
+use Rattle.mdr_holds.specs.Holding.{Holds, first_knowledge}
+use Rattle.mdr_holds.specs.Laws.{IsScript}
 use Rattle.mdr_meaning.specs.Fit.{Knowledge}
 use Rattle.mdr_meaning.specs.Numbers.{Numbered}
 use Rattle.mdr_meaning.specs.Within.{Uses}
@@ -32,7 +29,7 @@ use Rattle.mdr_script.specs.declared.bound.Bound.{Bound}
 use Rattle.mdr_model.proofs.FuelLaws.{allowance-append, allowance_one}
 use Rattle.mdr_split.proofs.FuelLaws.{reply_with_fuel, user_after-append}
 use Rattle.mdr_split.specs.Kernel.{first_kernel, next, run_from_pending, split_commands, split_run}
-use Rattle.mdr_split.specs.Law.{IsHonest, IsOneMemory, IsScript, IsWatched, PutsWord, SplitIsOneMemory}
+use Rattle.mdr_split.specs.Law.{IsHonest, IsOneMemory, IsWatched, SplitIsOneMemory}
 use Rattle.mdr_split.specs.State.{Kernel, Pending, Over, Waits}
 use Rattle.mdr_split.specs.User.{Delivered, User, deliver, first_user, user_after, user_reply}
 use Rattle.mdr_watched.specs.Driver.{Driver, driver_of}
@@ -171,24 +168,8 @@ told_all program K w h = record {
     told serial (Some shape) e known = h.births.told serial shape e
     told serial None e known = let none : is_some (K.blocks serial) ≡ false = ap (λ (o : Option Shape). is_some o) e in absurd (Prim.cc)
 
-may_put : (e : Effect) → PutsWord e → MayPut e
-may_put (effect.Set r mask) h = h
-may_put (effect.Clear r mask) h = tt
-may_put (effect.Put r word) h = h
-may_put (effect.CopyTo a b) h = tt
-may_put (effect.Start c n) h = tt
-may_put effect.Raise h = tt
-may_put effect.Lower h = tt
-
-good_script : (program : Program) (script : Bound) → IsSound program → IsScript program script → IsGoodScript program script
-good_script program script sound bound = record {
-  commands = bound_commands_fit program sound bound.text script bound.bound;
-  words = bound.words;
-  rules = λ i j rule e is at. may_put e (bound.rules i j rule e is at);
-}
-
 -- the state in which the kernel half begins, and what the user half has then
-first_agrees : (d : Driver) (uses : Uses) (script : Bound) (budget : ℕ) → IsRight d uses → IsGoodScript d.program script → Agree d uses budget (first_knowledge d.program uses) (first_kernel d script budget).agreed (first_kernel d script budget).world
+first_agrees : (d : Driver) (uses : Uses) (script : Bound) (budget : ℕ) → IsRight d uses → IsScript d.program script → Agree d uses budget (first_knowledge d.program uses) (first_kernel d script budget).agreed (first_kernel d script budget).world
 unfolding first_kernel first_world
 first_agrees d uses script budget right good =
     let K : Knowledge = first_knowledge d.program uses in
@@ -210,7 +191,7 @@ first_copy d uses script budget right = ap (λ (known : Numbered). idle_user (fi
 
 -- ---- the law
 
-module _ (d : Driver) (uses : Uses) (right : IsRight d uses) (script : Bound) (budget : ℕ) (good : IsGoodScript d.program script) where
+module _ (d : Driver) (uses : Uses) (right : IsRight d uses) (script : Bound) (budget : ℕ) (good : IsScript d.program script) where
   abbrev k0 : Kernel
   k0 = first_kernel d script budget
 
@@ -230,8 +211,10 @@ module _ (d : Driver) (uses : Uses) (right : IsRight d uses) (script : Bound) (b
   is_watched fuel f end k one =
       let same_end : end ≡ (watched_of d script budget).end = Prim.cc in
       let same_kernel : k ≡ f.kernel = Prim.cc in
+      let same_world : k.world ≡ (watched_of d script budget).world = ap (λ (x : Kernel). x.world) same_kernel ∙ f.world in
       record {
-        outcome = ap (outcome_of d.program) (λ i. record { end = same_end i; world = (ap (λ (x : Kernel). x.world) same_kernel ∙ f.world) i });
+        world = same_world;
+        outcome = ap (outcome_of d.program) (λ i. record { end = same_end i; world = same_world i });
         own = subst (λ (e : End). IsOwn e) (sym same_end) own;
         messages = subst (λ (x : Kernel). 2 * x.exchanges ≤ 4 * x.world.clock.ticks + 6 * x.world.kept.calls) (sym same_kernel) f.bound;
       }
@@ -272,4 +255,4 @@ split_is_one_memory program plan script budget sound bodies planned bound =
     let graph : CallGraph program = call_graph program in
     let uses : Uses = uses_by program graph.callees in
     let right : IsRight (driver_of program plan) uses = is_right program plan graph.callees sound bodies planned graph.are in
-    one_memory (driver_of program plan) uses right script budget (good_script program script sound bound)
+    one_memory (driver_of program plan) uses right script budget bound

@@ -1,5 +1,5 @@
 -- The law: a split run with an honest far side is the watched run on one memory.
-use Rattle.std.specs.Prelude.{◌≡◌, ℕ, ◌+◌, ◌*◌, ◌<◌, ◌≤◌, true, not, List, [], ◌∷◌, ◌++◌, Some, Ok, slice_get, is_some}
+use Rattle.std.specs.Prelude.{◌≡◌, ℕ, ◌+◌, ◌*◌, ◌≤◌, true, not, List, [], ◌∷◌, ◌++◌, Some, Ok, slice_get, is_some}
 use Rattle.std.specs.Option.{option_map}
 use Rattle.mdr_access.specs.Keys.{IsPlan}
 use Rattle.mdr_core.specs.declared.plan.Plan.{Plan}
@@ -7,9 +7,7 @@ use Rattle.mdr_core.specs.declared.program.Func.{Func}
 use Rattle.mdr_core.specs.declared.program.Program.{Program}
 use Rattle.mdr_core.specs.Sound.{IsSound}
 use Rattle.mdr_core.specs.Typing.{function_type}
-use Rattle.mdr_device.specs.declared.rule.Effect.{Effect}
-use Rattle.mdr_device.specs.declared.rule.Effect.TheVariants as effect
-use Rattle.mdr_device.specs.declared.rule.Rule.{Rule}
+use Rattle.mdr_holds.specs.Laws.{IsScript}
 use Rattle.mdr_meaning.specs.Fuel.{IsUserPart}
 use Rattle.mdr_model.specs.declared.message.Message.{Message}
 use Rattle.mdr_model.specs.declared.outcome.End.{End}
@@ -18,8 +16,6 @@ use Rattle.mdr_model.specs.Law.{IsOwn, read}
 use Rattle.mdr_plain.specs.Outcome.{outcome_of}
 use Rattle.mdr_plain.specs.Scripts.{finish}
 use Rattle.mdr_script.specs.declared.bound.Bound.{Bound}
-use Rattle.mdr_script.specs.declared.script.Script.{Script}
-use Rattle.mdr_script.specs.Binding.{bound_of}
 use Rattle.mdr_slice.specs.declared.halves.Halves.{Halves}
 use Rattle.mdr_slice.specs.Graph.{AreRoots}
 use Rattle.mdr_slice.specs.Halves.{AreHalves}
@@ -29,7 +25,7 @@ use Rattle.mdr_split.specs.User.{user_reply}
 use Rattle.mdr_watched.specs.Driver.{Driver, driver_of, is_user}
 use Rattle.mdr_watched.specs.Watched.{watched_of}
 
--- ---- what is asked of a driver and its script
+-- ---- what is asked of a driver
 
 abbrev pub HaveBodies : Program → Type 0
 HaveBodies program = (f : ℕ) (func : Func) → slice_get program.funcs f ≡ Some func → is_some func.body ≡ true
@@ -42,22 +38,6 @@ pub record IsPlanOf (program : Program) (plan : Plan) : Type 0 where
   pub are_halves : AreHalves program roots halves
   pub is_plan : IsPlan program halves plan
 
--- a word of 32 bits
-abbrev pub IsWord : ℕ → Type 0
-IsWord n = n < 4294967296
-
-abbrev pub PutsWord : Effect → Type 0
-PutsWord (effect.Set r mask) = IsWord mask
-PutsWord (effect.Put r word) = IsWord word
-PutsWord _ = Unit {0}
-
--- a script that is bound to the program, whose numbers for registers are words
-pub record IsScript (program : Program) (script : Bound) : Type 0 where
-  pub text : Script
-  pub bound : bound_of text program ≡ Ok script
-  pub words : (i : ℕ) (word : ℕ × ℕ) → slice_get script.words i ≡ Some word → IsWord word.1
-  pub rules : (i j : ℕ) (rule : Rule) (e : Effect) → slice_get script.rules i ≡ Some rule → slice_get rule.effects j ≡ Some e → PutsWord e
-
 -- ---- an honest far side
 
 -- each answer is the user half's reply to the messages sent so far
@@ -68,8 +48,9 @@ IsHonest d before (m ∷ sent) (a ∷ answers) = (a ≡ user_reply d (read befor
 
 -- ---- the law
 
--- a run that is over has the outcome of the watched run, refuses nothing, and has at most 4 messages for each tick and 6 for each command that called a function: each message sent was answered
+-- a run that is over ends in the very state in which the watched run ends, so with its outcome; it refuses nothing, and has at most 4 messages for each tick and 6 for each command that called a function: each message sent was answered
 pub record IsWatched (d : Driver) (script : Bound) (budget : ℕ) (end : End) (k : Kernel) : Type 0 where
+  pub world : k.world ≡ (watched_of d script budget).world
   pub outcome : outcome_of d.program (finish end k.world) ≡ outcome_of d.program (watched_of d script budget)
   pub own : IsOwn end
   pub messages : 2 * k.exchanges ≤ 4 * k.world.clock.ticks + 6 * k.world.kept.calls
@@ -86,7 +67,7 @@ pub record IsOneMemory (d : Driver) (script : Bound) (budget : ℕ) : Type 0 whe
       × IsHonest d [] (split_run d script budget (read answers)).sent answers
       × ((split_run d script budget (read answers)).pending ≡ Over end k)
 
--- the law for every sound program in which each function has a body, with its plan, every bound script and every budget. In a sound program no code calls back through the kernel: that service isn't built
+-- the law for every sound program in which each function has a body, with its plan, every script whose commands fit it and every budget. In a sound program no code calls back through the kernel: that service isn't built
 abbrev pub SplitIsOneMemory : Type 0
 SplitIsOneMemory =
     (program : Program) (plan : Plan) (script : Bound) (budget : ℕ) → IsSound program → HaveBodies program → IsPlanOf program plan → IsScript program script
