@@ -1,6 +1,7 @@
 // Laws, each as a function that does nothing.
 
 ghost use Rattle.mdr_exchanges.specs.Ends.{EndedRunsAreAsBefore, ExchangesAreFew};
+ghost use Rattle.mdr_exchanges.specs.Meanings.{HonestRunsAreMeant};
 
 /// Where an answer is refused, or none comes, the run had waited for it, and its memory is what it was before: the answer's
 /// number and its first fault are told.
@@ -12,4 +13,10 @@ pub fn ended_runs_are_as_before()
 /// called a function.
 pub fn exchanges_are_few()
     ensures { ExchangesAreFew }
+{}
+
+/// A run of a sound program over honest exchanges has the outcome of the watched run on one memory, within 4 messages for
+/// each tick and 6 for each command that called a function, or the far side failed.
+pub fn honest_runs_are_meant()
+    ensures { HonestRunsAreMeant }
 {}

@@ -4,4 +4,4 @@
 
 mod laws;
 
-pub use laws::{ended_runs_are_as_before, exchanges_are_few};
+pub use laws::{ended_runs_are_as_before, exchanges_are_few, honest_runs_are_meant};

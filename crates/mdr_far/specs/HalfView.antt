@@ -2,7 +2,7 @@
 use Rattle.std.specs.Prelude.{[], IfSome, is_none}
 use Rattle.mdr_core.specs.Sound.{IsSound}
 use Rattle.mdr_exchanges.specs.Runs.{sent_of}
-use Rattle.mdr_honest.specs.Honest.{Honest}
+use Rattle.mdr_exchanges.specs.Meanings.{Honest}
 use Rattle.mdr_model.specs.Bytes.{readings}
 use Rattle.mdr_user_code.specs.Standing.{Follows, IsFit}
 use Rattle.mdr_watched.specs.Driver.{driver_of}

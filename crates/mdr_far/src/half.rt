@@ -3,7 +3,7 @@
 ghost use Rattle.std.specs.Prelude.{◌≡◌, ℕ, [], ◌∷◌, ◌++◌, false, Some, Ok, Err, IfOk, OnErr};
 ghost use Rattle.mdr_core.specs.Sound.{IsSound};
 ghost use Rattle.mdr_exchanges.specs.Runs.{sent_of};
-ghost use Rattle.mdr_honest.specs.Honest.{Honest};
+ghost use Rattle.mdr_exchanges.specs.Meanings.{Honest};
 ghost use Rattle.mdr_model.specs.declared.message.Message.TheVariants.{Refuse};
 ghost use Rattle.mdr_model.specs.Text.{text};
 ghost use Rattle.mdr_outside.specs.Far.{exchange};

@@ -1,40 +1,25 @@
 -- A run over an honest far side means what one memory does.
-use Rattle.std.proofs.Common.{◌≡◌, ℕ, ◌+◌, ◌⊎◌, inl, inr, List, [], ◌∷◌, ◌++◌, map, length, Option, Some, None, refl, sym, ap, ◌∙◌, subst, arith}
+use Rattle.std.proofs.Common.{◌≡◌, ℕ, List, [], ◌∷◌, ◌++◌, Option, Some, None, sym, ap, ◌∙◌, subst}
 use Rattle.std.specs.Prelude.{IfSome}
 use Rattle.mdr_core.specs.declared.plan.Plan.{Plan}
 use Rattle.mdr_core.specs.declared.program.Program.{Program}
-use Rattle.mdr_core.specs.Sound.{IsSound}
 use Rattle.mdr_half.specs.Halves.{user_text}
 use Rattle.mdr_outside.specs.declared.far.Exchange.{Exchange}
 use Rattle.mdr_outside.specs.declared.far.Loaded.{Loaded}
-use Rattle.mdr_model.specs.declared.outcome.End.{End}
 use Rattle.mdr_model.specs.Bytes.{readings}
 use Rattle.mdr_model.specs.KernelState.{Reading}
-use Rattle.mdr_model.specs.Law.{IsOwn}
 use Rattle.mdr_model.specs.Reading.{reading_of}
 use Rattle.mdr_model.specs.Text.{text}
 use Rattle.mdr_msg.specs.WellFormed.{IsMessage}
-use Rattle.mdr_plain.specs.declared.outcome.Outcome.{Outcome}
-use Rattle.mdr_plain.specs.Outcome.{outcome_of}
-use Rattle.mdr_plain.specs.Scripts.{Finish, finish}
-use Rattle.mdr_plain.specs.World.{World}
-use Rattle.mdr_script.specs.declared.bound.Bound.{Bound}
 use Rattle.mdr_source.specs.declared.outcome.Source.{Source}
-use Rattle.mdr_split.specs.AnyAnswers.{kernel_in}
-use Rattle.mdr_split.specs.Kernel.{SplitRun}
-use Rattle.mdr_split.specs.Law.{HaveBodies, IsPlanOf, IsWatched}
-use Rattle.mdr_split.specs.State.{Kernel, Pending, Over, Waits}
 use Rattle.mdr_split.specs.User.{user_reply}
 use Rattle.mdr_watched.specs.Driver.{Driver, driver_of}
-use Rattle.mdr_watched.specs.Watched.{watched}
-use Rattle.mdr_over_bytes.specs.OverBytes.{IsHonestOverBytes, IsHonestReply, IsHonestRun, IsOneMemoryOverBytes, user_reply_to_bytes}
-use Rattle.mdr_over_bytes.proofs.Lifted.{split_over_bytes_is_one_memory}
-use Rattle.mdr_exchanges.specs.Runs.{sent_of, then_answers, answers_of, run_over, finish_of, IsRun, IsFarFault}
-use Rattle.mdr_exchanges.proofs.Counted.{total_of}
-use Rattle.mdr_exchanges.proofs.Endings.{as_many}
-use Rattle.mdr_honest.specs.Honest.{Honest, IsHonestSince, Loads}
+use Rattle.mdr_over_bytes.specs.OverBytes.{IsHonestReply, user_reply_to_bytes}
+use Rattle.mdr_exchanges.specs.Meanings.{Honest, IsRunnable}
+use Rattle.mdr_exchanges.proofs.Meant.{honest_runs_are_meant}
+use Rattle.mdr_honest.specs.Honest.{IsHonestSince, Loads}
 use Rattle.mdr_honest.specs.Loading.{AreItsHalf}
-use Rattle.mdr_honest.specs.Meanings.{HasTexts, IsMeant, RunIsMeaning}
+use Rattle.mdr_honest.specs.Meanings.{HasTexts, RunIsMeaning}
 use Rattle.mdr_honest.specs.Scripts.{IsScriptFor}
 use Rattle.mdr_honest.proofs.Taken.{its_plan, source_bodies, source_sound, texts_are_loaded}
 use Rattle.mdr_honest.proofs.FittingScripts.{scripts_fit}
@@ -60,16 +45,6 @@ honest_moved d other same before (e ∷ es) h = (of e.got h.0, honest_moved d ot
     of None q = tt
     of (Some reply) q = reply_moved d other same before e.sent reply q
 
--- the answers up to the first message without one are honest
-honest_answers : (d : Driver) (before : List (List ℕ)) (es : List Exchange) → Honest d before es → IsHonestOverBytes d before (sent_of es) (answers_of es)
-honest_answers d before [] h = tt
-honest_answers d before (e ∷ es) h = of e.got h.0 (honest_answers d (before ++ e.sent ∷ []) es h.1)
-  where
-    of : (got : Option (List ℕ)) → IfSome got (λ reply. IsHonestReply d before e.sent reply) → IsHonestOverBytes d (before ++ e.sent ∷ []) (sent_of es) (answers_of es)
-        → IsHonestOverBytes d before (e.sent ∷ sent_of es) (then_answers got (answers_of es))
-    of None q later = tt
-    of (Some reply) q later = (q, later)
-
 -- an honest far side that was loaded with a source's texts answers as the user half of the whole program
 replies_are : (source : Source) (plan : Plan) (l : Loaded) (es : List Exchange) → AreItsHalf source plan → HasTexts source plan l → IsHonestSince l es → Honest (driver_of source.program plan) [] es
 replies_are source plan l es half texts honest =
@@ -77,64 +52,12 @@ replies_are source plan l es half texts honest =
     subst (λ (u : List ℕ). Loads u l.plan half.part plan) (sym texts.user_is) (subst (λ (t : List ℕ). Loads (user_text plan source.tree) t half.part plan) (sym texts.plan_is) half.loaded) in
     honest_moved (driver_of half.part plan) (driver_of source.program plan) half.replies [] es (honest.served half.part plan loaded)
 
--- ---- outcomes
-
-ticks_of : (program : Program) (f : Finish) → (outcome_of program f).ticks ≡ f.world.clock.ticks
-unfolding outcome_of
-ticks_of program f = refl
-
-fails : (program : Program) (f : Finish) → IsFarFault f.end → IsFarFault (outcome_of program f).end
-unfolding outcome_of
-fails program f h = h
-
-owns : (program : Program) (f : Finish) → IsOwn f.end → IsOwn (outcome_of program f).end
-unfolding outcome_of
-owns program f h = h
-
 -- ---- the run
-
-module _ (program : Program) (plan : Plan) (script : Bound) (budget : ℕ) (es : List Exchange) (o : Outcome) where
-  abbrev d : Driver
-  d = driver_of program plan
-
-  abbrev ran_over : SplitRun
-  ran_over = run_over d script budget es
-
-  is_meant : (end : End) (k : Kernel) → sent_of es ≡ map text ran_over.sent → ran_over.pending ≡ Over end k → o ≡ outcome_of program (finish end k.world) → IsWatched d script budget end k
-      → IsMeant program plan script budget es o
-  is_meant end k sent over is w =
-      let kernel : kernel_in ran_over.pending ≡ k = ap kernel_in over in
-      let exchanged : k.exchanges ≡ length ran_over.sent + 0 = ap (λ (x : Kernel). x.exchanges) (sym kernel) ∙ total_of d script budget (answers_of es) in
-      let messages : length es ≡ length ran_over.sent = as_many es ran_over.sent sent in
-      let calls : k.world.kept.calls ≡ (watched program plan script budget).world.kept.calls = ap (λ (x : World). x.kept.calls) w.world in
-      let ticks : o.ticks ≡ k.world.clock.ticks = ap (λ (x : Outcome). x.ticks) is ∙ ticks_of program (finish end k.world) in
-      record {
-        outcome = is ∙ w.outcome;
-        own = subst (λ (x : Outcome). IsOwn x.end) (sym is) (owns program (finish end k.world) w.own);
-        messages = omega (arith, w.messages, exchanged, messages, calls, ticks);
-      }
-
-  -- a run that is over, and one that waits
-  means : IsSound program → HaveBodies program → IsPlanOf program plan → (bytes : List ℕ) → IsScriptFor program bytes script → Honest d [] es → IsRun d script budget es o → IsFarFault o.end ⊎ IsMeant program plan script budget es o
-  means sound bodies planned bytes scripted honest ran = of ran_over.pending refl
-    where
-      law : IsOneMemoryOverBytes d script budget
-      law = split_over_bytes_is_one_memory program plan script budget sound bodies planned (scripts_fit program bytes script sound scripted)
-
-      fair : IsHonestOverBytes d [] (map text ran_over.sent) (answers_of es)
-      fair = subst (λ (sent : List (List ℕ)). IsHonestOverBytes d [] sent (answers_of es)) ran.messages (honest_answers d [] es honest)
-
-      ends_so : (p : Pending) → ran_over.pending ≡ p → o ≡ outcome_of program (finish_of p)
-      ends_so p e = ran.outcome ∙ ap (λ (x : Pending). outcome_of program (finish_of x)) e
-
-      of : (p : Pending) → ran_over.pending ≡ p → IsFarFault o.end ⊎ IsMeant program plan script budget es o
-      of (Over end k) e =
-          let run : IsHonestRun d script budget (answers_of es) end k = record { honest = fair; over = e } in
-          inr (is_meant end k ran.messages e (ends_so (Over end k) e) (law.same (answers_of es) end k ran.spelled run))
-      of (Waits m k upcall rest left) e = inl (subst (λ (x : Outcome). IsFarFault x.end) (sym (ends_so (Waits m k upcall rest left) e)) (fails program (finish_of (Waits m k upcall rest left)) tt))
 
 pub meaning : RunIsMeaning
 meaning bytes script_bytes source plan script budget l es o cut scripted texts honest ran =
     let s = cut.source_is in
-    means source.program plan script budget es o (source_sound bytes source s) (source_bodies bytes source s) (its_plan source.program plan cut.plan_is) script_bytes scripted
-    (replies_are source plan l es (texts_are_loaded bytes source plan cut) texts honest) ran
+    let sound = source_sound bytes source s in
+    let runnable : IsRunnable source.program plan script =
+    record { bodies = source_bodies bytes source s; planned = its_plan source.program plan cut.plan_is; script = scripts_fit source.program script_bytes script sound scripted } in
+    honest_runs_are_meant source.program plan script budget es o sound ran runnable (replies_are source plan l es (texts_are_loaded bytes source plan cut) texts honest)

@@ -1,17 +1,17 @@
 -- A far side that answers as the user half.
-use Rattle.std.specs.Prelude.{◌≡◌, ◌≤◌, ℕ, true, false, List, [], ◌∷◌, ◌++◌, length, Option, Some, None, IfSome}
+use Rattle.std.specs.Prelude.{◌≡◌, ◌≤◌, ℕ, true, false, List, [], length, Option, Some, None}
 use Rattle.mdr_core.specs.declared.plan.Plan.{Plan}
 use Rattle.mdr_core.specs.declared.program.Program.{Program}
 use Rattle.mdr_body.specs.Mentions.{uses}
 use Rattle.mdr_source.specs.Backs.{functions_call_back}
 use Rattle.mdr_plan.specs.Texts.{IsPlanText}
 use Rattle.mdr_sound_half.specs.HalfSources.{IsHalfProgramOf}
-use Rattle.mdr_over_bytes.specs.OverBytes.{IsHonestReply}
+use Rattle.mdr_exchanges.specs.Meanings.{Honest}
 use Rattle.mdr_outside.specs.declared.far.Exchange.{Exchange}
 use Rattle.mdr_outside.specs.declared.far.LoadAnswer.{LoadAnswer}
 use Rattle.mdr_outside.specs.declared.far.LoadAnswer.TheVariants as loads
 use Rattle.mdr_outside.specs.declared.far.Loaded.{Loaded}
-use Rattle.mdr_watched.specs.Driver.{Driver, driver_of}
+use Rattle.mdr_watched.specs.Driver.{driver_of}
 
 -- ---- loads
 
@@ -43,13 +43,6 @@ IsHonestLoad user plan_text loads.Ok = AreLoadable user plan_text
 IsHonestLoad user plan_text (loads.Refused cause) = AreRefused user plan_text cause
 IsHonestLoad user plan_text loads.Failed = Unit {0}
 IsHonestLoad user plan_text loads.OutOfMemory = ⊥
-
--- ---- exchanges
-
--- each reply that was got is the user half's reply to the messages so far, and has a spelling
-abbrev pub Honest : Driver → (before : List (List ℕ)) → List Exchange → Type 0
-Honest d before [] = Unit {0}
-Honest d before (e ∷ es) = IfSome e.got (λ reply. IsHonestReply d before e.sent reply) × Honest d (before ++ e.sent ∷ []) es
 
 -- ---- a far side
 

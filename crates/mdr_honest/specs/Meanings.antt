@@ -1,28 +1,19 @@
 -- What a run over an honest far side means.
-use Rattle.std.specs.Prelude.{◌≡◌, ℕ, ◌+◌, ◌*◌, ◌≤◌, ◌⊎◌, List, length, Some}
+use Rattle.std.specs.Prelude.{◌≡◌, ℕ, ◌⊎◌, List, Some}
 use Rattle.mdr_core.specs.declared.plan.Plan.{Plan}
-use Rattle.mdr_core.specs.declared.program.Program.{Program}
 use Rattle.mdr_half.specs.Halves.{user_text}
 use Rattle.mdr_half.specs.Plans.{plan_text}
-use Rattle.mdr_model.specs.Law.{IsOwn}
 use Rattle.mdr_outside.specs.declared.far.Exchange.{Exchange}
 use Rattle.mdr_outside.specs.declared.far.Loaded.{Loaded}
 use Rattle.mdr_plain.specs.declared.outcome.Outcome.{Outcome}
-use Rattle.mdr_plain.specs.Outcome.{outcome_of}
+use Rattle.mdr_exchanges.specs.Meanings.{IsMeant}
 use Rattle.mdr_exchanges.specs.Runs.{IsFarFault, IsRun}
 use Rattle.mdr_script.specs.declared.bound.Bound.{Bound}
 use Rattle.mdr_source.specs.declared.outcome.Source.{Source}
 use Rattle.mdr_watched.specs.Driver.{driver_of}
-use Rattle.mdr_watched.specs.Watched.{watched}
 use Rattle.mdr_honest.specs.Honest.{IsHonest}
 use Rattle.mdr_honest.specs.Loading.{IsCut}
 use Rattle.mdr_honest.specs.Scripts.{IsScriptFor}
-
--- the outcome of the watched run on one memory, reached within 4 messages for each tick and 6 for each command that called a function
-pub record IsMeant (program : Program) (plan : Plan) (script : Bound) (budget : ℕ) (es : List Exchange) (o : Outcome) : Type 0 where
-  pub outcome : o ≡ outcome_of program (watched program plan script budget)
-  pub own : IsOwn o.end
-  pub messages : 2 * length es ≤ 4 * o.ticks + 6 * (watched program plan script budget).world.kept.calls
 
 -- the far side was loaded with the texts of the user half and of the plan that the source is cut into
 pub record HasTexts (source : Source) (plan : Plan) (l : Loaded) : Type 0 where

@@ -4,6 +4,7 @@ ghost use Rattle.std.specs.Prelude.{◌≡◌, ◌≤◌, [], ◌++◌, true, fa
 ghost use Rattle.mdr_core.specs.Sound.{IsSound};
 ghost use Rattle.mdr_exchanges.specs.Calls.{IsStopped, sends};
 ghost use Rattle.mdr_exchanges.specs.Ends.{AreFew, IsAsBefore};
+ghost use Rattle.mdr_exchanges.specs.Meanings.{MeansOneMemory};
 ghost use Rattle.mdr_exchanges.specs.Runs.{IsFarFault, IsRun, sent_of};
 ghost use Rattle.mdr_near.specs.HalfState.{IsLeft, driver_held};
 ghost use Rattle.mdr_outside.specs.Count.{Rose};
@@ -84,6 +85,7 @@ impl<'a> KernelHalf<'a> {
         requires loaded { IsLoaded (F.loaded far.old) }
         requires fresh { F.exchanges far.old ≡ [] }
         ensures run { IfOk result (IsRun (driver_held self.old) script.now ticks (F.exchanges far.new)) }
+        ensures meant { IfOk result (MeansOneMemory self.old.program self.old.plan script.now ticks (F.exchanges far.new)) }
         ensures left { IfOk result (λ _. IsLeft (driver_held self.old) script.now ticks (F.exchanges far.new) self.new) }
         ensures before { IfOk result (λ o. IsAsBefore (driver_held self.old) script.now ticks (F.exchanges far.new) self.new.memory o.end) }
         ensures few { IfOk result (λ o. AreFew (driver_held self.old) script.now ticks (F.exchanges far.new) self.new.messages o.ticks) }

@@ -1,1 +1,2 @@
 pub mod OverBytes
+pub mod Alone

@@ -12,7 +12,8 @@ use Rattle.mdr_half.specs.Halves.{user_text}
 use Rattle.mdr_half.specs.Plans.{plan_text}
 use Rattle.mdr_honest.specs.Honest.{IsHonest, IsHonestLoad, IsHonestSince}
 use Rattle.mdr_honest.specs.Loading.{IsCut, IsTaken, TextsOfSourcesAreTaken}
-use Rattle.mdr_honest.specs.Meanings.{HasTexts, IsMeant, RunIsMeaning}
+use Rattle.mdr_exchanges.specs.Meanings.{IsMeant}
+use Rattle.mdr_honest.specs.Meanings.{HasTexts, RunIsMeaning}
 use Rattle.mdr_honest.specs.Scripts.{IsScriptFor}
 use Rattle.mdr_model.specs.declared.outcome.End.{End}
 use Rattle.mdr_model.specs.declared.outcome.End.TheVariants as ends
