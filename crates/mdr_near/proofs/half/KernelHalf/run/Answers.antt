@@ -1,8 +1,10 @@
 -- The run is that of the driver that the half holds.
 use Rattle.std.proofs.Common.{ap, ◌∙◌, subst}
+use Rattle.mdr_exchanges.proofs.Meant.{honest_runs_are_meant}
 use Rattle.mdr_exchanges.proofs.Stops.{on_err}
 use Rattle.mdr_exchanges.specs.Calls.{IsStopped}
 use Rattle.mdr_exchanges.specs.Ends.{AreFew, IsAsBefore}
+use Rattle.mdr_exchanges.specs.Meanings.{MeansOneMemory}
 use Rattle.mdr_exchanges.specs.Runs.{IsRun}
 use Rattle.mdr_near.proofs.half.KernelHalf.run.Goals as goal
 use Rattle.mdr_near.specs.HalfState.{HalfState, driver_held}
@@ -29,3 +31,8 @@ pub returns-in_err-outcome-clause-stopped : goal.returns-in_err-outcome-clause-s
 returns-in_err-outcome-clause-stopped g c =
     on_err _ _ (subst (λ (h : HalfState). IsStopped (driver_held h) c.args.script.now c.args.ticks (g.F.Far.calls c.args.far.now) (g.F.Far.calls c.run_whole.new.far) (g.F.Far.exchanges c.run_whole.new.far) c.run_whole.new.memory.items c.run_whole.new.messages) c.self.view_is
     c.in_err-outcome.ensures.stopped)
+
+pub returns-clause-meant : goal.returns-clause-meant
+returns-clause-meant g c =
+    subst (λ (h : HalfState). MeansOneMemory h.program h.plan c.args.script.now c.args.ticks (g.F.Far.exchanges c.run_whole.new.far) c.in_ok-outcome.outcome) c.self.view_is
+    (honest_runs_are_meant _ _ c.args.script.now c.args.ticks (g.F.Far.exchanges c.run_whole.new.far) c.in_ok-outcome.outcome c.self.invariant.sound c.in_ok-outcome.ensures.run)
