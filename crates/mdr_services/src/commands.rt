@@ -1,6 +1,6 @@
 // The events of commands.
 
-ghost use Rattle.std.specs.Prelude.{◌≡◌, IfOk, OnOk, option_copied, slice_get};
+ghost use Rattle.std.specs.Prelude.{◌≡◌, IfOk, OnErr, OnOk, option_copied, slice_get};
 ghost use Rattle.mdr_meaning.specs.Values.{wire_of};
 ghost use Rattle.mdr_model.specs.Report.{func_name, global_name};
 ghost use Rattle.mdr_model.specs.Values.{value_of};
@@ -45,25 +45,27 @@ fn global_name(alloc: Global, program: &Program, global: u32) -> Result<Name, Ou
     }
 }
 
-/// A call of a function begins: it is counted, and noted.
+/// A call of a function begins: it is noted, and counted. Where that wants memory, or 2^64 - 1 calls were counted, the
+/// world is as before.
 pub fn note_call(
     alloc: Global,
     world: &mut World,
     func: u32,
     args: &[Value],
 ) -> Result<(), OutOfMemory>
-    ensures { OnOk result (world.new ≡ driver world.old.program (begun world.old.program func args.now world.old.world)) }
+    ensures begun { OnOk result (world.new ≡ driver world.old.program (begun world.old.program func args.now world.old.world)) }
+    ensures as_before { OnErr result (world.new ≡ world.old) }
 {
     let name = func_name(alloc, world.program(), func)?;
     let values = Items::from_slice(alloc, args)?;
-    world.begin_call()?;
-    world.note(Happened::Call(name, values))?;
+    world.begin_call(Happened::Call(name, values))?;
     Ok(())
 }
 
 /// The called function's result is noted.
 pub fn note_return(world: &mut World, value: Value) -> Result<(), OutOfMemory>
-    ensures { OnOk result (world.new ≡ driver world.old.program (noted (happened.Ret (value_of (wire_of value))) world.old.world)) }
+    ensures as_before { OnErr result (world.new ≡ world.old) }
+    ensures noted { OnOk result (world.new ≡ driver world.old.program (noted (happened.Ret (value_of (wire_of value))) world.old.world)) }
 {
     world.note(Happened::Ret(event_value(value)))?;
     Ok(())
@@ -71,7 +73,8 @@ pub fn note_return(world: &mut World, value: Value) -> Result<(), OutOfMemory>
 
 /// That ticks are to pass is noted.
 pub fn note_idle(world: &mut World, ticks: u64) -> Result<(), OutOfMemory>
-    ensures { OnOk result (world.new ≡ driver world.old.program (noted (happened.Idle ticks) world.old.world)) }
+    ensures as_before { OnErr result (world.new ≡ world.old) }
+    ensures noted { OnOk result (world.new ≡ driver world.old.program (noted (happened.Idle ticks) world.old.world)) }
 {
     world.note(Happened::Idle(ticks))?;
     Ok(())
@@ -79,7 +82,8 @@ pub fn note_idle(world: &mut World, ticks: u64) -> Result<(), OutOfMemory>
 
 /// What a global's cells hold is noted.
 pub fn show(alloc: Global, world: &mut World, global: u32) -> Result<(), OutOfMemory>
-    ensures { OnOk result (world.new ≡ driver world.old.program (showed world.old.program global world.old.world)) }
+    ensures as_before { OnErr result (world.new ≡ world.old) }
+    ensures shown { OnOk result (world.new ≡ driver world.old.program (showed world.old.program global world.old.world)) }
 {
     let name = global_name(alloc, world.program(), global)?;
     let cells = world.cells(alloc, global as u64)?;

@@ -19,7 +19,7 @@ ghost use Rattle.mdr_plain.specs.Scripts.{block_cells, first_world};
 ghost use Rattle.mdr_plain.specs.Services.{asked_once_more, fails_now, with_device, with_handler};
 ghost use Rattle.mdr_plain.specs.Storage.{births, born, deaths, died, died_at, new_of, pointer_to, remembers};
 ghost use Rattle.mdr_plain.specs.World.{advanced, noted};
-ghost use Rattle.mdr_world.specs.Driven.{NoneIsDue, Ticks, driven_accesses, driver, driver_if, none_comes, open_views};
+ghost use Rattle.mdr_world.specs.Driven.{NoneIsDue, Ticks, counted_call, driven_accesses, driver, driver_if, none_comes, open_views};
 
 use crate::births::{shape_of, zeros};
 use crate::globals::first_storage;
@@ -123,7 +123,8 @@ impl<'a> World<'a> {
 
     /// Adds an event.
     pub fn note(&mut self, event: Happened) -> Result<(), OutOfMemory>
-        ensures { OnOk result (self.new ≡ driver self.old.program (noted event self.old.world)) }
+        ensures noted { OnOk result (self.new ≡ driver self.old.program (noted event self.old.world)) }
+        ensures as_before { OnErr result (self.new ≡ self.old) }
     {
         self.events.push(event)?;
         Ok(())
@@ -137,13 +138,15 @@ impl<'a> World<'a> {
         std::mem::replace(&mut self.events, Items::new(alloc))
     }
 
-    /// A command calls a function.
-    pub fn begin_call(&mut self) -> Result<(), OutOfMemory>
-        ensures { OnOk result (self.new ≡ driver self.old.program (record self.old.world { kept = record self.old.world.kept { calls = self.old.world.kept.calls + 1 } })) }
+    /// A command calls a function, which is noted by this event and counted.
+    pub fn begin_call(&mut self, event: Happened) -> Result<(), OutOfMemory>
+        ensures begun { OnOk result (self.new ≡ driver self.old.program (noted event (counted_call self.old.world))) }
+        ensures as_before { OnErr result (self.new ≡ self.old) }
     {
         if self.calls == u64::MAX {
             return Err(OutOfMemory);
         }
+        self.events.push(event)?;
         self.calls += 1;
         Ok(())
     }
@@ -186,7 +189,8 @@ impl<'a> World<'a> {
 
     /// So many ticks. Where fewer are left that answers want of memory.
     pub fn count(&mut self, ticks: u64) -> Result<(), OutOfMemory>
-        ensures { OnOk result (self.new ≡ driver self.old.program (record self.old.world { clock = advanced ticks self.old.world.clock })) }
+        ensures counted { OnOk result (self.new ≡ driver self.old.program (record self.old.world { clock = advanced ticks self.old.world.clock })) }
+        ensures as_before { OnErr result (self.new ≡ self.old) }
     {
         if ticks > self.rest {
             return Err(OutOfMemory);
@@ -235,7 +239,8 @@ impl<'a> World<'a> {
 
     /// An interrupt is taken.
     pub fn enter_irq(&mut self, handler: u32) -> Result<(), OutOfMemory>
-        ensures { OnOk result (self.new ≡ driver self.old.program (interrupted handler self.old.world)) }
+        ensures entered { OnOk result (self.new ≡ driver self.old.program (interrupted handler self.old.world)) }
+        ensures as_before { OnErr result (self.new ≡ self.old) }
     {
         self.events.push(Happened::Irq(handler))?;
         self.in_handler = true;
@@ -283,7 +288,8 @@ impl<'a> World<'a> {
 
     /// An allocation is asked for.
     pub fn ask_once_more(&mut self) -> Result<(), OutOfMemory>
-        ensures { OnOk result (self.new ≡ driver self.old.program (asked_once_more self.old.world)) }
+        ensures asked { OnOk result (self.new ≡ driver self.old.program (asked_once_more self.old.world)) }
+        ensures as_before { OnErr result (self.new ≡ self.old) }
     {
         if self.allocations == u64::MAX {
             return Err(OutOfMemory);
