@@ -130,7 +130,9 @@ told_faultless d k upcall rest (replies.Down ticks at depth func args runs) e = 
 told_faultless d k upcall rest (replies.Ask ticks at service args shapes bytes runs) e = (faultless d k upcall rest (replies.Ask ticks at service args shapes bytes runs) e).1.1.1.1.0
 told_faultless d k upcall rest (replies.Stop ticks number at runs) e = (faultless d k upcall rest (replies.Stop ticks number at runs) e).1.1.1.0
 
+-- runs without a fault are stored so, wherever the kernel half stands
+pub faultless_contained : (d : Driver) (k : Kernel) (rs : List Run) → reply_runs_fault d k rs ≡ None → IsContained d.program k.world.memory (put_runs rs k.world.memory) (top k.world.views)
+faultless_contained d k rs e = store_contained (kernel_places d k) (top k.world.views) rs (runs_storable (kernel_places d k) (top k.world.views) None 0 rs e)
+
 pub legal_is_contained : LegalIsContained
-legal_is_contained d script budget answers reply m k upcall rest left waits e =
-    let view : List Cell = top k.world.views in
-    store_contained (kernel_places d k) view (runs_told reply) (runs_storable (kernel_places d k) view None 0 (runs_told reply) (told_faultless d k upcall rest reply e))
+legal_is_contained d script budget answers reply m k upcall rest left waits e = faultless_contained d k (runs_told reply) (told_faultless d k upcall rest reply e)

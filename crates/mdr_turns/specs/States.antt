@@ -4,6 +4,7 @@ use Rattle.mdr_core.specs.declared.program.Program.{Program}
 use Rattle.mdr_model.specs.declared.message.Told.{Told}
 use Rattle.mdr_model.specs.Copies.{agreed_after, put_runs}
 use Rattle.mdr_model.specs.declared.message.Run.{Run}
+use Rattle.mdr_model.specs.Legal.{IsContained}
 use Rattle.mdr_plain.specs.World.{World}
 use Rattle.mdr_slice.specs.Calls.{names_of}
 use Rattle.mdr_split.specs.State.{Kernel, Open}
@@ -14,6 +15,7 @@ use Rattle.mdr_turns.specs.declared.state.Open.{Open as CodeOpen}
 use Rattle.mdr_turns.specs.declared.state.Seen.{Seen}
 use Rattle.mdr_turns.specs.declared.state.Waiting.{Waiting}
 use Rattle.mdr_watch.specs.declared.watch.Watch.{Watch}
+use Rattle.mdr_watched.specs.Driver.{Driver}
 use Rattle.mdr_watched.specs.Views.{top}
 
 -- ---- meanings
@@ -67,6 +69,12 @@ pub record IsBetween (watch : Watch) (b : Between) : Type 0 where
 pub record IsActive (watch : Watch) (a : Active) : Type 0 where
   pub same : a.guarded.program ≡ watch.program.now
   pub passes : a.ledger.passes ≡ names_of watch.program.now
+
+-- ---- what changes
+
+-- from one state to the other memory changes in cells alone that user code may touch, and in no lock; no block is born, dies or becomes another
+abbrev pub ChangesVisible : Driver → (before after : Kernel) → Type 0
+ChangesVisible d before after = IsContained d.program before.world.memory after.world.memory (top before.world.views)
 
 -- ---- what is kept
 

@@ -1,9 +1,11 @@
 // A legal reply is applied.
 
-ghost use Rattle.std.specs.Prelude.{◌≡◌, IfOk};
+ghost use Rattle.std.specs.Prelude.{◌≡◌, IfOk, None};
 ghost use Rattle.mdr_split.specs.Kernel.{applied};
+ghost use Rattle.mdr_split.specs.Legal.{reply_runs_fault};
 ghost use Rattle.mdr_watch.specs.declared.watch.Watch.{Watch as AnyWatch};
-ghost use Rattle.mdr_turns.specs.States.{IsActive, agreed_with, kernel_in};
+ghost use Rattle.mdr_watched.specs.Driver.{Driver as AnyDriver};
+ghost use Rattle.mdr_turns.specs.States.{ChangesVisible, IsActive, agreed_with, kernel_in};
 
 use crate::state::{Active, Ledger};
 use mdr_copy::put_runs;
@@ -29,7 +31,8 @@ fn agreed_applied(ledger: Ledger, runs: &[Run]) -> Ledger
     }
 }
 
-/// It is applied: its ticks are spent, and its runs are stored in the memory and in the agreed copy.
+/// It is applied: its ticks are spent, and its runs are stored in the memory and in the agreed copy. Of the memory runs
+/// without a fault change visible cells alone.
 #[tactic(auto, unfolding(mdr_split::specs::Kernel::applied))]
 pub(crate) fn applied<'a>(
     active: Active<'a>,
@@ -37,6 +40,7 @@ pub(crate) fn applied<'a>(
     runs: &[Run],
 ) -> Result<Active<'a>, OutOfMemory>
     ensures is { IfOk result (λ a. kernel_in a ≡ applied ticks runs.now (kernel_in active.entry)) }
+    ensures contained { IfOk result (λ a. (d : AnyDriver) → reply_runs_fault d (kernel_in active.entry) runs.now ≡ None → ChangesVisible d (kernel_in active.entry) (kernel_in a)) }
     ensures open { IfOk result (λ a. a.open ≡ active.entry.open) }
     ensures kept { IfOk result (λ a. (watch : AnyWatch) → IsActive watch active.entry → IsActive watch a) }
 {
