@@ -19,6 +19,7 @@ use Rattle.mdr_faults.specs.declared.scope.StructEntry.{StructEntry}
 use Rattle.mdr_faults.specs.Declarations.{declarator, object_declared}
 use Rattle.mdr_faults.specs.Faults.{Checked, Right, refuse, after, demand, told}
 use Rattle.mdr_headings.specs.Annotations.{bare}
+use Rattle.mdr_headings.specs.Names.{short_params}
 use Rattle.mdr_headings.specs.Structs.{is_struct, name_or_none}
 use Rattle.mdr_headings.specs.Within.{beside, within}
 use Rattle.mdr_operand.specs.declared.room.LocalName.{LocalName}
@@ -102,7 +103,7 @@ abbrev pub is_again : (first : ℕ) → List ℕ → List LocalName → Bool
 is_again first name [] = false
 is_again first name (n ∷ ns) = is_in_block first name n || is_again first name ns
 
--- at most 64 locals, and at most 63 bytes in a name
+-- at most 64 locals, and at most 63 bytes in the name of one
 abbrev pub has_place : (before : ℕ) → List ℕ → Bool
 has_place before name = not (before == 64) && not (nat_lt 63 (length name))
 
@@ -122,13 +123,13 @@ local_whole is_taken d c = after c (λ o. Right (local_of is_taken d o))
 abbrev pub names_here : List LocalName → List Candidate
 names_here names = map (λ n. bare (Some n.name)) names
 
--- a name is declared once in its scope (6.7, paragraph 3)
+-- a name is declared once in its scope (6.7, paragraph 3). The names within its declarator have at most 63 bytes, too
 unfoldable pub local_declared : Scope → (locks : List Bool) → Here → (is_taken : Bool) → Decl → Checked Local
 local_declared scope locks here is_taken d =
     demand (out-Decl d).place Redefined (not (is_again here.first (name_of d) here.names))
     (demand (out-Decl d).place Limit (has_place (length here.locals) (name_of d))
     (demand (out-Decl d).place Mismatch (not (has_no_size here.names (out-Decl d).size))
-    (beside (within scope (names_here here.names) d) (local_whole is_taken d (local_object scope locks d)))))
+    (beside (short_params d) (beside (within scope (names_here here.names) d) (local_whole is_taken d (local_object scope locks d))))))
 
 -- behind a declarator (6.2.1, paragraph 7)
 unfoldable pub with_local : Scope → (locks : List Bool) → (is_taken : Bool) → Decl → Here → Here

@@ -19,7 +19,7 @@ use mdr_faults::{
     Candidate, Fault, FaultKind, Member, Object, Scope, StructEntry, copied, copied_type, demanded,
     mismatch, object_declared, parameter, small,
 };
-use mdr_headings::{bare, beside, declared_name, is_struct, within};
+use mdr_headings::{bare, beside, declared_name, is_struct, short_params, within};
 use mdr_operand::{LocalName, local_named};
 use mdr_syntax::{Const, Decl, Form, Node};
 use std::alloc::{AllocError, Global};
@@ -280,7 +280,7 @@ fn local_declared(
     let dropped = within_local(alloc, scope, here, d)?;
     let o = local_object(alloc, scope, locks, d)?;
     let lone = local_whole(again, is_taken, o);
-    let whole = beside(dropped, lone);
+    let whole = beside(short_params(d), beside(dropped, lone));
     let sized = sized_rule(here, d, whole);
     Ok(local_rule(here, d.place, name.as_slice(), sized))
 }

@@ -1,4 +1,3 @@
 pub mod Initialising
 pub mod Tabling
 pub mod Filing
-pub mod Shortness

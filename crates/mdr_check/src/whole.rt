@@ -5,7 +5,7 @@ ghost use Rattle.mdr_core.specs.declared.place.Place.{Place};
 ghost use Rattle.mdr_check.specs.declared.file.Piece.{Piece};
 ghost use Rattle.mdr_faults.specs.Faults.{Checked, Right, told, both, IsFirst};
 ghost use Rattle.mdr_check.specs.Files.{first_known};
-ghost use Rattle.mdr_check.specs.Names.{Verdict};
+ghost use Rattle.mdr_headings.specs.Names.{Verdict};
 ghost use Rattle.mdr_check.specs.Whole.{kept, named, file_pieces};
 
 use crate::file::{Known, Piece, first_known, pieces_behind};

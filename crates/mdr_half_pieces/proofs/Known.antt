@@ -1,5 +1,6 @@
 -- What is known at each place of a half's text is what is known there in the whole source.
-use Rattle.mdr_check.specs.Names.{all_fine, as_well, short_item, short_items, short_what}
+use Rattle.mdr_check.specs.Names.{short_item, short_items, short_what}
+use Rattle.mdr_headings.specs.Names.{all_fine, as_well}
 use Rattle.mdr_check.specs.declared.file.Known.{Known}
 use Rattle.mdr_core.specs.declared.plan.Half.{Half}
 use Rattle.mdr_core.specs.declared.plan.Plan.{Plan}
@@ -13,7 +14,7 @@ use Rattle.mdr_syntax.specs.declared.tree.Item.{Item}
 use Rattle.mdr_syntax.specs.declared.tree.ItemWhat.{ItemWhat}
 use Rattle.std.proofs.Common.{Bool, List, [], ap, false, length, map, refl, true, ℕ, ◌||◌, ◌∙◌, ◌∷◌, ◌≡◌}
 use Rattle.mdr_check.specs.Files.{behind_head, behind_item, first_known, first_scope, known_behind, outlines_behind, outlines_from, with_outlines}
-use Rattle.mdr_check.specs.Names.{Verdict}
+use Rattle.mdr_headings.specs.Names.{Verdict}
 use Rattle.mdr_half.specs.Halves.{half_of, is_same_half, remote, body_or_remote, what_in, item_in}
 use Rattle.mdr_headings.specs.Functions.{is_defined, defines_by, behind_function, functions_behind}
 use Rattle.mdr_syntax.specs.declared.tree.ItemWhat.TheVariants as item

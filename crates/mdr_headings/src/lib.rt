@@ -6,6 +6,7 @@ mod body;
 mod function;
 mod head;
 mod inner;
+mod names;
 mod source;
 mod structs;
 
@@ -14,5 +15,6 @@ pub use body::{Bodies, Body};
 pub use function::{Declared, function_declared, function_named, is_defined};
 pub use head::{Given, Heading, checked_heading, head_result};
 pub use inner::{bare, beside, candidates, within};
+pub use names::{as_well, first_of, short_decl, short_decls, short_name, short_params};
 pub use source::{behind_struct, defines_of, is_next, is_numbered, signature, tags_of};
 pub use structs::{declared_name, is_struct, struct_entry, struct_fields};

@@ -133,7 +133,7 @@ module _ {s t : Scope} (a : AreScopes s t) (locks : List Bool) {h k : Here} (r :
       demand_by (out-Decl d).place (out-Decl e).place Redefined _ _ (ap (λ x. not x) (again_both h.first k.first r.first_both (name_of d) (name_of e) (name_both w.decl) r.names_both))
       (demand_by (out-Decl d).place (out-Decl e).place Limit _ _ (places_both (length h.locals) (length k.locals) (pairs_length r.locals_both) (name_of d) (name_of e) (name_both w.decl))
       (demand_by (out-Decl d).place (out-Decl e).place Mismatch _ _ (ap (λ x. not x) (no_sizes r.names_both w.decl.size))
-      (both_alike (subst (λ cs. AreAlike (within s (names_here h.names) d) (within t cs e)) (around_names r.names_both) (w.inside s t a (names_here h.names))) (wholes_of b w.decl (local_objects a locks w.decl)) (λ x y. Rights _))))
+      (both_alike w.short (both_alike (subst (λ cs. AreAlike (within s (names_here h.names) d) (within t cs e)) (around_names r.names_both) (w.inside s t a (names_here h.names))) (wholes_of b w.decl (local_objects a locks w.decl)) (λ x y. Rights _)) (λ x y. Rights _))))
 
   pub with_both : (b : Bool) → AreHere (with_local s locks b d h) (with_local t locks b e k)
   unfolding with_local

@@ -1,6 +1,7 @@
 -- Whether names are short doesn't depend on places.
 use Rattle.mdr_assign.specs.Assignments.{one}
-use Rattle.mdr_check.specs.Names.{all_fine, as_well, decl_layer, inner_short, perhaps_short, short_decl, short_decls, short_enumerator, short_enumerators, short_head, short_item, short_items, short_name, short_what}
+use Rattle.mdr_check.specs.Names.{short_enumerator, short_enumerators, short_head, short_item, short_items, short_what}
+use Rattle.mdr_headings.specs.Names.{all_fine, as_well, decl_layer, inner_short, perhaps_short, short_decl, short_decls, short_name, short_params}
 use Rattle.mdr_core.specs.declared.place.Place.{Place}
 use Rattle.mdr_faults.specs.declared.fault.FaultKind.TheVariants.{Limit}
 use Rattle.mdr_placeless.proofs.Combined.{both_alike, demand_by}
@@ -23,10 +24,10 @@ use Rattle.mdr_syntax.specs.declared.tree.Head.{Head}
 use Rattle.mdr_syntax.specs.declared.tree.Item.{Item}
 use Rattle.mdr_syntax.specs.declared.tree.ItemWhat.{ItemWhat}
 use Rattle.std.proofs.Common.{List, None, Option, Some, [], ap, length, map, nat_lt, not, option_map, refl, subst, sym, ℕ, ◌∙◌, ◌∷◌, ◌≡◌}
-use Rattle.mdr_check.specs.Names.{Verdict}
+use Rattle.mdr_headings.specs.Names.{Verdict}
 use Rattle.mdr_roundtrip.proofs.Unplacing.{decl_made}
 use Rattle.mdr_syntax.specs.declared.tree.Decl.TheFolds.{ind-Decl, map-Decl, fold-roll-Decl}
-use Rattle.mdr_syntax.specs.declared.tree.Decl.{Decl, roll-Decl}
+use Rattle.mdr_syntax.specs.declared.tree.Decl.{Decl, out-Decl, out-roll-Decl, roll-Decl}
 use Rattle.mdr_syntax.specs.declared.tree.ItemWhat.TheVariants as item
 
 verdicts : {b c d e : Verdict} → AreAlike b c → AreAlike d e → AreAlike (as_well b d) (as_well c e)
@@ -52,6 +53,7 @@ inners_both (Somes r) = all_both r
 
 record Good (d : Decl) : Type 0 where
   by : AreAlike (short_decl d) (short_decl (unplaced_decl d))
+  within : AreAlike (short_params d) (short_params (unplaced_decl d))
 
 all_good : {X : Type 0} (of : X → Decl) → ((x : X) → Good (of x)) → (xs : List X) → Pairs AreAlike (map short_decl (map of xs)) (map short_decl (map unplaced_decl (map of xs)))
 all_good of good [] = Nil
@@ -64,12 +66,26 @@ moved d e k l o p is also one other h r =
     (subst (λ c. AreAlike (as_well (perhaps_short k.place k.name) (inner_short o)) c) (sym (ap (λ (x : Decl). short_decl x) also ∙ fold-roll-Decl Verdict decl_layer l ∙ ap (λ (x : Option (List Verdict)). as_well (perhaps_short l.place l.name) (inner_short x)) other))
     (verdicts h (inners_both r)))
 
+params_at : (d : Decl) (k : Decl-F Decl) → d ≡ roll-Decl k → short_params d ≡ inner_short (option_map (map short_decl) k.fun)
+params_at d k is = ap (λ (x : Decl-F Decl). inner_short (option_map (map short_decl) x.fun)) (ap out-Decl is ∙ out-roll-Decl k)
+
+params_moved : (d e : Decl) (k l : Decl-F Decl) (o p : Option (List Verdict)) → d ≡ roll-Decl k → e ≡ roll-Decl l → option_map (map short_decl) k.fun ≡ o → option_map (map short_decl) l.fun ≡ p → Perhaps (Pairs AreAlike) o p
+    → AreAlike (short_params d) (short_params e)
+params_moved d e k l o p is also one other r =
+    subst (λ c. AreAlike c (short_params e)) (sym (params_at d k is ∙ ap inner_short one))
+    (subst (λ c. AreAlike (inner_short o) c) (sym (params_at e l also ∙ ap inner_short other)) (inners_both r))
+
 good_by : {X : Type 0} (of : X → Decl) → ((x : X) → Good (of x)) → (p : Place) (name : Option (List ℕ)) (b : Base) (n : ℕ) (size : Option Const) (fun : Option (List X)) (ann : Option AnnText)
     → Good (roll-Decl (declaration_of p name b n size (option_map (map of) fun) ann))
-good_by of good p name b n size None ann = record { by = moved _ _ (declaration_of p name b n size None ann) (declaration_of nowhere name (unplaced_base b) n (option_map unplaced_const size) None (option_map unplaced_annotation ann)) None None refl (decl_made p name b n size None ann) refl refl (perhaps_shorts p nowhere name) Nones }
+good_by of good p name b n size None ann = record {
+  by = moved _ _ (declaration_of p name b n size None ann) (declaration_of nowhere name (unplaced_base b) n (option_map unplaced_const size) None (option_map unplaced_annotation ann)) None None refl (decl_made p name b n size None ann) refl refl (perhaps_shorts p nowhere name) Nones;
+  within = params_moved _ _ (declaration_of p name b n size None ann) (declaration_of nowhere name (unplaced_base b) n (option_map unplaced_const size) None (option_map unplaced_annotation ann)) None None refl (decl_made p name b n size None ann) refl refl Nones;
+}
 good_by of good p name b n size (Some xs) ann = record {
   by = moved _ _ (declaration_of p name b n size (Some (map of xs)) ann) (declaration_of nowhere name (unplaced_base b) n (option_map unplaced_const size) (Some (map unplaced_decl (map of xs))) (option_map unplaced_annotation ann))
       (Some (map short_decl (map of xs))) (Some (map short_decl (map unplaced_decl (map of xs)))) refl (decl_made p name b n size (Some (map of xs)) ann) refl refl (perhaps_shorts p nowhere name) (Somes (all_good of good xs));
+  within = params_moved _ _ (declaration_of p name b n size (Some (map of xs)) ann) (declaration_of nowhere name (unplaced_base b) n (option_map unplaced_const size) (Some (map unplaced_decl (map of xs))) (option_map unplaced_annotation ann))
+      (Some (map short_decl (map of xs))) (Some (map short_decl (map unplaced_decl (map of xs)))) refl (decl_made p name b n size (Some (map of xs)) ann) refl refl (Somes (all_good of good xs));
 }
 
 good_layer : {X : Type 0} (of : X → Decl) → ((x : X) → Good (of x)) → (l : Decl-F X) → Good (roll-Decl (map-Decl X Decl of l))
@@ -77,6 +93,9 @@ good_layer of good l = subst (λ k. Good (roll-Decl k)) (sym (mapped of l l.fun 
 
 good_decls : (d : Decl) → Good d
 good_decls = ind-Decl Good (λ x y is. subst (λ k. Good (roll-Decl k)) is (good_layer (λ e. e.0) (λ e. e.1) y))
+
+pub short_params_both : (d : Decl) → AreAlike (short_params d) (short_params (unplaced_decl d))
+short_params_both d = (good_decls d).within
 
 short_decls_both : (ds : List Decl) → AreAlike (short_decls ds) (short_decls (map unplaced_decl ds))
 short_decls_both ds = all_both (each_short ds)

@@ -1,7 +1,8 @@
 use Rattle.std.proofs.Common.{ap}
 use Rattle.std.proofs.Math.Path.{◌∙◌}
-use Rattle.mdr_check.specs.Names.{first_of, short_item}
-use Rattle.mdr_check.proofs.Shortness.{one_verdict}
+use Rattle.mdr_headings.specs.Names.{first_of}
+use Rattle.mdr_check.specs.Names.{short_item}
+use Rattle.mdr_headings.proofs.Shortness.{one_verdict}
 use Rattle.mdr_check.proofs.names.short_items.Goals as goal
 
 pub loop-item-preserved : goal.loop-item-preserved

@@ -1,6 +1,7 @@
 use Rattle.std.proofs.Common.{◌≡◌, drop, map}
 use Rattle.mdr_faults.specs.Faults.{told}
-use Rattle.mdr_check.specs.Names.{first_of, all_fine, short_item}
+use Rattle.mdr_headings.specs.Names.{first_of, all_fine}
+use Rattle.mdr_check.specs.Names.{short_item}
 use Rattle.mdr_check.proofs.names.short_items.Given as goal
 
 abbrev pub invariant-loop-item : goal.invariant-loop-item

@@ -1,9 +1,9 @@
 use Rattle.std.proofs.Common.{ap}
 use Rattle.std.proofs.Math.Path.{◌∙◌}
 use Rattle.mdr_faults.specs.Faults.{told}
-use Rattle.mdr_check.specs.Names.{first_of, short_decl}
-use Rattle.mdr_check.proofs.Shortness.{one_verdict, decl_is}
-use Rattle.mdr_check.proofs.names.+short_names.Goals as goal
+use Rattle.mdr_headings.specs.Names.{first_of, short_decl}
+use Rattle.mdr_headings.proofs.Shortness.{one_verdict, decl_is}
+use Rattle.mdr_headings.proofs.names.+short_names.Goals as goal
 
 pub short_decl-returns : goal.short_decl-returns
 short_decl-returns t c = c.as_well.ensures _ _ c.perhaps_short.ensures c.short_params.ensures ∙ ap told (decl_is c.args.d.now)

@@ -8,7 +8,7 @@ use Rattle.mdr_syntax.specs.declared.tree.Decl.TheFolds.{fold_out-Decl, map-Decl
 use Rattle.mdr_syntax.specs.declared.tree.Decl.TheOpen.{Decl-F}
 use Rattle.mdr_faults.specs.declared.fault.Fault.{Fault}
 use Rattle.mdr_faults.specs.Faults.{Right, Wrong, told, first}
-use Rattle.mdr_check.specs.Names.{Verdict, as_well, all_fine, first_of, perhaps_short, inner_short, decl_layer, short_decl}
+use Rattle.mdr_headings.specs.Names.{Verdict, as_well, all_fine, first_of, perhaps_short, inner_short, decl_layer, short_decl}
 use Rattle.mdr_faults.proofs.Order.{lesser_assoc}
 
 step : (a : Result (Unit {0}) Fault) (c cs : Verdict) → first_of (first_of a (told c)) (told cs) ≡ first_of a (told (as_well c cs))
