@@ -16,7 +16,7 @@ mod views;
 
 pub use arguments::args_fault;
 pub use faults::runs_fault;
-pub use objects::{entered_after, leaving, may_die};
+pub use objects::{entered_after, entered_behind, leaving, may_die};
 pub use parameters::{fits_parameter, parameter, parameter_count};
 pub use places::{Passes, Places};
 pub use questions::shapes_fit;

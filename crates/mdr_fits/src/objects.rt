@@ -1,16 +1,17 @@
 // The objects of locals that live in an upcall.
 
-ghost use Rattle.std.specs.Prelude.{◌≡◌, ◌∷◌, [], ◌++◌, IfOk, OnOk};
+ghost use Rattle.std.specs.Prelude.{◌≡◌, ◌∷◌, [], ◌++◌, map, IfOk, OnOk};
 ghost use Rattle.std.specs.List.{list_all, list_any};
 ghost use Rattle.mdr_core.specs.Services.{service_numbered};
 ghost use Rattle.mdr_fits.specs.Tables.{are_once, arguments_as, is_again, names};
 ghost use Rattle.mdr_meaning.specs.declared.wire.Wire.TheVariants as wire;
 ghost use Rattle.mdr_model.specs.Agreement.{has};
 ghost use Rattle.mdr_split.specs.Services.{are_different, entered_after, entering_by, leaving, less, may_die, names_object, serials_of};
+ghost use Rattle.mdr_split.specs.User.{coming_by, entered_behind};
 
 use crate::table::Arguments;
 use mdr_core::{Items, OutOfMemory};
-use mdr_model::{Wire, WireView};
+use mdr_model::{New, Wire, WireView};
 use std::alloc::Global;
 
 /// Whether a serial is among some.
@@ -179,5 +180,42 @@ pub fn entered_after(
     let mut left = Items::new(alloc);
     put_less(&mut left, gone.as_slice(), entered)?;
     put_entering(&mut left, service, results)?;
+    Ok(left)
+}
+
+/// Adds the serials of new blocks.
+fn put_news(out: &mut Items<u64>, news: &[New]) -> Result<(), OutOfMemory>
+    ensures { OnOk result (out.new ≡ out.old ++ map (λ n. n.serial) news.now) }
+{
+    for block in news {
+        out.push(block.serial)?;
+    }
+    Ok(())
+}
+
+/// Adds the blocks that come with the answer to a service, which is so by service 13 alone.
+fn put_coming(out: &mut Items<u64>, service: u32, news: &[New]) -> Result<(), OutOfMemory>
+    ensures { OnOk result (out.new ≡ out.old ++ coming_by (service_numbered service) news.now) }
+{
+    if service == 13 {
+        put_news(out, news)?;
+    }
+    Ok(())
+}
+
+/// The blocks that came in an answer to service 13 and live behind the answer to a service, of those that lived before it.
+#[tactic(auto, unfolding(mdr_split::specs::User::entered_behind))]
+pub fn entered_behind(
+    alloc: Global,
+    service: u32,
+    deaths: &[u64],
+    news: &[New],
+    entered: &[u64],
+) -> Result<Items<u64>, OutOfMemory>
+    ensures { IfOk result (λ left. left ≡ entered_behind service deaths.now news.now entered.now) }
+{
+    let mut left = Items::new(alloc);
+    put_less(&mut left, deaths, entered)?;
+    put_coming(&mut left, service, news)?;
     Ok(left)
 }

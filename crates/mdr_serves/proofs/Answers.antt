@@ -1,5 +1,5 @@
 -- The user half accepts the answer to a service, and has then what the kernel half has.
-use Rattle.std.proofs.Common.{◌≡◌, ℕ, suc, ◌≤◌, true, List, [], ◌∷◌, ◌++◌, map, Option, Some, refl, sym, ◌∙◌, ap, subst, le_trans, arith}
+use Rattle.std.proofs.Common.{◌≡◌, ℕ, suc, ◌≤◌, ◌<◌, Bool, true, false, List, [], ◌∷◌, ◌++◌, map, Option, Some, refl, sym, ◌∙◌, ap, subst, le_trans, arith}
 use Rattle.std.specs.Prelude.{is_some, length}
 use Rattle.std.proofs.lemmas.Bool.{eq-eqb, or_left, or_right}
 use Rattle.mdr_core.specs.Services.{Service, Kzalloc, Kcalloc, Kfree, Readl, Writel, Printk, RequestIrq, FreeIrq, Deliver, Combolock, Combounlock, Bug, Enter, Leave, service_numbered}
@@ -39,6 +39,7 @@ use Rattle.mdr_plain.specs.Services.{as_now, served}
 use Rattle.mdr_plain.specs.Storage.{next_serial, pointer_to}
 use Rattle.mdr_plain.specs.World.{World, Ran, Ended, after as follows_on, left}
 use Rattle.mdr_serves.proofs.AnswerParts.{ask_grows, deaths_right, entered_right, first_joins, globals_below, later_objects, named_lives, names_lock, same_news, served_narrows}
+use Rattle.mdr_serves.proofs.Coming.{less_same, news_are_results}
 use Rattle.mdr_serves.proofs.Messages.{below_live, still, with_top}
 use Rattle.mdr_serves.proofs.Relations.{AreOpened, Comes, IsOpened, IsRight, Rel, ended as comes_to, known_by, learns, learns_grows, open_of, replied_copy, stopped as comes_out, waiting}
 use Rattle.mdr_serves.proofs.Strict.{births_with, fresh_after}
@@ -49,9 +50,9 @@ use Rattle.mdr_shows.proofs.Open.{sets_are_open}
 use Rattle.mdr_shows.proofs.Served.{serves as what_is_served, services_keep_sets}
 use Rattle.mdr_shows.specs.Cells.{IsServed as IsServedIn, IsSetOf}
 use Rattle.mdr_split.proofs.ServiceFits.{births_told, results_right}
-use Rattle.mdr_split.specs.Services.{counted, entered_after, leaving, results_fit, serials_of}
+use Rattle.mdr_split.specs.Services.{counted, entered_after, entering_by, leaving, less, results_fit, serials_of}
 use Rattle.mdr_split.specs.State.{Kernel}
-use Rattle.mdr_split.specs.User.{grown, objects_fit}
+use Rattle.mdr_split.specs.User.{coming_by, entered_behind, grown, objects_fit}
 use Rattle.mdr_watched.specs.Driver.{Driver, touched_by}
 use Rattle.mdr_watched.specs.Views.{below, gained, living, new_cells, top}
 use Rattle.mdr_watched.specs.Watched.{held, serves}
@@ -65,8 +66,8 @@ pub record Answered (d : Driver) (uses : Uses) (budget t : ℕ) (KU : Knowledge)
   pub lives_alone : renewed_copy d.program told.deaths told.news copy ≡ agreed_after d.program told copy
   -- the set grows alike
   pub view : grown d t (agreed_after d.program told copy) told.news (top before.views) ≡ top w.views
-  -- objects are counted alike, whether arguments are as they were or as they are now
-  pub counted_user : counted asked rs (open_of t live) ≡ open_of t (after s remains rs)
+  -- objects are counted alike: all blocks that come with them are theirs, and arguments are as they were
+  pub counted_user : entered_behind asked.service told.deaths told.news (serials_of live) ≡ serials_of (after s remains rs)
   pub counted_kernel : counted (as_now before asked) rs (open_of t live) ≡ open_of t (after s remains rs)
   pub rest : w.clock.rest ≡ before.clock.rest
   pub given : IsServed d.program (learns KU told.news) asked s rs
@@ -199,6 +200,39 @@ module _ (d : Driver) (uses : Uses) (budget t : ℕ) (KU : Knowledge) (live rema
       membership_is_one (top w2.views) c ∙ in_both cells (top w'.views) (new_cells d.program (touched_by d.plan t) (next_serial w) w'.memory) c
       ∙ or_right (is_among cells (top w'.views) c) _ h
 
+  -- no block that a result names was told before
+  unknown : (serial : ℕ) → is_named rs serial ≡ true → is_live um serial ≡ false
+  unknown serial named = of (is_live um serial) refl
+    where
+      of : (b : Bool) → is_live um serial ≡ b → is_live um serial ≡ false
+      of false e = e
+      of true e =
+          let below : serial < next_serial w = agreed_before.told serial (agreed_before.knows serial e) in
+          let from : next_serial w ≤ serial = above serial named in absurd (omega (arith, below, from))
+
+  -- the blocks that come with the answer are the objects that were born
+  coming_right : coming_by (service_numbered asked.service) news ≡ entering_by (service_numbered asked.service) rs
+  coming_right =
+      ap (λ (o : Option Service). coming_by o news) numbered ∙ of s g.objects ∙ ap (λ (o : Option Service). entering_by o rs) (sym numbered)
+    where
+      of : (s : Service) → AreObjects w'.memory 0 (after s remains rs) → coming_by (Some s) news ≡ entering_by (Some s) rs
+      of Enter o =
+          let behind = later_objects w'.memory 0 remains rs o in
+          news_are_results rs um w'.memory behind.0 l.holds.memory.formed.rises behind.1 (λ serial named. named_lives d.program (touched_by d.plan t) asked w w' rs is_served serial named) unknown
+      of Kzalloc o = refl
+      of Kcalloc o = refl
+      of Kfree o = refl
+      of Readl o = refl
+      of Writel o = refl
+      of Printk o = refl
+      of RequestIrq o = refl
+      of FreeIrq o = refl
+      of Deliver o = refl
+      of Combolock o = refl
+      of Combounlock o = refl
+      of Bug o = refl
+      of Leave o = refl
+
   opened_now : AreOpened d t w2 (fresh_after s asked.shapes rs)
   opened_now = of s ask_now g.served g.objects
     where
@@ -223,6 +257,13 @@ module _ (d : Driver) (uses : Uses) (budget t : ℕ) (KU : Knowledge) (live rema
   objects_right : objects_fit (leaving asked.service asked.args) told.deaths (serials_of live) ≡ true
   unfolding tells
   objects_right = deaths_right d.program KU um w w' asked s live remains rs numbered ask leaves r.objects g.objects is (λ n known lives. agreed_before.paired n known lives)
+
+  counted_right : entered_behind asked.service told.deaths told.news (serials_of live) ≡ serials_of (after s remains rs)
+  unfolding entered_behind entered_after tells
+  counted_right =
+      ap (λ (ns : List ℕ). ns ++ coming_by (service_numbered asked.service) news) (less_same (leaving asked.service asked.args) told.deaths (serials_of live) objects_right)
+      ∙ ap (λ (ns : List ℕ). less (leaving asked.service asked.args) (serials_of live) ++ ns) coming_right
+      ∙ entered_right d.program w w' asked asked.args s live remains rs numbered leaves r.objects g.objects is (λ e. refl)
 
   results_now : results_fit asked told.news rs ≡ true
   unfolding tells
@@ -259,7 +300,7 @@ module _ (d : Driver) (uses : Uses) (budget t : ℕ) (KU : Knowledge) (live rema
     results = results_now;
     lives_alone = no_cells d rs um w'.memory;
     view = view_now;
-    counted_user = count_right asked.args (λ e. refl);
+    counted_user = counted_right;
     counted_kernel = count_right (map (normal w.memory) asked.args) passed_now;
     rest = rest_now;
     given = served_narrows d.program (learns KU news) K' grown_now asked s rs told_known g.served;

@@ -41,7 +41,7 @@ use Rattle.mdr_plain.specs.World.{World, Ran, Work, done as work_done, noted}
 use Rattle.mdr_runs.proofs.Standing.{each_setting_runs}
 use Rattle.mdr_split.specs.Kernel.{calls, split_by, split_commands, then_split, called}
 use Rattle.mdr_split.specs.State.{Kernel, Pending}
-use Rattle.mdr_split.specs.User.{call_fits, deliver, opened as opens}
+use Rattle.mdr_split.specs.User.{call_fits, deliver, objects_fit, opened as opens}
 use Rattle.mdr_viewed.proofs.Ticks.{user_code_keeps_ticks}
 use Rattle.mdr_watched.specs.Driver.{Driver, entry_roots, is_user, touched_by}
 use Rattle.mdr_watched.specs.Views.{closed, opened, taken}
@@ -56,7 +56,7 @@ use Rattle.mdr_serves.proofs.Strict.{Strict}
 deliver_call : (d : Driver) (uses : Uses) (fuel budget f : ℕ) (KU : Knowledge) (copy : Memory) (w : World) (e : ℕ) (args : List Wire) (told : Told) → is_user d.plan f ≡ true → Messages.Called d uses budget f KU copy w e args told
     → deliver d fuel (idle_user copy) (Ok (message.Call f 0 w.clock.rest args told))
     ≡ reply_of f [] (waiting d told copy w e) w (agreed_after d.program told copy) w.clock.rest (started d.user fuel f args 0 Tree.Idle)
-unfolding deliver opens call_fits
+unfolding deliver opens call_fits objects_fit
 deliver_call d uses fuel budget f KU copy w e args told user m = rw (user, m.lives, m.args_fit, m.cells, m.view) refl
 
 -- with fuel for the ticks that are left and more, user code does the same

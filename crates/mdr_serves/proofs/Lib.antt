@@ -14,6 +14,7 @@ pub mod Tellings
 pub mod Results
 pub mod Messages
 pub mod AnswerParts
+pub mod Coming
 pub mod Answers
 pub mod Right
 pub mod KernelWork

@@ -16,7 +16,7 @@ use Rattle.mdr_split.specs.Fits.{fits, fits_result, is_in_below, is_in_fields, i
 use Rattle.mdr_split.specs.Kernel.{answers, applied, calls, comes_back, first_kernel, next, run_from_pending, split_commands, split_run, taken}
 use Rattle.mdr_split.specs.Legal.{args_fault, fault_of, fits_cell, fits_service, is_ask_place, is_awaited, is_user_place, run_fault, runs_fault, service_fault}
 use Rattle.mdr_split.specs.Services.{entered_after, is_new, leaving, results_fit, shapes_fit}
-use Rattle.mdr_split.specs.User.{answer_fits, back_fits, call_fits, cells_of_news, deliver, first_user, objects_fit, opened, replied, runs_fit, user_after, user_reply, view_fits}
+use Rattle.mdr_split.specs.User.{answer_fits, back_fits, call_fits, cells_of_news, deliver, entered_behind, first_user, objects_fit, opened, replied, runs_fit, user_after, user_reply, view_fits}
 use Rattle.mdr_split.specs.Worked.{BumpSends}
 use Rattle.mdr_watched.specs.Views.{new_cells}
 use Rattle.mdr_watched.specs.Watched.{upcall, watched_of}
@@ -34,7 +34,7 @@ unfolding
     answers applied calls comes_back first_kernel next run_from_pending split_commands split_run taken
     args_fault fault_of fits_cell fits_service is_ask_place is_awaited is_user_place run_fault runs_fault service_fault
     entered_after is_new leaving results_fit shapes_fit
-    answer_fits back_fits call_fits cells_of_news deliver first_user objects_fit opened replied runs_fit user_after user_reply view_fits
+    answer_fits back_fits call_fits cells_of_news deliver entered_behind first_user objects_fit opened replied runs_fit user_after user_reply view_fits
 passes = tt
 
 pub bump_sends : BumpSends

@@ -1,9 +1,10 @@
 -- The user half's reply to the messages so far. It knows its own half's text, the plan and the messages alone.
-use Rattle.std.specs.Prelude.{ℕ, suc, ◌-◌, Bool, true, false, not, ◌&&◌, List, [], ◌∷◌, ◌++◌, map, filter, None, slice_get, Ok, Err, nat_lt, nat_le, is_none}
+use Rattle.std.specs.Prelude.{ℕ, suc, ◌-◌, Bool, true, false, not, ◌&&◌, List, [], ◌∷◌, ◌++◌, map, filter, Option, Some, None, slice_get, Ok, Err, nat_lt, nat_le, is_none}
 use Rattle.std.specs.List.{list_all}
 use Rattle.mdr_core.specs.declared.plan.Key.{Key}
 use Rattle.mdr_core.specs.declared.program.Program.{Program}
 use Rattle.mdr_core.specs.declared.stop.StopKind.TheVariants as stop
+use Rattle.mdr_core.specs.Services.{Service, Enter, service_numbered}
 use Rattle.mdr_extents.specs.Reaching.{counts, own_cells}
 use Rattle.mdr_meaning.specs.declared.wire.Wire.{Wire}
 use Rattle.mdr_meaning.specs.declared.wire.Wire.TheVariants as wire
@@ -27,21 +28,21 @@ use Rattle.mdr_model.specs.User.{allowance, lives_fit, renewed_copy, still_live}
 use Rattle.mdr_plain.specs.Storage.{first_memory, fresh, read}
 use Rattle.mdr_split.specs.Fits.{Places, fits, fits_result}
 use Rattle.mdr_split.specs.Legal.{args_fault, params_of, result_of, runs_fault}
-use Rattle.mdr_split.specs.Services.{counted, leaving, results_fit}
-use Rattle.mdr_split.specs.State.{Open}
+use Rattle.mdr_split.specs.Services.{leaving, less, results_fit}
 use Rattle.mdr_watched.specs.Driver.{Driver, is_user, touched_by}
 
 -- ---- states
 
--- what is open between messages: nothing; a downcall, with its function, the visible cells and what its result leads to; or a service, with the ticks left too. An upcall has the function that its Call named, and the objects that live in it
+-- what is open between messages, in the upcall whose Call named this function: nothing; a downcall, with its function, the visible cells and what its result leads to; or a service, with the ticks left too
 pub data Work : Type 0 where
   Nothing : Work
-  AwaitsBack : (upcall : Open) (func : ℕ) (view : List Cell) (goes : Wire → Tree) → Work
-  AwaitsAnswer : (upcall : Open) (asked : Asked) (view : List Cell) (left : ℕ) (goes : List Wire → Tree) → Work
+  AwaitsBack : (stub func : ℕ) (view : List Cell) (goes : Wire → Tree) → Work
+  AwaitsAnswer : (stub : ℕ) (asked : Asked) (view : List Cell) (left : ℕ) (goes : List Wire → Tree) → Work
 
--- the agreed copy, which between messages is also what the user half holds: each reply tells all that user code changed
+-- the agreed copy, which between messages is also what the user half holds: each reply tells all that user code changed; and the serials of the blocks that came in an answer to an `enter` and live, whatever upcall they came in
 pub record User : Type 0 where
   pub agreed : Memory
+  pub entered : List ℕ
   pub work : Work
 
 -- ---- which messages are accepted
@@ -68,30 +69,31 @@ abbrev pub agrees : Bool → Bool → Bool
 agrees true b = b
 agrees false b = not b
 
--- of the objects that live in the upcall those die that are left now, and no others
+-- of the blocks that came in an answer to an `enter` those die that are left now, and no others
 unfoldable pub objects_fit : (leaving deaths entered : List ℕ) → Bool
 objects_fit leaving deaths entered = list_all (λ n. agrees (has leaving n) (has deaths n)) entered
 
-unfoldable pub call_fits : Driver → Memory → ℕ → ℕ → List Wire → Told → Bool
-call_fits d copy func depth args told =
+unfoldable pub call_fits : Driver → Memory → (entered : List ℕ) → ℕ → ℕ → List Wire → Told → Bool
+call_fits d copy entered func depth args told =
     let copy' : Memory = renewed_copy d.program told.deaths told.news copy in
     is_user d.plan func
     && (nat_le depth 255
     && (lives_fit d.program copy told.deaths told.news
+    && (objects_fit [] told.deaths entered
     && (is_none (args_fault (fits (user_places d copy')) 0 (params_of (slice_get d.program.funcs func)) args)
-    && cells_fit d func copy' told.view told.runs)))
+    && cells_fit d func copy' told.view told.runs))))
 
-unfoldable pub back_fits : Driver → Memory → Open → ℕ → Wire → Told → Bool
-back_fits d copy upcall func result told =
+unfoldable pub back_fits : Driver → Memory → (entered : List ℕ) → (stub func : ℕ) → Wire → Told → Bool
+back_fits d copy entered stub func result told =
     let copy' : Memory = renewed_copy d.program told.deaths told.news copy in
     lives_fit d.program copy told.deaths told.news
-    && (objects_fit [] told.deaths upcall.entered
+    && (objects_fit [] told.deaths entered
     && (fits_result (user_places d copy') (result_of (slice_get d.program.funcs func)) result
-    && cells_fit d upcall.func copy' told.view told.runs))
+    && cells_fit d stub copy' told.view told.runs))
 
-unfoldable pub answer_fits : Driver → Memory → Open → Asked → List Wire → List ℕ → List New → Bool
-answer_fits d copy upcall asked results deaths news =
-    lives_fit d.program copy deaths news && (objects_fit (leaving asked.service asked.args) deaths upcall.entered && results_fit asked news results)
+unfoldable pub answer_fits : Driver → Memory → (entered : List ℕ) → Asked → List Wire → List ℕ → List New → Bool
+answer_fits d copy entered asked results deaths news =
+    lives_fit d.program copy deaths news && (objects_fit (leaving asked.service asked.args) deaths entered && results_fit asked news results)
 
 -- ---- what a message opens
 
@@ -104,27 +106,36 @@ cells_of_news program touched (n ∷ news) = own_cells program touched (zero_blo
 abbrev pub grown : Driver → (stub : ℕ) → (copy : Memory) → List New → List Cell → List Cell
 grown d stub copy news seen = filter (still_live copy) seen ++ cells_of_news d.program (touched_by d.plan stub) news
 
--- a message is refused, 2 where its kind isn't awaited, 3 where its content doesn't fit; or a tree runs, with so many ticks, in an upcall, over these visible cells and this copy
+-- the serials of new blocks, where they come in the answer to an `enter`: of all of them, whether or not a result names them
+abbrev pub coming_by : Option Service → List New → List ℕ
+coming_by (Some Enter) news = map (λ (n : New). n.serial) news
+coming_by _ news = []
+
+-- the blocks that came in an answer to an `enter` and live behind this one
+unfoldable pub entered_behind : (service : ℕ) → (deaths : List ℕ) → List New → (entered : List ℕ) → List ℕ
+entered_behind service deaths news entered = less deaths entered ++ coming_by (service_numbered service) news
+
+-- a message is refused, 2 where its kind isn't awaited, 3 where its content doesn't fit; or a tree runs, with so many ticks, in the upcall of a function, while these entered blocks live, over these visible cells and this copy
 pub data Opened : Type 0 where
   Refuses : (reason : ℕ) → Opened
-  Runs : (tree : Tree) (rest : ℕ) (upcall : Open) (view : List Cell) (copy : Memory) → Opened
+  Runs : (tree : Tree) (rest stub : ℕ) (entered : List ℕ) (view : List Cell) (copy : Memory) → Opened
 
 abbrev pub when_fits : Bool → Opened → Opened
 when_fits true opened = opened
 when_fits false opened = Refuses 3
 
-unfoldable pub opened : Driver → ℕ → Memory → Work → Message → Opened
-opened d fuel copy Nothing (message.Call func depth rest args told) =
-    when_fits (call_fits d copy func depth args told)
-    (Runs (started d.user fuel func args depth Tree.Idle) rest (record { func = func; entered = [] }) (cells_of_runs told.view) (agreed_after d.program told copy))
-opened d fuel copy (AwaitsBack upcall func seen goes) (message.Back rest result told) =
-    when_fits (back_fits d copy upcall func result told)
-    (Runs (goes result) rest upcall (cells_of_runs told.view) (agreed_after d.program told copy))
-opened d fuel copy (AwaitsAnswer upcall asked seen left goes) (message.Answer results deaths news) =
-    when_fits (answer_fits d copy upcall asked results deaths news)
+unfoldable pub opened : Driver → ℕ → Memory → (entered : List ℕ) → Work → Message → Opened
+opened d fuel copy entered Nothing (message.Call func depth rest args told) =
+    when_fits (call_fits d copy entered func depth args told)
+    (Runs (started d.user fuel func args depth Tree.Idle) rest func entered (cells_of_runs told.view) (agreed_after d.program told copy))
+opened d fuel copy entered (AwaitsBack stub func seen goes) (message.Back rest result told) =
+    when_fits (back_fits d copy entered stub func result told)
+    (Runs (goes result) rest stub entered (cells_of_runs told.view) (agreed_after d.program told copy))
+opened d fuel copy entered (AwaitsAnswer stub asked seen left goes) (message.Answer results deaths news) =
+    when_fits (answer_fits d copy entered asked results deaths news)
     (let copy' : Memory = renewed_copy d.program deaths news copy in
-    Runs (goes results) left (counted asked results upcall) (grown d upcall.func copy' news seen) copy')
-opened d fuel copy work m = Refuses 2
+    Runs (goes results) left stub (entered_behind asked.service deaths news entered) (grown d stub copy' news seen) copy')
+opened d fuel copy entered work m = Refuses 2
 
 -- ---- the code of the user half
 
@@ -145,49 +156,49 @@ pub record Delivered : Type 0 where
   pub reply : Message
   pub user : User
 
-abbrev pub closed : Message → Memory → Delivered
-closed reply copy = record { reply = reply; user = record { agreed = copy; work = Nothing } }
+abbrev pub closed : Message → (entered : List ℕ) → Memory → Delivered
+closed reply entered copy = record { reply = reply; user = record { agreed = copy; entered = entered; work = Nothing } }
 
-abbrev pub gives_back : (ticks : ℕ) → Wire → List Run → (copy : Memory) → Delivered
-gives_back ticks v runs copy = closed (message.Return ticks v runs) (put_runs runs copy)
+abbrev pub gives_back : (ticks : ℕ) → Wire → List Run → (entered : List ℕ) → (copy : Memory) → Delivered
+gives_back ticks v runs entered copy = closed (message.Return ticks v runs) entered (put_runs runs copy)
 
 -- what a walk of the user half tells: the ticks since the message, the event, and the visible cells that changed
-unfoldable pub replied : Open → List Cell → (rest : ℕ) → (copy m : Memory) → (left : ℕ) → Reached → Delivered
-replied upcall view rest copy m left (Reached.Ended v t) = gives_back (rest - left) (normal m v) (changes view copy m) copy
-replied upcall view rest copy m left (Reached.Stopped kind at) =
-    let runs : List Run = changes view copy m in closed (message.Stop (rest - left) (stop_number kind) at runs) (put_runs runs copy)
-replied upcall view rest copy m left (Reached.Needs at d t) =
-    let runs : List Run = changes view copy m in closed (message.Stop (rest - left) (stop_number stop.Ticks) at runs) (put_runs runs copy)
-replied upcall view rest copy m left Reached.Idles = gives_back (rest - left) wire.NoValue (changes view copy m) copy
-replied upcall view rest copy m left (Reached.Opens goes) = gives_back (rest - left) wire.NoValue (changes view copy m) copy
-replied upcall view rest copy m left (Reached.Asks asked goes) =
+unfoldable pub replied : (stub : ℕ) → (entered : List ℕ) → List Cell → (rest : ℕ) → (copy m : Memory) → (left : ℕ) → Reached → Delivered
+replied stub entered view rest copy m left (Reached.Ended v t) = gives_back (rest - left) (normal m v) (changes view copy m) entered copy
+replied stub entered view rest copy m left (Reached.Stopped kind at) =
+    let runs : List Run = changes view copy m in closed (message.Stop (rest - left) (stop_number kind) at runs) entered (put_runs runs copy)
+replied stub entered view rest copy m left (Reached.Needs at d t) =
+    let runs : List Run = changes view copy m in closed (message.Stop (rest - left) (stop_number stop.Ticks) at runs) entered (put_runs runs copy)
+replied stub entered view rest copy m left Reached.Idles = gives_back (rest - left) wire.NoValue (changes view copy m) entered copy
+replied stub entered view rest copy m left (Reached.Opens goes) = gives_back (rest - left) wire.NoValue (changes view copy m) entered copy
+replied stub entered view rest copy m left (Reached.Asks asked goes) =
     let runs : List Run = changes view copy m in
     record {
       reply = message.Ask (rest - left) asked.at asked.service (map (normal m) asked.args) asked.shapes asked.bytes runs;
-      user = record { agreed = put_runs runs copy; work = AwaitsAnswer upcall asked view left goes };
+      user = record { agreed = put_runs runs copy; entered = entered; work = AwaitsAnswer stub asked view left goes };
     }
-replied upcall view rest copy m left (Reached.Crosses at func args depth goes) =
+replied stub entered view rest copy m left (Reached.Crosses at func args depth goes) =
     let runs : List Run = changes view copy m in
     record {
       reply = message.Down (rest - left) at depth func (map (normal m) args) runs;
-      user = record { agreed = put_runs runs copy; work = AwaitsBack upcall func view goes };
+      user = record { agreed = put_runs runs copy; entered = entered; work = AwaitsBack stub func view goes };
     }
 
-abbrev pub replied_to : Open → List Cell → ℕ → Memory → Walked Memory → Delivered
-replied_to upcall view rest copy w = replied upcall view rest copy w.memory w.left w.reached
+abbrev pub replied_to : (stub : ℕ) → (entered : List ℕ) → List Cell → ℕ → Memory → Walked Memory → Delivered
+replied_to stub entered view rest copy w = replied stub entered view rest copy w.memory w.left w.reached
 
 -- a refused message changes nothing
 abbrev pub done : User → Opened → Delivered
 done u (Refuses reason) = record { reply = message.Refuse reason; user = u }
-done u (Runs tree rest upcall view copy) = replied_to upcall view rest copy (walk (guarded view) rest tree copy)
+done u (Runs tree rest stub entered view copy) = replied_to stub entered view rest copy (walk (guarded view) rest tree copy)
 
 -- one message
 unfoldable pub deliver : Driver → ℕ → User → Reading → Delivered
-deliver d fuel u (Ok m) = done u (opened d fuel u.agreed u.work m)
+deliver d fuel u (Ok m) = done u (opened d fuel u.agreed u.entered u.work m)
 deliver d fuel u (Err f) = done u (Refuses 1)
 
 unfoldable pub first_user : Driver → User
-first_user d = record { agreed = first_memory d.user.known; work = Nothing }
+first_user d = record { agreed = first_memory d.user.known; entered = []; work = Nothing }
 
 -- the state after messages
 unfoldable pub user_after : Driver → ℕ → User → List Reading → User

@@ -15,46 +15,49 @@ use Rattle.mdr_meaning.specs.Bodies.{started}
 use Rattle.mdr_meaning.specs.Tree.{Tree}
 use Rattle.mdr_split.specs.Kernel.{SplitRun, judged, next, run_from_pending, taken}
 use Rattle.mdr_split.specs.Legal.{fault_of}
-use Rattle.mdr_split.specs.Services.{counted}
 use Rattle.mdr_split.specs.State.{Kernel, Open, Rest, Pending, Over, Waits}
-use Rattle.mdr_split.specs.User.{Delivered, Opened, Refuses, Runs, User, Work, Nothing, AwaitsAnswer, AwaitsBack, answer_fits, back_fits, call_fits, deliver, done, grown, opened, user_after, when_fits}
+use Rattle.mdr_split.specs.User.{Delivered, Opened, Refuses, Runs, User, Work, Nothing, AwaitsAnswer, AwaitsBack, answer_fits, back_fits, call_fits, deliver, done, entered_behind, grown, opened, user_after, when_fits}
 use Rattle.mdr_watched.specs.Driver.{Driver}
 
 -- ---- the user half
 
 -- a message that is awaited fits
-abbrev pub fits_now : Driver → Memory → Work → Message → Bool
-fits_now d copy Nothing (message.Call func depth rest args told) = call_fits d copy func depth args told
-fits_now d copy (AwaitsBack upcall func seen goes) (message.Back rest result told) = back_fits d copy upcall func result told
-fits_now d copy (AwaitsAnswer upcall asked seen left goes) (message.Answer results deaths news) = answer_fits d copy upcall asked results deaths news
-fits_now d copy work m = true
+abbrev pub fits_now : Driver → Memory → (entered : List ℕ) → Work → Message → Bool
+fits_now d copy entered Nothing (message.Call func depth rest args told) = call_fits d copy entered func depth args told
+fits_now d copy entered (AwaitsBack stub func seen goes) (message.Back rest result told) = back_fits d copy entered stub func result told
+fits_now d copy entered (AwaitsAnswer stub asked seen left goes) (message.Answer results deaths news) = answer_fits d copy entered asked results deaths news
+fits_now d copy entered work m = true
 
 -- what it opens then
-abbrev pub opens : Driver → ℕ → Memory → Work → Message → Opened
-opens d fuel copy Nothing (message.Call func depth rest args told) =
-    Runs (started d.user fuel func args depth Tree.Idle) rest (record { func = func; entered = [] }) (cells_of_runs told.view) (agreed_after d.program told copy)
-opens d fuel copy (AwaitsBack upcall func seen goes) (message.Back rest result told) =
-    Runs (goes result) rest upcall (cells_of_runs told.view) (agreed_after d.program told copy)
-opens d fuel copy (AwaitsAnswer upcall asked seen left goes) (message.Answer results deaths news) =
+abbrev pub opens : Driver → ℕ → Memory → (entered : List ℕ) → Work → Message → Opened
+opens d fuel copy entered Nothing (message.Call func depth rest args told) =
+    Runs (started d.user fuel func args depth Tree.Idle) rest func entered (cells_of_runs told.view) (agreed_after d.program told copy)
+opens d fuel copy entered (AwaitsBack stub func seen goes) (message.Back rest result told) =
+    Runs (goes result) rest stub entered (cells_of_runs told.view) (agreed_after d.program told copy)
+opens d fuel copy entered (AwaitsAnswer stub asked seen left goes) (message.Answer results deaths news) =
     let copy' : Memory = renewed_copy d.program deaths news copy in
-    Runs (goes results) left (counted asked results upcall) (grown d upcall.func copy' news seen) copy'
-opens d fuel copy work m = Refuses 2
+    Runs (goes results) left stub (entered_behind asked.service deaths news entered) (grown d stub copy' news seen) copy'
+opens d fuel copy entered work m = Refuses 2
 
-opens_so : (d : Driver) (fuel : ℕ) (copy : Memory) (work : Work) (m : Message) → fits_now d copy work m ≡ true → opened d fuel copy work m ≡ opens d fuel copy work m
+opens_so : (d : Driver) (fuel : ℕ) (copy : Memory) (entered : List ℕ) (work : Work) (m : Message) → fits_now d copy entered work m ≡ true → opened d fuel copy entered work m ≡ opens d fuel copy entered work m
 unfolding opened
-opens_so d fuel copy Nothing (message.Call func depth rest args told) e = ap (λ (b : Bool). when_fits b (opens d fuel copy Nothing (message.Call func depth rest args told))) e
-opens_so d fuel copy (AwaitsBack upcall func seen goes) (message.Back rest result told) e =
-    ap (λ (b : Bool). when_fits b (opens d fuel copy (AwaitsBack upcall func seen goes) (message.Back rest result told))) e
-opens_so d fuel copy (AwaitsAnswer upcall asked seen left goes) (message.Answer results deaths news) e =
-    ap (λ (b : Bool). when_fits b (opens d fuel copy (AwaitsAnswer upcall asked seen left goes) (message.Answer results deaths news))) e
-opens_so d fuel copy work m e = refl
+opens_so d fuel copy entered Nothing (message.Call func depth rest args told) e =
+    ap (λ (b : Bool). when_fits b (opens d fuel copy entered Nothing (message.Call func depth rest args told))) e
+opens_so d fuel copy entered (AwaitsBack stub func seen goes) (message.Back rest result told) e =
+    ap (λ (b : Bool). when_fits b (opens d fuel copy entered (AwaitsBack stub func seen goes) (message.Back rest result told))) e
+opens_so d fuel copy entered (AwaitsAnswer stub asked seen left goes) (message.Answer results deaths news) e =
+    ap (λ (b : Bool). when_fits b (opens d fuel copy entered (AwaitsAnswer stub asked seen left goes) (message.Answer results deaths news))) e
+opens_so d fuel copy entered work m e = refl
+
+abbrev pub fits_user : Driver → User → Message → Bool
+fits_user d u m = fits_now d u.agreed u.entered u.work m
 
 abbrev pub follows : Driver → ℕ → User → Message → Delivered
-follows d fuel u m = done u (opens d fuel u.agreed u.work m)
+follows d fuel u m = done u (opens d fuel u.agreed u.entered u.work m)
 
-follows_so : (d : Driver) (fuel : ℕ) (u : User) (m : Message) → fits_now d u.agreed u.work m ≡ true → deliver d fuel u (Ok m) ≡ follows d fuel u m
+follows_so : (d : Driver) (fuel : ℕ) (u : User) (m : Message) → fits_user d u m ≡ true → deliver d fuel u (Ok m) ≡ follows d fuel u m
 unfolding deliver
-follows_so d fuel u m e = ap (done u) (opens_so d fuel u.agreed u.work m e)
+follows_so d fuel u m e = ap (done u) (opens_so d fuel u.agreed u.entered u.work m e)
 
 -- after messages
 abbrev pub followed : Driver → ℕ → User → List Message → User
@@ -64,7 +67,7 @@ followed d fuel u (m ∷ ms) = followed d fuel (follows d fuel u m).user ms
 -- each of them fits
 abbrev pub AllFit : Driver → ℕ → User → List Message → Type 0
 AllFit d fuel u [] = Unit {0}
-AllFit d fuel u (m ∷ ms) = (fits_now d u.agreed u.work m ≡ true) × AllFit d fuel (follows d fuel u m).user ms
+AllFit d fuel u (m ∷ ms) = (fits_user d u m ≡ true) × AllFit d fuel (follows d fuel u m).user ms
 
 pub followed_so : (d : Driver) (fuel : ℕ) (u : User) (ms : List Message) → AllFit d fuel u ms → user_after d fuel u (read ms) ≡ followed d fuel u ms
 unfolding user_after
@@ -73,7 +76,7 @@ followed_so d fuel u (m ∷ ms) h = ap (λ (x : Delivered). user_after d fuel x.
 
 -- the reply to a message behind others
 pub replies_so : (d : Driver) (fuel : ℕ) (u : User) (before : List Message) (last : Message) → AllFit d fuel u before
-    → fits_now d (followed d fuel u before).agreed (followed d fuel u before).work last ≡ true
+    → fits_user d (followed d fuel u before) last ≡ true
     → (deliver d fuel (user_after d fuel u (read before)) (Ok last)).reply ≡ (follows d fuel (followed d fuel u before) last).reply
 replies_so d fuel u before last h e =
     ap (λ (x : User). (deliver d fuel x (Ok last)).reply) (followed_so d fuel u before h)

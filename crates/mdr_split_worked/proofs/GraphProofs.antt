@@ -71,7 +71,7 @@ cell serial index = record { serial = serial; index = index }
 abbrev seen : List Cell → List Cell
 seen others = cell 0 0 ∷ cell 1 0 ∷ cell 2 0 ∷ cell 3 0 ∷ cell 4 0 ∷ cell 4 2 ∷ others
 
-back_fits_then : back_fits graph (shared 1) with_object 1 wire.NoValue (told (5 ∷ 6 ∷ []) [] (seen_of (cells 7 0 1 ∷ [])) (holds 1 0 (node_at 4) ∷ holds 7 0 (u32_value 5) ∷ [])) ≡ true
+back_fits_then : back_fits graph (shared 1) (7 ∷ []) 2 1 wire.NoValue (told (5 ∷ 6 ∷ []) [] (seen_of (cells 7 0 1 ∷ [])) (holds 1 0 (node_at 4) ∷ holds 7 0 (u32_value 5) ∷ [])) ≡ true
 unfolding passes
 back_fits_then = rw (node_is_same) refl
 

@@ -57,11 +57,15 @@ const RESET_RUN: &[(&str, &str)] = &[
     (ANSWER, "0000000200000000000000000000000c00000000"),
 ];
 
-fn half_of(alloc: Global) -> Result<UserHalf, Fail> {
-    match UserHalf::load(alloc, BUMP.as_bytes(), PLAN.as_bytes()) {
+fn loaded(alloc: Global, user: &str, plan: &str) -> Result<UserHalf, Fail> {
+    match UserHalf::load(alloc, user.as_bytes(), plan.as_bytes()) {
         Ok(half) => Ok(half),
         Err(_) => Err("the texts are those of a user half".into()),
     }
+}
+
+fn half_of(alloc: Global) -> Result<UserHalf, Fail> {
+    loaded(alloc, BUMP, PLAN)
 }
 
 fn reply_to(alloc: Global, half: &mut UserHalf, sent: &str) -> Result<Vec<u8>, Fail> {
@@ -264,6 +268,104 @@ fn a_run_begins_behind_refused_messages_or_a_tick_that_is_wanting(
 ) -> Result<(), Fail> {
     for rows in [BEGUN, WANTING] {
         expect_from_a_new_half(&rt, rt.alloc(), rows)?;
+    }
+    Ok(())
+}
+
+/// A half whose function has an object of a local, while it calls the kernel half.
+const OBJECT: &str =
+    "u32 got;\n__remote void bump(void);\nvoid f(void) {\n\tu32 x;\n\tu32 *p;\n\tp = &x;\n\tbump();\n\tgot = *p;\n}\n";
+
+const OBJECT_PLAN: &str =
+    "plan 1\ntype 0 u8\ntype 1 u16\ntype 2 u32\ntype 3 u64\ntype 4 s8\ntype 5 s16\ntype 6 s32\ntype 7 s64\ntype 8 combolock_t\ntype 9 u32 *\nfunction 0 bump kernel root\nfunction 1 f user\ndown 0\nup 1\nkey 1 global 0\nkey 1 elem 2\nend\n";
+
+/// The answer to its `enter` has a block beside the object, 5. That one dies neither with the return of the downcall nor with
+/// the answer to the `leave` of the object nor with the next call.
+const BLOCK_BESIDE: &[(&str, &str)] = &[
+    (
+        CALL,
+        "00000005000000000000000100000001000000000000000d00000000000000010000000200000000000000010000000000000000",
+    ),
+    (
+        "000000060000000100000009000000000000000100000000000000020000000100000000000000000000000200000000000000010000000200000002000000010000000000000005000000020000000200000001",
+        "000000030000000000000003000000010000000400000001000000000000000000000000",
+    ),
+    (
+        "0000000400000000000f423b0000000c0000000100000000000000050000000000000002000000000000000000000000000000010000000000000001000000000000000100000001000000000000000000000000000000010000000200000001",
+        "0000000800000003",
+    ),
+    (
+        "0000000400000000000f423b0000000c000000000000000000000002000000000000000000000000000000010000000000000001000000000000000100000001000000000000000000000000000000010000000200000001",
+        "00000005000000000000000100000001000000000000000e0000000100000009000000000000000100000000000000020000000100000000000000000000000000000001000000000000000000000000000000010000000200000000",
+    ),
+    (
+        "0000000600000000000000020000000000000001000000000000000500000000",
+        "0000000800000003",
+    ),
+    (
+        "000000060000000000000001000000000000000100000000",
+        "0000000200000000000000000000000c00000000",
+    ),
+    (
+        "00000001000000010000000000000000000f423a0000000000000001000000000000000500000000000000010000000000000000000000000000000100000000",
+        "0000000800000003",
+    ),
+    (
+        CALL,
+        "00000005000000000000000100000001000000000000000d00000000000000010000000200000000000000010000000000000000",
+    ),
+];
+
+/// A half whose code stops while its object lives.
+const STOPPING: &str =
+    "u32 got;\nvoid f(void) {\n\tu32 x;\n\tu32 *p;\n\tu32 *q;\n\tp = &x;\n\tq = NULL;\n\tgot = *q;\n}\n";
+
+const STOPPING_PLAN: &str =
+    "plan 1\ntype 0 u8\ntype 1 u16\ntype 2 u32\ntype 3 u64\ntype 4 s8\ntype 5 s16\ntype 6 s32\ntype 7 s64\ntype 8 combolock_t\ntype 9 u32 *\nfunction 0 f user\nup 0\nkey 0 global 0\nkey 0 elem 2\nend\n";
+
+/// A call behind the stop lets the object die, and one doesn't.
+const BEHIND_A_STOP: &[(&str, &str)] = &[
+    (
+        "00000001000000000000000000000000000f4240000000000000000000000000000000010000000000000000000000000000000100000000",
+        "00000005000000000000000100000000000000000000000d00000000000000010000000200000000000000010000000000000000",
+    ),
+    (
+        "00000006000000010000000900000000000000010000000000000002000000010000000000000000000000010000000000000001000000020000000200000001",
+        "00000007000000000000000500000001000000000000000600000000",
+    ),
+    (
+        "00000001000000000000000000000000000f423a0000000000000001000000000000000100000000000000010000000000000000000000000000000100000000",
+        "0000000800000003",
+    ),
+    (
+        "00000001000000000000000000000000000f423a000000000000000000000000000000010000000000000000000000000000000100000000",
+        "00000005000000000000000100000000000000000000000d00000000000000010000000200000000000000010000000000000000",
+    ),
+];
+
+/// The texts of a user half and of its plan, and messages with their replies.
+type Exchanged = (
+    &'static str,
+    &'static str,
+    &'static [(&'static str, &'static str)],
+);
+
+const ENTERED: &[Exchanged] = &[
+    (OBJECT, OBJECT_PLAN, BLOCK_BESIDE),
+    (STOPPING, STOPPING_PLAN, BEHIND_A_STOP),
+];
+
+fn expect_exchanged(rt: &impl Abort, alloc: Global, row: &Exchanged) -> Result<(), Fail> {
+    let mut half = loaded(alloc, row.0, row.1)?;
+    let told = expect_replies(rt, alloc, &mut half, row.2);
+    drop(half);
+    told
+}
+
+#[test]
+fn what_came_with_an_enter_dies_with_the_leave_that_names_it(rt: HostRuntime) -> Result<(), Fail> {
+    for row in ENTERED {
+        expect_exchanged(&rt, rt.alloc(), row)?;
     }
     Ok(())
 }

@@ -21,7 +21,7 @@ use Rattle.mdr_user_code.specs.declared.state.Awaits.TheVariants as awaits
 use Rattle.mdr_user_code.specs.declared.state.State.{State}
 use Rattle.mdr_user_code.specs.Opening.{func_for, opening_for, opens_as, tree_for}
 use Rattle.mdr_user_code.specs.Replying.{Proceeds}
-use Rattle.mdr_user_code.specs.Standing.{Follows, Replies, cut_delivered, cut_user, kept_by, replies_so, user_of, work_by, upcall_of, held_in}
+use Rattle.mdr_user_code.specs.Standing.{Follows, Replies, cut_delivered, cut_user, kept_by, replies_so, user_of, work_by, held_in}
 use Rattle.mdr_user_code.proofs.OpeningLaws.{opens_is, rest_is}
 
 -- ---- one message
@@ -55,13 +55,13 @@ replies_goes d s s' m turn reply e p =
 
 -- ---- messages in turn
 
-pub begins_so : (program : Program) (plan : Plan) (s : State) → s.agreed ≡ first_memory (known_of program) → s.awaits ≡ awaits.Nothing → Follows (driver_of program plan) [] s
+pub begins_so : (program : Program) (plan : Plan) (s : State) → s.agreed ≡ first_memory (known_of program) → s.entered ≡ [] → s.awaits ≡ awaits.Nothing → Follows (driver_of program plan) [] s
 unfolding user_after first_user user_side allowance
-begins_so program plan s agreed none = record {
+begins_so program plan s agreed entered none = record {
   kept = let zero : kept_by s.awaits ≡ 0 = ap kept_by none in omega (arith, zero);
   by = λ fuel more fits.
       let d : Driver = driver_of program plan in
-      λ i. cut_user more (record { agreed = sym agreed i; work = work_by (sym none i) (upcall_of s) s.view (child (bare d.user fuel (held_in d s))) });
+      λ i. cut_user more (record { agreed = sym agreed i; entered = sym entered i; work = work_by (sym none i) s.func s.view (child (bare d.user fuel (held_in d s))) });
 }
 
 module _ (d : Driver) (before : List Reading) (s s' : State) (x : Reading) (reply : Message) (follows : Follows d before s) (replies : Replies d s x reply s') where

@@ -14,9 +14,8 @@ use Rattle.mdr_model.specs.Copies.{agreed_after, put_runs}
 use Rattle.mdr_model.specs.Memory.{Memory}
 use Rattle.mdr_model.specs.Sets.{cells_of_runs}
 use Rattle.mdr_model.specs.User.{granted, lives_fit, renewed_copy}
-use Rattle.mdr_split.specs.Services.{entered_after}
 use Rattle.mdr_split.specs.User as split
-use Rattle.mdr_split.specs.User.{answer_fits, back_fits, call_fits, cells_fit, grown, objects_fit, opened, when_fits}
+use Rattle.mdr_split.specs.User.{answer_fits, back_fits, call_fits, cells_fit, entered_behind, grown, objects_fit, opened, when_fits}
 use Rattle.mdr_watched.specs.Driver.{Driver, is_user}
 use Rattle.mdr_user_code.specs.declared.opening.Opening.{Opening}
 use Rattle.mdr_user_code.specs.declared.opening.Opening.TheVariants as opening
@@ -27,7 +26,7 @@ use Rattle.mdr_user_code.specs.declared.state.Awaits.TheVariants as awaits
 use Rattle.mdr_user_code.specs.declared.state.Question.{Question}
 use Rattle.mdr_user_code.specs.declared.state.State.{State}
 use Rattle.mdr_user_code.specs.Opening.{and_then, answer_copy, answered_by, args_fit, back_sight, call_sight, func_for, grown_sight, is_answered, may_enter, only_if, opening_for, opening_of, opens_as, result_fits, tree_for, where_so}
-use Rattle.mdr_user_code.specs.Standing.{held_in, kept_by, upcall_of, user_of}
+use Rattle.mdr_user_code.specs.Standing.{held_in, kept_by, user_of}
 
 -- ---- tests in another order
 
@@ -59,15 +58,19 @@ swapped false false z v = refl
 abbrev sight_of : List Cell → Memory → Sight
 sight_of view copy = record { view = view; copy = copy }
 
-call_sight_is : (d : Driver) (copy : Memory) (func depth : ℕ) (args : List Wire) (told : Told) → call_sight d copy func depth args told ≡ only_if (call_fits d copy func depth args told) (sight_of (cells_of_runs told.view) (agreed_after d.program told copy))
+call_sight_is : (d : Driver) (copy : Memory) (entered : List ℕ) (func depth : ℕ) (args : List Wire) (told : Told)
+    → call_sight d copy entered func depth args told ≡ only_if (call_fits d copy entered func depth args told) (sight_of (cells_of_runs told.view) (agreed_after d.program told copy))
 unfolding call_sight call_fits agreed_after
-call_sight_is d copy func depth args told =
-    tests (may_enter d.plan func depth) (lives_fit d.program copy told.deaths told.news) (renewed_copy d.program told.deaths told.news copy) (λ m. args_fit d.program m func args) (λ m. cells_fit d func m told.view told.runs)
+call_sight_is d copy entered func depth args told =
+    ap (where_so (may_enter d.plan func depth))
+    (tests (objects_fit [] told.deaths entered) (lives_fit d.program copy told.deaths told.news) (renewed_copy d.program told.deaths told.news copy) (λ m. args_fit d.program m func args) (λ m. cells_fit d func m told.view told.runs)
     (λ m. sight_of (cells_of_runs told.view) (put_runs told.runs m))
+    ∙ swapped (objects_fit [] told.deaths entered) (lives_fit d.program copy told.deaths told.news) _ _)
+    ∙ two_tests (may_enter d.plan func depth) _ _
     ∙ both_first (is_user d.plan func) (nat_le depth 255) _ _
 
 back_sight_is : (d : Driver) (copy : Memory) (stub : ℕ) (entered : List ℕ) (func : ℕ) (v : Wire) (told : Told)
-    → back_sight d copy stub entered func v told ≡ only_if (back_fits d copy (record { func = stub; entered = entered }) func v told) (sight_of (cells_of_runs told.view) (agreed_after d.program told copy))
+    → back_sight d copy stub entered func v told ≡ only_if (back_fits d copy entered stub func v told) (sight_of (cells_of_runs told.view) (agreed_after d.program told copy))
 unfolding back_sight back_fits agreed_after
 back_sight_is d copy stub entered func v told =
     tests (objects_fit [] told.deaths entered) (lives_fit d.program copy told.deaths told.news) (renewed_copy d.program told.deaths told.news copy) (λ m. result_fits d.program m func v) (λ m. cells_fit d stub m told.view told.runs)
@@ -75,23 +78,23 @@ back_sight_is d copy stub entered func v told =
     ∙ swapped (objects_fit [] told.deaths entered) (lives_fit d.program copy told.deaths told.news) _ _
 
 answer_copy_is : (d : Driver) (s : State) (q : Question) (results : List Wire) (deaths : List ℕ) (news : List New)
-    → answer_copy d s q results deaths news ≡ only_if (answer_fits d s.agreed (upcall_of s) (record { service = q.service; at = q.at; args = q.args; shapes = q.shapes; bytes = q.bytes }) results deaths news) (renewed_copy d.program deaths news s.agreed)
+    → answer_copy d s q results deaths news ≡ only_if (answer_fits d s.agreed s.entered (record { service = q.service; at = q.at; args = q.args; shapes = q.shapes; bytes = q.bytes }) results deaths news) (renewed_copy d.program deaths news s.agreed)
 unfolding answer_copy answer_fits
 answer_copy_is d s q results deaths news = other_order (is_answered q s.entered results deaths news) (lives_fit d.program s.agreed deaths news) (renewed_copy d.program deaths news s.agreed)
 
 -- ---- what is opened
 
 opens_where : (b : Bool) (t : Tree) (rest func : ℕ) (entered : List ℕ) (view : List Cell) (copy : Memory)
-    → when_fits b (split.Runs t rest (record { func = func; entered = entered }) view copy) ≡ opens_as t func (opening_of rest entered (only_if b (sight_of view copy)))
+    → when_fits b (split.Runs t rest func entered view copy) ≡ opens_as t func (opening_of rest entered (only_if b (sight_of view copy)))
 opens_where true t rest func entered view copy = refl
 opens_where false t rest func entered view copy = refl
 
-answers_where : (b : Bool) (t : Tree) (d : Driver) (s : State) (q : Question) (left : ℕ) (results : List Wire) (news : List New) (copy : Memory)
-    → when_fits b (split.Runs t left (record { func = s.func; entered = entered_after q.service q.args results s.entered }) (grown d s.func copy news s.view) copy)
-    ≡ opens_as t s.func (answered_by d s q left results news (only_if b copy))
+answers_where : (b : Bool) (t : Tree) (d : Driver) (s : State) (q : Question) (left : ℕ) (deaths : List ℕ) (news : List New) (copy : Memory)
+    → when_fits b (split.Runs t left s.func (entered_behind q.service deaths news s.entered) (grown d s.func copy news s.view) copy)
+    ≡ opens_as t s.func (answered_by d s q left deaths news (only_if b copy))
 unfolding grown_sight
-answers_where true t d s q left results news copy = refl
-answers_where false t d s q left results news copy = refl
+answers_where true t d s q left deaths news copy = refl
+answers_where false t d s q left deaths news copy = refl
 
 module _ (d : Driver) (fuel : ℕ) (s : State) where
   abbrev at : Awaits → State
@@ -100,23 +103,23 @@ module _ (d : Driver) (fuel : ℕ) (s : State) where
   abbrev goes : List Wire → Tree
   goes vs = child (bare d.user fuel (held_in d s)) vs
 
-  opens_with : (a : Awaits) (m : Message) → opened d (suc fuel) s.agreed (user_of d fuel (at a)).work m ≡ opens_as (tree_for d fuel (at a) m) (func_for (at a) m) (opening_for d (at a) m)
+  opens_with : (a : Awaits) (m : Message) → opened d (suc fuel) s.agreed s.entered (user_of d fuel (at a)).work m ≡ opens_as (tree_for d fuel (at a) m) (func_for (at a) m) (opening_for d (at a) m)
   unfolding opened opening_for
   opens_with awaits.Nothing (message.Call func depth rest args told) =
       let t : Tree = tree_for d fuel s (message.Call func depth rest args told) in
-      opens_where (call_fits d s.agreed func depth args told) t rest func [] (cells_of_runs told.view) (agreed_after d.program told s.agreed)
-      ∙ ap (λ (o : Option Sight). opens_as t func (opening_of rest [] o)) (sym (call_sight_is d s.agreed func depth args told))
+      opens_where (call_fits d s.agreed s.entered func depth args told) t rest func s.entered (cells_of_runs told.view) (agreed_after d.program told s.agreed)
+      ∙ ap (λ (o : Option Sight). opens_as t func (opening_of rest s.entered o)) (sym (call_sight_is d s.agreed s.entered func depth args told))
   opens_with awaits.Nothing _ = refl
   opens_with (awaits.Back f) (message.Back rest v told) =
-      opens_where (back_fits d s.agreed (upcall_of s) f v told) (goes (v ∷ [])) rest s.func s.entered (cells_of_runs told.view) (agreed_after d.program told s.agreed)
+      opens_where (back_fits d s.agreed s.entered s.func f v told) (goes (v ∷ [])) rest s.func s.entered (cells_of_runs told.view) (agreed_after d.program told s.agreed)
       ∙ ap (λ (o : Option Sight). opens_as (goes (v ∷ [])) s.func (opening_of rest s.entered o)) (sym (back_sight_is d s.agreed s.func s.entered f v told))
   opens_with (awaits.Back f) _ = refl
   opens_with (awaits.Answer q left) (message.Answer results deaths news) =
-      answers_where _ (goes results) d (at (awaits.Answer q left)) q left results news (renewed_copy d.program deaths news s.agreed)
-      ∙ ap (λ (o : Option Memory). opens_as (goes results) s.func (answered_by d (at (awaits.Answer q left)) q left results news o)) (sym (answer_copy_is d (at (awaits.Answer q left)) q results deaths news))
+      answers_where _ (goes results) d (at (awaits.Answer q left)) q left deaths news (renewed_copy d.program deaths news s.agreed)
+      ∙ ap (λ (o : Option Memory). opens_as (goes results) s.func (answered_by d (at (awaits.Answer q left)) q left deaths news o)) (sym (answer_copy_is d (at (awaits.Answer q left)) q results deaths news))
   opens_with (awaits.Answer q left) _ = refl
 
-  pub opens_is : (m : Message) → opened d (suc fuel) s.agreed (user_of d fuel s).work m ≡ opens_as (tree_for d fuel s m) (func_for s m) (opening_for d s m)
+  pub opens_is : (m : Message) → opened d (suc fuel) s.agreed s.entered (user_of d fuel s).work m ≡ opens_as (tree_for d fuel s m) (func_for s m) (opening_for d s m)
   opens_is m = opens_with s.awaits m
 
 -- ---- the ticks of what is opened
@@ -130,9 +133,9 @@ rest_of rest entered (Some sight) turn e =
     rest_in (opening.Refuses reason) = 0
     rest_in (opening.Goes t) = t.rest
 
-left_of : (d : Driver) (s : State) (q : Question) (left : ℕ) (results : List Wire) (news : List New) (o : Option Memory) (turn : Turn) → answered_by d s q left results news o ≡ opening.Goes turn → turn.rest ≤ left + 0
-left_of d s q left results news None turn e = absurd (cc e)
-left_of d s q left results news (Some copy) turn e =
+left_of : (d : Driver) (s : State) (q : Question) (left : ℕ) (deaths : List ℕ) (news : List New) (o : Option Memory) (turn : Turn) → answered_by d s q left deaths news o ≡ opening.Goes turn → turn.rest ≤ left + 0
+left_of d s q left deaths news None turn e = absurd (cc e)
+left_of d s q left deaths news (Some copy) turn e =
     let same : left ≡ turn.rest = ap rest_in e in omega (arith, same)
   where
     rest_in : Opening → ℕ
@@ -142,12 +145,12 @@ left_of d s q left results news (Some copy) turn e =
 module _ (d : Driver) (s : State) (turn : Turn) where
   rest_with : (a : Awaits) (m : Message) → opening_for d (record s { awaits = a }) m ≡ opening.Goes turn → turn.rest ≤ kept_by a + granted (Ok m)
   unfolding opening_for
-  rest_with awaits.Nothing (message.Call func depth rest args told) e = rest_of rest [] (call_sight d s.agreed func depth args told) turn e
+  rest_with awaits.Nothing (message.Call func depth rest args told) e = rest_of rest s.entered (call_sight d s.agreed s.entered func depth args told) turn e
   rest_with awaits.Nothing _ e = absurd (cc e)
   rest_with (awaits.Back f) (message.Back rest v told) e = rest_of rest s.entered (back_sight d s.agreed s.func s.entered f v told) turn e
   rest_with (awaits.Back f) _ e = absurd (cc e)
   rest_with (awaits.Answer q left) (message.Answer results deaths news) e =
-      left_of d (record s { awaits = awaits.Answer q left }) q left results news (answer_copy d (record s { awaits = awaits.Answer q left }) q results deaths news) turn e
+      left_of d (record s { awaits = awaits.Answer q left }) q left deaths news (answer_copy d (record s { awaits = awaits.Answer q left }) q results deaths news) turn e
   rest_with (awaits.Answer q left) _ e = absurd (cc e)
 
   pub rest_is : (m : Message) → opening_for d s m ≡ opening.Goes turn → turn.rest ≤ kept_by s.awaits + granted (Ok m)

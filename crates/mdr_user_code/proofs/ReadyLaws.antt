@@ -28,7 +28,7 @@ use Rattle.mdr_user_code.specs.declared.state.State.{State}
 use Rattle.mdr_user_code.specs.Copied.{Copied, copy_accesses}
 use Rattle.mdr_user_code.specs.Opening.{func_for, tree_for}
 use Rattle.mdr_user_code.specs.Replying.{IsResumed, IsStarted, Prepared, Proceeds, Resumed, RunReplies}
-use Rattle.mdr_user_code.specs.Standing.{IsFit, held_in, upcall_of}
+use Rattle.mdr_user_code.specs.Standing.{IsFit, held_in}
 use Rattle.mdr_user_code.proofs.RunLaws.{cut_child}
 use Rattle.mdr_user_code.proofs.Sides.{user_body, user_is}
 
@@ -69,11 +69,11 @@ prepared_answer d s s' m results passed deaths news same given is =
 
 -- user code goes on
 pub proceeds : (d : Driver) (s s1 s2 s' : State) (m : Message) (turn : Turn) (reply : Message) → Prepared d s m s1 → s2 ≡ record s1 { entered = turn.entered }
-    → RunReplies d (held_in d s2) (upcall_of s2) turn.rest turn.sight.view turn.sight.copy reply s' → Proceeds d s m turn reply s'
+    → RunReplies d (held_in d s2) s2.func s2.entered turn.rest turn.sight.view turn.sight.copy reply s' → Proceeds d s m turn reply s'
 proceeds d s s1 s2 s' m turn reply p same run =
-    let r : RunReplies d (held_in d s1) (record { func = func_for s m; entered = turn.entered }) turn.rest turn.sight.view turn.sight.copy reply s' =
-    subst (λ (f : ℕ). RunReplies d (held_in d s1) (record { func = f; entered = turn.entered }) turn.rest turn.sight.view turn.sight.copy reply s') p.func
-    (subst (λ (x : State). RunReplies d (held_in d x) (upcall_of x) turn.rest turn.sight.view turn.sight.copy reply s') same run) in
+    let r : RunReplies d (held_in d s1) (func_for s m) turn.entered turn.rest turn.sight.view turn.sight.copy reply s' =
+    subst (λ (f : ℕ). RunReplies d (held_in d s1) f turn.entered turn.rest turn.sight.view turn.sight.copy reply s') p.func
+    (subst (λ (x : State). RunReplies d (held_in d x) x.func x.entered turn.rest turn.sight.view turn.sight.copy reply s') same run) in
     record {
       kept = r.kept;
       by = λ fuel more fits. r.by fuel more (tree_for d fuel s m) fits (p.holds fuel (turn.rest + more) fits);

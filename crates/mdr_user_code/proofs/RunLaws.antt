@@ -26,13 +26,12 @@ use Rattle.mdr_model.specs.declared.message.Message.TheVariants as message
 use Rattle.mdr_model.specs.Copies.{changes}
 use Rattle.mdr_model.specs.Memory.{Memory}
 use Rattle.mdr_model.specs.ReplyFaults.{stop_number}
-use Rattle.mdr_split.specs.State.{Open}
 use Rattle.mdr_split.specs.User.{AwaitsAnswer, AwaitsBack, Delivered, guarded, replied, replied_to}
 use Rattle.mdr_watched.specs.Driver.{Driver}
 use Rattle.mdr_user_code.specs.declared.state.State.{State}
 use Rattle.mdr_user_code.specs.Copied.{Copied, copied, copy_accesses}
 use Rattle.mdr_user_code.specs.Replying.{RunReplies, awaits_as, settled, told_as}
-use Rattle.mdr_user_code.specs.Standing.{cut_delivered, held_in, kept_by, replies_so, upcall_of}
+use Rattle.mdr_user_code.specs.Standing.{cut_delivered, held_in, kept_by, replies_so}
 use Rattle.mdr_user_code.proofs.CopiedWalks.{copied_walked, walks}
 
 -- ---- what follows answers
@@ -62,21 +61,21 @@ goes_is side f q r h vs fewer = ap (cut q) (sym (cut_child r (bare side f h) vs)
 -- ---- replies up to later ticks
 
 -- a reply and what is held after it depend on what was reached up to a cut
-replied_cut : (r : ℕ) (upcall : Open) (view : List Cell) (rest : ℕ) (copy m : Memory) (left : ℕ) (x : Reached)
-    → cut_delivered r (replied upcall view rest copy m left (cut_reached (left + r) x)) ≡ cut_delivered r (replied upcall view rest copy m left x)
+replied_cut : (r stub : ℕ) (entered : List ℕ) (view : List Cell) (rest : ℕ) (copy m : Memory) (left : ℕ) (x : Reached)
+    → cut_delivered r (replied stub entered view rest copy m left (cut_reached (left + r) x)) ≡ cut_delivered r (replied stub entered view rest copy m left x)
 unfolding replied
-replied_cut r upcall view rest copy m left Reached.Idles = refl
-replied_cut r upcall view rest copy m left (Reached.Opens k) = refl
-replied_cut r upcall view rest copy m left (Reached.Ended v t) = refl
-replied_cut r upcall view rest copy m left (Reached.Stopped kind at) = refl
-replied_cut r upcall view rest copy m left (Reached.Needs at depth t) = refl
-replied_cut r upcall view rest copy m left (Reached.Asks asked k) =
-    let d : Delivered = replied upcall view rest copy m left (Reached.Asks asked k) in
-    ap (λ (k' : List Wire → Tree). record { reply = d.reply; user = record { agreed = d.user.agreed; work = AwaitsAnswer upcall asked view left k' } })
+replied_cut r stub entered view rest copy m left Reached.Idles = refl
+replied_cut r stub entered view rest copy m left (Reached.Opens k) = refl
+replied_cut r stub entered view rest copy m left (Reached.Ended v t) = refl
+replied_cut r stub entered view rest copy m left (Reached.Stopped kind at) = refl
+replied_cut r stub entered view rest copy m left (Reached.Needs at depth t) = refl
+replied_cut r stub entered view rest copy m left (Reached.Asks asked k) =
+    let d : Delivered = replied stub entered view rest copy m left (Reached.Asks asked k) in
+    ap (λ (k' : List Wire → Tree). record { reply = d.reply; user = record { agreed = d.user.agreed; entered = entered; work = AwaitsAnswer stub asked view left k' } })
     (fun_ext (λ vs. cut_cut (r + left) (left + r) (omega arith) (k vs)))
-replied_cut r upcall view rest copy m left (Reached.Crosses at func args depth k) =
-    let d : Delivered = replied upcall view rest copy m left (Reached.Crosses at func args depth k) in
-    ap (λ (k' : Wire → Tree). record { reply = d.reply; user = record { agreed = d.user.agreed; work = AwaitsBack upcall func view k' } })
+replied_cut r stub entered view rest copy m left (Reached.Crosses at func args depth k) =
+    let d : Delivered = replied stub entered view rest copy m left (Reached.Crosses at func args depth k) in
+    ap (λ (k' : Wire → Tree). record { reply = d.reply; user = record { agreed = d.user.agreed; entered = entered; work = AwaitsBack stub func view k' } })
     (fun_ext (λ v. cut_cut r (left + r) (omega arith) (k v)))
 
 -- ---- a run
@@ -86,7 +85,7 @@ module _ (d : Driver) (h : Held) (s : State) (view : List Cell) (rest : ℕ) (co
   left = rest - s.machine.used
 
   abbrev answer_of : (more : ℕ) → Walked Copied → Delivered
-  answer_of more w = cut_delivered more (replied (upcall_of s) w.memory.view rest copy w.memory.memory w.left w.reached)
+  answer_of more w = cut_delivered more (replied s.func s.entered w.memory.view rest copy w.memory.memory w.left w.reached)
 
   abbrev reached_by : Tree → Walked Memory
   reached_by t = walk (guarded view) rest t copy
@@ -108,25 +107,25 @@ module _ (d : Driver) (h : Held) (s : State) (view : List Cell) (rest : ℕ) (co
       ∙ ap (λ (n : ℕ). after copy_accesses d.user fuel e (held_in d s) c n (left + more)) all
 
   replied_at : (fuel more : ℕ) (t : Tree) (e : Came) → rest + more ≤ fuel → tree d.user fuel h (rest + more) ≡ cut (rest + more) t → RunsTo copy_accesses d.user h (copied view copy) rest e (held_in d s) c left
-      → cut_delivered more (replied_to (upcall_of s) view rest copy (reached_by t)) ≡ answer_of more (after copy_accesses d.user fuel e (held_in d s) c left (left + more))
+      → cut_delivered more (replied_to s.func s.entered view rest copy (reached_by t)) ≡ answer_of more (after copy_accesses d.user fuel e (held_in d s) c left (left + more))
   replied_at fuel more t e fits same ran =
-      sym (replied_cut more (upcall_of s) view rest copy (reached_by t).memory (reached_by t).left (reached_by t).reached)
+      sym (replied_cut more s.func s.entered view rest copy (reached_by t).memory (reached_by t).left (reached_by t).reached)
       ∙ ap (answer_of more) (walk_is fuel more t e fits same ran)
 
   replies : (e : Event) → RanTo copy_accesses d.user h (copied view copy) rest e (held_in d s) c left → (fuel more : ℕ) (t : Tree) → rest + more ≤ fuel → tree d.user fuel h (rest + more) ≡ cut (rest + more) t
-      → cut_delivered more (replied_to (upcall_of s) view rest copy (reached_by t)) ≡ cut_delivered more (replies_so d fuel (told_as (rest - left) c.memory (changes c.view copy c.memory) e) (settled s rest copy c e))
+      → cut_delivered more (replied_to s.func s.entered view rest copy (reached_by t)) ≡ cut_delivered more (replies_so d fuel (told_as (rest - left) c.memory (changes c.view copy c.memory) e) (settled s rest copy c e))
   unfolding replied walk
   replies (event.Done v) ran fuel more t fits same = replied_at fuel more t (came.Ended (wire_of v)) fits same ran
   replies (event.Stop kind at) ran fuel more t fits same = replied_at fuel more t (came.Stopped kind at) fits same ran
   replies (event.Service q) ran fuel more t fits same =
-      let x : Delivered = replied (upcall_of s) c.view rest copy c.memory left (Reached.Asks (asked_as q) (child (tree d.user fuel (held_in d s) (left + more)))) in
+      let x : Delivered = replied s.func s.entered c.view rest copy c.memory left (Reached.Asks (asked_as q) (child (tree d.user fuel (held_in d s) (left + more)))) in
       replied_at fuel more t (came.Asks (asked_as q)) fits same ran
-      ∙ ap (λ (k : List Wire → Tree). record { reply = x.reply; user = record { agreed = x.user.agreed; work = AwaitsAnswer (upcall_of s) (asked_as q) c.view left k } })
+      ∙ ap (λ (k : List Wire → Tree). record { reply = x.reply; user = record { agreed = x.user.agreed; entered = s.entered; work = AwaitsAnswer s.func (asked_as q) c.view left k } })
       (fun_ext (λ vs. goes_is d.user fuel (more + left) (left + more) (held_in d s) vs (omega arith)))
   replies (event.Cross call) ran fuel more t fits same =
-      let x : Delivered = replied (upcall_of s) c.view rest copy c.memory left (Reached.Crosses call.at call.func (wires_of call.args) call.depth (λ v. child (tree d.user fuel (held_in d s) (left + more)) (v ∷ []))) in
+      let x : Delivered = replied s.func s.entered c.view rest copy c.memory left (Reached.Crosses call.at call.func (wires_of call.args) call.depth (λ v. child (tree d.user fuel (held_in d s) (left + more)) (v ∷ []))) in
       replied_at fuel more t (came.Crosses call.at call.func (wires_of call.args) call.depth) fits same ran
-      ∙ ap (λ (k : Wire → Tree). record { reply = x.reply; user = record { agreed = x.user.agreed; work = AwaitsBack (upcall_of s) call.func c.view k } })
+      ∙ ap (λ (k : Wire → Tree). record { reply = x.reply; user = record { agreed = x.user.agreed; entered = s.entered; work = AwaitsBack s.func call.func c.view k } })
       (fun_ext (λ v. goes_is d.user fuel more (left + more) (held_in d s) (v ∷ []) (omega arith)))
   replies (event.TicksOut at) ran fuel more t fits same =
       let w = ran.2.by fuel (left + more) in
@@ -143,7 +142,7 @@ module _ (d : Driver) (h : Held) (s : State) (view : List Cell) (rest : ℕ) (co
   kept_is (event.TicksOut at) = omega arith
 
   pub run_replies : (e : Event) (reply : Message) → s.machine.used ≤ rest → RanTo copy_accesses d.user h (copied view copy) rest e (held_in d s) c left → reply ≡ told_as s.machine.used c.memory (changes c.view copy c.memory) e
-      → RunReplies d h (upcall_of s) rest view copy reply (settled s rest copy c e)
+      → RunReplies d h s.func s.entered rest view copy reply (settled s rest copy c e)
   run_replies e reply few ran is = record {
     kept = kept_is e;
     by = λ fuel more t fits same.
@@ -156,8 +155,8 @@ module _ (d : Driver) (h : Held) (s : State) (view : List Cell) (rest : ℕ) (co
 -- a message's run
 pub run_from : (d : Driver) (s s' : State) (m : Machine) (view : List Cell) (rest : ℕ) (copy : Memory) (c0 c : Copied) (e : Event) (reply : Message) → c0 ≡ copied view copy → m.used ≤ rest
     → RanTo copy_accesses d.user (held_in d s) c0 rest e (held_of d.program m) c (rest - m.used) → reply ≡ told_as m.used c.memory (changes c.view copy c.memory) e → s' ≡ settled (record s { machine = m }) rest copy c e
-    → RunReplies d (held_in d s) (upcall_of s) rest view copy reply s'
+    → RunReplies d (held_in d s) s.func s.entered rest view copy reply s'
 run_from d s s' m view rest copy c0 c e reply begun few ran told is =
     let r : RanTo copy_accesses d.user (held_in d s) (copied view copy) rest e (held_of d.program m) c (rest - m.used) =
     subst (λ (x : Copied). RanTo copy_accesses d.user (held_in d s) x rest e (held_of d.program m) c (rest - m.used)) begun ran in
-    subst (λ (x : State). RunReplies d (held_in d s) (upcall_of s) rest view copy reply x) (sym is) (run_replies d (held_in d s) (record s { machine = m }) view rest copy c e reply few r told)
+    subst (λ (x : State). RunReplies d (held_in d s) s.func s.entered rest view copy reply x) (sym is) (run_replies d (held_in d s) (record s { machine = m }) view rest copy c e reply few r told)

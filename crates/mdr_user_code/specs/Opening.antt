@@ -18,9 +18,9 @@ use Rattle.mdr_model.specs.Sets.{cells_of_runs}
 use Rattle.mdr_model.specs.User.{lives_fit, renewed_copy}
 use Rattle.mdr_split.specs.Fits.{Places, fits, fits_result}
 use Rattle.mdr_split.specs.Legal.{args_fault, params_of, result_of}
-use Rattle.mdr_split.specs.Services.{entered_after, leaving, results_fit}
+use Rattle.mdr_split.specs.Services.{leaving, results_fit}
 use Rattle.mdr_split.specs.User as split
-use Rattle.mdr_split.specs.User.{cells_fit, grown, objects_fit}
+use Rattle.mdr_split.specs.User.{cells_fit, entered_behind, grown, objects_fit}
 use Rattle.mdr_watched.specs.Driver.{Driver, is_user}
 use Rattle.mdr_user_code.specs.declared.opening.Opening.{Opening}
 use Rattle.mdr_user_code.specs.declared.opening.Opening.TheVariants as opening
@@ -72,8 +72,10 @@ shown d stub copy told = only_if (cells_fit d stub copy told.view told.runs) (re
 abbrev pub called : Driver → Memory → (func : ℕ) → List Wire → Told → Option Sight
 called d copy func args told = where_so (args_fit d.program copy func args) (shown d func copy told)
 
-unfoldable pub call_sight : Driver → Memory → (func depth : ℕ) → List Wire → Told → Option Sight
-call_sight d copy func depth args told = where_so (may_enter d.plan func depth) (and_then (renewed d.program copy told.deaths told.news) (λ left. called d left func args told))
+unfoldable pub call_sight : Driver → Memory → (entered : List ℕ) → (func depth : ℕ) → List Wire → Told → Option Sight
+call_sight d copy entered func depth args told =
+    where_so (may_enter d.plan func depth)
+    (where_so (objects_fit [] told.deaths entered) (and_then (renewed d.program copy told.deaths told.news) (λ left. called d left func args told)))
 
 abbrev pub returned : Driver → Memory → (stub func : ℕ) → Wire → Told → Option Sight
 returned d copy stub func v told = where_so (result_fits d.program copy func v) (shown d stub copy told)
@@ -102,7 +104,7 @@ downcall (awaits.Back func) = Some func
 downcall (awaits.Answer question left) = None
 
 abbrev pub call_opening : Driver → State → (func depth rest : ℕ) → List Wire → Told → Opening
-call_opening d s func depth rest args told = chosen (is_idle s.awaits) (opening_of rest [] (call_sight d s.agreed func depth args told)) (opening.Refuses 2)
+call_opening d s func depth rest args told = chosen (is_idle s.awaits) (opening_of rest s.entered (call_sight d s.agreed s.entered func depth args told)) (opening.Refuses 2)
 
 abbrev pub back_by : Driver → State → Option ℕ → (rest : ℕ) → Wire → Told → Opening
 back_by d s None rest v told = opening.Refuses 2
@@ -114,19 +116,19 @@ back_opening d s rest v told = back_by d s (downcall s.awaits) rest v told
 unfoldable pub answer_copy : Driver → State → Question → List Wire → (deaths : List ℕ) → List New → Option Memory
 answer_copy d s q results deaths news = where_so (is_answered q s.entered results deaths news) (renewed d.program s.agreed deaths news)
 
-abbrev pub answer_turn : Driver → State → Question → (left : ℕ) → List Wire → List New → Memory → Turn
-answer_turn d s q left results news copy = record {
+abbrev pub answer_turn : Driver → State → Question → (left : ℕ) → (deaths : List ℕ) → List New → Memory → Turn
+answer_turn d s q left deaths news copy = record {
   rest = left;
-  entered = entered_after q.service q.args results s.entered;
+  entered = entered_behind q.service deaths news s.entered;
   sight = grown_sight d s news copy;
 }
 
-abbrev pub answered_by : Driver → State → Question → (left : ℕ) → List Wire → List New → Option Memory → Opening
-answered_by d s q left results news None = opening.Refuses 3
-answered_by d s q left results news (Some copy) = opening.Goes (answer_turn d s q left results news copy)
+abbrev pub answered_by : Driver → State → Question → (left : ℕ) → (deaths : List ℕ) → List New → Option Memory → Opening
+answered_by d s q left deaths news None = opening.Refuses 3
+answered_by d s q left deaths news (Some copy) = opening.Goes (answer_turn d s q left deaths news copy)
 
 abbrev pub answered : Driver → State → Question → (left : ℕ) → List Wire → (deaths : List ℕ) → List New → Opening
-answered d s q left results deaths news = answered_by d s q left results news (answer_copy d s q results deaths news)
+answered d s q left results deaths news = answered_by d s q left deaths news (answer_copy d s q results deaths news)
 
 abbrev pub answer_by : Driver → State → Awaits → List Wire → (deaths : List ℕ) → List New → Opening
 answer_by d s awaits.Nothing results deaths news = opening.Refuses 2
@@ -157,4 +159,4 @@ func_for s _ = s.func
 
 abbrev pub opens_as : Tree → (func : ℕ) → Opening → split.Opened
 opens_as tree func (opening.Refuses reason) = split.Refuses reason
-opens_as tree func (opening.Goes turn) = split.Runs tree turn.rest (record { func = func; entered = turn.entered }) turn.sight.view turn.sight.copy
+opens_as tree func (opening.Goes turn) = split.Runs tree turn.rest func turn.entered turn.sight.view turn.sight.copy

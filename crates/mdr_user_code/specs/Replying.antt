@@ -26,7 +26,6 @@ use Rattle.mdr_model.specs.declared.message.Run.{Run}
 use Rattle.mdr_model.specs.Copies.{changes, put_runs}
 use Rattle.mdr_model.specs.Memory.{Memory, normal}
 use Rattle.mdr_model.specs.ReplyFaults.{stop_number}
-use Rattle.mdr_split.specs.State.{Open}
 use Rattle.mdr_split.specs.User.{guarded, replied_to}
 use Rattle.mdr_watched.specs.Driver.{Driver}
 use Rattle.mdr_user_code.specs.declared.opening.Turn.{Turn}
@@ -91,14 +90,14 @@ settled s rest copy c e = record s {
 -- ---- user code runs
 
 -- what is held runs with so many ticks over a copy, whatever ticks later messages grant
-pub record RunReplies (d : Driver) (held : Held) (upcall : Open) (rest : ℕ) (view : List Cell) (copy : Memory) (reply : Message) (s' : State) : Type 0 where
+pub record RunReplies (d : Driver) (held : Held) (stub : ℕ) (entered : List ℕ) (rest : ℕ) (view : List Cell) (copy : Memory) (reply : Message) (s' : State) : Type 0 where
   pub kept : kept_by s'.awaits ≤ rest
   pub by : (fuel more : ℕ) (t : Tree) → rest + more ≤ fuel → tree d.user fuel held (rest + more) ≡ cut (rest + more) t
-      → cut_delivered more (replied_to upcall view rest copy (walk (guarded view) rest t copy)) ≡ cut_delivered more (replies_so d fuel reply s')
+      → cut_delivered more (replied_to stub entered view rest copy (walk (guarded view) rest t copy)) ≡ cut_delivered more (replies_so d fuel reply s')
 
 -- user code goes on with a message
 pub record Proceeds (d : Driver) (s : State) (m : Message) (turn : Turn) (reply : Message) (s' : State) : Type 0 where
   pub kept : kept_by s'.awaits ≤ turn.rest
   pub by : (fuel more : ℕ) → turn.rest + more ≤ fuel
-      → cut_delivered more (replied_to (record { func = func_for s m; entered = turn.entered }) turn.sight.view turn.rest turn.sight.copy (walk (guarded turn.sight.view) turn.rest (tree_for d fuel s m) turn.sight.copy))
+      → cut_delivered more (replied_to (func_for s m) turn.entered turn.sight.view turn.rest turn.sight.copy (walk (guarded turn.sight.view) turn.rest (tree_for d fuel s m) turn.sight.copy))
       ≡ cut_delivered more (replies_so d fuel reply s')

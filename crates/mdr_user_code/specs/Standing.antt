@@ -12,7 +12,6 @@ use Rattle.mdr_model.specs.declared.memory.Cell.{Cell}
 use Rattle.mdr_model.specs.declared.message.Message.{Message}
 use Rattle.mdr_model.specs.KernelState.{Reading}
 use Rattle.mdr_model.specs.User.{allowance, granted}
-use Rattle.mdr_split.specs.State.{Open}
 use Rattle.mdr_split.specs.User.{AwaitsAnswer, AwaitsBack, Delivered, Nothing, User, Work, deliver, first_user, user_after}
 use Rattle.mdr_watched.specs.Driver.{Driver, driver_of}
 use Rattle.mdr_user_code.specs.declared.scene.Scene.{Scene}
@@ -30,23 +29,20 @@ driver_in s = driver_of s.program.now s.plan.now
 
 -- ---- what the state stands for
 
-abbrev pub upcall_of : State → Open
-upcall_of s = record { func = s.func; entered = s.entered }
-
 abbrev pub asked_of : Question → Asked
 asked_of q = record { service = q.service; at = q.at; args = q.args; shapes = q.shapes; bytes = q.bytes }
 
-abbrev pub work_by : Awaits → Open → List Cell → (goes : List Wire → Tree) → Work
-work_by awaits.Nothing upcall view goes = Nothing
-work_by (awaits.Back func) upcall view goes = AwaitsBack upcall func view (λ v. goes (v ∷ []))
-work_by (awaits.Answer question left) upcall view goes = AwaitsAnswer upcall (asked_of question) view left goes
+abbrev pub work_by : Awaits → (stub : ℕ) → List Cell → (goes : List Wire → Tree) → Work
+work_by awaits.Nothing stub view goes = Nothing
+work_by (awaits.Back func) stub view goes = AwaitsBack stub func view (λ v. goes (v ∷ []))
+work_by (awaits.Answer question left) stub view goes = AwaitsAnswer stub (asked_of question) view left goes
 
 abbrev pub held_in : Driver → State → Held
 held_in d s = held_of d.program s.machine
 
 -- with fuel for so many turns of loops and calls
 abbrev pub user_of : Driver → (fuel : ℕ) → State → User
-user_of d fuel s = record { agreed = s.agreed; work = work_by s.awaits (upcall_of s) s.view (child (bare d.user fuel (held_in d s))) }
+user_of d fuel s = record { agreed = s.agreed; entered = s.entered; work = work_by s.awaits s.func s.view (child (bare d.user fuel (held_in d s))) }
 
 -- the ticks that an answer goes on with
 abbrev pub kept_by : Awaits → ℕ
@@ -58,11 +54,11 @@ kept_by (awaits.Answer question left) = left
 
 abbrev pub cut_work : ℕ → Work → Work
 cut_work r Nothing = Nothing
-cut_work r (AwaitsBack upcall func view goes) = AwaitsBack upcall func view (λ v. cut r (goes v))
-cut_work r (AwaitsAnswer upcall asked view left goes) = AwaitsAnswer upcall asked view left (λ vs. cut (r + left) (goes vs))
+cut_work r (AwaitsBack stub func view goes) = AwaitsBack stub func view (λ v. cut r (goes v))
+cut_work r (AwaitsAnswer stub asked view left goes) = AwaitsAnswer stub asked view left (λ vs. cut (r + left) (goes vs))
 
 abbrev pub cut_user : ℕ → User → User
-cut_user r u = record { agreed = u.agreed; work = cut_work r u.work }
+cut_user r u = record { agreed = u.agreed; entered = u.entered; work = cut_work r u.work }
 
 abbrev pub cut_delivered : ℕ → Delivered → Delivered
 cut_delivered r d = record { reply = d.reply; user = cut_user r d.user }

@@ -26,11 +26,12 @@ pub fn begins(alloc: Global, program: &Program, plan: &Plan) -> Result<State, Ou
 {
     let _ = plan;
     let agreed = first_memory(alloc, program)?;
+    let entered = Items::new(alloc);
     Ok(State {
         agreed,
         machine: Machine::new(alloc, Side::User),
         func: 0,
-        entered: Items::new(alloc),
+        entered,
         view: Items::new(alloc),
         awaits: Awaits::Nothing,
     })

@@ -25,7 +25,7 @@ fn object_fits(leaving: &[u64], deaths: &[u64], serial: u64) -> bool
     agrees(has(leaving, serial), has(deaths, serial))
 }
 
-/// Whether of the objects that live in an upcall those die that are left now, and no others.
+/// Whether of the blocks that came in an answer to service 13 those die that are left now, and no others.
 #[tactic(auto, unfolding(mdr_split::specs::User::objects_fit))]
 pub(crate) fn objects_fit(leaving: &[u64], deaths: &[u64], entered: &[u64]) -> bool
     ensures { result ≡ objects_fit leaving.now deaths.now entered.now }

@@ -13,11 +13,11 @@ use crate::scene::Scene;
 use crate::sight::{Sight, back_sight, call_sight, renewed, touched};
 use crate::state::{Awaits, Question, State};
 use mdr_core::{Items, OutOfMemory};
-use mdr_fits::{entered_after, leaving, results_fit};
+use mdr_fits::{entered_behind, leaving, results_fit};
 use mdr_model::{MemoryBlock, Message, New, Told, Wire};
 use std::alloc::Global;
 
-/// User code that goes on: its ticks, the objects that live in the upcall, and what it sees.
+/// User code that goes on: its ticks, the blocks that came in an answer to service 13 and live, and what it sees.
 #[derive(Debug, Drop)]
 pub struct Turn {
     pub rest: u64,
@@ -84,9 +84,11 @@ fn open_call(
     if !is_idle(state) {
         return Ok(Opening::Refuses(2));
     }
+    let entered = Items::from_slice(alloc, state.entered.as_slice())?;
     let copy = state.agreed.as_slice();
-    let sight = call_sight(alloc, scene, copy, func, depth, args, told)?;
-    Ok(opening_of(rest, Items::new(alloc), sight))
+    let lives = state.entered.as_slice();
+    let sight = call_sight(alloc, scene, copy, lives, func, depth, args, told)?;
+    Ok(opening_of(rest, entered, sight))
 }
 
 fn back(
@@ -197,17 +199,16 @@ fn answer_turn(
     state: &State,
     question: &Question,
     left: u64,
-    results: &[Wire],
+    deaths: &[u64],
     news: &[New],
     copy: Items<MemoryBlock>,
 ) -> Result<Turn, OutOfMemory>
     requires { IsSound scene.program.now }
-    ensures { IfOk result (λ t. t ≡ answer_turn (driver_in scene.entry) state.now question.now left results.now news.now copy) }
+    ensures { IfOk result (λ t. t ≡ answer_turn (driver_in scene.entry) state.now question.now left deaths.now news.now copy) }
 {
-    let args = question.args.as_slice();
     let lives = state.entered.as_slice();
     let sight = grown_sight(alloc, scene, state, copy, news)?;
-    let entered = entered_after(alloc, question.service, args, results, lives)?;
+    let entered = entered_behind(alloc, question.service, deaths, news, lives)?;
     Ok(Turn {
         rest: left,
         entered,
@@ -236,7 +237,7 @@ fn answered(
                 state,
                 question,
                 left,
-                results,
+                deaths.as_slice(),
                 news.as_slice(),
                 copy,
             )?;

@@ -6,7 +6,7 @@ ghost use Rattle.mdr_exec.specs.Going.{RanTo};
 ghost use Rattle.mdr_exec.specs.Holding.{held_of};
 ghost use Rattle.mdr_user_code.specs.Copied.{copy_accesses};
 ghost use Rattle.mdr_user_code.specs.Replying.{RunReplies};
-ghost use Rattle.mdr_user_code.specs.Standing.{IsFit, driver_in, held_in, upcall_of};
+ghost use Rattle.mdr_user_code.specs.Standing.{IsFit, driver_in, held_in};
 
 use crate::memory::UserMemory;
 use crate::replying::settle;
@@ -50,7 +50,7 @@ pub(crate) fn run(
 ) -> Result<Message, OutOfMemory>
     requires sound { IsSound scene.program.now }
     requires fit { IsFit scene.plan.now scene.program.now }
-    ensures { IfOk result (λ r. RunReplies (driver_in scene.entry) (held_in (driver_in scene.entry) state.old) (upcall_of state.old) rest sight.view sight.copy r state.new) }
+    ensures { IfOk result (λ r. RunReplies (driver_in scene.entry) (held_in (driver_in scene.entry) state.old) state.old.func state.old.entered rest sight.view sight.copy r state.new) }
 {
     let Sight { view, copy } = sight;
     let blocks = copied(alloc, copy.as_slice())?;

@@ -176,21 +176,25 @@ fn called(
     Ok(sight)
 }
 
-/// What a call shows, where it fits.
+/// What a call shows, where it fits, while these entered blocks live.
 #[tactic(auto, unfolding(crate::specs::Opening::call_sight))]
 pub(crate) fn call_sight(
     alloc: Global,
     scene: Scene,
     copy: &[MemoryBlock],
+    entered: &[u64],
     func: u32,
     depth: u32,
     args: &[Wire],
     told: &Told,
 ) -> Result<Option<Sight>, OutOfMemory>
     requires { IsSound scene.program.now }
-    ensures { IfOk result (λ s. s ≡ call_sight (driver_in scene.entry) copy.now func depth args.now told.now) }
+    ensures { IfOk result (λ s. s ≡ call_sight (driver_in scene.entry) copy.now entered.now func depth args.now told.now) }
 {
     if !may_enter(scene.plan, func, depth) {
+        return Ok(None);
+    }
+    if !objects_fit(&[], told.deaths.as_slice(), entered) {
         return Ok(None);
     }
     match renewed(alloc, scene.program, copy, &told.deaths, &told.news)? {
@@ -222,7 +226,7 @@ fn returned(
     Ok(sight)
 }
 
-/// What the return of a downcall of a function shows, where it fits, in an upcall of `stub` in which these objects live.
+/// What the return of a downcall of a function shows, where it fits, in an upcall of `stub`, while these entered blocks live.
 #[tactic(auto, unfolding(crate::specs::Opening::back_sight))]
 pub(crate) fn back_sight(
     alloc: Global,

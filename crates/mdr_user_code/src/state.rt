@@ -25,8 +25,8 @@ pub enum Awaits {
     Answer(Question, u64),
 }
 
-/// What the user half keeps between messages: the agreed copy, the code that waits, the function that the open upcall called
-/// and the objects of locals that live in it, the visible cells, and what is awaited.
+/// What the user half keeps between messages: the agreed copy, the code that waits, the function that the open upcall called,
+/// the blocks that came in an answer to service 13 and live, the visible cells, and what is awaited.
 #[derive(Debug, Drop)]
 pub struct State {
     pub(crate) agreed: Items<MemoryBlock>,

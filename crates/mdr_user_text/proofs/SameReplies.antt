@@ -27,9 +27,8 @@ use Rattle.mdr_model.specs.User.{allowance, renewed_copy, still_live}
 use Rattle.mdr_split.specs.Fits.{fits, fits_result}
 use Rattle.mdr_split.specs.Law.{RepliesNeedTheUserText}
 use Rattle.mdr_split.specs.Legal.{args_fault, params_of, result_of}
-use Rattle.mdr_split.specs.Services.{counted, leaving, results_fit}
-use Rattle.mdr_split.specs.State.{Open}
-use Rattle.mdr_split.specs.User.{AwaitsAnswer, AwaitsBack, Delivered, Nothing, Opened, Runs, User, Work, answer_fits, back_fits, call_fits, cells_fit, deliver, done, first_user, grown, may_show, objects_fit, opened, runs_fit, user_after, user_places, user_reply, view_fits, when_fits}
+use Rattle.mdr_split.specs.Services.{leaving, results_fit}
+use Rattle.mdr_split.specs.User.{AwaitsAnswer, AwaitsBack, Delivered, Nothing, Opened, Runs, User, Work, answer_fits, back_fits, call_fits, cells_fit, deliver, done, entered_behind, first_user, grown, may_show, objects_fit, opened, runs_fit, user_after, user_places, user_reply, view_fits, when_fits}
 use Rattle.mdr_watched.specs.Driver.{Driver, driver_of, is_user, touched_by}
 use Rattle.mdr_user_text.proofs.Headings.{heading, same_params, same_result, with_funcs}
 use Rattle.mdr_user_text.proofs.SameViews.{both}
@@ -79,26 +78,27 @@ module _ (d : Driver) (funcs : List Func) (kernel : Side) (headings : (f : ℕ) 
       ∙ ap (λ (ty : Ty). fits_result (user_places d copy) ty v) (same_result (slice_get funcs func) (slice_get d.program.funcs func) (headings func))
       ∙ ap (λ (m : Memory). fits_result (user_places d m) (result_of (slice_get d.program.funcs func)) v) same
 
-  same_call : (copy : Memory) (func depth : ℕ) (args : List Wire) (told : Told) → call_fits alone copy func depth args told ≡ call_fits d copy func depth args told
+  same_call : (copy : Memory) (entered : List ℕ) (func depth : ℕ) (args : List Wire) (told : Told) → call_fits alone copy entered func depth args told ≡ call_fits d copy entered func depth args told
   unfolding call_fits
-  same_call copy func depth args told =
+  same_call copy entered func depth args told =
       let renewed = same_renewed d.program funcs told.deaths told.news copy in
       ap (λ (b : Bool). is_user d.plan func && (nat_le depth 255 && b))
       (both _ _ _ _ (same_lives d.program funcs copy told.deaths told.news)
-      (both _ _ _ _ (same_args_fit func _ _ args renewed) (same_cells_fit func _ _ told.view told.runs renewed)))
+      (ap (λ (b : Bool). objects_fit [] told.deaths entered && b)
+      (both _ _ _ _ (same_args_fit func _ _ args renewed) (same_cells_fit func _ _ told.view told.runs renewed))))
 
-  same_back : (copy : Memory) (upcall : Open) (func : ℕ) (result : Wire) (told : Told) → back_fits alone copy upcall func result told ≡ back_fits d copy upcall func result told
+  same_back : (copy : Memory) (entered : List ℕ) (stub func : ℕ) (result : Wire) (told : Told) → back_fits alone copy entered stub func result told ≡ back_fits d copy entered stub func result told
   unfolding back_fits
-  same_back copy upcall func result told =
+  same_back copy entered stub func result told =
       let renewed = same_renewed d.program funcs told.deaths told.news copy in
       both _ _ _ _ (same_lives d.program funcs copy told.deaths told.news)
-      (ap (λ (b : Bool). objects_fit [] told.deaths upcall.entered && b)
-      (both _ _ _ _ (same_result_fits func _ _ result renewed) (same_cells_fit upcall.func _ _ told.view told.runs renewed)))
+      (ap (λ (b : Bool). objects_fit [] told.deaths entered && b)
+      (both _ _ _ _ (same_result_fits func _ _ result renewed) (same_cells_fit stub _ _ told.view told.runs renewed)))
 
-  same_answer : (copy : Memory) (upcall : Open) (asked : Asked) (results : List Wire) (deaths : List ℕ) (news : List New) → answer_fits alone copy upcall asked results deaths news ≡ answer_fits d copy upcall asked results deaths news
+  same_answer : (copy : Memory) (entered : List ℕ) (asked : Asked) (results : List Wire) (deaths : List ℕ) (news : List New) → answer_fits alone copy entered asked results deaths news ≡ answer_fits d copy entered asked results deaths news
   unfolding answer_fits
-  same_answer copy upcall asked results deaths news =
-      ap (λ (b : Bool). b && (objects_fit (leaving asked.service asked.args) deaths upcall.entered && results_fit asked news results)) (same_lives d.program funcs copy deaths news)
+  same_answer copy entered asked results deaths news =
+      ap (λ (b : Bool). b && (objects_fit (leaving asked.service asked.args) deaths entered && results_fit asked news results)) (same_lives d.program funcs copy deaths news)
 
   -- ---- what a message opens
 
@@ -110,28 +110,29 @@ module _ (d : Driver) (funcs : List Func) (kernel : Side) (headings : (f : ℕ) 
       ap (λ (cs : List Cell). filter (still_live copy) seen ++ cs) (same_news_cells d.program funcs (touched_by d.plan stub) news)
       ∙ ap (λ (m : Memory). grown d stub m news seen) same
 
-  same_opened : (fuel : ℕ) (copy : Memory) (work : Work) (x : Message) → opened alone fuel copy work x ≡ opened d fuel copy work x
+  same_opened : (fuel : ℕ) (copy : Memory) (entered : List ℕ) (work : Work) (x : Message) → opened alone fuel copy entered work x ≡ opened d fuel copy entered work x
   unfolding opened
-  same_opened fuel copy Nothing (message.Call func depth rest args told) =
-      same_when _ _ _ _ (same_call copy func depth args told)
-      (ap (λ (m : Memory). Runs (started d.user fuel func args depth Tree.Idle) rest (record { func = func; entered = [] }) (cells_of_runs told.view) m) (same_agreed d.program funcs told copy))
-  same_opened fuel copy Nothing _ = refl
-  same_opened fuel copy (AwaitsBack upcall func seen goes) (message.Back rest result told) =
-      same_when _ _ _ _ (same_back copy upcall func result told)
-      (ap (λ (m : Memory). Runs (goes result) rest upcall (cells_of_runs told.view) m) (same_agreed d.program funcs told copy))
-  same_opened fuel copy (AwaitsBack upcall func seen goes) _ = refl
-  same_opened fuel copy (AwaitsAnswer upcall asked seen left goes) (message.Answer results deaths news) =
+  same_opened fuel copy entered Nothing (message.Call func depth rest args told) =
+      same_when _ _ _ _ (same_call copy entered func depth args told)
+      (ap (λ (m : Memory). Runs (started d.user fuel func args depth Tree.Idle) rest func entered (cells_of_runs told.view) m) (same_agreed d.program funcs told copy))
+  same_opened fuel copy entered Nothing _ = refl
+  same_opened fuel copy entered (AwaitsBack stub func seen goes) (message.Back rest result told) =
+      same_when _ _ _ _ (same_back copy entered stub func result told)
+      (ap (λ (m : Memory). Runs (goes result) rest stub entered (cells_of_runs told.view) m) (same_agreed d.program funcs told copy))
+  same_opened fuel copy entered (AwaitsBack stub func seen goes) _ = refl
+  same_opened fuel copy entered (AwaitsAnswer stub asked seen left goes) (message.Answer results deaths news) =
       let renewed = same_renewed d.program funcs deaths news copy in
-      same_when _ _ _ _ (same_answer copy upcall asked results deaths news)
-      (ap (λ (view : List Cell). Runs (goes results) left (counted asked results upcall) view (renewed_copy alone.program deaths news copy)) (same_grown upcall.func _ _ news seen renewed)
-      ∙ ap (λ (m : Memory). Runs (goes results) left (counted asked results upcall) (grown d upcall.func (renewed_copy d.program deaths news copy) news seen) m) renewed)
-  same_opened fuel copy (AwaitsAnswer upcall asked seen left goes) _ = refl
+      let lives : List ℕ = entered_behind asked.service deaths news entered in
+      same_when _ _ _ _ (same_answer copy entered asked results deaths news)
+      (ap (λ (view : List Cell). Runs (goes results) left stub lives view (renewed_copy alone.program deaths news copy)) (same_grown stub _ _ news seen renewed)
+      ∙ ap (λ (m : Memory). Runs (goes results) left stub lives (grown d stub (renewed_copy d.program deaths news copy) news seen) m) renewed)
+  same_opened fuel copy entered (AwaitsAnswer stub asked seen left goes) _ = refl
 
   -- ---- messages in turn
 
   same_deliver : (fuel : ℕ) (u : User) (x : Reading) → deliver alone fuel u x ≡ deliver d fuel u x
   unfolding deliver
-  same_deliver fuel u (Ok m) = ap (done u) (same_opened fuel u.agreed u.work m)
+  same_deliver fuel u (Ok m) = ap (done u) (same_opened fuel u.agreed u.entered u.work m)
   same_deliver fuel u (Err f) = refl
 
   same_after : (fuel : ℕ) (u : User) (xs : List Reading) → user_after alone fuel u xs ≡ user_after d fuel u xs
