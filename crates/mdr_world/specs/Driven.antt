@@ -1,5 +1,5 @@
 -- A driver that runs: what its code does to it.
-use Rattle.std.specs.Prelude.{◌≡◌, ℕ, suc, Bool, true, false, ◌||◌, List, [], ◌∷◌, Option, Some, None, Result, Ok, Err}
+use Rattle.std.specs.Prelude.{◌≡◌, ℕ, suc, ◌+◌, Bool, true, false, ◌||◌, List, [], ◌∷◌, Option, Some, None, Result, Ok, Err}
 use Rattle.mdr_core.specs.declared.program.Program.{Program}
 use Rattle.mdr_core.specs.declared.stop.StopKind.{StopKind}
 use Rattle.mdr_meaning.specs.Tree.{Tree}
@@ -45,6 +45,12 @@ driven_by allowed = record {
 -- each cell
 abbrev pub driven_accesses : Accesses Driven
 driven_accesses = driven_by all_cells
+
+-- ---- calls
+
+-- one more command called a function
+abbrev pub counted_call : World → World
+counted_call w = record w { kept = record w.kept { calls = w.kept.calls + 1 } }
 
 -- ---- time
 
