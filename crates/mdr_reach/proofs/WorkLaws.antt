@@ -1,5 +1,5 @@
 -- A list of marked cells, each of which is followed in its turn, ends with the visible ones.
-use Rattle.std.proofs.Common.{◌≡◌, ℕ, zero, suc, ◌+◌, ◌<◌, ◌≤◌, Bool, true, false, ◌⊎◌, inl, inr, List, [], ◌∷◌, ◌++◌, drop, take, length, Option, Some, None, Ok, Err, Result, refl, sym, ◌∙◌, ap, subst, arith}
+use Rattle.std.proofs.Common.{◌≡◌, ℕ, zero, suc, ◌+◌, ◌-◌, ◌<◌, ◌≤◌, Bool, true, false, ◌⊎◌, inl, inr, List, [], ◌∷◌, ◌++◌, drop, take, length, length-append, le_refl, Option, Some, None, Ok, Err, Result, refl, sym, ◌∙◌, ap, subst, arith}
 use Rattle.std.specs.Prelude.{◌&&◌, ◌||◌, ◌==◌, is_some, nat_lt, slice_get, filter, cond}
 use Rattle.std.proofs.lemmas.Bool.{both_ways, and_parts, and_from, or_cases, or_left, or_right, cases_lt, eqb-true, eq-eqb}
 use Rattle.std.specs.Option.{option_map}
@@ -10,6 +10,7 @@ use Rattle.mdr_cells.specs.declared.name.CellName.{CellName}
 use Rattle.mdr_cells.specs.Names.{cell_of, named}
 use Rattle.mdr_core.specs.declared.plan.Key.{Key}
 use Rattle.mdr_core.specs.declared.program.Program.{Program}
+use Rattle.mdr_core.specs.Layout.{chosen}
 use Rattle.mdr_extents.specs.CellOrder.{IsBefore, cells, cells_through}
 use Rattle.mdr_extents.specs.Extent.{has_failed}
 use Rattle.mdr_extents.specs.Reaching.{Roots, all_cells, at_cell, beginning, cells_of_block, counts, extent_at, first_failing, global_cells, graph, root_cells, unless_argument, visible as visible_now}
@@ -20,11 +21,11 @@ use Rattle.mdr_model.specs.Agreement.{IsBelow, SerialsRise}
 use Rattle.mdr_model.specs.Memory.{Memory, cell_at}
 use Rattle.mdr_model.specs.Sets.{cells_from}
 use Rattle.mdr_paths.specs.Paths.{AreNew, Graph, IsPartial, IsPathSet, Path, Rises, counted, fails, is_in, leads, unless, visible, visible_set}
-use Rattle.mdr_paths.proofs.NodeLists.{in_both, is_in-cases, is_in-filter, is_in-head, is_in-tail, none_in, same_nodes}
+use Rattle.mdr_paths.proofs.NodeLists.{falls, in_both, is_in-cases, is_in-filter, is_in-head, is_in-tail, none_in, same_nodes}
 use Rattle.mdr_paths.proofs.ReachLaws.{accepted_exactly, complete, path_counts, path_marked, refused_exactly, sound, visible_rises, work_ends, work_steps}
 use Rattle.mdr_reach.specs.Answers.{IsOlder, answered}
 use Rattle.mdr_reach.specs.declared.failing.Failing.{Failing}
-use Rattle.mdr_reach.specs.Marks.{AreMarked, IsFollowed, IsFound, IsLeast, IsLeastOf, IsReached, IsUpTo, counts_at, entered, led}
+use Rattle.mdr_reach.specs.Marks.{AreMarked, IsFollowed, IsFound, IsLeast, IsLeastOf, IsReached, IsUpTo, counts_at, entered, led, with_cell}
 use Rattle.mdr_reach.proofs.EnterLaws.{News, entered_in, marks_more, news_of, same_bool}
 
 -- ---- places in a list
@@ -206,6 +207,42 @@ pub fails_of : (program : Program) (touched : List Key) (m : Memory) (c : Cell) 
 unfolding fails graph
 fails_of program touched m c = refl
 
+-- ---- how many turns are left
+
+-- the marked cells, and those that count and aren't marked: no turn makes them more
+unfoldable pub turns : Graph cells → List Cell → ℕ
+turns g xs = length xs + length (filter (λ c. not (is_in cells xs c)) (counted g))
+
+module _ (g : Graph cells) (counts : Cell → Bool) (same : (c : Cell) → counts c ≡ is_in cells (counted g) c) where
+  one_turn : (xs : List Cell) (c : Cell) → turns g (with_cell counts xs c) ≤ turns g xs
+  unfolding turns
+  one_turn xs c = of (counts c) refl (is_in cells xs c) refl
+    where
+      still : (d : Cell) → is_in cells (counted g) d ≡ true → not (is_in cells (xs ++ c ∷ []) d) ≡ true → not (is_in cells xs d) ≡ true
+      still d inside h = case (is_in cells xs d) refl
+        where
+          case : (t : Bool) → is_in cells xs d ≡ t → not t ≡ true
+          case true e = absurd (both_ways (not (is_in cells (xs ++ c ∷ []) d)) (ap not (in_front xs c d e)) h)
+          case false e = refl
+
+      of : (t : Bool) → counts c ≡ t → (u : Bool) → is_in cells xs c ≡ u → turns g (chosen (t && not u) (xs ++ c ∷ []) xs) ≤ turns g xs
+      of true e false f =
+          let fewer = falls cells (λ d. not (is_in cells (xs ++ c ∷ []) d)) (λ d. not (is_in cells xs d)) (counted g) c still (sym (same c) ∙ e) (ap not (at_end xs c)) (ap not f) in
+          omega (arith, fewer, length-append xs (c ∷ []))
+      of true e true f = le_refl _
+      of false e u f = le_refl _
+
+  some_turns : (xs cs : List Cell) → turns g (entered counts xs cs) ≤ turns g xs
+  unfolding entered
+  some_turns xs [] = le_refl _
+  some_turns xs (c ∷ cs) = omega (arith, some_turns (with_cell counts xs c) cs, one_turn xs c)
+
+  pub turn_less : (xs ys edges : List Cell) (i : ℕ) → i < length xs → ys ≡ entered counts xs edges → turns g ys - (i + 1) < turns g xs - i
+  unfolding turns
+  turn_less xs ys edges i l e =
+      let few : turns g ys ≤ turns g xs = subst (λ zs. turns g zs ≤ turns g xs) (sym e) (some_turns xs edges) in
+      omega (arith, few, l)
+
 -- ---- the cells of a memory
 
 from_is : (serial i n : ℕ) (c : Cell) → is_in cells (cells_from serial i n) c ≡ true → (c.index < i + n)
@@ -365,8 +402,18 @@ not_false t true e h = refl
 not_false t false e h = absurd (both_ways true (sym e ∙ h) refl)
 
 -- a place in the names is one in the cells
-pub named_at : (names : List CellName) (i : ℕ) (o : Option CellName) → o ≡ slice_get names i → option_map cell_of o ≡ slice_get (named names) i
-named_at names i o e = ap (option_map cell_of) e ∙ sym (slice_get-map cell_of names i)
+pub named_at : (names : List CellName) (i : ℕ) (name : CellName) → slice_get names i ≡ Some name → Some (cell_of name) ≡ slice_get (named names) i
+named_at names i name e = sym (slice_get-map cell_of names i ∙ ap (option_map cell_of) e)
+
+pub named_past : (names : List CellName) (i : ℕ) → length names ≤ i → None ≡ slice_get (named names) i
+named_past [] zero l = refl
+named_past [] (suc i) l = refl
+named_past (name ∷ names) zero l = absurd (omega (arith, l))
+named_past (name ∷ names) (suc i) l = named_past names i (omega (arith, l))
+
+pub named_count : (names : List CellName) → length (named names) ≡ length names
+named_count [] = refl
+named_count (name ∷ names) = ap suc (named_count names)
 
 pub next_turn : (g : Graph cells) (roots xs : List Cell) (i : ℕ) (failing : Option CellName) → IsFollowed g roots xs (suc i) failing → IsFollowed g roots xs (i + 1) failing
 next_turn g roots xs i failing h = let same : suc i ≡ i + 1 = omega arith in subst (λ n. IsFollowed g roots xs n failing) same h

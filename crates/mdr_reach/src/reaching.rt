@@ -1,6 +1,6 @@
 // The visible cells.
 
-ghost use Rattle.std.specs.Prelude.{◌≡◌, Err, IfOk, List, MatchOption, None, Ok, slice_get};
+ghost use Rattle.std.specs.Prelude.{◌≡◌, ◌<◌, Err, IfOk, List, MatchOption, None, Ok, Some, length, slice_get};
 ghost use Rattle.mdr_cells.specs.Names.{named};
 ghost use Rattle.mdr_extents.specs.CellOrder.{cells};
 ghost use Rattle.mdr_extents.specs.Reaching.{Roots, visible as visible_now};
@@ -25,13 +25,11 @@ use mdr_mem::{Blocks, Cells};
 use std::alloc::Global;
 
 /// The marked cell with a number.
-fn name_at(marked: &IndexSet<CellName>, i: usize) -> Option<CellName>
-    ensures { result ≡ slice_get marked.now.keys i }
+fn name_at(marked: &IndexSet<CellName>, i: usize) -> CellName
+    requires { i < length marked.now.keys }
+    ensures { slice_get marked.now.keys i ≡ Some result }
 {
-    match marked.get_index(i) {
-        Some(name) => Some(*name),
-        None => None,
-    }
+    marked.as_slice()[i]
 }
 
 /// The marked cells, unless one fails.
@@ -48,7 +46,7 @@ fn unless_failing(
 }
 
 /// Marks all cells that the marked ones lead to, each cell that is marked being followed in its turn; or the first cell in
-/// their order whose pointer fails. There can't be more cells than numbers.
+/// their order whose pointer fails.
 fn reached(
     scene: Scene<'_>,
     marked: IndexSet<CellName>,
@@ -59,13 +57,13 @@ fn reached(
     let _in_order = scene.blocks.births();
     let mut marked = marked;
     let mut failing = None;
-    for i in 0..usize::MAX {
-        match name_at(&marked, i) {
-            Some(name) => failing = follow_on(scene, &mut marked, name, failing)?,
-            None => return Ok(unless_failing(marked, failing)),
-        }
+    let mut i = 0;
+    while i < marked.len() {
+        let name = name_at(&marked, i);
+        failing = follow_on(scene, &mut marked, name, failing)?;
+        i += 1;
     }
-    Err(OutOfMemory)
+    Ok(unless_failing(marked, failing))
 }
 
 /// The cells with which the set begins, or the number of the first pointer that is passed and fails.
