@@ -1,4 +1,4 @@
-use Rattle.std.proofs.Common.{◌∙◌, arith, sym, take}
+use Rattle.std.proofs.Common.{arith, take}
 use Rattle.mdr_cells.specs.Names.{cell_of, named}
 use Rattle.mdr_reach.specs.Marks.{counts_in, graph_in, led_in}
 use Rattle.mdr_reach.proofs.WorkLaws.{all_rising, counted_is, edges_are, followed_more, found_all, named_at, named_count, named_past, next_turn, turn_less}
