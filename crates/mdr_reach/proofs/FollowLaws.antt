@@ -226,30 +226,30 @@ module _ (program : Program) (touched : List Key) (m : Memory) where
   unfolding root_extent
   root_is values r e is = is
 
-  pub roots_more : (passed : List Wire) (r : Root) (rs : List Root) → has_failed (root_extent program touched m passed r) ≡ false → is_some (first_failing program touched m passed (r ∷ rs)) ≡ is_some (first_failing program touched m passed rs)
+  pub roots_more : (passed : List Wire) (r : Root) (rs : List Root) → has_failed (root_extent program touched m passed r) ≡ false → first_failing program touched m passed (r ∷ rs) ≡ option_map (λ k. suc k) (first_failing program touched m passed rs)
   unfolding first_failing
-  roots_more passed r rs e = of (root_extent program touched m passed r) e (first_failing program touched m passed rs)
+  roots_more passed r rs e = of (root_extent program touched m passed r) e
     where
-      later : (o : Option ℕ) → is_some (option_map (λ k. suc k) o) ≡ is_some o
-      later None = refl
-      later (Some k) = refl
+      of : (x : Extent) → has_failed x ≡ false → or_later x (first_failing program touched m passed rs) ≡ option_map (λ k. suc k) (first_failing program touched m passed rs)
+      of (Elements n) f = refl
+      of Fails f = absurd (both_ways true f refl)
 
-      of : (x : Extent) → has_failed x ≡ false → (o : Option ℕ) → is_some (or_later x o) ≡ is_some o
-      of (Elements n) f o = later o
-      of Fails f o = absurd (both_ways true f refl)
-
-  pub root_fails : (passed : List Wire) (r : Root) (rs : List Root) → has_failed (root_extent program touched m passed r) ≡ true → is_some (first_failing program touched m passed (r ∷ rs)) ≡ true
+  pub root_fails : (passed : List Wire) (r : Root) (rs : List Root) → has_failed (root_extent program touched m passed r) ≡ true → first_failing program touched m passed (r ∷ rs) ≡ Some 0
   unfolding first_failing
-  root_fails passed r rs e = of (root_extent program touched m passed r) e (first_failing program touched m passed rs)
+  root_fails passed r rs e = of (root_extent program touched m passed r) e
     where
-      of : (x : Extent) → has_failed x ≡ true → (o : Option ℕ) → is_some (or_later x o) ≡ true
-      of (Elements n) f o = absurd (both_ways false refl f)
-      of Fails f o = refl
+      of : (x : Extent) → has_failed x ≡ true → or_later x (first_failing program touched m passed rs) ≡ Some 0
+      of (Elements n) f = absurd (both_ways false refl f)
+      of Fails f = refl
 
   pub enters_both : (counts : Cell → Bool) (xs cs ds : List Cell) → entered counts (entered counts xs cs) ds ≡ entered counts xs (cs ++ ds)
   unfolding entered
   enters_both counts xs [] ds = refl
   enters_both counts xs (c ∷ cs) ds = enters_both counts (with_cell counts xs c) cs ds
+
+  -- the number of the first that fails, with so many before these
+  abbrev pub failing_from : (passed : List Wire) → List Root → ℕ → Option ℕ
+  failing_from passed rs i = option_map (λ k. i + k) (first_failing program touched m passed rs)
 
   -- ---- one root after the other
 
@@ -257,13 +257,28 @@ module _ (program : Program) (touched : List Key) (m : Memory) where
     rest_is : {B : Type 0} (F : List Root → B) (xs : List X) (i : ℕ) (x : X) → i < length xs → x ≡ get_or xs i x → F (map of (drop i xs)) ≡ F (of x ∷ map of (drop (i + 1) xs))
     rest_is F xs i x l e = at_drop_more (λ ys. F (map of ys)) xs i x l ∙ ap (λ y. F (of y ∷ map of (drop (i + 1) xs))) (sym e)
 
-    pub root_stops : (xs : List X) (i : ℕ) (x : X) (whole : Bool) → i < length xs → x ≡ get_or xs i x → has_failed (root_extent program touched m passed (of x)) ≡ true
-        → is_some (first_failing program touched m passed (map of (drop i xs))) ≡ whole → false ≡ not whole
-    root_stops xs i x whole l e f k = ap not (sym (sym k ∙ rest_is (λ rs. is_some (first_failing program touched m passed rs)) xs i x l e ∙ root_fails passed (of x) (map of (drop (i + 1) xs)) f))
+    pub roots_begin : (xs : List X) → failing_from passed (map of xs) 0 ≡ first_failing program touched m passed (map of xs)
+    roots_begin xs = same (first_failing program touched m passed (map of xs))
+      where
+        same : (o : Option ℕ) → option_map (λ k. 0 + k) o ≡ o
+        same None = refl
+        same (Some k) = ap (λ n. Some n) (omega arith)
 
-    pub root_goes : (xs : List X) (i : ℕ) (x : X) (whole : Bool) → i < length xs → x ≡ get_or xs i x → has_failed (root_extent program touched m passed (of x)) ≡ false
-        → is_some (first_failing program touched m passed (map of (drop i xs))) ≡ whole → is_some (first_failing program touched m passed (map of (drop (i + 1) xs))) ≡ whole
-    root_goes xs i x whole l e f k = sym (roots_more passed (of x) (map of (drop (i + 1) xs)) f) ∙ sym (rest_is (λ rs. is_some (first_failing program touched m passed rs)) xs i x l e) ∙ k
+    pub root_stops : (xs : List X) (i : ℕ) (x : X) (all : Option ℕ) → i < length xs → x ≡ get_or xs i x → has_failed (root_extent program touched m passed (of x)) ≡ true
+        → failing_from passed (map of (drop i xs)) i ≡ all → Some i ≡ all
+    root_stops xs i x all l e f k =
+        let here : i ≡ i + 0 = omega arith in
+        ap (λ n. Some n) here ∙ sym (ap (option_map (λ k. i + k)) (rest_is (first_failing program touched m passed) xs i x l e ∙ root_fails passed (of x) (map of (drop (i + 1) xs)) f)) ∙ k
+
+    pub root_goes : (xs : List X) (i : ℕ) (x : X) (all : Option ℕ) → i < length xs → x ≡ get_or xs i x → has_failed (root_extent program touched m passed (of x)) ≡ false
+        → failing_from passed (map of (drop i xs)) i ≡ all → failing_from passed (map of (drop (i + 1) xs)) (i + 1) ≡ all
+    root_goes xs i x all l e f k =
+        one_more (first_failing program touched m passed (map of (drop (i + 1) xs)))
+        ∙ sym (ap (option_map (λ k. i + k)) (rest_is (first_failing program touched m passed) xs i x l e ∙ roots_more passed (of x) (map of (drop (i + 1) xs)) f)) ∙ k
+      where
+        one_more : (o : Option ℕ) → option_map (λ k. i + 1 + k) o ≡ option_map (λ k. i + k) (option_map (λ k. suc k) o)
+        one_more None = refl
+        one_more (Some k) = ap (λ n. Some n) (omega arith)
 
     pub root_adds : (xs : List X) (i : ℕ) (x : X) (old new whole : List Cell) → i < length xs → x ≡ get_or xs i x
         → new ≡ entered counts old (cells_in program touched m (of x).value (root_extent program touched m passed (of x)))
@@ -274,9 +289,9 @@ module _ (program : Program) (touched : List Key) (m : Memory) where
         ∙ enters_both counts old (cells_in program touched m (of x).value (root_extent program touched m passed (of x))) (root_cells program touched m passed (map of (drop (i + 1) xs)))
         ∙ sym (rest_is (λ rs. entered counts old (root_cells program touched m passed rs)) xs i x l e) ∙ k
 
-    pub roots_whole : (xs : List X) (i : ℕ) (whole : Bool) → length xs ≤ i → is_some (first_failing program touched m passed (map of (drop i xs))) ≡ whole → true ≡ not whole
+    pub roots_whole : (xs : List X) (i : ℕ) (all : Option ℕ) → length xs ≤ i → failing_from passed (map of (drop i xs)) i ≡ all → None ≡ all
     unfolding first_failing
-    roots_whole xs i whole l k = ap not (sym (at_drop_all (λ ys. is_some (first_failing program touched m passed (map of ys))) xs i l) ∙ k)
+    roots_whole xs i all l k = sym (at_drop_all (λ ys. option_map (λ k. i + k) (first_failing program touched m passed (map of ys))) xs i l) ∙ k
 
     pub roots_added : (xs : List X) (i : ℕ) (old whole : List Cell) → length xs ≤ i → entered counts old (root_cells program touched m passed (map of (drop i xs))) ≡ whole → old ≡ whole
     unfolding root_cells entered

@@ -1,15 +1,18 @@
 -- Cells that are marked as visible, and what the code has at hand of memory.
-use Rattle.std.specs.Prelude.{◌≡◌, ℕ, ◌+◌, ◌*◌, ◌-◌, ◌==◌, nat_lt, Ok, Err, ℤ, pos, negsuc, Bool, true, false, not, ◌&&◌, List, [], ◌∷◌, ◌++◌, map, Option, Some, None, is_some, slice_get, drop, take}
+use Rattle.std.specs.Prelude.{◌≡◌, ℕ, ◌+◌, ◌*◌, ◌-◌, ◌==◌, nat_lt, Result, Ok, Err, MatchResult, ℤ, pos, negsuc, Bool, true, false, not, ◌&&◌, ◌⊎◌, List, [], ◌∷◌, ◌++◌, map, Option, Some, None, is_some, slice_get, drop, take}
+use Rattle.std.specs.HashSet.{HashSet}
 use Rattle.mdr_access.specs.KeyOrder.{keys}
+use Rattle.mdr_cells.specs.declared.name.CellName.{CellName}
+use Rattle.mdr_cells.specs.Names.{cell_of, named}
 use Rattle.mdr_core.specs.declared.plan.Key.{Key}
 use Rattle.mdr_core.specs.declared.program.Program.{Program}
 use Rattle.mdr_core.specs.declared.value.Block.{Block}
 use Rattle.mdr_core.specs.Layout.{Alone, chosen, field_start, key_by}
 use Rattle.mdr_extents.specs.Around.{global_of}
-use Rattle.mdr_extents.specs.CellOrder.{cells}
+use Rattle.mdr_extents.specs.CellOrder.{IsBefore, cells}
 use Rattle.mdr_extents.specs.Extent as extents
 use Rattle.mdr_extents.specs.Extent.{Elements, Fails, first_of, is_empty, up_to}
-use Rattle.mdr_extents.specs.Reaching.{cells_led, counts, extent_at, own_cells}
+use Rattle.mdr_extents.specs.Reaching.{Failing, Roots, beginning, cells_led, counts, extent_at, first_failing, graph, own_cells, root_cells, visible as visible_now}
 use Rattle.mdr_meaning.specs.declared.wire.WireView.{WireView}
 use Rattle.mdr_meaning.specs.Pointers.{size}
 use Rattle.mdr_meaning.specs.Values.{wire_of}
@@ -24,6 +27,7 @@ use Rattle.mdr_reach.specs.declared.lengths.Siblings.{Siblings}
 use Rattle.mdr_reach.specs.declared.lengths.Siblings.TheVariants as siblings
 use Rattle.mdr_reach.specs.declared.rows.Around.{Around}
 use Rattle.mdr_reach.specs.declared.rows.Around.TheVariants as around
+use Rattle.mdr_reach.specs.declared.scene.Scene.{Scene}
 use Rattle.mdr_reach.specs.Spots.{IsRowOf}
 
 -- ---- cells that count
@@ -46,10 +50,25 @@ pub record AreMarked (counts test : Cell → Bool) (marked : List Cell) : Type 0
   pub passed : (c : Cell) → is_in cells marked c ≡ true → test c ≡ true
   pub all : (c : Cell) → test c ≡ true → counts c ≡ true → is_in cells marked c ≡ true
 
--- of the marked cells, the first so many were followed, and none of these fails
-pub record IsFollowed (g : Graph cells) (roots marked : List Cell) (i : ℕ) : Type 0 where
+-- one cell is the other, or comes before it
+abbrev pub IsUpTo : Cell → Cell → Type 0
+IsUpTo c d = (c ≡ d) ⊎ IsBefore c d
+
+-- of these cells this one fails, and each other one that fails comes behind it in their order
+pub record IsLeast (g : Graph cells) (cs : List Cell) (c : Cell) : Type 0 where
+  pub one : is_in cells cs c ≡ true
+  pub failing : fails g c ≡ true
+  pub least : (d : Cell) → is_in cells cs d ≡ true → fails g d ≡ true → IsUpTo c d
+
+-- the first in their order of these cells that fails, or none where none does
+abbrev pub IsLeastOf : Graph cells → List Cell → Option CellName → Type 0
+IsLeastOf g cs None = (c : Cell) → is_in cells cs c ≡ true → fails g c ≡ false
+IsLeastOf g cs (Some name) = IsLeast g cs (cell_of name)
+
+-- of the marked cells, the first so many were followed, and of these this is the first that fails
+pub record IsFollowed (g : Graph cells) (roots marked : List Cell) (i : ℕ) (failing : Option CellName) : Type 0 where
   pub partial : IsPartial g roots marked (drop i marked)
-  pub whole : (c : Cell) → is_in cells (take i marked) c ≡ true → fails g c ≡ false
+  pub least : IsLeastOf g (take i marked) failing
 
 -- ---- a live block
 
@@ -97,10 +116,9 @@ pub record IsReached (g : Graph cells) (roots marked : List Cell) : Type 0 where
   pub same : (c : Cell) → is_in cells marked c ≡ is_in cells (visible g roots) c
   pub whole : visible_set g roots ≡ Ok (visible g roots)
 
--- a visible cell fails
-pub record IsRefused (g : Graph cells) (roots : List Cell) : Type 0 where
-  pub cell : Cell
-  pub is : visible_set g roots ≡ Err cell
+-- the marked cells are these, or the first visible cell that fails is this one
+abbrev pub IsFound : {S : Type 0} → Graph cells → List Cell → Result (HashSet CellName S) CellName → Type 0
+IsFound g roots r = MatchResult r (λ marked. IsReached g roots (named marked.keys)) (λ name. visible_set g roots ≡ Err (cell_of name))
 
 -- where a cell leads
 unfoldable pub led : Program → List Key → Memory → Cell → List Cell
@@ -110,3 +128,35 @@ led program touched m c = cells_led program touched m (cell_at m c) (extent_at p
 unfoldable pub cells_born : Program → List Key → (serial : ℕ) → Memory → List Cell
 cells_born program touched serial [] = []
 cells_born program touched serial (b ∷ m) = chosen (b.born.serial == serial) (own_cells program touched b) (cells_born program touched serial m)
+
+-- ---- the same in a scene
+
+abbrev pub graph_in : Scene → Graph cells
+graph_in scene = graph scene.program.now scene.touched.now scene.blocks.now.memory
+
+abbrev pub counts_in : Scene → Cell → Bool
+counts_in scene = counts_at scene.program.now scene.touched.now scene.blocks.now.memory
+
+abbrev pub entered_in : Scene → List Cell → List Cell → List Cell
+entered_in scene marked cs = entered (counts_in scene) marked cs
+
+abbrev pub led_in : Scene → Cell → List Cell
+led_in scene c = led scene.program.now scene.touched.now scene.blocks.now.memory c
+
+abbrev pub passed_in : Scene → Roots → List Cell
+passed_in scene roots = root_cells scene.program.now scene.touched.now scene.blocks.now.memory roots.passed roots.values
+
+abbrev pub failing_in : Scene → Roots → Option ℕ
+failing_in scene roots = first_failing scene.program.now scene.touched.now scene.blocks.now.memory roots.passed roots.values
+
+abbrev pub visible_in : Scene → (known : List Cell) → Roots → Result (List Cell) Failing
+visible_in scene known roots = visible_now scene.program.now scene.touched.now scene.blocks.now.memory known roots
+
+-- no pointer that is passed fails, and the marked cells are those with which the set begins
+pub record IsBegun (scene : Scene) (known : List Cell) (roots : Roots) (marked : List Cell) : Type 0 where
+  pub passes : failing_in scene roots ≡ None
+  pub followed : IsFollowed (graph_in scene) (beginning scene.program.now scene.touched.now scene.blocks.now.memory known roots) marked 0 None
+
+-- it begins so, or the first pointer that is passed and fails has this number
+abbrev pub Begins : {S : Type 0} → Scene → (known : List Cell) → Roots → Result (HashSet CellName S) ℕ → Type 0
+Begins scene known roots r = MatchResult r (λ marked. IsBegun scene known roots (named marked.keys)) (λ n. failing_in scene roots ≡ Some n)

@@ -1,14 +1,14 @@
 // Where marked cells lead.
 
-ghost use Rattle.std.specs.Prelude.{◌≡◌, ◌<◌, IfOk, OnOk, Some, is_some, length, map, not, slice_get, true};
+ghost use Rattle.std.specs.Prelude.{◌≡◌, ◌<◌, IfOk, None, OnOk, Some, length, map, not, slice_get};
 ghost use Rattle.mdr_cells.specs.Names.{cell_of, named};
 ghost use Rattle.mdr_core.specs.declared.plan.Key.TheVariants as key;
 ghost use Rattle.mdr_extents.specs.Around.{ann_of, global_ann, key_of, struct_start};
 ghost use Rattle.mdr_extents.specs.Extent.{cells_in, has_failed};
-ghost use Rattle.mdr_extents.specs.Reaching.{extent_at, extent_by, first_failing, root_cells, root_extent};
+ghost use Rattle.mdr_extents.specs.Reaching.{extent_at, extent_by, root_extent};
 ghost use Rattle.mdr_meaning.specs.Values.{wire_of};
-ghost use Rattle.mdr_reach.specs.Answers.{root_of};
-ghost use Rattle.mdr_reach.specs.Marks.{IsHeld, counts_at, entered, extent_of, led};
+ghost use Rattle.mdr_reach.specs.Answers.{root_of, roots_of};
+ghost use Rattle.mdr_reach.specs.Marks.{IsHeld, counts_at, entered, entered_in, extent_of, failing_in, led, passed_in};
 ghost use Rattle.mdr_reach.specs.Spots.{AreLayouts};
 
 use crate::extent::{Extent, value_extent};
@@ -145,22 +145,22 @@ fn root_at(roots: &[Root], i: usize) -> Root
     roots[i]
 }
 
-/// Marks the cells of all that is passed. Whether nothing fails.
+/// Marks the cells of all that is passed, up to the first that fails. Its number, if one does.
 pub(crate) fn enter_roots(
     scene: Scene<'_>,
     marked: &mut IndexSet<CellName>,
     passed: &[Value],
     roots: &[Root],
-) -> Result<bool, OutOfMemory>
+) -> Result<Option<usize>, OutOfMemory>
     requires layouts { AreLayouts scene.program.now scene.touched.now scene.layouts.now }
-    ensures whole { IfOk result (λ t. t ≡ not (is_some (first_failing scene.entry.program.now scene.entry.touched.now scene.entry.blocks.now.memory (map wire_of passed.now) (map root_of roots.now)))) }
-    ensures marked { IfOk result (λ t. t ≡ true → named marked.new.keys ≡ entered (counts_at scene.entry.program.now scene.entry.touched.now scene.entry.blocks.now.memory) (named marked.old.keys) (root_cells scene.entry.program.now scene.entry.touched.now scene.entry.blocks.now.memory (map wire_of passed.now) (map root_of roots.now))) }
+    ensures failing { IfOk result (λ o. o ≡ failing_in scene.entry (roots_of roots.now passed.now)) }
+    ensures marked { IfOk result (λ o. o ≡ None → named marked.new.keys ≡ entered_in scene.entry (named marked.old.keys) (passed_in scene.entry (roots_of roots.now passed.now))) }
 {
     for i in 0..roots.len() {
         let whole = enter_root(scene, marked, passed, root_at(roots, i))?;
         if !whole {
-            return Ok(false);
+            return Ok(Some(i));
         }
     }
-    Ok(true)
+    Ok(None)
 }

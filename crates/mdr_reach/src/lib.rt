@@ -4,10 +4,12 @@
 
 mod born;
 mod extent;
+mod failing;
 mod follow;
 mod held;
 mod keys;
 mod layouts;
+mod least;
 mod lengths;
 mod lists;
 mod marks;
@@ -19,5 +21,6 @@ mod scene;
 mod searches;
 
 pub use born::gained;
+pub use failing::Failing;
 pub use reaching::visible;
 pub use roots::Root;

@@ -1,18 +1,20 @@
 // The visible cells.
 
-ghost use Rattle.std.specs.Prelude.{◌≡◌, IfOk, IfSome, List, MatchOption, None, is_some, slice_get, true};
+ghost use Rattle.std.specs.Prelude.{◌≡◌, ◌<◌, Err, IfOk, List, MatchOption, None, Ok, Some, length, slice_get};
 ghost use Rattle.mdr_cells.specs.Names.{named};
 ghost use Rattle.mdr_extents.specs.CellOrder.{cells};
-ghost use Rattle.mdr_extents.specs.Reaching.{Roots, beginning, first_failing, graph, visible as visible_now};
+ghost use Rattle.mdr_extents.specs.Reaching.{Roots, visible as visible_now};
 ghost use Rattle.mdr_mem.specs.Contents.{births_in};
 ghost use Rattle.mdr_model.specs.declared.memory.Cell.{Cell};
 ghost use Rattle.mdr_paths.specs.Paths.{Rises, is_in};
-ghost use Rattle.mdr_reach.specs.Answers.{IsOlder, found, roots_of};
-ghost use Rattle.mdr_reach.specs.Marks.{IsFollowed, IsReached, IsRefused};
+ghost use Rattle.mdr_reach.specs.Answers.{IsOlder, answered, roots_of};
+ghost use Rattle.mdr_reach.specs.Marks.{Begins, IsBegun, IsFollowed, IsFound, graph_in, visible_in};
 ghost use Rattle.mdr_reach.specs.Spots.{AreLayouts};
 
-use crate::follow::{enter_roots, follow};
+use crate::failing::Failing;
+use crate::follow::enter_roots;
 use crate::layouts::layouts_of;
+use crate::least::follow_on;
 use crate::marks::{enter_names, marked_globals};
 use crate::roots::Root;
 use crate::scene::Scene;
@@ -23,56 +25,65 @@ use mdr_mem::{Blocks, Cells};
 use std::alloc::Global;
 
 /// The marked cell with a number.
-fn name_at(marked: &IndexSet<CellName>, i: usize) -> Option<CellName>
-    ensures { result ≡ slice_get marked.now.keys i }
+fn name_at(marked: &IndexSet<CellName>, i: usize) -> CellName
+    requires { i < length marked.now.keys }
+    ensures { slice_get marked.now.keys i ≡ Some result }
 {
-    match marked.get_index(i) {
-        Some(name) => Some(*name),
-        None => None,
+    marked.as_slice()[i]
+}
+
+/// The marked cells, unless one fails.
+fn unless_failing(
+    marked: IndexSet<CellName>,
+    failing: Option<CellName>,
+) -> Result<IndexSet<CellName>, CellName>
+    ensures { MatchOption failing (result ≡ Ok marked) (λ name. result ≡ Err name) }
+{
+    match failing {
+        Some(name) => Err(name),
+        None => Ok(marked),
     }
 }
 
-/// Marks all cells that the marked ones lead to, each cell that is marked being followed in its turn; none where a pointer
-/// fails. There can't be more cells than numbers.
+/// Marks all cells that the marked ones lead to, each cell that is marked being followed in its turn; or the first cell in
+/// their order whose pointer fails.
 fn reached(
     scene: Scene<'_>,
     marked: IndexSet<CellName>,
-) -> Result<Option<IndexSet<CellName>>, OutOfMemory>
+) -> Result<Result<IndexSet<CellName>, CellName>, OutOfMemory>
     requires { AreLayouts scene.program.now scene.touched.now scene.layouts.now }
-    ensures { (roots : List Cell) → IsFollowed (graph scene.entry.program.now scene.entry.touched.now scene.entry.blocks.now.memory) roots (named marked.keys) 0 → IfOk result (λ o. MatchOption o (IsRefused (graph scene.entry.program.now scene.entry.touched.now scene.entry.blocks.now.memory) roots) (λ all. IsReached (graph scene.entry.program.now scene.entry.touched.now scene.entry.blocks.now.memory) roots (named all.keys))) }
+    ensures { (roots : List Cell) → IsFollowed (graph_in scene.entry) roots (named marked.keys) 0 None → IfOk result (IsFound (graph_in scene.entry) roots) }
 {
     let _in_order = scene.blocks.births();
     let mut marked = marked;
-    for i in 0..usize::MAX {
-        match name_at(&marked, i) {
-            Some(name) => {
-                let whole = follow(scene, &mut marked, name)?;
-                if !whole {
-                    return Ok(None);
-                }
-            }
-            None => return Ok(Some(marked)),
-        }
+    let mut failing = None;
+    let mut i = 0;
+    while i < marked.len() {
+        let name = name_at(&marked, i);
+        failing = follow_on(scene, &mut marked, name, failing)?;
+        i += 1;
     }
-    Err(OutOfMemory)
+    Ok(unless_failing(marked, failing))
 }
 
-/// The cells with which the set begins; none where a pointer that is passed fails.
+/// The cells with which the set begins, or the number of the first pointer that is passed and fails.
 fn begun(
     alloc: Global,
     scene: Scene<'_>,
     known: &CellSet,
     roots: &[Root],
     passed: &[Value],
-) -> Result<Option<IndexSet<CellName>>, OutOfMemory>
+) -> Result<Result<IndexSet<CellName>, usize>, OutOfMemory>
     requires { AreLayouts scene.program.now scene.touched.now scene.layouts.now }
-    ensures { IfOk result (λ o. MatchOption o (is_some (first_failing scene.entry.program.now scene.entry.touched.now scene.entry.blocks.now.memory (roots_of roots.now passed.now).passed (roots_of roots.now passed.now).values) ≡ true) (λ marked. (first_failing scene.entry.program.now scene.entry.touched.now scene.entry.blocks.now.memory (roots_of roots.now passed.now).passed (roots_of roots.now passed.now).values ≡ None) × IsFollowed (graph scene.entry.program.now scene.entry.touched.now scene.entry.blocks.now.memory) (beginning scene.entry.program.now scene.entry.touched.now scene.entry.blocks.now.memory known.now (roots_of roots.now passed.now)) (named marked.keys) 0)) }
+    ensures { IfOk result (Begins scene.entry known.now (roots_of roots.now passed.now)) }
 {
     let _in_order = scene.blocks.births();
     let mut marked = marked_globals(alloc, scene)?;
     enter_names(scene, &mut marked, known.names())?;
-    let whole = enter_roots(scene, &mut marked, passed, roots)?;
-    if whole { Ok(Some(marked)) } else { Ok(None) }
+    match enter_roots(scene, &mut marked, passed, roots)? {
+        Some(number) => Ok(Err(number)),
+        None => Ok(Ok(marked)),
+    }
 }
 
 /// The marked cells as a set.
@@ -84,47 +95,48 @@ fn set_of(alloc: Global, marked: &IndexSet<CellName>) -> Result<CellSet, OutOfMe
     Ok(CellSet::of(names))
 }
 
-/// The set that begins with these cells; none where a pointer fails.
+/// The set that begins with these cells, or the pointer that fails.
 fn set_from(
     alloc: Global,
     scene: Scene<'_>,
     marked: IndexSet<CellName>,
-) -> Result<Option<CellSet>, OutOfMemory>
+) -> Result<Result<CellSet, Failing>, OutOfMemory>
     requires { AreLayouts scene.program.now scene.touched.now scene.layouts.now }
-    ensures { (known : List Cell) (roots : Roots) → first_failing scene.entry.program.now scene.entry.touched.now scene.entry.blocks.now.memory roots.passed roots.values ≡ None → IsFollowed (graph scene.entry.program.now scene.entry.touched.now scene.entry.blocks.now.memory) (beginning scene.entry.program.now scene.entry.touched.now scene.entry.blocks.now.memory known roots) (named marked.keys) 0 → IfOk result (λ set. set ≡ found (visible_now scene.entry.program.now scene.entry.touched.now scene.entry.blocks.now.memory known roots)) }
+    ensures { (known : List Cell) (roots : Roots) → IsBegun scene.entry known roots (named marked.keys) → IfOk result (λ r. answered r ≡ visible_in scene.entry known roots) }
 {
     let _in_order = scene.blocks.births();
     match reached(scene, marked)? {
-        Some(all) => {
+        Ok(all) => {
             let set = set_of(alloc, &all)?;
-            Ok(Some(set))
+            Ok(Ok(set))
         }
-        None => Ok(None),
+        Err(name) => Ok(Err(Failing::At(name))),
     }
 }
 
-fn visible_in(
+fn set_or_failing(
     alloc: Global,
     scene: Scene<'_>,
     known: &CellSet,
     roots: &[Root],
     passed: &[Value],
-) -> Result<Option<CellSet>, OutOfMemory>
+) -> Result<Result<CellSet, Failing>, OutOfMemory>
     requires { AreLayouts scene.program.now scene.touched.now scene.layouts.now }
-    ensures { IfOk result (λ set. set ≡ found (visible_now scene.entry.program.now scene.entry.touched.now scene.entry.blocks.now.memory known.now (roots_of roots.now passed.now))) }
+    ensures { IfOk result (λ r. answered r ≡ visible_in scene.entry known.now (roots_of roots.now passed.now)) }
 {
     let _in_order = scene.blocks.births();
     match begun(alloc, scene, known, roots, passed)? {
-        Some(marked) => {
-            let set = set_from(alloc, scene, marked)?;
-            Ok(set)
+        Ok(marked) => {
+            let answer = set_from(alloc, scene, marked)?;
+            Ok(answer)
         }
-        None => Ok(None),
+        Err(number) => Ok(Err(Failing::Argument(number))),
     }
 }
 
 /// The cells that a function may touch which is called with these roots, or which is given them, where `passed` are the
-/// values of its parameters and `known` is the set that it has so far. There is none where a pointer fails.
+/// values of its parameters and `known` is the set that it has so far; or the pointer that fails: the first root, else the
+/// one in the first cell in their order.
 pub fn visible(
     alloc: Global,
     program: &Program,
@@ -133,9 +145,9 @@ pub fn visible(
     known: &CellSet,
     roots: &[Root],
     passed: &[Value],
-) -> Result<Option<CellSet>, OutOfMemory>
-    ensures exact { IfOk result (λ set. set ≡ found (visible_now program.now touched.now blocks.now.memory known.now (roots_of roots.now passed.now))) }
-    ensures older { IfOk result (λ set. IfSome set (IsOlder (births_in blocks.now.lives))) }
+) -> Result<Result<CellSet, Failing>, OutOfMemory>
+    ensures exact { IfOk result (λ r. answered r ≡ visible_now program.now touched.now blocks.now.memory known.now (roots_of roots.now passed.now)) }
+    ensures older { IfOk result (λ r. IfOk r (IsOlder (births_in blocks.now.lives))) }
 {
     let _in_order = blocks.births();
     let layouts = layouts_of(alloc, program, touched)?;
@@ -145,6 +157,6 @@ pub fn visible(
         layouts: &layouts,
         blocks,
     };
-    let set = visible_in(alloc, scene, known, roots, passed)?;
-    Ok(set)
+    let answer = set_or_failing(alloc, scene, known, roots, passed)?;
+    Ok(answer)
 }

@@ -1,26 +1,25 @@
 -- An upcall begins, and a command.
-use Rattle.std.proofs.Common.{◌≡◌, ℕ, true, List, [], Option, Some, None, Result, Ok, Err, refl, sym, ◌∙◌, ap, subst}
+use Rattle.std.proofs.Common.{◌≡◌, ℕ, true, List, [], Result, Ok, refl, sym, ◌∙◌, ap, subst}
 use Rattle.std.specs.Prelude.{drop, map}
 use Rattle.mdr_core.specs.declared.plan.Key.{Key}
 use Rattle.mdr_core.specs.declared.program.Program.{Program}
-use Rattle.mdr_core.specs.declared.stop.StopKind.TheVariants as stop
 use Rattle.mdr_core.specs.declared.value.Value.{Value}
-use Rattle.mdr_extents.specs.Reaching.{Failing, Roots, visible}
+use Rattle.mdr_extents.specs.Reaching.{Roots, visible}
 use Rattle.mdr_meaning.specs.declared.wire.Wire.{Wire}
 use Rattle.mdr_meaning.specs.Values.{wire_of}
 use Rattle.mdr_model.specs.declared.command.Command.{Command}
 use Rattle.mdr_model.specs.declared.command.Command.TheVariants as command
 use Rattle.mdr_model.specs.declared.memory.Cell.{Cell}
-use Rattle.mdr_model.specs.declared.outcome.End.TheVariants as ends
 use Rattle.mdr_model.specs.Memory.{Memory}
 use Rattle.mdr_plain.specs.Plain.{does as plainly_does}
 use Rattle.mdr_plain.specs.Scripts.{begin, begun}
 use Rattle.mdr_plain.specs.Running.{KernelCode}
 use Rattle.mdr_plain.specs.World.{World, done}
 use Rattle.mdr_reach.specs.declared.roots.Root.{Root}
-use Rattle.mdr_reach.specs.Answers.{found, roots_of}
+use Rattle.mdr_reach.specs.declared.failing.Failing.{Failing}
+use Rattle.mdr_reach.specs.Answers.{answered, roots_of}
 use Rattle.mdr_split.specs.Kernel.{called, calls, split_by, then_split}
-use Rattle.mdr_split.specs.State.{Kernel, Pending, Over}
+use Rattle.mdr_split.specs.State.{Kernel, Pending}
 use Rattle.mdr_turns.specs.declared.state.Commanded.{Commanded}
 use Rattle.mdr_turns.specs.declared.state.Ledger.{Ledger}
 use Rattle.mdr_turns.specs.declared.state.Pending.{Pending as CodePending}
@@ -39,30 +38,16 @@ use Rattle.mdr_world.specs.Driven.{Driven, driver}
 
 -- ---- a set that was taken
 
-found_some : (r : Result (List Cell) Failing) (set : List Cell) → Some set ≡ found r → r ≡ Ok set
-found_some (Ok x) set e = let same : set ≡ x = cc in ap Ok (sym same)
-found_some (Err failing) set e = absurd (cc e)
-
-found_none : (r : Result (List Cell) Failing) → None ≡ found r → (failing : Failing) × (r ≡ Err failing)
-found_none (Ok x) e = absurd (cc e)
-found_none (Err failing) e = (failing, refl)
-
 -- what is taken is of what lives
-pub live_now : (program : Program) (keys : List Key) (m : Memory) (known set : List Cell) (r : Roots) (x : Option (List Cell)) (w : World) → IsOrdered w → m ≡ w.memory → x ≡ found (visible program keys m known r) → x ≡ Some set → AreLive w.memory set
+pub live_now : (program : Program) (keys : List Key) (m : Memory) (known set : List Cell) (r : Roots) (x : Result (List Cell) Failing) (w : World) → IsOrdered w → m ≡ w.memory → answered x ≡ visible program keys m known r → x ≡ Ok set → AreLive w.memory set
 live_now program keys m known set r x w o e is same =
-    sets_are_viewed.taken program keys known r set w o (found_some _ set (sym same ∙ is ∙ ap (λ z. found (visible program keys z known r)) e))
+    sets_are_viewed.taken program keys known r set w o (sym (sym (ap answered same) ∙ is ∙ ap (λ z. visible program keys z known r) e))
 
 module _ (d : Driver) (f : ℕ) (args : List Wire) (w : World) (k : Kernel) (script : List Command) where
   -- an upcall has its set
-  pub calls_on : (set : List Cell) → Some set ≡ found (visible d.program (touched_by d.plan f) w.memory [] (entry_roots d.program f args)) → calls d f args w k script ≡ called d f args (done (opened set w)) k script
+  pub calls_on : (set : List Cell) → Ok set ≡ visible d.program (touched_by d.plan f) w.memory [] (entry_roots d.program f args) → calls d f args w k script ≡ called d f args (done (opened set w)) k script
   unfolding calls
-  calls_on set e = ap (λ r. called d f args (taken r (record { func = f; stmt = 0 }) w (λ set. done (opened set w))) k script) (found_some _ set e)
-
-  -- or a pointer fails
-  pub calls_out : None ≡ found (visible d.program (touched_by d.plan f) w.memory [] (entry_roots d.program f args))
-      → calls d f args w k script ≡ Over (ends.Stop stop.Annotation (Some (record { func = f; stmt = 0 }))) (record k { world = w })
-  unfolding calls
-  calls_out e = ap (λ r. called d f args (taken r (record { func = f; stmt = 0 }) w (λ set. done (opened set w))) k script) (found_none _ e).1
+  calls_on set e = ap (λ r. called d f args (taken r (record { func = f; stmt = 0 }) w (λ set. done (opened set w))) k script) (sym e)
 
 -- ---- a command
 
@@ -80,10 +65,10 @@ module _ (d : Driver) (w : World) (k : Kernel) (script : List Command) (go : Ker
   kernel_begins (command.Show g) e = refl
 
 -- a search for the same set
-pub taken_same : (program : Program) (keys keys' : List Key) (m m' : Memory) (known : List Cell) (rs rs' : List Root) (passed : List Value) (r : Roots) (x : Option (List Cell)) (set : List Cell)
-    → x ≡ found (visible program keys m known (roots_of rs' passed)) → keys ≡ keys' → m ≡ m' → known ≡ [] → rs' ≡ rs → roots_of rs passed ≡ r → x ≡ Some set → Some set ≡ found (visible program keys' m' [] r)
-taken_same program keys keys' m m' known rs rs' passed r x set is k e none same roots some =
-    sym some ∙ is ∙ (λ i. found (visible program (k i) (e i) (none i) ((ap (λ y. roots_of y passed) same ∙ roots) i)))
+pub taken_same : (program : Program) (keys keys' : List Key) (m m' : Memory) (known : List Cell) (rs rs' : List Root) (passed : List Value) (r : Roots) (x : Result (List Cell) Failing) (set : List Cell)
+    → answered x ≡ visible program keys m known (roots_of rs' passed) → keys ≡ keys' → m ≡ m' → known ≡ [] → rs' ≡ rs → roots_of rs passed ≡ r → x ≡ Ok set → Ok set ≡ visible program keys' m' [] r
+taken_same program keys keys' m m' known rs rs' passed r x set is k e none same roots taken =
+    sym (ap answered taken) ∙ is ∙ (λ i. visible program (k i) (e i) (none i) ((ap (λ y. roots_of y passed) same ∙ roots) i))
 
 -- a command of the user half was done
 pub user_commanded : (d : Driver) (f : ℕ) (args : List Value) (begun_at : ℕ) (l : Ledger) (w w1 : Driven) (script : List Command) (go : Kernel → Pending) (p : CodePending) → is_user d.plan f ≡ true → w.program ≡ d.program → w1 ≡ driver w.program (begun w.program f args w.world)

@@ -80,8 +80,8 @@ pub(crate) fn calls<'a>(
         args,
     )?;
     match taken {
-        Some(set) => call_opened(alloc, watch, func, args, set, world, ledger, begun),
-        None => Ok(Pending::Over(
+        Ok(set) => call_opened(alloc, watch, func, args, set, world, ledger, begun),
+        Err(_) => Ok(Pending::Over(
             End::Stop(StopKind::Annotation, Some(At { func, stmt: 0 })),
             world,
         )),

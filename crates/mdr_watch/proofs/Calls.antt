@@ -1,17 +1,16 @@
 -- What user code asks for and calls, with its set beside the world.
-use Rattle.std.proofs.Common.{◌≡◌, ℕ, ◌<◌, ◌≤◌, true, List, ◌++◌, length, Option, Some, None, Result, Ok, Err, refl, sym, ◌∙◌, ap, subst, arith, le_refl}
+use Rattle.std.proofs.Common.{◌≡◌, ℕ, ◌<◌, ◌≤◌, true, List, ◌++◌, length, Option, Some, Result, Ok, refl, sym, ◌∙◌, ap, subst, arith, le_refl}
 use Rattle.std.specs.Prelude.{map}
 use Rattle.mdr_core.specs.declared.place.At.{At}
 use Rattle.mdr_core.specs.declared.plan.Key.{Key}
 use Rattle.mdr_core.specs.declared.program.Program.{Program}
 use Rattle.mdr_core.specs.declared.stop.StopKind.{StopKind}
-use Rattle.mdr_core.specs.declared.stop.StopKind.TheVariants as stop
 use Rattle.mdr_core.specs.declared.value.Value.{Value}
 use Rattle.mdr_exec.specs.declared.event.Asked.{Asked as Question}
 use Rattle.mdr_exec.specs.declared.event.Crossing.{Crossing as Call}
 use Rattle.mdr_exec.specs.Events.{asked_as}
 use Rattle.mdr_extents.specs.CellOrder.{cells}
-use Rattle.mdr_extents.specs.Reaching.{Failing, Roots, visible}
+use Rattle.mdr_extents.specs.Reaching.{Roots, visible}
 use Rattle.mdr_mem.specs.Contents.{births_in}
 use Rattle.mdr_meaning.specs.declared.wire.Wire.{Wire}
 use Rattle.mdr_meaning.specs.Tree.{Asked}
@@ -23,7 +22,8 @@ use Rattle.mdr_plain.specs.Running.{KernelCode, call, nothing}
 use Rattle.mdr_plain.specs.Services.{served}
 use Rattle.mdr_plain.specs.Storage.{born, died, new_of, next_serial}
 use Rattle.mdr_plain.specs.World.{World, Ran, Ended, Stopped, left}
-use Rattle.mdr_reach.specs.Answers.{found}
+use Rattle.mdr_reach.specs.declared.failing.Failing.{Failing}
+use Rattle.mdr_reach.specs.Answers.{answered}
 use Rattle.mdr_services.specs.declared.answer.Served.{Served}
 use Rattle.mdr_services.specs.declared.answer.Served.TheVariants as served_is
 use Rattle.mdr_services.specs.Serving.{served_as}
@@ -33,7 +33,7 @@ use Rattle.mdr_viewed.specs.Viewed.{IsOlder, IsOrdered, after_beside, viewed}
 use Rattle.mdr_viewed.proofs.KernelCode.{kernel_code_is_viewed}
 use Rattle.mdr_viewed.proofs.Steps.{served_beside}
 use Rattle.mdr_viewed.proofs.Upcalls.{upcalls_are_viewed}
-use Rattle.mdr_watched.specs.Driver.{Driver, result_roots, touched_by}
+use Rattle.mdr_watched.specs.Driver.{Driver, touched_by}
 use Rattle.mdr_viewed.proofs.Sets.{sets_are_viewed}
 use Rattle.mdr_watched.specs.Order.{AreLive}
 use Rattle.mdr_watched.specs.Views.{new_cells, taken}
@@ -115,29 +115,6 @@ module _ (d : Driver) (t : ℕ) (set : List Cell) (w : World) (g : IsGuarded set
       let b = kernel_code_is_viewed.called d f (sent d (held d) t args w) depth set w g.upcall g.older in
       subst (λ x. IsGuarded set x) (sym (ap left is) ∙ end) (record { upcall = b.upcall; older = b.older })
 
--- ---- sets that are taken
-
-pub found_some : (r : Result (List Cell) Failing) (set : List Cell) → Some set ≡ found r → r ≡ Ok set
-found_some (Ok x) set e = let same : set ≡ x = cc in ap Ok (sym same)
-found_some (Err failing) set e = absurd (cc e)
-
-pub found_none : (r : Result (List Cell) Failing) → None ≡ found r → (failing : Failing) × (r ≡ Err failing)
-found_none (Ok x) e = absurd (cc e)
-found_none (Err failing) e = (failing, refl)
-
-module _ (d : Driver) (t : ℕ) (set : List Cell) (at : At) (f : ℕ) (args : List Wire) (v : Wire) (w : World) where
-  pub back_on : (new : List Cell) → Some new ≡ found (visible d.program (touched_by d.plan t) w.memory set (result_roots d.program f args v)) → Ended v (viewed new w) ≡ returns d t set at f args v w
-  back_on new e = sym (ap (λ r. taken r at (viewed set w) (λ x. Ended v (viewed x w))) (found_some _ new e))
-
-  pub back_out : None ≡ found (visible d.program (touched_by d.plan t) w.memory set (result_roots d.program f args v)) → ◌≡◌ {A = Ran Wire} (Stopped stop.Annotation (Some at) (viewed set w)) (returns d t set at f args v w)
-  back_out e = sym (ap (λ r. taken r at (viewed set w) (λ x. Ended v (viewed x w))) (found_none _ e).1)
-
--- the set or none, where the search was for the same
-pub taken_is : (program : Program) (keys keys' : List Key) (m m' : Memory) (set : List Cell) (r r' : Roots) (x y : Option (List Cell)) → keys ≡ keys' → m ≡ m' → r ≡ r' → x ≡ found (visible program keys m set r) → x ≡ y
-    → y ≡ found (visible program keys' m' set r')
-taken_is program keys keys' m m' set r r' x y k e s is same =
-    sym same ∙ is ∙ ap (λ z. found (visible program z m set r)) k ∙ ap (λ z. found (visible program keys' z set r)) e ∙ ap (λ z. found (visible program keys' m' set z)) s
-
 pub served_left : (s : Served) (at : At) (w : World) → left (served_as s at w) ≡ w
 served_left (served_is.Done vs) at w = refl
 served_left (served_is.Stop kind) at w = refl
@@ -215,5 +192,5 @@ module _ (u : Upcall) (w : Driven) (set : List Cell) (gd : Driven) (is : driver 
         ∙ ap (downcall (driver_in u.watch) (held (driver_in u.watch)) u.func c.at c.func (wires_of c.args) c.depth) world_is
 
 -- the cells of a set that was taken are of blocks that live
-pub live_now : (program : Program) (keys : List Key) (m : Memory) (known set : List Cell) (r : Roots) (x : Option (List Cell)) (w : World) → IsOrdered w → m ≡ w.memory → x ≡ found (visible program keys m known r) → x ≡ Some set → AreLive w.memory set
-live_now program keys m known set r x w o e is same = sets_are_viewed.taken program keys known r set w o (found_some _ set (taken_is program keys keys m w.memory known r r x (Some set) refl e refl is same))
+pub live_now : (program : Program) (keys : List Key) (m : Memory) (known set : List Cell) (r : Roots) (x : Result (List Cell) Failing) (w : World) → IsOrdered w → m ≡ w.memory → answered x ≡ visible program keys m known r → x ≡ Ok set → AreLive w.memory set
+live_now program keys m known set r x w o e is same = sets_are_viewed.taken program keys known r set w o (sym (sym (ap answered same) ∙ is ∙ ap (λ z. visible program keys z known r) e))

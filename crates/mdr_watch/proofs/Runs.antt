@@ -1,14 +1,12 @@
 -- Upcalls and the commands of a script.
-use Rattle.std.proofs.Common.{◌≡◌, ℕ, true, List, [], ◌∷◌, ◌≤◌, length, drop, Option, Some, None, refl, sym, ◌∙◌, ap, subst}
+use Rattle.std.proofs.Common.{◌≡◌, ℕ, true, List, [], ◌∷◌, ◌≤◌, length, drop, Option, refl, sym, ◌∙◌, ap, subst}
 use Rattle.std.specs.Prelude.{map}
 use Rattle.std.proofs.lemmas.List.{at_drop_all}
 use Rattle.mdr_core.specs.declared.place.At.{At}
 use Rattle.mdr_core.specs.declared.plan.Plan.{Plan}
 use Rattle.mdr_core.specs.declared.program.Program.{Program}
 use Rattle.mdr_core.specs.declared.stop.StopKind.{StopKind}
-use Rattle.mdr_core.specs.declared.stop.StopKind.TheVariants as stop
 use Rattle.mdr_core.specs.declared.value.Value.{Value}
-use Rattle.mdr_extents.specs.Reaching.{visible}
 use Rattle.mdr_exec.specs.declared.frame.Machine.{Machine}
 use Rattle.mdr_meaning.specs.declared.wire.Wire.{Wire}
 use Rattle.mdr_meaning.specs.Values.{wire_of}
@@ -25,10 +23,9 @@ use Rattle.mdr_script.specs.declared.bound.Bound.{Bound}
 use Rattle.mdr_meaning.specs.Bodies.{kernel_side, known_of}
 use Rattle.mdr_plain.specs.World.{World, Ran, Ended, Stopped, Work}
 use Rattle.mdr_runs.proofs.Standing.{call_is_started}
-use Rattle.mdr_reach.specs.Answers.{found}
 use Rattle.mdr_viewed.proofs.Ticks.{user_code_keeps_ticks}
-use Rattle.mdr_watched.specs.Driver.{Driver, driver_of, entry_roots, is_user, touched_by}
-use Rattle.mdr_watched.specs.Views.{closed, opened, taken}
+use Rattle.mdr_watched.specs.Driver.{Driver, driver_of, is_user}
+use Rattle.mdr_watched.specs.Views.{closed, opened}
 use Rattle.mdr_watched.specs.Watched.{closing, does, entered, held, kernel_of, upcall, watched, watched_of}
 use Rattle.mdr_world.specs.Driven.{Driven, driver}
 use Rattle.mdr_whole.specs.declared.ending.Gave.{Gave}
@@ -40,7 +37,6 @@ use Rattle.mdr_watch.specs.declared.watch.Upcall.{Upcall}
 use Rattle.mdr_watch.specs.Going.{IsStarted, held_in, user_does}
 use Rattle.mdr_watch.specs.Leaving.{EndsFor, GaveFor, WorkedFor, with_views}
 use Rattle.mdr_watch.specs.Watching.{IsKernel, around_user, driver_in, user_side}
-use Rattle.mdr_watch.proofs.Calls.{found_none, found_some}
 use Rattle.mdr_watch.proofs.Turns.{nothing_gives}
 
 -- ---- an upcall
@@ -61,15 +57,6 @@ pub ran_closed : (u : Upcall) (args : List Wire) (set : List Cell) (m : Machine)
 ran_closed u args set m g program w gd gd1 w1 s is ran gone =
     subst (λ (d : Driven). GaveFor g d.world (entered (driver_in u.watch) (held (driver_in u.watch)) u.func args set w)) (sym gone)
     (ran_entered u args set m g w gd1.world s (ran ∙ ap (λ (d : Driven). user_does u d.world.clock.rest m d.world) is))
-
-module _ (d : Driver) (f : ℕ) (args : List Wire) (w : World) where
-  pub up_on : (set : List Cell) (g : Gave) (w1 : World) → Some set ≡ found (visible d.program (touched_by d.plan f) w.memory [] (entry_roots d.program f args)) → GaveFor g w1 (entered d (held d) f args set w) → GaveFor g w1 (upcall d (held d) f args w)
-  unfolding upcall
-  up_on set g w1 e h = subst (λ r. GaveFor g w1 (taken r (record { func = f; stmt = 0 }) w (λ set. entered d (held d) f args set w))) (sym (found_some _ set e)) h
-
-  pub up_out : None ≡ found (visible d.program (touched_by d.plan f) w.memory [] (entry_roots d.program f args)) → GaveFor (gave.Stopped stop.Annotation (Some (record { func = f; stmt = 0 }))) w (upcall d (held d) f args w)
-  unfolding upcall
-  up_out e = (w.views, sym (ap (λ r. taken r (record { func = f; stmt = 0 }) w (λ set. entered d (held d) f args set w)) (found_none _ e).1))
 
 -- ---- commands
 

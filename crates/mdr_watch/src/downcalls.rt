@@ -54,11 +54,11 @@ fn come_back<'a>(
     let roots = result_root(program, crossing.func, value);
     let taken = visible(alloc, program, keys, world.blocks(), &set, &roots, sent)?;
     match taken {
-        Some(found) => Ok(Ended {
+        Ok(found) => Ok(Ended {
             gave: Gave::Value(value),
             guarded: Guarded::beside(world, found),
         }),
-        None => Ok(Ended {
+        Err(_) => Ok(Ended {
             gave: Gave::Stopped(StopKind::Annotation, Some(crossing.at)),
             guarded: Guarded::beside(world, set),
         }),

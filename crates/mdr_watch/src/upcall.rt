@@ -109,8 +109,8 @@ pub(crate) fn call_user<'a>(
     let memory = world.blocks();
     let taken = visible(alloc, program, keys, memory, &none, roots.as_slice(), args)?;
     match taken {
-        Some(set) => enter(alloc, upcall, args, set, world),
-        None => Ok(Closed {
+        Ok(set) => enter(alloc, upcall, args, set, world),
+        Err(_) => Ok(Closed {
             gave: Gave::Stopped(
                 StopKind::Annotation,
                 Some(At {

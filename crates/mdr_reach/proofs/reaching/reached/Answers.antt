@@ -1,9 +1,7 @@
-use Rattle.std.proofs.Common.{◌∙◌, sym, ap}
-use Rattle.std.specs.Option.{option_map}
+use Rattle.std.proofs.Common.{arith, take}
 use Rattle.mdr_cells.specs.Names.{cell_of, named}
-use Rattle.mdr_extents.specs.Reaching.{graph}
-use Rattle.mdr_reach.specs.Marks.{counts_at, led}
-use Rattle.mdr_reach.proofs.WorkLaws.{counted_is, edges_are, fails_is, followed_all, followed_fails, followed_more, named_at, next_turn, not_false, not_true}
+use Rattle.mdr_reach.specs.Marks.{counts_in, graph_in, led_in}
+use Rattle.mdr_reach.proofs.WorkLaws.{all_rising, counted_is, edges_are, followed_more, found_all, named_at, named_count, named_past, next_turn, turn_less}
 use Rattle.mdr_reach.proofs.reaching.reached.Goals as goal
 
 pub loop-i-preserved : goal.loop-i-preserved
@@ -12,31 +10,27 @@ loop-i-preserved c roots had =
     let touched = c.args.scene.touched.now in
     let m = c.args.scene.blocks.now.memory in
     let rising = c.births-in_order.ensures.in_order.rises in
-    let name = c.in-Some.name in
-    next_turn (graph program touched m) roots (named c.follow.new.marked.keys) c.loop-i.i
-    (followed_more (graph program touched m) (counts_at program touched m) (counted_is program touched m rising) roots (named c.loop-i.marked.keys) (named c.follow.new.marked.keys) (led program touched m (cell_of name)) c.loop-i.i (cell_of name)
-    (sym (ap (option_map cell_of) c.in-Some.is) ∙ named_at c.loop-i.marked.keys c.loop-i.i c.name_at.result c.name_at.ensures)
-    (fails_is program touched m rising (cell_of name) ∙ not_true c.in_ok-whole-in-Some.whole _ c.in_ok-whole-in-Some.ensures.whole c.if-not-whole.false)
+    let name = c.name_at-name.result in
+    let before = c.loop-i.invariant roots had in
+    next_turn (graph_in c.args.scene) roots (named c.follow_on.new.marked.keys) c.loop-i.i c.in_ok-failing.failing
+    (followed_more (graph_in c.args.scene) (counts_in c.args.scene) (counted_is program touched m rising) roots (named c.loop-i.marked.keys) (named c.follow_on.new.marked.keys) (led_in c.args.scene (cell_of name)) c.loop-i.i (cell_of name)
+    c.loop-i.failing c.in_ok-failing.failing
+    (named_at c.loop-i.marked.keys c.loop-i.i name c.name_at-name.ensures)
+    (c.in_ok-failing.ensures.least (take c.loop-i.i (named c.loop-i.marked.keys)) before.least)
     (edges_are program touched m rising (cell_of name))
-    c.in_ok-whole-in-Some.ensures.marked (c.loop-i.invariant roots had))
+    c.in_ok-failing.ensures.marked before)
 
-pub returns-in-None : goal.returns-in-None
-returns-in-None c roots had =
+pub loop-i-smaller : goal.loop-i-smaller
+loop-i-smaller c =
+    turn_less (graph_in c.args.scene) (counts_in c.args.scene) (counted_is c.args.scene.program.now c.args.scene.touched.now c.args.scene.blocks.now.memory c.births-in_order.ensures.in_order.rises)
+    (named c.loop-i.marked.keys) (named c.follow_on.new.marked.keys) (led_in c.args.scene (cell_of c.name_at-name.result)) c.loop-i.i
+    (omega (arith, named_count c.loop-i.marked.keys, c.len.ensures.len, c.loop-i-test.true)) c.in_ok-failing.ensures.marked
+
+pub returns : goal.returns
+returns c roots had =
     let program = c.args.scene.program.now in
     let touched = c.args.scene.touched.now in
     let m = c.args.scene.blocks.now.memory in
     let rising = c.births-in_order.ensures.in_order.rises in
-    followed_all (graph program touched m) (counts_at program touched m) (counted_is program touched m rising) roots (named c.loop-i.marked.keys) c.loop-i.i
-    (sym (ap (option_map cell_of) c.in-None.is) ∙ named_at c.loop-i.marked.keys c.loop-i.i c.name_at.result c.name_at.ensures) (c.loop-i.invariant roots had)
-
-pub returns-then-not-whole : goal.returns-then-not-whole
-returns-then-not-whole c roots had =
-    let program = c.args.scene.program.now in
-    let touched = c.args.scene.touched.now in
-    let m = c.args.scene.blocks.now.memory in
-    let rising = c.births-in_order.ensures.in_order.rises in
-    let name = c.in-Some.name in
-    followed_fails (graph program touched m) (counts_at program touched m) (counted_is program touched m rising) roots (named c.loop-i.marked.keys) c.loop-i.i (cell_of name)
-    (sym (ap (option_map cell_of) c.in-Some.is) ∙ named_at c.loop-i.marked.keys c.loop-i.i c.name_at.result c.name_at.ensures)
-    (fails_is program touched m rising (cell_of name) ∙ not_false c.in_ok-whole-in-Some.whole _ c.in_ok-whole-in-Some.ensures.whole c.if-not-whole.true)
-    (c.loop-i.invariant roots had)
+    found_all (graph_in c.args.scene) (counts_in c.args.scene) (counted_is program touched m rising) roots (all_rising program touched m rising) c.loop-i.marked c.loop-i.i c.loop-i.failing c.unless_failing.result
+    (named_past c.loop-i.marked.keys c.loop-i.i (omega (arith, c.len.ensures.len, c.loop-i-test.false))) (c.loop-i.invariant roots had) c.unless_failing.ensures

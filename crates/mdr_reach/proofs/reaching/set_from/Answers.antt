@@ -1,24 +1,25 @@
 use Rattle.std.proofs.Common.{subst}
-use Rattle.std.specs.Prelude.{MatchOption}
-use Rattle.mdr_cells.specs.Names.{named}
-use Rattle.mdr_extents.specs.Reaching.{beginning, graph}
-use Rattle.mdr_reach.specs.Marks.{IsReached, IsRefused}
+use Rattle.mdr_cells.specs.Names.{cell_of, named}
+use Rattle.mdr_extents.specs.Reaching.{beginning}
+use Rattle.mdr_reach.specs.Marks.{IsFound, graph_in}
 use Rattle.mdr_reach.proofs.WorkLaws.{cell_fails, set_is}
 use Rattle.mdr_reach.proofs.reaching.set_from.Goals as goal
 
-pub returns-in_ok-set-in-Some : goal.returns-in_ok-set-in-Some
-returns-in_ok-set-in-Some c known roots none had =
+pub returns-in_ok-set-in-Ok : goal.returns-in_ok-set-in-Ok
+returns-in_ok-set-in-Ok c known roots begun =
     let program = c.args.scene.program.now in
     let touched = c.args.scene.touched.now in
     let m = c.args.scene.blocks.now.memory in
-    set_is program touched m c.births-in_order.ensures.in_order.rises known roots (named c.in-Some.all.keys) c.in_ok-set-in-Some.set none
-    (subst (λ o. MatchOption o (IsRefused (graph program touched m) (beginning program touched m known roots)) (λ a. IsReached (graph program touched m) (beginning program touched m known roots) (named a.keys))) c.in-Some.is (c.in_ok-all.ensures (beginning program touched m known roots) had))
-    c.in_ok-set-in-Some.ensures.rises c.in_ok-set-in-Some.ensures.same
+    let all = beginning program touched m known roots in
+    set_is program touched m c.births-in_order.ensures.in_order.rises known roots (named c.in-Ok.all.keys) c.in_ok-set-in-Ok.set begun.passes
+    (subst (IsFound (graph_in c.args.scene) all) c.in-Ok.is (c.in_ok-all.ensures all begun.followed))
+    c.in_ok-set-in-Ok.ensures.rises c.in_ok-set-in-Ok.ensures.same
 
-pub returns-in-None : goal.returns-in-None
-returns-in-None c known roots none had =
+pub returns-in-Err : goal.returns-in-Err
+returns-in-Err c known roots begun =
     let program = c.args.scene.program.now in
     let touched = c.args.scene.touched.now in
     let m = c.args.scene.blocks.now.memory in
-    cell_fails program touched m c.births-in_order.ensures.in_order.rises known roots
-    (subst (λ o. MatchOption o (IsRefused (graph program touched m) (beginning program touched m known roots)) (λ a. IsReached (graph program touched m) (beginning program touched m known roots) (named a.keys))) c.in-None.is (c.in_ok-all.ensures (beginning program touched m known roots) had))
+    let all = beginning program touched m known roots in
+    cell_fails program touched m c.births-in_order.ensures.in_order.rises known roots (cell_of c.in-Err.name) begun.passes
+    (subst (IsFound (graph_in c.args.scene) all) c.in-Err.is (c.in_ok-all.ensures all begun.followed))
