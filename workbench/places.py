@@ -68,7 +68,17 @@ def is_in_condition(tokens, n):
     return False
 
 
-def expected(tokens, n):
+def in_two_words(text, tokens, n):
+    """What may be meant where a word stands behind another, and can't."""
+    at, before = tokens[n], tokens[n - 1]
+    if b'\n' in text[before.at:at.at]:
+        return f'Is a ";" missing behind {before.text} in the line above?'
+    if n == 1 or tokens[n - 2].text in (';', '{', '}', '(', ',') or tokens[n - 2].text in QUALIFIERS:
+        return f'Is {before.text} meant as a type? There is none of this name.'
+    return None
+
+
+def expected(text, tokens, n):
     """What may be meant where a token stands that can't stand there."""
     at, before = tokens[n].text, tokens[n - 1].text if n else ''
     if not at:
@@ -88,21 +98,14 @@ def expected(tokens, n):
     if at == '*' and before in ('const', 'volatile') or before == '*' and at in ('const', 'volatile'):
         return 'const and volatile stand in front of the type.'
     if tokens[n].is_word and n and tokens[n - 1].is_word and before not in TYPES | QUALIFIERS:
-        return f'Is {before} meant as a type? There is none of this name.'
+        return in_two_words(text, tokens, n)
     return None
 
 
 MISMATCH = {
-    'printk': 'printk takes a text first, then integers; its directives are %d %c %u %x %ld %lu %lx %%, with no width.',
     'return': 'A void function returns no value; another returns one that becomes its result.',
     'break': 'break stands in a loop alone.',
     'continue': 'continue stands in a loop alone.',
-    'kcalloc': 'kcalloc takes the number first, and then the type: kcalloc(n, T).',
-    'kzalloc': 'kzalloc takes a type: kzalloc(struct buf).',
-    'writel': 'writel takes the value first, and then the register.',
-    'combolock': 'It takes the address of a lock: combolock(&l).',
-    'combounlock': 'It takes the address of a lock: combounlock(&l).',
-    'deliver': 'It takes a u8 * and the number of bytes.',
 }
 
 
@@ -114,7 +117,7 @@ def hint(text, line, column, kind):
         return 'A line with a # is "#include ..", which is skipped, or "#define NAME NUMBER", one whole number, with - in front or not. "gcc -E -P" writes ' \
                'other macros out (take the #include lines away first); an enum { NAME = NUMBER }; gives names to numbers, too.'
     if kind == 'Expected':
-        return expected(tokens, n)
+        return expected(text, tokens, n)
     if kind == 'Mismatch' and at in ASSIGNING:
         return 'What stands behind this doesn\'t become what stands before it: a pointer becomes a pointer of its own type or void *, only a literal 0 and ' \
                'NULL are null pointers, and structs aren\'t assigned.'

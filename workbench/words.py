@@ -19,7 +19,7 @@ SOURCE = {
         'The language does without this word of C.',
         'Say it by other words.'),
     'Expected': (
-        'What stands before this could begin a source, and with this behind it, it can\'t.',
+        'What stands in front of this could begin a source, but no source goes on with this here.',
         'Look at what stands right before it, too: a ";" or a ")" may be missing, or a type that isn\'t known here was taken for a name. Types are '
         'u8 to u64, s8 to s64, C\'s integers, struct NAME, combolock_t, and pointers to them. Nothing nests deeper than 256 forms or 512 parentheses.'),
     'UnknownName': (
@@ -184,7 +184,7 @@ SERVICES = {
     'kfree': 'kfree(p) ends the life of a block that kzalloc or kcalloc gave; of null it does nothing. Pointers into it are dead from then on.',
     'readl': 'readl(REG) gives the u32 that the device has in a register, 0 to 4095; the report notes it as "R REG VALUE".',
     'writel': 'writel(VALUE, REG) writes a register of the device; the report notes it as "W REG VALUE".',
-    'printk': 'printk("..", ..) notes a text in the report, with %d %c (s32), %u %x (u32), %ld (s64), %lu %lx (u64) and %%. A KERN_ERR, KERN_WARNING, KERN_NOTICE, KERN_INFO or KERN_DEBUG may stand before the text.',
+    'printk': 'printk("..", ..) notes a text in the report, with %d %c (s32), %u %x (u32), %ld (s64), %lu %lx (u64) and %%, with no width. A KERN_ERR, KERN_WARNING, KERN_NOTICE, KERN_INFO or KERN_DEBUG may stand before the text.',
     'request_irq': 'request_irq(f) makes void f(void) the one handler of interrupts and gives 0, or -16 where there is one already. f and what it calls are in the kernel half.',
     'free_irq': 'free_irq() takes the handler away.',
     'deliver': 'deliver(p, n) hands n bytes from p, a u8 *, to whoever uses the driver; the report notes them.',
