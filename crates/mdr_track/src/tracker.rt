@@ -11,8 +11,8 @@ use mdr_core::{Block, OutOfMemory, Value, View};
 use std::alloc::Global;
 use std::marker::Model;
 
-/// Pairs of the kernel's serials and the user half's blocks, in which no serial and no block stands twice. Each
-/// look-up takes constant time. `room` counts the further pairs that were promised memory.
+/// Pairs of the kernel's serials and the user half's blocks, in which no serial and no block stands twice. A
+/// look-up takes constant time on average. `room` counts the further pairs that were promised memory.
 #[derive(Drop)]
 pub struct Tracker {
     by_serial: IndexMap<u64, Block>,
