@@ -1,0 +1,4 @@
+pub mod PairLaws
+pub mod PointerLaws
+pub mod TrackedLaws
+pub mod WorkedLaws
