@@ -30,7 +30,7 @@ pub record IsMeant (program : Program) (plan : Plan) (script : Bound) (budget : 
 pub record IsRunnable (program : Program) (plan : Plan) (script : Bound) : Type 0 where
   pub bodies : HaveBodies program
   pub planned : IsPlanOf program plan
-  pub script : IsScript program script
+  pub fits : IsScript program script
 
 -- over honest exchanges the outcome is what one memory means, or the far side failed
 abbrev pub MeansOneMemory : Program → Plan → Bound → (budget : ℕ) → List Exchange → Outcome → Type 0

@@ -59,5 +59,5 @@ meaning bytes script_bytes source plan script budget l es o cut scripted texts h
     let s = cut.source_is in
     let sound = source_sound bytes source s in
     let runnable : IsRunnable source.program plan script =
-    record { bodies = source_bodies bytes source s; planned = its_plan source.program plan cut.plan_is; script = scripts_fit source.program script_bytes script sound scripted } in
+    record { bodies = source_bodies bytes source s; planned = its_plan source.program plan cut.plan_is; fits = scripts_fit source.program script_bytes script sound scripted } in
     honest_runs_are_meant source.program plan script budget es o sound ran runnable (replies_are source plan l es (texts_are_loaded bytes source plan cut) texts honest)
