@@ -23,7 +23,8 @@ use Rattle.mdr_split.specs.AnyAnswers.{answer_fault, kernel_in}
 use Rattle.mdr_split.proofs.Unchanged.{EndsItself, commands_end, next_refuses, next_ends, next_only}
 use Rattle.mdr_limits.proofs.FewMessages.{few_everywhere}
 use Rattle.mdr_exchanges.specs.Runs.{sent_of, then_answers, answers_of, run_over, finish_of, HasEnded}
-use Rattle.mdr_exchanges.specs.Ends.{HasWaited, WasRefused, IsAsBefore, AreFew}
+use Rattle.mdr_exchanges.specs.Ends.{WasRefused, IsUnanswered, HasFailed, IsAsBefore, AreFew}
+use Rattle.mdr_exchanges.proofs.Counted.{total_of}
 use Rattle.mdr_exchanges.proofs.Turns.{first_of, run_is}
 
 -- ---- the last answer
@@ -159,6 +160,39 @@ texts (m ∷ ms) = ap suc (texts ms)
 pub as_many : (es : List Exchange) (ms : List Message) → sent_of es ≡ map text ms → length es ≡ length ms
 as_many es ms e = sym (sents es) ∙ ap length e ∙ texts ms
 
+-- ---- an exchange without an answer
+
+-- a run that waits sent one message more than it got answers
+waits_for_one : (d : Driver) (answers : List (List ℕ)) (p : Pending) (m : Message) (k : Kernel) (upcall : Open) (rest : Rest) (cs : List Command) → (run_from_pending d (readings answers) p).pending ≡ Waits m k upcall rest cs
+    → length (run_from_pending d (readings answers) p).sent ≡ suc (length answers)
+unfolding run_from_pending
+waits_for_one d [] (Over end k') m k upcall rest cs e = absurd (Prim.cc)
+waits_for_one d (a ∷ answers) (Over end k') m k upcall rest cs e = absurd (Prim.cc)
+waits_for_one d [] (Waits m' k' upcall' rest' cs') m k upcall rest cs e = refl
+waits_for_one d (a ∷ answers) (Waits m' k' upcall' rest' cs') m k upcall rest cs e = ap suc (waits_for_one d answers (next d (reading_of a) k' upcall' rest' cs') m k upcall rest cs e)
+
+-- all exchanges but the last are answered
+record LastUnanswered (es : List Exchange) : Type 0 where
+  before : List Exchange
+  last : Exchange
+  all : es ≡ before ++ last ∷ []
+  none : last.got ≡ None
+
+last_unanswered : (es : List Exchange) → length es ≡ suc (length (answers_of es)) → LastUnanswered es
+last_unanswered [] one = absurd (omega (arith, one))
+last_unanswered (e ∷ es) one = of e.got refl one (λ less. last_unanswered es less)
+  where
+    nothing : (xs : List Exchange) → length (e ∷ xs) ≡ 1 → e ∷ xs ≡ e ∷ []
+    nothing [] h = refl
+    nothing (x ∷ xs) h = absurd (omega (arith, h))
+
+    later : LastUnanswered es → LastUnanswered (e ∷ es)
+    later l = record { before = e ∷ l.before; last = l.last; all = ap (λ (xs : List Exchange). e ∷ xs) l.all; none = l.none }
+
+    of : (got : Option (List ℕ)) → e.got ≡ got → length (e ∷ es) ≡ suc (length (then_answers got (answers_of es))) → (length es ≡ suc (length (answers_of es)) → LastUnanswered es) → LastUnanswered (e ∷ es)
+    of None is h go = record { before = []; last = e; all = nothing es h; none = is }
+    of (Some bytes) is h go = later (go (omega (arith, h)))
+
 -- ---- the state that is left
 
 module _ (d : Driver) (script : Bound) (budget : ℕ) (es : List Exchange) where
@@ -201,8 +235,22 @@ module _ (d : Driver) (script : Bound) (budget : ℕ) (es : List Exchange) where
         refused = told.0;
       }
 
+  -- where the run waits, the last message has no answer
+  unanswered_so : (exchange : ℕ) (m : Message) (k : Kernel) (upcall : Open) (rest : Rest) (cs : List Command) → sent_of es ≡ map text (run_over d script budget es).sent → (run_over d script budget es).pending ≡ Waits m k upcall rest cs → exchange ≡ k.exchanges
+      → IsUnanswered es exchange
+  unanswered_so exchange m k upcall rest cs messages is number =
+      let run : SplitRun = run_from_pending d (readings (answers_of es)) (first_of d script budget) in
+      let same : run_over d script budget es ≡ run = run_is d script budget es in
+      let many : length es ≡ length run.sent = as_many es run.sent (messages ∙ ap (λ (r : SplitRun). map text r.sent) same) in
+      let more : length run.sent ≡ suc (length (answers_of es)) = waits_for_one d (answers_of es) (first_of d script budget) m k upcall rest cs (sym (ap (λ (r : SplitRun). r.pending) same) ∙ is) in
+      let total : (kernel_in (run_over d script budget es).pending).exchanges ≡ length (run_over d script budget es).sent + 0 = total_of d script budget (answers_of es) in
+      let here : (kernel_in (run_over d script budget es).pending).exchanges ≡ k.exchanges = ap (λ (p : Pending). (kernel_in p).exchanges) is in
+      let sent : length (run_over d script budget es).sent ≡ length run.sent = ap (λ (r : SplitRun). length r.sent) same in
+      let l : LastUnanswered es = last_unanswered es (many ∙ more) in
+      record { before = l.before; last = l.last; all = l.all; none = l.none; counted = omega (arith, number, total, here, sent, many) }
+
   -- the far side failed where the run waits
-  failed_so : (exchange : ℕ) (k : Kernel) → HasEnded d script budget es (ends.FarFault exchange) k → HasWaited d script budget (answers_of es) k.world.memory
+  failed_so : (exchange : ℕ) (k : Kernel) → HasEnded d script budget es (ends.FarFault exchange) k → HasFailed d script budget es exchange k.world.memory
   failed_so exchange k h = of (run_over d script budget es).pending refl h.ended h.kernel
     where
       begins : EndsItself (first_of d script budget)
@@ -211,11 +259,23 @@ module _ (d : Driver) (script : Bound) (budget : ℕ) (es : List Exchange) where
       known : EndsKnown (run_over d script budget es).pending
       known = subst (λ (r : SplitRun). EndsKnown r.pending) (sym (run_is d script budget es)) (run_known d (readings (answers_of es)) (first_of d script budget) (itself_known _ begins))
 
-      of : (p : Pending) → (run_over d script budget es).pending ≡ p → finish_of p ≡ finish (ends.FarFault exchange) k.world → kernel_in p ≡ k → HasWaited d script budget (answers_of es) k.world.memory
+      number_in : End → ℕ
+      number_in ends.Ok = 0
+      number_in (ends.Stop kind at) = 0
+      number_in (ends.Refused number cause value) = 0
+      number_in (ends.FarFault number) = number
+
+      of : (p : Pending) → (run_over d script budget es).pending ≡ p → finish_of p ≡ finish (ends.FarFault exchange) k.world → kernel_in p ≡ k → HasFailed d script budget es exchange k.world.memory
       of (Over end k') is e same =
           let far : end ≡ ends.FarFault exchange = ap (λ (f : Finish). f.end) e in
           absurd (subst IsOwnEnd far (subst EndsKnown is known))
-      of (Waits m k' upcall rest cs) is e same = record { message = m; kernel = k'; upcall = upcall; rest = rest; left = cs; waits = is; same = ap (λ (x : Kernel). x.world.memory) (sym same) }
+      of (Waits m k' upcall rest cs) is e same =
+          let number : exchange ≡ k'.exchanges = sym (ap (λ (f : Finish). number_in f.end) e) in
+          record {
+            waited = record { message = m; kernel = k'; upcall = upcall; rest = rest; left = cs; waits = is; same = ap (λ (x : Kernel). x.world.memory) (sym same) };
+            counted = number;
+            unanswered = unanswered_so exchange m k' upcall rest cs h.messages is number;
+          }
 
   pub as_before : (end : End) (k : Kernel) → HasEnded d script budget es end k → IsAsBefore d script budget es k.world.memory end
   as_before ends.Ok k h = tt

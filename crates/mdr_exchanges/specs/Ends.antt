@@ -1,5 +1,5 @@
 -- How a run ends that the far side ends, and how many messages there are.
-use Rattle.std.specs.Prelude.{◌≡◌, ℕ, ◌+◌, ◌*◌, ◌≤◌, List, [], ◌∷◌, ◌++◌, map, length, Some}
+use Rattle.std.specs.Prelude.{◌≡◌, ℕ, ◌+◌, ◌*◌, ◌≤◌, List, [], ◌∷◌, ◌++◌, map, length, Some, None}
 use Rattle.mdr_watched.specs.Driver.{Driver}
 use Rattle.mdr_outside.specs.declared.far.Exchange.{Exchange}
 use Rattle.mdr_core.specs.declared.refusal.RefuseKind.{RefuseKind}
@@ -38,12 +38,26 @@ pub record WasRefused (d : Driver) (script : Bound) (budget : ℕ) (answers : Li
   pub counted : exchange ≡ waited.kernel.exchanges
   pub refused : answer_fault d waited.kernel waited.upcall waited.rest (reading_of last) ≡ Some (fault cause number)
 
+-- the last of these exchanges has no answer, and this is its number, from 1
+pub record IsUnanswered (es : List Exchange) (number : ℕ) : Type 0 where
+  pub before : List Exchange
+  pub last : Exchange
+  pub all : es ≡ before ++ last ∷ []
+  pub none : last.got ≡ None
+  pub counted : number ≡ length es
+
+-- the run waits for an answer to the last message, which has none: this is its exchange
+pub record HasFailed (d : Driver) (script : Bound) (budget : ℕ) (es : List Exchange) (exchange : ℕ) (memory : Memory) : Type 0 where
+  pub waited : HasWaited d script budget (answers_of es) memory
+  pub counted : exchange ≡ waited.kernel.exchanges
+  pub unanswered : IsUnanswered es exchange
+
 -- where the far side ended the run, by an answer that is refused or by none, memory is what it was before
 abbrev pub IsAsBefore : Driver → Bound → ℕ → List Exchange → Memory → End → Type 0
 IsAsBefore d script budget es memory ends.Ok = Unit {0}
 IsAsBefore d script budget es memory (ends.Stop kind at) = Unit {0}
 IsAsBefore d script budget es memory (ends.Refused exchange cause number) = WasRefused d script budget (answers_of es) exchange cause number memory
-IsAsBefore d script budget es memory (ends.FarFault exchange) = HasWaited d script budget (answers_of es) memory
+IsAsBefore d script budget es memory (ends.FarFault exchange) = HasFailed d script budget es exchange memory
 
 -- ---- any far side
 

@@ -4,7 +4,7 @@ ghost use Rattle.mdr_exchanges.specs.Ends.{EndedRunsAreAsBefore, ExchangesAreFew
 ghost use Rattle.mdr_exchanges.specs.Meanings.{HonestRunsAreMeant};
 
 /// Where an answer is refused, or none comes, the run had waited for it, and its memory is what it was before: the answer's
-/// number and its first fault are told.
+/// number and its first fault are told, or the number of the message that has no answer.
 pub fn ended_runs_are_as_before()
     ensures { EndedRunsAreAsBefore }
 {}

@@ -7,7 +7,7 @@ use Rattle.mdr_exchanges.proofs.Endings.{as_before}
 use Rattle.mdr_exchanges.proofs.Stops.{calls_more, counts_answered, counts_unanswered, place_after, place_unanswered, stops_here, stops_in}
 use Rattle.mdr_exchanges.proofs.Turns.{SoFar, begins_so, fails_so, first_of, goes_so, over_so, run_is}
 use Rattle.mdr_exchanges.specs.Calls.{Broke, IsPlace, IsStopped, sends}
-use Rattle.mdr_exchanges.specs.Ends.{HasWaited}
+use Rattle.mdr_exchanges.specs.Ends.{HasFailed, HasWaited}
 use Rattle.mdr_exchanges.specs.Runs.{HasEnded, IsFarFault, answers_of, run_over, sent_of}
 use Rattle.mdr_meaning.specs.Bodies.{kernel_side, known_of}
 use Rattle.mdr_model.specs.declared.command.Command.{Command}
@@ -135,7 +135,8 @@ module _ (d : Driver) (script : Bound) (budget : ℕ) where
   own_end es (ends.Stop kind at) k so far = far
   own_end es (ends.Refused exchange cause number) k so far = far
   own_end es (ends.FarFault exchange) k so far =
-      let waited : HasWaited d script budget (answers_of es) k.world.memory = as_before d script budget es (ends.FarFault exchange) k (over_so d script budget es (ends.FarFault exchange) k so) in
+      let failed : HasFailed d script budget es exchange k.world.memory = as_before d script budget es (ends.FarFault exchange) k (over_so d script budget es (ends.FarFault exchange) k so) in
+      let waited : HasWaited d script budget (answers_of es) k.world.memory = failed.waited in
       subst IsWaiting (sym waited.waits ∙ over_there es (ends.FarFault exchange) k so) tt
 
   pub over_by_itself : (es : List Exchange) (now : CodePending) (end : End) (w : Driven) → now ≡ pending.Over end w → Stands d script budget es now → IsFarFault end → ⊥

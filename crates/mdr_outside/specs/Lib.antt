@@ -6,6 +6,7 @@ pub mod LyingFarView
 pub mod MapShelf
 pub mod MapShelfView
 pub mod Shelf
+pub mod Sides
 pub mod Sink
 pub mod VecSink
 pub mod VecSinkView

@@ -4,6 +4,11 @@ use Rattle.std.specs.Io.KnownBytes.{Keeps, Appends as KnownAppends}
 use Rattle.mdr_outside.specs.Count.{raised}
 use Rattle.mdr_outside.specs.declared.sink.SinkAnswer.{SinkAnswer}
 use Rattle.mdr_outside.specs.declared.sink.SinkAnswer.TheVariants as sinks
+use Rattle.mdr_outside.specs.declared.sink.SinkCall.{SinkCall}
+
+-- a write of this piece, with its answer
+abbrev pub wrote : (piece : List ℕ) → SinkAnswer → SinkCall
+wrote piece answer = record { piece = piece; answer = answer }
 
 -- the first n bytes of the piece were appended, and one at least where it has any
 pub record Appends (old new : Option (List ℕ)) (piece : List ℕ) (n : ℕ) : Type 0 where

@@ -12,6 +12,7 @@ sink_state s = record {
   fails = s.calls.fails;
   calls = s.calls.made;
   faults = s.faults;
+  history = s.history;
 }
 
 -- the memory for all bytes is there

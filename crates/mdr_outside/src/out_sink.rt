@@ -1,10 +1,11 @@
 // A sink over a writer.
 
-ghost use Rattle.std.specs.Prelude.{◌≡◌, ◌≤◌, None};
+ghost use Rattle.std.specs.Prelude.{◌≡◌, ◌≤◌, [], None};
 ghost use Rattle.mdr_outside.specs.Count.{Rose};
 ghost use Rattle.mdr_outside.specs.Sink.{Takes, HandsOn, count_after};
 
-use crate::sink::{Sink, SinkAnswer};
+use crate::history::History;
+use crate::sink::{Sink, SinkAnswer, SinkCall};
 use std::io::Write;
 
 /// A writer, as standard output. The sink itself tells nothing of what was written.
@@ -12,6 +13,7 @@ use std::io::Write;
 pub struct OutSink<W> {
     pub out: W,
     faults: u64,
+    calls: History<SinkCall>,
 }
 
 impl<W: Write> OutSink<W> {
@@ -19,8 +21,13 @@ impl<W: Write> OutSink<W> {
     pub fn new(out: W) -> Self
         ensures out { result.out ≡ out }
         ensures faults { ⟦<OutSink<W> as Sink>⟧.faults result ≡ 0 }
+        ensures calls { ⟦<OutSink<W> as Sink>⟧.calls result ≡ [] }
     {
-        OutSink { out, faults: 0 }
+        OutSink {
+            out,
+            faults: 0,
+            calls: History::new(),
+        }
     }
 }
 
@@ -28,6 +35,8 @@ impl<W: Write> Sink for OutSink<W> {
     ghost written = { λ _. None };
 
     ghost faults = { λ s. s.faults };
+
+    ghost calls = { λ s. s.calls };
 
     fn write(&mut self, piece: &[u8]) -> SinkAnswer
         ensures taken { Takes None None piece.now result }
@@ -39,9 +48,13 @@ impl<W: Write> Sink for OutSink<W> {
         ensures handed_on { HandsOn (W.contents self.old.out) (W.contents self.new.out) piece.now result }
     {
         match self.out.write(piece) {
-            Ok(taken) if taken > 0 || piece.is_empty() => SinkAnswer::Ok(taken),
+            Ok(taken) if taken > 0 || piece.is_empty() => {
+                self.calls = self.calls.and_wrote(piece, SinkAnswer::Ok(taken));
+                SinkAnswer::Ok(taken)
+            }
             Ok(_) | Err(_) => {
                 self.faults = self.faults.saturating_add(1);
+                self.calls = self.calls.and_wrote(piece, SinkAnswer::Failed);
                 SinkAnswer::Failed
             }
         }

@@ -4,7 +4,8 @@ ghost use Rattle.std.specs.Prelude.{◌≡◌, ◌≤◌, ◌<◌, Some, IfOk};
 ghost use Rattle.mdr_outside.specs.VecSink.{new_sink, sink_answer, after_write};
 
 use crate::calls::Calls;
-use crate::sink::{Sink, SinkAnswer};
+use crate::history::History;
+use crate::sink::{Sink, SinkAnswer, SinkCall};
 use mdr_core::OutOfMemory;
 use std::alloc::Global;
 use std::marker::Model;
@@ -17,6 +18,7 @@ pub struct VecSink {
     most: usize,
     calls: Calls,
     faults: u64,
+    history: History<SinkCall>,
 }
 
 impl Model for VecSink {
@@ -52,6 +54,7 @@ impl VecSink {
             most: take,
             calls: Calls::new(fails),
             faults: 0,
+            history: History::new(),
         })
     }
 
@@ -68,6 +71,8 @@ impl Sink for VecSink {
 
     ghost faults = { λ s. s.faults };
 
+    ghost calls = { λ s. s.history };
+
     fn write(&mut self, piece: &[u8]) -> SinkAnswer
         ensures answers { result ≡ sink_answer self.old piece.now }
         ensures after { self.new ≡ after_write self.old piece.now result }
@@ -79,9 +84,11 @@ impl Sink for VecSink {
         self.calls.count();
         if fails || (taken == 0 && !piece.is_empty()) {
             self.faults = self.faults.saturating_add(1);
+            self.history = self.history.and_wrote(piece, SinkAnswer::Failed);
             return SinkAnswer::Failed;
         }
         self.bytes.extend_from_slice(&piece[..taken]).unwrap();
+        self.history = self.history.and_wrote(piece, SinkAnswer::Ok(taken));
         SinkAnswer::Ok(taken)
     }
 }

@@ -1,12 +1,19 @@
 -- How a run over a far side ends.
-use Rattle.std.proofs.Common.{◌≡◌, ℕ, List, refl, sym, ap, ◌∙◌, subst}
+use Rattle.std.proofs.Common.{◌≡◌, ℕ, List, Option, refl, sym, ap, ◌∙◌, subst}
+use Rattle.std.specs.Prelude.{IsSomeAnd}
+use Rattle.mdr_core.specs.declared.plan.Plan.{Plan}
 use Rattle.mdr_core.specs.declared.program.Program.{Program}
 use Rattle.mdr_core.specs.declared.refusal.RefuseKind.TheVariants as refusal
+use Rattle.mdr_cut.specs.declared.texts.Texts.{Texts}
+use Rattle.mdr_due.specs.declared.status.Status.{Status}
+use Rattle.mdr_due.specs.declared.status.Status.TheVariants as status
 use Rattle.mdr_exchanges.proofs.Endings.{as_before}
 use Rattle.mdr_exchanges.specs.Runs.{HasEnded, IsRun, finish_of, run_over}
 use Rattle.mdr_model.specs.declared.outcome.End.{End}
 use Rattle.mdr_model.specs.declared.outcome.End.TheVariants as ends
 use Rattle.mdr_outside.specs.declared.far.Exchange.{Exchange}
+use Rattle.mdr_outside.specs.declared.far.LoadAnswer.TheVariants as loads
+use Rattle.mdr_outside.specs.declared.far.Loaded.{Loaded}
 use Rattle.mdr_plain.specs.declared.outcome.Outcome.{Outcome}
 use Rattle.mdr_plain.specs.Outcome.{outcome_of}
 use Rattle.mdr_plain.specs.Scripts.{Finish, finish}
@@ -15,7 +22,7 @@ use Rattle.mdr_script.specs.declared.bound.Bound.{Bound}
 use Rattle.mdr_split.specs.AnyAnswers.{kernel_in}
 use Rattle.mdr_split.specs.State.{Over, Pending, Waits}
 use Rattle.mdr_split_runner.proofs.Steps.{nothing_end}
-use Rattle.mdr_split_runner.specs.Ends.{Ends, IsDueToFar, SplitRunsEnd}
+use Rattle.mdr_split_runner.specs.Ends.{Ends, EndsWith, FailedLast, IsDueToFar, SplitRunsEnd}
 use Rattle.mdr_split_runner.specs.Reports.{Ran}
 use Rattle.mdr_watched.specs.Driver.{Driver, driver_of}
 
@@ -42,3 +49,24 @@ split_runs_end program plan texts script ticks loaded es s text (Ran.refused cau
     record { end = ends.Refused 0 refusal.Load 0; ends = Ends.refused cause is refl; status_is = r.status_is ∙ ap status_of (nothing_end program script ticks (ends.Refused 0 refusal.Load 0)) }
 split_runs_end program plan texts script ticks loaded es s text (Ran.failed is r) =
     record { end = ends.FarFault 0; ends = Ends.failed is refl; status_is = r.status_is ∙ ap status_of (nothing_end program script ticks (ends.FarFault 0)) }
+
+-- ---- the far side's fault
+
+no_fault : (end other : End) → end ≡ other → status_of other ≡ status.Marshal → status_of end ≡ status.FarFault → ⊥
+no_fault end other is marshal fault = let no : status.Marshal ≡ status.FarFault = sym marshal ∙ sym (ap status_of is) ∙ fault in Prim.cc
+
+fault_in : (d : Driver) (script : Bound) (ticks : ℕ) (loaded : Option Loaded) (es : List Exchange) (end : End) → IsDueToFar d script ticks es end → status_of end ≡ status.FarFault → FailedLast loaded es
+fault_in d script ticks loaded es ends.Ok due e = absurd (Prim.cc)
+fault_in d script ticks loaded es (ends.Stop kind at) due e = absurd (Prim.cc)
+fault_in d script ticks loaded es (ends.Refused exchange cause number) due e = absurd (Prim.cc)
+fault_in d script ticks loaded es (ends.FarFault exchange) due e = FailedLast.at_message exchange due.unanswered
+
+module _ (program : Program) (plan : Plan) (texts : Texts) (script : Bound) (ticks : ℕ) (loaded : Option Loaded) (es : List Exchange) where
+  fault_so : (end : End) → Ends program plan texts script ticks loaded es end → status_of end ≡ status.FarFault → FailedLast loaded es
+  fault_so end (Ends.began o is run same due) e = fault_in (driver_of program plan) script ticks loaded es end due e
+  fault_so end (Ends.refused cause is same) e = absurd (no_fault end (ends.Refused 0 refusal.Load 0) same refl e)
+  fault_so end (Ends.failed is same) e = FailedLast.at_load (subst (λ (l : Option Loaded). IsSomeAnd l (λ load. load.answer ≡ loads.Failed)) (sym is) refl)
+
+  -- a run that ends with the far side's fault
+  pub fails_last : (s : Status) → EndsWith program plan texts script ticks loaded es s → s ≡ status.FarFault → FailedLast loaded es
+  fails_last s e is = fault_so e.end e.ends (sym e.status_is ∙ is)

@@ -18,13 +18,14 @@ use Rattle.mdr_honest.specs.Scripts.{IsScriptFor}
 use Rattle.mdr_model.specs.declared.outcome.End.{End}
 use Rattle.mdr_model.specs.declared.outcome.End.TheVariants as ends
 use Rattle.mdr_model.specs.Law.{IsOwn}
-use Rattle.mdr_outside.specs.Calls.{FarCall, ShelfCall}
+use Rattle.mdr_outside.specs.Calls.{ShelfCall}
 use Rattle.mdr_outside.specs.declared.far.Exchange.{Exchange}
 use Rattle.mdr_outside.specs.declared.far.LoadAnswer.{LoadAnswer}
 use Rattle.mdr_outside.specs.declared.far.LoadAnswer.TheVariants as loads
 use Rattle.mdr_outside.specs.declared.far.Loaded.{Loaded}
 use Rattle.mdr_outside.specs.declared.shelf.ReadAnswer.{ReadAnswer}
 use Rattle.mdr_outside.specs.Far.{loaded_with}
+use Rattle.mdr_outside.specs.Sides.{FarSide}
 use Rattle.mdr_plain.specs.declared.outcome.Outcome.{Outcome}
 use Rattle.mdr_runner.specs.Runs.{IsOutcome, IsRun, status_of}
 use Rattle.mdr_runner.specs.Scripts.{HasScript, IsScriptOf, NoScriptOf, bound_by}
@@ -162,20 +163,20 @@ not_early : (s : Status) → IsEarly s → (s ≡ status.Done) ⊎ (s ≡ status
 not_early s early (inl e) = subst IsEarly e early
 not_early s early (inr e) = subst IsEarly e early
 
-module _ (files : Files) (source_name script_name : List ℕ) (ticks : ℕ) (old new : List ShelfCall) (far far' : List FarCall) (loaded : Option Loaded) (es : List Exchange) (s : Status) (text : List ℕ) where
+module _ (files : Files) (source_name script_name : List ℕ) (ticks : ℕ) (old new : List ShelfCall) (far far' : FarSide) (s : Status) (text : List ℕ) where
   abbrev MeansIt : Type 0
-  MeansIt = SplitMeans files source_name script_name ticks old new loaded es s text
+  MeansIt = SplitMeans files source_name script_name ticks old new far'.loaded far'.exchanges s text
 
   early_means : IsEarly s → MeansIt
   early_means early = record { never = λ e. subst IsEarly e early; means = λ is. absurd (not_early s early is) }
 
-  runs_mean : RunIsMeaning → TextsOfSourcesAreTaken → SplitRuns files source_name script_name ticks old new far far' loaded es s text → IsHonest loaded es → MeansIt
+  runs_mean : RunIsMeaning → TextsOfSourcesAreTaken → SplitRuns files source_name script_name ticks old new far far' s text → IsHonest far'.loaded far'.exchanges → MeansIt
   runs_mean law taken (SplitRuns.no_source none same) honest = early_means (no_source_early files source_name old new s text none)
   runs_mean law taken (SplitRuns.no_script source between read none same) honest = early_means (no_script_early files source.program script_name between new s text none)
   runs_mean law taken (SplitRuns.ran source script between read given r) honest =
-      of (ran_means law taken read.bytes given.bytes source r.plan r.texts script ticks es read.has given.has r.cut loaded s text honest r.ran)
+      of (ran_means law taken read.bytes given.bytes source r.plan r.texts script ticks far'.exchanges read.has given.has r.cut far'.loaded s text honest r.ran)
     where
-      of : (s ≡ status.FarFault) ⊎ IsMeantSo law taken read.bytes given.bytes source r.plan r.texts script ticks es read.has given.has r.cut loaded s text → MeansIt
+      of : (s ≡ status.FarFault) ⊎ IsMeantSo law taken read.bytes given.bytes source r.plan r.texts script ticks far'.exchanges read.has given.has r.cut far'.loaded s text → MeansIt
       of (inl e) = early_means (subst IsEarly (sym e) tt)
       of (inr m) = record {
         never = λ e. own_never (meant source.program r.plan script ticks).end m.meaning.own (sym m.meaning.reported.status_is ∙ e);
@@ -195,4 +196,4 @@ module _ (files : Files) (source_name script_name : List ℕ) (ticks : ℕ) (old
       }
 
 pub split_runs_mean : RunIsMeaning → TextsOfSourcesAreTaken → SplitRunsMean
-split_runs_mean law taken files source_name script_name ticks old new far far' loaded es s text runs honest = runs_mean files source_name script_name ticks old new far far' loaded es s text law taken runs honest
+split_runs_mean law taken files source_name script_name ticks old new far far' s text runs honest = runs_mean files source_name script_name ticks old new far far' s text law taken runs honest

@@ -8,11 +8,11 @@ use Rattle.mdr_due.specs.declared.status.Status.TheVariants as status
 use Rattle.mdr_due.specs.Reads.{Files, WasRead, longest_script}
 use Rattle.mdr_model.specs.declared.outcome.End.{End}
 use Rattle.mdr_model.specs.declared.outcome.End.TheVariants as ends
-use Rattle.mdr_outside.specs.Calls.{FarCall, ShelfCall}
-use Rattle.mdr_outside.specs.declared.far.Exchange.{Exchange}
+use Rattle.mdr_outside.specs.Calls.{ShelfCall}
 use Rattle.mdr_outside.specs.declared.far.LoadAnswer.{LoadAnswer}
 use Rattle.mdr_outside.specs.declared.far.Loaded.{Loaded}
 use Rattle.mdr_outside.specs.Far.{loaded_with}
+use Rattle.mdr_outside.specs.Sides.{FarSide}
 use Rattle.mdr_plain.specs.Outcome.{outcome_of}
 use Rattle.mdr_runner.specs.Runs.{status_of}
 use Rattle.mdr_runner.specs.Scripts.{IsScriptOf, NoScriptOf}
@@ -42,11 +42,11 @@ refused_so A program script ticks s text r e =
 
 -- ---- the whole command
 
-module _ (files later : Files) (source_name script_name : List ℕ) (ticks : ℕ) (old between new : List ShelfCall) (far far' : List FarCall) (source : Source) (kept : later ≡ files) (read : IsSourceOf files source_name old between source) where
-  pub runs_so : (loaded : Option Loaded) (es : List Exchange) (s : Status) (text : List ℕ) → SplitRunsOver later source script_name ticks between new far far' loaded es s text → SplitRuns files source_name script_name ticks old new far far' loaded es s text
-  runs_so loaded es s text (SplitRunsOver.no_script none same) = SplitRuns.no_script source between read (subst (λ (f : Files). NoScriptOf f source.program script_name between new s text) kept none) same
-  runs_so loaded es s text (SplitRunsOver.ran script is run) = SplitRuns.ran source script between read (subst (λ (f : Files). IsScriptOf f source.program script_name between new script) kept is) run
+module _ (files later : Files) (source_name script_name : List ℕ) (ticks : ℕ) (old between new : List ShelfCall) (far far' : FarSide) (source : Source) (kept : later ≡ files) (read : IsSourceOf files source_name old between source) where
+  pub runs_so : (s : Status) (text : List ℕ) → SplitRunsOver later source script_name ticks between new far far' s text → SplitRuns files source_name script_name ticks old new far far' s text
+  runs_so s text (SplitRunsOver.no_script none same) = SplitRuns.no_script source between read (subst (λ (f : Files). NoScriptOf f source.program script_name between new s text) kept none) same
+  runs_so s text (SplitRunsOver.ran script is run) = SplitRuns.ran source script between read (subst (λ (f : Files). IsScriptOf f source.program script_name between new script) kept is) run
 
-  pub runs_part : (es : List Exchange) → SplitRunsOverPart later source script_name ticks between new far far' es → SplitRunsPart files source_name script_name ticks old new far far' es
-  runs_part es (SplitRunsOverPart.script_read was same) = SplitRunsPart.script_read source between read (subst (λ (f : Files). WasRead f script_name longest_script between new) kept was) same
-  runs_part es (SplitRunsOverPart.ran_part script is part) = SplitRunsPart.ran_part source script between read (subst (λ (f : Files). IsScriptOf f source.program script_name between new script) kept is) part
+  pub runs_part : SplitRunsOverPart later source script_name ticks between new far far' → SplitRunsPart files source_name script_name ticks old new far far'
+  runs_part (SplitRunsOverPart.script_read was same) = SplitRunsPart.script_read source between read (subst (λ (f : Files). WasRead f script_name longest_script between new) kept was) same
+  runs_part (SplitRunsOverPart.ran_part script is part) = SplitRunsPart.ran_part source script between read (subst (λ (f : Files). IsScriptOf f source.program script_name between new script) kept is) part

@@ -8,11 +8,12 @@ use Rattle.mdr_due.specs.declared.status.Status.TheVariants as status
 use Rattle.mdr_due.specs.Reads.{Files}
 use Rattle.mdr_honest.specs.Honest.{IsHonest}
 use Rattle.mdr_model.specs.Law.{IsOwn}
-use Rattle.mdr_outside.specs.Calls.{FarCall, ShelfCall}
+use Rattle.mdr_outside.specs.Calls.{ShelfCall}
 use Rattle.mdr_outside.specs.declared.far.Exchange.{Exchange}
 use Rattle.mdr_outside.specs.declared.far.LoadAnswer.TheVariants as loads
 use Rattle.mdr_outside.specs.declared.far.Loaded.{Loaded}
 use Rattle.mdr_outside.specs.Far.{loaded_with}
+use Rattle.mdr_outside.specs.Sides.{FarSide}
 use Rattle.mdr_plain.specs.declared.outcome.Outcome.{Outcome}
 use Rattle.mdr_plain.specs.Outcome.{outcome_of}
 use Rattle.mdr_runner.specs.declared.manner.Manner.{Manner}
@@ -62,5 +63,5 @@ pub record SplitMeans (files : Files) (source_name script_name : List ℕ) (tick
 -- whatever else the far side does, where it is honest
 abbrev pub SplitRunsMean : Type 0
 SplitRunsMean =
-    (files : Files) (source_name script_name : List ℕ) (ticks : ℕ) (old new : List ShelfCall) (far far' : List FarCall) (loaded : Option Loaded) (es : List Exchange) (s : Status) (text : List ℕ)
-    → SplitRuns files source_name script_name ticks old new far far' loaded es s text → IsHonest loaded es → SplitMeans files source_name script_name ticks old new loaded es s text
+    (files : Files) (source_name script_name : List ℕ) (ticks : ℕ) (old new : List ShelfCall) (far far' : FarSide) (s : Status) (text : List ℕ)
+    → SplitRuns files source_name script_name ticks old new far far' s text → IsHonest far'.loaded far'.exchanges → SplitMeans files source_name script_name ticks old new far'.loaded far'.exchanges s text

@@ -11,7 +11,7 @@ use crate::cutting::cut_of;
 use crate::loading::ran;
 use mdr_core::OutOfMemory;
 use mdr_due::{Due, Stage};
-use mdr_outside::{Far, Shelf};
+use mdr_outside::{Far, FarSeen, Shelf};
 use mdr_runner::script_of;
 use mdr_script::Bound;
 use mdr_slicer::source_of;
@@ -27,8 +27,8 @@ fn run_split<F: Far>(
     far: &mut F,
 ) -> Result<Due, OutOfMemory>
     requires { IsSound source.now.program }
-    ensures done { IfOk result (λ due. IsSplitRun source.now script.now ticks (F.calls far.old) (F.calls far.new) (F.loaded far.new) (F.exchanges far.new) due.status due.text.items) }
-    ensures part { OnErr result (IsSplitPart source.now script.now ticks (F.calls far.old) (F.calls far.new) (F.exchanges far.new)) }
+    ensures done { IfOk result (λ due. IsSplitRun source.now script.now ticks (⟦<F as FarSeen>⟧.side far.old) (⟦<F as FarSeen>⟧.side far.new) due.status due.text.items) }
+    ensures part { OnErr result (IsSplitPart source.now script.now ticks (⟦<F as FarSeen>⟧.side far.old) (⟦<F as FarSeen>⟧.side far.new)) }
     ensures failed { IfOk result (λ due. due.status ≡ status.FarFault → Rose (F.faults far.old) (F.faults far.new)) }
     ensures read { IfOk result (λ due. (before after : Counts) → HasReadCause before after due.status) }
 {
@@ -51,8 +51,8 @@ fn split_run_over<S: Shelf, F: Far>(
     ticks: u64,
 ) -> Result<Due, OutOfMemory>
     requires { IsSound source.now.program }
-    ensures done { IfOk result (λ due. SplitRunsOver (S.files shelf.old) source.now name.now ticks (S.calls shelf.old) (S.calls shelf.new) (F.calls far.old) (F.calls far.new) (F.loaded far.new) (F.exchanges far.new) due.status due.text.items) }
-    ensures part { OnErr result (SplitRunsOverPart (S.files shelf.old) source.now name.now ticks (S.calls shelf.old) (S.calls shelf.new) (F.calls far.old) (F.calls far.new) (F.exchanges far.new)) }
+    ensures done { IfOk result (λ due. SplitRunsOver (S.files shelf.old) source.now name.now ticks (S.calls shelf.old) (S.calls shelf.new) (⟦<F as FarSeen>⟧.side far.old) (⟦<F as FarSeen>⟧.side far.new) due.status due.text.items) }
+    ensures part { OnErr result (SplitRunsOverPart (S.files shelf.old) source.now name.now ticks (S.calls shelf.old) (S.calls shelf.new) (⟦<F as FarSeen>⟧.side far.old) (⟦<F as FarSeen>⟧.side far.new)) }
     ensures kept { S.files shelf.new ≡ S.files shelf.old }
     ensures read { IfOk result (λ due. HasReadCause (record { faults = S.faults shelf.old; absent = S.absent shelf.old; long = S.long shelf.old }) (record { faults = S.faults shelf.new; absent = S.absent shelf.new; long = S.long shelf.new }) due.status) }
     ensures failed { IfOk result (λ due. due.status ≡ status.FarFault → Rose (F.faults far.old) (F.faults far.new)) }
@@ -78,8 +78,8 @@ pub fn split_over<S: Shelf, F: Far>(
     script_name: &str,
     ticks: u64,
 ) -> Result<Due, OutOfMemory>
-    ensures done { IfOk result (λ due. SplitRuns (S.files shelf.old) source_name.now script_name.now ticks (S.calls shelf.old) (S.calls shelf.new) (F.calls far.old) (F.calls far.new) (F.loaded far.new) (F.exchanges far.new) due.status due.text.items) }
-    ensures part { OnErr result (SplitRunsPart (S.files shelf.old) source_name.now script_name.now ticks (S.calls shelf.old) (S.calls shelf.new) (F.calls far.old) (F.calls far.new) (F.exchanges far.new)) }
+    ensures done { IfOk result (λ due. SplitRuns (S.files shelf.old) source_name.now script_name.now ticks (S.calls shelf.old) (S.calls shelf.new) (⟦<F as FarSeen>⟧.side far.old) (⟦<F as FarSeen>⟧.side far.new) due.status due.text.items) }
+    ensures part { OnErr result (SplitRunsPart (S.files shelf.old) source_name.now script_name.now ticks (S.calls shelf.old) (S.calls shelf.new) (⟦<F as FarSeen>⟧.side far.old) (⟦<F as FarSeen>⟧.side far.new)) }
     ensures kept { S.files shelf.new ≡ S.files shelf.old }
     ensures read { IfOk result (λ due. HasReadCause (record { faults = S.faults shelf.old; absent = S.absent shelf.old; long = S.long shelf.old }) (record { faults = S.faults shelf.new; absent = S.absent shelf.new; long = S.long shelf.new }) due.status) }
     ensures failed { IfOk result (λ due. due.status ≡ status.FarFault → Rose (F.faults far.old) (F.faults far.new)) }

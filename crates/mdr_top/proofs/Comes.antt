@@ -1,6 +1,7 @@
 -- What holds where a status comes.
 use Rattle.std.proofs.Common.{◌≡◌, ℕ, List, Option, Some, None, refl, sym, subst}
 use Rattle.mdr_due.specs.declared.status.Status.{Status}
+use Rattle.mdr_due.specs.declared.status.Status.TheVariants as status
 use Rattle.mdr_due.specs.Reads.{Files, longest_source, longest_script}
 use Rattle.mdr_model.specs.declared.outcome.End.{End}
 use Rattle.mdr_model.specs.declared.outcome.End.TheVariants as ends
@@ -16,13 +17,14 @@ use Rattle.mdr_runner.proofs.Stages.{outcome_own}
 use Rattle.mdr_script.specs.declared.bound.Bound.{Bound}
 use Rattle.mdr_slicer.specs.Slicing.{HasSource}
 use Rattle.mdr_source.specs.declared.outcome.Source.{Source}
-use Rattle.mdr_split_runner.specs.Ends.{EndsWith}
-use Rattle.mdr_split_runner.proofs.Endings.{split_runs_end}
+use Rattle.mdr_split_runner.specs.Ends.{EndsWith, FailedLast}
+use Rattle.mdr_split_runner.proofs.Endings.{fails_last, split_runs_end}
 use Rattle.mdr_top.specs.Answers.{Unread, CutAnswered, ScriptAnswered, WholeDue, SplitDue, Answered, Prints}
 use Rattle.mdr_top.specs.Comes.{AreNamed, IsWanted, IsRunSource, IsRefused, IsNoScript, WasCut, IsWholeEnd, IsSplitEnd, IsDone, IsStopped, Comes}
 use Rattle.mdr_top.specs.Cuts.{IsSplit, IsCut}
 use Rattle.mdr_top.specs.declared.words.Cutting.{Cutting}
 use Rattle.mdr_top.specs.declared.words.Cutting.TheVariants as cutting
+use Rattle.mdr_top.specs.Outside.{Outside}
 use Rattle.mdr_top.specs.Words.{Cut, Whole, Run, command_of}
 
 -- a read that failed says nothing
@@ -79,7 +81,8 @@ module _ (words : List (List ℕ)) (files : Files) (loaded : Option Loaded) (es 
         source = source;
         script = script;
         manner = manner;
-        accepted = record { source_name = name; script_name = script_name; command = e; bytes = bytes; source_read = r; compiled = h; lines = lines; script_read = r'; bound = b };
+        accepted = record { source_name = name; script_name = script_name; command = e; bytes = bytes; source_read = r; compiled = h.comes; lines = lines; script_read = r'; bound = b };
+        sound = h.sound;
         ends = record { outcome = run.outcome; is_outcome = run.is_outcome; status_is = refl };
       })))
       answered
@@ -101,7 +104,8 @@ module _ (words : List (List ℕ)) (files : Files) (loaded : Option Loaded) (es 
             source = source;
             script = script;
             ticks = ticks;
-            accepted = record { source_name = name; script_name = script_name; command = e; bytes = bytes; source_read = r; compiled = h; lines = lines; script_read = r'; bound = b };
+            accepted = record { source_name = name; script_name = script_name; command = e; bytes = bytes; source_read = r; compiled = h.comes; lines = lines; script_read = r'; bound = b };
+            sound = h.sound;
             plan = due.plan;
             texts = due.texts;
             cut = due.cut;
@@ -114,7 +118,13 @@ module _ (words : List (List ℕ)) (files : Files) (loaded : Option Loaded) (es 
   answered_comes s text (Answered.whole name script_name manner e c) = whole_comes name script_name manner s text e c
   answered_comes s text (Answered.split name script_name ticks e c) = split_comes name script_name ticks s text e c
 
-  pub prints_comes : (old new : Option (List ℕ)) (s : Status) → Prints words files loaded es old new s → Comes words files loaded es s
-  prints_comes old new s (Prints.whole text a adds) = answered_comes s text a
-  prints_comes old new s (Prints.cut due text n is a within adds) = subst (Comes words files loaded es) (sym is) tt
-  prints_comes old new s (Prints.nothing is same) = subst (Comes words files loaded es) (sym is) tt
+pub prints_comes : (words : List (List ℕ)) (before after : Outside) (s : Status) → Prints words before after s → Comes words before.sides.shelf.files after.sides.far.loaded after.sides.far.exchanges s
+prints_comes words before after s (Prints.whole text a w) = answered_comes words before.sides.shelf.files after.sides.far.loaded after.sides.far.exchanges s text a
+prints_comes words before after s (Prints.cut due text is a c) = subst (Comes words before.sides.shelf.files after.sides.far.loaded after.sides.far.exchanges) (sym is) tt
+prints_comes words before after s (Prints.nothing is same) = subst (Comes words before.sides.shelf.files after.sides.far.loaded after.sides.far.exchanges) (sym is) tt
+
+-- where the far side failed
+pub comes_last : (words : List (List ℕ)) (files : Files) (loaded : Option Loaded) (es : List Exchange) (s : Status) → Comes words files loaded es s → s ≡ status.FarFault → FailedLast loaded es
+comes_last words files loaded es s comes is =
+    let e : IsSplitEnd words files loaded es status.FarFault = subst (Comes words files loaded es) is comes in
+    fails_last e.source.program e.plan e.texts e.script e.ticks loaded es status.FarFault e.ends refl

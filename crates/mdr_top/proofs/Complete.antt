@@ -4,11 +4,7 @@ use Rattle.std.proofs.lemmas.Bool.{le-ltb}
 use Rattle.mdr_due.specs.declared.status.Status.{Status}
 use Rattle.mdr_due.specs.declared.status.Status.TheVariants as status
 use Rattle.mdr_due.specs.Reads.{Files, longest_source, longest_script}
-use Rattle.mdr_due.specs.Statuses.{Counts, HasReadCause}
-use Rattle.mdr_outside.specs.Calls.{ShelfCall}
 use Rattle.mdr_outside.specs.Count.{Rose}
-use Rattle.mdr_outside.specs.declared.far.Exchange.{Exchange}
-use Rattle.mdr_outside.specs.declared.far.Loaded.{Loaded}
 use Rattle.mdr_runner.specs.Scripts.{script_for}
 use Rattle.mdr_runner.proofs.Stages.{outcome_own}
 use Rattle.mdr_script.specs.declared.bound.Bound.{Bound}
@@ -19,9 +15,10 @@ use Rattle.mdr_source.specs.Sources.{Comes}
 use Rattle.mdr_source.proofs.OneThing.{one_thing}
 use Rattle.mdr_split_runner.specs.Means.{while_watched}
 use Rattle.mdr_top.specs.Comes.{IsBoundDue, IsSizedDue, IsScriptDue, IsRunDue, IsDueFor, IsDueOrFault, IsExact}
-use Rattle.mdr_top.specs.Cuts.{WriteCause}
+use Rattle.mdr_top.specs.Cuts.{WroteCause, WriteCause, ReadCause}
 use Rattle.mdr_top.specs.Accepted.{AreAccepted, over_two_halves}
-use Rattle.mdr_top.specs.Headline.{MeansBy, Means, Rests, EndsAsMeant, Completes}
+use Rattle.mdr_top.specs.Headline.{MeansBy, Means, MeansWhereHonest, Rests, RestsHere, EndsAsMeant, EndsWhereAccepted, Completes}
+use Rattle.mdr_top.specs.Outside.{Outside}
 use Rattle.mdr_top.specs.Splits.{IsOfRun}
 use Rattle.mdr_top.specs.Words.{Task, Cut, Whole, Run, command_of}
 
@@ -69,10 +66,10 @@ ticks_in (Whole source_name script_name manner) = manner.ticks
 ticks_in (Run source_name script_name ticks) = ticks
 
 -- of a run over two halves, a write fault is the output's
-of_output : (w w' u u' : ℕ) (command : Option Task) (source_name script_name : List ℕ) (ticks : ℕ) → command ≡ Some (Run source_name script_name ticks) → WriteCause command w w' u u' → Rose w w'
-of_output w w' u u' command source_name script_name ticks e cause = of (subst (λ (c : Option Task). WriteCause c w w' u u') e cause)
+of_output : (words : List (List ℕ)) (before after : Outside) (s : Status) (source_name script_name : List ℕ) (ticks : ℕ) → command_of words ≡ Some (Run source_name script_name ticks) → WriteCause words before after s → s ≡ status.WriteFault → Rose before.out.faults after.out.faults
+of_output words before after s source_name script_name ticks e cause is = of (subst (λ (c : Option Task). Rose before.out.faults after.out.faults ⊎ WroteCause c before.sides.shelf.unwritten after.sides.shelf.unwritten) e (cause is))
   where
-    of : WriteCause (Some (Run source_name script_name ticks)) w w' u u' → Rose w w'
+    of : Rose before.out.faults after.out.faults ⊎ ⊥ → Rose before.out.faults after.out.faults
     of (inl r) = r
     of (inr none) = absurd none
 
@@ -94,7 +91,7 @@ module _ (words : List (List ℕ)) (f : List ℕ → Option (List ℕ)) (source 
   same_lines = some_same (f a.script_name) b.lines a.lines (sym (ap (λ (t : Task). f (script_in t)) same_task) ∙ b.script_read.0) a.script_read.0
 
   same_source : other ≡ source
-  same_source = one_source a.bytes b.bytes source other same_bytes a.compiled.comes b.compiled.comes
+  same_source = one_source a.bytes b.bytes source other same_bytes a.compiled b.compiled
 
   are_same : AreSame source other script script' ticks ticks'
   are_same = record {
@@ -136,13 +133,14 @@ module _ (words : List (List ℕ)) (f : List ℕ → Option (List ℕ)) (s : Sta
   source_runs : IsRunDue (λ program bound. IsOfRun s) (f a.source_name) (f a.script_name) s → IsOfRun s
   source_runs (IsRunDue.missing e is) = absurd (not_some (f a.source_name) a.bytes a.source_read.0 e)
   source_runs (IsRunDue.long bytes e long is) = absurd (too_long longest_source a.bytes bytes (some_same (f a.source_name) bytes a.bytes e a.source_read.0) a.source_read.1 long)
-  source_runs (IsRunDue.refused bytes refusal e le comes is) = absurd (no_refusal a.bytes bytes source refusal (some_same (f a.source_name) bytes a.bytes e a.source_read.0) a.compiled.comes comes)
-  source_runs (IsRunDue.accepted bytes other e le comes due) = script_runs other (one_source a.bytes bytes source other (some_same (f a.source_name) bytes a.bytes e a.source_read.0) a.compiled.comes comes) due
+  source_runs (IsRunDue.refused bytes refusal e le comes is) = absurd (no_refusal a.bytes bytes source refusal (some_same (f a.source_name) bytes a.bytes e a.source_read.0) a.compiled comes)
+  source_runs (IsRunDue.accepted bytes other e le comes due) = script_runs other (one_source a.bytes bytes source other (some_same (f a.source_name) bytes a.bytes e a.source_read.0) a.compiled comes) due
 
   -- and ends as is meant
-  ends_as_meant : (shelf shelf' : List ShelfCall) (loaded : Option Loaded) (es : List Exchange) (old new : Option (List ℕ)) → MeansBy words (Some f) shelf shelf' loaded es old new s → EndsAsMeant source.program script ticks s
-  ends_as_meant shelf shelf' loaded es old new m =
-      let same = are_same words f source m.source script m.script ticks m.ticks a m.accepted in
+  ends_as_meant : (before after : Outside) → before.sides.shelf.files ≡ Some f → MeansBy words before after s → EndsAsMeant source.program script ticks s
+  ends_as_meant before after told m =
+      let accepted : AreAccepted words (Some f) (over_two_halves m.ticks) m.source m.script = subst (λ (files : Files). AreAccepted words files (over_two_halves m.ticks) m.source m.script) told m.accepted in
+      let same = are_same words f source m.source script m.script ticks m.ticks a accepted in
       let ends : EndsAsMeant m.source.program m.script m.ticks s = record {
         ends = record { outcome = m.same.outcome; is_outcome = m.same.is_outcome; status_is = m.same.status_is };
         own = outcome_own m.source.program m.script (while_watched m.ticks) m.same.outcome m.same.is_outcome;
@@ -151,19 +149,26 @@ module _ (words : List (List ℕ)) (f : List ℕ → Option (List ℕ)) (s : Sta
       (subst (λ (b : Bound). EndsAsMeant source.program b m.ticks s) same.scripts
       (subst (λ (x : Source). EndsAsMeant x.program m.script m.ticks s) same.sources ends))
 
-pub completes : (words : List (List ℕ)) (files : Files) (shelf shelf' : List ShelfCall) (loaded : Option Loaded) (es : List Exchange) (old new : Option (List ℕ)) (s : Status) (before after : Counts) (w w' u u' far far' : ℕ)
-    → IsExact words files s → Means words files shelf shelf' loaded es old new s → HasReadCause before after s → (s ≡ status.WriteFault → WriteCause (command_of words) w w' u u') → (s ≡ status.FarFault → Rose far far')
-    → Rests before.faults after.faults → Rests w w' → Rests far far' → Completes words files s
-completes words None shelf shelf' loaded es old new s before after w w' u u' far far' exact means cause wrote fails reads_rest out_rest far_rest source script ticks told a = elim told [ ]
-completes words (Some f) shelf shelf' loaded es old new s before after w w' u u' far far' exact means cause wrote fails reads_rest out_rest far_rest source script ticks told a = of exact
-  where
-    by_status : Ended s → (s ≡ status.OutOfMemory) ⊎ EndsAsMeant source.program script ticks s
-    by_status (Ended.itself is) = inr (ends_as_meant words f s source script ticks a shelf shelf' loaded es old new (means.means a.source_name a.script_name ticks a.command is))
-    by_status (Ended.refused is) = absurd (means.never is)
-    by_status (Ended.failed is) = absurd (far_rest (fails is))
+module _ (words : List (List ℕ)) (before after : Outside) (s : Status) (means : Means words before after s) (cause : ReadCause before.sides.shelf after.sides.shelf s) (wrote : WriteCause words before after s) (fails : s ≡ status.FarFault → Rose before.sides.far.faults after.sides.far.faults) (rests : RestsHere before after) (far_rest : Rests before.sides.far.faults after.sides.far.faults) where
+  ends_told : (f : List ℕ → Option (List ℕ)) → before.sides.shelf.files ≡ Some f → (source : Source) (script : Bound) (ticks : ℕ) → AreAccepted words (Some f) (over_two_halves ticks) source script → IsDueOrFault (IsDueFor (command_of words) f s) s
+      → (s ≡ status.OutOfMemory) ⊎ EndsAsMeant source.program script ticks s
+  ends_told f told source script ticks a exact = of exact
+    where
+      by_status : Ended s → (s ≡ status.OutOfMemory) ⊎ EndsAsMeant source.program script ticks s
+      by_status (Ended.itself is) = inr (ends_as_meant words f s source script ticks a before after told (means.means a.source_name a.script_name ticks a.command is))
+      by_status (Ended.refused is) = absurd (means.never is)
+      by_status (Ended.failed is) = absurd (far_rest (fails is))
 
-    of : IsDueOrFault (IsDueFor (command_of words) f s) s → (s ≡ status.OutOfMemory) ⊎ EndsAsMeant source.program script ticks s
-    of (inl is) = absurd (reads_rest (subst (HasReadCause before after) is cause))
-    of (inr (inl is)) = absurd (out_rest (of_output w w' u u' (command_of words) a.source_name a.script_name ticks a.command (wrote is)))
-    of (inr (inr (inl is))) = inl is
-    of (inr (inr (inr due))) = by_status (ended s (source_runs words f s source script ticks a (subst (λ (c : Option Task). IsDueFor c f s) a.command due)))
+      of : IsDueOrFault (IsDueFor (command_of words) f s) s → (s ≡ status.OutOfMemory) ⊎ EndsAsMeant source.program script ticks s
+      of (inl is) = absurd (rests.reads (subst (ReadCause before.sides.shelf after.sides.shelf) is cause))
+      of (inr (inl is)) = absurd (rests.writes (of_output words before after s a.source_name a.script_name ticks a.command wrote is))
+      of (inr (inr (inl is))) = inl is
+      of (inr (inr (inr due))) = by_status (ended s (source_runs words f s source script ticks a (subst (λ (c : Option Task). IsDueFor c f s) a.command due)))
+
+  ends_so : (files : Files) → before.sides.shelf.files ≡ files → IsExact words files s → EndsWhereAccepted words files s
+  ends_so None told exact source script ticks are a = elim are [ ]
+  ends_so (Some f) told exact source script ticks are a = ends_told f told source script ticks a exact
+
+pub completes : (words : List (List ℕ)) (before after : Outside) (s : Status) → IsExact words before.sides.shelf.files s → MeansWhereHonest words before after s → ReadCause before.sides.shelf after.sides.shelf s → WriteCause words before after s
+    → (s ≡ status.FarFault → Rose before.sides.far.faults after.sides.far.faults) → Completes words before after s
+completes words before after s exact means cause wrote fails rests far_rest honest = ends_so words before after s (means honest) cause wrote fails rests far_rest before.sides.shelf.files refl exact

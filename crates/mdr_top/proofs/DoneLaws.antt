@@ -1,13 +1,13 @@
 -- What was done is what is printed, and what is meant.
-use Rattle.std.proofs.Common.{◌≡◌, ℕ, ◌⊎◌, List, Option, Some, None, sym, ap, ◌∙◌, subst}
+use Rattle.std.proofs.Common.{◌≡◌, ℕ, ◌⊎◌, true, false, List, [], Option, Some, None, refl, sym, ap, ◌∙◌, subst}
+use Rattle.std.proofs.lemmas.List.{append-nil}
 use Rattle.mdr_due.specs.declared.status.Status.{Status}
 use Rattle.mdr_due.specs.declared.status.Status.TheVariants as status
-use Rattle.mdr_due.specs.Reads.{Files, longest_source, longest_script}
+use Rattle.mdr_due.specs.Reads.{longest_source, longest_script}
 use Rattle.mdr_honest.specs.Honest.{IsHonest}
-use Rattle.mdr_outside.specs.Calls.{ShelfCall, Read, FarCall, and_then}
-use Rattle.mdr_outside.specs.declared.far.Exchange.{Exchange}
-use Rattle.mdr_outside.specs.declared.far.Loaded.{Loaded}
+use Rattle.mdr_outside.specs.Calls.{ShelfCall, Read, and_then}
 use Rattle.mdr_outside.specs.declared.shelf.ReadAnswer.TheVariants as reads
+use Rattle.mdr_outside.specs.Sides.{SinkSide}
 use Rattle.mdr_runner.specs.declared.manner.Manner.{Manner}
 use Rattle.mdr_runner.specs.Scripts.{NoScriptOf}
 use Rattle.mdr_runner.specs.Runs.{RunsOver, Runs}
@@ -15,38 +15,59 @@ use Rattle.mdr_slicer.specs.Slicing.{NoSourceOf}
 use Rattle.mdr_split_runner.specs.Means.{SplitMeans, SplitMeansBy}
 use Rattle.mdr_split_runner.specs.SplitRuns.{SplitRuns}
 use Rattle.mdr_split_runner.proofs.Honest.{runs_mean}
-use Rattle.mdr_top.specs.Answers.{Adds, Answered, Prints}
+use Rattle.mdr_top.specs.Answers.{Answered, Prints}
 use Rattle.mdr_top.specs.Cuts.{IsOfCut}
-use Rattle.mdr_top.specs.Done.{Done, Does}
+use Rattle.mdr_top.specs.Done.{Done, DonePart, Does}
 use Rattle.mdr_top.specs.Headline.{MeansBy, Means}
 use Rattle.mdr_top.specs.declared.words.Cutting.{Cutting}
+use Rattle.mdr_top.specs.Outside.{Sides, Outside}
 use Rattle.mdr_top.specs.Wholes.{WholeMeansBy, IsOfWhole}
 use Rattle.mdr_top.specs.Words.{Task, Cut, Whole, Run, command_of}
+use Rattle.mdr_top.specs.Writing.{IsWritten, IsCutOff, TellsFailure}
 use Rattle.mdr_top.proofs.CutLaws.{cut_no_run, whole_no_run, unread_so, cut_so, cut_status}
 use Rattle.mdr_top.proofs.Headline.{IsEarly, early_sourceless, not_early}
+use Rattle.mdr_top.proofs.Pieces.{offers_last, offers_whole}
 use Rattle.mdr_top.proofs.SplitLaws.{split_so}
 use Rattle.mdr_top.proofs.Statuses.{unread_status}
 use Rattle.mdr_top.proofs.WholeLaws.{whole_so, whole_status}
 
+-- ---- what is done
+
+-- words that are seen another way, and a text
+pub does_all : (seen words : List (List ℕ)) (before after : Outside) (s : Status) (text offered : List ℕ) → seen ≡ words → offered ≡ text → Done seen before.sides after.sides s text → IsWritten before.out after.out offered → Does words before after s
+does_all seen words before after s text offered same is d w = Does.whole text (subst (λ (ws : List (List ℕ)). Done ws before.sides after.sides s text) same d) (subst (IsWritten before.out after.out) is w)
+
+pub does_cut : (seen words : List (List ℕ)) (before after : Outside) (due : Status) (text offered : List ℕ) → seen ≡ words → offered ≡ text → Done seen before.sides after.sides due text → IsCutOff before.out after.out offered → Does words before after status.WriteFault
+does_cut seen words before after due text offered same is d c = Does.cut due text refl (subst (λ (ws : List (List ℕ)). Done ws before.sides after.sides due text) same d) (subst (IsCutOff before.out after.out) is c)
+
+pub does_part : (seen words : List (List ℕ)) (before after : Outside) → seen ≡ words → DonePart seen before.sides after.sides → after.out ≡ before.out → Does words before after status.OutOfMemory
+does_part seen words before after same d out = Does.nothing refl (subst (λ (ws : List (List ℕ)). DonePart ws before.sides after.sides) same d) out
+
 -- ---- what is printed
 
-module _ (words : List (List ℕ)) (files files' : Files) (shelf shelf' : List ShelfCall) (far far' : List FarCall) (loaded : Option Loaded) (es : List Exchange) where
-  answered_so : (s : Status) (text : List ℕ) → Done words files files' shelf shelf' far far' loaded es s text → Answered words files loaded es s text
-  answered_so s text (Done.usage e r f is t) = Answered.usage e is t
-  answered_so s text (Done.cut how name e d f) = Answered.cut how name e (cut_so how files files' name shelf shelf' s text d)
-  answered_so s text (Done.whole name script_name manner e kept runs f) = Answered.whole name script_name manner e (whole_so files name script_name manner shelf shelf' s text runs)
-  answered_so s text (Done.split name script_name ticks e kept runs) = Answered.split name script_name ticks e (split_so files name script_name ticks shelf shelf' far far' loaded es s text runs)
+answered_so : (words : List (List ℕ)) (before after : Sides) (s : Status) (text : List ℕ) → Done words before after s text → Answered words before.shelf.files after.far.loaded after.far.exchanges s text
+answered_so words before after s text (Done.usage e same is t) = Answered.usage e is t
+answered_so words before after s text (Done.cut how name e d f) = Answered.cut how name e (cut_so how before.shelf.files after.shelf.files name before.shelf.calls after.shelf.calls s text d)
+answered_so words before after s text (Done.whole name script_name manner e kept runs f) = Answered.whole name script_name manner e (whole_so before.shelf.files name script_name manner before.shelf.calls after.shelf.calls s text runs)
+answered_so words before after s text (Done.split name script_name ticks e kept runs) = Answered.split name script_name ticks e (split_so before.shelf.files name script_name ticks before.shelf.calls after.shelf.calls before.far after.far s text runs)
 
-  pub prints_so : (old new : Option (List ℕ)) (s : Status) → Does words files files' shelf shelf' far far' loaded es old new s → Prints words files loaded es old new s
-  prints_so old new s (Does.whole text d adds) = Prints.whole text (answered_so s text d) adds
-  prints_so old new s (Does.cut due text n is d within adds) = Prints.cut due text n is (answered_so due text d) within adds
-  prints_so old new s (Does.nothing is d same) = Prints.nothing is same
+pub prints_so : (words : List (List ℕ)) (before after : Outside) (s : Status) → Does words before after s → Prints words before after s
+prints_so words before after s (Does.whole text d w) = Prints.whole text (answered_so words before.sides after.sides s text d) w
+prints_so words before after s (Does.cut due text is d c) = Prints.cut due text is (answered_so words before.sides after.sides due text d) c
+prints_so words before after s (Does.nothing is d same) = Prints.nothing is same
+
+-- ---- calls of the output that fail
+
+pub does_tell : (words : List (List ℕ)) (before after : Outside) (s : Status) → Does words before after s → TellsFailure before.out.calls after.out.calls s
+does_tell words before after s (Does.whole text d w) = record { made = w.made; called = w.called; failed = λ any. absurd (offers_whole text w.made true refl w.offered any); last = offers_last text w.made true w.offered }
+does_tell words before after s (Does.cut due text is d c) = record { made = c.made; called = c.called; failed = λ any. is; last = offers_last text c.made false c.offered }
+does_tell words before after s (Does.nothing is d same) = record { made = []; called = ap (λ (o : SinkSide). o.calls) same ∙ sym (append-nil before.out.calls); failed = λ any. absurd any; last = tt }
 
 -- ---- what is meant over the two halves
 
-module _ (words : List (List ℕ)) (files files' : Files) (shelf shelf' : List ShelfCall) (far far' : List FarCall) (loaded : Option Loaded) (es : List Exchange) (old new : Option (List ℕ)) (s : Status) where
+module _ (words : List (List ℕ)) (before after : Outside) (s : Status) where
   abbrev MeansIt : Type 0
-  MeansIt = Means words files shelf shelf' loaded es old new s
+  MeansIt = Means words before after s
 
   early_means : IsEarly s → MeansIt
   early_means early = record { never = λ e. subst IsEarly e early; means = λ source_name script_name ticks named is. absurd (not_early s early is) }
@@ -58,8 +79,8 @@ module _ (words : List (List ℕ)) (files files' : Files) (shelf shelf' : List S
   whole_means source script manner e own = record { never = λ is. subst IsOfWhole is own; means = λ source_name script_name ticks named is. absurd (whole_no_run (command_of words) source script manner source_name script_name ticks e named) }
 
   -- what a run over an honest far side means is printed
-  split_means_by : (text : List ℕ) → Adds old new text → (name script_name : List ℕ) (ticks : ℕ) → command_of words ≡ Some (Run name script_name ticks) → SplitMeansBy files name script_name ticks shelf shelf' loaded es s text
-      → MeansBy words files shelf shelf' loaded es old new s
+  split_means_by : (text : List ℕ) → IsWritten before.out after.out text → (name script_name : List ℕ) (ticks : ℕ) → command_of words ≡ Some (Run name script_name ticks) → SplitMeansBy before.sides.shelf.files name script_name ticks before.sides.shelf.calls after.sides.shelf.calls after.sides.far.loaded after.sides.far.exchanges s text
+      → MeansBy words before after s
   split_means_by text adds name script_name ticks e m = record {
     source = m.source;
     script = m.script;
@@ -70,11 +91,12 @@ module _ (words : List (List ℕ)) (files files' : Files) (shelf shelf' : List S
       command = e;
       bytes = m.source_is.bytes;
       source_read = m.source_is.read.told;
-      compiled = m.source_is.has;
+      compiled = m.source_is.has.comes;
       lines = m.script_is.bytes;
       script_read = m.script_is.read.told;
       bound = m.script_is.has;
     };
+    sound = m.source_is.has.sound;
     read = m.script_is.read.called ∙ ap (λ (xs : List ShelfCall). and_then xs (Read script_name longest_script (reads.Ok m.script_is.bytes))) m.source_is.read.called;
     plan = m.plan;
     texts = m.texts;
@@ -86,18 +108,19 @@ module _ (words : List (List ℕ)) (files files' : Files) (shelf shelf' : List S
     same = m.same;
   }
 
-  split_means : (text : List ℕ) → Adds old new text → (name script_name : List ℕ) (ticks : ℕ) → command_of words ≡ Some (Run name script_name ticks) → SplitRuns files name script_name ticks shelf shelf' far far' loaded es s text → IsHonest loaded es → MeansIt
+  split_means : (text : List ℕ) → IsWritten before.out after.out text → (name script_name : List ℕ) (ticks : ℕ) → command_of words ≡ Some (Run name script_name ticks) → SplitRuns before.sides.shelf.files name script_name ticks before.sides.shelf.calls after.sides.shelf.calls before.sides.far after.sides.far s text → IsHonest after.sides.far.loaded after.sides.far.exchanges → MeansIt
   split_means text adds name script_name ticks e runs honest =
-      let m : SplitMeans files name script_name ticks shelf shelf' loaded es s text = runs_mean files name script_name ticks shelf shelf' far far' loaded es s text runs honest in
+      let m : SplitMeans before.sides.shelf.files name script_name ticks before.sides.shelf.calls after.sides.shelf.calls after.sides.far.loaded after.sides.far.exchanges s text =
+      runs_mean before.sides.shelf.files name script_name ticks before.sides.shelf.calls after.sides.shelf.calls before.sides.far after.sides.far s text runs honest in
       record { never = m.never; means = λ source_name other_name other_ticks named is. split_means_by text adds name script_name ticks e (m.means is) }
 
-  pub does_mean : Does words files files' shelf shelf' far far' loaded es old new s → IsHonest loaded es → MeansIt
-  does_mean (Does.cut due text n e d within adds) honest = early_means (subst IsEarly (sym e) tt)
+  pub does_mean : Does words before after s → IsHonest after.sides.far.loaded after.sides.far.exchanges → MeansIt
+  does_mean (Does.cut due text e d c) honest = early_means (subst IsEarly (sym e) tt)
   does_mean (Does.nothing e d same) honest = early_means (subst IsEarly (sym e) tt)
-  does_mean (Does.whole text (Done.usage e r f is t) adds) honest = early_means (subst IsEarly (sym is) tt)
-  does_mean (Does.whole text (Done.cut how name e d f) adds) honest = cut_means how name e (cut_status how files files' name shelf shelf' s text d)
-  does_mean (Does.whole text (Done.whole name script_name manner e kept runs f) adds) honest = whole_means name script_name manner e (whole_status files name script_name manner shelf shelf' s text runs)
-  does_mean (Does.whole text (Done.split name script_name ticks e kept runs) adds) honest = split_means text adds name script_name ticks e runs honest
+  does_mean (Does.whole text (Done.usage e same is t) w) honest = early_means (subst IsEarly (sym is) tt)
+  does_mean (Does.whole text (Done.cut how name e d f) w) honest = cut_means how name e (cut_status how before.sides.shelf.files after.sides.shelf.files name before.sides.shelf.calls after.sides.shelf.calls s text d)
+  does_mean (Does.whole text (Done.whole name script_name manner e kept runs f) w) honest = whole_means name script_name manner e (whole_status before.sides.shelf.files name script_name manner before.sides.shelf.calls after.sides.shelf.calls s text runs)
+  does_mean (Does.whole text (Done.split name script_name ticks e kept runs) w) honest = split_means text w name script_name ticks e runs honest
 
 -- ---- what is meant on one memory
 
@@ -107,32 +130,33 @@ no_whole command source_name script_name manner e f = Prim.cc
 cut_no_whole : (command : Option Task) (how : Cutting) (name source_name script_name : List ℕ) (manner : Manner) → command ≡ Some (Cut how name) → command ≡ Some (Whole source_name script_name manner) → ⊥
 cut_no_whole command how name source_name script_name manner e f = Prim.cc
 
-module _ (words : List (List ℕ)) (files : Files) (shelf shelf' : List ShelfCall) (old new : Option (List ℕ)) (s : Status) (text : List ℕ) (adds : Adds old new text) (name script_name : List ℕ) (manner : Manner) (e : command_of words ≡ Some (Whole name script_name manner)) where
+module _ (words : List (List ℕ)) (before after : Outside) (s : Status) (text : List ℕ) (adds : IsWritten before.out after.out text) (name script_name : List ℕ) (manner : Manner) (e : command_of words ≡ Some (Whole name script_name manner)) where
   -- what ran is what is meant
-  runs_mean_whole : Runs files name script_name manner shelf shelf' s text → (s ≡ status.Done) ⊎ (s ≡ status.Stopped) → WholeMeansBy words files shelf shelf' old new s
-  runs_mean_whole (Runs.no_source (NoSourceOf.unread u)) is = absurd (not_early s (unread_status IsEarly early_sourceless files s text name longest_source (unread_so files name longest_source shelf shelf' s text u)) is)
+  runs_mean_whole : Runs before.sides.shelf.files name script_name manner before.sides.shelf.calls after.sides.shelf.calls s text → (s ≡ status.Done) ⊎ (s ≡ status.Stopped) → WholeMeansBy words before after s
+  runs_mean_whole (Runs.no_source (NoSourceOf.unread u)) is = absurd (not_early s (unread_status IsEarly early_sourceless before.sides.shelf.files s text name longest_source (unread_so before.sides.shelf.files name longest_source before.sides.shelf.calls after.sides.shelf.calls s text u)) is)
   runs_mean_whole (Runs.no_source (NoSourceOf.refused bytes read n)) is = absurd (not_early s (subst IsEarly (sym n.status_is) tt) is)
-  runs_mean_whole (Runs.sourced source between read (RunsOver.no_script (NoScriptOf.unread u))) is = absurd (not_early s (unread_status IsEarly early_sourceless files s text script_name longest_script (unread_so files script_name longest_script between shelf' s text u)) is)
+  runs_mean_whole (Runs.sourced source between read (RunsOver.no_script (NoScriptOf.unread u))) is = absurd (not_early s (unread_status IsEarly early_sourceless before.sides.shelf.files s text script_name longest_script (unread_so before.sides.shelf.files script_name longest_script between after.sides.shelf.calls s text u)) is)
   runs_mean_whole (Runs.sourced source between read (RunsOver.no_script (NoScriptOf.refused lines told n))) is = absurd (not_early s (subst IsEarly (sym n.status_is) tt) is)
   runs_mean_whole (Runs.sourced source between read (RunsOver.ran script given run')) is = record {
     source = source;
     script = script;
     manner = manner;
-    accepted = record { source_name = name; script_name = script_name; command = e; bytes = read.bytes; source_read = read.read.told; compiled = read.has; lines = given.bytes; script_read = given.read.told; bound = given.has };
+    accepted = record { source_name = name; script_name = script_name; command = e; bytes = read.bytes; source_read = read.read.told; compiled = read.has.comes; lines = given.bytes; script_read = given.read.told; bound = given.has };
+    sound = read.has.sound;
     read = given.read.called ∙ ap (λ (xs : List ShelfCall). and_then xs (Read script_name longest_script (reads.Ok given.bytes))) read.read.called;
     text = text;
     printed = adds;
     meaning = run';
   }
 
-module _ (words : List (List ℕ)) (files files' : Files) (shelf shelf' : List ShelfCall) (far far' : List FarCall) (loaded : Option Loaded) (es : List Exchange) (old new : Option (List ℕ)) (s : Status) (source_name script_name : List ℕ) (manner : Manner) (named : command_of words ≡ Some (Whole source_name script_name manner)) where
-  done_means : (text : List ℕ) → Adds old new text → (s ≡ status.Done) ⊎ (s ≡ status.Stopped) → Done words files files' shelf shelf' far far' loaded es s text → WholeMeansBy words files shelf shelf' old new s
-  done_means text adds is (Done.usage e r f st t) = absurd (no_whole (command_of words) source_name script_name manner named e)
+module _ (words : List (List ℕ)) (before after : Outside) (s : Status) (source_name script_name : List ℕ) (manner : Manner) (named : command_of words ≡ Some (Whole source_name script_name manner)) where
+  done_means : (text : List ℕ) → IsWritten before.out after.out text → (s ≡ status.Done) ⊎ (s ≡ status.Stopped) → Done words before.sides after.sides s text → WholeMeansBy words before after s
+  done_means text adds is (Done.usage e same st t) = absurd (no_whole (command_of words) source_name script_name manner named e)
   done_means text adds is (Done.cut how name e d f) = absurd (cut_no_whole (command_of words) how name source_name script_name manner e named)
-  done_means text adds is (Done.whole name other other_manner e kept runs f) = runs_mean_whole words files shelf shelf' old new s text adds name other other_manner e runs is
+  done_means text adds is (Done.whole name other other_manner e kept runs f) = runs_mean_whole words before after s text adds name other other_manner e runs is
   done_means text adds is (Done.split name other ticks e kept runs) = absurd (whole_no_run (command_of words) source_name script_name manner name other ticks named e)
 
-  pub does_run : Does words files files' shelf shelf' far far' loaded es old new s → (s ≡ status.Done) ⊎ (s ≡ status.Stopped) → WholeMeansBy words files shelf shelf' old new s
-  does_run (Does.whole text d adds) is = done_means text adds is d
-  does_run (Does.cut due text n e d within adds) is = absurd (not_early s (subst IsEarly (sym e) tt) is)
+  pub does_run : Does words before after s → (s ≡ status.Done) ⊎ (s ≡ status.Stopped) → WholeMeansBy words before after s
+  does_run (Does.whole text d w) is = done_means text w is d
+  does_run (Does.cut due text e d c) is = absurd (not_early s (subst IsEarly (sym e) tt) is)
   does_run (Does.nothing e d same) is = absurd (not_early s (subst IsEarly (sym e) tt) is)

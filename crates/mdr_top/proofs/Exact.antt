@@ -1,17 +1,17 @@
 -- The status is what words and files give.
 use Rattle.std.proofs.Common.{◌≡◌, ℕ, ◌<◌, ◌⊎◌, inl, inr, Bool, List, length, Option, Some, None, Result, Ok, Err, refl, sym, subst}
-use Rattle.std.specs.Prelude.{IsSomeAnd}
+use Rattle.std.specs.Prelude.{IfSome, IsSomeAnd}
 use Rattle.std.proofs.lemmas.Bool.{lt-ltb, le-ltb}
 use Rattle.mdr_core.specs.declared.program.Program.{Program}
 use Rattle.mdr_due.specs.declared.status.Status.{Status}
 use Rattle.mdr_due.specs.declared.status.Status.TheVariants as status
 use Rattle.mdr_due.specs.Reads.{Files, longest_source, longest_script}
-use Rattle.mdr_due.specs.Statuses.{Counts, HasReadCause}
 use Rattle.mdr_outside.specs.Count.{Rose}
 use Rattle.mdr_outside.specs.declared.far.Exchange.{Exchange}
 use Rattle.mdr_outside.specs.declared.far.Loaded.{Loaded}
 use Rattle.mdr_outside.specs.declared.shelf.ReadAnswer.TheVariants as reads
 use Rattle.mdr_outside.specs.Shelf.{ReadsFrom}
+use Rattle.mdr_runner.specs.declared.manner.Manner.{Manner}
 use Rattle.mdr_runner.specs.Runs.{EndsWith}
 use Rattle.mdr_runner.specs.Scripts.{script_for}
 use Rattle.mdr_script.specs.declared.bound.Bound.{Bound}
@@ -19,12 +19,13 @@ use Rattle.mdr_script.specs.declared.script_error.ScriptKind.{ScriptKind}
 use Rattle.mdr_source.specs.declared.outcome.Source.{Source}
 use Rattle.mdr_top.specs.Answers.{Unread, CutAnswered, ScriptAnswered, WholeDue, SplitDue, Answered, Prints}
 use Rattle.mdr_top.specs.Comes.{IsCutDue, IsBoundDue, IsSizedDue, IsScriptDue, IsRunDue, IsWholeDue, IsDueFor, IsDueOrFault, IsExact, CutCompletes, WholeCompletes}
-use Rattle.mdr_top.specs.Cuts.{IsSplit, IsCut, CutCause, WriteCause}
+use Rattle.mdr_top.specs.Cuts.{IsSplit, IsCut, CutCause, WroteCause, WriteCause, ReadCause}
 use Rattle.mdr_top.specs.declared.words.Cutting.{Cutting}
 use Rattle.mdr_top.specs.declared.words.Cutting.TheVariants as cutting
-use Rattle.mdr_top.specs.Headline.{Rests}
+use Rattle.mdr_top.specs.Headline.{Rests, RestsHere}
+use Rattle.mdr_top.specs.Outside.{Outside}
 use Rattle.mdr_top.specs.Splits.{IsOfRun}
-use Rattle.mdr_top.specs.Words.{Task, command_of}
+use Rattle.mdr_top.specs.Words.{Task, Cut, Whole, command_of}
 use Rattle.mdr_top.proofs.SplitLaws.{run_status}
 
 module _ (words : List (List ℕ)) (f : List ℕ → Option (List ℕ)) (loaded : Option Loaded) (es : List Exchange) (s : Status) (text : List ℕ) where
@@ -92,54 +93,73 @@ module _ (words : List (List ℕ)) (f : List ℕ → Option (List ℕ)) (loaded 
       subst (λ (d : Option Task). IsDueOrFault (IsDueFor d f s) s) (sym e)
       (run_due (λ program bound. IsOfRun s) (SplitDue ticks loaded es s text) name script_name (λ source script due. run_status source.program due.plan due.texts script ticks loaded es s text due.ran) c)
 
-pub prints_exactly : (words : List (List ℕ)) (files : Files) (loaded : Option Loaded) (es : List Exchange) (old new : Option (List ℕ)) (s : Status) → Prints words files loaded es old new s → IsExact words files s
-prints_exactly words None loaded es old new s p = tt
-prints_exactly words (Some f) loaded es old new s (Prints.whole text a adds) = answered_due words f loaded es s text a
-prints_exactly words (Some f) loaded es old new s (Prints.cut due text n is a within adds) = inr (inl is)
-prints_exactly words (Some f) loaded es old new s (Prints.nothing is same) = inr (inr (inl is))
+pub prints_exactly : (words : List (List ℕ)) (before after : Outside) (s : Status) → Prints words before after s → IsExact words before.sides.shelf.files s
+prints_exactly words before after s p = of before.sides.shelf.files (exactly p)
+  where
+    exactly : Prints words before after s → (f : List ℕ → Option (List ℕ)) → before.sides.shelf.files ≡ Some f → IsDueOrFault (IsDueFor (command_of words) f s) s
+    exactly (Prints.whole text a w) f is = answered_due words f after.sides.far.loaded after.sides.far.exchanges s text (subst (λ (files : Files). Answered words files after.sides.far.loaded after.sides.far.exchanges s text) is a)
+    exactly (Prints.cut due text is a c) f told = inr (inl is)
+    exactly (Prints.nothing is same) f told = inr (inr (inl is))
+
+    of : (files : Files) → ((f : List ℕ → Option (List ℕ)) → files ≡ Some f → IsDueOrFault (IsDueFor (command_of words) f s) s) → IsExact words files s
+    of None due = tt
+    of (Some f) due = due f refl
 
 -- words that aren't accepted
-pub usage_comes : (words : List (List ℕ)) (files : Files) (loaded : Option Loaded) (es : List Exchange) (old new : Option (List ℕ)) (s : Status) → Prints words files loaded es old new s
-    → command_of words ≡ None → (s ≡ status.Usage) ⊎ ((s ≡ status.WriteFault) ⊎ (s ≡ status.OutOfMemory))
-usage_comes words files loaded es old new s (Prints.whole text a adds) none = of a
+pub usage_comes : (words : List (List ℕ)) (before after : Outside) (s : Status) → Prints words before after s → command_of words ≡ None → (s ≡ status.Usage) ⊎ ((s ≡ status.WriteFault) ⊎ (s ≡ status.OutOfMemory))
+usage_comes words before after s (Prints.whole text a w) none = of a
   where
-    of : Answered words files loaded es s text → (s ≡ status.Usage) ⊎ ((s ≡ status.WriteFault) ⊎ (s ≡ status.OutOfMemory))
+    of : Answered words before.sides.shelf.files after.sides.far.loaded after.sides.far.exchanges s text → (s ≡ status.Usage) ⊎ ((s ≡ status.WriteFault) ⊎ (s ≡ status.OutOfMemory))
     of (Answered.usage e is t) = inl is
     of (Answered.cut how name e c) = absurd (Prim.cc)
     of (Answered.whole name script_name manner e c) = absurd (Prim.cc)
     of (Answered.split name script_name ticks e c) = absurd (Prim.cc)
-usage_comes words files loaded es old new s (Prints.cut due text n is a within adds) none = inr (inl is)
-usage_comes words files loaded es old new s (Prints.nothing is same) none = inr (inr is)
+usage_comes words before after s (Prints.cut due text is a c) none = inr (inl is)
+usage_comes words before after s (Prints.nothing is same) none = inr (inr is)
 
 -- ---- where nothing outside fails
 
-pub cut_completes : (words : List (List ℕ)) (files : Files) (s : Status) (before after : Counts) (w w' u u' : ℕ) → IsExact words files s → HasReadCause before after s → (s ≡ status.WriteFault → WriteCause (command_of words) w w' u u')
-    → Rests before.faults after.faults → Rests u u' → Rests w w' → CutCompletes words files s
-cut_completes words None s before after w w' u u' exact cause wrote reads_rest shelf_rest out_rest how name e = tt
-cut_completes words (Some f) s before after w w' u u' exact cause wrote reads_rest shelf_rest out_rest how name e = of exact
-  where
-    by_cause : (k : Cutting) → Rose w w' ⊎ CutCause k u u' → ⊥
-    by_cause k (inl r) = out_rest r
-    by_cause cutting.Split (inr r) = shelf_rest r
-    by_cause cutting.Report (inr r) = r
+module _ (words : List (List ℕ)) (before after : Outside) (s : Status) (cause : ReadCause before.sides.shelf after.sides.shelf s) (wrote : WriteCause words before after s) (rests : RestsHere before after) where
+  no_read_fault : s ≡ status.ReadFault → ⊥
+  no_read_fault is = rests.reads (subst (ReadCause before.sides.shelf after.sides.shelf) is cause)
 
-    of : IsDueOrFault (IsDueFor (command_of words) f s) s → (s ≡ status.OutOfMemory) ⊎ IsCutDue (f name) s
-    of (inl is) = absurd (reads_rest (subst (HasReadCause before after) is cause))
-    of (inr (inl is)) = absurd (by_cause how (subst (λ (c : Option Task). WriteCause c w w' u u') e (wrote is)))
-    of (inr (inr (inl is))) = inl is
-    of (inr (inr (inr due))) = inr (subst (λ (c : Option Task). IsDueFor c f s) e due)
+  cut_ends : (f : List ℕ → Option (List ℕ)) (how : Cutting) (name : List ℕ) → command_of words ≡ Some (Cut how name) → Rests before.sides.shelf.unwritten after.sides.shelf.unwritten → IsDueOrFault (IsDueFor (command_of words) f s) s → (s ≡ status.OutOfMemory) ⊎ IsCutDue (f name) s
+  cut_ends f how name e shelf_rest exact = of exact
+    where
+      by_cause : (k : Cutting) → Rose before.out.faults after.out.faults ⊎ CutCause k before.sides.shelf.unwritten after.sides.shelf.unwritten → ⊥
+      by_cause k (inl r) = rests.writes r
+      by_cause cutting.Split (inr r) = shelf_rest r
+      by_cause cutting.Report (inr r) = r
 
-pub whole_completes : (words : List (List ℕ)) (files : Files) (s : Status) (before after : Counts) (w w' u u' : ℕ) → IsExact words files s → HasReadCause before after s → (s ≡ status.WriteFault → WriteCause (command_of words) w w' u u')
-    → Rests before.faults after.faults → Rests w w' → WholeCompletes words files s
-whole_completes words None s before after w w' u u' exact cause wrote reads_rest out_rest source_name script_name manner e = tt
-whole_completes words (Some f) s before after w w' u u' exact cause wrote reads_rest out_rest source_name script_name manner e = of exact
-  where
-    by_cause : Rose w w' ⊎ ⊥ → ⊥
-    by_cause (inl r) = out_rest r
-    by_cause (inr none) = none
+      of : IsDueOrFault (IsDueFor (command_of words) f s) s → (s ≡ status.OutOfMemory) ⊎ IsCutDue (f name) s
+      of (inl is) = absurd (no_read_fault is)
+      of (inr (inl is)) = absurd (by_cause how (subst (λ (c : Option Task). Rose before.out.faults after.out.faults ⊎ WroteCause c before.sides.shelf.unwritten after.sides.shelf.unwritten) e (wrote is)))
+      of (inr (inr (inl is))) = inl is
+      of (inr (inr (inr due))) = inr (subst (λ (c : Option Task). IsDueFor c f s) e due)
 
-    of : IsDueOrFault (IsDueFor (command_of words) f s) s → (s ≡ status.OutOfMemory) ⊎ IsWholeDue manner (f source_name) (f script_name) s
-    of (inl is) = absurd (reads_rest (subst (HasReadCause before after) is cause))
-    of (inr (inl is)) = absurd (by_cause (subst (λ (c : Option Task). WriteCause c w w' u u') e (wrote is)))
-    of (inr (inr (inl is))) = inl is
-    of (inr (inr (inr due))) = inr (subst (λ (c : Option Task). IsDueFor c f s) e due)
+  whole_ends : (f : List ℕ → Option (List ℕ)) (source_name script_name : List ℕ) (manner : Manner) → command_of words ≡ Some (Whole source_name script_name manner) → IsDueOrFault (IsDueFor (command_of words) f s) s
+      → (s ≡ status.OutOfMemory) ⊎ IsWholeDue manner (f source_name) (f script_name) s
+  whole_ends f source_name script_name manner e exact = of exact
+    where
+      by_cause : Rose before.out.faults after.out.faults ⊎ ⊥ → ⊥
+      by_cause (inl r) = rests.writes r
+      by_cause (inr none) = none
+
+      of : IsDueOrFault (IsDueFor (command_of words) f s) s → (s ≡ status.OutOfMemory) ⊎ IsWholeDue manner (f source_name) (f script_name) s
+      of (inl is) = absurd (no_read_fault is)
+      of (inr (inl is)) = absurd (by_cause (subst (λ (c : Option Task). Rose before.out.faults after.out.faults ⊎ WroteCause c before.sides.shelf.unwritten after.sides.shelf.unwritten) e (wrote is)))
+      of (inr (inr (inl is))) = inl is
+      of (inr (inr (inr due))) = inr (subst (λ (c : Option Task). IsDueFor c f s) e due)
+
+-- of what holds where the files are told
+told_so : (files : Files) (P Q : (List ℕ → Option (List ℕ)) → Type 0) → ((f : List ℕ → Option (List ℕ)) → P f → Q f) → IfSome files P → IfSome files Q
+told_so None P Q go h = tt
+told_so (Some f) P Q go h = go f h
+
+pub cut_completes : (words : List (List ℕ)) (before after : Outside) (s : Status) → IsExact words before.sides.shelf.files s → ReadCause before.sides.shelf after.sides.shelf s → WriteCause words before after s → CutCompletes words before after s
+cut_completes words before after s exact cause wrote rests shelf_rest how name e =
+    told_so before.sides.shelf.files (λ f. IsDueOrFault (IsDueFor (command_of words) f s) s) (λ f. (s ≡ status.OutOfMemory) ⊎ IsCutDue (f name) s) (λ f due. cut_ends words before after s cause wrote rests f how name e shelf_rest due) exact
+
+pub whole_completes : (words : List (List ℕ)) (before after : Outside) (s : Status) → IsExact words before.sides.shelf.files s → ReadCause before.sides.shelf after.sides.shelf s → WriteCause words before after s → WholeCompletes words before after s
+whole_completes words before after s exact cause wrote rests source_name script_name manner e =
+    told_so before.sides.shelf.files (λ f. IsDueOrFault (IsDueFor (command_of words) f s) s) (λ f. (s ≡ status.OutOfMemory) ⊎ IsWholeDue manner (f source_name) (f script_name) s) (λ f due. whole_ends words before after s cause wrote rests f source_name script_name manner e due) exact

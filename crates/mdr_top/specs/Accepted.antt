@@ -1,13 +1,13 @@
 -- A source and a script that are run, where the words name them and both are taken.
-use Rattle.std.specs.Prelude.{◌≡◌, ℕ, List, Some}
+use Rattle.std.specs.Prelude.{◌≡◌, ℕ, List, Some, Ok}
 use Rattle.mdr_due.specs.Reads.{Files, longest_source, longest_script}
 use Rattle.mdr_outside.specs.declared.shelf.ReadAnswer.TheVariants as reads
 use Rattle.mdr_outside.specs.Shelf.{ReadsFrom}
 use Rattle.mdr_runner.specs.declared.manner.Manner.{Manner}
 use Rattle.mdr_runner.specs.Scripts.{HasScript}
 use Rattle.mdr_script.specs.declared.bound.Bound.{Bound}
-use Rattle.mdr_slicer.specs.Slicing.{HasSource}
 use Rattle.mdr_source.specs.declared.outcome.Source.{Source}
+use Rattle.mdr_source.specs.Sources.{Comes}
 use Rattle.mdr_top.specs.Words.{Task, Whole, Run, command_of}
 
 -- a run on one memory in this manner, by the names of its source and its script
@@ -25,7 +25,7 @@ pub record AreAccepted (words : List (List ℕ)) (files : Files) (task : (source
   pub command : command_of words ≡ Some (task source_name script_name)
   pub bytes : List ℕ
   pub source_read : ReadsFrom files source_name longest_source (reads.Ok bytes)
-  pub compiled : HasSource bytes source
+  pub compiled : Comes bytes (Ok source)
   pub lines : List ℕ
   pub script_read : ReadsFrom files script_name longest_script (reads.Ok lines)
   pub bound : HasScript source.program lines script

@@ -1,5 +1,5 @@
 -- What the program answers, with one constructor for each reason.
-use Rattle.std.specs.Prelude.{Bool, true, false, ◌≡◌, ◌≤◌, ℕ, List, ◌++◌, length, take, codes, Option, Some, None, option_map}
+use Rattle.std.specs.Prelude.{◌≡◌, ℕ, List, codes, Option, Some, None}
 use Rattle.mdr_core.specs.declared.plan.Plan.{Plan}
 use Rattle.mdr_cut.specs.declared.texts.Texts.{Texts}
 use Rattle.mdr_due.specs.declared.status.Status.{Status}
@@ -21,6 +21,8 @@ use Rattle.mdr_split_runner.specs.Reports.{Ran}
 use Rattle.mdr_top.specs.declared.words.Cutting.{Cutting}
 use Rattle.mdr_top.specs.Cuts.{IsCut}
 use Rattle.mdr_top.specs.Lines.{usage_line}
+use Rattle.mdr_top.specs.Outside.{Outside}
+use Rattle.mdr_top.specs.Writing.{IsWritten, IsCutOff}
 use Rattle.mdr_top.specs.Words.{Cut, Whole, Run, command_of}
 
 -- a file that isn't there to be read
@@ -71,17 +73,8 @@ pub data Answered (words : List (List ℕ)) (files : Files) (loaded : Option Loa
 
 -- ---- what is printed
 
--- so much of the text was added to the output
-abbrev pub Adds : (old new : Option (List ℕ)) → List ℕ → Type 0
-Adds old new text = new ≡ option_map (λ bytes. bytes ++ text) old
-
--- all of the text was added, or a part from its beginning
-abbrev pub AddsPart : (old new : Option (List ℕ)) → List ℕ → Bool → Type 0
-AddsPart old new text true = Adds old new text
-AddsPart old new text false = (n : ℕ) × (n ≤ length text) × Adds old new (take n text)
-
--- the whole text that is due is printed; or a part from its beginning, where the output failed; or nothing, for want of memory
-pub data Prints (words : List (List ℕ)) (files : Files) (loaded : Option Loaded) (es : List Exchange) (old new : Option (List ℕ)) (s : Status) : Type 0 where
-  whole : (text : List ℕ) → Answered words files loaded es s text → Adds old new text → Prints words files loaded es old new s
-  cut : (due : Status) (text : List ℕ) (n : ℕ) → s ≡ status.WriteFault → Answered words files loaded es due text → n ≤ length text → Adds old new (take n text) → Prints words files loaded es old new s
-  nothing : s ≡ status.OutOfMemory → new ≡ old → Prints words files loaded es old new s
+-- the whole text that is due is written; or a part from its beginning, where a call of the output failed; or nothing, for want of memory
+pub data Prints (words : List (List ℕ)) (before after : Outside) (s : Status) : Type 0 where
+  whole : (text : List ℕ) → Answered words before.sides.shelf.files after.sides.far.loaded after.sides.far.exchanges s text → IsWritten before.out after.out text → Prints words before after s
+  cut : (due : Status) (text : List ℕ) → s ≡ status.WriteFault → Answered words before.sides.shelf.files after.sides.far.loaded after.sides.far.exchanges due text → IsCutOff before.out after.out text → Prints words before after s
+  nothing : s ≡ status.OutOfMemory → after.out ≡ before.out → Prints words before after s

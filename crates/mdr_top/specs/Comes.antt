@@ -2,6 +2,7 @@
 use Rattle.std.specs.Prelude.{◌≡◌, ℕ, ◌<◌, ◌≤◌, Bool, true, false, nat_lt, ◌⊎◌, List, length, Option, None, Some, IfSome, Result, Ok, Err}
 use Rattle.mdr_core.specs.declared.plan.Plan.{Plan}
 use Rattle.mdr_core.specs.declared.program.Program.{Program}
+use Rattle.mdr_core.specs.Sound.{IsSound}
 use Rattle.mdr_cut.specs.declared.texts.Texts.{Texts}
 use Rattle.mdr_due.specs.declared.status.Status.{Status}
 use Rattle.mdr_due.specs.declared.status.Status.TheVariants as status
@@ -24,6 +25,8 @@ use Rattle.mdr_split_runner.specs.Cuts.{IsCutInto}
 use Rattle.mdr_split_runner.specs.Ends.{EndsWith as SplitEndsWith}
 use Rattle.mdr_top.specs.Accepted.{AreAccepted, on_one_memory, over_two_halves}
 use Rattle.mdr_top.specs.declared.words.Cutting.{Cutting}
+use Rattle.mdr_top.specs.Headline.{Rests, RestsHere}
+use Rattle.mdr_top.specs.Outside.{Outside}
 use Rattle.mdr_top.specs.Splits.{IsOfRun}
 use Rattle.mdr_top.specs.Words.{Task, Cut, Whole, Run, command_of}
 
@@ -108,6 +111,7 @@ pub record IsSplitEnd (words : List (List ℕ)) (files : Files) (loaded : Option
   pub script : Bound
   pub ticks : ℕ
   pub accepted : AreAccepted words files (over_two_halves ticks) source script
+  pub sound : IsSound source.program
   pub plan : Plan
   pub texts : Texts
   pub cut : IsCutInto source plan texts
@@ -119,6 +123,7 @@ pub record IsWholeEnd (words : List (List ℕ)) (files : Files) (s : Status) : T
   pub script : Bound
   pub manner : Manner
   pub accepted : AreAccepted words files (on_one_memory manner) source script
+  pub sound : IsSound source.program
   pub ends : EndsWith source.program script manner s
 
 -- ---- each status
@@ -201,12 +206,14 @@ IsDueOrFault Due s = (s ≡ status.ReadFault) ⊎ ((s ≡ status.WriteFault) ⊎
 abbrev pub IsExact : List (List ℕ) → Files → Status → Type 0
 IsExact words files s = IfSome files (λ f. IsDueOrFault (IsDueFor (command_of words) f s) s)
 
--- where a source is cut, over files that are told, the status is what its bytes give, or memory was wanting
-abbrev pub CutCompletes : List (List ℕ) → Files → Status → Type 0
-CutCompletes words files s = (how : Cutting) (name : List ℕ) → command_of words ≡ Some (Cut how name) → IfSome files (λ f. (s ≡ status.OutOfMemory) ⊎ IsCutDue (f name) s)
+-- where a source is cut, over files that are told, the status is what its bytes give, or memory was wanting, where no read fails and no write
+abbrev pub CutCompletes : List (List ℕ) → (before after : Outside) → Status → Type 0
+CutCompletes words before after s =
+    RestsHere before after → Rests before.sides.shelf.unwritten after.sides.shelf.unwritten → (how : Cutting) (name : List ℕ) → command_of words ≡ Some (Cut how name)
+    → IfSome before.sides.shelf.files (λ f. (s ≡ status.OutOfMemory) ⊎ IsCutDue (f name) s)
 
--- where a script is run on one memory, over files that are told, the status is what the two files give, or memory was wanting
-abbrev pub WholeCompletes : List (List ℕ) → Files → Status → Type 0
-WholeCompletes words files s =
-    (source_name script_name : List ℕ) (manner : Manner) → command_of words ≡ Some (Whole source_name script_name manner)
-    → IfSome files (λ f. (s ≡ status.OutOfMemory) ⊎ IsWholeDue manner (f source_name) (f script_name) s)
+-- where a script is run on one memory, over files that are told, the status is what the two files give, or memory was wanting, where no read fails and no write of the output
+abbrev pub WholeCompletes : List (List ℕ) → (before after : Outside) → Status → Type 0
+WholeCompletes words before after s =
+    RestsHere before after → (source_name script_name : List ℕ) (manner : Manner) → command_of words ≡ Some (Whole source_name script_name manner)
+    → IfSome before.sides.shelf.files (λ f. (s ≡ status.OutOfMemory) ⊎ IsWholeDue manner (f source_name) (f script_name) s)

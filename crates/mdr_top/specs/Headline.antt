@@ -1,17 +1,17 @@
 -- What is printed over an honest far side, and where it is.
-use Rattle.std.specs.Prelude.{◌≡◌, ◌≢◌, ℕ, ◌⊎◌, List, Option, Some, IsSomeAnd}
+use Rattle.std.specs.Prelude.{◌≡◌, ◌≢◌, ℕ, ◌⊎◌, List, Some, IsSomeAnd}
+use Rattle.mdr_core.specs.Sound.{IsSound}
 use Rattle.mdr_core.specs.declared.plan.Plan.{Plan}
 use Rattle.mdr_core.specs.declared.program.Program.{Program}
 use Rattle.mdr_cut.specs.declared.texts.Texts.{Texts}
 use Rattle.mdr_due.specs.declared.status.Status.{Status}
 use Rattle.mdr_due.specs.declared.status.Status.TheVariants as status
 use Rattle.mdr_due.specs.Reads.{Files, longest_source, longest_script}
+use Rattle.mdr_honest.specs.Honest.{IsHonest}
 use Rattle.mdr_model.specs.Law.{IsOwn}
-use Rattle.mdr_outside.specs.Calls.{ShelfCall, Read, and_then}
+use Rattle.mdr_outside.specs.Calls.{Read, and_then}
 use Rattle.mdr_outside.specs.Count.{Rose}
-use Rattle.mdr_outside.specs.declared.far.Exchange.{Exchange}
 use Rattle.mdr_outside.specs.declared.far.LoadAnswer.TheVariants as loads
-use Rattle.mdr_outside.specs.declared.far.Loaded.{Loaded}
 use Rattle.mdr_outside.specs.declared.shelf.ReadAnswer.TheVariants as reads
 use Rattle.mdr_outside.specs.Far.{loaded_with}
 use Rattle.mdr_runner.specs.Runs.{EndsWith, IsRun}
@@ -20,35 +20,46 @@ use Rattle.mdr_source.specs.declared.outcome.Source.{Source}
 use Rattle.mdr_split_runner.specs.Cuts.{IsCutInto}
 use Rattle.mdr_split_runner.specs.Means.{IsMeaning, while_watched}
 use Rattle.mdr_top.specs.Accepted.{AreAccepted, over_two_halves}
-use Rattle.mdr_top.specs.Answers.{Adds}
+use Rattle.mdr_top.specs.Outside.{Outside}
 use Rattle.mdr_top.specs.Words.{Run, command_of}
+use Rattle.mdr_top.specs.Writing.{IsWritten}
 
--- the words are accepted for what these very reads gave, the far side holds the texts that the source is cut into, and what was added to the output is the report of what they mean, which is that of the same run on one memory
-pub record MeansBy (words : List (List ℕ)) (files : Files) (shelf shelf' : List ShelfCall) (loaded : Option Loaded) (es : List Exchange) (old new : Option (List ℕ)) (s : Status) : Type 0 where
+-- the words are accepted for what these very reads gave, the far side holds the texts that the source is cut into, and what was written is the report of what they mean, which is that of the same run on one memory
+pub record MeansBy (words : List (List ℕ)) (before after : Outside) (s : Status) : Type 0 where
   pub source : Source
   pub script : Bound
   pub ticks : ℕ
-  pub accepted : AreAccepted words files (over_two_halves ticks) source script
-  pub read : shelf' ≡ and_then (and_then shelf (Read accepted.source_name longest_source (reads.Ok accepted.bytes))) (Read accepted.script_name longest_script (reads.Ok accepted.lines))
+  pub accepted : AreAccepted words before.sides.shelf.files (over_two_halves ticks) source script
+  pub sound : IsSound source.program
+  pub read : after.sides.shelf.calls ≡ and_then (and_then before.sides.shelf.calls (Read accepted.source_name longest_source (reads.Ok accepted.bytes))) (Read accepted.script_name longest_script (reads.Ok accepted.lines))
   pub plan : Plan
   pub texts : Texts
   pub cut : IsCutInto source plan texts
-  pub held : loaded ≡ Some (loaded_with texts.user texts.plan loads.Ok)
+  pub held : after.sides.far.loaded ≡ Some (loaded_with texts.user texts.plan loads.Ok)
   pub text : List ℕ
-  pub printed : Adds old new text
-  pub meaning : IsMeaning source.program plan script ticks es s text
+  pub printed : IsWritten before.out after.out text
+  pub meaning : IsMeaning source.program plan script ticks after.sides.far.exchanges s text
   pub same : IsRun source.program script (while_watched ticks) s text
 
 -- no reply is refused, and where the words name a source and a script a run that ends by itself, or stops, is what its source and its script mean
-pub record Means (words : List (List ℕ)) (files : Files) (shelf shelf' : List ShelfCall) (loaded : Option Loaded) (es : List Exchange) (old new : Option (List ℕ)) (s : Status) : Type 0 where
+pub record Means (words : List (List ℕ)) (before after : Outside) (s : Status) : Type 0 where
   pub never : s ≢ status.Marshal
-  pub means : (source_name script_name : List ℕ) (ticks : ℕ) → command_of words ≡ Some (Run source_name script_name ticks) → (s ≡ status.Done) ⊎ (s ≡ status.Stopped) → MeansBy words files shelf shelf' loaded es old new s
+  pub means : (source_name script_name : List ℕ) (ticks : ℕ) → command_of words ≡ Some (Run source_name script_name ticks) → (s ≡ status.Done) ⊎ (s ≡ status.Stopped) → MeansBy words before after s
+
+-- over an honest far side
+abbrev pub MeansWhereHonest : List (List ℕ) → (before after : Outside) → Status → Type 0
+MeansWhereHonest words before after s = IsHonest after.sides.far.loaded after.sides.far.exchanges → Means words before after s
 
 -- ---- nothing outside fails
 
 -- a count didn't rise
 abbrev pub Rests : (before after : ℕ) → Type 0
 Rests before after = Rose before after → ⊥
+
+-- no read failed, and no write of the output
+pub record RestsHere (before after : Outside) : Type 0 where
+  pub reads : Rests before.sides.shelf.faults after.sides.shelf.faults
+  pub writes : Rests before.out.faults after.out.faults
 
 abbrev pub AreTold : Files → Type 0
 AreTold files = IsSomeAnd files (λ f. Unit {0})
@@ -59,6 +70,11 @@ pub record EndsAsMeant (program : Program) (script : Bound) (ticks : ℕ) (s : S
   pub own : IsOwn ends.outcome.end
 
 -- where the words are accepted over files that are told the run ends as is meant, or memory was wanting
-abbrev pub Completes : List (List ℕ) → Files → Status → Type 0
-Completes words files s =
+abbrev pub EndsWhereAccepted : List (List ℕ) → Files → Status → Type 0
+EndsWhereAccepted words files s =
     (source : Source) (script : Bound) (ticks : ℕ) → AreTold files → AreAccepted words files (over_two_halves ticks) source script → (s ≡ status.OutOfMemory) ⊎ EndsAsMeant source.program script ticks s
+
+-- so it is where nothing outside fails and the far side is honest
+abbrev pub Completes : List (List ℕ) → (before after : Outside) → Status → Type 0
+Completes words before after s =
+    RestsHere before after → Rests before.sides.far.faults after.sides.far.faults → IsHonest after.sides.far.loaded after.sides.far.exchanges → EndsWhereAccepted words before.sides.shelf.files s

@@ -1,5 +1,7 @@
 pub mod Words
 pub mod Lines
+pub mod Outside
+pub mod Writing
 pub mod Cuts
 pub mod Answers
 pub mod Accepted

@@ -1,34 +1,36 @@
 -- What is printed of a script that is run over a source on one memory.
-use Rattle.std.specs.Prelude.{◌≡◌, ℕ, ◌⊎◌, List, Option, Some}
+use Rattle.std.specs.Prelude.{◌≡◌, ℕ, ◌⊎◌, List, Some}
+use Rattle.mdr_core.specs.Sound.{IsSound}
 use Rattle.mdr_outside.specs.declared.shelf.ReadAnswer.TheVariants as reads
-use Rattle.mdr_outside.specs.Calls.{ShelfCall, Read, and_then}
+use Rattle.mdr_outside.specs.Calls.{Read, and_then}
 use Rattle.mdr_script.specs.declared.bound.Bound.{Bound}
 use Rattle.mdr_source.specs.declared.outcome.Source.{Source}
 use Rattle.mdr_due.specs.declared.status.Status.{Status}
 use Rattle.mdr_due.specs.declared.status.Status.TheVariants as status
-use Rattle.mdr_due.specs.Reads.{Files, longest_source, longest_script}
+use Rattle.mdr_due.specs.Reads.{longest_source, longest_script}
 use Rattle.mdr_runner.specs.declared.manner.Manner.{Manner}
 use Rattle.mdr_runner.specs.Runs.{IsRun}
 use Rattle.mdr_top.specs.Accepted.{AreAccepted, on_one_memory}
 use Rattle.mdr_top.specs.Words.{Whole, command_of}
-use Rattle.mdr_top.specs.Answers.{Adds}
+use Rattle.mdr_top.specs.Outside.{Outside}
+use Rattle.mdr_top.specs.Writing.{IsWritten}
 
--- the words are accepted for what these very reads gave, and what was added to the output is the report of the run on one memory
-pub record WholeMeansBy (words : List (List ℕ)) (files : Files) (shelf shelf' : List ShelfCall) (old new : Option (List ℕ)) (s : Status) : Type 0 where
+-- the words are accepted for what these very reads gave, and what was written is the report of the run on one memory
+pub record WholeMeansBy (words : List (List ℕ)) (before after : Outside) (s : Status) : Type 0 where
   pub source : Source
   pub script : Bound
   pub manner : Manner
-  pub accepted : AreAccepted words files (on_one_memory manner) source script
-  pub read : shelf' ≡ and_then (and_then shelf (Read accepted.source_name longest_source (reads.Ok accepted.bytes))) (Read accepted.script_name longest_script (reads.Ok accepted.lines))
+  pub accepted : AreAccepted words before.sides.shelf.files (on_one_memory manner) source script
+  pub sound : IsSound source.program
+  pub read : after.sides.shelf.calls ≡ and_then (and_then before.sides.shelf.calls (Read accepted.source_name longest_source (reads.Ok accepted.bytes))) (Read accepted.script_name longest_script (reads.Ok accepted.lines))
   pub text : List ℕ
-  pub printed : Adds old new text
+  pub printed : IsWritten before.out after.out text
   pub meaning : IsRun source.program script manner s text
 
 -- a run on one memory that ends by itself, or stops, is what its source and its script mean
-abbrev pub WholeMeans : List (List ℕ) → Files → (shelf shelf' : List ShelfCall) → (old new : Option (List ℕ)) → Status → Type 0
-WholeMeans words files shelf shelf' old new s =
-    (source_name script_name : List ℕ) (manner : Manner) → command_of words ≡ Some (Whole source_name script_name manner) → (s ≡ status.Done) ⊎ (s ≡ status.Stopped)
-    → WholeMeansBy words files shelf shelf' old new s
+abbrev pub WholeMeans : List (List ℕ) → (before after : Outside) → Status → Type 0
+WholeMeans words before after s =
+    (source_name script_name : List ℕ) (manner : Manner) → command_of words ≡ Some (Whole source_name script_name manner) → (s ≡ status.Done) ⊎ (s ≡ status.Stopped) → WholeMeansBy words before after s
 
 -- a status that a run on one memory ends with
 abbrev pub IsOfWhole : Status → Type 0

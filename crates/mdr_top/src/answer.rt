@@ -3,19 +3,19 @@
 ghost use Rattle.std.specs.Prelude.{◌≡◌, IfOk, OnErr, map, string_bytes};
 ghost use Rattle.mdr_outside.specs.Count.{Rose};
 ghost use Rattle.mdr_due.specs.declared.status.Status.TheVariants as status;
-ghost use Rattle.mdr_due.specs.Statuses.{HasReadCause};
 ghost use Rattle.mdr_top.specs.Words.{command_of};
-ghost use Rattle.mdr_top.specs.Cuts.{WroteCause};
+ghost use Rattle.mdr_top.specs.Cuts.{ReadCause, WroteCause};
 ghost use Rattle.mdr_top.specs.Done.{Done, DonePart};
 
 use crate::cutting::cut;
 use crate::lines::usage_line;
+use crate::seen::SidesSeen;
 use crate::split::run_split;
 use crate::whole::run_whole;
 use crate::words::{cut_of, run_of, whole_of};
 use mdr_core::OutOfMemory;
 use mdr_due::{Due, Status};
-use mdr_outside::{Far, Shelf};
+use mdr_outside::{Far, Shelf, ShelfSeen};
 use std::alloc::Global;
 
 /// What is due for the words.
@@ -25,9 +25,9 @@ pub(crate) fn answered<S: Shelf, F: Far>(
     shelf: &mut S,
     far: &mut F,
 ) -> Result<Due, OutOfMemory>
-    ensures done { IfOk result (λ due. Done (map string_bytes words.now) (S.files shelf.old) (S.files shelf.new) (S.calls shelf.old) (S.calls shelf.new) (F.calls far.old) (F.calls far.new) (F.loaded far.new) (F.exchanges far.new) due.status due.text.items) }
-    ensures part { OnErr result (DonePart (map string_bytes words.now) (S.files shelf.old) (S.files shelf.new) (S.calls shelf.old) (S.calls shelf.new) (F.calls far.old) (F.calls far.new) (F.loaded far.new) (F.exchanges far.new)) }
-    ensures read { IfOk result (λ due. HasReadCause (record { faults = S.faults shelf.old; absent = S.absent shelf.old; long = S.long shelf.old }) (record { faults = S.faults shelf.new; absent = S.absent shelf.new; long = S.long shelf.new }) due.status) }
+    ensures done { IfOk result (λ due. Done (map string_bytes words.now) (⟦<(S, F) as SidesSeen>⟧.sides (shelf.old, far.old)) (⟦<(S, F) as SidesSeen>⟧.sides (shelf.new, far.new)) due.status due.text.items) }
+    ensures part { OnErr result (DonePart (map string_bytes words.now) (⟦<(S, F) as SidesSeen>⟧.sides (shelf.old, far.old)) (⟦<(S, F) as SidesSeen>⟧.sides (shelf.new, far.new))) }
+    ensures read { IfOk result (λ due. ReadCause (⟦<S as ShelfSeen>⟧.side shelf.old) (⟦<S as ShelfSeen>⟧.side shelf.new) due.status) }
     ensures failed { IfOk result (λ due. due.status ≡ status.FarFault → Rose (F.faults far.old) (F.faults far.new)) }
     ensures wrote { IfOk result (λ due. due.status ≡ status.WriteFault → WroteCause (command_of (map string_bytes words.now)) (S.unwritten shelf.old) (S.unwritten shelf.new)) }
 {

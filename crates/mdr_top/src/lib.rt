@@ -4,6 +4,7 @@
 mod answer;
 mod cutting;
 mod lines;
+mod seen;
 mod split;
 mod ticks;
 mod top;
@@ -11,4 +12,5 @@ mod whole;
 mod words;
 
 pub use mdr_due::Status;
+pub use seen::{Seen, SidesSeen};
 pub use top::run;

@@ -1,29 +1,32 @@
 // The top call.
 
-ghost use Rattle.std.specs.Prelude.{◌≡◌, ◌≤◌, false, length, drop, map, string_bytes, ◌⊎◌, None};
+ghost use Rattle.std.specs.Prelude.{◌≡◌, ◌≤◌, length, drop, map, string_bytes, ◌⊎◌, None};
+ghost use Rattle.mdr_outside.specs.Calls.{and_then};
 ghost use Rattle.mdr_outside.specs.Count.{Rose};
-ghost use Rattle.mdr_outside.specs.Sink.{Takes};
+ghost use Rattle.mdr_outside.specs.Sink.{Takes, wrote};
 ghost use Rattle.mdr_outside.specs.declared.sink.SinkAnswer.TheVariants as sinks;
 ghost use Rattle.mdr_due.specs.declared.status.Status.TheVariants as status;
-ghost use Rattle.mdr_due.specs.Statuses.{HasReadCause};
-ghost use Rattle.mdr_honest.specs.Honest.{IsHonest};
-ghost use Rattle.mdr_top.specs.Answers.{Prints, AddsPart};
+ghost use Rattle.mdr_split_runner.specs.Ends.{FailedLast};
+ghost use Rattle.mdr_top.specs.Answers.{Prints};
 ghost use Rattle.mdr_top.specs.Done.{Does};
-ghost use Rattle.mdr_top.specs.Cuts.{WriteCause};
-ghost use Rattle.mdr_top.specs.Headline.{Rests, Means, Completes};
+ghost use Rattle.mdr_top.specs.Cuts.{ReadCause, WriteCause};
+ghost use Rattle.mdr_top.specs.Headline.{MeansWhereHonest, Completes};
 ghost use Rattle.mdr_top.specs.Comes.{Comes, IsExact, CutCompletes, WholeCompletes};
 ghost use Rattle.mdr_top.specs.Wholes.{WholeMeans};
 ghost use Rattle.mdr_top.specs.Words.{command_of};
+ghost use Rattle.mdr_top.specs.Writing.{Writes, TellsFailure};
 
 use crate::answer::answered;
+use crate::seen::Seen;
 use mdr_due::Status;
-use mdr_outside::{Far, Shelf, Sink, SinkAnswer};
+use mdr_outside::{Far, Shelf, ShelfSeen, Sink, SinkAnswer, SinkSeen};
 use std::alloc::Global;
 
 /// Writes from a place of a text on.
 fn write_from<O: Sink>(out: &mut O, text: &[u8], used: usize) -> SinkAnswer
     requires { used ≤ length text.now }
     ensures taken { Takes (O.written out.old) (O.written out.new) (drop used text.now) result }
+    ensures called { O.calls out.new ≡ and_then (O.calls out.old) (wrote (drop used text.now) result) }
     ensures failed { result ≡ sinks.Failed → Rose (O.faults out.old) (O.faults out.new) }
     ensures faults_later { O.faults out.old ≤ O.faults out.new }
 {
@@ -32,8 +35,7 @@ fn write_from<O: Sink>(out: &mut O, text: &[u8], used: usize) -> SinkAnswer
 
 /// Writes a text piece by piece, and says whether the sink took all of it.
 fn written<O: Sink>(out: &mut O, text: &[u8]) -> bool
-    ensures added { AddsPart (O.written out.old) (O.written out.new) text.now result }
-    ensures failed { result ≡ false → Rose (O.faults out.old) (O.faults out.new) }
+    ensures { Writes (⟦<O as SinkSeen>⟧.side out.old) (⟦<O as SinkSeen>⟧.side out.new) text.now result }
 {
     let mut used = 0;
     while used < text.len() {
@@ -53,10 +55,10 @@ fn printed<S: Shelf, O: Sink, F: Far>(
     out: &mut O,
     far: &mut F,
 ) -> Status
-    ensures does { Does (map string_bytes words.now.items) (S.files shelf.old) (S.files shelf.new) (S.calls shelf.old) (S.calls shelf.new) (F.calls far.old) (F.calls far.new) (F.loaded far.new) (F.exchanges far.new) (O.written out.old) (O.written out.new) result }
-    ensures read_cause { HasReadCause (record { faults = S.faults shelf.old; absent = S.absent shelf.old; long = S.long shelf.old }) (record { faults = S.faults shelf.new; absent = S.absent shelf.new; long = S.long shelf.new }) result }
+    ensures does { Does (map string_bytes words.now.items) (⟦<(S, O, F) as Seen>⟧.at (shelf.old, out.old, far.old)) (⟦<(S, O, F) as Seen>⟧.at (shelf.new, out.new, far.new)) result }
+    ensures read_cause { ReadCause (⟦<S as ShelfSeen>⟧.side shelf.old) (⟦<S as ShelfSeen>⟧.side shelf.new) result }
     ensures far_cause { result ≡ status.FarFault → Rose (F.faults far.old) (F.faults far.new) }
-    ensures write_cause { result ≡ status.WriteFault → WriteCause (command_of (map string_bytes words.now.items)) (O.faults out.old) (O.faults out.new) (S.unwritten shelf.old) (S.unwritten shelf.new) }
+    ensures write_cause { WriteCause (map string_bytes words.now.items) (⟦<(S, O, F) as Seen>⟧.at (shelf.old, out.old, far.old)) (⟦<(S, O, F) as Seen>⟧.at (shelf.new, out.new, far.new)) result }
 {
     match answered(alloc, words.as_slice(), shelf, far) {
         Ok(due) => {
@@ -80,19 +82,21 @@ pub fn run<S: Shelf, O: Sink, F: Far>(
     out: &mut O,
     far: &mut F,
 ) -> Status
-    ensures prints { Prints (map string_bytes words.now.items) (S.files shelf.old) (F.loaded far.new) (F.exchanges far.new) (O.written out.old) (O.written out.new) result }
-    ensures does { Does (map string_bytes words.now.items) (S.files shelf.old) (S.files shelf.new) (S.calls shelf.old) (S.calls shelf.new) (F.calls far.old) (F.calls far.new) (F.loaded far.new) (F.exchanges far.new) (O.written out.old) (O.written out.new) result }
-    ensures read_cause { HasReadCause (record { faults = S.faults shelf.old; absent = S.absent shelf.old; long = S.long shelf.old }) (record { faults = S.faults shelf.new; absent = S.absent shelf.new; long = S.long shelf.new }) result }
+    ensures prints { Prints (map string_bytes words.now.items) (⟦<(S, O, F) as Seen>⟧.at (shelf.old, out.old, far.old)) (⟦<(S, O, F) as Seen>⟧.at (shelf.new, out.new, far.new)) result }
+    ensures does { Does (map string_bytes words.now.items) (⟦<(S, O, F) as Seen>⟧.at (shelf.old, out.old, far.old)) (⟦<(S, O, F) as Seen>⟧.at (shelf.new, out.new, far.new)) result }
+    ensures read_cause { ReadCause (⟦<S as ShelfSeen>⟧.side shelf.old) (⟦<S as ShelfSeen>⟧.side shelf.new) result }
     ensures far_cause { result ≡ status.FarFault → Rose (F.faults far.old) (F.faults far.new) }
-    ensures write_cause { result ≡ status.WriteFault → WriteCause (command_of (map string_bytes words.now.items)) (O.faults out.old) (O.faults out.new) (S.unwritten shelf.old) (S.unwritten shelf.new) }
-    ensures meaning { IsHonest (F.loaded far.new) (F.exchanges far.new) → Means (map string_bytes words.now.items) (S.files shelf.old) (S.calls shelf.old) (S.calls shelf.new) (F.loaded far.new) (F.exchanges far.new) (O.written out.old) (O.written out.new) result }
-    ensures whole_meaning { WholeMeans (map string_bytes words.now.items) (S.files shelf.old) (S.calls shelf.old) (S.calls shelf.new) (O.written out.old) (O.written out.new) result }
+    ensures far_exchange { result ≡ status.FarFault → FailedLast (F.loaded far.new) (F.exchanges far.new) }
+    ensures write_cause { WriteCause (map string_bytes words.now.items) (⟦<(S, O, F) as Seen>⟧.at (shelf.old, out.old, far.old)) (⟦<(S, O, F) as Seen>⟧.at (shelf.new, out.new, far.new)) result }
+    ensures failed_write { TellsFailure (O.calls out.old) (O.calls out.new) result }
+    ensures meaning { MeansWhereHonest (map string_bytes words.now.items) (⟦<(S, O, F) as Seen>⟧.at (shelf.old, out.old, far.old)) (⟦<(S, O, F) as Seen>⟧.at (shelf.new, out.new, far.new)) result }
+    ensures whole_meaning { WholeMeans (map string_bytes words.now.items) (⟦<(S, O, F) as Seen>⟧.at (shelf.old, out.old, far.old)) (⟦<(S, O, F) as Seen>⟧.at (shelf.new, out.new, far.new)) result }
     ensures comes { Comes (map string_bytes words.now.items) (S.files shelf.old) (F.loaded far.new) (F.exchanges far.new) result }
     ensures exact { IsExact (map string_bytes words.now.items) (S.files shelf.old) result }
     ensures usage { command_of (map string_bytes words.now.items) ≡ None → (result ≡ status.Usage) ⊎ ((result ≡ status.WriteFault) ⊎ (result ≡ status.OutOfMemory)) }
-    ensures complete { Rests (S.faults shelf.old) (S.faults shelf.new) → Rests (O.faults out.old) (O.faults out.new) → Rests (F.faults far.old) (F.faults far.new) → IsHonest (F.loaded far.new) (F.exchanges far.new) → Completes (map string_bytes words.now.items) (S.files shelf.old) result }
-    ensures cut_complete { Rests (S.faults shelf.old) (S.faults shelf.new) → Rests (S.unwritten shelf.old) (S.unwritten shelf.new) → Rests (O.faults out.old) (O.faults out.new) → CutCompletes (map string_bytes words.now.items) (S.files shelf.old) result }
-    ensures whole_complete { Rests (S.faults shelf.old) (S.faults shelf.new) → Rests (O.faults out.old) (O.faults out.new) → WholeCompletes (map string_bytes words.now.items) (S.files shelf.old) result }
+    ensures complete { Completes (map string_bytes words.now.items) (⟦<(S, O, F) as Seen>⟧.at (shelf.old, out.old, far.old)) (⟦<(S, O, F) as Seen>⟧.at (shelf.new, out.new, far.new)) result }
+    ensures cut_complete { CutCompletes (map string_bytes words.now.items) (⟦<(S, O, F) as Seen>⟧.at (shelf.old, out.old, far.old)) (⟦<(S, O, F) as Seen>⟧.at (shelf.new, out.new, far.new)) result }
+    ensures whole_complete { WholeCompletes (map string_bytes words.now.items) (⟦<(S, O, F) as Seen>⟧.at (shelf.old, out.old, far.old)) (⟦<(S, O, F) as Seen>⟧.at (shelf.new, out.new, far.new)) result }
 {
     printed(alloc, words, shelf, out, far)
 }

@@ -1,13 +1,13 @@
 // The run of a script on one memory.
 
 ghost use Rattle.std.specs.Prelude.{◌≡◌, IfOk, OnErr};
-ghost use Rattle.mdr_due.specs.Statuses.{HasReadCause};
 ghost use Rattle.mdr_runner.specs.Runs.{Runs, RunsPart};
+ghost use Rattle.mdr_top.specs.Cuts.{ReadCause};
 ghost use Rattle.mdr_top.specs.Wholes.{IsOfWhole};
 
 use mdr_core::OutOfMemory;
 use mdr_due::Due;
-use mdr_outside::Shelf;
+use mdr_outside::{Shelf, ShelfSeen};
 use mdr_runner::{Manner, whole};
 use std::alloc::Global;
 
@@ -22,7 +22,7 @@ pub(crate) fn run_whole<S: Shelf>(
     ensures done { IfOk result (λ due. Runs (S.files shelf.old) source_name.now script_name.now manner (S.calls shelf.old) (S.calls shelf.new) due.status due.text.items) }
     ensures part { OnErr result (RunsPart (S.files shelf.old) source_name.now script_name.now (S.calls shelf.old) (S.calls shelf.new)) }
     ensures kept { S.files shelf.new ≡ S.files shelf.old }
-    ensures read { IfOk result (λ due. HasReadCause (record { faults = S.faults shelf.old; absent = S.absent shelf.old; long = S.long shelf.old }) (record { faults = S.faults shelf.new; absent = S.absent shelf.new; long = S.long shelf.new }) due.status) }
+    ensures read { IfOk result (λ due. ReadCause (⟦<S as ShelfSeen>⟧.side shelf.old) (⟦<S as ShelfSeen>⟧.side shelf.new) due.status) }
     ensures own { IfOk result (λ due. IsOfWhole due.status) }
 {
     whole(alloc, shelf, source_name, script_name, manner)

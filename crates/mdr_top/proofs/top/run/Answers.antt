@@ -1,38 +1,41 @@
 use Rattle.std.proofs.Common.{map}
 use Rattle.std.specs.Prelude.{string_bytes}
-use Rattle.mdr_top.proofs.DoneLaws.{prints_so, does_mean, does_run}
+use Rattle.mdr_top.proofs.DoneLaws.{prints_so, does_mean, does_run, does_tell}
 use Rattle.mdr_top.proofs.Complete.{completes}
-use Rattle.mdr_top.proofs.Comes.{prints_comes}
+use Rattle.mdr_top.proofs.Comes.{comes_last, prints_comes}
 use Rattle.mdr_top.proofs.Exact.{cut_completes, prints_exactly, usage_comes, whole_completes}
 use Rattle.mdr_top.proofs.top.run.Goals as goal
 
 pub returns-clause-prints : goal.returns-clause-prints
-returns-clause-prints g c = prints_so _ _ _ _ _ _ _ _ _ _ _ _ c.printed.ensures.does
+returns-clause-prints g c = prints_so _ _ _ _ c.printed.ensures.does
+
+pub returns-clause-far_exchange : goal.returns-clause-far_exchange
+returns-clause-far_exchange g c = λ fault. comes_last _ _ _ _ _ (prints_comes _ _ _ _ (prints_so _ _ _ _ c.printed.ensures.does)) fault
+
+pub returns-clause-failed_write : goal.returns-clause-failed_write
+returns-clause-failed_write g c = does_tell _ _ _ _ c.printed.ensures.does
 
 pub returns-clause-meaning : goal.returns-clause-meaning
-returns-clause-meaning g c = λ honest. does_mean _ _ _ _ _ _ _ _ _ _ _ _ c.printed.ensures.does honest
-
-pub returns-clause-complete : goal.returns-clause-complete
-returns-clause-complete g c = λ reads writes far honest.
-    completes (map string_bytes c.args.words.now.items) _ _ _ _ _ _ _ _ _ _ _ _ _ _ _ _ (prints_exactly (map string_bytes c.args.words.now.items) _ _ _ _ _ _ (prints_so (map string_bytes c.args.words.now.items) _ _ _ _ _ _ _ _ _ _ _ c.printed.ensures.does))
-    (does_mean (map string_bytes c.args.words.now.items) _ _ _ _ _ _ _ _ _ _ _ c.printed.ensures.does honest) c.printed.ensures.read_cause c.printed.ensures.write_cause c.printed.ensures.far_cause reads writes far
-
-pub returns-clause-comes : goal.returns-clause-comes
-returns-clause-comes g c = prints_comes _ _ _ _ _ _ _ (prints_so _ _ _ _ _ _ _ _ _ _ _ _ c.printed.ensures.does)
-
-pub returns-clause-exact : goal.returns-clause-exact
-returns-clause-exact g c = prints_exactly _ _ _ _ _ _ _ (prints_so _ _ _ _ _ _ _ _ _ _ _ _ c.printed.ensures.does)
-
-pub returns-clause-usage : goal.returns-clause-usage
-returns-clause-usage g c = λ none. usage_comes _ _ _ _ _ _ _ (prints_so _ _ _ _ _ _ _ _ _ _ _ _ c.printed.ensures.does) none
-
-pub returns-clause-cut_complete : goal.returns-clause-cut_complete
-returns-clause-cut_complete g c = λ reads shelf writes.
-    cut_completes (map string_bytes c.args.words.now.items) _ _ _ _ _ _ _ _ (prints_exactly (map string_bytes c.args.words.now.items) _ _ _ _ _ _ (prints_so (map string_bytes c.args.words.now.items) _ _ _ _ _ _ _ _ _ _ _ c.printed.ensures.does)) c.printed.ensures.read_cause c.printed.ensures.write_cause reads shelf writes
+returns-clause-meaning g c = λ honest. does_mean _ _ _ _ c.printed.ensures.does honest
 
 pub returns-clause-whole_meaning : goal.returns-clause-whole_meaning
-returns-clause-whole_meaning g c = λ source_name script_name manner named is. does_run _ _ _ _ _ _ _ _ _ _ _ _ source_name script_name manner named c.printed.ensures.does is
+returns-clause-whole_meaning g c = λ source_name script_name manner named is. does_run _ _ _ _ source_name script_name manner named c.printed.ensures.does is
+
+pub returns-clause-comes : goal.returns-clause-comes
+returns-clause-comes g c = prints_comes _ _ _ _ (prints_so _ _ _ _ c.printed.ensures.does)
+
+pub returns-clause-exact : goal.returns-clause-exact
+returns-clause-exact g c = prints_exactly _ _ _ _ (prints_so _ _ _ _ c.printed.ensures.does)
+
+pub returns-clause-usage : goal.returns-clause-usage
+returns-clause-usage g c = λ none. usage_comes _ _ _ _ (prints_so _ _ _ _ c.printed.ensures.does) none
+
+pub returns-clause-complete : goal.returns-clause-complete
+returns-clause-complete g c =
+    completes _ _ _ _ (prints_exactly _ _ _ _ (prints_so _ _ _ _ c.printed.ensures.does)) (λ honest. does_mean _ _ _ _ c.printed.ensures.does honest) c.printed.ensures.read_cause c.printed.ensures.write_cause c.printed.ensures.far_cause
+
+pub returns-clause-cut_complete : goal.returns-clause-cut_complete
+returns-clause-cut_complete g c = cut_completes (map string_bytes c.args.words.now.items) _ _ _ (prints_exactly (map string_bytes c.args.words.now.items) _ _ _ (prints_so (map string_bytes c.args.words.now.items) _ _ _ c.printed.ensures.does)) c.printed.ensures.read_cause c.printed.ensures.write_cause
 
 pub returns-clause-whole_complete : goal.returns-clause-whole_complete
-returns-clause-whole_complete g c = λ reads writes.
-    whole_completes (map string_bytes c.args.words.now.items) _ _ _ _ _ _ _ _ (prints_exactly (map string_bytes c.args.words.now.items) _ _ _ _ _ _ (prints_so (map string_bytes c.args.words.now.items) _ _ _ _ _ _ _ _ _ _ _ c.printed.ensures.does)) c.printed.ensures.read_cause c.printed.ensures.write_cause reads writes
+returns-clause-whole_complete g c = whole_completes (map string_bytes c.args.words.now.items) _ _ _ (prints_exactly (map string_bytes c.args.words.now.items) _ _ _ (prints_so (map string_bytes c.args.words.now.items) _ _ _ c.printed.ensures.does)) c.printed.ensures.read_cause c.printed.ensures.write_cause
