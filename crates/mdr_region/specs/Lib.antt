@@ -1,0 +1,6 @@
+pub mod Blocks
+pub mod Cells
+pub mod Holes
+pub mod Laws
+pub mod Layout
+pub mod PlacesView
