@@ -98,7 +98,7 @@ disjoint a m b n some more apart = of (nat_le (a + m) b) (nat_le (b + n) a) (nat
     of false false true e f g = absurd (apart b (grind (arith, nat_tests, e, g)) (grind (arith, nat_tests, more)))
     of false false false e f g = absurd (apart a (grind (arith, nat_tests, some)) (grind (arith, nat_tests, f, g)))
 
-front_low : (n : ℕ) (marks : List Mark) → front n marks ≤ length marks
+pub front_low : (n : ℕ) (marks : List Mark) → front n marks ≤ length marks
 unfolding front
 front_low n [] = omega arith
 front_low n (m ∷ marks) = of (are_free n (m ∷ marks)) (front_low n marks)
@@ -107,7 +107,7 @@ front_low n (m ∷ marks) = of (are_free n (m ∷ marks)) (front_low n marks)
     of true l = omega arith
     of false l = omega (arith, l)
 
-block_inside : (marks : List Mark) (serial start cells : ℕ) → IsBlock marks serial start cells → start + cells ≤ length marks
+pub block_inside : (marks : List Mark) (serial start cells : ℕ) → IsBlock marks serial start cells → start + cells ≤ length marks
 block_inside marks serial start cells b =
     let parts = parted serial start cells marks b.some b.places in
     omega (arith, ap length parts.whole, length-append (take start marks) (replicate cells (Some serial) ++ drop (start + cells) marks), length-append (replicate cells (Some serial)) (drop (start + cells) marks), length-replicate cells (Some serial), parts.front)

@@ -15,8 +15,8 @@ use Rattle.mdr_mem.proofs.SoundLaws.{same_contents, blocks-added, blocks-died}
 use Rattle.mdr_region.specs.declared.slots.Row.{Row}
 use Rattle.mdr_region.specs.Layout.{laid}
 use Rattle.mdr_region.specs.Blocks.{IsBlock, AreBelow}
-use Rattle.mdr_region.specs.Cells.{cells_of, written}
-use Rattle.mdr_region.specs.Slots.{RowSlots, row_in, held_slots, put_cell}
+use Rattle.mdr_region.specs.Cells.{cells_of, written, put_cell}
+use Rattle.mdr_region.specs.Slots.{RowSlots, row_in, held_slots}
 use Rattle.mdr_region.specs.RowsView.{AreKept}
 use Rattle.mdr_region.proofs.RegionLaws.{no-held, row-held, born-there, born-others, kept-born, stored-there, stored-others, kept-stored, died-there, died-others}
 

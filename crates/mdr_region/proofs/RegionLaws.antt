@@ -17,12 +17,12 @@ use Rattle.mdr_region.specs.declared.slots.Row.{Row}
 use Rattle.mdr_region.specs.Layout.{Mark, Laid, placed, left, laid, after}
 use Rattle.mdr_region.specs.Holes.{front, inside}
 use Rattle.mdr_region.specs.Blocks.{IsBlock, AreBelow}
-use Rattle.mdr_region.specs.Cells.{cells_of, written}
-use Rattle.mdr_region.specs.Slots.{RowSlots, row_in, has_serial, held_as, held_slots, Lies, put_cell}
+use Rattle.mdr_region.specs.Cells.{cells_of, written, put_cell}
+use Rattle.mdr_region.specs.Slots.{RowSlots, row_in, has_serial, is_there, held_as, held_slots, Lies}
 use Rattle.mdr_region.specs.RowsView.{AreKept}
 use Rattle.mdr_region.proofs.BlockLaws.{block_born, block_stays, block_left}
 use Rattle.mdr_region.proofs.KeptLaws.{laid_more}
-use Rattle.mdr_region.proofs.CellLaws.{cells_stay, front_low}
+use Rattle.mdr_region.proofs.CellLaws.{cells_stay, front_low, block_inside}
 use Rattle.mdr_region.proofs.SlotLaws.{slot-map, held-there, cells-most}
 
 abbrev marks_of : List Life → List Mark
@@ -52,11 +52,17 @@ module _ (hs : List Block) (slots : RowSlots) (values : List Value) (lives : Lis
       ∙ (held-there values slots (handle slot r.born.serial)
       ∙ (ap (λ o. has_serial o r.born.serial) e ∙ eq-eqb r.born.serial r.born.serial refl))
 
+  pub row-agrees : (b : Block) → is_handle hs b ≡ is_there slots b
+  row-agrees b = k.memory.held b ∙ held-there values slots b
+
   pub row-old : (slot : ℕ) (r : Row) → row_in slots slot ≡ Some r → r.born.serial < births
   row-old slot r e = k.memory.below (handle slot r.born.serial) (row-handle slot r e)
 
   pub row-lies : (slot : ℕ) (r : Row) → row_in slots slot ≡ Some r → IsBlock (marks_of lives) r.born.serial r.start r.cells
   row-lies slot r e = subst (Lies (marks_of lives)) e (k.lie slot)
+
+  pub row-low : (slot : ℕ) (r : Row) → row_in slots slot ≡ Some r → r.start + r.cells ≤ length (marks_of lives)
+  row-low slot r e = block_inside (marks_of lives) r.born.serial r.start r.cells (row-lies slot r e)
 
   -- the row in a handle's slot is the handle's
   pub row-serial : (b : Block) (r : Row) → is_handle hs b ≡ true → row_in slots b.slot ≡ Some r → r.born.serial ≡ b.serial
@@ -157,7 +163,7 @@ module _ (hs : List Block) (slots : RowSlots) (values : List Value) (lives : Lis
             differ same = row-other hs slots values lives births k b alive slot q away e (same ∙ row-serial hs slots values lives births k b r alive was)
 
             put : (t : Bool) → nat_lt index r.cells ≡ t → cells_of q.start q.cells (cond t (slice_set values (r.start + index) v) values) ≡ cells_of q.start q.cells values
-            put true f = cells_stay.other (marks_of lives) q.born.serial r.born.serial q.start r.start q.cells r.cells index v values differ
+            put true f = cells_stay.other (marks_of lives) q.born.serial r.born.serial q.start q.cells r.start r.cells index v values differ
                 (row-lies hs slots values lives births k slot q e) (row-lies hs slots values lives births k b.slot r was) (grind (arith, nat_tests, f))
             put false f = refl
 

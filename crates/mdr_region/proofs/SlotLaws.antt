@@ -97,8 +97,8 @@ get-front f (suc n) (suc i) (v ∷ values) l = get-front f n i values (omega (ar
 
 get-behind : (start i : ℕ) (values : List Value) → slice_get (drop start values) i ≡ slice_get values (start + i)
 get-behind zero i values = let e : i ≡ 0 + i = omega arith in ap (slice_get values) e
-get-behind (suc start) zero [] = let e : suc (start + 0) ≡ suc start + 0 = omega arith in ap (slice_get {A = Value} []) e
-get-behind (suc start) (suc i) [] = let e : suc (start + suc i) ≡ suc start + suc i = omega arith in ap (slice_get {A = Value} []) e
+get-behind (suc start) zero [] = let e : suc (start + 0) ≡ suc start + 0 = omega arith in let none : List Value = [] in ap (slice_get none) e
+get-behind (suc start) (suc i) [] = let e : suc (start + suc i) ≡ suc start + suc i = omega arith in let none : List Value = [] in ap (slice_get none) e
 get-behind (suc start) i (v ∷ values) = let e : suc (start + i) ≡ suc start + i = omega arith in get-behind start i values ∙ ap (slice_get (v ∷ values)) e
 
 pub cell-get : (f : Value → Wire) (start n i : ℕ) (values : List Value) → i < n → slice_get (map f (cells_of start n values)) i ≡ option_map f (slice_get values (start + i))

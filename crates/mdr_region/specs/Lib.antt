@@ -4,3 +4,5 @@ pub mod Holes
 pub mod Laws
 pub mod Layout
 pub mod PlacesView
+pub mod RowsView
+pub mod Slots

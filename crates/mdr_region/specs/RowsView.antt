@@ -6,7 +6,7 @@ use Rattle.mdr_core.specs.declared.value.Value.{Value}
 use Rattle.mdr_mem.specs.declared.cells.Life.{Life}
 use Rattle.mdr_mem.specs.Contents.{Contents}
 use Rattle.mdr_mem.specs.Rows.{blocks_of}
-use Rattle.mdr_mem.specs.Rows.{IsSound} as plain
+use Rattle.mdr_mem.specs.Rows as plain
 use Rattle.mdr_region.specs.declared.rows.Rows.{Rows}
 use Rattle.mdr_region.specs.Layout.{laid}
 use Rattle.mdr_region.specs.Slots.{RowSlots, row_in, held_slots, Lies}

@@ -1,5 +1,5 @@
 -- Rows in their slots: where each block lies, and how it was born.
-use Rattle.std.specs.Prelude.{ℕ, ◌+◌, Bool, false, cond, ◌==◌, nat_lt, List, [], ◌∷◌, map, Option, Some, None, slice_index_or, slice_set}
+use Rattle.std.specs.Prelude.{ℕ, ◌+◌, Bool, false, cond, ◌==◌, List, [], ◌∷◌, map, Option, Some, None, slice_index_or, slice_set}
 use Rattle.mdr_core.specs.declared.value.Block.{Block}
 use Rattle.mdr_core.specs.declared.value.Value.{Value}
 use Rattle.mdr_core.specs.declared.value.Value.TheVariants as value
@@ -51,7 +51,3 @@ Lies marks (Some r) = IsBlock marks r.born.serial r.start r.cells
 unfoldable pub settled : (Value → Value) → ℕ → List Value → List Value → List Value
 settled f start [] values = values
 settled f start (v ∷ vs) values = settled f (start + 1) vs (slice_set values start (f v))
-
--- another value in one cell of n from the start on, and nothing past them
-abbrev pub put_cell : ℕ → ℕ → ℕ → Value → List Value → List Value
-put_cell start n index v values = cond (nat_lt index n) (slice_set values (start + index) v) values

@@ -6,12 +6,15 @@ mod laws;
 mod lives;
 mod places;
 mod pool;
+mod region;
+mod region_blocks;
+mod rows;
+mod search;
+mod slots;
 
-pub use holes::Hole;
 pub use laws::{
     births_take_holes, blocks_stay, cells_stay, deaths_leave_holes, holes_are_few, none_overlap,
     stale_deaths,
 };
-pub use lives::Lives;
-pub use places::Places;
-pub use pool::Pool;
+pub use region::Region;
+pub use region_blocks::RegionBlocks;

@@ -1,12 +1,12 @@
 // Cells in one pool.
 
-ghost use Rattle.std.specs.Prelude.{◌≡◌, ◌<◌, ◌≤◌, ◌+◌, ◌-◌, ◌++◌, [], ◌∷◌, ◌^◌, length, take, drop, true, false, is_some, IsOk, IfOk, OnOk, OnErr, vec_capacity, slice_set, slice_get, Some};
+ghost use Rattle.std.specs.Prelude.{◌≡◌, ◌<◌, ◌≤◌, ◌+◌, ◌-◌, ◌++◌, [], ◌∷◌, ◌^◌, length, take, drop, true, false, is_some, IsOk, IfOk, OnOk, OnErr, vec_capacity, slice_get, Some, cond, nat_lt};
 ghost use Rattle.mdr_mem.specs.declared.cells.Life.TheVariants as life;
 ghost use Rattle.mdr_region.specs.Layout.{laid, layout_of};
 ghost use Rattle.mdr_region.specs.Holes.{found};
 ghost use Rattle.mdr_region.specs.Blocks.{IsBlock};
 ghost use Rattle.mdr_region.specs.PlacesView.{IsSound};
-ghost use Rattle.mdr_region.specs.Cells.{written};
+ghost use Rattle.mdr_region.specs.Cells.{cells_of, written, put_cell};
 
 use crate::places::Places;
 use mdr_core::{OutOfMemory, Value};
@@ -35,6 +35,10 @@ impl Pool {
     pub fn new(alloc: Global) -> Pool
         ensures sound { IsSound result }
         ensures empty { result.places.lives ≡ [] }
+        ensures serials { result.places.births ≡ 0 }
+        ensures values { result.values.items ≡ [] }
+        ensures cells_left { result.cells_left ≡ 0 }
+        ensures births_left { result.births_left ≡ 0 }
     {
         Pool {
             places: Places::new(alloc),
@@ -53,6 +57,7 @@ impl Pool {
         ensures sound { IsSound self.new }
         ensures born { OnOk result (self.new.places.lives ≡ self.old.places.lives ++ life.Birth (length first.now) ∷ []) }
         ensures block { IfOk result (λ start. IsBlock (laid self.new.places.lives).marks self.old.places.births start (length first.now)) }
+        ensures low { IfOk result (λ start. start ≤ length self.old.values.items) }
         ensures values { IfOk result (λ start. self.new.values.items ≡ written start first.now self.old.values.items) }
         ensures as_before { OnErr result (self.new.places.lives ≡ self.old.places.lives) }
         ensures same_values { OnErr result (self.new.values.items ≡ self.old.values.items) }
@@ -60,6 +65,8 @@ impl Pool {
         ensures births_left { OnOk result (self.new.births_left ≡ self.old.births_left - 1) }
         ensures same_cells { OnErr result (self.new.cells_left ≡ self.old.cells_left) }
         ensures same_births { OnErr result (self.new.births_left ≡ self.old.births_left) }
+        ensures serials { OnOk result (self.new.places.births ≡ self.old.places.births + 1) }
+        ensures same_serials { OnErr result (self.new.places.births ≡ self.old.places.births) }
         ensures succeeds { 0 < self.old.births_left → IsOk result }
     {
         let start = self.places.birth(first.len() as u32)?;
@@ -78,6 +85,7 @@ impl Pool {
         ensures sound { IsSound self.new }
         ensures born { OnOk result (self.new.places.lives ≡ self.old.places.lives ++ life.Birth (length first.now) ∷ []) }
         ensures block { IfOk result (λ start. IsBlock (laid self.new.places.lives).marks self.old.places.births start (length first.now)) }
+        ensures low { IfOk result (λ start. start ≤ length self.old.values.items) }
         ensures values { IfOk result (λ start. self.new.values.items ≡ written start first.now self.old.values.items) }
         ensures as_before { OnErr result (self.new.places.lives ≡ self.old.places.lives) }
         ensures same_values { OnErr result (self.new.values.items ≡ self.old.values.items) }
@@ -85,6 +93,8 @@ impl Pool {
         ensures births_left { OnOk result (self.new.births_left ≡ self.old.births_left - 1) }
         ensures same_cells { OnErr result (self.new.cells_left ≡ self.old.cells_left) }
         ensures same_births { OnErr result (self.new.births_left ≡ self.old.births_left) }
+        ensures serials { OnOk result (self.new.places.births ≡ self.old.places.births + 1) }
+        ensures same_serials { OnErr result (self.new.places.births ≡ self.old.places.births) }
         ensures succeeds { length first.now ≤ self.old.cells_left → 0 < self.old.births_left → IsOk result }
     {
         if self.values.reserve(first.len()).is_err() {
@@ -107,6 +117,7 @@ impl Pool {
         ensures sound { IsSound self.new }
         ensures born { OnOk result (self.new.places.lives ≡ self.old.places.lives ++ life.Birth (length first.now) ∷ []) }
         ensures block { IfOk result (λ start. IsBlock (laid self.new.places.lives).marks self.old.places.births start (length first.now)) }
+        ensures low { IfOk result (λ start. start ≤ length self.old.values.items) }
         ensures values { IfOk result (λ start. self.new.values.items ≡ written start first.now self.old.values.items) }
         ensures as_before { OnErr result (self.new.places.lives ≡ self.old.places.lives) }
         ensures same_values { OnErr result (self.new.values.items ≡ self.old.values.items) }
@@ -114,6 +125,8 @@ impl Pool {
         ensures births_left { OnOk result (self.new.births_left ≡ self.old.births_left - 1) }
         ensures same_cells { OnErr result (self.new.cells_left ≡ self.old.cells_left) }
         ensures same_births { OnErr result (self.new.births_left ≡ self.old.births_left) }
+        ensures serials { OnOk result (self.new.places.births ≡ self.old.places.births + 1) }
+        ensures same_serials { OnErr result (self.new.places.births ≡ self.old.places.births) }
         ensures succeeds { length first.now ≤ self.old.cells_left → 0 < self.old.births_left → IsOk result }
     {
         if self.places.has_hole(first.len()) {
@@ -130,6 +143,7 @@ impl Pool {
         ensures sound { IsSound self.new }
         ensures dead { self.new.places.lives ≡ self.old.places.lives ++ life.Death serial ∷ [] }
         ensures values { self.new.values.items ≡ take self.new.places.top self.old.values.items }
+        ensures serials { self.new.places.births ≡ self.old.places.births }
         ensures cells_left { self.new.cells_left ≡ self.old.cells_left }
         ensures births_left { self.new.births_left ≡ self.old.births_left }
     {
@@ -145,17 +159,28 @@ impl Pool {
         self.values[start + cell as usize]
     }
 
-    /// Puts a value into the cell. Nothing else changes.
-    pub fn store(&mut self, start: usize, cell: u32, v: Value)
+    /// The cells from a place on.
+    pub fn cells(&self, start: usize, cells: u32) -> &[Value]
+        requires { start + cells ≤ length self.now.values.items }
+        ensures { result.now ≡ cells_of start cells self.now.values.items }
+    {
+        let end = start + cells as usize;
+        &self.values[start..end]
+    }
+
+    /// Puts a value into a cell of those from a place on. Past them nothing is done.
+    pub fn put(&mut self, start: usize, cells: u32, cell: u64, v: Value)
         requires sound { IsSound self.old }
-        requires inside { start + cell < length self.old.values.items }
+        requires inside { start + cells ≤ length self.old.values.items }
         ensures sound { IsSound self.new }
-        ensures stored { self.new.values.items ≡ slice_set self.old.values.items (start + cell) v }
+        ensures values { self.new.values.items ≡ put_cell start cells cell v self.old.values.items }
         ensures places { self.new.places ≡ self.old.places }
         ensures cells_left { self.new.cells_left ≡ self.old.cells_left }
         ensures births_left { self.new.births_left ≡ self.old.births_left }
     {
-        self.values[start + cell as usize] = v;
+        if cell < cells as u64 {
+            self.values[start + cell as usize] = v;
+        }
     }
 
     /// Makes room for so many cells and births. Where it is refused all is as before.
@@ -163,9 +188,11 @@ impl Pool {
         requires sound { IsSound self.old }
         ensures sound { IsSound self.new }
         ensures lives { self.new.places.lives ≡ self.old.places.lives }
+        ensures serials { self.new.places.births ≡ self.old.places.births }
         ensures values { self.new.values.items ≡ self.old.values.items }
         ensures cells { OnOk result (cells ≤ self.new.cells_left) }
         ensures births { OnOk result (births ≤ self.new.births_left) }
+        ensures most { OnOk result (self.new.births_left ≡ cond (nat_lt self.old.births_left births) births self.old.births_left) }
         ensures same_cells { OnErr result (self.new.cells_left ≡ self.old.cells_left) }
         ensures same_births { OnErr result (self.new.births_left ≡ self.old.births_left) }
     {

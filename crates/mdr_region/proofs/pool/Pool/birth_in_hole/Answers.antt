@@ -20,3 +20,6 @@ returns-clause-sound c =
       births = omega (arith, c.birth.ensures.spare_births, c.requires.sound.births, c.birth.ensures.sound.roomy, c.saturating_sub-self-2.ensures);
       serials = omega (arith, c.in_ok-start.ensures.births, c.in_ok-start.ensures.fits, c.requires.sound.serials, c.saturating_sub-self-2.ensures);
     }
+
+pub returns-clause-low : goal.returns-clause-low
+returns-clause-low c = omega (arith, block_low _ _ _ _ _ _ _ _ _ _ c.in_ok-start.ensures.sound c.in_ok-start.ensures.block, c.in_ok-start.ensures.top, risen_none (length c.args.first.now) _ c.requires.hole, c.requires.sound.cells)
