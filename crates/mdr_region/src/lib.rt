@@ -1,4 +1,8 @@
-//! A memory in one pool of cells: blocks are born in the first hole that fits, and leave holes when they die.
+//! A memory in one pool of cells. A block is born in the first hole that fits, else at the top; a death leaves a hole,
+//! and holes that touch are one.
+//!
+//! `Region` promises room: it is for a side of a run that takes a message whole or not at all. `RegionBlocks` is the same
+//! memory under the contract of the plain memory, to stand where `Blocks` stands. No program uses them yet.
 #![tactic(auto)]
 
 mod holes;

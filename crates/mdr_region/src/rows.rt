@@ -90,7 +90,7 @@ impl Rows {
         })
     }
 
-    // Adds a row where there is room, for a block whose cells are in the pool.
+    // A new block: its cells in the pool, as they are before its birth, its row, and its handle.
     pub fn birth(
         &mut self,
         kind: BirthKind,

@@ -46,7 +46,13 @@ pub fn current_in(rows: &Slab<Row>, v: Value) -> Value
     ensures { result ≡ current_at rows.now.slots v }
 {
     match v {
-        Value::Ptr(p) => { if is_alive(rows, p.block) { v } else { Value::Dead } }
+        Value::Ptr(p) => {
+            if is_alive(rows, p.block) {
+                v
+            } else {
+                Value::Dead
+            }
+        }
         _ => v,
     }
 }

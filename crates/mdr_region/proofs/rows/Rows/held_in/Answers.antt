@@ -11,8 +11,14 @@ load-requires c =
     let w = c.requires.whole in
     let s = c.args.self.now in
     let r = c.row-row.result in
-    omega (arith, row-low _ _ _ _ _ w.kept c.args.b.slot r c.row-row.ensures, w.pool.cells, w.pool.places.height, cells-most r.start r.cells s.pool.values.items,
-    cell-inside _ _ _ _ _ w.kept.memory c.args.b c.requires.alive _ (row-held _ _ _ _ _ w.kept c.args.b.slot r c.row-row.ensures) c.args.cell c.requires.inside)
+    omega (
+      arith,
+      row-low _ _ _ _ _ w.kept c.args.b.slot r c.row-row.ensures,
+      w.pool.cells,
+      w.pool.places.height,
+      cells-most r.start r.cells s.pool.values.items,
+      cell-inside _ _ _ _ _ w.kept.memory c.args.b c.requires.alive _ (row-held _ _ _ _ _ w.kept c.args.b.slot r c.row-row.ensures) c.args.cell c.requires.inside,
+    )
 
 pub returns : goal.returns
 returns c =
