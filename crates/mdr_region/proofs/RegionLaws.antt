@@ -1,20 +1,19 @@
 -- What a region keeps, after a birth, a store and a death.
-use Rattle.std.proofs.Common.{◌≡◌, ◌≢◌, ◌<◌, ◌≤◌, ◌+◌, ℕ, zero, suc, Bool, true, false, cond, List, [], ◌∷◌, ◌++◌, map, length, take, drop, replicate, Option, Some, None, refl, sym, ◌∙◌, ap, subst, set, arith}
-use Rattle.std.specs.Prelude.{◌==◌, nat_lt, nat_le, slice_set}
+use Rattle.std.proofs.Common.{◌≡◌, ◌≢◌, ◌<◌, ◌≤◌, ◌+◌, ℕ, zero, suc, Bool, true, false, cond, List, [], ◌∷◌, ◌++◌, length, take, Option, Some, None, refl, sym, ◌∙◌, ap, subst, arith}
+use Rattle.std.specs.Prelude.{nat_lt, slice_set}
 use Rattle.std.proofs.lemmas.Bool.{eqb-true, eq-eqb}
 use Rattle.std.proofs.lemmas.Bool.Decides.{nat_tests}
-use Rattle.std.proofs.lemmas.List.{length-append, length-replicate}
+use Rattle.std.proofs.lemmas.List.{length-append}
 use Rattle.mdr_core.specs.declared.value.Block.{Block}
 use Rattle.mdr_core.specs.declared.value.Value.{Value}
 use Rattle.mdr_mem.specs.declared.cells.Life.{Life}
 use Rattle.mdr_mem.specs.declared.cells.Life.TheVariants as life
-use Rattle.mdr_mem.specs.declared.rows.Held.{Held}
 use Rattle.mdr_mem.specs.Contents.{is_handle, left_of}
-use Rattle.mdr_mem.specs.Rows.{in_slot, AreOld, IsOld, IsSound, with_cell}
+use Rattle.mdr_mem.specs.Rows.{in_slot, AreOld, IsOld, with_cell}
 use Rattle.mdr_mem.proofs.HandleLaws.{one_slot}
 use Rattle.mdr_mem.proofs.SoundLaws.{by_slot, sound-born, sound-stored, sound-died, sound-empty}
 use Rattle.mdr_region.specs.declared.slots.Row.{Row}
-use Rattle.mdr_region.specs.Layout.{Mark, Laid, placed, left, laid, after}
+use Rattle.mdr_region.specs.Layout.{Mark, Laid, placed, left, laid}
 use Rattle.mdr_region.specs.Holes.{front, inside}
 use Rattle.mdr_region.specs.Blocks.{IsBlock, AreBelow}
 use Rattle.mdr_region.specs.Cells.{cells_of, written, put_cell}

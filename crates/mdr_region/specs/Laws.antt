@@ -3,7 +3,7 @@ use Rattle.std.specs.Prelude.{ℕ, ◌+◌, ◌≡◌, ◌≢◌, ◌<◌, ◌�
 use Rattle.mdr_core.specs.declared.value.Value.{Value}
 use Rattle.mdr_mem.specs.declared.cells.Life.{Life}
 use Rattle.mdr_mem.specs.declared.cells.Life.TheVariants as life
-use Rattle.mdr_region.specs.Layout.{Mark, placed, left, Laid, after, laid, used}
+use Rattle.mdr_region.specs.Layout.{Mark, placed, left, laid, used}
 use Rattle.mdr_region.specs.Holes.{hole, holes_of, found, cut, start_of, risen, front, inside, returned, below, lowered, Rise, names}
 use Rattle.mdr_region.specs.Cells.{cells_of, written}
 use Rattle.mdr_region.specs.Blocks.{IsBlock, AreBelow, blocks, mark_at}

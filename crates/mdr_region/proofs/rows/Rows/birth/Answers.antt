@@ -1,7 +1,5 @@
 use Rattle.std.proofs.lemmas.List.{length-append}
-use Rattle.std.proofs.Common.{◌≡◌, ◌≤◌, ◌+◌, ◌++◌, ◌∷◌, [], List, map, length, sym, ◌∙◌, ap, subst, refl, arith}
-use Rattle.mdr_mem.specs.declared.cells.Life.TheVariants.{Birth}
-use Rattle.mdr_core.specs.declared.value.Value.{Value}
+use Rattle.std.proofs.Common.{◌≡◌, ◌∷◌, [], map, length, sym, ◌∙◌, ap, subst, refl, arith}
 use Rattle.mdr_mem.specs.Contents.{current, after_birth, born_as}
 use Rattle.mdr_mem.specs.Rows.{blocks_of}
 use Rattle.mdr_region.specs.declared.pool.Pool.{Pool}
@@ -9,7 +7,6 @@ use Rattle.mdr_region.specs.Layout.{laid}
 use Rattle.mdr_region.specs.Blocks.{IsBlock}
 use Rattle.mdr_region.specs.Cells.{written}
 use Rattle.mdr_region.specs.Slots.{current_at, settled, held_slots}
-use Rattle.mdr_region.proofs.CellLaws.{length_written}
 use Rattle.mdr_region.proofs.KeptLaws.{block_low}
 use Rattle.mdr_region.proofs.SlotLaws.{settled-written, currents-there}
 use Rattle.mdr_region.proofs.RegionLaws.{row-agrees}

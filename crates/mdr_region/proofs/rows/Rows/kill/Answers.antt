@@ -1,4 +1,4 @@
-use Rattle.std.proofs.Common.{◌≡◌, ◌++◌, ◌∷◌, [], List, take, length, sym, ◌∙◌, ap, refl, arith}
+use Rattle.std.proofs.Common.{◌≡◌, ◌++◌, ◌∷◌, [], length, ◌∙◌, ap, arith}
 use Rattle.mdr_mem.specs.declared.cells.Life.TheVariants.{Death}
 use Rattle.mdr_mem.specs.Rows.{blocks_of}
 use Rattle.mdr_mem.proofs.SoundLaws.{left-length}

@@ -1,4 +1,4 @@
-use Rattle.std.proofs.Common.{◌≡◌, ◌≤◌, ℕ, refl, arith}
+use Rattle.std.proofs.Common.{refl, arith}
 use Rattle.mdr_region.proofs.WholeLaws.{whole-moved, contents-moved}
 use Rattle.mdr_region.proofs.rows.Rows.make_room.Goals as goal
 

@@ -1,4 +1,4 @@
-use Rattle.std.proofs.Common.{◌≡◌, ◌≤◌, ℕ, Option, sym, ◌∙◌, ap, refl, arith}
+use Rattle.std.proofs.Common.{◌∙◌, ap, refl, arith}
 use Rattle.slab.specs.Slab.{Slab, slab_len}
 use Rattle.mdr_region.specs.declared.slots.Row.{Row}
 use Rattle.mdr_region.specs.Slots.{row_in}

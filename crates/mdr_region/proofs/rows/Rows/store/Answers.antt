@@ -1,9 +1,7 @@
-use Rattle.std.proofs.Common.{◌≡◌, ◌++◌, ◌∷◌, [], List, length, sym, ◌∙◌, ap, refl, arith}
-use Rattle.mdr_mem.specs.Contents.{current}
+use Rattle.std.proofs.Common.{◌∙◌, arith}
 use Rattle.mdr_mem.specs.Rows.{blocks_of}
 use Rattle.mdr_region.specs.Cells.{put_cell}
 use Rattle.mdr_region.specs.Slots.{held_slots}
-use Rattle.mdr_region.specs.PlacesView.{IsSound}
 use Rattle.mdr_region.proofs.RegionLaws.{row-low}
 use Rattle.mdr_region.proofs.ContentLaws.{region-stored, contents-stored}
 use Rattle.mdr_region.proofs.rows.Rows.store.Goals as goal
