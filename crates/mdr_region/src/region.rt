@@ -1,7 +1,8 @@
 // A memory in one pool of cells.
 
-ghost use Rattle.std.specs.Prelude.{◌≡◌, ◌<◌, ◌≤◌, ◌-◌, [], None, IsTrue, IsOk, IfOk, OnOk, OnErr, length};
-ghost use Rattle.mdr_mem.specs.Contents.{is_handle, births_in, after_birth, after_death, after_store};
+ghost use Rattle.std.specs.Prelude.{◌≡◌, ◌<◌, ◌≤◌, ◌-◌, [], None, IsTrue, IsSome, IsOk, IfOk, OnOk, OnErr, length};
+ghost use Rattle.mdr_model.specs.Memory.{cell_at};
+ghost use Rattle.mdr_mem.specs.Contents.{is_handle, cell_in, births_in, after_birth, after_death, after_store};
 ghost use Rattle.mdr_region.specs.Layout.{laid, layout_of};
 ghost use Rattle.mdr_region.specs.Blocks.{IsBlock};
 
@@ -13,8 +14,7 @@ use std::alloc::Global;
 use std::marker::Model;
 
 /// A memory whose blocks lie in one pool: each in the first hole of places that fits, else at the top. A load, a store
-/// and a look at a handle take constant time, `find` logarithmic time, a birth and a death the time of the blocks' and
-/// holes' number at most.
+/// and a look at a handle take constant time, `find` logarithmic time; a birth and a death go over holes and handles.
 ///
 /// Room may be promised: what `reserve` makes room for, `birth` finds.
 #[derive(Drop)]
@@ -46,11 +46,14 @@ impl Region {
         }
     }
 
-    /// Promises so many cells and births. Where memory is wanting all is as before.
+    /// Promises so many cells and births, or as many as before where these are more. Where memory is wanting all is as
+    /// before.
     pub fn reserve(&mut self, cells: u64, births: u64) -> Result<(), OutOfMemory>
         ensures contents { self.new.contents ≡ self.old.contents }
         ensures cells { OnOk result (cells ≤ self.new.cells) }
         ensures births { OnOk result (births ≤ self.new.births) }
+        ensures more_cells { self.old.cells ≤ self.new.cells }
+        ensures more_births { self.old.births ≤ self.new.births }
         ensures as_before { OnErr result (self.new ≡ self.old) }
     {
         self.rows.reserve(cells as usize, births as usize)
@@ -121,7 +124,14 @@ impl Cells for Region {
         self.rows.load(b, cell)
     }
 
-    fn store(&mut self, b: Block, cell: u32, v: Value) {
+    /// It leaves what is promised.
+    fn store(&mut self, b: Block, cell: u32, v: Value)
+        requires alive { IsTrue (is_handle self.old.contents.handles b) }
+        requires inside { IsSome (cell_at self.old.contents.memory (cell_in b cell)) }
+        ensures stored { self.new.contents ≡ after_store b cell v self.old.contents }
+        ensures cells { self.new.cells ≡ self.old.cells }
+        ensures births { self.new.births ≡ self.old.births }
+    {
         self.rows.store(b, cell as u64, v);
     }
 
