@@ -192,7 +192,6 @@ impl Pool {
         ensures values { self.new.values.items ≡ self.old.values.items }
         ensures cells { OnOk result (cells ≤ self.new.cells_left) }
         ensures births { OnOk result (births ≤ self.new.births_left) }
-        ensures more_cells { self.old.cells_left ≤ self.new.cells_left }
         ensures most { OnOk result (self.new.births_left ≡ cond (nat_lt self.old.births_left births) births self.old.births_left) }
         ensures same_cells { OnErr result (self.new.cells_left ≡ self.old.cells_left) }
         ensures same_births { OnErr result (self.new.births_left ≡ self.old.births_left) }

@@ -46,14 +46,11 @@ impl Region {
         }
     }
 
-    /// Promises so many cells and births, or as many as before where these are more. Where memory is wanting all is as
-    /// before.
+    /// Promises so many cells and births. Where memory is wanting all is as before.
     pub fn reserve(&mut self, cells: u64, births: u64) -> Result<(), OutOfMemory>
         ensures contents { self.new.contents ≡ self.old.contents }
         ensures cells { OnOk result (cells ≤ self.new.cells) }
         ensures births { OnOk result (births ≤ self.new.births) }
-        ensures more_cells { self.old.cells ≤ self.new.cells }
-        ensures more_births { self.old.births ≤ self.new.births }
         ensures as_before { OnErr result (self.new ≡ self.old) }
     {
         self.rows.reserve(cells as usize, births as usize)

@@ -284,8 +284,6 @@ impl Rows {
         ensures contents { contents_of self.new ≡ contents_of self.old }
         ensures cells { OnOk result (cells ≤ self.new.pool.cells_left) }
         ensures births { OnOk result (births ≤ self.new.pool.births_left) }
-        ensures more_cells { self.old.pool.cells_left ≤ self.new.pool.cells_left }
-        ensures more_births { self.old.pool.births_left ≤ self.new.pool.births_left }
         ensures same_cells { OnErr result (self.new.pool.cells_left ≡ self.old.pool.cells_left) }
         ensures same_births { OnErr result (self.new.pool.births_left ≡ self.old.pool.births_left) }
     {
