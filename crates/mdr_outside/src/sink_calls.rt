@@ -25,8 +25,9 @@ impl History<SinkCall> {
     {
         let (seen, _, _) = Seen::open(Start::alone(), 0, 0);
         History {
-            offer: seen
-                .plain::<Still, (&History<SinkCall>, &[u8], SinkAnswer), Still>(&(self, piece, answer)),
+            offer: seen.plain::<Still, (&History<SinkCall>, &[u8], SinkAnswer), Still>(&(
+                self, piece, answer,
+            )),
         }
     }
 }
