@@ -28,19 +28,19 @@ use Rattle.mdr_outside.specs.Far.{loaded_with}
 use Rattle.mdr_outside.specs.Sides.{FarSide}
 use Rattle.mdr_plain.specs.declared.outcome.Outcome.{Outcome}
 use Rattle.mdr_runner.specs.Runs.{IsOutcome, IsRun, status_of}
-use Rattle.mdr_runner.specs.Scripts.{HasScript, IsScriptOf, NoScriptOf, bound_by}
+use Rattle.mdr_runner.specs.Scripts.{HasScript, NoScriptOf, bound_by}
 use Rattle.mdr_script.specs.declared.bound.Bound.{Bound}
 use Rattle.mdr_script.specs.declared.script.Script.{Script}
 use Rattle.mdr_script.specs.declared.script_error.ScriptKind.{ScriptKind}
 use Rattle.mdr_script.specs.Scripts.{script_of}
-use Rattle.mdr_slicer.specs.Slicing.{HasSource, IsSourceOf, NoSourceOf}
+use Rattle.mdr_slicer.specs.Slicing.{HasSource, NoSourceOf}
 use Rattle.mdr_source.proofs.Whose.{come_source}
 use Rattle.mdr_source.specs.declared.outcome.Source.{Source}
 use Rattle.mdr_split_runner.proofs.Steps.{nothing_end}
 use Rattle.mdr_split_runner.specs.Cuts.{IsCutInto}
-use Rattle.mdr_split_runner.specs.Means.{IsMeaning, SplitMeans, SplitMeansBy, SplitRunsMean, meant, while_watched}
+use Rattle.mdr_split_runner.specs.Means.{IsMeaning, SplitMeans, SplitRunsMean, meant, while_watched}
 use Rattle.mdr_split_runner.specs.Reports.{Began, Ran, Reported}
-use Rattle.mdr_split_runner.specs.SplitRuns.{IsSplitRun, SplitRuns}
+use Rattle.mdr_split_runner.specs.SplitRuns.{SplitRuns}
 use Rattle.mdr_watched.specs.Watched.{watched}
 
 -- ---- a source and its texts
