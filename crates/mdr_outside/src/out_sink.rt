@@ -1,8 +1,9 @@
 // A sink over a writer.
 
 ghost use Rattle.std.specs.Prelude.{◌≡◌, ◌≤◌, [], None};
+ghost use Rattle.mdr_outside.specs.Calls.{and_then};
 ghost use Rattle.mdr_outside.specs.Count.{Rose};
-ghost use Rattle.mdr_outside.specs.Sink.{Takes, HandsOn, count_after};
+ghost use Rattle.mdr_outside.specs.Sink.{Takes, HandsOn, count_after, wrote};
 
 use crate::history::History;
 use crate::sink::{Sink, SinkAnswer, SinkCall};
@@ -40,6 +41,7 @@ impl<W: Write> Sink for OutSink<W> {
 
     fn write(&mut self, piece: &[u8]) -> SinkAnswer
         ensures taken { Takes None None piece.now result }
+        ensures called { self.new.calls ≡ and_then self.old.calls (wrote piece.now result) }
         ensures failed { result ≡ SinkAnswer.Failed → Rose self.old.faults self.new.faults }
         ensures counted { self.new.faults ≡ count_after self.old.faults result }
         ensures faults_later { self.old.faults ≤ self.new.faults }
