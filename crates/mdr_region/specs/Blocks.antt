@@ -1,3 +1,4 @@
+-- protocol
 -- The blocks of marks, and what holds of holes and counts.
 use Rattle.std.specs.Prelude.{ℕ, ◌+◌, ◌≡◌, ◌<◌, ◌≤◌, Bool, true, cond, List, [], ◌∷◌, length, slice_index_or, is_some, Some, None}
 use Rattle.mdr_mem.specs.declared.cells.Life.{Life}

@@ -1,3 +1,4 @@
+-- protocol
 -- Cells in one list.
 use Rattle.std.specs.Prelude.{ℕ, ◌+◌, cond, nat_lt, List, ◌++◌, length, take, drop, slice_set}
 use Rattle.mdr_core.specs.declared.value.Value.{Value}

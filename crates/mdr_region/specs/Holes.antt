@@ -1,3 +1,4 @@
+-- protocol
 -- The holes of marks, and what is done to them.
 use Rattle.std.specs.Prelude.{ℕ, suc, ◌+◌, ◌-◌, ◌<◌, ◌≤◌, Bool, false, cond, ◌==◌, ◌&&◌, nat_lt, nat_le, List, [], ◌∷◌, Option, Some, None}
 use Rattle.mdr_region.specs.declared.holes.Hole.{Hole}

@@ -1,3 +1,4 @@
+-- for proofs
 -- Laws of holes and blocks, for contracts.
 use Rattle.std.specs.Prelude.{ℕ, ◌+◌, ◌≡◌, ◌≢◌, ◌<◌, ◌≤◌, true, false, List, [], ◌∷◌, ◌++◌, length, take, slice_set, None}
 use Rattle.mdr_core.specs.declared.value.Value.{Value}

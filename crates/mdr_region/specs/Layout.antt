@@ -1,3 +1,4 @@
+-- protocol
 -- Which places are used after births and deaths.
 use Rattle.std.specs.Prelude.{ℕ, zero, suc, ◌+◌, Bool, true, false, cond, ◌==◌, List, [], ◌∷◌, ◌++◌, map, length, drop, replicate, Option, Some, None}
 use Rattle.mdr_mem.specs.declared.cells.Life.{Life}

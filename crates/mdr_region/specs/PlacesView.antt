@@ -1,3 +1,4 @@
+-- protocol
 -- The fields of places, as what is kept of all births and deaths.
 use Rattle.std.specs.Prelude.{◌+◌, ◌^◌, ◌-◌, ◌≡◌, ◌≤◌, length, vec_capacity}
 use Rattle.mdr_region.specs.declared.places.Places.{Places}

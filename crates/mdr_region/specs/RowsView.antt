@@ -1,3 +1,4 @@
+-- protocol
 -- The fields of a region, as what it holds and what was promised.
 use Rattle.std.specs.Prelude.{ℕ, ◌+◌, ◌^◌, ◌<◌, ◌≤◌, List, length, vec_capacity}
 use Rattle.slab.specs.Slab.{HasRoomFor}

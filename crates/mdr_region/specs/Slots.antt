@@ -1,3 +1,4 @@
+-- protocol
 -- Rows in their slots: where each block lies, and how it was born.
 use Rattle.std.specs.Prelude.{ℕ, ◌+◌, Bool, false, cond, ◌==◌, List, [], ◌∷◌, map, Option, Some, None, slice_index_or, slice_set}
 use Rattle.mdr_core.specs.declared.value.Block.{Block}

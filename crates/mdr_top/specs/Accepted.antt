@@ -1,3 +1,4 @@
+-- believed
 -- A source and a script that are run, where the words name them and both are taken.
 use Rattle.std.specs.Prelude.{◌≡◌, ℕ, List, Some, Ok}
 use Rattle.mdr_due.specs.Reads.{Files, longest_source, longest_script}

@@ -1,3 +1,4 @@
+-- protocol
 -- What the program answers, with one constructor for each reason.
 use Rattle.std.specs.Prelude.{◌≡◌, ℕ, List, codes, Option, Some, None}
 use Rattle.mdr_core.specs.declared.plan.Plan.{Plan}

@@ -1,3 +1,4 @@
+-- protocol
 -- Where each status comes.
 use Rattle.std.specs.Prelude.{◌≡◌, ℕ, ◌<◌, ◌≤◌, Bool, true, false, nat_lt, ◌⊎◌, List, length, Option, None, Some, IfSome, Result, Ok, Err}
 use Rattle.mdr_core.specs.declared.plan.Plan.{Plan}

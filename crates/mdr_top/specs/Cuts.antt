@@ -1,3 +1,4 @@
+-- protocol
 -- What the program does with a source that is cut.
 use Rattle.std.specs.Prelude.{◌≡◌, ℕ, ◌⊎◌, List, codes, Option, Some, None, slice_get}
 use Rattle.mdr_outside.specs.Calls.{ShelfCall}

@@ -1,3 +1,4 @@
+-- protocol
 -- What the program does to the outside, and what is due for it: one constructor for each thing that the words ask for.
 use Rattle.std.specs.Prelude.{◌≡◌, ℕ, List, Some, None}
 use Rattle.mdr_due.specs.declared.status.Status.{Status}

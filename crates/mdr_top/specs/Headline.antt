@@ -1,3 +1,4 @@
+-- believed
 -- What is printed over an honest far side, and where it is.
 use Rattle.std.specs.Prelude.{◌≡◌, ◌≢◌, ℕ, ◌⊎◌, List, Some, IsSomeAnd}
 use Rattle.mdr_core.specs.Sound.{IsSound}

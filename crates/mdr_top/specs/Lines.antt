@@ -1,3 +1,4 @@
+-- protocol
 -- The line that is printed where the words are none of the program's.
 use Rattle.std.specs.Prelude.{ℕ, List, codes}
 

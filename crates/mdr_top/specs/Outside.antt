@@ -1,3 +1,4 @@
+-- believed
 -- What lies outside a run, at one moment.
 use Rattle.mdr_outside.specs.Sides.{ShelfSide, SinkSide, FarSide}
 

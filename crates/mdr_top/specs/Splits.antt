@@ -1,3 +1,4 @@
+-- protocol
 -- The statuses that a run over two halves ends with.
 use Rattle.mdr_due.specs.declared.status.Status.{Status}
 use Rattle.mdr_due.specs.declared.status.Status.TheVariants as status

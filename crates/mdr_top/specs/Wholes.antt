@@ -1,3 +1,4 @@
+-- protocol
 -- What is printed of a script that is run over a source on one memory.
 use Rattle.std.specs.Prelude.{◌≡◌, ℕ, ◌⊎◌, List, Some}
 use Rattle.mdr_core.specs.Sound.{IsSound}

@@ -1,3 +1,4 @@
+-- believed
 -- The words that the program takes.
 use Rattle.std.specs.Prelude.{ℕ, Bool, true, false, ◌&&◌, nat_le, List, [], ◌∷◌, codes, Option, Some, None, option_map, Result, Ok, Err}
 use Rattle.std.specs.Str.{bytes_eq, all_ascii_digits}

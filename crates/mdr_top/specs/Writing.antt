@@ -1,3 +1,4 @@
+-- believed
 -- How a text is written to a sink, piece by piece.
 use Rattle.std.specs.Prelude.{◌≡◌, ℕ, ◌+◌, ◌≤◌, ◌<◌, ◌⊎◌, Bool, true, false, List, [], ◌∷◌, ◌++◌, length, take, drop, Option, option_map}
 use Rattle.mdr_due.specs.declared.status.Status.{Status}

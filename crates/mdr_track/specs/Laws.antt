@@ -1,3 +1,4 @@
+-- for proofs
 -- The laws of pairs, for contracts.
 use Rattle.std.specs.Prelude.{◌≡◌, ℕ, false, Some, None, ◌==◌}
 use Rattle.mdr_core.specs.declared.value.Block.{Block}

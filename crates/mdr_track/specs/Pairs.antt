@@ -1,3 +1,4 @@
+-- protocol
 -- Pairs of the kernel's serials and the user half's blocks, as what is found by each. So no order of pairs matters.
 use Rattle.std.specs.Prelude.{◌≡◌, ℕ, Bool, false, cond, ◌&&◌, Option, Some, None, ◌==◌}
 use Rattle.mdr_core.specs.declared.value.Block.{Block}

@@ -1,3 +1,4 @@
+-- protocol
 -- A pointer as running code has it, with the kernel's serial, and as a cell of the user half has it, with the user half's own block.
 use Rattle.std.specs.Prelude.{ℕ, cond, Option, Some, None, ◌==◌, is_some}
 use Rattle.mdr_core.specs.declared.value.Block.{Block}

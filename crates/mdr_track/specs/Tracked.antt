@@ -1,3 +1,4 @@
+-- protocol
 -- What a tracker holds: the pairs, each way, and for how many more it has room.
 use Rattle.std.specs.Prelude.{ℕ, ◌≤◌, Bool, ◌&&◌, List, nat_eq, ◌==◌}
 use Rattle.std.specs.Map.{lookup}

@@ -1,3 +1,4 @@
+-- for proofs
 -- Worked: object 5 points to object 3, and object 3 to object 5 and twice to itself. Their copies lie elsewhere.
 use Rattle.std.specs.Prelude.{◌≡◌, ℕ, List, [], ◌∷◌, map, Some, None}
 use Rattle.mdr_core.specs.declared.value.Block.{Block}
