@@ -1,12 +1,17 @@
 -- protocol
 -- The fields of places, as what is kept of all births and deaths.
-use Rattle.std.specs.Prelude.{◌+◌, ◌^◌, ◌-◌, ◌≡◌, ◌≤◌, length, vec_capacity}
+use Rattle.std.specs.Prelude.{ℕ, ◌+◌, ◌^◌, ◌-◌, ◌≡◌, ◌<◌, ◌≤◌, false, is_some, length, vec_capacity}
 use Rattle.mdr_region.specs.declared.places.Places.{Places}
 use Rattle.mdr_region.specs.declared.pool.Pool.{Pool}
 use Rattle.mdr_region.specs.Blocks.{IsKept}
+use Rattle.mdr_region.specs.Holes.{found}
 
 abbrev pub AreSound : Places → Type 0
 AreSound s = IsKept s.lives s.holes.items (vec_capacity s.holes) s.top s.taken s.births s.live
+
+-- where no hole has so many places, there are so many at the top
+abbrev pub Fits : Places → (cells : ℕ) → Type 0
+Fits s cells = is_some (found cells s.holes.items) ≡ false → s.top + cells < 2 ^ 64
 
 -- each place below the top has its cell, and what was reserved is there
 pub record IsSound (s : Pool) : Type 0 where

@@ -5,7 +5,7 @@ ghost use Rattle.mdr_mem.specs.declared.cells.Life.TheVariants as life;
 ghost use Rattle.mdr_region.specs.Layout.{laid, layout_of};
 ghost use Rattle.mdr_region.specs.Holes.{Rise, found, cut, start_of, risen};
 ghost use Rattle.mdr_region.specs.Blocks.{IsBlock};
-ghost use Rattle.mdr_region.specs.PlacesView.{AreSound};
+ghost use Rattle.mdr_region.specs.PlacesView.{AreSound, Fits};
 
 use crate::holes::{Hole, drop_top, first_of, give_back, take_first};
 use crate::lives::Lives;
@@ -122,7 +122,7 @@ impl Places {
         ensures as_before { OnErr result (self.new.lives ≡ self.old.lives) }
         ensures spare_births { vec_capacity self.old.holes + self.new.live ≤ vec_capacity self.new.holes + self.old.live + 1 }
         ensures fits { OnOk result (self.new.births < 2 ^ 64) }
-        ensures succeeds { (is_some (found cells self.old.holes.items) ≡ false → self.old.top + cells < 2 ^ 64) → self.old.live < vec_capacity self.old.holes → self.old.births < 2 ^ 64 - 1 → IsOk result }
+        ensures succeeds { Fits self.old cells → self.old.live < vec_capacity self.old.holes → self.old.births < 2 ^ 64 - 1 → IsOk result }
     {
         if self.births == u64::MAX {
             return Err(OutOfMemory);
