@@ -1,3 +1,4 @@
+-- believed
 -- Parameters and locals: what is declared, in which slot, and whether it is an object of its own (C99 6.2.1, 6.7, 6.9.1).
 use Rattle.std.specs.Prelude.{ℕ, ◌+◌, ◌==◌, ◌&&◌, ◌||◌, not, nat_lt, Bool, true, false, List, [], ◌∷◌, ◌++◌, length, map, take, slice_get, is_some, Option, Some, None, Result, Ok, Err}
 use Rattle.std.specs.Str.{bytes_eq}

@@ -1,3 +1,4 @@
+-- believed
 -- Where a block names something that was declared before it, or takes its address (C99 6.2.1, 6.5.3.2).
 use Rattle.std.specs.Prelude.{ℕ, ◌&&◌, ◌||◌, not, Bool, true, false, List, [], ◌∷◌, Option, Some, None, codes}
 use Rattle.std.specs.Str.{bytes_eq}

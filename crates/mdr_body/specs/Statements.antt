@@ -1,3 +1,4 @@
+-- believed
 -- Statements: what each comes to, and what is known behind it (C99 6.8).
 use Rattle.std.specs.Prelude.{ℕ, ◌&&◌, ◌||◌, not, nat_lt, Bool, true, false, List, [], ◌∷◌, ◌++◌, length, Option, Some, None}
 use Rattle.mdr_core.specs.declared.code.Expr.{Expr}

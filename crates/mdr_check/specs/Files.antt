@@ -1,3 +1,4 @@
+-- believed
 -- A whole file: its items in their order, each where those before it stand (C99 6.9).
 use Rattle.std.specs.Prelude.{ℕ, ◌+◌, ◌==◌, not, Bool, true, false, Ok, List, [], ◌∷◌, ◌++◌, map, length}
 use Rattle.mdr_core.specs.declared.place.Place.{Place}

@@ -1,3 +1,4 @@
+-- believed
 -- First values of globals (C99 6.7.8).
 use Rattle.std.specs.Prelude.{ℕ, ◌+◌, ◌-◌, ◌==◌, ◌&&◌, ◌||◌, not, nat_lt, Bool, true, false, pos, List, [], ◌∷◌, ◌++◌, length, find, position, Option, Some, None, is_some, is_none, slice_get}
 use Rattle.std.specs.List.{list_all, list_any}

@@ -1,3 +1,4 @@
+-- believed
 -- The names that a file declares have a greatest length (C99 5.2.4.1 lets an implementation set one).
 use Rattle.std.specs.Prelude.{List, map}
 use Rattle.mdr_core.specs.declared.place.Place.{Place}

@@ -1,3 +1,4 @@
+-- believed
 -- Functions are defined where they are used, and where they aren't (C99 6.9, paragraphs 3 and 5).
 use Rattle.std.specs.Prelude.{◌||◌, ℕ, Bool, false, List, [], ◌∷◌, map, Option, Some, None}
 use Rattle.std.specs.Str.{bytes_eq}

@@ -1,3 +1,4 @@
+-- believed
 -- A whole file: what its items come to, or all faults in it.
 use Rattle.std.specs.Prelude.{List, []}
 use Rattle.mdr_core.specs.declared.place.Place.{Place}

@@ -1,3 +1,4 @@
+-- believed
 -- What a run sends, and where it stops for want of memory.
 use Rattle.std.specs.Prelude.{◌≡◌, ℕ, ◌+◌, ◌⊎◌, List, [], ◌∷◌, ◌++◌, map, length, take, Some, None}
 use Rattle.mdr_watched.specs.Driver.{Driver}

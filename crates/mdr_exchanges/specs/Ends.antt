@@ -1,3 +1,4 @@
+-- protocol
 -- How a run ends that the far side ends, and how many messages there are.
 use Rattle.std.specs.Prelude.{◌≡◌, ℕ, ◌+◌, ◌*◌, ◌≤◌, List, [], ◌∷◌, ◌++◌, map, length, Some, None}
 use Rattle.mdr_watched.specs.Driver.{Driver}

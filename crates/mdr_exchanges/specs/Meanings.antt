@@ -1,3 +1,4 @@
+-- believed
 -- What a run over honest exchanges means.
 use Rattle.std.specs.Prelude.{◌≡◌, ℕ, ◌+◌, ◌*◌, ◌≤◌, ◌⊎◌, List, [], ◌∷◌, ◌++◌, length, IfSome}
 use Rattle.mdr_core.specs.declared.plan.Plan.{Plan}

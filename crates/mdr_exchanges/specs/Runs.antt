@@ -1,3 +1,4 @@
+-- believed
 -- What a run of the kernel half comes to, over what the far side answered.
 use Rattle.std.specs.Prelude.{◌≡◌, ℕ, List, [], ◌∷◌, map, Option, Some, None}
 use Rattle.mdr_watched.specs.Driver.{Driver}

@@ -1,3 +1,4 @@
+-- protocol
 -- Statements begin: what comes of one, and which of its lists is entered.
 use Rattle.std.specs.Prelude.{Bool, Option, Some, None}
 use Rattle.mdr_core.specs.declared.place.At.{At}

@@ -1,3 +1,4 @@
+-- protocol
 -- Where objects die, and what a function's end leaves.
 use Rattle.std.specs.Prelude.{◌≡◌, ℕ, Bool, true, false, List, [], ◌∷◌, Option, Some, None}
 use Rattle.mdr_meaning.specs.declared.wire.Wire.{Wire}

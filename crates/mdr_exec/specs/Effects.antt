@@ -1,3 +1,4 @@
+-- protocol
 -- What statements do to the memory and to their function's locals, and how they end.
 use Rattle.std.specs.Prelude.{◌≡◌, ℕ, suc, List, [], ◌∷◌, Option, Some, None, Result, Ok, Err, slice_set, pos}
 use Rattle.mdr_core.specs.declared.kind.Kind.{Kind}

@@ -1,3 +1,4 @@
+-- protocol
 -- A function begins.
 use Rattle.std.specs.Prelude.{List, [], Option, Some, None, slice_get}
 use Rattle.mdr_core.specs.declared.program.Program.{Program}

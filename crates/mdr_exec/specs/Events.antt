@@ -1,3 +1,4 @@
+-- protocol
 -- What a step of the code comes to, as definitions have it.
 use Rattle.std.specs.Prelude.{Option, Some, None}
 use Rattle.mdr_meaning.specs.Lives.{asked_for}

@@ -1,3 +1,4 @@
+-- protocol
 -- What a step comes to, and what a run does.
 use Rattle.std.specs.Prelude.{◌≡◌, ℕ, Bool, true, ◌==◌, length, Option, Some, None}
 use Rattle.mdr_meaning.specs.Sides.{Side}

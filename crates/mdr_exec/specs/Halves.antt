@@ -1,3 +1,4 @@
+-- protocol
 -- Which code runs on a side: that of one half, or all of it.
 use Rattle.std.specs.Prelude.{◌≡◌, ℕ, suc, Bool, true, false, not, List, Option, Some, None, Result, Ok, Err, slice_get}
 use Rattle.mdr_core.specs.declared.plan.Half.{Half}

@@ -1,3 +1,4 @@
+-- protocol
 -- The work that a machine holds.
 use Rattle.std.specs.Prelude.{suc, ℕ, List, [], ◌∷◌, ◌++◌, map, reverse, Option, Some, None, slice_get, Bool, true, false, length, ◌≡◌}
 use Rattle.mdr_core.specs.declared.program.Program.{Program}

@@ -1,3 +1,4 @@
+-- protocol
 -- Integers in hand, and in the first cell of a block.
 use Rattle.std.specs.Prelude.{◌≡◌, ℕ, ◌<◌, Ok}
 use Rattle.mdr_meaning.specs.declared.wire.Wire.{Wire}

@@ -1,3 +1,4 @@
+-- protocol
 -- How a list of statements is left: what ends with it, and what is held then.
 use Rattle.std.specs.Prelude.{◌≡◌, ℕ, ◌-◌, Bool, true, false, List, [], ◌∷◌, ◌++◌, Option, Some}
 use Rattle.mdr_core.specs.declared.program.Program.{Program}

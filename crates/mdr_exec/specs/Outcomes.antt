@@ -1,3 +1,4 @@
+-- protocol
 -- What evaluations in code come to, as definitions have it.
 use Rattle.std.specs.Prelude.{List, Result, Ok, Err}
 use Rattle.mdr_core.specs.declared.stop.StopKind.{StopKind}

@@ -1,3 +1,4 @@
+-- protocol
 -- What stays while statements of integers are done.
 use Rattle.std.specs.Prelude.{◌≡◌}
 use Rattle.mdr_core.specs.declared.program.Program.{Program}

@@ -1,3 +1,4 @@
+-- protocol
 -- Held work is started, answered and run: what a run of several steps comes to, for every number of ticks.
 use Rattle.std.specs.Prelude.{◌≡◌, ℕ, suc, ◌+◌, ◌≤◌, Bool, true, false, List, [], ◌∷◌, Some}
 use Rattle.mdr_core.specs.declared.place.At.{At}

@@ -1,3 +1,4 @@
+-- protocol
 -- One step for each statement (C99 6.7, 6.8).
 use Rattle.std.specs.Prelude.{◌≡◌, ℕ, Bool, true, false, List, [], ◌∷◌, Option, Some, None, Result, Ok, Err, slice_get, slice_set}
 use Rattle.mdr_core.specs.declared.place.At.{At}

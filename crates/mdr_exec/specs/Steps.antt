@@ -1,3 +1,4 @@
+-- protocol
 -- Steps of held work: what a walk of its tree comes to, and the work that is held then.
 use Rattle.std.specs.Prelude.{◌≡◌, ℕ, suc, ◌≤◌, List, [], ◌∷◌, Result, Ok, Err}
 use Rattle.mdr_core.specs.declared.stop.StopKind.{StopKind}

@@ -1,3 +1,4 @@
+-- protocol
 -- Values that are stored.
 use Rattle.std.specs.Prelude.{ℕ, List, Option, Some, None}
 use Rattle.mdr_core.specs.declared.value.Value.{Value}

@@ -1,3 +1,4 @@
+-- protocol
 -- How held work goes on where no statement runs: blocks, loops and functions are left, and what comes before the statements is done.
 use Rattle.std.specs.Prelude.{◌≡◌, ℕ, Bool, true, false, List, [], ◌∷◌, ◌++◌, Result, Ok, Err}
 use Rattle.mdr_core.specs.declared.place.At.{At}

@@ -1,3 +1,4 @@
+-- protocol
 -- What a step comes to that leaves a block or a function.
 use Rattle.std.specs.Prelude.{Bool, true, false, List, [], ◌∷◌, ◌++◌, Option, Some, None}
 use Rattle.mdr_core.specs.declared.place.At.{At}

@@ -1,3 +1,4 @@
+-- protocol
 -- A far side in the same process.
 use Rattle.std.specs.Prelude.{◌≡◌, ℕ, List, [], Option, Some, None}
 use Rattle.mdr_honest.specs.Honest.{AreRefused, Loads}

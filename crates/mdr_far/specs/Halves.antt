@@ -1,3 +1,4 @@
+-- protocol
 -- The user half, as callers see it.
 use Rattle.std.specs.Prelude.{◌≡◌, ℕ, Bool, true, false, List, [], ◌∷◌, ◌++◌, Some, Result, Ok, Err}
 use Rattle.mdr_core.specs.declared.plan.Plan.{Plan}

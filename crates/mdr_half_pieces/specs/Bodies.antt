@@ -1,3 +1,4 @@
+-- for proofs
 -- Sources in which each function that is declared has its body (C99 6.9, paragraph 3).
 use Rattle.std.specs.Prelude.{◌≡◌, true, List, [], ◌∷◌, is_some}
 use Rattle.mdr_core.specs.declared.program.Func.{Func}

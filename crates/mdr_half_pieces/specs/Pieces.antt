@@ -1,3 +1,4 @@
+-- for proofs
 -- What the items of one half's text come to.
 use Rattle.std.specs.Prelude.{◌≡◌, ℕ, Bool, true, false, List, map}
 use Rattle.mdr_core.specs.declared.plan.Half.{Half}

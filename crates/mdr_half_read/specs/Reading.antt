@@ -1,3 +1,4 @@
+-- for proofs
 -- The printed text of a half, read with the plan.
 use Rattle.std.specs.Prelude.{◌≡◌, true, List, map, Ok}
 use Rattle.std.specs.List.{list_all}

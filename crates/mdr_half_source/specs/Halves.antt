@@ -1,3 +1,4 @@
+-- protocol
 -- What the text of a user half and the text of its plan come to.
 use Rattle.std.specs.Prelude.{ℕ, List, Result, Ok, Err}
 use Rattle.mdr_honest.specs.Honest.{AreRefused, Loads}

@@ -1,3 +1,4 @@
+-- protocol
 -- The program of a user half's text, stage by stage.
 use Rattle.std.specs.Prelude.{◌≡◌, ◌≤◌, ℕ, true, false, List, length, Option, Some, None}
 use Rattle.mdr_core.specs.declared.plan.Plan.{Plan}

@@ -1,3 +1,4 @@
+-- for proofs
 -- The types that occur in a half's text.
 use Rattle.std.specs.Prelude.{◌≡◌, ◌≤◌, ℕ, false, List, length, map, Ok}
 use Rattle.mdr_core.specs.declared.plan.Half.{Half}

@@ -1,3 +1,4 @@
+-- for proofs
 -- The headings of functions in the user half's text, beside those of the whole source (C99 6.7, paragraph 4).
 use Rattle.std.specs.Prelude.{◌≡◌, ℕ, List, [], ◌∷◌, map}
 use Rattle.mdr_core.specs.declared.plan.Half.{Half}

@@ -1,3 +1,4 @@
+-- for proofs
 -- The text that is printed of the user half replies as the whole program does.
 use Rattle.std.specs.Prelude.{◌≡◌, ℕ, List}
 use Rattle.mdr_access.specs.Keys.{HasEach, IsPlan}

@@ -1,3 +1,4 @@
+-- for proofs
 -- Sources without faults define each function that they declare (C99 6.9, paragraphs 3 and 5).
 use Rattle.std.specs.Prelude.{◌≡◌, ℕ, false, List, Ok}
 use Rattle.mdr_syntax.specs.declared.token.Token.{Token}

@@ -1,3 +1,4 @@
+-- for proofs
 -- Names that nothing may use: of functions without a body, and those that mean nothing so far (C99 6.9, paragraph 3).
 use Rattle.std.specs.Prelude.{◌≡◌, ℕ, false, List, Option, Some, None, Result, Ok, Err}
 use Rattle.mdr_syntax.specs.declared.tree.Head.{Head}

@@ -1,3 +1,4 @@
+-- for proofs
 -- From a source to the program of its user half.
 use Rattle.std.specs.Prelude.{◌≡◌, ◌≤◌, ℕ, false, true, List, length, Ok}
 use Rattle.mdr_core.specs.declared.plan.Half.TheVariants.{User}

@@ -1,3 +1,4 @@
+-- believed
 -- Functions behind declarations (C99 6.7, 6.9.1): which are declared, and whether their declarations agree.
 use Rattle.std.specs.Prelude.{ℕ, ◌==◌, ◌&&◌, ◌||◌, not, Bool, true, false, List, [], ◌∷◌, ◌++◌, length, find, Option, Some, None, is_some, Result, Ok, Err}
 use Rattle.std.specs.List.{list_any}

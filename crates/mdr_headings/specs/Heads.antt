@@ -1,3 +1,4 @@
+-- believed
 -- What stands before a function's body (C99 6.7.5.3, 6.9.1).
 use Rattle.std.specs.Prelude.{ℕ, false, List, [], ◌∷◌, ◌++◌, map, Option, Some}
 use Rattle.mdr_core.specs.declared.place.Place.{Place}

@@ -1,3 +1,4 @@
+-- believed
 -- Names have a greatest length (C99 5.2.4.1 lets an implementation set one).
 use Rattle.std.specs.Option.{option_map}
 use Rattle.std.specs.Prelude.{ℕ, not, nat_lt, List, [], ◌∷◌, map, length, Option, Some, None, Result, Ok, Err}

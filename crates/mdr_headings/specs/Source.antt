@@ -1,3 +1,4 @@
+-- believed
 -- What is known at each place of a file (C99 6.2.1, 6.9).
 use Rattle.std.specs.Prelude.{ℕ, ◌==◌, Bool, true, false, List, [], ◌∷◌, ◌++◌, map, length, Option, Some, None, Result, Ok, negsuc}
 use Rattle.std.specs.List.{list_any}

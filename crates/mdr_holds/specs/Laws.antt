@@ -1,3 +1,4 @@
+-- believed
 -- Laws: what code of a sound program, services and commands leave of a run's state.
 use Rattle.std.specs.Prelude.{◌≡◌, ℕ, ◌≤◌, true, false, Bool, List, [], ◌∷◌, map, Some, None, Ok, slice_get, is_some}
 use Rattle.mdr_callees.specs.Callees.{uses_by}

@@ -1,3 +1,4 @@
+-- believed
 -- A far side that answers as the user half.
 use Rattle.std.specs.Prelude.{◌≡◌, ◌≤◌, ℕ, true, false, List, [], length, Option, Some, None}
 use Rattle.mdr_core.specs.declared.plan.Plan.{Plan}

@@ -1,3 +1,4 @@
+-- believed
 -- What texts that are loaded come to, and that those of a source are loaded.
 use Rattle.std.specs.Prelude.{◌≡◌, ◌≤◌, ◌^◌, ℕ, List, length}
 use Rattle.mdr_core.specs.declared.plan.Plan.{Plan}

@@ -1,3 +1,4 @@
+-- for proofs
 -- What a run over an honest far side means.
 use Rattle.std.specs.Prelude.{◌≡◌, ℕ, ◌⊎◌, List, Some}
 use Rattle.mdr_core.specs.declared.plan.Plan.{Plan}

@@ -1,3 +1,4 @@
+-- for proofs
 -- Scripts that are read and bound.
 use Rattle.std.specs.Prelude.{◌≡◌, ℕ, List, Ok}
 use Rattle.mdr_core.specs.declared.program.Program.{Program}

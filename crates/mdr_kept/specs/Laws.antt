@@ -1,3 +1,4 @@
+-- for proofs
 -- Laws of runs that keep their annotations.
 use Rattle.std.specs.Prelude.{◌≡◌, ℕ}
 use Rattle.mdr_core.specs.declared.plan.Plan.{Plan}

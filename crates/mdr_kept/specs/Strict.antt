@@ -1,3 +1,4 @@
+-- for proofs
 -- A followed run that also ends where the halves could be told from one piece of code.
 use Rattle.std.specs.Prelude.{ℕ, suc, Bool, true, false, not, ◌||◌, List, [], ◌∷◌, map, Option, Some, None, is_some}
 use Rattle.mdr_core.specs.declared.place.At.{At}

@@ -1,3 +1,4 @@
+-- for proofs
 -- Small drivers in two halves, worked out: where their watched runs and their plain runs are told apart, and where not.
 use Rattle.std.specs.Prelude.{◌≡◌, List, true, false, [], ◌∷◌, codes, Some, None}
 use Rattle.mdr_core.specs.declared.stop.StopKind.TheVariants as stop

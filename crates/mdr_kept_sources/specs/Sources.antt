@@ -1,3 +1,4 @@
+-- for proofs
 -- Programs of sources that keep their annotations.
 use Rattle.std.specs.Prelude.{◌≡◌, ℕ, ◌≤◌, Bool, List, length}
 use Rattle.mdr_check.specs.Uses.{UseRule}

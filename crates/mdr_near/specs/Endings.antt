@@ -1,3 +1,4 @@
+-- protocol
 -- How the code's run ends.
 use Rattle.std.specs.Prelude.{ℕ, List}
 use Rattle.mdr_exchanges.specs.Runs.{HasEnded}

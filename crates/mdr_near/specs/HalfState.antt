@@ -1,3 +1,4 @@
+-- protocol
 -- What a kernel half holds.
 use Rattle.std.specs.Prelude.{◌≡◌, ℕ, ◌+◌, Bool, List, length}
 use Rattle.mdr_core.specs.declared.plan.Plan.{Plan}

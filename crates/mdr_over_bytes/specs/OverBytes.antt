@@ -1,3 +1,4 @@
+-- believed
 -- The law over bytes: a split run whose messages and answers are bytes, with an honest far side, is the watched run on one memory.
 use Rattle.std.specs.Prelude.{◌≡◌, ℕ, List, [], ◌∷◌, ◌++◌, map}
 use Rattle.mdr_core.specs.declared.plan.Plan.{Plan}

@@ -1,3 +1,4 @@
+-- for proofs
 -- What a source comes to doesn't depend on its places (C99 5.1.1.2, 6.5 to 6.9).
 use Rattle.std.specs.Prelude.{◌≡◌, List, map}
 use Rattle.mdr_core.specs.declared.place.Place.{Place}

@@ -1,3 +1,4 @@
+-- protocol
 -- What holds of every run's parts.
 use Rattle.std.specs.Prelude.{◌≡◌, ◌↔◌, ◌<◌, ◌≤◌, ℕ, true, List, [], ◌∷◌, ◌++◌, length, Some}
 use Rattle.mdr_core.specs.declared.program.Program.{Program}

@@ -1,3 +1,4 @@
+-- believed
 -- The plain meaning of a driver and a script: every body is entered, on one memory.
 use Rattle.std.specs.Prelude.{ℕ, false, List}
 use Rattle.mdr_core.specs.declared.program.Program.{Program}

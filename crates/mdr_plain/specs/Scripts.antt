@@ -1,3 +1,4 @@
+-- believed
 -- Scripts: what each command does, and how a run ends.
 use Rattle.std.specs.Prelude.{ℕ, zero, suc, ◌+◌, Bool, true, false, List, [], ◌∷◌, map, None, ◌==◌}
 use Rattle.mdr_core.specs.declared.program.Program.{Program}

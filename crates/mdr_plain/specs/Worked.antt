@@ -1,3 +1,4 @@
+-- for proofs
 -- Words for worked examples: small drivers whose bodies are written with `mdr_meaning`'s, their scripts, and what is printed of a run.
 use Rattle.std.specs.Prelude.{ℕ, false, List, [], ◌∷◌, ◌++◌, Some, None, slice_get, pos}
 use Rattle.mdr_core.specs.declared.kind.Kind.TheVariants.{U32}

@@ -1,3 +1,4 @@
+-- for proofs
 -- Devices, interrupts, locks and texts worked out on one memory: what is printed of runs.
 use Rattle.std.specs.Prelude.{◌≡◌, ℕ, true, List, [], ◌∷◌, codes, pos, Some, None}
 use Rattle.mdr_core.specs.declared.kind.Kind.TheVariants.{U8}

@@ -1,3 +1,4 @@
+-- for proofs
 -- A network driver worked out on one memory: the report of its script.
 use Rattle.std.specs.Prelude.{◌≡◌, ℕ, ◌+◌, true, false, List, [], ◌∷◌, ◌++◌, codes, pos, negsuc, Some, None, slice_get}
 use Rattle.mdr_core.specs.declared.kind.Kind.TheVariants.{U32, S32}

@@ -1,3 +1,4 @@
+-- for proofs
 -- Drivers worked out on one memory: what is printed of their runs.
 use Rattle.std.specs.Prelude.{◌≡◌, ℕ, List, [], ◌∷◌, codes, pos, negsuc, Some}
 use Rattle.mdr_core.specs.declared.kind.Kind.TheVariants.{U8, U32, U64, S32}

@@ -1,3 +1,4 @@
+-- for proofs
 -- Each stop that a service comes to, and what services give, shown by runs of one function.
 use Rattle.std.specs.Prelude.{◌≡◌, ℕ, true, false, List, [], ◌∷◌, codes, pos, negsuc, Some, Ok}
 use Rattle.mdr_core.specs.declared.kind.Kind.TheVariants.{U8, U64, S32}

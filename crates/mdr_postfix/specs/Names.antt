@@ -1,3 +1,4 @@
+-- believed
 -- Names (C99 6.5.1).
 use Rattle.std.specs.Prelude.{ℕ, List, ◌∷◌, Option, Some, None}
 use Rattle.mdr_core.specs.declared.code.Expr.TheVariants as expr

@@ -1,3 +1,4 @@
+-- for proofs
 -- Laws of reports: where a run keeps its annotations, the watched run has the plain run's report.
 use Rattle.std.specs.Prelude.{◌≡◌, ℕ, false, List}
 use Rattle.mdr_core.specs.declared.plan.Plan.{Plan}

@@ -1,3 +1,4 @@
+-- believed
 -- What running a script over a source on one memory does to the shelf, and what is due for it: one constructor for each way that it goes.
 use Rattle.std.specs.Prelude.{◌≡◌, ℕ, true, false, List}
 use Rattle.mdr_core.specs.declared.plan.Plan.{Plan}

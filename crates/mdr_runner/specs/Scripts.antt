@@ -1,3 +1,4 @@
+-- believed
 -- The script that is run over a source, and what is due where there is none.
 use Rattle.std.specs.Prelude.{◌≡◌, ℕ, List, codes, Result, Ok, Err}
 use Rattle.mdr_core.specs.declared.program.Program.{Program}

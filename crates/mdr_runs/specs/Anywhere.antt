@@ -1,3 +1,4 @@
+-- for proofs
 -- How code runs from event to event, whatever stands around it.
 use Rattle.std.specs.Prelude.{◌≡◌, ◌+◌, ◌≤◌, ℕ, suc, Bool, List, [], ◌∷◌}
 use Rattle.mdr_core.specs.declared.place.At.{At}

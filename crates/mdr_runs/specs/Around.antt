@@ -1,3 +1,4 @@
+-- protocol
 -- What follows an event of running code, whatever stands around it.
 use Rattle.std.specs.Prelude.{◌≡◌, ◌≤◌, ℕ, List, [], ◌∷◌, Some, Result, Ok, Err}
 use Rattle.mdr_core.specs.declared.place.At.{At}

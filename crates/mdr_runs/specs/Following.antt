@@ -1,3 +1,4 @@
+-- protocol
 -- What follows an event of running code, where all of a driver's code runs on one memory.
 use Rattle.std.specs.Prelude.{ℕ, Bool, true, false, List}
 use Rattle.mdr_core.specs.declared.program.Program.{Program}

@@ -1,3 +1,4 @@
+-- for proofs
 -- How the code of a driver runs from event to event.
 use Rattle.std.specs.Prelude.{◌≡◌, ◌+◌, ◌≤◌, ℕ, suc, List}
 use Rattle.mdr_core.specs.declared.place.At.{At}

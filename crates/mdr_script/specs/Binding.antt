@@ -1,3 +1,4 @@
+-- believed
 -- Names of a script bound to a program, and arguments checked against parameters.
 use Rattle.std.specs.Prelude.{◌≡◌, ℕ, Bool, true, false, ◌==◌, if◌then◌else◌, List, [], ◌∷◌, ◌++◌, length, Option, Some, None, Result, Ok, Err, ℤ, slice_get}
 use Rattle.std.specs.List.{list_any, position}

@@ -1,3 +1,4 @@
+-- protocol
 -- What the code gives for a question, as definitions have it.
 use Rattle.std.specs.Prelude.{List, Some}
 use Rattle.mdr_core.specs.declared.place.At.{At}

@@ -1,3 +1,4 @@
+-- for proofs
 -- What is known at a place of a body, as of the slots of the finished function (C99 6.2.1, 6.2.4).
 use Rattle.std.specs.Prelude.{◌≡◌, ◌⊎◌, ℕ, ◌+◌, ◌≤◌, ◌||◌, ◌&&◌, not, Bool, false, List, length, Option, Some, None, Ok, slice_get}
 use Rattle.mdr_core.specs.declared.place.Place.{Place}

@@ -1,3 +1,4 @@
+-- believed
 -- The program of a user half's text in which no fault is found is sound.
 use Rattle.std.specs.Prelude.{◌≡◌, ℕ, ◌≤◌, Bool, List, length, Ok}
 use Rattle.mdr_core.specs.declared.plan.Plan.{Plan}

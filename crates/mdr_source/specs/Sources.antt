@@ -1,3 +1,4 @@
+-- believed
 -- What the bytes of a source come to: its tree and its program, or the one thing for which it is refused. Stage by stage, with one constructor for each reason.
 use Rattle.std.specs.Prelude.{◌≡◌, ◌≤◌, ◌<◌, ℕ, true, false, List, length, Option, Some, None, slice_get, Result, Ok, Err}
 use Rattle.mdr_core.specs.declared.place.Place.{Place}

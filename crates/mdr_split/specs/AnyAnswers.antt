@@ -1,3 +1,4 @@
+-- believed
 -- What holds whatever the answers are: one that isn't legal changes nothing, one that is changes visible cells alone, and messages are few.
 use Rattle.std.specs.Prelude.{◌≡◌, ℕ, ◌+◌, ◌*◌, ◌≤◌, List, [], ◌∷◌, ◌++◌, Option, Some, None, Ok, Err}
 use Rattle.mdr_core.specs.declared.refusal.RefuseKind.{RefuseKind}

@@ -1,3 +1,4 @@
+-- believed
 -- The kernel half as a machine over answers: it waits at each message that it sends, judges the answer, and goes on.
 use Rattle.std.specs.Prelude.{ℕ, suc, List, [], ◌∷◌, Option, Some, None, Ok, Err, unwrap_or}
 use Rattle.mdr_core.specs.declared.refusal.RefuseKind.TheVariants as refusal

@@ -1,3 +1,4 @@
+-- believed
 -- The law: a split run with an honest far side is the watched run on one memory.
 use Rattle.std.specs.Prelude.{◌≡◌, ℕ, ◌+◌, ◌*◌, ◌≤◌, true, not, List, [], ◌∷◌, ◌++◌, Some, Ok, slice_get, is_some}
 use Rattle.std.specs.Option.{option_map}

@@ -1,3 +1,4 @@
+-- for proofs
 -- Small drivers in two halves, worked out: the messages of their runs.
 use Rattle.std.specs.Prelude.{◌≡◌, ℕ, Bool, true, false, List, [], ◌∷◌, codes, pos}
 use Rattle.mdr_core.specs.declared.kind.Kind.TheVariants.{U32}

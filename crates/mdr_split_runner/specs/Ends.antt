@@ -1,3 +1,4 @@
+-- protocol
 -- How a run over a far side ends.
 use Rattle.std.specs.Prelude.{◌≡◌, ℕ, List, Option, Some, IsSomeAnd}
 use Rattle.mdr_core.specs.declared.plan.Plan.{Plan}

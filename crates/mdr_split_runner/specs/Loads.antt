@@ -1,3 +1,4 @@
+-- believed
 -- What the far side gets.
 use Rattle.std.specs.Prelude.{◌≡◌, ℕ, List, ◌++◌}
 use Rattle.mdr_core.specs.declared.plan.Plan.{Plan}

@@ -1,3 +1,4 @@
+-- believed
 -- What a run over an honest far side is reported as.
 use Rattle.std.specs.Prelude.{◌≡◌, ◌≢◌, ℕ, ◌+◌, ◌*◌, ◌≤◌, ◌⊎◌, true, List, length, Option, Some}
 use Rattle.mdr_core.specs.declared.plan.Plan.{Plan}

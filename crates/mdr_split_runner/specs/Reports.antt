@@ -1,3 +1,4 @@
+-- believed
 -- What is reported of a run over a far side that was loaded first.
 use Rattle.std.specs.Prelude.{◌≡◌, ℕ, List, Option, Some}
 use Rattle.mdr_core.specs.declared.plan.Plan.{Plan}

@@ -1,3 +1,4 @@
+-- believed
 -- What running a script over the two halves of a source does to the shelf and to the far side, and what is due for it: one constructor for each way that it goes.
 use Rattle.std.specs.Prelude.{◌≡◌, ℕ, List}
 use Rattle.mdr_core.specs.declared.plan.Plan.{Plan}

@@ -1,3 +1,4 @@
+-- for proofs
 -- Small drivers in two halves, worked out: their messages, and what their runs show.
 use Rattle.std.specs.Prelude.{◌≡◌, ℕ, suc, true, false, List, [], ◌∷◌, Option, Some, None, codes}
 use Rattle.mdr_core.specs.declared.plan.Key.TheVariants as key

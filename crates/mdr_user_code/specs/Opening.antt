@@ -1,3 +1,4 @@
+-- protocol
 -- What a message opens, as the code has it.
 use Rattle.std.specs.Prelude.{ℕ, suc, Bool, true, false, ◌&&◌, List, [], ◌∷◌, is_none, nat_le, Option, Some, None, slice_get}
 use Rattle.mdr_core.specs.declared.plan.Plan.{Plan}

@@ -1,3 +1,4 @@
+-- protocol
 -- The reply of an event, and what is open behind it.
 use Rattle.std.specs.Prelude.{◌≡◌, ◌≤◌, ℕ, suc, ◌+◌, ◌-◌, ◌==◌, Bool, List, map, length}
 use Rattle.mdr_core.specs.declared.program.Program.{Program}

@@ -1,3 +1,4 @@
+-- protocol
 -- What the state of the code stands for, and what it tells of the messages so far.
 use Rattle.std.specs.Prelude.{◌≡◌, ℕ, suc, ◌+◌, ◌≤◌, List, [], ◌∷◌, length}
 use Rattle.mdr_core.specs.declared.plan.Plan.{Plan}

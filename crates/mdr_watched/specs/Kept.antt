@@ -1,3 +1,4 @@
+-- for proofs
 -- Where annotations are kept and no interrupt meets user code.
 use Rattle.std.specs.Prelude.{◌≡◌, ℕ, [], Option, Some, None}
 use Rattle.mdr_core.specs.declared.plan.Plan.{Plan}

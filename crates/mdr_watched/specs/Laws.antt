@@ -1,3 +1,4 @@
+-- for proofs
 -- Laws of watched runs.
 use Rattle.std.specs.Prelude.{◌≡◌, ◌↔◌, ◌<◌, ℕ, true, false, List, [], ◌∷◌, length, None, Err}
 use Rattle.mdr_access.specs.Keys.{AreKeys, HasEach, IsPlan}

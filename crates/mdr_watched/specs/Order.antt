@@ -1,3 +1,4 @@
+-- believed
 -- What holds of a run's state at any time: serials rise, and visible cells are live.
 use Rattle.std.specs.Prelude.{◌≡◌, ℕ, true, List, [], ◌∷◌}
 use Rattle.mdr_core.specs.declared.place.At.{At}

@@ -1,3 +1,4 @@
+-- believed
 -- The watched meaning of a driver and a script: on one memory, while user code is held to the cells that its annotations let it touch.
 use Rattle.std.specs.Prelude.{ℕ, suc, List, [], map}
 use Rattle.mdr_core.specs.declared.place.At.{At}

@@ -1,3 +1,4 @@
+-- for proofs
 -- Small drivers in two halves, worked out: what their watched runs show.
 use Rattle.std.specs.Prelude.{◌≡◌, ℕ, Bool, true, false, List, [], ◌∷◌, map, get_or, codes, pos, Some, None, slice_get}
 use Rattle.mdr_core.specs.declared.kind.Kind.TheVariants.{U32, U64, S8}

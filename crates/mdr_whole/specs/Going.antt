@@ -1,3 +1,4 @@
+-- protocol
 -- A machine that runs a driver's code up to its next event.
 use Rattle.std.specs.Prelude.{◌≡◌, ◌+◌, ◌≤◌, ℕ, suc, List}
 use Rattle.mdr_core.specs.declared.place.At.{At}

@@ -1,3 +1,4 @@
+-- protocol
 -- What accesses come to in a memory of blocks.
 use Rattle.std.specs.Prelude.{Bool, false, Option, Some, None, Result, Ok, Err}
 use Rattle.mdr_core.specs.declared.stop.StopKind.{StopKind}
