@@ -338,9 +338,9 @@ pub fn declare_local(
     let means = local_declared(alloc, scope, locks, here, is_taken, d)?;
     match local_name(alloc, scope, locks, here.slot, is_taken, d) {
         Ok(named) => Ok(add_local(here, named, DeclaredLocal { means }, next)?),
-        Err(_) => {
+        Err(error) => {
             drop(means);
-            Err(OutOfMemory)
+            Err(error.into())
         }
     }
 }

@@ -380,9 +380,9 @@ pub fn first_known(alloc: Global, items: &[Item]) -> Result<Known, OutOfMemory>
             globals: 0,
             functions: Names::new(alloc),
         }),
-        Err(_) => {
+        Err(error) => {
             drop(scope);
-            Err(OutOfMemory)
+            Err(error.into())
         }
     }
 }

@@ -1,5 +1,6 @@
 // Why code is not run on.
 
+use mdr_core::OutOfMemory;
 use std::alloc::{AllocError, AllocFailed};
 
 /// Why code is not run on. Of the work after it nothing is promised.
@@ -19,5 +20,11 @@ impl From<AllocError> for Halt {
 impl<T: Drop> From<AllocFailed<T>> for Halt {
     fn from(_e: AllocFailed<T>) -> Halt {
         Halt::OutOfMemory
+    }
+}
+
+impl From<Halt> for OutOfMemory {
+    fn from(_e: Halt) -> OutOfMemory {
+        OutOfMemory::passed_on()
     }
 }

@@ -12,7 +12,7 @@ ghost use Rattle.mdr_watch.specs.Watching.{IsFit, driver_in};
 
 use crate::turn::{Turn, first, turned};
 use mdr_copy::copied;
-use mdr_core::OutOfMemory;
+use mdr_core::{Limit, OutOfMemory};
 use mdr_model::{End, MemoryBlock};
 use mdr_outside::Far;
 use mdr_script::Bound;
@@ -88,5 +88,5 @@ pub(crate) fn run_script<'a, F: Far>(
         }
     }
     drop(pending);
-    Err(OutOfMemory)
+    Err(Limit::Turns.past())
 }

@@ -45,9 +45,7 @@ impl VecSink {
         requires { 0 < take }
         ensures { IfOk result (λ sink. sink ≡ new_sink room take fails.items) }
     {
-        let Ok(bytes) = Vec::with_capacity(alloc, room) else {
-            return Err(OutOfMemory);
-        };
+        let bytes = Vec::with_capacity(alloc, room)?;
         Ok(VecSink {
             bytes,
             room,

@@ -48,7 +48,7 @@ fn judged(alloc: Global, program: &Program, bytes: &[u8]) -> Result<Stage<Bound>
             let due = refused(alloc, line, kind)?;
             Ok(Stage::Ends(due))
         }
-        Err(ScriptError::OutOfMemory) => Err(OutOfMemory),
+        Err(ScriptError::OutOfMemory) => Err(OutOfMemory::passed_on()),
     }
 }
 

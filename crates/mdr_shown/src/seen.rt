@@ -11,7 +11,7 @@ ghost use Rattle.mdr_plain.specs.Outcome.{seen_of};
 ghost use Rattle.mdr_shown.specs.Met.{AreNumbered};
 
 use crate::met::{Met, number_of};
-use mdr_core::{Items, LockState, OutOfMemory, Program, Value, View, cells_of};
+use mdr_core::{cells_of, Items, Limit, LockState, OutOfMemory, Program, Value, View};
 use mdr_model::Seen;
 use std::alloc::Global;
 
@@ -48,7 +48,7 @@ fn cell_of(program: &Program, view: View) -> Result<u32, OutOfMemory>
     let cell = view.first as u64 + view.index as u64 * size_of(program, view.ty) as u64;
     match u32::try_from(cell) {
         Ok(small) => Ok(small),
-        Err(_) => Err(OutOfMemory),
+        Err(_) => Err(Limit::Unmet.past()),
     }
 }
 

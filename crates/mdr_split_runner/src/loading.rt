@@ -72,6 +72,6 @@ pub(crate) fn ran<F: Far>(
             unstarted(alloc, program, script, ticks, end)
         }
         LoadAnswer::Failed => unstarted(alloc, program, script, ticks, End::FarFault(0)),
-        LoadAnswer::OutOfMemory => Err(OutOfMemory),
+        LoadAnswer::OutOfMemory => Err(OutOfMemory::passed_on()),
     }
 }

@@ -16,7 +16,7 @@ ghost use Rattle.mdr_turns.specs.States.{IsActive, kernel_with, sent_with, upcal
 use crate::seeing::seen;
 use crate::state::{Active, Ledger, Open, Pending, Seen, Waiting};
 use mdr_copy::{tells, wire_of};
-use mdr_core::{Items, OutOfMemory, Program, Value};
+use mdr_core::{Items, Limit, OutOfMemory, Program, Value};
 use mdr_kernel_memory::wires_of;
 use mdr_model::{Cell, MemoryBlock, Message, Told, Wire};
 use mdr_watch::{Guarded, Watch};
@@ -46,7 +46,7 @@ fn tell(
         exchanges,
         passes,
     } = ledger;
-    let more = exchanges.checked_add(1).ok_or(OutOfMemory)?;
+    let more = exchanges.checked_add(1).ok_or(Limit::Messages.past())?;
     let (told, left) = tells(alloc, program, view, values, agreed, memory)?;
     let ledger = Ledger {
         agreed: left,

@@ -16,7 +16,7 @@ ghost use Rattle.mdr_turns.specs.States.{IsBetween, kernel_with};
 use crate::sending::call_told;
 use crate::state::{Between, Ledger, Pending};
 use mdr_cells::CellSet;
-use mdr_core::{At, OutOfMemory, StopKind, Value};
+use mdr_core::{At, Limit, OutOfMemory, StopKind, Value};
 use mdr_model::End;
 use mdr_reach::visible;
 use mdr_watch::{Guarded, Watch, entry_roots, touched};
@@ -63,7 +63,7 @@ pub(crate) fn calls<'a>(
 {
     let Between { world, ledger } = between;
     if world.is_in_user() {
-        return Err(OutOfMemory);
+        return Err(Limit::Unmet.past());
     }
     let _in_order = world.births();
     let keys = touched(watch.plan, func);

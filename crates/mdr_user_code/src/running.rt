@@ -36,7 +36,7 @@ fn go(
     let halves = scene.plan.halves.as_slice();
     match machine.go(alloc, scene.program, halves, memory, ticks) {
         Ok(event) => Ok(event),
-        Err(_) => Err(OutOfMemory),
+        Err(error) => Err(error.into()),
     }
 }
 

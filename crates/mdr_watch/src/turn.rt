@@ -15,7 +15,7 @@ use crate::downcalls::downcall;
 use crate::guarded::Guarded;
 use crate::next::{Answer, Ended, Turn};
 use crate::watch::Upcall;
-use mdr_core::{At, OutOfMemory, StopKind, Value};
+use mdr_core::{At, Limit, OutOfMemory, StopKind, Value};
 use mdr_exec::{Asked, Crossing, Event, Front, Machine, Side};
 use mdr_services::Served;
 use mdr_whole::{Gave, Next};
@@ -37,7 +37,7 @@ fn go(
     let halves = upcall.watch.plan.halves.as_slice();
     match machine.go(alloc, upcall.watch.program, halves, guarded, ticks) {
         Ok(event) => Ok(event),
-        Err(_) => Err(OutOfMemory),
+        Err(error) => Err(error.into()),
     }
 }
 
@@ -132,7 +132,7 @@ fn resume<'a>(
     ensures { IfOk result (λ r. GoesOnWith upcall.entry (wires_of results.now) machine.old guarded.entry machine.new r.next r.guarded) }
 {
     if !fits(&machine.front, results) {
-        return Err(OutOfMemory);
+        return Err(Limit::Unmet.past());
     }
     machine.resume(results);
     let mut guarded = guarded;
@@ -252,5 +252,5 @@ pub(crate) fn run<'a>(
             Next::Gave(gave) => return Ok(Ended { gave, guarded }),
         }
     }
-    Err(OutOfMemory)
+    Err(Limit::Turns.past())
 }

@@ -19,7 +19,7 @@ use crate::roots::entry_roots;
 use crate::turn::run;
 use crate::watch::{Upcall, func_at, is_user, touched};
 use mdr_cells::CellSet;
-use mdr_core::{At, OutOfMemory, Program, StopKind, Value};
+use mdr_core::{At, Limit, OutOfMemory, Program, StopKind, Value};
 use mdr_exec::{Machine, Side};
 use mdr_reach::visible;
 use mdr_whole::Gave;
@@ -46,10 +46,10 @@ fn started(alloc: Global, upcall: Upcall, args: &[Value]) -> Result<Machine, Out
     ensures { IfOk result (λ m. IsStarted upcall.entry (wires_of args.now) m) }
 {
     if !is_user(upcall.watch.plan, upcall.func) {
-        return Err(OutOfMemory);
+        return Err(Limit::Unmet.past());
     }
     if !has_body(upcall.watch.program, upcall.func) {
-        return Err(OutOfMemory);
+        return Err(Limit::Unmet.past());
     }
     let mut machine = Machine::new(alloc, Side::User);
     machine.start(alloc, upcall.watch.program, upcall.func, args, 0)?;
@@ -99,7 +99,7 @@ pub(crate) fn call_user<'a>(
     ensures gave { IfOk result (λ r. GaveFor r.gave r.world.world (up (driver_in upcall.entry.watch) (held (driver_in upcall.entry.watch)) upcall.entry.func (wires_of args.now) world.entry.world)) }
 {
     if world.is_in_user() {
-        return Err(OutOfMemory);
+        return Err(Limit::Unmet.past());
     }
     let _in_order = world.births();
     let program = upcall.watch.program;

@@ -8,7 +8,7 @@ ghost use Rattle.mdr_whole.specs.Ending.{end_of};
 
 use crate::commands::{Did, do_commands};
 use crate::watch::{Watch, is_fit};
-use mdr_core::{OutOfMemory, Plan, Program};
+use mdr_core::{Limit, OutOfMemory, Plan, Program};
 use mdr_model::End;
 use mdr_plain::Outcome;
 use mdr_script::Bound;
@@ -41,7 +41,7 @@ pub fn run_watched(
 {
     let watch = Watch { program, plan };
     if !is_fit(watch) {
-        return Err(OutOfMemory);
+        return Err(Limit::Unmet.past());
     }
     let world = World::new(alloc, program, script, ticks)?;
     let Did {

@@ -16,7 +16,7 @@ use crate::before::Before;
 use crate::code::Code;
 use crate::ending::{Gave, Worked};
 use crate::next::Next;
-use mdr_core::{At, Items, OutOfMemory, StopKind, Value};
+use mdr_core::{At, Items, Limit, OutOfMemory, StopKind, Value};
 use mdr_exec::{Asked, Event, Front, Machine};
 use mdr_services::{Served, serve};
 use mdr_world::World;
@@ -38,7 +38,7 @@ fn go(
     machine.side = code.side;
     match machine.go(alloc, code.program, code.halves, world, ticks) {
         Ok(event) => Ok(event),
-        Err(_) => Err(OutOfMemory),
+        Err(error) => Err(error.into()),
     }
 }
 
@@ -173,7 +173,7 @@ fn resume(
     ensures { IfOk result (λ e. GoesOnWith code.entry.program.now (side_of code.entry) (wires_of results.now) machine.old world.old machine.new e world.new) }
 {
     if !fits(&machine.front, results) {
-        return Err(OutOfMemory);
+        return Err(Limit::Unmet.past());
     }
     machine.resume(results);
     let event = begin(machine, alloc, code, world)?;
@@ -219,7 +219,7 @@ fn follow<B: Before>(
         Event::Stop(kind, at) => Ok(Next::Gave(Gave::Stopped(*kind, Some(*at)))),
         Event::Service(asked) => answer(machine, alloc, code, world, asked),
         Event::TicksOut(at) => tick::<B>(machine, alloc, code, world, *at),
-        Event::Cross(_) => Err(OutOfMemory),
+        Event::Cross(_) => Err(Limit::Unmet.past()),
     }
 }
 
@@ -243,5 +243,5 @@ pub(crate) fn run<B: Before>(
             Next::Gave(gave) => return Ok(gave),
         }
     }
-    Err(OutOfMemory)
+    Err(Limit::Turns.past())
 }

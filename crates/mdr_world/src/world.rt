@@ -26,7 +26,7 @@ use crate::globals::first_storage;
 use crate::handles::{born_now, is_live_now, value_now, values_of};
 use crate::storage::Storage;
 use crate::{access, locks};
-use mdr_core::{Block, Items, OutOfMemory, Program, StopKind, Value, View};
+use mdr_core::{Block, Items, Limit, OutOfMemory, Program, StopKind, Value, View};
 use mdr_device::Device;
 use mdr_exec::Integer;
 use mdr_mem::{Blocks, Cells};
@@ -144,7 +144,7 @@ impl<'a> World<'a> {
         ensures as_before { OnErr result (self.new ≡ self.old) }
     {
         if self.calls == u64::MAX {
-            return Err(OutOfMemory);
+            return Err(Limit::Calls.past());
         }
         self.events.push(event)?;
         self.calls += 1;
@@ -193,7 +193,7 @@ impl<'a> World<'a> {
         ensures as_before { OnErr result (self.new ≡ self.old) }
     {
         if ticks > self.rest {
-            return Err(OutOfMemory);
+            return Err(Limit::Unmet.past());
         }
         self.rest -= ticks;
         self.ticks += ticks;
@@ -292,7 +292,7 @@ impl<'a> World<'a> {
         ensures as_before { OnErr result (self.new ≡ self.old) }
     {
         if self.allocations == u64::MAX {
-            return Err(OutOfMemory);
+            return Err(Limit::Allocations.past());
         }
         self.allocations += 1;
         Ok(())
