@@ -33,7 +33,7 @@ use mdr_meaning::Shape64;
 use std::alloc::Global;
 
 /// What a call comes to.
-#[derive(Debug, Drop)]
+#[derive(Drop)]
 pub enum Calling {
     /// The body of a function is entered with these arguments.
     Entering(u32, Items<Value>),
@@ -259,7 +259,7 @@ fn asks_to_deliver<C: Memory>(
 }
 
 /// Which services take other things than their arguments.
-#[derive(Clone, Copy, Debug, PartialEq, Eq)]
+#[derive(Clone, Copy, PartialEq, Eq)]
 pub(crate) enum Taking {
     Object,
     Objects,

@@ -8,7 +8,7 @@ use mdr_core::{At, Items, StopKind, Value};
 use mdr_meaning::Shape64;
 
 /// A service that is asked for: its arguments, the objects that are to be born, and bytes.
-#[derive(Debug, Drop)]
+#[derive(Drop)]
 pub struct Asked {
     pub service: u32,
     pub at: At,
@@ -18,7 +18,7 @@ pub struct Asked {
 }
 
 /// A call of a function of the other half, with so many functions active before it.
-#[derive(Debug, Drop)]
+#[derive(Drop)]
 pub struct Crossing {
     pub at: At,
     pub func: u32,
@@ -27,7 +27,7 @@ pub struct Crossing {
 }
 
 /// What running code comes to.
-#[derive(Debug, Drop)]
+#[derive(Drop)]
 pub enum Outcome {
     /// The function that was started last ended with a value.
     Done(Value),
@@ -37,7 +37,7 @@ pub enum Outcome {
 }
 
 /// What a run of the machine comes to.
-#[derive(Debug, Drop)]
+#[derive(Drop)]
 pub enum Event {
     /// The function that was started last ended with a value.
     Done(Value),

@@ -15,7 +15,7 @@ use mdr_core::{Items, Value};
 use std::alloc::Global;
 
 /// Where a text is read: in plain bytes, behind a `%`, behind a `%l`.
-#[derive(Clone, Copy, Debug, PartialEq, Eq)]
+#[derive(Clone, Copy, PartialEq, Eq)]
 pub enum Reading {
     Plain,
     Percent,

@@ -37,7 +37,7 @@ use std::alloc::Global;
 use std::mem;
 
 /// What a step comes to, and the ticks that are left then.
-#[derive(Debug, Drop)]
+#[derive(Drop)]
 pub enum Stepped {
     /// The next step.
     Goes(u64),

@@ -21,7 +21,7 @@ use mdr_core::{Items, Program, Value};
 use std::alloc::{AllocError, Global};
 
 /// What a step comes to that leaves a block or a function.
-#[derive(Debug, Drop)]
+#[derive(Drop)]
 pub enum Left {
     /// The next step.
     Goes,

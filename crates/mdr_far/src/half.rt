@@ -23,7 +23,7 @@ use std::alloc::Global;
 use std::marker::Model;
 
 /// The user half of a driver: it gets messages and replies to them. Once memory was wanting it replies no more.
-#[derive(Debug, Drop)]
+#[derive(Drop)]
 pub struct UserHalf {
     program: Program,
     plan: Plan,

@@ -13,7 +13,7 @@ use std::alloc::Global;
 use std::marker::Model;
 
 /// A far side that holds the user half itself. It never fails.
-#[derive(Debug, Drop)]
+#[derive(Drop)]
 pub struct LocalFar {
     loaded: Option<Loaded>,
     half: Option<UserHalf>,

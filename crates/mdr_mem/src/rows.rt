@@ -16,7 +16,7 @@ use slab::Slab;
 use std::alloc::Global;
 
 // A block in its slot.
-#[derive(Debug, Drop)]
+#[derive(Drop)]
 pub struct Held {
     pub born: New,
     pub cells: Items<Value>,

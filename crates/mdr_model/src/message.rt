@@ -112,7 +112,7 @@ pub enum Message {
 }
 
 /// Why bytes are no message, or a message no legal reply: the cause, and its offset or position.
-#[derive(Clone, Copy, Debug, PartialEq, Eq)]
+#[derive(Clone, Copy, PartialEq, Eq)]
 pub struct Fault {
     pub kind: RefuseKind,
     pub number: u64,

@@ -21,7 +21,7 @@ use std::alloc::Global;
 use std::marker::Model;
 
 /// The kernel half of a driver, for one run. It borrows the program and the plan.
-#[derive(Debug, Drop)]
+#[derive(Drop)]
 pub struct KernelHalf<'a> {
     program: &'a Program,
     plan: &'a Plan,

@@ -11,7 +11,7 @@ use std::alloc::Global;
 use std::marker::Model;
 
 /// Bytes in memory. Writes are counted from 1, and those of the given numbers fail.
-#[derive(Debug, Drop)]
+#[derive(Drop)]
 pub struct VecSink {
     bytes: Vec<u8>,
     room: usize,

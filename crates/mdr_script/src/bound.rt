@@ -6,7 +6,7 @@ use mdr_model::Command;
 
 /// A script for a program: its commands name functions and globals of the program by their numbers, and the arguments
 /// fit.
-#[derive(Debug, Drop)]
+#[derive(Drop)]
 pub struct Bound {
     pub words: Items<(u32, u32)>,
     pub rules: Items<Rule>,

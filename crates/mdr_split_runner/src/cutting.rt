@@ -14,7 +14,7 @@ use std::alloc::Global;
 const MOST: usize = 4_294_967_296;
 
 /// The plan of a source, and the texts of its halves and of the plan.
-#[derive(Debug, Drop)]
+#[derive(Drop)]
 pub(crate) struct Cut {
     pub(crate) plan: Plan,
     pub(crate) texts: Texts,

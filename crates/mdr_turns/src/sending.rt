@@ -23,7 +23,7 @@ use mdr_watch::{Guarded, Watch};
 use std::alloc::Global;
 
 /// What a message tells, and what is kept behind it.
-#[derive(Debug, Drop)]
+#[derive(Drop)]
 struct Telling {
     told: Told,
     ledger: Ledger,
