@@ -14,7 +14,7 @@ use Rattle.mdr_body.specs.Mentions.{uses}
 use Rattle.mdr_typing.specs.Profile.{profile_rules}
 use Rattle.mdr_check_half.specs.HalfPrograms.{half_typed}
 use Rattle.mdr_source.specs.Backs.{functions_call_back}
-use Rattle.mdr_honest.specs.Honest.{ComesTo}
+use Rattle.mdr_half_source.specs.Loads.{ComesTo}
 
 -- the program of a tree with a plan, or all faults in it
 abbrev pub typed_half : Plan → Tree → Checked Program

@@ -17,7 +17,7 @@ use Rattle.mdr_check_half.proofs.Accepted.{plans_suit}
 use Rattle.mdr_sound_code.proofs.Rights.{same_right}
 use Rattle.mdr_sound_half.proofs.HalfSounding.{halves_sound}
 use Rattle.mdr_sound_half.proofs.PlansRead.{plans_planned}
-use Rattle.mdr_honest.specs.Honest.{AreRefused, ComesTo}
+use Rattle.mdr_half_source.specs.Loads.{AreRefused, ComesTo}
 use Rattle.mdr_honest.specs.Loading.{LoadedHalvesAreSound, LoadedTextsAreNotRefused, TextsLoadOneThing}
 
 -- ---- one program and one plan

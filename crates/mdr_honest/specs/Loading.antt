@@ -15,7 +15,8 @@ use Rattle.mdr_source.specs.declared.outcome.Source.{Source}
 use Rattle.mdr_source.specs.Sources.{IsSource}
 use Rattle.mdr_split.specs.User.{user_reply}
 use Rattle.mdr_watched.specs.Driver.{driver_of}
-use Rattle.mdr_honest.specs.Honest.{AreRefused, IsHonestLoad, Loads}
+use Rattle.mdr_honest.specs.Honest.{IsHonestLoad}
+use Rattle.mdr_half_source.specs.Loads.{AreRefused, Loads}
 
 -- ---- texts
 
