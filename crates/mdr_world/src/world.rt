@@ -12,6 +12,7 @@ ghost use Rattle.mdr_meaning.specs.Values.{wire_of};
 ghost use Rattle.mdr_mem.specs.Contents.{births_in};
 ghost use Rattle.mdr_model.specs.Agreement.{IsBelow, SerialsRise};
 ghost use Rattle.mdr_model.specs.Memory.{born_at, is_live, normal};
+ghost use Rattle.mdr_plain.specs.Atomic.{is_atomic};
 ghost use Rattle.mdr_plain.specs.Gate.{due, is_open};
 ghost use Rattle.mdr_plain.specs.Locks.{acquire, is_locked, release};
 ghost use Rattle.mdr_plain.specs.Running.{handling, interrupted};
@@ -24,6 +25,7 @@ ghost use Rattle.mdr_world.specs.Driven.{NoneIsDue, Ticks, counted_call, driven_
 use crate::births::{shape_of, zeros};
 use crate::globals::first_storage;
 use crate::handles::{born_now, is_live_now, value_now, values_of};
+use crate::spinning::is_any_spinning;
 use crate::storage::Storage;
 use crate::{access, locks};
 use mdr_core::{Block, Items, Limit, OutOfMemory, Program, StopKind, Value, View};
@@ -235,6 +237,15 @@ impl<'a> World<'a> {
     {
         let low = self.device.stays_low();
         none_comes(self.handler, self.in_handler, low)
+    }
+
+    /// Whether what runs now may not sleep: a handler, or code with a lock that spins. The time is that of a look at
+    /// each cell.
+    #[tactic(auto, unfolding(mdr_plain::specs::Atomic::is_atomic))]
+    pub fn atomic(&self) -> bool
+        ensures { result ≡ is_atomic self.now.world }
+    {
+        self.in_handler || is_any_spinning(&self.storage.blocks)
     }
 
     /// An interrupt is taken.
