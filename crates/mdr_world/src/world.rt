@@ -26,13 +26,13 @@ use crate::globals::first_storage;
 use crate::handles::{born_now, is_live_now, value_now, values_of};
 use crate::storage::Storage;
 use crate::{access, locks};
+use mdr_bound::Bound;
 use mdr_core::{Block, Items, OutOfMemory, Program, StopKind, Value, View};
 use mdr_device::Device;
 use mdr_exec::Integer;
 use mdr_mem::{Blocks, Cells};
 use mdr_model::{BirthKind, New, Shape64};
 use mdr_plain::Happened;
-use mdr_script::Bound;
 use std::alloc::{AllocError, Global};
 use std::marker::Model;
 
