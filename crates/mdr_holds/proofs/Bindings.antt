@@ -26,7 +26,7 @@ use Rattle.mdr_meaning.specs.Values.{wire_of}
 use Rattle.mdr_meaning.proofs.NumberLaws.{types_exact}
 use Rattle.mdr_model.specs.declared.command.Command.{Command}
 use Rattle.mdr_model.specs.declared.command.Command.TheVariants as command
-use Rattle.mdr_script.specs.declared.bound.Bound.{Bound}
+use Rattle.mdr_bound.specs.declared.bound.Bound.{Bound}
 use Rattle.mdr_script.specs.declared.line.ArgText.{ArgText}
 use Rattle.mdr_script.specs.declared.line.ArgText.TheVariants as arg
 use Rattle.mdr_script.specs.declared.line.LineWhat.{LineWhat}

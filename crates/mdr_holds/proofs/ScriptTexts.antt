@@ -7,7 +7,7 @@ use Rattle.mdr_core.specs.declared.program.Program.{Program}
 use Rattle.mdr_device.specs.declared.rule.Effect.{Effect}
 use Rattle.mdr_device.specs.declared.rule.Rule.{Rule}
 use Rattle.mdr_model.specs.declared.command.Command.{Command}
-use Rattle.mdr_script.specs.declared.bound.Bound.{Bound}
+use Rattle.mdr_bound.specs.declared.bound.Bound.{Bound}
 use Rattle.mdr_script.specs.declared.line.Line.{Line}
 use Rattle.mdr_script.specs.declared.line.Line.TheVariants as line
 use Rattle.mdr_script.specs.declared.line.LineWhat.TheVariants as what

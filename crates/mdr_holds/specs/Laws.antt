@@ -39,7 +39,7 @@ use Rattle.mdr_plain.specs.Scripts.{Beginning, Did, Opens, begin, begun, first_w
 use Rattle.mdr_plain.specs.Services.{served}
 use Rattle.mdr_plain.specs.Storage.{accesses, next_serial}
 use Rattle.mdr_plain.specs.World.{World, Ran, left, noted}
-use Rattle.mdr_script.specs.declared.bound.Bound.{Bound}
+use Rattle.mdr_bound.specs.declared.bound.Bound.{Bound}
 use Rattle.mdr_script.specs.declared.script.Script.{Script}
 use Rattle.mdr_script.specs.Binding.{bound_of}
 use Rattle.mdr_script.specs.Scripts.{script_of}

@@ -16,7 +16,7 @@ use Rattle.mdr_plain.specs.Plain.{plain_of}
 use Rattle.mdr_plain.specs.Scripts.{Finish}
 use Rattle.mdr_plain.specs.Worked.{Driver as Written, calls, global_named, just, named, program_of, serves, side_of}
 use Rattle.mdr_plain.specs.WorkedRuns.{setup_and_take}
-use Rattle.mdr_script.specs.declared.bound.Bound.{Bound}
+use Rattle.mdr_bound.specs.declared.bound.Bound.{Bound}
 use Rattle.mdr_watched.specs.Driver.{Driver}
 use Rattle.mdr_watched.specs.Kept.{followed_of}
 use Rattle.mdr_watched.specs.Worked.{aliases, arrays, began, cut, objects, returned, setup_then}

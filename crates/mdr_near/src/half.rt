@@ -11,11 +11,11 @@ ghost use Rattle.mdr_outside.specs.Count.{Rose};
 ghost use Rattle.mdr_outside.specs.Far.{IsLoaded};
 
 use crate::whole::run_whole;
+use mdr_bound::Bound;
 use mdr_core::{Limit, OutOfMemory, Plan, Program};
 use mdr_model::MemoryBlock;
 use mdr_outside::Far;
 use mdr_plain::Outcome;
-use mdr_script::Bound;
 use mdr_watch::{Watch, is_fit};
 use std::alloc::Global;
 use std::marker::Model;

@@ -8,7 +8,7 @@ use Rattle.mdr_holds.specs.Laws.{IsScript}
 use Rattle.mdr_plain.specs.Outcome.{outcome_of}
 use Rattle.mdr_plain.specs.Plain.{plain}
 use Rattle.mdr_plain.specs.Report.{report}
-use Rattle.mdr_script.specs.declared.bound.Bound.{Bound}
+use Rattle.mdr_bound.specs.declared.bound.Bound.{Bound}
 use Rattle.mdr_scoped.specs.Scopes.{IsScoped}
 use Rattle.mdr_slice.specs.declared.halves.Halves.{Halves}
 use Rattle.mdr_slice.specs.Graph.{AreCallees, AreRoots}

@@ -21,7 +21,7 @@ use Rattle.mdr_script.specs.declared.line.LineWhat.{LineWhat}
 use Rattle.mdr_script.specs.declared.line.LineWhat.TheVariants as what
 use Rattle.mdr_script.specs.declared.line.ScriptLine.{ScriptLine}
 use Rattle.mdr_script.specs.declared.script.Script.{Script}
-use Rattle.mdr_script.specs.declared.bound.Bound.{Bound}
+use Rattle.mdr_bound.specs.declared.bound.Bound.{Bound}
 use Rattle.mdr_script.specs.declared.unbound.Unbound.{Unbound}
 use Rattle.mdr_script.specs.declared.unbound.Unbound.TheVariants as unbound
 use Rattle.mdr_script.specs.declared.script_error.ScriptKind.{ScriptKind}

@@ -13,12 +13,12 @@ ghost use Rattle.mdr_split_runner.specs.Reports.{Began, Ran};
 
 use crate::cutting::Cut;
 use crate::reporting::{reported, unstarted};
+use mdr_bound::Bound;
 use mdr_core::{OutOfMemory, Plan, Program, RefuseKind};
 use mdr_due::Due;
 use mdr_model::End;
 use mdr_near::KernelHalf;
 use mdr_outside::{Far, LoadAnswer};
-use mdr_script::Bound;
 use std::alloc::Global;
 
 /// Runs a script under a budget over a far side that was loaded and got no message since, and makes the report.

@@ -8,10 +8,10 @@ ghost use Rattle.mdr_whole.specs.Ending.{end_of};
 
 use crate::commands::{Did, do_commands};
 use crate::watch::{Watch, is_fit};
+use mdr_bound::Bound;
 use mdr_core::{Limit, OutOfMemory, Plan, Program};
 use mdr_model::End;
 use mdr_plain::Outcome;
-use mdr_script::Bound;
 use mdr_shown::outcome;
 use mdr_whole::Worked;
 use mdr_world::World;

@@ -14,7 +14,7 @@ use Rattle.mdr_plain.specs.Running.{call, interrupts}
 use Rattle.mdr_plain.specs.Scripts.{first_world}
 use Rattle.mdr_plain.specs.Storage.{next_serial}
 use Rattle.mdr_plain.specs.World.{World, left}
-use Rattle.mdr_script.specs.declared.bound.Bound.{Bound}
+use Rattle.mdr_bound.specs.declared.bound.Bound.{Bound}
 use Rattle.mdr_watched.specs.Driver.{Driver}
 use Rattle.mdr_watched.specs.Watched.{downcall, held, kernel_of, serves, upcall, watched_of}
 

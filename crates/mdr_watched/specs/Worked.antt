@@ -33,7 +33,7 @@ use Rattle.mdr_model.specs.declared.outcome.End.TheVariants as ends
 use Rattle.mdr_model.specs.declared.outcome.Object.{Object}
 use Rattle.mdr_model.specs.declared.outcome.Seen.{Seen}
 use Rattle.mdr_model.specs.declared.outcome.Seen.TheVariants as seen
-use Rattle.mdr_script.specs.declared.bound.Bound.{Bound}
+use Rattle.mdr_bound.specs.declared.bound.Bound.{Bound}
 use Rattle.mdr_plain.specs.declared.outcome.Happened.{Happened}
 use Rattle.mdr_plain.specs.declared.outcome.Happened.TheVariants as happened
 use Rattle.mdr_plain.specs.declared.outcome.Outcome.{Outcome}

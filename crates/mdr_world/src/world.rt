@@ -28,13 +28,13 @@ use crate::handles::{born_now, is_live_now, value_now, values_of};
 use crate::spinning::is_any_spinning;
 use crate::storage::Storage;
 use crate::{access, locks};
+use mdr_bound::Bound;
 use mdr_core::{Block, Items, Limit, OutOfMemory, Program, StopKind, Value, View};
 use mdr_device::Device;
 use mdr_exec::Integer;
 use mdr_mem::{Blocks, Cells};
 use mdr_model::{BirthKind, New, Shape64};
 use mdr_plain::Happened;
-use mdr_script::Bound;
 use std::alloc::{AllocError, Global};
 use std::marker::Model;
 
