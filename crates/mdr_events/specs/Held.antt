@@ -1,3 +1,4 @@
+-- protocol
 -- Work that is held: what running code still has to do, as plain data, and the tree that it stands for.
 use Rattle.std.specs.Prelude.{ℕ, suc, List, [], ◌∷◌}
 use Rattle.mdr_core.specs.Code.{Term, Goal, Code, Codes}
