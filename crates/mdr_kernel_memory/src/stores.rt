@@ -8,7 +8,7 @@ ghost use Rattle.mdr_kernel_memory.specs.Holding.{cell_in, holding, pointer_to};
 
 use crate::values::value_of;
 use mdr_core::{Block, Limit, OutOfMemory, Value, View};
-use mdr_exec::Memory;
+use mdr_events::Memory;
 use mdr_model::{Run, Wire};
 use mdr_world::World;
 

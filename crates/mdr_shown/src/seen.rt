@@ -2,7 +2,7 @@
 
 ghost use Rattle.std.specs.Prelude.{◌≡◌, ◌++◌, IfOk, OnOk, map};
 ghost use Rattle.mdr_core.specs.Sound.{IsSound};
-ghost use Rattle.mdr_exec.specs.Holding.{wires_of};
+ghost use Rattle.mdr_events.specs.Values.{wires_of};
 ghost use Rattle.mdr_meaning.specs.declared.wire.Wire.TheVariants as wire;
 ghost use Rattle.mdr_meaning.specs.Pointers.{position, size};
 ghost use Rattle.mdr_meaning.specs.Values.{wire_of, wire_view};

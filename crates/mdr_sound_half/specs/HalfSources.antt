@@ -1,4 +1,4 @@
--- believed
+-- for proofs
 -- The program of a user half's text in which no fault is found is sound.
 use Rattle.std.specs.Prelude.{ℕ, ◌≤◌, Bool, List, length}
 use Rattle.mdr_core.specs.declared.plan.Plan.{Plan}

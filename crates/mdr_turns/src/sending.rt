@@ -1,7 +1,7 @@
 // The messages that the kernel half sends.
 
 ghost use Rattle.std.specs.Prelude.{◌≡◌, [], ◌∷◌, List, drop, IfOk};
-ghost use Rattle.mdr_exec.specs.Holding.{wires_of};
+ghost use Rattle.mdr_events.specs.Values.{wires_of};
 ghost use Rattle.mdr_meaning.specs.Values.{wire_of};
 ghost use Rattle.mdr_model.specs.declared.command.Command.{Command as AnyCommand};
 ghost use Rattle.mdr_model.specs.Copies.{tells};

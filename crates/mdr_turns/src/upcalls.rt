@@ -1,7 +1,7 @@
 // A function of the user half is called.
 
 ghost use Rattle.std.specs.Prelude.{◌≡◌, [], List, drop, IfOk};
-ghost use Rattle.mdr_exec.specs.Holding.{wires_of};
+ghost use Rattle.mdr_events.specs.Values.{wires_of};
 ghost use Rattle.mdr_model.specs.declared.command.Command.{Command as AnyCommand};
 ghost use Rattle.mdr_plain.specs.World.{World as AnyWorld, done};
 ghost use Rattle.mdr_slice.specs.Calls.{names_of};

@@ -1,7 +1,7 @@
 // The machine is made ready for a message: a function is started in it, or it goes on with answers.
 
 ghost use Rattle.std.specs.Prelude.{◌≡◌, [], ◌∷◌, Some, IfOk, IsTrue, OnOk, option_copied, slice_get};
-ghost use Rattle.mdr_exec.specs.Holding.{wires_of};
+ghost use Rattle.mdr_events.specs.Values.{wires_of};
 ghost use Rattle.mdr_meaning.specs.Bodies.{body_of};
 ghost use Rattle.mdr_meaning.specs.Sides.{Body};
 ghost use Rattle.mdr_user_code.specs.Replying.{IsResumed, IsStarted, Prepared, Resumed, is_ready};

@@ -2,7 +2,7 @@
 
 ghost use Rattle.std.specs.Prelude.{◌≡◌, IfOk, OnOk};
 ghost use Rattle.mdr_core.specs.Sound.{IsSound};
-ghost use Rattle.mdr_exec.specs.Events.{asked_as};
+ghost use Rattle.mdr_events.specs.Events.{asked_as};
 ghost use Rattle.mdr_services.specs.Serving.{served_as};
 ghost use Rattle.mdr_watched.specs.Watched.{held, serves};
 ghost use Rattle.mdr_watch.specs.Watching.{driver_in};
@@ -11,7 +11,7 @@ use crate::guarded::{Guarded, Parts};
 use crate::next::Answer;
 use crate::watch::{Upcall, touched};
 use mdr_core::OutOfMemory;
-use mdr_exec::Asked;
+use mdr_events::Asked;
 use mdr_reach::gained;
 use mdr_services::{Served, serve};
 use std::alloc::Global;

@@ -2,9 +2,10 @@
 
 ghost use Rattle.std.specs.Prelude.{◌≡◌, ◌-◌, IfOk};
 ghost use Rattle.mdr_core.specs.Sound.{IsSound};
-ghost use Rattle.mdr_exec.specs.declared.event.Event.TheVariants as event;
-ghost use Rattle.mdr_exec.specs.Going.{RanTo};
-ghost use Rattle.mdr_exec.specs.Holding.{held_of, wires_of};
+ghost use Rattle.mdr_events.specs.declared.event.Event.TheVariants as event;
+ghost use Rattle.mdr_events.specs.Going.{RanTo};
+ghost use Rattle.mdr_events.specs.Values.{wires_of};
+ghost use Rattle.mdr_exec.specs.Holding.{held_of};
 ghost use Rattle.mdr_whole.specs.Ending.{fits, gave_as};
 ghost use Rattle.mdr_watch.specs.Going.{Began, GoesOn, GoesOnWith, Passed, user_does};
 ghost use Rattle.mdr_watch.specs.Guarding.{guarded_accesses};
@@ -16,7 +17,8 @@ use crate::guarded::Guarded;
 use crate::next::{Answer, Ended, Turn};
 use crate::watch::Upcall;
 use mdr_core::{At, Limit, OutOfMemory, StopKind, Value};
-use mdr_exec::{Asked, Crossing, Event, Front, Machine, Side};
+use mdr_events::{Asked, Crossing, Event};
+use mdr_exec::{Front, Machine, Side};
 use mdr_services::Served;
 use mdr_whole::{Gave, Next};
 use std::alloc::Global;

@@ -2,9 +2,10 @@
 
 ghost use Rattle.std.specs.Prelude.{◌≡◌, ◌≤◌, ◌-◌, true, IfOk, OnOk, IsTrue};
 ghost use Rattle.mdr_core.specs.Sound.{IsSound};
-ghost use Rattle.mdr_exec.specs.declared.event.Event.TheVariants as event;
-ghost use Rattle.mdr_exec.specs.Going.{RanTo};
-ghost use Rattle.mdr_exec.specs.Holding.{FitQuestion, held_of, waits, wires_of};
+ghost use Rattle.mdr_events.specs.declared.event.Event.TheVariants as event;
+ghost use Rattle.mdr_events.specs.Going.{RanTo};
+ghost use Rattle.mdr_events.specs.Values.{wires_of};
+ghost use Rattle.mdr_exec.specs.Holding.{FitQuestion, held_of, waits};
 ghost use Rattle.mdr_plain.specs.Laws.{GivesNoTicks};
 ghost use Rattle.mdr_plain.specs.Running.{Before as AnyBefore};
 ghost use Rattle.mdr_runs.specs.Following.{tried_by};
@@ -17,7 +18,8 @@ use crate::code::Code;
 use crate::ending::{Gave, Worked};
 use crate::next::Next;
 use mdr_core::{At, Items, Limit, OutOfMemory, StopKind, Value};
-use mdr_exec::{Asked, Event, Front, Machine};
+use mdr_events::{Asked, Event};
+use mdr_exec::{Front, Machine};
 use mdr_services::{Served, serve};
 use mdr_world::World;
 use std::alloc::Global;

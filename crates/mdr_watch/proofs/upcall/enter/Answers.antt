@@ -1,4 +1,4 @@
-use Rattle.mdr_exec.specs.Holding.{wires_of}
+use Rattle.mdr_events.specs.Values.{wires_of}
 use Rattle.mdr_watch.proofs.Runs.{ran_closed}
 use Rattle.mdr_watch.proofs.upcall.enter.Goals as goal
 

@@ -8,8 +8,7 @@ use Rattle.mdr_meaning.specs.declared.wire.Wire.{Wire}
 use Rattle.mdr_meaning.specs.Sides.{Side, Here, Locals, Flow, Ends}
 use Rattle.mdr_meaning.specs.Tree.{Asked, Tree}
 use Rattle.mdr_meaning.specs.Walk.{Reached, Accesses, Walked, walked, walk}
-use Rattle.mdr_exec.specs.Effects.{Left}
-use Rattle.mdr_exec.specs.Held.{Front, Runs, Unwinds, Item, Held, tree}
+use Rattle.mdr_events.specs.Held.{Front, Runs, Unwinds, Item, Held, tree}
 
 -- ---- work that is held
 
@@ -20,6 +19,11 @@ holds front here l ahead items = record { frame = record { here = here; locals =
 abbrev pub front_after : Flow → Front
 front_after Ends = Runs
 front_after flow = Unwinds flow
+
+-- how a statement ends, and the locals then
+pub record Left : Type 0 where
+  pub flow : Flow
+  pub locals : Locals
 
 abbrev pub holds_after : Left → Here → Codes → List Item → Held
 holds_after left here ahead items = holds (front_after left.flow) here left.locals ahead items

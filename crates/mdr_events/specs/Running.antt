@@ -11,8 +11,8 @@ use Rattle.mdr_meaning.specs.Sides.{Body, Side, Here, Locals, framed, in_here}
 use Rattle.mdr_meaning.specs.Tree.{Tree}
 use Rattle.mdr_meaning.specs.Values.{first_of}
 use Rattle.mdr_meaning.specs.Walk.{Accesses, walk}
-use Rattle.mdr_exec.specs.Held.{Front, Runs, Unwinds, Comes, Enters, Fills, Born, WaitsValue, WaitsParams, WaitsObject, WaitsDeath, Item, Base, Held, tree}
-use Rattle.mdr_exec.specs.Steps.{holds, child, Came, Goes, after, IsSame, Steps, Ticks}
+use Rattle.mdr_events.specs.Held.{Front, Runs, Unwinds, Comes, Enters, Fills, Born, WaitsValue, WaitsParams, WaitsObject, WaitsDeath, Item, Base, Held, tree}
+use Rattle.mdr_events.specs.Steps.{holds, child, Came, Goes, after, IsSame, Steps, Ticks}
 
 -- ---- a function is started over whatever is held
 

@@ -7,7 +7,7 @@ use Rattle.mdr_meaning.specs.declared.wire.WireView.{WireView}
 use Rattle.mdr_meaning.specs.Numbers.{Numbered}
 use Rattle.mdr_meaning.specs.Pointers.{global}
 use Rattle.mdr_meaning.specs.Walk.{Accesses}
-use Rattle.mdr_exec.specs.declared.integer.Integer.{Integer}
+use Rattle.mdr_events.specs.declared.integer.Integer.{Integer}
 
 -- the value that an integer is
 abbrev pub integer_wire : Integer → Wire

@@ -11,9 +11,9 @@ pub trait Memory {
     ghost use Rattle.std.specs.Prelude.{◌≡◌, IfOk, IfSome, OnErr, OnOk, false, true};
     ghost use Rattle.mdr_meaning.specs.Values.{wire_of};
     ghost use Rattle.mdr_meaning.specs.Walk.{Accesses};
-    ghost use Rattle.mdr_exec.specs.Holding.{wires_of};
-    ghost use Rattle.mdr_exec.specs.Integers.{FirstIs, FirstBecomes};
-    ghost use Rattle.mdr_exec.specs.Outcomes.{wired, when_made};
+    ghost use Rattle.mdr_events.specs.Integers.{FirstIs, FirstBecomes};
+    ghost use Rattle.mdr_events.specs.Outcomes.{wired, when_made};
+    ghost use Rattle.mdr_events.specs.Values.{wires_of};
 
     ghost accesses: { Accesses Self };
 
