@@ -2,7 +2,7 @@
 use Rattle.std.specs.Prelude.{◌≡◌, ◌≤◌, ℕ, true, false, List, [], length, Option, Some, None}
 use Rattle.mdr_core.specs.declared.plan.Plan.{Plan}
 use Rattle.mdr_core.specs.declared.program.Program.{Program}
-use Rattle.mdr_body.specs.Mentions.{uses}
+use Rattle.mdr_body.specs.Uses.{first_use}
 use Rattle.mdr_source.specs.Backs.{functions_call_back}
 use Rattle.mdr_plan.specs.Texts.{IsPlanText}
 use Rattle.mdr_sound_half.specs.HalfSources.{IsHalfProgramOf}
@@ -17,7 +17,7 @@ use Rattle.mdr_watched.specs.Driver.{driver_of}
 
 -- the text of a user half comes to this program with the plan, by the rules of types
 abbrev pub ComesTo : (user : List ℕ) → Plan → Program → Type 0
-ComesTo user plan program = IsHalfProgramOf user true uses plan program
+ComesTo user plan program = IsHalfProgramOf user true first_use plan program
 
 -- the plan's text is read as this plan, and the user half's text comes, with it, to this program, which calls nothing back and whose types have numbers of 32 bits
 pub record Loads (user plan_text : List ℕ) (program : Program) (plan : Plan) : Type 0 where
