@@ -23,13 +23,12 @@ pub struct Object {
     pub array: bool,
 }
 
-/// A function: its number, its type, and whether the source has its body anywhere.
+/// A function: its number and its type.
 #[derive(Drop)]
 pub struct Signature {
     pub number: u32,
     pub result: Ty,
     pub params: Items<Ty>,
-    pub is_defined: bool,
 }
 
 /// What an ordinary name of the file means.

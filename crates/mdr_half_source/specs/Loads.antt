@@ -10,7 +10,7 @@ use Rattle.mdr_grammar.specs.Grammar.{Reads}
 use Rattle.mdr_faults.specs.Faults.{Right}
 use Rattle.mdr_check.specs.Uses.{UseRule}
 use Rattle.mdr_body.specs.Bodies.{body_rule}
-use Rattle.mdr_body.specs.Mentions.{uses}
+use Rattle.mdr_body.specs.Uses.{first_use}
 use Rattle.mdr_typing.specs.Profile.{profile_rules}
 use Rattle.mdr_check_half.specs.HalfPrograms.{half_typed}
 use Rattle.mdr_source.specs.Backs.{functions_call_back}
@@ -26,7 +26,7 @@ pub record IsHalfProgramOf (bytes : List ℕ) (halves : Bool) (uses : UseRule) (
 
 -- the text of a user half comes to this program with the plan, by the rules of types
 abbrev pub ComesTo : (user : List ℕ) → Plan → Program → Type 0
-ComesTo user plan program = IsHalfProgramOf user true uses plan program
+ComesTo user plan program = IsHalfProgramOf user true first_use plan program
 
 -- the plan's text is read as this plan, and the user half's text comes, with it, to this program, which calls nothing back and whose types have numbers of 32 bits
 pub record Loads (user plan_text : List ℕ) (program : Program) (plan : Plan) : Type 0 where

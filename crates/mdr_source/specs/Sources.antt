@@ -15,7 +15,7 @@ use Rattle.mdr_parse.specs.Parsing.{end_place, error_in}
 use Rattle.mdr_faults.specs.declared.fault.Fault.{Fault}
 use Rattle.mdr_faults.specs.Faults.{Checked, Right, IsFirst}
 use Rattle.mdr_body.specs.Bodies.{body_rule}
-use Rattle.mdr_body.specs.Mentions.{uses}
+use Rattle.mdr_body.specs.Uses.{first_use}
 use Rattle.mdr_typing.specs.Profile.{profile_rules}
 use Rattle.mdr_program.specs.Programs.{typed}
 use Rattle.mdr_source.specs.declared.refusal.Refusal.{Refusal}
@@ -26,7 +26,7 @@ use Rattle.mdr_source.specs.Unbuilt.{waits}
 
 -- the program of a tree, or all faults in it
 abbrev pub typed_tree : Tree → Checked Program
-typed_tree tree = typed (body_rule profile_rules) uses tree.items
+typed_tree tree = typed (body_rule profile_rules) first_use tree.items
 
 -- the refusal of tokens that aren't read: want of memory is none
 abbrev pub refused_as : ParseError → Option Refusal
