@@ -15,7 +15,7 @@ use mdr_arith::{bin, flip, neg};
 use mdr_core::{BinOp, Kind, RelOp, Value};
 
 /// An integer with its kind.
-#[derive(Clone, Copy, PartialEq, Eq)]
+#[derive(Clone, Copy)]
 pub struct Integer {
     pub number: i128,
     pub kind: Kind,
