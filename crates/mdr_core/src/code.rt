@@ -7,7 +7,7 @@ use crate::types::Ty;
 use crate::value::Value;
 
 /// A binary operator of integers (C99 6.5.5 to 6.5.12).
-#[derive(Clone, Copy, Debug, PartialEq, Eq)]
+#[derive(Clone, Copy, Debug)]
 pub enum BinOp {
     Add,
     Sub,
@@ -22,7 +22,7 @@ pub enum BinOp {
 }
 
 /// A comparison (C99 6.5.8, 6.5.9).
-#[derive(Clone, Copy, Debug, PartialEq, Eq)]
+#[derive(Clone, Copy, Debug)]
 pub enum RelOp {
     Eq,
     Ne,

@@ -4,7 +4,7 @@ use std::alloc::{AllocError, AllocFailed};
 
 /// Memory was wanting. It is told apart from every other refusal. Only an allocator's refusal makes one, and what goes
 /// past a `Limit`.
-#[derive(Clone, Copy, Debug, PartialEq, Eq)]
+#[derive(Clone, Copy, Debug)]
 pub struct OutOfMemory {
     _own: (),
 }

@@ -12,7 +12,7 @@ pub enum Key {
 }
 
 /// A half of the driver.
-#[derive(Clone, Copy, PartialEq, Eq)]
+#[derive(Clone, Copy)]
 pub enum Half {
     Kernel,
     User,

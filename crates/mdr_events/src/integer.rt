@@ -3,7 +3,7 @@
 use mdr_core::Kind;
 
 /// An integer with its kind.
-#[derive(Clone, Copy, PartialEq, Eq)]
+#[derive(Clone, Copy)]
 pub struct Integer {
     pub number: i128,
     pub kind: Kind,

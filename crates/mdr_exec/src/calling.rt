@@ -258,7 +258,7 @@ fn asks_to_deliver<C: Memory>(
 }
 
 /// Which services take other things than their arguments.
-#[derive(Clone, Copy, PartialEq, Eq)]
+#[derive(Clone, Copy)]
 pub(crate) enum Taking {
     Object,
     Objects,

@@ -4,7 +4,7 @@ use crate::places::Position;
 use mdr_core::{Items, Value};
 
 /// Which code runs here.
-#[derive(Clone, Copy, PartialEq, Eq)]
+#[derive(Clone, Copy)]
 pub enum Side {
     /// All of it.
     Whole,
@@ -15,7 +15,7 @@ pub enum Side {
 }
 
 /// How a statement ends.
-#[derive(Clone, Copy, PartialEq, Eq)]
+#[derive(Clone, Copy)]
 pub enum Flow {
     Ends,
     Breaks,

@@ -4,7 +4,7 @@ use mdr_core::OutOfMemory;
 use std::alloc::{AllocError, AllocFailed};
 
 /// Why code is not run on. Of the work after it nothing is promised.
-#[derive(Clone, Copy, PartialEq, Eq)]
+#[derive(Clone, Copy)]
 pub enum Halt {
     OutOfMemory,
     /// A value doesn't fit what is done with it, as values of a sound program do.

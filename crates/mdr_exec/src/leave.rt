@@ -23,7 +23,7 @@ use std::alloc::{AllocError, Global};
 use std::mem;
 
 /// What ends with a list of statements.
-#[derive(Clone, Copy, PartialEq, Eq)]
+#[derive(Clone, Copy)]
 pub enum Ending {
     /// A turn of a loop's body.
     Turn,

@@ -9,7 +9,7 @@ ghost use Rattle.mdr_exec.specs.Found.{codes_in, code_in, turn_code, body_codes,
 use mdr_core::{Expr, Items, Program, Step, Stmt, Value};
 
 /// Which of its lists of statements a statement is in.
-#[derive(Clone, Copy, PartialEq, Eq)]
+#[derive(Clone, Copy)]
 pub enum Part {
     /// Where the test of an `if` holds, and where it doesn't.
     One,

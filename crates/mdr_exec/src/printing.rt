@@ -15,7 +15,7 @@ use mdr_core::{Items, Value};
 use std::alloc::Global;
 
 /// Where a text is read: in plain bytes, behind a `%`, behind a `%l`.
-#[derive(Clone, Copy, PartialEq, Eq)]
+#[derive(Clone, Copy)]
 pub enum Reading {
     Plain,
     Percent,

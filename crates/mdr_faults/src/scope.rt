@@ -9,7 +9,7 @@ use crate::names::{HasName, Names};
 use mdr_core::{Items, Kind, Name, Ty};
 
 /// A constant: its kind and its number, which the kind holds.
-#[derive(Clone, Copy, PartialEq, Eq)]
+#[derive(Clone, Copy)]
 pub struct Constant {
     pub kind: Kind,
     pub number: i128,

@@ -13,7 +13,7 @@ use mdr_syntax::{Item, ItemWhat, Tree};
 use std::alloc::{AllocError, Global};
 
 /// What an item is to a half: a function that is here, one that is in the other half, or an item of both.
-#[derive(Clone, Copy, PartialEq, Eq)]
+#[derive(Clone, Copy)]
 pub enum Part {
     Here,
     There,
@@ -21,7 +21,7 @@ pub enum Part {
 }
 
 /// Which of two items is the whole one.
-#[derive(Clone, Copy, PartialEq, Eq)]
+#[derive(Clone, Copy)]
 pub enum Whole {
     First,
     Second,

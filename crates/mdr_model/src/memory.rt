@@ -12,7 +12,7 @@ pub struct MemoryBlock {
 }
 
 /// A cell of a block, by the block's serial.
-#[derive(Clone, Copy, PartialEq, Eq)]
+#[derive(Clone, Copy)]
 pub struct Cell {
     pub serial: u64,
     pub index: u32,

@@ -14,7 +14,7 @@ pub enum Happened {
 }
 
 /// How a run ended.
-#[derive(Clone, Copy, PartialEq, Eq)]
+#[derive(Clone, Copy)]
 pub enum End {
     /// The script was done.
     Ok,
@@ -27,7 +27,7 @@ pub enum End {
 }
 
 /// The value of a cell as a report shows it. Objects are named by their numbers in the report, from 1.
-#[derive(Clone, Copy, PartialEq, Eq)]
+#[derive(Clone, Copy)]
 pub enum Seen {
     Int(i128),
     Null,

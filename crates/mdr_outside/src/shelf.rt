@@ -18,7 +18,7 @@ pub enum ReadAnswer {
 }
 
 /// What a shelf answers to a write.
-#[derive(Clone, Copy, Debug, PartialEq, Eq)]
+#[derive(Clone, Copy, Debug)]
 pub enum WriteAnswer {
     /// The file is the bytes.
     Ok,

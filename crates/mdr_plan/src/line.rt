@@ -3,7 +3,7 @@
 use mdr_core::{Half, Key, Name, Ty};
 
 /// Which lines were read last.
-#[derive(Clone, Copy, PartialEq, Eq)]
+#[derive(Clone, Copy)]
 pub enum Stage {
     /// None.
     Start,

@@ -14,7 +14,7 @@ use std::alloc::Global;
 
 /// What stands innermost around a cell: no struct, or a field of one, and whether the field's key is among those that may
 /// be touched.
-#[derive(Clone, Copy, PartialEq, Eq)]
+#[derive(Clone, Copy)]
 pub enum Around {
     Nothing,
     Field(u32, u32, bool),
