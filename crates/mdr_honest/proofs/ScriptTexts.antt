@@ -22,10 +22,10 @@ use Rattle.mdr_script.specs.Rules.{behind_effect, clear_at, copy_at, effect_at, 
 use Rattle.mdr_script.specs.Scripts.{and_then, empty_script, has_commands, is_past, is_setup, judged, judged_by, lines_of, placed, script_from, script_of, with_line}
 use Rattle.mdr_script.specs.Words.{begins_hash, ends, is_empty, name_of, piece_at, word_at}
 use Rattle.mdr_holds.specs.Holding.{IsWord, PutsWord, PutWords}
-use Rattle.mdr_holds.specs.Laws.{TextScriptsFit}
 use Rattle.mdr_holds.proofs.Accesses.{ok_is}
-use Rattle.mdr_holds.proofs.Bindings.{bound_commands_fit}
 use Rattle.mdr_holds.proofs.Fitting.{some_is}
+use Rattle.mdr_honest.specs.Scripts.{TextScriptsFit}
+use Rattle.mdr_honest.proofs.Bindings.{bound_commands_fit}
 
 -- ---- one reading after another
 

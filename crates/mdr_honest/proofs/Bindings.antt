@@ -36,9 +36,10 @@ use Rattle.mdr_script.specs.declared.script.Script.{Script}
 use Rattle.mdr_script.specs.declared.script_error.ScriptKind.{ScriptKind}
 use Rattle.mdr_script.specs.declared.script_error.ScriptKind.TheVariants.{ArgKind, Arity, NoGlobal, Range}
 use Rattle.mdr_script.specs.Binding.{address_bound, address_by, address_of, and_then, arg_bound, args_behind, bound_of, call_bound, call_by, call_of, called, command_bound, commands_behind, func_number, global_number, int_bound, is_unknown, null_bound, on_line, show_bound, show_of, takes, type_number, values_bound, view_bound}
-use Rattle.mdr_holds.specs.Laws.{AreCommands, BoundCommandsFit, IsCommand}
+use Rattle.mdr_holds.specs.Laws.{AreCommands, IsCommand}
 use Rattle.mdr_holds.proofs.Accesses.{ok_is}
 use Rattle.mdr_holds.proofs.Globals.{global_view}
+use Rattle.mdr_honest.specs.Scripts.{BoundCommandsFit}
 
 -- ---- types that are alike are one
 
