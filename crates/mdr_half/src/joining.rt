@@ -146,7 +146,10 @@ fn joined_items(
     for mine in kernel.into_vec() {
         let other = match theirs.next() {
             Some(other) => other,
-            None => return Err(JoinError::Differ(last)),
+            None => {
+                drop(mine);
+                return Err(JoinError::Differ(last));
+            }
         };
         last = other.place.line;
         let item = match joined_item(alloc, mine, other) {
@@ -156,7 +159,11 @@ fn joined_items(
         items.push(item)?;
     }
     match theirs.next() {
-        Some(other) => Err(JoinError::Differ(other.place.line)),
+        Some(other) => {
+            let line = other.place.line;
+            drop(other);
+            Err(JoinError::Differ(line))
+        }
         None => Ok(items),
     }
 }
