@@ -120,7 +120,11 @@ fn use_at_what(place: Place, what: &NodeWhat, name: &[u8]) -> Option<Place>
         NodeWhat::While(e, body) => first_place(use_in(e, name), use_at(body.get(), name)),
         NodeWhat::For(init, test, step, body) => {
             let rest = first_place(perhaps_use_at(step, name), use_at(body.get(), name));
-            use_along(init.as_slice(), name, first_place(perhaps_use(test, name), rest))
+            use_along(
+                init.as_slice(),
+                name,
+                first_place(perhaps_use(test, name), rest),
+            )
         }
         NodeWhat::Do(body, e) => first_place(use_at(body.get(), name), use_in(e, name)),
         NodeWhat::Switch(e, _) => use_in(e, name),

@@ -24,10 +24,7 @@ fn short_enumerators(es: &[Enumerator]) -> Result<(), Fault>
 fn short_head(h: &Head) -> Result<(), Fault>
     ensures { result ≡ told (short_head h.now) }
 {
-    as_well(
-        short_name(h.place, &h.name),
-        good_list(h.params.as_slice()),
-    )
+    as_well(short_name(h.place, &h.name), good_list(h.params.as_slice()))
 }
 
 fn short_struct(place: Place, name: &Name, ds: &[Decl]) -> Result<(), Fault>

@@ -157,7 +157,11 @@ fn undefined<B: Bodies>(bodies: &B, items: &[Item], f: &Declared) -> Fault
     ensures { result ≡ undefined (B.used bodies.now) items.now f.now }
 {
     let name = f.name.as_slice();
-    undefined_by(f.place, use_among(bodies, items, name), constant_among(items, name))
+    undefined_by(
+        f.place,
+        use_among(bodies, items, name),
+        constant_among(items, name),
+    )
 }
 
 fn defined_rule<B: Bodies>(bodies: &B, items: &[Item], f: &Declared) -> Result<Place, Fault>

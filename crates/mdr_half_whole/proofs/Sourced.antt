@@ -100,7 +100,7 @@ module _ (items : List Item) (xs : List Piece) (shaped : list_all (is_shaped_ite
       let right : pieces_behind body (first_known items) [] items ≡ Right xs = inner.first ∙ inner.made ∙ outer.made in
       sym (defined_bodies func.name items shaped)
       ∙ defined_at items functions (parts_behind no_parts xs).funcs f func (counted_all body items xs right).functions (all_defined items functions inner.right inner.second)
-          (subst (λ (fs : List Func). slice_get fs f ≡ Some func) funcs_are there)
+      (subst (λ (fs : List Func). slice_get fs f ≡ Some func) funcs_are there)
 
 -- ---- a source
 pub sources_have : SourcesHaveBodies

@@ -70,7 +70,7 @@ one_spelled xs i x a a1 w inside is grown so_far =
     let rest : List Spelled → Verdict = λ before. spelled_list before (map spelled (drop (i + 1) xs)) in
     let one : map spelled (take (i + 1) xs) ≡ map spelled (take i xs) ++ spelled x ∷ [] = map_more spelled xs i x inside ∙ ap (λ y. map spelled (take i xs) ++ spelled y ∷ []) (sym is) in
     let moved : spelled_list (map spelled (take i xs)) (map spelled (drop i xs)) ≡ as_well among (rest (map spelled (take (i + 1) xs))) =
-        at_drop_more (λ ys. spelled_list (map spelled (take i xs)) (map spelled ys)) xs i x inside
-        ∙ ap (λ (y : Decl). spelled_list (map spelled (take i xs)) (map spelled (y ∷ drop (i + 1) xs))) (sym is)
-        ∙ ap (λ (b : List Spelled). as_well among (rest b)) (sym one) in
+    at_drop_more (λ ys. spelled_list (map spelled (take i xs)) (map spelled ys)) xs i x inside
+    ∙ ap (λ (y : Decl). spelled_list (map spelled (take i xs)) (map spelled (y ∷ drop (i + 1) xs))) (sym is)
+    ∙ ap (λ (b : List Spelled). as_well among (rest b)) (sym one) in
     ap (λ r. first_of r (told (rest (map spelled (take (i + 1) xs))))) grown ∙ step a among (rest (map spelled (take (i + 1) xs))) ∙ sym (ap (λ d. first_of a (told d)) moved) ∙ so_far

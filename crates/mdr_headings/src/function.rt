@@ -282,12 +282,7 @@ fn function_rule(
 }
 
 /// Brings the name of a function of this number into scope.
-fn grow(
-    alloc: Global,
-    scope: &mut Scope,
-    number: usize,
-    h: &Head,
-) -> Result<(), OutOfMemory>
+fn grow(alloc: Global, scope: &mut Scope, number: usize, h: &Head) -> Result<(), OutOfMemory>
     ensures { OnOk result (scope.new ≡ behind_function scope.old number h.now) }
 {
     let number = small(number)?;

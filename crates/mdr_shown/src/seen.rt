@@ -11,7 +11,7 @@ ghost use Rattle.mdr_plain.specs.Outcome.{seen_of};
 ghost use Rattle.mdr_shown.specs.Met.{AreNumbered};
 
 use crate::met::{Met, number_of};
-use mdr_core::{cells_of, Items, Limit, LockState, OutOfMemory, Program, Value, View};
+use mdr_core::{Items, Limit, LockState, OutOfMemory, Program, Value, View, cells_of};
 use mdr_model::Seen;
 use std::alloc::Global;
 

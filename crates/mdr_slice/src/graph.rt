@@ -13,7 +13,7 @@ ghost use Rattle.mdr_slice.specs.Graph.{AreCallees, KernelCallReaches, MayPointT
 use crate::calls::calls_of;
 use crate::names::names_of;
 use crate::pointed::is_called_type;
-use mdr_core::{Callee, CallForm, Expr, Func, Limit, OutOfMemory, Program};
+use mdr_core::{CallForm, Callee, Expr, Func, Limit, OutOfMemory, Program};
 use mdr_paths::{marked_nodes, marks_of};
 use std::alloc::{AllocError, Global};
 

@@ -11,7 +11,7 @@ ghost use Rattle.mdr_split.specs.User.{cells_of_news};
 
 use crate::keys::is_touched;
 use mdr_copy::is_live;
-use mdr_core::{cells_of, Items, Key, Limit, OutOfMemory, Program};
+use mdr_core::{Items, Key, Limit, OutOfMemory, Program, cells_of};
 use mdr_model::{Cell, MemoryBlock, New};
 use std::alloc::Global;
 

@@ -6,7 +6,7 @@ ghost use Rattle.mdr_core.specs.Sound.{IsSound};
 ghost use Rattle.mdr_meaning.specs.Values.{wire_of};
 ghost use Rattle.mdr_model.specs.Memory.{zero_of};
 
-use mdr_core::{cells_of, Items, Limit, OutOfMemory, Program, Shape, Value, zero_of};
+use mdr_core::{Items, Limit, OutOfMemory, Program, Shape, Value, cells_of, zero_of};
 use mdr_model::Shape64;
 use std::alloc::Global;
 

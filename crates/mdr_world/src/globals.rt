@@ -12,7 +12,7 @@ ghost use Rattle.std.specs.Prelude.{◌++◌, ◌∷◌, [], OnOk};
 
 use crate::handles::handle;
 use crate::storage::Storage;
-use mdr_core::{GlobalDef, Items, Limit, OutOfMemory, Program, same_type, Shape, Ty, Value, View};
+use mdr_core::{GlobalDef, Items, Limit, OutOfMemory, Program, Shape, Ty, Value, View, same_type};
 use mdr_mem::{Blocks, Cells};
 use mdr_model::BirthKind;
 use std::alloc::Global;

@@ -19,11 +19,11 @@ loop-mine-preserved c =
     let at = c.loop-mine in
     let mine = c.in-Some.ensures.steps in
     let theirs = c.in-Some-next.ensures.cases in record {
-  mine_left = let was = at.invariant.mine_left in let gone = mine.1 in let short = ap length mine.0 in omega arith;
-  theirs_left = let was = at.invariant.theirs_left in let gone = theirs.1 in let short = ap length theirs.0 in omega arith;
-  so_far = joins_on at.items c.push.new.self _ _ _ _ at.last c.in-Some.mine c.in-Some-next.other c.in-Ok.item _ mine.0 theirs.0
-      at.invariant.so_far c.in-Ok.ensures c.in_ok-push.ensures.ok;
-}
+      mine_left = let was = at.invariant.mine_left in let gone = mine.1 in let short = ap length mine.0 in omega arith;
+      theirs_left = let was = at.invariant.theirs_left in let gone = theirs.1 in let short = ap length theirs.0 in omega arith;
+      so_far = joins_on at.items c.push.new.self _ _ _ _ at.last c.in-Some.mine c.in-Some-next.other c.in-Ok.item _ mine.0 theirs.0
+          at.invariant.so_far c.in-Ok.ensures c.in_ok-push.ensures.ok;
+    }
 
 pub returns-in-Some-next-2 : goal.returns-in-Some-next-2
 returns-in-Some-next-2 c =
