@@ -1,3 +1,4 @@
+-- protocol
 -- The keys of a program in their order.
 use Rattle.std.specs.Prelude.{ℕ, ◌+◌, Bool, List, [], ◌∷◌, ◌++◌}
 use Rattle.mdr_core.specs.declared.types.Ty.{Ty}

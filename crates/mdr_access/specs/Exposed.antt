@@ -1,3 +1,4 @@
+-- believed
 -- The fields whose addresses are taken.
 use Rattle.std.specs.Prelude.{◌≡◌, ℕ, slice_get, List, [], ◌∷◌, ◌++◌, Option, Some, None}
 use Rattle.mdr_core.specs.declared.types.Ty.{Ty}

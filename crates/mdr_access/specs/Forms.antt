@@ -1,3 +1,4 @@
+-- believed
 -- The access forms: which cells code reads or writes, as keys.
 use Rattle.std.specs.Prelude.{◌≡◌, ◌==◌, ℕ, Bool, false, List, [], ◌∷◌, ◌++◌, Option, Some, None, slice_get}
 use Rattle.std.specs.Option.{option_map}

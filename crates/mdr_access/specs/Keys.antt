@@ -1,3 +1,4 @@
+-- believed
 -- S(t): the keys of the cells that a user-half function may touch, with all that it calls in its half; and the plan that has them.
 use Rattle.std.specs.Prelude.{◌≡◌, ◌↔◌, ℕ, true, List, [], length, map, Some, slice_get, IsTrue}
 use Rattle.mdr_core.specs.declared.program.Program.{Program}

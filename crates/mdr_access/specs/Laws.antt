@@ -1,3 +1,4 @@
+-- for proofs
 -- What is promised of S(t), and of the plan.
 use Rattle.std.specs.Prelude.{◌≡◌, ℕ, List, Some}
 use Rattle.mdr_core.specs.declared.program.Program.{Program}

@@ -1,3 +1,4 @@
+-- protocol
 -- Which keys a function has access forms for itself, as indices of a list of keys.
 use Rattle.std.specs.Prelude.{◌≡◌, ℕ, List, Some, None, slice_get}
 use Rattle.mdr_core.specs.declared.program.Program.{Program}

@@ -1,3 +1,4 @@
+-- protocol
 -- Functions that lead to each other share what they lead to: an early one of them stands for the others.
 use Rattle.std.specs.Prelude.{◌≡◌, ◌⊎◌, ℕ, ◌<◌, ◌≤◌, Bool, true, List, [], ◌∷◌, length, get_or}
 use Rattle.mdr_paths.specs.Numbers.{AreReached, marked}

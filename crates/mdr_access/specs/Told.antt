@@ -1,3 +1,4 @@
+-- protocol
 -- The code's access forms, as the definitions have them.
 use Rattle.mdr_core.specs.declared.kind.Kind.TheVariants.{U8}
 use Rattle.mdr_core.specs.declared.types.Ty.TheVariants as type

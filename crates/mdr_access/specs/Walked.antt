@@ -1,3 +1,4 @@
+-- protocol
 -- What a function of the user half leads to, as the code has it.
 use Rattle.std.specs.Prelude.{◌≡◌, ℕ, Bool, true, false, List, [], ◌∷◌, ◌++◌, Option, Some, None, slice_get, get_or, length, map, not}
 use Rattle.mdr_core.specs.declared.program.Program.{Program}

@@ -1,3 +1,4 @@
+-- for proofs
 -- The network driver's plan worked out: the keys of each function of its user half.
 use Rattle.std.specs.Prelude.{List, [], ◌∷◌, map}
 use Rattle.mdr_core.specs.declared.plan.Key.{Key}

@@ -1,3 +1,4 @@
+-- for proofs
 -- Access forms worked out that a network driver hasn't: pointers to scalars, `deliver`, and a parameter that is an object.
 use Rattle.std.specs.Prelude.{◌≡◌, ℕ, true, false, List, [], ◌∷◌, ◌++◌, map, codes}
 use Rattle.mdr_core.specs.declared.kind.Kind.TheVariants.{U8, U16}

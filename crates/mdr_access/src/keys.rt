@@ -8,7 +8,7 @@ ghost use Rattle.mdr_core.specs.Suited.{is_key, is_lock, key_type};
 ghost use Rattle.mdr_access.specs.KeyOrder.{same_key};
 ghost use Rattle.mdr_access.specs.AllKeys.{kept, global_keys, field_keys, struct_keys, element_keys, all_keys};
 
-use mdr_core::{Field, Key, OutOfMemory, Program, Ty};
+use mdr_core::{Field, Key, Limit, OutOfMemory, Program, Ty};
 use std::alloc::{AllocError, Global};
 
 fn is_lock(ty: &Ty) -> bool
@@ -141,7 +141,7 @@ fn add_structs(program: &Program, out: &mut Vec<Key>) -> Result<(), OutOfMemory>
 {
     for (s, def) in program.structs.as_slice().iter().enumerate() {
         if def.fields.len() > 1 << 32 {
-            return Err(OutOfMemory);
+            return Err(Limit::Unmet.past());
         }
         add_fields(program, s as u32, def.fields.as_slice(), out)?;
     }
@@ -154,7 +154,7 @@ pub(crate) fn all_keys(alloc: Global, program: &Program) -> Result<Vec<Key>, Out
 {
     let most = 1 << 32;
     if program.globals.len() > most || program.structs.len() > most || program.types.len() > most {
-        return Err(OutOfMemory);
+        return Err(Limit::Unmet.past());
     }
     let mut keys = Vec::new(alloc);
     add_globals(program, &mut keys)?;

@@ -1,3 +1,4 @@
+-- believed
 -- Assignments (C99 6.5.16), and `++` and `--` that stand alone (6.5.2.4, 6.5.3.1).
 use Rattle.std.specs.Prelude.{ℕ, List, Option, Some, None, codes, pos}
 use Rattle.std.specs.Str.{bytes_eq}

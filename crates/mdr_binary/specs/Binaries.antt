@@ -1,3 +1,4 @@
+-- believed
 -- Operators between two operands (C99 6.5.5 to 6.5.14).
 use Rattle.std.specs.Prelude.{Bool, true, false, ◌&&◌, ◌||◌, Option, Some, None}
 use Rattle.mdr_core.specs.declared.code.BinOp.{BinOp}

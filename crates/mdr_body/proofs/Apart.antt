@@ -18,7 +18,7 @@ use Rattle.mdr_operand.specs.Written.{Line, Lines, node_what_written, clause_wri
 use Rattle.mdr_body.specs.declared.here.Frame.{Frame}
 use Rattle.mdr_body.specs.declared.here.Here.{Here}
 use Rattle.mdr_body.specs.Locals.{numbered}
-use Rattle.mdr_body.specs.Mentions.{line_what}
+use Rattle.mdr_body.specs.Addresses.{line_what}
 use Rattle.mdr_body.specs.Simple.{declares}
 use Rattle.mdr_body.specs.Statements.{Rules, simple_made, simple_behind, line_made, line_behind}
 

@@ -1,3 +1,4 @@
+-- believed
 -- Statements that call the service that calls back, which isn't built yet (C99 6.5.2.2).
 use Rattle.std.specs.Prelude.{◌==◌, ◌||◌, Bool, false}
 use Rattle.mdr_core.specs.Code.{Called, Code, Codes}

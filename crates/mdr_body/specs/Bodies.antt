@@ -1,3 +1,4 @@
+-- believed
 -- A function's body: its parameters' places, its locals, its statements (C99 6.9.1).
 use Rattle.std.specs.Prelude.{Bool, false, List, map}
 use Rattle.mdr_core.specs.declared.code.Stmt.{Stmt}

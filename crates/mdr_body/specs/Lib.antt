@@ -1,5 +1,6 @@
 pub mod Backs
-pub mod Mentions
+pub mod Addresses
+pub mod Uses
 pub mod Locals
 pub mod Simple
 pub mod Statements

@@ -1,3 +1,4 @@
+-- believed
 -- Parameters and locals: what is declared, in which slot, and whether it is an object of its own (C99 6.2.1, 6.7, 6.9.1).
 use Rattle.std.specs.Prelude.{ℕ, ◌+◌, ◌==◌, ◌&&◌, ◌||◌, not, nat_lt, Bool, true, false, List, [], ◌∷◌, ◌++◌, length, map, take, slice_get, is_some, Option, Some, None, Result, Ok, Err}
 use Rattle.std.specs.Str.{bytes_eq}
@@ -19,15 +20,14 @@ use Rattle.mdr_faults.specs.declared.scope.StructEntry.{StructEntry}
 use Rattle.mdr_faults.specs.Declarations.{declarator, object_declared}
 use Rattle.mdr_faults.specs.Faults.{Checked, Right, refuse, after, demand, told}
 use Rattle.mdr_headings.specs.Annotations.{bare}
-use Rattle.mdr_headings.specs.Names.{short_params}
+use Rattle.mdr_headings.specs.Names.{good_params}
 use Rattle.mdr_headings.specs.Structs.{is_struct, name_or_none}
 use Rattle.mdr_headings.specs.Within.{beside, within}
 use Rattle.mdr_operand.specs.declared.room.LocalName.{LocalName}
 use Rattle.mdr_operand.specs.Rooms.{local_named}
 use Rattle.mdr_operand.specs.Written.{Written, Line, Lines}
 use Rattle.mdr_body.specs.declared.here.Here.{Here}
-use Rattle.mdr_body.specs.declared.mention.Mention.TheVariants.{Address}
-use Rattle.mdr_body.specs.Mentions.{perhaps_mentions, have}
+use Rattle.mdr_body.specs.Addresses.{perhaps_takes, takes_along}
 
 -- ---- which structs hold a lock
 
@@ -129,7 +129,7 @@ local_declared scope locks here is_taken d =
     demand (out-Decl d).place Redefined (not (is_again here.first (name_of d) here.names))
     (demand (out-Decl d).place Limit (has_place (length here.locals) (name_of d))
     (demand (out-Decl d).place Mismatch (not (has_no_size here.names (out-Decl d).size))
-    (beside (short_params d) (beside (within scope (names_here here.names) d) (local_whole is_taken d (local_object scope locks d))))))
+    (beside (good_params d) (beside (within scope (names_here here.names) d) (local_whole is_taken d (local_object scope locks d))))))
 
 -- behind a declarator (6.2.1, paragraph 7)
 unfoldable pub with_local : Scope → (locks : List Bool) → (is_taken : Bool) → Decl → Here → Here
@@ -145,7 +145,7 @@ with_local scope locks is_taken d here = record {
 
 abbrev pub takes : Option (List ℕ) → Option Written → Lines → Bool
 takes None init rest = false
-takes (Some name) init rest = perhaps_mentions Address name init || have Address name rest false
+takes (Some name) init rest = perhaps_takes name init || takes_along name rest false
 
 -- that of what a line declares, in its initialiser or behind it
 abbrev pub is_taken : Line → (rest : Lines) → Bool

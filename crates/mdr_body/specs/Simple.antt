@@ -1,3 +1,4 @@
+-- protocol
 -- Statements that declare something (C99 6.7).
 use Rattle.std.specs.Prelude.{Bool, true, false}
 use Rattle.mdr_operand.specs.Written.{Line}

@@ -1,3 +1,4 @@
+-- believed
 -- Statements: what each comes to, and what is known behind it (C99 6.8).
 use Rattle.std.specs.Prelude.{ℕ, ◌&&◌, ◌||◌, not, nat_lt, Bool, true, false, List, [], ◌∷◌, ◌++◌, length, Option, Some, None}
 use Rattle.mdr_core.specs.declared.code.Expr.{Expr}
@@ -24,9 +25,8 @@ use Rattle.mdr_operand.specs.Forms.{scalar_at, expression_of}
 use Rattle.mdr_operand.specs.Written.{Written, Line, Lines}
 use Rattle.mdr_body.specs.declared.here.Frame.{Frame}
 use Rattle.mdr_body.specs.declared.here.Here.{Here}
-use Rattle.mdr_body.specs.declared.mention.Mention.TheVariants.{Address}
 use Rattle.mdr_body.specs.Locals.{local_object, is_own_object, with_local, is_taken, entered, left, numbered}
-use Rattle.mdr_body.specs.Mentions.{perhaps_mentions, has, have}
+use Rattle.mdr_body.specs.Addresses.{perhaps_takes, takes_at, takes_along}
 
 -- ---- what statements are made of
 
@@ -159,7 +159,7 @@ pair x y = Right (x, y)
 -- whether the address of what the head declares is taken in the head or in the body
 abbrev pub taken_behind : Option (List ℕ) → Option Written → (rest : Lines) → (test : Option Written) → (step : Lines) → (body : Line) → Bool
 taken_behind None init rest test step body = false
-taken_behind (Some name) init rest test step body = perhaps_mentions Address name init || have Address name rest (perhaps_mentions Address name test || (have Address name step false || has Address name body))
+taken_behind (Some name) init rest test step body = perhaps_takes name init || takes_along name rest (perhaps_takes name test || (takes_along name step false || takes_at name body))
 
 abbrev pub head_taken : Line → (rest : Lines) → (test : Option Written) → (step : Lines) → (body : Line) → Bool
 head_taken (Line.Local p d init) rest test step body = taken_behind (out-Decl d).name init rest test step body

@@ -1,18 +1,19 @@
 //! What the bodies of functions come to: blocks with their names, numbers and slots (C99 6.8, 6.9.1).
 #![tactic(auto)]
 
+mod address;
 mod here;
 mod locals;
-mod mention;
 mod release;
 mod simple;
 mod statement;
 mod typing;
+mod uses;
 mod whole;
 
+pub use address::{perhaps_takes, takes_along, takes_at, takes_in};
 pub use here::{DeclaredLocal, Frame, Here};
 pub use locals::{count, declare_local, first_here, leave, parameter_objects, struct_locks, takes};
-pub use mention::{Mention, has, have, mentions, perhaps_mentions, uses};
 pub use simple::{
     assigned, broken, called, condition, continued, local_made, perhaps_condition, returned,
     simple_made, single, stated,
@@ -22,4 +23,5 @@ pub use statement::{
     simple_counted, taken_at, while_of,
 };
 pub use typing::Typing;
+pub use uses::first_use;
 pub use whole::{Rule, body_of, body_rule, declared_locals, frame_of};

@@ -8,18 +8,17 @@ ghost use Rattle.mdr_faults.specs.Faults.{Checked, told, after, demand};
 ghost use Rattle.mdr_faults.specs.declared.fault.FaultKind.TheVariants.{Redefined, Mismatch, Limit};
 ghost use Rattle.mdr_syntax.specs.declared.tree.Decl.{Decl, out-Decl};
 ghost use Rattle.mdr_operand.specs.Written.{written_of, lines_of};
-ghost use Rattle.mdr_body.specs.declared.mention.Mention.TheVariants.{Address};
 ghost use Rattle.mdr_headings.specs.Within.{beside, within};
 ghost use Rattle.mdr_body.specs.Locals.{flag, holds_lock, object_lock, member_lock, any_lock, locks_behind, struct_locks, without_lock, local_object, is_own_object, lies_apart, name_of, named_local, local_of, is_in_block, is_again, has_place, is_no_constant, has_no_size, local_whole, names_here, local_declared, with_local, takes, entered, left, numbered, parameter_object, parameter_means, parameter_taken, parameters_from, first_here};
 
+use crate::address::{perhaps_takes, takes_along};
 use crate::here::{DeclaredLocal, Here};
-use crate::mention::{Mention, have, perhaps_mentions};
 use mdr_core::{Ann, Items, Local, Name, OutOfMemory, Place, Ty};
 use mdr_faults::{
     Candidate, Fault, FaultKind, Member, Object, Scope, StructEntry, copied, copied_type, demanded,
     mismatch, object_declared, parameter, small,
 };
-use mdr_headings::{bare, beside, declared_name, is_struct, short_params, within};
+use mdr_headings::{bare, beside, declared_name, good_params, is_struct, within};
 use mdr_operand::{LocalName, local_named};
 use mdr_syntax::{Const, Decl, Form, Node};
 use std::alloc::{AllocError, Global};
@@ -280,7 +279,7 @@ fn local_declared(
     let dropped = within_local(alloc, scope, here, d)?;
     let o = local_object(alloc, scope, locks, d)?;
     let lone = local_whole(again, is_taken, o);
-    let whole = beside(short_params(d), beside(dropped, lone));
+    let whole = beside(good_params(d), beside(dropped, lone));
     let sized = sized_rule(here, d, whole);
     Ok(local_rule(here, d.place, name.as_slice(), sized))
 }
@@ -338,9 +337,9 @@ pub fn declare_local(
     let means = local_declared(alloc, scope, locks, here, is_taken, d)?;
     match local_name(alloc, scope, locks, here.slot, is_taken, d) {
         Ok(named) => Ok(add_local(here, named, DeclaredLocal { means }, next)?),
-        Err(_) => {
+        Err(error) => {
             drop(means);
-            Err(OutOfMemory)
+            Err(error.into())
         }
     }
 }
@@ -354,8 +353,7 @@ pub fn takes(name: &Option<Name>, init: &Option<Form>, rest: &[Node]) -> bool
     match name {
         None => false,
         Some(name) => {
-            perhaps_mentions(Mention::Address, init, name.as_slice())
-                || have(Mention::Address, rest, name.as_slice(), false)
+            perhaps_takes(init, name.as_slice()) || takes_along(rest, name.as_slice(), false)
         }
     }
 }
@@ -365,7 +363,7 @@ fn parameter_taken(d: &Decl, body: &[Node]) -> bool
 {
     match &d.name {
         None => false,
-        Some(name) => have(Mention::Address, body, name.as_slice(), false),
+        Some(name) => takes_along(body, name.as_slice(), false),
     }
 }
 

@@ -11,7 +11,7 @@ ghost use Rattle.mdr_faults.specs.declared.scope.Object.{Object};
 ghost use Rattle.mdr_core.specs.declared.types.Ty.{Ty};
 ghost use Rattle.mdr_operand.specs.Written.{written_of, written_what};
 ghost use Rattle.mdr_body.specs.Locals.{with_local, is_own_object, local_object};
-ghost use Rattle.mdr_body.specs.Mentions.{line_what};
+ghost use Rattle.mdr_body.specs.Addresses.{line_what};
 ghost use Rattle.mdr_body.specs.declared.here.Here.{Here};
 ghost use Rattle.mdr_body.specs.Simple.{declares};
 ghost use Rattle.mdr_body.specs.Statements.{stmt, stated, tested, condition, some, perhaps_condition, text_of, takes_text, is_single, own_place, initial_by, initial_step, declared_then, local_made, jumped, bare_return, value_return, return_by, return_step, simple_made, simple_behind};

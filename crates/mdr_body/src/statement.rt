@@ -6,14 +6,13 @@ ghost use Rattle.mdr_core.specs.declared.code.Expr.{Expr};
 ghost use Rattle.mdr_core.specs.declared.code.Stmt.{Stmt};
 ghost use Rattle.mdr_faults.specs.Faults.{Checked, told, both};
 ghost use Rattle.mdr_operand.specs.Written.{written_of, line_of, lines_of, perhaps};
-ghost use Rattle.mdr_body.specs.declared.mention.Mention.TheVariants.{Address};
 ghost use Rattle.mdr_body.specs.Locals.{is_taken, entered, left, numbered};
-ghost use Rattle.mdr_body.specs.Mentions.{perhaps_mentions, has, have, line_what};
+ghost use Rattle.mdr_body.specs.Addresses.{perhaps_takes, takes_at, takes_along, line_what};
 ghost use Rattle.mdr_body.specs.Statements.{condition, perhaps_condition, pair, taken_behind, head_taken, heads_made, heads_behind, steps_made, steps_behind, ForHead, for_head, behind_head, as_part, if_of, while_of, for_of, simple_made, simple_behind, line_behind, perhaps_behind, lines_behind, line_made, perhaps_made, lines_made};
 
+use crate::address::{perhaps_takes, perhaps_takes_at, takes_along, takes_at};
 use crate::here::{Frame, Here};
 use crate::locals::{count, leave, takes};
-use crate::mention::{Mention, has, have, perhaps_has, perhaps_mentions};
 use crate::release::left_over;
 use crate::simple::{condition, perhaps_condition, simple_made, single};
 use crate::typing::Typing;
@@ -58,12 +57,10 @@ pub fn taken_at(n: &Node, nodes: &[Node], i: usize) -> bool
     is_taken(n, &nodes[i + 1..])
 }
 
-fn tail_has(test: &Option<Form>, step: &Option<Boxed<Node>>, body: &Node, name: &[u8]) -> bool
-    ensures { result ≡ (perhaps_mentions Address name.now (option_map written_of test.now) || (have Address name.now (perhaps (option_map line_of step.now)) false || has Address name.now (line_of body.now))) }
+fn tail_takes(test: &Option<Form>, step: &Option<Boxed<Node>>, body: &Node, name: &[u8]) -> bool
+    ensures { result ≡ (perhaps_takes name.now (option_map written_of test.now) || (takes_along name.now (perhaps (option_map line_of step.now)) false || takes_at name.now (line_of body.now))) }
 {
-    perhaps_mentions(Mention::Address, test, name)
-        || perhaps_has(Mention::Address, step, name)
-        || has(Mention::Address, body, name)
+    perhaps_takes(test, name) || perhaps_takes_at(step, name) || takes_at(body, name)
 }
 
 fn taken_behind(
@@ -79,9 +76,8 @@ fn taken_behind(
     match name {
         None => false,
         Some(name) => {
-            let behind = tail_has(test, step, body, name.as_slice());
-            perhaps_mentions(Mention::Address, init, name.as_slice())
-                || have(Mention::Address, rest, name.as_slice(), behind)
+            let behind = tail_takes(test, step, body, name.as_slice());
+            perhaps_takes(init, name.as_slice()) || takes_along(rest, name.as_slice(), behind)
         }
     }
 }

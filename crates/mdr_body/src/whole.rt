@@ -6,15 +6,15 @@ ghost use Rattle.mdr_core.specs.declared.program.Local.{Local};
 ghost use Rattle.mdr_faults.specs.Faults.{Checked, told, both};
 ghost use Rattle.mdr_operand.specs.Written.{lines_of};
 ghost use Rattle.mdr_body.specs.Locals.{first_here, parameter_taken};
-ghost use Rattle.mdr_body.specs.Mentions.{uses};
+ghost use Rattle.mdr_body.specs.Uses.{first_use};
 ghost use Rattle.mdr_body.specs.Bodies.{declared_locals, frame_of, body_of, body_by, body_rule};
 
 use crate::here::{DeclaredLocal, Frame, Here};
 use crate::locals::{first_here, parameter_objects, struct_locks};
-use crate::mention::uses;
 use crate::statement::lines;
 use crate::typing::Typing;
-use mdr_core::{Items, Local, OutOfMemory, Stmt};
+use crate::uses::first_use;
+use mdr_core::{Items, Local, OutOfMemory, Place, Stmt};
 use mdr_faults::{Fault, Scope, both, extended};
 use mdr_headings::{Bodies, Body, head_result};
 use mdr_syntax::{Head, Node};
@@ -122,7 +122,7 @@ pub struct Rule<R> {
 impl<R: Typing> Bodies for Rule<R> {
     ghost rule = { λ self. body_rule (R.rules self.typing) };
 
-    ghost used = { λ self. uses };
+    ghost used = { λ self. first_use };
 
     fn body(
         &self,
@@ -134,7 +134,7 @@ impl<R: Typing> Bodies for Rule<R> {
         body_rule(alloc, &self.typing, scope, h, nodes)
     }
 
-    fn uses(&self, h: &Head, nodes: &[Node], name: &[u8]) -> bool {
-        uses(h, nodes, name)
+    fn first_use(&self, h: &Head, nodes: &[Node], name: &[u8]) -> Option<Place> {
+        first_use(h, nodes, name)
     }
 }

@@ -1,3 +1,4 @@
+-- believed
 -- The arguments of a call (C99 6.5.2.2).
 use Rattle.std.specs.Prelude.{ℕ, ◌==◌, ◌+◌, List, [], ◌∷◌, length, Option, Some, None, slice_get}
 use Rattle.mdr_core.specs.declared.code.Callee.{Callee}

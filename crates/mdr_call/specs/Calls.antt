@@ -1,3 +1,4 @@
+-- believed
 -- Calls: of functions by name or through a pointer, and of services (C99 6.5.2.2).
 use Rattle.std.specs.Prelude.{Bool, true, false, List, [], Option, Some, None}
 use Rattle.mdr_core.specs.declared.place.Place.{Place}

@@ -1,3 +1,4 @@
+-- believed
 -- Calls of functions (C99 6.5.2.2).
 use Rattle.std.specs.Prelude.{Bool, true, false, List, Option, Some, None, slice_get}
 use Rattle.mdr_core.specs.declared.code.Callee.TheVariants as callee

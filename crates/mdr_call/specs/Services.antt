@@ -1,3 +1,4 @@
+-- believed
 -- Calls of the kernel's services: which there are, and what each takes and gives.
 use Rattle.std.specs.Prelude.{ℕ, ◌==◌, ◌&&◌, Bool, false, List, [], ◌∷◌, codes, length, map, Option, Some, None, slice_get}
 use Rattle.std.specs.Str.{bytes_eq}

@@ -1,3 +1,4 @@
+-- protocol
 -- How the text of a `printk` is read, byte by byte.
 use Rattle.std.specs.Prelude.{ℕ, ◌==◌, List, Option, Some, None}
 use Rattle.mdr_core.specs.declared.kind.Kind.{Kind}

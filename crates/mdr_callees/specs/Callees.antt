@@ -1,3 +1,4 @@
+-- believed
 -- What running code does with functions, bounded by what the slicer says of a program.
 use Rattle.std.specs.Prelude.{◌≡◌, ℕ, Bool, true, false, List, [], Some, slice_get, get_or}
 use Rattle.mdr_core.specs.declared.plan.Half.TheVariants.{Kernel, User}

@@ -1,3 +1,4 @@
+-- for proofs
 -- The programs of which a plan is read from its text.
 use Rattle.std.specs.Prelude.{◌≡◌, ℕ, ◌^◌, ◌≤◌, List, length, map, Some, slice_get, IsTrue}
 use Rattle.mdr_core.specs.declared.plan.Plan.{Plan}

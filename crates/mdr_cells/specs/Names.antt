@@ -1,3 +1,4 @@
+-- protocol
 -- Cells by their names.
 use Rattle.std.specs.Prelude.{◌≡◌, true, List, map}
 use Rattle.mdr_cells.specs.declared.name.CellName.{CellName}

@@ -12,7 +12,7 @@ use std::alloc::Global;
 use std::marker::Model;
 
 /// A set of cells, which contracts see as the rising list of its cells.
-#[derive(Debug, Drop)]
+#[derive(Drop)]
 pub struct CellSet {
     names: Vec<CellName>,
 }

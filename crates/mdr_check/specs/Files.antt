@@ -1,3 +1,4 @@
+-- believed
 -- A whole file: its items in their order, each where those before it stand (C99 6.9).
 use Rattle.std.specs.Prelude.{ℕ, ◌+◌, ◌==◌, not, Bool, true, false, Ok, List, [], ◌∷◌, ◌++◌, map, length}
 use Rattle.mdr_core.specs.declared.place.Place.{Place}
@@ -22,7 +23,7 @@ use Rattle.mdr_headings.specs.Annotations.{candidate}
 use Rattle.mdr_faults.specs.Declarations.{number_constant}
 use Rattle.mdr_faults.specs.Enums.{with_name, new_name, enumerators, behind_enumerators}
 use Rattle.mdr_faults.specs.Faults.{Checked, Right, after, both, demand, next}
-use Rattle.mdr_headings.specs.Functions.{is_defined, behind_function, function_declared, functions_behind}
+use Rattle.mdr_headings.specs.Functions.{behind_function, function_declared, functions_behind}
 use Rattle.mdr_check.specs.Globals.{global, behind_global}
 use Rattle.mdr_faults.specs.Scopes.{tag_named}
 use Rattle.mdr_headings.specs.Source.{is_numbered, behind_struct, before_first, scope_of, tags_from, defines_from}
@@ -61,19 +62,19 @@ abbrev pub function_of : List ℕ → Bool → Heading → Body → Checked Piec
 function_of name is_critical h b = Right (piece.Function name is_critical h b)
 
 -- the scope in which a function's body stands: its name is declared there already (6.2.1, paragraph 7)
-abbrev pub body_scope : (items : List Item) → Known → Head → Scope
-body_scope items known h = behind_function known.scope (length known.functions) (is_defined items h.name) h
+abbrev pub body_scope : Known → Head → Scope
+body_scope known h = behind_function known.scope (length known.functions) h
 
--- an item of a file of these items, behind some of them, of which this is known
-abbrev pub item_piece : BodyRule → (items before : List Item) → Known → Place → ItemWhat → Checked Piece
-item_piece body items before known p (item.Define name is_negative n k) = define_piece known.scope p name
-item_piece body items before known p (item.Struct at name ds) = struct_piece known.scope at name ds
-item_piece body items before known p (item.Enum es) = nothing (enumerators known.scope before_first es)
-item_piece body items before known p (item.Global d init) = after (global known.scope known.globals d init) global_of
-item_piece body items before known p (item.Proto h is_remote) = after (function_declared known.scope known.functions before h false) (prototype_of h.name)
-item_piece body items before known p (item.Func h is_critical nodes) =
+-- an item behind others, of which this is known
+abbrev pub item_piece : BodyRule → (before : List Item) → Known → Place → ItemWhat → Checked Piece
+item_piece body before known p (item.Define name is_negative n k) = define_piece known.scope p name
+item_piece body before known p (item.Struct at name ds) = struct_piece known.scope at name ds
+item_piece body before known p (item.Enum es) = nothing (enumerators known.scope before_first es)
+item_piece body before known p (item.Global d init) = after (global known.scope known.globals d init) global_of
+item_piece body before known p (item.Proto h is_remote) = after (function_declared known.scope known.functions before h false) (prototype_of h.name)
+item_piece body before known p (item.Func h is_critical nodes) =
     both (function_declared known.scope known.functions before h true)
-    (body (body_scope items known h) h nodes)
+    (body (body_scope known h) h nodes)
     (function_of h.name is_critical)
 
 -- ---- what is known behind it
@@ -81,26 +82,26 @@ item_piece body items before known p (item.Func h is_critical nodes) =
 abbrev pub with_scope : Known → Scope → Known
 with_scope known scope = record known { scope = scope }
 
-abbrev pub behind_head : (items : List Item) → Known → Head → Known
-behind_head items known h = record { scope = body_scope items known h; globals = known.globals; functions = functions_behind known.scope known.functions h }
+abbrev pub behind_head : Known → Head → Known
+behind_head known h = record { scope = body_scope known h; globals = known.globals; functions = functions_behind known.scope known.functions h }
 
-abbrev pub behind_item : (items : List Item) → Known → ItemWhat → Known
-behind_item items known (item.Define name is_negative n k) = with_scope known (with_name known.scope name (Ok (entity.Constant (number_constant is_negative n k))))
-behind_item items known (item.Struct at name ds) = with_scope known (behind_struct known.scope at name ds)
-behind_item items known (item.Enum es) = with_scope known (behind_enumerators known.scope before_first es)
-behind_item items known (item.Global d init) = record { scope = behind_global known.scope known.globals d; globals = known.globals + 1; functions = known.functions }
-behind_item items known (item.Proto h is_remote) = behind_head items known h
-behind_item items known (item.Func h is_critical nodes) = behind_head items known h
+abbrev pub behind_item : Known → ItemWhat → Known
+behind_item known (item.Define name is_negative n k) = with_scope known (with_name known.scope name (Ok (entity.Constant (number_constant is_negative n k))))
+behind_item known (item.Struct at name ds) = with_scope known (behind_struct known.scope at name ds)
+behind_item known (item.Enum es) = with_scope known (behind_enumerators known.scope before_first es)
+behind_item known (item.Global d init) = record { scope = behind_global known.scope known.globals d; globals = known.globals + 1; functions = known.functions }
+behind_item known (item.Proto h is_remote) = behind_head known h
+behind_item known (item.Func h is_critical nodes) = behind_head known h
 
 -- ---- all items
 
-unfoldable pub pieces_behind : BodyRule → (items : List Item) → Known → (before : List Item) → List Item → Checked (List Piece)
-pieces_behind body items known before [] = Right []
-pieces_behind body items known before (i ∷ is) = next (item_piece body items before known i.place i.what) (pieces_behind body items (behind_item items known i.what) (before ++ i ∷ []) is)
+unfoldable pub pieces_behind : BodyRule → Known → (before : List Item) → List Item → Checked (List Piece)
+pieces_behind body known before [] = Right []
+pieces_behind body known before (i ∷ is) = next (item_piece body before known i.place i.what) (pieces_behind body (behind_item known i.what) (before ++ i ∷ []) is)
 
-unfoldable pub known_behind : (items : List Item) → Known → List Item → Known
-known_behind items known [] = known
-known_behind items known (i ∷ is) = known_behind items (behind_item items known i.what) is
+unfoldable pub known_behind : Known → List Item → Known
+known_behind known [] = known
+known_behind known (i ∷ is) = known_behind (behind_item known i.what) is
 
 -- ---- what is known before the first item
 

@@ -1,3 +1,4 @@
+-- believed
 -- Globals (C99 6.7, 6.9.2).
 use Rattle.std.specs.Prelude.{ℕ, ◌==◌, not, List, [], ◌∷◌, Option, Some, None, Result, Ok, Err}
 use Rattle.mdr_core.specs.declared.place.Place.{Place}

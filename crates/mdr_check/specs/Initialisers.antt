@@ -1,3 +1,4 @@
+-- believed
 -- First values of globals (C99 6.7.8).
 use Rattle.std.specs.Prelude.{ℕ, ◌+◌, ◌-◌, ◌==◌, ◌&&◌, ◌||◌, not, nat_lt, Bool, true, false, pos, List, [], ◌∷◌, ◌++◌, length, find, position, Option, Some, None, is_some, is_none, slice_get}
 use Rattle.std.specs.List.{list_all, list_any}
@@ -16,7 +17,7 @@ use Rattle.mdr_syntax.specs.declared.tree.FieldName.{FieldName}
 use Rattle.mdr_syntax.specs.declared.tree.Init.{Init}
 use Rattle.mdr_syntax.specs.declared.tree.Init.TheOpen.{Init-F, Elem-F}
 use Rattle.mdr_syntax.specs.declared.tree.Init.TheFolds.{fold-Init, fold-Elem}
-use Rattle.mdr_faults.specs.declared.fault.FaultKind.TheVariants.{UnknownName, Mismatch, Incomplete}
+use Rattle.mdr_faults.specs.declared.fault.FaultKind.TheVariants.{UnknownName, Mismatch}
 use Rattle.mdr_check.specs.declared.initialiser.First.{First}
 use Rattle.mdr_check.specs.declared.initialiser.First.TheVariants as first
 use Rattle.mdr_check.specs.declared.initialiser.Placed.{Placed}
@@ -66,7 +67,7 @@ is_any_pointer_by Ty-F.Void = false
 abbrev pub null_first : Place → Ty → Checked First
 null_first p t = null_if p (is_any_pointer_by (out-Ty t))
 
--- a function's address is of its own type alone
+-- a function's address, with `&` or without (6.3.2.1, paragraph 4), is of its own type alone. Whether the function is defined is asked of the whole file
 abbrev pub handle_first : Place → Signature → Ty-F Ty → Checked First
 handle_first p s (Ty-F.Int k) = refuse p Mismatch
 handle_first p s Ty-F.Lock = refuse p Mismatch
@@ -76,18 +77,14 @@ handle_first p s Ty-F.VoidPtr = refuse p Mismatch
 handle_first p s (Ty-F.Fun ts) = chosen (are_alike ts (s.result ∷ s.params)) (Right (first.Function s.number)) (refuse p Mismatch)
 handle_first p s Ty-F.Void = refuse p Mismatch
 
--- a function's name, with `&` or without (6.3.2.1, paragraph 4). It is used here, so it is defined somewhere
-abbrev pub function_first : (at p : Place) → Signature → Ty → Checked First
-function_first at p s t = chosen s.is_defined (handle_first p s (out-Ty t)) (refuse at Incomplete)
-
-abbrev pub entity_first : (at p : Place) → Ty → Entity → Checked First
-entity_first at p t (entity.Constant c) = number_first p false c (out-Ty t)
-entity_first at p t (entity.Global g object) = refuse p Mismatch
-entity_first at p t (entity.Function s) = function_first at p s t
+abbrev pub entity_first : Place → Ty → Entity → Checked First
+entity_first p t (entity.Constant c) = number_first p false c (out-Ty t)
+entity_first p t (entity.Global g object) = refuse p Mismatch
+entity_first p t (entity.Function s) = handle_first p s (out-Ty t)
 
 abbrev pub named_first : (at p : Place) → Ty → Option Named → Checked First
 named_first at p t None = refuse at UnknownName
-named_first at p t (Some entry) = after (again entry.means) (entity_first at p t)
+named_first at p t (Some entry) = after (again entry.means) (entity_first p t)
 
 -- a constant of the declaration at place p, for a scalar of this type
 abbrev pub constant_first : Scope → Place → Const → Ty → Checked First
@@ -111,14 +108,14 @@ address_first p may_be g object (Ty-F.Fun ts) = refuse p Mismatch
 address_first p may_be g object Ty-F.Void = refuse p Mismatch
 
 -- what `&` stands before is an earlier global that is no array, or a function
-abbrev pub located_first : (own : ℕ) → (at p : Place) → Ty → Entity → Checked First
-located_first own at p t (entity.Constant c) = refuse p Mismatch
-located_first own at p t (entity.Global g object) = address_first p (nat_lt g own && not object.array) g object (out-Ty t)
-located_first own at p t (entity.Function s) = function_first at p s t
+abbrev pub located_first : (own : ℕ) → Place → Ty → Entity → Checked First
+located_first own p t (entity.Constant c) = refuse p Mismatch
+located_first own p t (entity.Global g object) = address_first p (nat_lt g own && not object.array) g object (out-Ty t)
+located_first own p t (entity.Function s) = handle_first p s (out-Ty t)
 
 abbrev pub address_named : (own : ℕ) → (at p : Place) → Ty → Option Named → Checked First
 address_named own at p t None = refuse at UnknownName
-address_named own at p t (Some entry) = after (again entry.means) (located_first own at p t)
+address_named own at p t (Some entry) = after (again entry.means) (located_first own p t)
 
 -- ---- what takes a single value
 

@@ -1,3 +1,4 @@
+-- believed
 -- The type table of a program.
 use Rattle.std.specs.Prelude.{ℕ, zero, suc, ◌+◌, not, Bool, true, false, List, [], ◌∷◌, ◌++◌, map, length, insert, position, Option, Some, None, slice_get}
 use Rattle.std.specs.Str.{bytes_eq}

@@ -1,3 +1,4 @@
+-- believed
 -- A whole file: what its items come to, or all faults in it.
 use Rattle.std.specs.Prelude.{List, []}
 use Rattle.mdr_core.specs.declared.place.Place.{Place}
@@ -18,7 +19,7 @@ named u xs = Right xs
 unfoldable pub file_pieces : BodyRule → UseRule → List Item → Checked (List Piece)
 file_pieces body uses items =
     both (short_items items)
-    (both (pieces_behind body items (first_known items) [] items)
-    (defined_functions uses items (known_behind items (first_known items) items).functions)
+    (both (pieces_behind body (first_known items) [] items)
+    (defined_functions uses items (known_behind (first_known items) items).functions)
     kept)
     named

@@ -193,20 +193,18 @@ fn prototype_of(name: Name, heading: Result<Heading, Fault>) -> Result<Piece, Fa
 
 fn prototype(
     alloc: Global,
-    items: &[Item],
     before: &[Item],
     known: &mut Known,
     h: &Head,
 ) -> Result<Result<Piece, Fault>, OutOfMemory>
     ensures told { IfOk result (λ r. r ≡ told (after (function_declared known.old.scope known.old.functions before.now h.now false) (prototype_of h.now.name))) }
-    ensures grown { OnOk result (known.new ≡ behind_head items.now known.old h.now) }
+    ensures grown { OnOk result (known.new ≡ behind_head known.old h.now) }
 {
     let name = copied(alloc, h.name.as_slice())?;
     let heading = function_declared(
         alloc,
         &mut known.scope,
         &mut known.functions,
-        items,
         before,
         h,
         false,
@@ -231,22 +229,20 @@ fn function_of(
 fn function<B: Bodies>(
     alloc: Global,
     bodies: &B,
-    items: &[Item],
     before: &[Item],
     known: &mut Known,
     h: &Head,
     is_critical: bool,
     nodes: &[Node],
 ) -> Result<Result<Piece, Fault>, OutOfMemory>
-    ensures told { IfOk result (λ r. r ≡ told (both (function_declared known.old.scope known.old.functions before.now h.now true) (B.rule bodies.now (body_scope items.now known.old h.now) h.now nodes.now) (function_of h.now.name is_critical))) }
-    ensures grown { OnOk result (known.new ≡ behind_head items.now known.old h.now) }
+    ensures told { IfOk result (λ r. r ≡ told (both (function_declared known.old.scope known.old.functions before.now h.now true) (B.rule bodies.now (body_scope known.old h.now) h.now nodes.now) (function_of h.now.name is_critical))) }
+    ensures grown { OnOk result (known.new ≡ behind_head known.old h.now) }
 {
     let name = copied(alloc, h.name.as_slice())?;
     let heading = function_declared(
         alloc,
         &mut known.scope,
         &mut known.functions,
-        items,
         before,
         h,
         true,
@@ -260,18 +256,17 @@ fn function<B: Bodies>(
     }
 }
 
-/// An item behind those before it, in a file of these items; and what is known behind it.
+/// An item behind those before it, and what is known behind it.
 fn item<B: Bodies>(
     alloc: Global,
     bodies: &B,
-    items: &[Item],
     before: &[Item],
     known: &mut Known,
     place: Place,
     what: &ItemWhat,
 ) -> Result<Result<Piece, Fault>, OutOfMemory>
-    ensures told { IfOk result (λ r. r ≡ told (item_piece (B.rule bodies.now) items.now before.now known.old place what.now)) }
-    ensures grown { OnOk result (known.new ≡ behind_item items.now known.old what.now) }
+    ensures told { IfOk result (λ r. r ≡ told (item_piece (B.rule bodies.now) before.now known.old place what.now)) }
+    ensures grown { OnOk result (known.new ≡ behind_item known.old what.now) }
 {
     match what {
         ItemWhat::Define(name, is_negative, n, kind) => {
@@ -281,11 +276,10 @@ fn item<B: Bodies>(
         ItemWhat::Struct(at, name, ds) => structure(alloc, known, *at, name, ds.as_slice()),
         ItemWhat::Enum(es) => Ok(enumeration(alloc, known, es.as_slice())?),
         ItemWhat::Global(d, init) => variable(alloc, known, d, init),
-        ItemWhat::Proto(h, _) => prototype(alloc, items, before, known, h),
+        ItemWhat::Proto(h, _) => prototype(alloc, before, known, h),
         ItemWhat::Func(h, is_critical, nodes) => function(
             alloc,
             bodies,
-            items,
             before,
             known,
             h,
@@ -380,9 +374,9 @@ pub fn first_known(alloc: Global, items: &[Item]) -> Result<Known, OutOfMemory>
             globals: 0,
             functions: Names::new(alloc),
         }),
-        Err(_) => {
+        Err(error) => {
             drop(scope);
-            Err(OutOfMemory)
+            Err(error.into())
         }
     }
 }
@@ -397,13 +391,13 @@ pub fn pieces_behind<B: Bodies>(
     known: &mut Known,
     items: &[Item],
 ) -> Result<Result<Items<Piece>, Fault>, OutOfMemory>
-    ensures told { IfOk result (λ r. r ≡ told (pieces_behind (B.rule bodies.now) items.now known.old [] items.now)) }
-    ensures grown { OnOk result (known.new ≡ known_behind items.now known.old items.now) }
+    ensures told { IfOk result (λ r. r ≡ told (pieces_behind (B.rule bodies.now) known.old [] items.now)) }
+    ensures grown { OnOk result (known.new ≡ known_behind known.old items.now) }
 {
     let mut all = Ok(Items::new(alloc));
     for i in 0..items.len() {
         let it = &items[i];
-        let piece = item(alloc, bodies, items, &items[..i], known, it.place, &it.what)?;
+        let piece = item(alloc, bodies, &items[..i], known, it.place, &it.what)?;
         all = extended(all, piece)?;
     }
     Ok(all)

@@ -9,7 +9,7 @@ ghost use Rattle.mdr_syntax.specs.declared.tree.Elem.{out-Elem};
 ghost use Rattle.mdr_faults.specs.Faults.{Checked, Right, told, refuse, demand, after};
 ghost use Rattle.mdr_faults.specs.declared.fault.FaultKind.TheVariants.{UnknownName, Mismatch};
 ghost use Rattle.mdr_faults.specs.Alike.{are_alike};
-ghost use Rattle.mdr_check.specs.Initialisers.{null_if, number_first, is_any_pointer_by, null_first, handle_first, function_first, entity_first, named_first, constant_first, address_if, address_first, located_first, address_named, is_aggregate, sole, single, left_of, characters, has_room, text_by, takes_text, text_first, field_of, are_plain, are_named, is_same_field, are_once, elements_first, element_of, array_first, suits_array, numbered, part_number, placed, placed_at, placed_by, placed_parts, member_first, part_for, members_first, suits_struct, struct_first, struct_by, list_by, list_first, initial, part};
+ghost use Rattle.mdr_check.specs.Initialisers.{null_if, number_first, is_any_pointer_by, null_first, handle_first, entity_first, named_first, constant_first, address_if, address_first, located_first, address_named, is_aggregate, sole, single, left_of, characters, has_room, text_by, takes_text, text_first, field_of, are_plain, are_named, is_same_field, are_once, elements_first, element_of, array_first, suits_array, numbered, part_number, placed, placed_at, placed_by, placed_parts, member_first, part_for, members_first, suits_struct, struct_first, struct_by, list_by, list_first, initial, part};
 
 use mdr_arith::conv;
 use mdr_core::{Items, Kind, Name, Place, Ty};
@@ -108,25 +108,13 @@ fn handle_first(place: Place, s: &Signature, ty: &Ty) -> Result<First, Fault>
     }
 }
 
-fn function_first(at: Place, place: Place, s: &Signature, ty: &Ty) -> Result<First, Fault>
-    ensures { result ≡ told (function_first at place s.now ty.now) }
-{
-    if !s.is_defined {
-        return Err(Fault {
-            place: at,
-            kind: FaultKind::Incomplete,
-        });
-    }
-    handle_first(place, s, ty)
-}
-
-fn entity_first(at: Place, place: Place, ty: &Ty, entity: &Entity) -> Result<First, Fault>
-    ensures { result ≡ told (entity_first at place ty.now entity.now) }
+fn entity_first(place: Place, ty: &Ty, entity: &Entity) -> Result<First, Fault>
+    ensures { result ≡ told (entity_first place ty.now entity.now) }
 {
     match entity {
         Entity::Constant(c) => number_first(place, false, *c, ty),
         Entity::Global(_, _) => mismatch(place),
-        Entity::Function(s) => function_first(at, place, s, ty),
+        Entity::Function(s) => handle_first(place, s, ty),
     }
 }
 
@@ -139,7 +127,7 @@ fn named_first(at: Place, place: Place, ty: &Ty, entry: Option<&Named>) -> Resul
             kind: FaultKind::UnknownName,
         }),
         Some(entry) => match &entry.means {
-            Ok(entity) => entity_first(at, place, ty, entity),
+            Ok(entity) => entity_first(place, ty, entity),
             Err(fault) => Err(*fault),
         },
     }
@@ -185,14 +173,8 @@ fn address_first(
     }
 }
 
-fn located_first(
-    own: u32,
-    at: Place,
-    place: Place,
-    ty: &Ty,
-    entity: &Entity,
-) -> Result<First, Fault>
-    ensures { result ≡ told (located_first own at place ty.now entity.now) }
+fn located_first(own: u32, place: Place, ty: &Ty, entity: &Entity) -> Result<First, Fault>
+    ensures { result ≡ told (located_first own place ty.now entity.now) }
 {
     match entity {
         Entity::Constant(_) => mismatch(place),
@@ -203,7 +185,7 @@ fn located_first(
             object,
             ty,
         ),
-        Entity::Function(s) => function_first(at, place, s, ty),
+        Entity::Function(s) => handle_first(place, s, ty),
     }
 }
 
@@ -222,7 +204,7 @@ fn address_named(
             kind: FaultKind::UnknownName,
         }),
         Some(entry) => match &entry.means {
-            Ok(entity) => located_first(own, at, place, ty, entity),
+            Ok(entity) => located_first(own, place, ty, entity),
             Err(fault) => Err(*fault),
         },
     }

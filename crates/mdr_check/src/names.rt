@@ -1,13 +1,13 @@
-// The names that a file declares have a greatest length.
+// The names that a file declares have a greatest length, and those of the parameters of one list are different.
 
 ghost use Rattle.std.specs.Prelude.{◌≡◌};
 ghost use Rattle.mdr_faults.specs.Faults.{told};
-ghost use Rattle.mdr_headings.specs.Names.{as_well, short_decls, short_name};
+ghost use Rattle.mdr_headings.specs.Names.{all_good_names, as_well, short_name};
 ghost use Rattle.mdr_check.specs.Names.{short_enumerators, short_head, short_items, short_what};
 
 use mdr_core::{Name, Place};
 use mdr_faults::Fault;
-use mdr_headings::{as_well, first_of, short_decl, short_decls, short_name};
+use mdr_headings::{all_good_names, as_well, first_of, good_list, good_names, short_name};
 use mdr_syntax::{Decl, Enumerator, Head, Item, ItemWhat};
 
 #[tactic(auto, using(mdr_headings::proofs::Shortness::nothing_before, mdr_headings::proofs::Shortness::nothing_behind))]
@@ -24,16 +24,13 @@ fn short_enumerators(es: &[Enumerator]) -> Result<(), Fault>
 fn short_head(h: &Head) -> Result<(), Fault>
     ensures { result ≡ told (short_head h.now) }
 {
-    as_well(
-        short_name(h.place, &h.name),
-        short_decls(h.params.as_slice()),
-    )
+    as_well(short_name(h.place, &h.name), good_list(h.params.as_slice()))
 }
 
 fn short_struct(place: Place, name: &Name, ds: &[Decl]) -> Result<(), Fault>
-    ensures { result ≡ told (as_well (short_name place name.now) (short_decls ds.now)) }
+    ensures { result ≡ told (as_well (short_name place name.now) (all_good_names ds.now)) }
 {
-    as_well(short_name(place, name), short_decls(ds))
+    as_well(short_name(place, name), all_good_names(ds))
 }
 
 fn short_what(place: Place, what: &ItemWhat) -> Result<(), Fault>
@@ -43,7 +40,7 @@ fn short_what(place: Place, what: &ItemWhat) -> Result<(), Fault>
         ItemWhat::Define(name, _, _, _) => short_name(place, name),
         ItemWhat::Struct(at, name, ds) => short_struct(*at, name, ds.as_slice()),
         ItemWhat::Enum(es) => short_enumerators(es.as_slice()),
-        ItemWhat::Global(d, _) => short_decl(d),
+        ItemWhat::Global(d, _) => good_names(d),
         ItemWhat::Proto(h, _) => short_head(h),
         ItemWhat::Func(h, _, _) => short_head(h),
     }

@@ -1,9 +1,9 @@
-// Functions are defined where they are used, and where they aren't (C99 6.9).
+// Each function that a file declares is defined in it (C99 6.9, paragraphs 3 and 5).
 
-ghost use Rattle.std.specs.Prelude.{◌≡◌, ◌||◌, map, IfOk};
+ghost use Rattle.std.specs.Prelude.{◌≡◌, map, Some, None, IfOk};
+ghost use Rattle.mdr_core.specs.Layout.{chosen};
 ghost use Rattle.mdr_faults.specs.Faults.{told};
-ghost use Rattle.mdr_headings.specs.Functions.{is_defined};
-ghost use Rattle.mdr_check.specs.Uses.{const_names, any_of, init_names, elem_names, perhaps_names, uses_by, is_used, defined_rule, defined_functions};
+ghost use Rattle.mdr_check.specs.Uses.{const_use, first_of, init_use, elem_use, perhaps_use, item_use, use_among, constant_at, constant_among, undefined_at, undefined_by, undefined, defined_rule, defined_functions};
 
 use mdr_core::{Items, Place};
 use mdr_faults::{Fault, FaultKind, extended};
@@ -11,102 +11,170 @@ use mdr_headings::{Bodies, Declared, is_defined};
 use mdr_syntax::{Const, Elem, Init, Item, ItemWhat};
 use std::alloc::{AllocError, Global};
 
-fn const_names(c: &Const, name: &[u8]) -> bool
-    ensures { result ≡ const_names name.now c.now }
+// ---- the first use
+
+fn place_if(test: bool, place: Place) -> Option<Place>
+    ensures { result ≡ chosen test (Some place) None }
+{
+    if test { Some(place) } else { None }
+}
+
+fn const_use(c: &Const, name: &[u8]) -> Option<Place>
+    ensures { result ≡ const_use name.now c.now }
 {
     match c {
-        Const::Number(_, _, _, _) => false,
-        Const::Name(_, other) => other.as_slice() == name,
+        Const::Number(_, _, _, _) => None,
+        Const::Name(at, other) => place_if(other.as_slice() == name, *at),
     }
 }
 
-/// Whether an initialiser has this name in it.
-#[cycle(init_names)]
-fn init_names(init: &Init, name: &[u8]) -> bool
-    ensures { result ≡ init_names name.now init.now }
+/// Where an initialiser first has this name in it.
+#[cycle(init_use)]
+fn init_use(init: &Init, name: &[u8]) -> Option<Place>
+    ensures { result ≡ init_use name.now init.now }
 {
     match init {
-        Init::Const(c) => const_names(c, name),
-        Init::Null(_) => false,
-        Init::Address(_, other) => other.as_slice() == name,
-        Init::Text(_, _) => false,
-        Init::List(_, elems) => elems_name(elems.as_slice(), name),
+        Init::Const(c) => const_use(c, name),
+        Init::Null(_) => None,
+        Init::Address(at, other) => place_if(other.as_slice() == name, *at),
+        Init::Text(_, _) => None,
+        Init::List(_, elems) => elems_use(elems.as_slice(), name),
     }
 }
 
-#[cycle(init_names)]
-fn elem_names(e: &Elem, name: &[u8]) -> bool
-    ensures { result ≡ elem_names name.now e.now }
+#[cycle(init_use)]
+fn elem_use(e: &Elem, name: &[u8]) -> Option<Place>
+    ensures { result ≡ elem_use name.now e.now }
 {
-    init_names(&e.init, name)
+    init_use(&e.init, name)
 }
 
-#[cycle(init_names)]
-fn elems_name(elems: &[Elem], name: &[u8]) -> bool
-    ensures { result ≡ any_of (map (elem_names name.now) elems.now) }
+#[cycle(init_use)]
+fn elems_use(elems: &[Elem], name: &[u8]) -> Option<Place>
+    ensures { result ≡ first_of (map (elem_use name.now) elems.now) }
 {
     for e in elems {
-        if elem_names(e, name) {
-            return true;
+        if let Some(place) = elem_use(e, name) {
+            return Some(place);
         }
     }
-    false
+    None
 }
 
-fn perhaps_names(init: &Option<Init>, name: &[u8]) -> bool
-    ensures { result ≡ perhaps_names name.now init.now }
+fn perhaps_use(init: &Option<Init>, name: &[u8]) -> Option<Place>
+    ensures { result ≡ perhaps_use name.now init.now }
 {
     match init {
-        None => false,
-        Some(init) => init_names(init, name),
+        None => None,
+        Some(init) => init_use(init, name),
     }
 }
 
-fn uses<B: Bodies>(bodies: &B, what: &ItemWhat, name: &[u8]) -> bool
-    ensures { result ≡ uses_by (B.used bodies.now) name.now what.now }
+fn item_use<B: Bodies>(bodies: &B, what: &ItemWhat, name: &[u8]) -> Option<Place>
+    ensures { result ≡ item_use (B.used bodies.now) name.now what.now }
 {
     match what {
-        ItemWhat::Global(_, init) => perhaps_names(init, name),
-        ItemWhat::Func(h, _, nodes) => bodies.uses(h, nodes.as_slice(), name),
+        ItemWhat::Global(_, init) => perhaps_use(init, name),
+        ItemWhat::Func(h, _, nodes) => bodies.first_use(h, nodes.as_slice(), name),
         ItemWhat::Define(_, _, _, _)
         | ItemWhat::Struct(_, _, _)
         | ItemWhat::Enum(_)
-        | ItemWhat::Proto(_, _) => false,
+        | ItemWhat::Proto(_, _) => None,
     }
 }
 
-/// Whether one of these items uses this name.
-#[tactic(auto, unfolding(crate::specs::Uses::is_used))]
-fn is_used<B: Bodies>(bodies: &B, items: &[Item], name: &[u8]) -> bool
-    ensures { result ≡ is_used (B.used bodies.now) name.now items.now }
+/// Where the first of these items uses this name that does.
+#[tactic(auto, unfolding(crate::specs::Uses::use_among))]
+fn use_among<B: Bodies>(bodies: &B, items: &[Item], name: &[u8]) -> Option<Place>
+    ensures { result ≡ use_among (B.used bodies.now) name.now items.now }
 {
     for item in items {
-        if uses(bodies, &item.what, name) {
-            return true;
+        if let Some(place) = item_use(bodies, &item.what, name) {
+            return Some(place);
         }
     }
-    false
+    None
 }
 
-fn may_be_undefined<B: Bodies>(bodies: &B, items: &[Item], name: &[u8]) -> bool
-    ensures { result ≡ (is_defined items.now name.now || is_used (B.used bodies.now) name.now items.now) }
+// ---- the first `#define`
+
+fn constant_at(place: Place, what: &ItemWhat, name: &[u8]) -> Option<Place>
+    ensures { result ≡ constant_at name.now place what.now }
 {
-    is_defined(items, name) || is_used(bodies, items, name)
+    match what {
+        ItemWhat::Define(other, _, _, _) => place_if(other.as_slice() == name, place),
+        ItemWhat::Struct(_, _, _)
+        | ItemWhat::Enum(_)
+        | ItemWhat::Global(_, _)
+        | ItemWhat::Proto(_, _)
+        | ItemWhat::Func(_, _, _) => None,
+    }
+}
+
+#[tactic(auto, unfolding(crate::specs::Uses::constant_among))]
+fn constant_among(items: &[Item], name: &[u8]) -> Option<Place>
+    ensures { result ≡ constant_among name.now items.now }
+{
+    for item in items {
+        if let Some(place) = constant_at(item.place, &item.what, name) {
+            return Some(place);
+        }
+    }
+    None
+}
+
+// ---- functions that aren't defined
+
+fn undefined_at(place: Place, first_use: Option<Place>) -> Fault
+    ensures { result ≡ undefined_at place first_use }
+{
+    match first_use {
+        Some(at) => Fault {
+            place: at,
+            kind: FaultKind::Incomplete,
+        },
+        None => Fault {
+            place,
+            kind: FaultKind::Incomplete,
+        },
+    }
+}
+
+fn undefined_by(place: Place, first_use: Option<Place>, constant: Option<Place>) -> Fault
+    ensures { result ≡ undefined_by place first_use constant }
+{
+    match constant {
+        Some(at) => Fault {
+            place: at,
+            kind: FaultKind::Redefined,
+        },
+        None => undefined_at(place, first_use),
+    }
+}
+
+/// What is told of a function that no item defines.
+fn undefined<B: Bodies>(bodies: &B, items: &[Item], f: &Declared) -> Fault
+    ensures { result ≡ undefined (B.used bodies.now) items.now f.now }
+{
+    let name = f.name.as_slice();
+    undefined_by(
+        f.place,
+        use_among(bodies, items, name),
+        constant_among(items, name),
+    )
 }
 
 fn defined_rule<B: Bodies>(bodies: &B, items: &[Item], f: &Declared) -> Result<Place, Fault>
     ensures { result ≡ told (defined_rule (B.used bodies.now) items.now f.now) }
 {
-    if may_be_undefined(bodies, items, f.name.as_slice()) {
-        return Ok(f.place);
+    if is_defined(items, f.name.as_slice()) {
+        Ok(f.place)
+    } else {
+        Err(undefined(bodies, items, f))
     }
-    Err(Fault {
-        place: f.place,
-        kind: FaultKind::Incomplete,
-    })
 }
 
-/// Of each function that is neither used nor defined it is told at its first declaration.
+/// Of each function that isn't defined it is told, at its first use or else at its first declaration.
 #[tactic(auto, using(mdr_faults::proofs::Gathered::followed_none), unfolding(crate::specs::Uses::defined_functions))]
 pub fn defined_functions<B: Bodies>(
     alloc: Global,

@@ -1,3 +1,4 @@
+-- for proofs
 -- What holds of the program of a user half's text.
 use Rattle.std.specs.Prelude.{◌≡◌, List}
 use Rattle.mdr_core.specs.declared.plan.Plan.{Plan}

@@ -1,3 +1,4 @@
+-- believed
 -- The program of a user half's text with a plan.
 use Rattle.std.specs.Prelude.{List}
 use Rattle.mdr_core.specs.declared.place.Place.{Place}

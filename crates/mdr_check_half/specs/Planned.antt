@@ -1,3 +1,4 @@
+-- for proofs
 -- Plans as they are read: by such a plan the text of a user half is judged.
 use Rattle.std.specs.Prelude.{◌≡◌, ℕ, List, [], ◌∷◌, ◌++◌, length, Some, slice_get, IsTrue}
 use Rattle.mdr_core.specs.declared.plan.Half.TheVariants.{Kernel}

@@ -1,3 +1,4 @@
+-- believed
 -- Plans that suit the text of a user half, test by test.
 use Rattle.std.specs.Prelude.{ℕ, ◌+◌, ◌==◌, ◌&&◌, not, Bool, true, false, List, [], ◌∷◌, length, Option, Some, None, is_some, is_none, slice_get}
 use Rattle.std.specs.List.{list_all, list_any}

@@ -1,3 +1,4 @@
+-- protocol
 -- The types of cells.
 use Rattle.std.specs.Prelude.{Bool, true, false, List, map}
 use Rattle.mdr_core.specs.declared.types.Ty.{Ty, out-Ty}

@@ -1,3 +1,4 @@
+-- protocol
 -- Where the cells of a run lie, as the code keeps it: its length has no bound of 32 bits.
 use Rattle.mdr_model.specs.declared.message.SetRun.{SetRun}
 use Rattle.mdr_copy.specs.declared.extents.Extent.{Extent}

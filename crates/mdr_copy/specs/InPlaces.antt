@@ -1,3 +1,4 @@
+-- protocol
 -- Where a block stands in a copy.
 use Rattle.std.specs.Prelude.{ℕ, List, length, nat_lt}
 use Rattle.std.specs.List.{take_while}

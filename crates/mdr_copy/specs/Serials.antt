@@ -1,3 +1,4 @@
+-- protocol
 -- Serials that rise.
 use Rattle.std.specs.Prelude.{ℕ, Bool, true, Option, Some, None, nat_lt}
 

@@ -3,7 +3,7 @@
 ghost use Rattle.std.specs.Prelude.{◌≡◌, ◌∷◌, [], ◌++◌, reverse, OnOk, IfOk};
 ghost use Rattle.mdr_model.specs.Sets.{begins_behind, joined, runs_of_cells};
 
-use mdr_core::{Items, OutOfMemory};
+use mdr_core::{Items, Limit, OutOfMemory};
 use mdr_model::{Cell, SetRun};
 use std::alloc::Global;
 
@@ -31,7 +31,7 @@ fn put_before(out: &mut Vec<SetRun>, cell: Cell, next: SetRun) -> Result<(), Out
     if begins_behind(cell, next) {
         match next.len.checked_add(1) {
             Some(len) => put(out, cell, len),
-            None => Err(OutOfMemory),
+            None => Err(Limit::Cells.past()),
         }
     } else {
         out.push(next)?;

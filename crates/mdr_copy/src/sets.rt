@@ -3,7 +3,7 @@
 ghost use Rattle.std.specs.Prelude.{◌≡◌, ◌++◌, OnOk, IfOk};
 ghost use Rattle.mdr_model.specs.Sets.{is_in, cells_of_run, cells_of_runs};
 
-use mdr_core::{Items, OutOfMemory};
+use mdr_core::{Items, Limit, OutOfMemory};
 use mdr_model::{Cell, SetRun};
 use std::alloc::Global;
 
@@ -34,7 +34,7 @@ pub(crate) fn put_run(out: &mut Vec<Cell>, run: SetRun) -> Result<(), OutOfMemor
                 serial: run.serial,
                 index,
             })?,
-            None => return Err(OutOfMemory),
+            None => return Err(Limit::Unmet.past()),
         }
     }
     Ok(())

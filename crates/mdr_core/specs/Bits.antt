@@ -1,3 +1,4 @@
+-- believed
 -- The bits of a number in two's complement (C99 6.2.6.2).
 use Rattle.std.specs.Prelude.{ℕ, zero, suc, ◌+◌, ◌*◌, ◌^◌, ℤ, pos, unsigned_abs}
 use Rattle.std.specs.Int.{int_div_euclid, int_rem_euclid}

@@ -1,3 +1,4 @@
+-- believed
 -- Code as plain data: what definitions speak of. Each form of a program is one of these or made of them.
 use Rattle.std.specs.Prelude.{ℕ, Bool, List, Option}
 use Rattle.mdr_core.specs.declared.kind.Kind.{Kind}

@@ -1,3 +1,4 @@
+-- believed
 -- The conversions of integers (C99 6.3.1).
 use Rattle.std.specs.Prelude.{◌^◌, Bool, true, false, ℤ, pos, ◌+ℤ◌, ◌-ℤ◌, nat_lt}
 use Rattle.std.specs.Int.{int_rem_euclid}

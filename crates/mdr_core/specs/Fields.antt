@@ -1,3 +1,4 @@
+-- protocol
 -- In which field of a struct a cell lies.
 use Rattle.std.specs.Prelude.{◌≡◌, ℕ, ◌+◌, ◌*◌, ◌<◌, List, length, Some, slice_get}
 use Rattle.mdr_core.specs.declared.program.Field.{Field}

@@ -1,3 +1,4 @@
+-- believed
 -- The code of a program as plain data: one line for each form.
 use Rattle.std.specs.Prelude.{ℕ, pos, List, [], ◌∷◌, map, Option, Some, None}
 use Rattle.std.specs.Option.{option_map}

@@ -1,3 +1,4 @@
+-- believed
 -- The integer kinds: their widths and ranges (C99 5.2.4.2.1, 6.2.6.2, two's complement).
 use Rattle.std.specs.Prelude.{ℕ, ◌-◌, ◌^◌, Bool, true, false, ◌&&◌, not, ℤ, pos, neg_ℤ, ◌==◌, int_lt}
 use Rattle.mdr_core.specs.declared.kind.Kind.{Kind}

@@ -1,3 +1,4 @@
+-- believed
 -- How a type lies in cells (C99 6.2.5, paragraph 20; 6.7.2.1, paragraph 13): a struct is its fields in their order, an array its elements one by one.
 use Rattle.std.specs.Prelude.{◌≤◌, take, ℕ, zero, suc, ◌+◌, Bool, true, false, ◌==◌, List, [], ◌∷◌, ◌++◌, length, Option, Some, None, slice_get, pos}
 use Rattle.std.specs.Option.{option_map}

@@ -1,3 +1,4 @@
+-- believed
 -- The operators of C on integers of one kind (C99 6.5).
 use Rattle.std.specs.Prelude.{ℕ, ◌+◌, ◌-◌, ◌%◌, ◌^◌, min, max, Bool, true, false, not, ◌&&◌, ◌==◌, Result, Ok, Err, ℤ, pos, ◌+ℤ◌, ◌-ℤ◌, ◌*ℤ◌, neg_ℤ, int_lt, int_div, unsigned_abs}
 use Rattle.std.specs.Int.{int_div_euclid, int_rem_euclid}

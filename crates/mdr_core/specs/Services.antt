@@ -1,3 +1,4 @@
+-- believed
 -- The services of the kernel: what a call of each takes and gives.
 use Rattle.std.specs.Prelude.{ℕ, zero, suc, ◌==◌, List, [], ◌∷◌, Option, Some, None, map, slice_get}
 use Rattle.mdr_core.specs.declared.kind.Kind.{Kind}

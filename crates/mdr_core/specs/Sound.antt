@@ -1,3 +1,4 @@
+-- believed
 -- Sound programs.
 use Rattle.std.specs.Prelude.{◌≡◌, ℕ, ◌+◌, ◌<◌, ◌≤◌, Bool, true, false, List, [], length, map, Option, Some, None, slice_get, IsTrue, ◌⊎◌}
 use Rattle.mdr_core.specs.declared.kind.Kind.{Kind}

@@ -1,3 +1,4 @@
+-- believed
 -- Plans that suit a program.
 use Rattle.std.specs.Prelude.{◌≡◌, ℕ, Bool, true, false, not, List, [], length, map, Option, Some, None, slice_get, IsTrue}
 use Rattle.std.specs.Option.{option_map}

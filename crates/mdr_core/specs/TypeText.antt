@@ -1,3 +1,4 @@
+-- believed
 -- Types as texts, and the type table.
 use Rattle.std.specs.Prelude.{◌≡◌, ℕ, ◌+◌, ◌≤◌, Bool, true, false, nat_lt, List, [], ◌∷◌, ◌++◌, length, Option, Some, None, slice_get, IsTrue, codes, ◌⊎◌}
 use Rattle.mdr_core.specs.declared.kind.Kind.{Kind}

@@ -1,3 +1,4 @@
+-- believed
 -- Which types there are, and of what sort each is (C99 6.2.5). A struct is named by its number.
 use Rattle.std.specs.Prelude.{◌≡◌, ℕ, ◌<◌, Bool, true, false, ◌&&◌, nat_lt, List, [], ◌∷◌, Some, slice_get}
 use Rattle.std.specs.List.{list_all}

@@ -1,3 +1,4 @@
+-- believed
 -- The types of expressions, of lvalues and of statements (C99 6.5, 6.8). What converts does so by a form of its own.
 use Rattle.std.specs.Prelude.{◌≡◌, ℕ, ◌≤◌, Bool, true, false, List, [], ◌∷◌, ◌++◌, length, map, Option, Some, None, slice_get, IsTrue, ◌⊎◌}
 use Rattle.mdr_core.specs.declared.kind.Kind.{Kind}

@@ -1,3 +1,4 @@
+-- believed
 -- The views of a block: what a pointer may name in it, as so many elements of a type from a cell on.
 use Rattle.std.specs.Prelude.{◌≡◌, ℕ, ◌+◌, ◌*◌, ◌<◌, ◌≤◌, ◌⊎◌, List, length, Some, slice_get}
 use Rattle.mdr_core.specs.declared.types.Ty.{Ty}

@@ -1,3 +1,4 @@
+-- protocol
 -- A network driver's types worked out: what the definitions of layout and views compute to on them.
 use Rattle.std.specs.Prelude.{◌≡◌, ℕ, Bool, true, false, List, [], ◌∷◌, ◌++◌, length, map, Some, None, codes, pos}
 use Rattle.mdr_core.specs.declared.kind.Kind.TheVariants.{U8, U32, S32}

@@ -7,7 +7,7 @@ use std::marker::Model;
 
 /// A box that contracts see as what it holds. It may stand in a type that leads back to itself, so that a tree of
 /// such types is plain data, and two trees are equal where they hold the same.
-#[derive(Debug, Drop)]
+#[derive(Drop)]
 pub struct Boxed<T> {
     inner: Box<T>,
 }

@@ -7,7 +7,7 @@ use crate::types::Ty;
 use crate::value::Value;
 
 /// A binary operator of integers (C99 6.5.5 to 6.5.12).
-#[derive(Clone, Copy, Debug, PartialEq, Eq)]
+#[derive(Clone, Copy, Debug)]
 pub enum BinOp {
     Add,
     Sub,
@@ -22,7 +22,7 @@ pub enum BinOp {
 }
 
 /// A comparison (C99 6.5.8, 6.5.9).
-#[derive(Clone, Copy, Debug, PartialEq, Eq)]
+#[derive(Clone, Copy, Debug)]
 pub enum RelOp {
     Eq,
     Ne,
@@ -35,7 +35,7 @@ pub enum RelOp {
 /// An lvalue (C99 6.3.2.1). Parameters and locals have the numbers of a function's slots: parameters first, then
 /// locals.
 #[cycle(expression)]
-#[derive(Debug, Drop)]
+#[derive(Drop)]
 pub enum Lval {
     /// A parameter or local that lies in a slot of its frame.
     Slot(u32),
@@ -53,7 +53,7 @@ pub enum Lval {
 
 /// An expression. Nothing in it has a side effect. Conversions are written out.
 #[cycle(expression)]
-#[derive(Debug, Drop)]
+#[derive(Drop)]
 pub enum Expr {
     Lit(Value),
     Load(Lval),
@@ -88,7 +88,7 @@ pub enum Expr {
 }
 
 /// What is called.
-#[derive(Debug, Drop)]
+#[derive(Drop)]
 pub enum Callee {
     /// A function, by its number.
     Direct(u32),
@@ -99,7 +99,7 @@ pub enum Callee {
 }
 
 /// A call. `shape` is the type that an allocation names, `format` the text of a `printk`.
-#[derive(Debug, Drop)]
+#[derive(Drop)]
 pub struct CallForm {
     pub callee: Callee,
     pub args: Items<Expr>,
@@ -109,7 +109,7 @@ pub struct CallForm {
 
 /// What a statement does (C99 6.7, 6.8). Locals are named by their slots.
 #[cycle(statement)]
-#[derive(Debug, Drop)]
+#[derive(Drop)]
 pub enum Step {
     /// A local is declared.
     Declare(u32),
@@ -133,7 +133,7 @@ pub enum Step {
 
 /// A statement with its number. Statements count from 1 in each function, and a block has the number 0.
 #[cycle(statement)]
-#[derive(Debug, Drop)]
+#[derive(Drop)]
 pub struct Stmt {
     pub number: u32,
     pub step: Step,

@@ -25,7 +25,7 @@ pub use code::{BinOp, CallForm, Callee, Expr, Lval, RelOp, Step, Stmt};
 pub use items::{Items, Name};
 pub use kind::Kind;
 pub use layout::{cells_of, key_of, zero_of};
-pub use memory_error::OutOfMemory;
+pub use memory_error::{Limit, OutOfMemory};
 pub use place::{At, Place};
 pub use plan::{Half, Key, Plan};
 pub use program::{Field, Func, GlobalDef, Local, Param, Program, StructDef};

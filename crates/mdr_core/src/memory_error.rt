@@ -2,18 +2,65 @@
 
 use std::alloc::{AllocError, AllocFailed};
 
-/// Memory was wanting. It is told apart from every other refusal.
-#[derive(Clone, Copy, Debug, PartialEq, Eq)]
-pub struct OutOfMemory;
+/// Memory was wanting. It is told apart from every other refusal. Only an allocator's refusal makes one, and what goes
+/// past a `Limit`.
+#[derive(Clone, Copy, Debug)]
+pub struct OutOfMemory {
+    _own: (),
+}
 
 impl From<AllocError> for OutOfMemory {
     fn from(_e: AllocError) -> OutOfMemory {
-        OutOfMemory
+        OutOfMemory { _own: () }
     }
 }
 
 impl<T: Drop> From<AllocFailed<T>> for OutOfMemory {
     fn from(_e: AllocFailed<T>) -> OutOfMemory {
-        OutOfMemory
+        OutOfMemory { _own: () }
+    }
+}
+
+impl OutOfMemory {
+    /// The same want of memory, where an error of another type told it.
+    pub fn passed_on() -> OutOfMemory {
+        OutOfMemory { _own: () }
+    }
+}
+
+/// What a run or a text can have too much of to be held. `docs/LIMITS.md` has the numbers, and why no source of a
+/// mebibyte comes to them.
+#[derive(Clone, Copy)]
+pub enum Limit {
+    /// Steps of a machine, or of a script: 2^64.
+    Turns,
+    /// Calls that a run counts: 2^64.
+    Calls,
+    /// Allocations that a run counts: 2^64.
+    Allocations,
+    /// Messages that a run counts: 2^64.
+    Messages,
+    /// Births of blocks in a memory: 2^64.
+    Births,
+    /// Blocks that live at a time: 2^32.
+    Blocks,
+    /// Cells of a memory, or of one run of cells in a message.
+    Cells,
+    /// Bytes of a text: 2^32 - 1.
+    Bytes,
+    /// Types, globals, structs, functions or locals of a program: 2^32.
+    Parts,
+    /// What a message can't spell: a list of 2^31 items, or a number past its kind.
+    Items,
+    /// Blocks of a source inside one another: 2^64.
+    Deep,
+    /// What no run of a source's program does, though the contracts don't say so yet.
+    Unmet,
+}
+
+impl Limit {
+    /// What answers that a limit would be passed.
+    pub fn past(self) -> OutOfMemory {
+        OutOfMemory { _own: () }
     }
 }

@@ -4,7 +4,7 @@ use crate::items::{Items, Name};
 use crate::types::Ty;
 
 /// Which cells a function may touch: a global's, a struct's field (struct, field), or the elements of a type.
-#[derive(Clone, Copy, Debug, PartialEq, Eq)]
+#[derive(Clone, Copy, PartialEq, Eq)]
 pub enum Key {
     Global(u32),
     Field(u32, u32),
@@ -12,7 +12,7 @@ pub enum Key {
 }
 
 /// A half of the driver.
-#[derive(Clone, Copy, Debug, PartialEq, Eq)]
+#[derive(Clone, Copy)]
 pub enum Half {
     Kernel,
     User,
@@ -20,7 +20,7 @@ pub enum Half {
 
 /// What the two halves must know of each other: of each function its name, its half, whether it is a root,
 /// whether the user half may call it by a stub, and the keys of its cells.
-#[derive(Debug, Drop)]
+#[derive(Drop)]
 pub struct Plan {
     pub types: Items<Ty>,
     pub names: Items<Name>,

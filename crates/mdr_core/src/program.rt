@@ -6,7 +6,7 @@ use crate::types::{Ann, Ty};
 use crate::value::Value;
 
 /// A field of a struct: `count` elements of its type, declared as an array or not.
-#[derive(Debug, Drop)]
+#[derive(Drop)]
 pub struct Field {
     pub name: Name,
     pub ty: Ty,
@@ -16,14 +16,14 @@ pub struct Field {
 }
 
 /// A struct.
-#[derive(Debug, Drop)]
+#[derive(Drop)]
 pub struct StructDef {
     pub name: Name,
     pub fields: Items<Field>,
 }
 
 /// A global: `count` elements of its type, and the first value of each of its cells.
-#[derive(Debug, Drop)]
+#[derive(Drop)]
 pub struct GlobalDef {
     pub name: Name,
     pub ty: Ty,
@@ -34,7 +34,7 @@ pub struct GlobalDef {
 }
 
 /// A parameter. `object` says that it is a block of its own.
-#[derive(Debug, Drop)]
+#[derive(Drop)]
 pub struct Param {
     pub name: Name,
     pub ty: Ty,
@@ -43,7 +43,7 @@ pub struct Param {
 }
 
 /// A local. `object` says that it is a block of its own.
-#[derive(Debug, Drop)]
+#[derive(Drop)]
 pub struct Local {
     pub name: Name,
     pub ty: Ty,
@@ -53,7 +53,7 @@ pub struct Local {
 }
 
 /// A function. One without a body is of the other half.
-#[derive(Debug, Drop)]
+#[derive(Drop)]
 pub struct Func {
     pub name: Name,
     pub params: Items<Param>,
@@ -65,7 +65,7 @@ pub struct Func {
 }
 
 /// A program. Types, structs, globals and functions are named by their numbers in these lists, from 0.
-#[derive(Debug, Drop)]
+#[derive(Drop)]
 pub struct Program {
     pub types: Items<Ty>,
     pub structs: Items<StructDef>,

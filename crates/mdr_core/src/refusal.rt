@@ -1,7 +1,7 @@
 // Why a reply is refused.
 
 /// Why the kernel half refuses a reply of the far side.
-#[derive(Clone, Copy, Debug, PartialEq, Eq)]
+#[derive(Clone, Copy)]
 pub enum RefuseKind {
     /// The bytes end within an item.
     Short,

@@ -1,7 +1,7 @@
 // Why a run stops.
 
 /// A cause for which a run stops. In the order of the variants the causes have the numbers 1 to 17.
-#[derive(Clone, Copy, Debug, PartialEq, Eq)]
+#[derive(Clone, Copy)]
 pub enum StopKind {
     /// A null pointer is used.
     Null,

@@ -5,7 +5,7 @@ use crate::items::Items;
 use crate::kind::Kind;
 
 /// A type of the profile (C99 6.2.5), without arrays, which are counts beside a type.
-#[derive(Debug, Drop)]
+#[derive(Drop)]
 pub enum Ty {
     Int(Kind),
     /// The profile's `combolock_t`.
@@ -22,7 +22,7 @@ pub enum Ty {
 }
 
 /// The length that `__array` names.
-#[derive(Clone, Copy, Debug, PartialEq, Eq)]
+#[derive(Clone, Copy)]
 pub enum LenOf {
     Const(u32),
     /// A field of the same struct, or a parameter of the same call, by its number.
@@ -32,7 +32,7 @@ pub enum LenOf {
 }
 
 /// How far a pointer may be followed.
-#[derive(Clone, Copy, Debug, PartialEq, Eq)]
+#[derive(Clone, Copy)]
 pub enum Ann {
     /// One element: there is no annotation.
     Single,
@@ -46,7 +46,7 @@ pub enum Ann {
 }
 
 /// What a block is made of: so many elements of a type, which is a number of the program's type table.
-#[derive(Clone, Copy, Debug, PartialEq, Eq)]
+#[derive(Clone, Copy)]
 pub struct Shape {
     pub ty: u32,
     pub count: u32,

@@ -3,7 +3,7 @@
 use crate::kind::Kind;
 
 /// A block of memory: where it lies now, and its serial, the count of births before it.
-#[derive(Clone, Copy, Debug, PartialEq, Eq)]
+#[derive(Clone, Copy, Debug)]
 pub struct Block {
     pub slot: u32,
     pub serial: u64,
@@ -11,7 +11,7 @@ pub struct Block {
 
 /// What a pointer names: `count` elements of type `ty` from cell `first` of a block, and of these the one at
 /// `index`. `ty` is a number of the program's type table. In a `Program` no slot is meant, and it is 0.
-#[derive(Clone, Copy, Debug, PartialEq, Eq)]
+#[derive(Clone, Copy, Debug)]
 pub struct View {
     pub block: Block,
     pub first: u32,
@@ -21,7 +21,7 @@ pub struct View {
 }
 
 /// The state of a lock.
-#[derive(Clone, Copy, Debug, PartialEq, Eq)]
+#[derive(Clone, Copy, Debug)]
 pub enum LockState {
     Free,
     Spin,
@@ -29,7 +29,7 @@ pub enum LockState {
 }
 
 /// A value.
-#[derive(Clone, Copy, Debug, PartialEq, Eq)]
+#[derive(Clone, Copy, Debug)]
 pub enum Value {
     /// An integer, which lies in the range of its kind.
     Int(Kind, i128),

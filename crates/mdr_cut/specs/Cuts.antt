@@ -1,3 +1,4 @@
+-- believed
 -- What a source is cut into: its plan, the texts of its halves, and what a report says of it.
 use Rattle.std.specs.Prelude.{◌≡◌, ℕ, true, List, ◌++◌}
 use Rattle.mdr_core.specs.declared.program.Program.{Program}

@@ -11,7 +11,7 @@ use mdr_syntax::Tree;
 use std::alloc::Global;
 
 /// The texts of a source's two halves and of its plan.
-#[derive(Debug, Drop)]
+#[derive(Drop)]
 pub struct Texts {
     pub kernel: Items<u8>,
     pub user: Items<u8>,

@@ -1,3 +1,4 @@
+-- believed
 -- A device, and what reading, writing and ticks do to it.
 use Rattle.std.specs.Prelude.{ℕ, zero, suc, false, List, [], ◌∷◌, Option, Some, slice_set}
 use Rattle.mdr_device.specs.declared.rule.Rule.{Rule}

@@ -1,3 +1,4 @@
+-- believed
 -- What rules do to a device's registers, count-downs and line.
 use Rattle.std.specs.Prelude.{ℕ, ◌+◌, ◌-◌, ◌^◌, Bool, true, false, ◌==◌, ◌&&◌, nat_lt, if◌then◌else◌, List, [], ◌∷◌, map, Option, Some, None, slice_get, slice_set, bit_and, bit_or}
 use Rattle.mdr_device.specs.declared.rule.Trigger.{Trigger}

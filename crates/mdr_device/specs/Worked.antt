@@ -1,3 +1,4 @@
+-- for proofs
 -- A device with three registers and two of a driver's rules, worked out.
 use Rattle.std.specs.Prelude.{◌≡◌, ℕ, Bool, true, false, List, [], ◌∷◌, Option, Some, None}
 use Rattle.mdr_device.specs.declared.rule.Trigger.{Trigger}

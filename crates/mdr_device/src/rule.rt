@@ -3,7 +3,7 @@
 use mdr_core::Items;
 
 /// What rules wait for.
-#[derive(Clone, Copy, Debug, PartialEq, Eq)]
+#[derive(Clone, Copy)]
 pub enum Trigger {
     /// A word was written to this register.
     Write(u32),
@@ -16,7 +16,7 @@ pub enum Trigger {
 }
 
 /// A rule's condition: those bits of a register that the mask has are the value's.
-#[derive(Clone, Copy, Debug, PartialEq, Eq)]
+#[derive(Clone, Copy)]
 pub struct Guard {
     pub reg: u32,
     pub mask: u32,
@@ -24,7 +24,7 @@ pub struct Guard {
 }
 
 /// What a rule does.
-#[derive(Clone, Copy, Debug, PartialEq, Eq)]
+#[derive(Clone, Copy)]
 pub enum Effect {
     /// Sets a register's bits that the mask has.
     Set(u32, u32),
@@ -43,7 +43,7 @@ pub enum Effect {
 }
 
 /// A rule: what it waits for, its condition, and what it does, in order.
-#[derive(Debug, Drop)]
+#[derive(Drop)]
 pub struct Rule {
     pub trigger: Trigger,
     pub guard: Option<Guard>,

@@ -1,3 +1,4 @@
+-- believed
 -- The lines that are printed of a file, and of a script that is refused.
 use Rattle.std.specs.Prelude.{ℕ, List, [], ◌∷◌, ◌++◌, codes, decimal}
 

@@ -1,3 +1,4 @@
+-- believed
 -- Files that are read, and what is due where one isn't.
 use Rattle.std.specs.Prelude.{◌≡◌, ℕ, List, codes, Option}
 use Rattle.mdr_outside.specs.Calls.{ShelfCall, Read, and_then}

@@ -1,3 +1,4 @@
+-- protocol
 -- What a stage of the work says: what it goes on with, or what is due.
 use Rattle.std.specs.Prelude.{◌≡◌, ℕ, List}
 use Rattle.mdr_due.specs.declared.due.Stage.{Stage}

@@ -1,3 +1,4 @@
+-- protocol
 -- The numbers of statuses, and what their causes are.
 use Rattle.std.specs.Prelude.{ℕ}
 use Rattle.mdr_outside.specs.Count.{Rose}

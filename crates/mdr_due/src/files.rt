@@ -42,6 +42,6 @@ pub fn file<S: Shelf>(
             status: Status::ReadFault,
             text: file_line(alloc, "read fault ", name)?,
         })),
-        ReadAnswer::OutOfMemory => Err(OutOfMemory),
+        ReadAnswer::OutOfMemory => Err(OutOfMemory::passed_on()),
     }
 }

@@ -4,7 +4,7 @@ ghost use Rattle.std.specs.Prelude.{◌≡◌};
 ghost use Rattle.mdr_due.specs.Statuses.{number_of};
 
 /// How the program ends. Its number is what the program gives to the system.
-#[derive(Clone, Copy, Debug, PartialEq, Eq)]
+#[derive(Clone, Copy)]
 pub enum Status {
     /// The run ended by itself.
     Done,

@@ -12,7 +12,7 @@ use Rattle.mdr_model.specs.ReplyFaults.{reply_of}
 use Rattle.mdr_over_bytes.specs.OverBytes.{split_run_over_bytes}
 use Rattle.mdr_plain.specs.Scripts.{Beginning, Did, Opens, begin}
 use Rattle.mdr_plain.specs.World.{World, Ran, Ended, Stopped, Work}
-use Rattle.mdr_script.specs.declared.bound.Bound.{Bound}
+use Rattle.mdr_bound.specs.declared.bound.Bound.{Bound}
 use Rattle.mdr_split.specs.AnyAnswers.{kernel_in}
 use Rattle.mdr_split.specs.Kernel.{SplitRun, answered, answers, applied, begins, called, calls, comes_back, downcalled, ended, first_kernel, judged, next, run_from_pending, serviced, split_by, split_commands, split_run, taken, then_split}
 use Rattle.mdr_split.specs.Legal.{fault_of}

@@ -7,7 +7,7 @@ use Rattle.mdr_outside.specs.Calls.{FarCall, Sends, and_then}
 use Rattle.mdr_outside.specs.declared.far.Exchange.{Exchange}
 use Rattle.mdr_outside.specs.Far.{exchange}
 use Rattle.mdr_model.specs.declared.command.Command.{Command}
-use Rattle.mdr_script.specs.declared.bound.Bound.{Bound}
+use Rattle.mdr_bound.specs.declared.bound.Bound.{Bound}
 use Rattle.mdr_model.specs.declared.message.Message.{Message}
 use Rattle.mdr_model.specs.Memory.{Memory}
 use Rattle.mdr_model.specs.Text.{text}

@@ -1,3 +1,4 @@
+-- believed
 -- What a run over honest exchanges means.
 use Rattle.std.specs.Prelude.{◌≡◌, ℕ, ◌+◌, ◌*◌, ◌≤◌, ◌⊎◌, List, [], ◌∷◌, ◌++◌, length, IfSome}
 use Rattle.mdr_core.specs.declared.plan.Plan.{Plan}
@@ -9,7 +10,7 @@ use Rattle.mdr_outside.specs.declared.far.Exchange.{Exchange}
 use Rattle.mdr_over_bytes.specs.OverBytes.{IsHonestReply}
 use Rattle.mdr_plain.specs.declared.outcome.Outcome.{Outcome}
 use Rattle.mdr_plain.specs.Outcome.{outcome_of}
-use Rattle.mdr_script.specs.declared.bound.Bound.{Bound}
+use Rattle.mdr_bound.specs.declared.bound.Bound.{Bound}
 use Rattle.mdr_split.specs.Law.{HaveBodies, IsPlanOf}
 use Rattle.mdr_watched.specs.Driver.{Driver, driver_of}
 use Rattle.mdr_watched.specs.Watched.{watched}

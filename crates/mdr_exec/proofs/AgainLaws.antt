@@ -14,7 +14,7 @@ use Rattle.mdr_meaning.specs.Statements.{around, on_ends}
 use Rattle.mdr_meaning.specs.Tree.{Tree}
 use Rattle.mdr_meaning.proofs.AlikeLaws.{AreNext, means_alike}
 use Rattle.mdr_meaning.proofs.CutLaws.{cut_alike}
-use Rattle.mdr_exec.specs.Held.{loop_again}
+use Rattle.mdr_events.specs.Held.{loop_again}
 
 abbrev AreNexts : ℕ → Next → Next → Type 0
 AreNexts r k k' = AreNext SameCut cut_alike r k k'

@@ -11,19 +11,20 @@ use Rattle.mdr_meaning.specs.Sides.{Side, Here, Locals, Flow, Ends, Returns, flo
 use Rattle.mdr_core.specs.declared.value.Value.{Value}
 use Rattle.mdr_meaning.specs.Numbers.{Numbered}
 use Rattle.mdr_meaning.specs.Values.{is_true, wire_of}
-use Rattle.mdr_exec.specs.Outcomes.{wired}
+use Rattle.mdr_events.specs.Outcomes.{wired}
 use Rattle.mdr_meaning.specs.Walk.{Accesses}
+use Rattle.mdr_events.specs.Held.{Runs, Item, Held, bare, carry, tree}
+use Rattle.mdr_events.specs.Steps.{Left, holds, Came, Goes, Stopped, came_by, held_after, IsSame, Ticks}
+use Rattle.mdr_events.specs.Values.{wires_of}
 use Rattle.mdr_exec.specs.declared.frame.Machine.{Machine}
 use Rattle.mdr_exec.specs.declared.places.Part.TheVariants as part
 use Rattle.mdr_exec.specs.Beginning.{branch}
-use Rattle.mdr_exec.specs.Effects.{Did, Left, after_result, ended}
+use Rattle.mdr_exec.specs.Effects.{Did, after_result, ended}
 use Rattle.mdr_exec.specs.Evaluation.{value_of}
-use Rattle.mdr_exec.specs.Held.{Runs, Item, Held, bare, carry, tree}
-use Rattle.mdr_exec.specs.Holding.{block_of, held_of, is_running, list_entered, wires_of}
+use Rattle.mdr_exec.specs.Holding.{block_of, held_of, is_running, list_entered}
 use Rattle.mdr_exec.specs.Leaving.{here_in, goes_behind}
 use Rattle.mdr_exec.specs.Places.{behind, code_at}
 use Rattle.mdr_exec.specs.StatementSteps.{branched, holds_block, holds_turn, turned}
-use Rattle.mdr_exec.specs.Steps.{holds, Came, Goes, Stopped, came_by, held_after, IsSame, Ticks}
 use Rattle.mdr_exec.proofs.EnterLaws.{running_is}
 use Rattle.mdr_exec.proofs.PathLaws.{next_stands}
 use Rattle.mdr_exec.proofs.StepLaws.{statements_step}

@@ -9,16 +9,17 @@ use Rattle.mdr_meaning.specs.Bodies.{means}
 use Rattle.mdr_meaning.specs.Cut.{cut}
 use Rattle.mdr_meaning.specs.Sides.{Side, Here, Next}
 use Rattle.mdr_meaning.specs.Statements.{on_ends, stmt, stmts}
+use Rattle.mdr_events.specs.Held.{Runs, Item, Rest, Scope, Around, Held, carry, bare, tree}
+use Rattle.mdr_events.specs.Steps.{holds, IsSame}
+use Rattle.mdr_events.specs.Values.{wires_of}
 use Rattle.mdr_exec.specs.declared.frame.Machine.{Machine}
 use Rattle.mdr_exec.specs.declared.places.Part.{Part}
 use Rattle.mdr_exec.specs.declared.places.Part.TheVariants as part
 use Rattle.mdr_exec.specs.declared.places.Position.{Position}
 use Rattle.mdr_exec.specs.Behind.{GoesOnAt, is_plain, is_stepless}
 use Rattle.mdr_exec.specs.Found.{body_codes}
-use Rattle.mdr_exec.specs.Held.{Runs, Item, Rest, Scope, Around, Held, carry, bare, tree}
-use Rattle.mdr_exec.specs.Holding.{around, below_of, block_of, ends_with, here_of, held_of, is_running, wires_of}
+use Rattle.mdr_exec.specs.Holding.{around, below_of, block_of, ends_with, here_of, held_of, is_running}
 use Rattle.mdr_exec.specs.Places.{behind, code_at, code_before, inner}
-use Rattle.mdr_exec.specs.Steps.{holds, IsSame}
 use Rattle.mdr_exec.proofs.EnterLaws.{running_is}
 use Rattle.mdr_exec.proofs.LeavingLaws.{nothing_more, under_way}
 use Rattle.mdr_exec.proofs.PathLaws.{none_stands, around_into}

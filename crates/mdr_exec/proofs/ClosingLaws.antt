@@ -15,6 +15,9 @@ use Rattle.mdr_meaning.specs.Values.{wire_of, wire_view}
 use Rattle.mdr_meaning.specs.Sides.{Side, Here, Locals, Flow, Ends, Breaks, Continues, Returns, in_here}
 use Rattle.mdr_meaning.specs.Walk.{Reached, Accesses, walk, walked}
 use Rattle.std.proofs.lemmas.List.{reverse-append}
+use Rattle.mdr_events.specs.Held.{Unwinds, WaitsDeath, Item, Scope, Held, carry, bare, tree}
+use Rattle.mdr_events.specs.Steps.{holds, child, Came, Goes, Ended, Stopped, Asks, Crosses, after, IsSame, Steps}
+use Rattle.mdr_events.specs.Values.{wires_of}
 use Rattle.mdr_exec.specs.declared.frame.Flow.{Flow as Leaving}
 use Rattle.mdr_exec.specs.declared.frame.Suspended.{Suspended}
 use Rattle.mdr_exec.specs.declared.frame.Until.TheVariants as until
@@ -22,11 +25,9 @@ use Rattle.mdr_exec.specs.declared.frame.Front.{Front as Before}
 use Rattle.mdr_exec.specs.declared.frame.Front.TheVariants as front
 use Rattle.mdr_exec.specs.declared.frame.Machine.{Machine}
 use Rattle.mdr_exec.specs.Closing.{DiesAt, AtBlock, AtEnd, Finishes, asks_on}
-use Rattle.mdr_exec.specs.Held.{Unwinds, WaitsDeath, Item, Scope, Held, carry, bare, tree}
-use Rattle.mdr_exec.specs.Holding.{around, below_of, block_of, flow_as, front_in, held_of, wires_of}
+use Rattle.mdr_exec.specs.Holding.{around, below_of, block_of, flow_as, front_in, held_of}
 use Rattle.mdr_exec.specs.Leaving.{here_in}
 use Rattle.mdr_exec.specs.Places.{behind}
-use Rattle.mdr_exec.specs.Steps.{holds, child, Came, Goes, Ended, Stopped, Asks, Crosses, after, IsSame, Steps}
 use Rattle.mdr_exec.specs.Unwinding.{is_return, flow_after, dying_came, dying_front, dying_memory}
 use Rattle.mdr_exec.proofs.UnwindingLaws.{none_died, work_goes_on}
 

@@ -14,16 +14,17 @@ use Rattle.mdr_meaning.specs.Lives.{asked_for, shape_of}
 use Rattle.mdr_meaning.specs.Sides.{Side, Locals, Ends}
 use Rattle.mdr_meaning.specs.Values.{first_of, wire_of}
 use Rattle.mdr_meaning.specs.Walk.{Accesses}
+use Rattle.mdr_events.specs.Held as held
+use Rattle.mdr_events.specs.Held.{Held}
+use Rattle.mdr_events.specs.Steps.{holds, holds_after, Goes, Asks, held_after, Ticks}
+use Rattle.mdr_events.specs.Values.{wires_of}
 use Rattle.mdr_exec.specs.declared.event.Outcome.{Outcome}
 use Rattle.mdr_exec.specs.declared.frame.Front.TheVariants as front
 use Rattle.mdr_exec.specs.declared.frame.Machine.{Machine}
 use Rattle.mdr_exec.specs.Events.{came_with}
-use Rattle.mdr_exec.specs.Held.{Held}
-use Rattle.mdr_exec.specs.Held as held
-use Rattle.mdr_exec.specs.Holding.{here_of, held_of, is_running, slots_by, wires_of}
+use Rattle.mdr_exec.specs.Holding.{here_of, held_of, is_running, slots_by}
 use Rattle.mdr_exec.specs.Leaving.{goes_behind, here_in}
 use Rattle.mdr_exec.specs.StatementSteps.{is_object, zeroed}
-use Rattle.mdr_exec.specs.Steps.{holds, holds_after, Goes, Asks, held_after, Ticks}
 use Rattle.mdr_exec.specs.Storing.{with_slots}
 use Rattle.mdr_exec.proofs.DoneLaws.{ahead_of, items_of, locals_of, at_next, stepped_to, stepped_holds, ended_holds, comes_in}
 use Rattle.mdr_exec.proofs.StepLaws.{statements_step}

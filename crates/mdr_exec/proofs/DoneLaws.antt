@@ -7,13 +7,14 @@ use Rattle.mdr_core.specs.declared.value.Value.{Value}
 use Rattle.mdr_core.specs.Code.{Code, Codes}
 use Rattle.mdr_meaning.specs.Sides.{Side, Flow, Locals}
 use Rattle.mdr_meaning.specs.Walk.{Accesses}
+use Rattle.mdr_events.specs.Held.{Runs, Item, Held}
+use Rattle.mdr_events.specs.Steps.{holds, holds_after, Came, Stopped, Ticks}
+use Rattle.mdr_events.specs.Values.{wires_of}
 use Rattle.mdr_exec.specs.declared.frame.Front.{Front as Before}
 use Rattle.mdr_exec.specs.declared.frame.Machine.{Machine}
-use Rattle.mdr_exec.specs.Held.{Runs, Item, Held}
-use Rattle.mdr_exec.specs.Holding.{block_of, front_in, held_of, is_running, wires_of}
+use Rattle.mdr_exec.specs.Holding.{block_of, front_in, held_of, is_running}
 use Rattle.mdr_exec.specs.Leaving.{goes_behind, here_in}
 use Rattle.mdr_exec.specs.Places.{behind, code_at}
-use Rattle.mdr_exec.specs.Steps.{holds, holds_after, Came, Stopped, Ticks}
 use Rattle.mdr_exec.specs.Storing.{with_slots}
 use Rattle.mdr_exec.proofs.BeginningLaws.{stands}
 

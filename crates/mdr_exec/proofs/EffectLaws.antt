@@ -17,8 +17,9 @@ use Rattle.mdr_meaning.specs.Sides.{Here, Locals, Ends, Returns}
 use Rattle.mdr_meaning.specs.Statements.{element, texts}
 use Rattle.mdr_meaning.specs.Tree.{Tree}
 use Rattle.mdr_meaning.specs.Walk.{Accesses, Walked, on_access, walk}
+use Rattle.mdr_events.specs.Steps.{Left}
 use Rattle.mdr_exec.specs.Evaluation.{value_of, place_of, Evaluates}
-use Rattle.mdr_exec.specs.Effects.{Did, did, after_result, after_did, Left, stored, put_by, put_of, keep_of, assigned, texts_of, fills_of, Does}
+use Rattle.mdr_exec.specs.Effects.{Did, did, after_result, after_did, stored, put_by, put_of, keep_of, assigned, texts_of, fills_of, Does}
 use Rattle.mdr_exec.proofs.EvaluationLaws.{passes_given, passes_place, passes_value}
 
 module _ {M : Type 0} (a : Accesses M) (at : At) where

@@ -5,7 +5,7 @@ use Rattle.mdr_core.specs.declared.program.Program.{Program}
 use Rattle.mdr_meaning.specs.Bodies.{known_of}
 use Rattle.mdr_meaning.specs.Numbers.{number_in}
 use Rattle.mdr_meaning.specs.Pointers.{global_by}
-use Rattle.mdr_exec.specs.Integers.{HasFirst}
+use Rattle.mdr_events.specs.Integers.{HasFirst}
 
 -- a global that is there, and isn't empty, has a first cell
 pub first_there : (program : Program) (g : ℕ) (def : GlobalDef) → slice_get program.globals g ≡ Some def → nat_lt 0 def.count ≡ true → HasFirst (known_of program) g

@@ -12,21 +12,22 @@ use Rattle.mdr_meaning.specs.Numbers.{Numbered}
 use Rattle.mdr_meaning.specs.Sides.{Side, Locals, Ends, Returns, in_here}
 use Rattle.mdr_meaning.specs.Values.{wire_of}
 use Rattle.mdr_meaning.specs.Walk.{Accesses}
+use Rattle.mdr_events.specs.Held.{Comes, Item, Held}
+use Rattle.mdr_events.specs.Outcomes.{when_made, wired}
+use Rattle.mdr_events.specs.Steps.{Left, holds, Came, Goes, Stopped, came_by, held_after, Steps, Ticks}
+use Rattle.mdr_events.specs.Values.{wires_of}
 use Rattle.mdr_exec.specs.declared.event.Outcome.{Outcome}
 use Rattle.mdr_exec.specs.declared.frame.Flow.TheVariants as flow
 use Rattle.mdr_exec.specs.declared.frame.Front.{Front as Before}
 use Rattle.mdr_exec.specs.declared.frame.Front.TheVariants as front
 use Rattle.mdr_exec.specs.declared.frame.Machine.{Machine}
 use Rattle.mdr_exec.specs.Beginning.{came_of}
-use Rattle.mdr_exec.specs.Effects.{Did, Left, did, after_did, after_result, ended, keep_of, put_of}
+use Rattle.mdr_exec.specs.Effects.{Did, did, after_did, after_result, ended, keep_of, put_of}
 use Rattle.mdr_exec.specs.Events.{came_as}
-use Rattle.mdr_exec.specs.Held.{Comes, Item, Held}
-use Rattle.mdr_exec.specs.Holding.{block_of, code_of_frame, front_in, goal_at, held_of, here_of, number_at, wires_of}
+use Rattle.mdr_exec.specs.Holding.{block_of, code_of_frame, front_in, goal_at, held_of, here_of, number_at}
 use Rattle.mdr_exec.specs.Leaving.{here_in}
-use Rattle.mdr_exec.specs.Outcomes.{when_made, wired}
 use Rattle.mdr_exec.specs.Places.{behind}
 use Rattle.mdr_exec.specs.Receiving.{received_as, received_back}
-use Rattle.mdr_exec.specs.Steps.{holds, Came, Goes, Stopped, came_by, held_after, Steps, Ticks}
 use Rattle.mdr_exec.specs.Storing.{with_slots}
 use Rattle.mdr_exec.proofs.UnwindingLaws.{work_goes_on}
 

@@ -9,6 +9,9 @@ use Rattle.mdr_meaning.specs.Bodies.{means}
 use Rattle.mdr_meaning.specs.Cut.{cut}
 use Rattle.mdr_meaning.specs.Sides.{Side, Here, Locals, Flow, Ends, Breaks, Continues, Returns, Next, Means}
 use Rattle.mdr_meaning.specs.Statements.{on_ends, stmt, stmts}
+use Rattle.mdr_events.specs.Held.{Front, Runs, Unwinds, Item, Rest, Scope, Held, carry, bare, tree, loop_again}
+use Rattle.mdr_events.specs.Steps.{holds, front_after, IsSame}
+use Rattle.mdr_events.specs.Values.{wires_of}
 use Rattle.mdr_exec.specs.declared.frame.Flow.{Flow as Leaving}
 use Rattle.mdr_exec.specs.declared.frame.Frame.{Frame as Running}
 use Rattle.mdr_exec.specs.declared.frame.Front.{Front as Before}
@@ -19,11 +22,9 @@ use Rattle.mdr_exec.specs.declared.places.Part.{Part}
 use Rattle.mdr_exec.specs.declared.places.Part.TheVariants as part
 use Rattle.mdr_exec.specs.declared.places.Position.{Position}
 use Rattle.mdr_exec.specs.Found.{body_codes}
-use Rattle.mdr_exec.specs.Held.{Front, Runs, Unwinds, Item, Rest, Scope, Held, carry, bare, tree, loop_again}
-use Rattle.mdr_exec.specs.Holding.{around, below_of, block_of, ends_with, flow_as, front_in, here_of, held_of, is_running, wires_of}
+use Rattle.mdr_exec.specs.Holding.{around, below_of, block_of, ends_with, flow_as, front_in, here_of, held_of, is_running}
 use Rattle.mdr_exec.specs.Leaving.{is_loop, ending_by, passed_on, NoneDies, LeavesNone, leaves_list, goes_behind, goes_round, turn_left, step_left}
 use Rattle.mdr_exec.specs.Places.{behind, code_before, inner, part_of}
-use Rattle.mdr_exec.specs.Steps.{holds, front_after, IsSame}
 use Rattle.mdr_exec.proofs.PathLaws.{next_stands, path_into, around_into}
 
 -- ---- which code

@@ -8,6 +8,10 @@ use Rattle.std.specs.declared.alloc.Global.{Global as Heap}
 use Rattle.mdr_meaning.specs.Lives.{object_params}
 use Rattle.mdr_meaning.specs.Sides.{Side}
 use Rattle.mdr_meaning.specs.Tree.{Tree}
+use Rattle.mdr_events.specs.Held.{Front, Fills, bare, carry, tree}
+use Rattle.mdr_events.specs.Running.{answered, is_waiting}
+use Rattle.mdr_events.specs.Steps.{child}
+use Rattle.mdr_events.specs.Values.{wires_of}
 use Rattle.mdr_exec.specs.declared.frame.Side.{Side as Here}
 use Rattle.mdr_exec.specs.declared.frame.Flow.TheVariants as flow
 use Rattle.mdr_exec.specs.declared.frame.Frame.{Frame as Running}
@@ -16,10 +20,7 @@ use Rattle.mdr_exec.specs.declared.frame.Front.TheVariants as front
 use Rattle.mdr_exec.specs.declared.frame.Suspended.{Suspended}
 use Rattle.mdr_exec.specs.declared.frame.Machine.{Machine}
 use Rattle.mdr_exec.specs.declared.places.Position.{Position}
-use Rattle.mdr_exec.specs.Held.{Front, Fills, bare, carry, tree}
-use Rattle.mdr_exec.specs.Holding.{around, below_of, front_in, held_of, here_of, slots_by, waits, wires_of}
-use Rattle.mdr_exec.specs.Running.{answered, is_waiting}
-use Rattle.mdr_exec.specs.Steps.{child}
+use Rattle.mdr_exec.specs.Holding.{around, below_of, front_in, held_of, here_of, slots_by, waits}
 use Rattle.mdr_exec.proofs.RunningLaws.{questions_are_answered}
 
 -- nothing was started

@@ -18,6 +18,9 @@ use Rattle.mdr_meaning.specs.Printed.{print_text}
 use Rattle.mdr_meaning.specs.Sides.{Body, Here, Side, framed}
 use Rattle.mdr_meaning.specs.Values.{first_of, natural, rest_of}
 use Rattle.mdr_meaning.specs.Walk.{Accesses}
+use Rattle.mdr_events.specs.Held.{Held, Runs}
+use Rattle.mdr_events.specs.Steps.{holds, Came, Crosses, Stopped, Ticks}
+use Rattle.mdr_events.specs.Values.{wires_of}
 use Rattle.mdr_exec.specs.declared.calling.Calling.{Calling as Doing}
 use Rattle.mdr_exec.specs.declared.calling.Taking.{Taking}
 use Rattle.mdr_exec.specs.declared.calling.Taking.TheVariants as taking
@@ -35,12 +38,10 @@ use Rattle.mdr_exec.specs.Evaluation.{after_value}
 use Rattle.mdr_exec.specs.Events.{came_as}
 use Rattle.mdr_exec.specs.Found.{body_codes, codes_by, codes_from}
 use Rattle.mdr_exec.specs.Halves.{HoldsCall, SidesAreHalves, awaits, body_in, called_as, calling_as, is_kernel, is_own, taking_by}
-use Rattle.mdr_exec.specs.Held.{Held, Runs}
-use Rattle.mdr_exec.specs.Holding.{around, below_of, held_of, here_of, is_running, result_by, slots_by, wires_of}
+use Rattle.mdr_exec.specs.Holding.{around, below_of, held_of, here_of, is_running, result_by, slots_by}
 use Rattle.mdr_exec.specs.Leaving.{here_in}
 use Rattle.mdr_exec.specs.Places.{behind, inner}
 use Rattle.mdr_exec.specs.StatementSteps.{call_came, calling}
-use Rattle.mdr_exec.specs.Steps.{holds, Came, Crosses, Stopped, Ticks}
 use Rattle.mdr_exec.proofs.DoneLaws.{ahead_of, at_next, comes_in, items_of, locals_of, stepped_holds, stepped_to}
 use Rattle.mdr_exec.proofs.StepLaws.{statements_step}
 

@@ -5,13 +5,13 @@ use Rattle.mdr_core.specs.declared.value.Value.{Value}
 use Rattle.mdr_meaning.specs.Bodies.{means}
 use Rattle.mdr_meaning.specs.Sides.{Side}
 use Rattle.mdr_meaning.specs.Values.{wire_of}
+use Rattle.mdr_events.specs.Held.{bare, carry, tree}
+use Rattle.mdr_events.specs.Steps.{IsSame}
 use Rattle.mdr_exec.specs.declared.frame.Flow.TheVariants as flow
 use Rattle.mdr_exec.specs.declared.frame.Front.TheVariants as front
 use Rattle.mdr_exec.specs.declared.frame.Machine.{Machine}
-use Rattle.mdr_exec.specs.Held.{bare, carry, tree}
 use Rattle.mdr_exec.specs.Holding.{block_of, held_of, is_running}
 use Rattle.mdr_exec.specs.Places.{code_at}
-use Rattle.mdr_exec.specs.Steps.{IsSame}
 use Rattle.mdr_exec.proofs.EnterLaws.{running_is}
 use Rattle.mdr_exec.proofs.PathLaws.{none_stands}
 use Rattle.mdr_exec.proofs.StartLaws.{wires_more}

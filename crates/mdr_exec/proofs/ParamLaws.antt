@@ -19,6 +19,10 @@ use Rattle.mdr_meaning.specs.Numbers.{Numbered}
 use Rattle.mdr_meaning.specs.Sides.{Locals, Side, in_here}
 use Rattle.mdr_meaning.specs.Values.{wire_of}
 use Rattle.mdr_meaning.specs.Walk.{Accesses}
+use Rattle.mdr_events.specs.Held.{Enters, Fills, Held}
+use Rattle.mdr_events.specs.Outcomes.{when_made}
+use Rattle.mdr_events.specs.Steps.{holds, Goes, Asks, came_by, Steps}
+use Rattle.mdr_events.specs.Values.{wires_of}
 use Rattle.mdr_exec.specs.declared.event.Outcome.{Outcome}
 use Rattle.mdr_exec.specs.declared.event.Outcome.TheVariants as outcome
 use Rattle.mdr_exec.specs.declared.frame.Front.{Front as Before}
@@ -27,12 +31,9 @@ use Rattle.mdr_exec.specs.declared.frame.Machine.{Machine}
 use Rattle.mdr_exec.specs.Effects.{Did, after_did, did, fills_of, stored}
 use Rattle.mdr_exec.specs.Entering.{filling, params_by}
 use Rattle.mdr_exec.specs.Events.{came_with}
-use Rattle.mdr_exec.specs.Held.{Enters, Fills, Held}
-use Rattle.mdr_exec.specs.Holding.{block_of, front_in, held_of, here_of, slots_by, wires_of}
+use Rattle.mdr_exec.specs.Holding.{block_of, front_in, held_of, here_of, slots_by}
 use Rattle.mdr_exec.specs.Leaving.{here_in}
-use Rattle.mdr_exec.specs.Outcomes.{when_made}
 use Rattle.mdr_exec.specs.Places.{behind}
-use Rattle.mdr_exec.specs.Steps.{holds, Goes, Asks, came_by, Steps}
 use Rattle.mdr_exec.specs.Storing.{with_slots}
 use Rattle.mdr_exec.specs.Unwinding.{entering_came, entering_front, entering_memory, filled_after}
 use Rattle.mdr_exec.proofs.StartLaws.{wires_more}

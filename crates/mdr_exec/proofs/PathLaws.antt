@@ -1,9 +1,10 @@
 -- Places one step on: the next statement, and the list of a statement that is under way.
 use Rattle.std.proofs.Common.{◌≡◌, ℕ, zero, suc, List, [], ◌∷◌, ◌++◌, Some, None, refl}
 use Rattle.mdr_core.specs.Code.{Code, Codes}
+use Rattle.mdr_events.specs.Held.{Item, Rest}
+use Rattle.mdr_events.specs.Values.{wires_of}
 use Rattle.mdr_exec.specs.declared.places.Position.{Position}
-use Rattle.mdr_exec.specs.Held.{Item, Rest}
-use Rattle.mdr_exec.specs.Holding.{around, ends_with, wires_of}
+use Rattle.mdr_exec.specs.Holding.{around, ends_with}
 use Rattle.mdr_exec.specs.Places.{behind, code_at, code_before, inner, part_of}
 
 -- a statement stands at the index, and the next ones follow it

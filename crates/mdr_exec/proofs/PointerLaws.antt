@@ -1,5 +1,5 @@
 -- Types by their numbers, and sizes.
-use Rattle.std.proofs.Common.{◌≡◌, ◌↔◌, ℕ, suc, ◌+◌, ◌<◌, ◌≤◌, Bool, true, false, IsTrue, List, ◌∷◌, drop, length, get_or, Option, Some, None, slice_get, refl, ap, sym, subst, ◌∙◌, arith}
+use Rattle.std.proofs.Common.{◌≡◌, ℕ, suc, ◌+◌, ◌<◌, ◌≤◌, Bool, true, false, List, ◌∷◌, drop, length, get_or, Option, Some, None, slice_get, refl, ap, sym, ◌∙◌, arith}
 use Rattle.std.proofs.lemmas.List.{at_drop_more}
 use Rattle.std.proofs.lemmas.Option.{slice_get_past}
 use Rattle.mdr_core.specs.declared.types.Ty.{Ty}
@@ -8,16 +8,6 @@ use Rattle.mdr_core.specs.Layout.{cells, cells_at, cells_or, chosen}
 use Rattle.mdr_meaning.specs.Bodies.{without_funcs}
 use Rattle.mdr_meaning.specs.Numbers.{is_same_type, number_in}
 use Rattle.mdr_meaning.specs.Pointers.{size}
-use Rattle.mdr_meaning.proofs.NumberLaws.{type_same, types_exact}
-
--- ---- whether two types are one
-
-pub same_tested : (r : Bool) (t u : Ty) → (IsTrue r ↔ (t ≡ u)) → r ≡ is_same_type t u
-same_tested true t u h = sym (subst (λ (x : Ty). is_same_type t x ≡ true) (h.0 refl) (type_same t))
-same_tested false t u h = by_test (is_same_type t u) refl where
-  by_test : (b : Bool) → is_same_type t u ≡ b → false ≡ b
-  by_test true q = absurd (cc (h.1 (types_exact t u q)))
-  by_test false q = refl
 
 -- ---- numbers of types, by a search
 

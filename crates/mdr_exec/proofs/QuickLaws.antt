@@ -16,16 +16,17 @@ use Rattle.mdr_meaning.specs.Bodies.{known_of}
 use Rattle.mdr_meaning.specs.Numbers.{Numbered}
 use Rattle.mdr_meaning.specs.Sides.{Side, Locals, Ends}
 use Rattle.mdr_meaning.specs.Walk.{Accesses}
+use Rattle.mdr_events.specs.declared.integer.Integer.{Integer}
+use Rattle.mdr_events.specs.Integers.{FirstBecomes, HasFirst, integer_wire}
+use Rattle.mdr_events.specs.Running.{RunsTo}
+use Rattle.mdr_events.specs.Steps.{Goes, Ticks}
+use Rattle.mdr_events.specs.Values.{wires_of}
 use Rattle.mdr_exec.specs.declared.frame.Machine.{Machine}
-use Rattle.mdr_exec.specs.declared.integer.Integer.{Integer}
 use Rattle.mdr_exec.specs.Effects.{after_result, did, put_of, stored}
 use Rattle.mdr_exec.specs.Evaluation.{place_of, value_of}
-use Rattle.mdr_exec.specs.Holding.{block_of, held_of, is_running, wires_of}
-use Rattle.mdr_exec.specs.Integers.{FirstBecomes, HasFirst, integer_wire}
+use Rattle.mdr_exec.specs.Holding.{block_of, held_of, is_running}
 use Rattle.mdr_exec.specs.Places.{code_at}
-use Rattle.mdr_exec.specs.Running.{RunsTo}
 use Rattle.mdr_exec.specs.Quick.{IsInList, RunsOn, TakesTick}
-use Rattle.mdr_exec.specs.Steps.{Goes, Ticks}
 use Rattle.mdr_exec.specs.Storing.{slot_named, with_slots}
 use Rattle.mdr_exec.proofs.LeavingLaws.{held_behind, still_running}
 use Rattle.mdr_exec.proofs.PlaceLaws.{found_at}

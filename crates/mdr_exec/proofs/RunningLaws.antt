@@ -12,9 +12,9 @@ use Rattle.mdr_meaning.specs.Tree.{Tree}
 use Rattle.mdr_meaning.specs.Walk.{Accesses, walk}
 use Rattle.mdr_meaning.proofs.AlikeLaws.{started_alike}
 use Rattle.mdr_meaning.proofs.CutLaws.{cut_alike, cut_cut}
-use Rattle.mdr_exec.specs.Held.{Frame, Front, Runs, Unwinds, Comes, Enters, Fills, Born, WaitsValue, WaitsParams, WaitsObject, WaitsDeath, Item, Held, carry, bare, tree}
-use Rattle.mdr_exec.specs.Running.{FunctionsAreStarted, QuestionsAreAnswered, StatementsWantTicks, RunsTo, RunsAreMade, answered, is_waiting, started_over}
-use Rattle.mdr_exec.specs.Steps.{child, Came, Goes, IsSame, Steps, Ticks}
+use Rattle.mdr_events.specs.Held.{Frame, Front, Runs, Unwinds, Comes, Enters, Fills, Born, WaitsValue, WaitsParams, WaitsObject, WaitsDeath, Item, Held, carry, bare, tree}
+use Rattle.mdr_events.specs.Running.{FunctionsAreStarted, QuestionsAreAnswered, StatementsWantTicks, RunsTo, RunsAreMade, answered, is_waiting, started_over}
+use Rattle.mdr_events.specs.Steps.{child, Came, Goes, IsSame, Steps, Ticks}
 
 -- ---- started
 

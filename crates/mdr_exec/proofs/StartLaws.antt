@@ -7,7 +7,7 @@ use Rattle.mdr_core.specs.Typing.{Slot}
 use Rattle.mdr_meaning.specs.declared.wire.Wire.{Wire}
 use Rattle.mdr_meaning.specs.Sides.{framed}
 use Rattle.mdr_meaning.specs.Values.{wire_of}
-use Rattle.mdr_exec.specs.Holding.{wires_of}
+use Rattle.mdr_events.specs.Values.{wires_of}
 use Rattle.mdr_exec.specs.Starting.{slot_start, IsFilled}
 
 framed_step : (s : Slot) (rest : List Slot) (n : ℕ) (args : List Wire)

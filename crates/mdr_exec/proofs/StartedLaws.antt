@@ -10,6 +10,9 @@ use Rattle.mdr_meaning.specs.declared.wire.Wire.{Wire}
 use Rattle.mdr_meaning.specs.Bodies.{body_by, body_from, body_of, started}
 use Rattle.mdr_meaning.specs.Cut.{cut}
 use Rattle.mdr_meaning.specs.Sides.{Body, Side, framed}
+use Rattle.mdr_events.specs.Held.{Held, tree}
+use Rattle.mdr_events.specs.Running.{started_over}
+use Rattle.mdr_events.specs.Values.{wires_of}
 use Rattle.mdr_exec.specs.declared.frame.Frame.{Frame as Running}
 use Rattle.mdr_exec.specs.declared.frame.Front.{Front as Before}
 use Rattle.mdr_exec.specs.declared.frame.Front.TheVariants as front
@@ -18,10 +21,8 @@ use Rattle.mdr_exec.specs.declared.frame.Suspended.{Suspended}
 use Rattle.mdr_exec.specs.declared.frame.Machine.{Machine}
 use Rattle.mdr_exec.specs.declared.places.Position.{Position}
 use Rattle.mdr_exec.specs.Found.{body_codes, codes_by, codes_from}
-use Rattle.mdr_exec.specs.Held.{Held, tree}
-use Rattle.mdr_exec.specs.Holding.{around, below_of, held_of, here_of, result_by, slots_by, wires_of}
+use Rattle.mdr_exec.specs.Holding.{around, below_of, held_of, here_of, result_by, slots_by}
 use Rattle.mdr_exec.specs.Places.{behind, inner}
-use Rattle.mdr_exec.specs.Running.{started_over}
 use Rattle.mdr_exec.proofs.RunningLaws.{functions_are_started}
 
 -- the body of a function of the table

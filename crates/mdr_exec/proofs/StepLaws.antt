@@ -17,12 +17,12 @@ use Rattle.mdr_meaning.specs.Statements.{characters, declared, declared_by, leav
 use Rattle.mdr_meaning.specs.Tree.{Tree}
 use Rattle.mdr_meaning.specs.Values.{first_of, is_true}
 use Rattle.mdr_meaning.specs.Walk.{Accesses, on_access, walk}
+use Rattle.mdr_events.specs.Held.{Runs, Born, WaitsObject, Item, Held, carry, bare, tree, loop_again}
+use Rattle.mdr_events.specs.Steps.{Left, holds, holds_after, held_after, Goes, Asks, after, came_by, IsSame, Ticks}
 use Rattle.mdr_exec.specs.Calling.{Calling, Entering, Crossing, Asking, called_of, calling_tree, entered}
-use Rattle.mdr_exec.specs.Effects.{Did, Left, ended, assigned, returned_by, texts_of, Does}
+use Rattle.mdr_exec.specs.Effects.{Did, ended, assigned, returned_by, texts_of, Does}
 use Rattle.mdr_exec.specs.Evaluation.{value_of}
-use Rattle.mdr_exec.specs.Held.{Runs, Born, WaitsObject, Item, Held, carry, bare, tree, loop_again}
 use Rattle.mdr_exec.specs.StatementSteps.{is_object, zeroed, holds_block, holds_turn, branched, turned, calling, call_came, IsDone, StatementsStep}
-use Rattle.mdr_exec.specs.Steps.{holds, holds_after, held_after, Goes, Asks, after, came_by, IsSame, Ticks}
 use Rattle.mdr_exec.proofs.AgainLaws.{turns_again, enters_again, cut_births, cut_fills}
 use Rattle.mdr_exec.proofs.CallingLaws.{comes_to_call}
 use Rattle.mdr_exec.proofs.EffectLaws.{does_assign, does_end, does_return, does_texts}

@@ -10,15 +10,16 @@ use Rattle.mdr_meaning.specs.Numbers.{Numbered}
 use Rattle.mdr_meaning.specs.Sides.{Side, Locals, Ends, in_here}
 use Rattle.mdr_meaning.specs.Values.{wire_of}
 use Rattle.mdr_meaning.specs.Walk.{Accesses}
+use Rattle.mdr_events.specs.Held.{Runs, Item, Held}
+use Rattle.mdr_events.specs.Outcomes.{when_made}
+use Rattle.mdr_events.specs.Steps.{Left, holds, Goes, Stopped, came_by, held_after, Ticks}
+use Rattle.mdr_events.specs.Values.{wires_of}
 use Rattle.mdr_exec.specs.declared.frame.Machine.{Machine}
-use Rattle.mdr_exec.specs.Effects.{Did, Left, did, after_result, after_did, ended, assigned, put_of, stored}
+use Rattle.mdr_exec.specs.Effects.{Did, did, after_result, after_did, ended, assigned, put_of, stored}
 use Rattle.mdr_exec.specs.Evaluation.{place_of, value_of}
-use Rattle.mdr_exec.specs.Held.{Runs, Item, Held}
-use Rattle.mdr_exec.specs.Holding.{block_of, held_of, is_running, wires_of}
+use Rattle.mdr_exec.specs.Holding.{block_of, held_of, is_running}
 use Rattle.mdr_exec.specs.Leaving.{here_in, goes_behind}
-use Rattle.mdr_exec.specs.Outcomes.{when_made}
 use Rattle.mdr_exec.specs.Places.{behind, code_at}
-use Rattle.mdr_exec.specs.Steps.{holds, Goes, Stopped, came_by, held_after, Ticks}
 use Rattle.mdr_exec.specs.Storing.{slot_named, with_slots}
 use Rattle.mdr_exec.proofs.BeginningLaws.{stands, goes_past}
 use Rattle.mdr_exec.proofs.StepLaws.{statements_step}

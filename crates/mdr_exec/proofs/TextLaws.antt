@@ -15,13 +15,14 @@ use Rattle.mdr_meaning.specs.Sides.{Side, Locals, Ends, in_here}
 use Rattle.mdr_meaning.specs.Statements.{characters, element}
 use Rattle.mdr_meaning.specs.Values.{wire_of}
 use Rattle.mdr_meaning.specs.Walk.{Accesses}
+use Rattle.mdr_events.specs.Held.{Held, Runs}
+use Rattle.mdr_events.specs.Outcomes.{when_made}
+use Rattle.mdr_events.specs.Steps.{Left, holds, Goes, Stopped, came_by, held_after, Ticks}
+use Rattle.mdr_events.specs.Values.{wires_of}
 use Rattle.mdr_exec.specs.declared.frame.Machine.{Machine}
-use Rattle.mdr_exec.specs.Effects.{Did, Left, did, after_did, stored, texts_of}
-use Rattle.mdr_exec.specs.Held.{Held, Runs}
-use Rattle.mdr_exec.specs.Holding.{here_of, held_of, is_running, slots_by, wires_of}
+use Rattle.mdr_exec.specs.Effects.{Did, did, after_did, stored, texts_of}
+use Rattle.mdr_exec.specs.Holding.{here_of, held_of, is_running, slots_by}
 use Rattle.mdr_exec.specs.Leaving.{goes_behind, here_in}
-use Rattle.mdr_exec.specs.Outcomes.{when_made}
-use Rattle.mdr_exec.specs.Steps.{holds, Goes, Stopped, came_by, held_after, Ticks}
 use Rattle.mdr_exec.proofs.DoneLaws.{ahead_of, items_of, locals_of, at_next, ended_holds, comes_in, stops_in}
 use Rattle.mdr_exec.proofs.StepLaws.{statements_step}
 

@@ -7,10 +7,15 @@ use Rattle.mdr_core.specs.declared.value.Value.{Value}
 use Rattle.mdr_core.specs.Code.{Code, Codes}
 use Rattle.mdr_meaning.specs.Sides.{Side, in_here}
 use Rattle.mdr_meaning.specs.Walk.{Accesses}
+use Rattle.mdr_events.specs.declared.event.Event.{Event}
+use Rattle.mdr_events.specs.declared.event.Event.TheVariants as event
+use Rattle.mdr_events.specs.Going.{RanTo}
+use Rattle.mdr_events.specs.Held.{Held}
+use Rattle.mdr_events.specs.Running.{RunsTo, WantsTick, is_block, number_of}
+use Rattle.mdr_events.specs.Steps.{Came, Goes, IsSame, Steps, Ticks}
+use Rattle.mdr_events.specs.Values.{wires_of}
 use Rattle.mdr_exec.specs.declared.event.Outcome.{Outcome}
 use Rattle.mdr_exec.specs.declared.event.Outcome.TheVariants as outcome
-use Rattle.mdr_exec.specs.declared.event.Event.{Event}
-use Rattle.mdr_exec.specs.declared.event.Event.TheVariants as event
 use Rattle.mdr_exec.specs.declared.frame.Front.{Front as Before}
 use Rattle.mdr_exec.specs.declared.frame.Front.TheVariants as front
 use Rattle.mdr_exec.specs.declared.frame.Machine.{Machine}
@@ -19,13 +24,10 @@ use Rattle.mdr_exec.specs.declared.turn.Stepped.{Stepped}
 use Rattle.mdr_exec.specs.declared.turn.Stepped.TheVariants as stepped
 use Rattle.mdr_exec.specs.Entering.{filling}
 use Rattle.mdr_exec.specs.Events.{came_as, came_with}
-use Rattle.mdr_exec.specs.Going.{SteppedTo, RanTo, ran_as, stepped_with}
+use Rattle.mdr_exec.specs.Going.{SteppedTo, ran_as, stepped_with}
 use Rattle.mdr_exec.specs.Halves.{side_in}
-use Rattle.mdr_exec.specs.Held.{Held}
-use Rattle.mdr_exec.specs.Holding.{held_of, here_of, is_running, wires_of}
+use Rattle.mdr_exec.specs.Holding.{held_of, here_of, is_running}
 use Rattle.mdr_exec.specs.Leaving.{here_in}
-use Rattle.mdr_exec.specs.Running.{RunsTo, WantsTick, is_block, number_of}
-use Rattle.mdr_exec.specs.Steps.{Came, Goes, IsSame, Steps, Ticks}
 use Rattle.mdr_exec.specs.Storing.{with_slots}
 use Rattle.mdr_exec.proofs.BeginningLaws.{stands}
 use Rattle.mdr_exec.proofs.DoneLaws.{at_next, ahead_of, items_of}

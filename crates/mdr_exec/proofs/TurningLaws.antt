@@ -15,21 +15,22 @@ use Rattle.mdr_meaning.specs.Numbers.{Numbered}
 use Rattle.mdr_meaning.specs.Sides.{Side}
 use Rattle.mdr_meaning.specs.Values.{is_true}
 use Rattle.mdr_meaning.specs.Walk.{Accesses}
+use Rattle.mdr_events.specs.declared.integer.Integer.{Integer}
+use Rattle.mdr_events.specs.Held.{Held}
+use Rattle.mdr_events.specs.Integers.{integer_wire}
+use Rattle.mdr_events.specs.Running.{RunsTo}
+use Rattle.mdr_events.specs.Steps.{Goes, IsSame}
+use Rattle.mdr_events.specs.Values.{wires_of}
 use Rattle.mdr_exec.specs.declared.frame.Machine.{Machine}
-use Rattle.mdr_exec.specs.declared.integer.Integer.{Integer}
 use Rattle.mdr_exec.specs.declared.turn.Stepped.{Stepped}
 use Rattle.mdr_exec.specs.declared.turn.Stepped.TheVariants as stepped
 use Rattle.mdr_exec.specs.Evaluation.{value_of}
 use Rattle.mdr_exec.specs.Events.{came_with}
 use Rattle.mdr_exec.specs.Going.{SteppedTo}
 use Rattle.mdr_exec.specs.Halves.{side_in}
-use Rattle.mdr_exec.specs.Held.{Held}
-use Rattle.mdr_exec.specs.Holding.{held_of, wires_of}
-use Rattle.mdr_exec.specs.Integers.{integer_wire}
+use Rattle.mdr_exec.specs.Holding.{held_of}
 use Rattle.mdr_exec.specs.Places.{code_at}
 use Rattle.mdr_exec.specs.Quick.{IsAsBefore, IsInList, RunsOn, TakesTick}
-use Rattle.mdr_exec.specs.Running.{RunsTo}
-use Rattle.mdr_exec.specs.Steps.{Goes, IsSame}
 use Rattle.mdr_exec.proofs.PlaceLaws.{found_at}
 use Rattle.mdr_exec.proofs.RunningLaws.{runs_are_made}
 use Rattle.mdr_exec.proofs.TurnLaws.{same_runs, tick_told}

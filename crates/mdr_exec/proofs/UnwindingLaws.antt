@@ -13,9 +13,9 @@ use Rattle.mdr_meaning.specs.Sides.{Side, Here, Locals, Flow, Ends, Breaks, Cont
 use Rattle.mdr_meaning.specs.Tree.{Tree}
 use Rattle.mdr_meaning.specs.Statements.{on_ends}
 use Rattle.mdr_meaning.specs.Walk.{Reached, Accesses, on_access, walk, walked}
+use Rattle.mdr_events.specs.Held.{Frame, Unwinds, Comes, Enters, Fills, Item, Rest, Scope, Around, Caller, Base, Held, carry, bare, tree}
+use Rattle.mdr_events.specs.Steps.{holds, front_after, came_by, held_after, after, IsSame, Steps}
 use Rattle.mdr_exec.specs.Effects.{keep_of, fills_of}
-use Rattle.mdr_exec.specs.Held.{Frame, Unwinds, Comes, Enters, Fills, Item, Rest, Scope, Around, Caller, Base, Held, carry, bare, tree}
-use Rattle.mdr_exec.specs.Steps.{holds, front_after, came_by, held_after, after, IsSame, Steps}
 use Rattle.mdr_exec.specs.Unwinding.{is_return, flow_after, dying_came, dying_front, dying_memory, entering_came, entering_front, entering_memory, filled_after, IsEnd, WorkGoesOn}
 use Rattle.mdr_exec.proofs.EffectLaws.{does_fills, does_keep}
 use Rattle.mdr_exec.proofs.StepLaws.{finishes, next_of}

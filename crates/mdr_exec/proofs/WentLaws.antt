@@ -12,6 +12,9 @@ use Rattle.mdr_exec.specs.declared.frame.Flow.{Flow as Leaving}
 use Rattle.mdr_exec.specs.declared.frame.Front.TheVariants as front
 use Rattle.mdr_exec.specs.declared.frame.Machine.{Machine}
 use Rattle.std.proofs.lemmas.List.{reverse-append}
+use Rattle.mdr_events.specs.Held.{Item, Held}
+use Rattle.mdr_events.specs.Steps.{Ended, Goes, Asks, IsSame, Steps}
+use Rattle.mdr_events.specs.Values.{wires_of}
 use Rattle.mdr_exec.specs.declared.frame.Suspended.{Suspended}
 use Rattle.mdr_exec.specs.declared.frame.Until.{Until}
 use Rattle.mdr_exec.specs.declared.frame.Until.TheVariants as until
@@ -23,11 +26,9 @@ use Rattle.mdr_exec.specs.declared.places.Position.{Position}
 use Rattle.mdr_exec.specs.declared.unwind.Left.{Left}
 use Rattle.mdr_exec.specs.Closing.{DiesAt, AtBlock, AtEnd, Finishes, asked_to_die, asks_on}
 use Rattle.mdr_exec.specs.Found.{body_codes}
-use Rattle.mdr_exec.specs.Held.{Item, Held}
-use Rattle.mdr_exec.specs.Holding.{around, below_of, block_of, ends_with, flow_as, held_of, waits_by, wires_of}
+use Rattle.mdr_exec.specs.Holding.{around, below_of, block_of, ends_with, flow_as, held_of, waits_by}
 use Rattle.mdr_exec.specs.Leaving.{ending_by, here_in, is_loop, leaves_list}
 use Rattle.mdr_exec.specs.Places.{code_before}
-use Rattle.mdr_exec.specs.Steps.{Ended, Goes, Asks, IsSame, Steps}
 use Rattle.mdr_exec.specs.Unwinding.{IsEnd, dying_came, is_return}
 use Rattle.mdr_exec.specs.Went.{dies_in, inside, left_came, left_of}
 use Rattle.mdr_exec.proofs.LeavingLaws.{Looped, The, looped, plainly, turning, placed, block_left}

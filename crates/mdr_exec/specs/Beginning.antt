@@ -1,11 +1,12 @@
+-- protocol
 -- Statements begin: what comes of one, and which of its lists is entered.
 use Rattle.std.specs.Prelude.{Bool, Option, Some, None}
 use Rattle.mdr_core.specs.declared.place.At.{At}
 use Rattle.mdr_core.specs.declared.stop.StopKind.{StopKind}
 use Rattle.mdr_core.specs.Layout.{chosen}
+use Rattle.mdr_events.specs.Steps.{Came, Goes, Stopped}
 use Rattle.mdr_exec.specs.declared.places.Part.{Part}
 use Rattle.mdr_exec.specs.declared.places.Part.TheVariants as part
-use Rattle.mdr_exec.specs.Steps.{Came, Goes, Stopped}
 
 -- it goes on, or stops at its place
 abbrev pub came_of : Option StopKind → At → Came

@@ -1,3 +1,4 @@
+-- protocol
 -- What comes next where a list of statements was left at its end, and no object was born in it.
 use Rattle.std.specs.Prelude.{◌≡◌, ℕ, ◌-◌, Bool, true, false, Option, Some}
 use Rattle.mdr_core.specs.Code.{Code, Codes}

@@ -1,3 +1,4 @@
+-- protocol
 -- What a call comes to before anything of it runs (C99 6.5.2.2): what is called and with which arguments, or a stop.
 use Rattle.std.specs.Prelude.{◌≡◌, ℕ, suc, List, [], Option, Some, None, Result, Ok, Err, ◌==◌, nat_lt, unwrap_or}
 use Rattle.mdr_core.specs.declared.place.At.{At}

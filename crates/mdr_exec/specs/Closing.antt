@@ -1,11 +1,12 @@
+-- protocol
 -- Where objects die, and what a function's end leaves.
 use Rattle.std.specs.Prelude.{◌≡◌, ℕ, Bool, true, false, List, [], ◌∷◌, Option, Some, None}
 use Rattle.mdr_meaning.specs.declared.wire.Wire.{Wire}
 use Rattle.mdr_meaning.specs.Sides.{Side, Flow}
 use Rattle.mdr_meaning.specs.Tree.{Tree}
+use Rattle.mdr_events.specs.Held.{Item, Scope, Held, tree}
 use Rattle.mdr_exec.specs.declared.frame.Side.{Side as Which}
 use Rattle.mdr_exec.specs.declared.frame.Side.TheVariants as which
-use Rattle.mdr_exec.specs.Held.{Item, Scope, Held, tree}
 use Rattle.mdr_exec.specs.Unwinding.{IsEnd, is_return}
 
 -- on the side of the user half births and deaths are asked for

@@ -1,3 +1,4 @@
+-- protocol
 -- Parameters and locals as the code finds them.
 use Rattle.mdr_core.specs.Typing.{Slot}
 use Rattle.mdr_exec.specs.declared.slots.Declared.{Declared}

@@ -1,3 +1,4 @@
+-- protocol
 -- What statements do to the memory and to their function's locals, and how they end.
 use Rattle.std.specs.Prelude.{◌≡◌, ℕ, suc, List, [], ◌∷◌, Option, Some, None, Result, Ok, Err, slice_set, pos}
 use Rattle.mdr_core.specs.declared.kind.Kind.{Kind}
@@ -17,6 +18,7 @@ use Rattle.mdr_meaning.specs.Sides.{Here, Locals, Flow, Ends, Returns}
 use Rattle.mdr_meaning.specs.Statements.{element}
 use Rattle.mdr_meaning.specs.Tree.{Tree}
 use Rattle.mdr_meaning.specs.Walk.{Accesses, on_access, walk}
+use Rattle.mdr_events.specs.Steps.{Left}
 use Rattle.mdr_exec.specs.Evaluation.{value_of, place_of}
 
 -- ---- what was done
@@ -36,11 +38,6 @@ after_result (Err kind) m go = did (Err kind) m
 
 abbrev pub after_did : {A B M : Type 0} → Did A M → (A → M → Did B M) → Did B M
 after_did d go = after_result d.result d.memory go
-
--- how a statement ends, and the locals then
-pub record Left : Type 0 where
-  pub flow : Flow
-  pub locals : Locals
 
 abbrev pub ended : {M : Type 0} → Flow → Locals → M → Did Left M
 ended flow l m = did (Ok (record { flow = flow; locals = l })) m

@@ -1,3 +1,4 @@
+-- protocol
 -- A function begins.
 use Rattle.std.specs.Prelude.{List, [], Option, Some, None, slice_get}
 use Rattle.mdr_core.specs.declared.program.Program.{Program}
@@ -5,9 +6,10 @@ use Rattle.mdr_core.specs.declared.program.Func.{Func}
 use Rattle.mdr_core.specs.declared.program.Param.{Param}
 use Rattle.mdr_core.specs.declared.value.Value.{Value}
 use Rattle.mdr_meaning.specs.Lives.{object_params}
+use Rattle.mdr_events.specs.Held.{Fills, Held}
+use Rattle.mdr_events.specs.Values.{wires_of}
 use Rattle.mdr_exec.specs.declared.frame.Machine.{Machine}
-use Rattle.mdr_exec.specs.Held.{Fills, Held}
-use Rattle.mdr_exec.specs.Holding.{frame_of, held_of, slots_by, wires_of}
+use Rattle.mdr_exec.specs.Holding.{frame_of, held_of, slots_by}
 
 abbrev pub params_by : Option Func → List Param
 params_by None = []

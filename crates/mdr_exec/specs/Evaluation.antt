@@ -1,3 +1,4 @@
+-- protocol
 -- What expressions and lvalues come to on a memory, whatever a memory is (C99 6.5): a value, or the first stop from left to right.
 use Rattle.std.specs.Prelude.{◌≡◌, ℕ, true, false, not, List, [], ◌∷◌, Result, Ok, Err}
 use Rattle.mdr_core.specs.declared.stop.StopKind.{StopKind}

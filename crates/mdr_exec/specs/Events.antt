@@ -1,16 +1,12 @@
+-- protocol
 -- What a step of the code comes to, as definitions have it.
 use Rattle.std.specs.Prelude.{Option, Some, None}
-use Rattle.mdr_meaning.specs.Lives.{asked_for}
-use Rattle.mdr_meaning.specs.Tree.{Asked}
 use Rattle.mdr_meaning.specs.Values.{wire_of}
-use Rattle.mdr_exec.specs.declared.event.Asked.{Asked as Question}
+use Rattle.mdr_events.specs.Events.{asked_as}
+use Rattle.mdr_events.specs.Steps.{Came, Goes, Ended, Stopped, Asks, Crosses}
+use Rattle.mdr_events.specs.Values.{wires_of}
 use Rattle.mdr_exec.specs.declared.event.Outcome.{Outcome}
 use Rattle.mdr_exec.specs.declared.event.Outcome.TheVariants as outcome
-use Rattle.mdr_exec.specs.Holding.{wires_of}
-use Rattle.mdr_exec.specs.Steps.{Came, Goes, Ended, Stopped, Asks, Crosses}
-
-abbrev pub asked_as : Question → Asked
-asked_as q = asked_for q.service q.at (wires_of q.args) q.shapes q.bytes
 
 abbrev pub came_with : Outcome → Came
 came_with (outcome.Done v) = Ended (wire_of v)

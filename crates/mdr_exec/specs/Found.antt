@@ -1,3 +1,4 @@
+-- protocol
 -- The code of what was found in a body.
 use Rattle.std.specs.Prelude.{ℕ, Bool, true, false, List, map, Option, Some, None, slice_get, option_copied}
 use Rattle.mdr_core.specs.Code.{Code, Codes}

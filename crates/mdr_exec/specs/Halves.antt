@@ -1,3 +1,4 @@
+-- protocol
 -- Which code runs on a side: that of one half, or all of it.
 use Rattle.std.specs.Prelude.{◌≡◌, ℕ, suc, Bool, true, false, not, List, Option, Some, None, Result, Ok, Err, slice_get}
 use Rattle.mdr_core.specs.declared.plan.Half.{Half}
@@ -9,6 +10,10 @@ use Rattle.mdr_core.specs.Layout.{chosen}
 use Rattle.mdr_core.specs.Services.{Service, Kzalloc, Kcalloc, Printk, Deliver}
 use Rattle.mdr_meaning.specs.Bodies.{body_of, known_of, whole_side, kernel_side, user_side}
 use Rattle.mdr_meaning.specs.Sides.{Body, Here, Side}
+use Rattle.mdr_events.specs.Events.{asked_as}
+use Rattle.mdr_events.specs.Held.{Held, WaitsValue}
+use Rattle.mdr_events.specs.Steps.{holds}
+use Rattle.mdr_events.specs.Values.{wires_of}
 use Rattle.mdr_exec.specs.declared.calling.Calling.{Calling as Doing}
 use Rattle.mdr_exec.specs.declared.calling.Calling.TheVariants as doing
 use Rattle.mdr_exec.specs.declared.calling.Calls.{Calls}
@@ -19,14 +24,11 @@ use Rattle.mdr_exec.specs.declared.frame.Side.{Side as Which}
 use Rattle.mdr_exec.specs.declared.frame.Side.TheVariants as which
 use Rattle.mdr_exec.specs.Calling.{Calling, Entering, Crossing, Asking}
 use Rattle.mdr_exec.specs.Closing.{asks_on}
-use Rattle.mdr_exec.specs.Events.{asked_as}
 use Rattle.mdr_exec.specs.Found.{body_codes}
-use Rattle.mdr_exec.specs.Held.{Held, WaitsValue}
-use Rattle.mdr_exec.specs.Holding.{block_of, goal_at, held_of, number_at, result_by, slots_by, wires_of}
+use Rattle.mdr_exec.specs.Holding.{block_of, goal_at, held_of, number_at, result_by, slots_by}
 use Rattle.mdr_exec.specs.Leaving.{here_in}
 use Rattle.mdr_exec.specs.Places.{behind, code_at}
 use Rattle.mdr_exec.specs.StatementSteps.{calling}
-use Rattle.mdr_exec.specs.Steps.{holds}
 use Rattle.mdr_exec.specs.Storing.{with_slots}
 
 -- ---- sides

@@ -1,5 +1,6 @@
+-- protocol
 -- The work that a machine holds.
-use Rattle.std.specs.Prelude.{suc, ℕ, List, [], ◌∷◌, ◌++◌, map, reverse, Option, Some, None, slice_get, Bool, true, false, length, ◌≡◌}
+use Rattle.std.specs.Prelude.{suc, ℕ, List, [], ◌∷◌, ◌++◌, reverse, Option, Some, None, slice_get, Bool, true, false, length, ◌≡◌}
 use Rattle.mdr_core.specs.declared.program.Program.{Program}
 use Rattle.mdr_core.specs.declared.program.Func.{Func}
 use Rattle.mdr_core.specs.declared.types.Ty.{Ty}
@@ -12,6 +13,9 @@ use Rattle.mdr_meaning.specs.Lives.{object_params}
 use Rattle.mdr_meaning.specs.Sides as sides
 use Rattle.mdr_meaning.specs.Sides.{Here, Locals}
 use Rattle.mdr_meaning.specs.Values.{wire_of}
+use Rattle.mdr_events.specs.Held.{Frame, Front, Runs, Unwinds, Comes, Enters, Fills, Born, WaitsValue, WaitsParams, WaitsObject, WaitsDeath, Item, Rest, Scope, Around, Caller, Base, Held, loop_again}
+use Rattle.mdr_events.specs.Running.{number_of}
+use Rattle.mdr_events.specs.Values.{wires_of}
 use Rattle.mdr_exec.specs.declared.frame.Flow.{Flow as Ended}
 use Rattle.mdr_exec.specs.declared.frame.Flow.TheVariants as flow
 use Rattle.mdr_exec.specs.declared.frame.Frame.{Frame as Running}
@@ -25,14 +29,9 @@ use Rattle.mdr_exec.specs.declared.places.Part.{Part}
 use Rattle.mdr_exec.specs.declared.places.Part.TheVariants as part
 use Rattle.mdr_exec.specs.declared.places.Position.{Position}
 use Rattle.mdr_exec.specs.Found.{body_codes}
-use Rattle.mdr_exec.specs.Held.{Frame, Front, Runs, Unwinds, Comes, Enters, Fills, Born, WaitsValue, WaitsParams, WaitsObject, WaitsDeath, Item, Rest, Scope, Around, Caller, Base, Held, loop_again}
 use Rattle.mdr_exec.specs.Places.{behind, code_at, code_before, inner, part_of}
-use Rattle.mdr_exec.specs.Running.{number_of}
 
--- ---- values and ways
-
-abbrev pub wires_of : List Value → List Wire
-wires_of vs = map wire_of vs
+-- ---- ways
 
 abbrev pub flow_as : Ended → sides.Flow
 flow_as flow.Ends = sides.Ends

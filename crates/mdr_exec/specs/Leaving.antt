@@ -1,19 +1,21 @@
+-- protocol
 -- How a list of statements is left: what ends with it, and what is held then.
 use Rattle.std.specs.Prelude.{◌≡◌, ℕ, ◌-◌, Bool, true, false, List, [], ◌∷◌, ◌++◌, Option, Some}
 use Rattle.mdr_core.specs.declared.program.Program.{Program}
 use Rattle.mdr_core.specs.Code.{Code, Codes}
 use Rattle.mdr_meaning.specs.declared.wire.Wire.{Wire}
 use Rattle.mdr_meaning.specs.Sides.{Here, Locals, Flow, Ends, Breaks, Continues, Returns}
+use Rattle.mdr_events.specs.Held.{Runs, Unwinds, Rest, Held}
+use Rattle.mdr_events.specs.Steps.{holds, front_after}
+use Rattle.mdr_events.specs.Values.{wires_of}
 use Rattle.mdr_exec.specs.declared.frame.Machine.{Machine}
 use Rattle.mdr_exec.specs.declared.leave.Ending.{Ending}
 use Rattle.mdr_exec.specs.declared.leave.Ending.TheVariants as ending
 use Rattle.mdr_exec.specs.declared.places.Part.{Part}
 use Rattle.mdr_exec.specs.declared.places.Part.TheVariants as part
 use Rattle.mdr_exec.specs.declared.places.Position.{Position}
-use Rattle.mdr_exec.specs.Held.{Runs, Unwinds, Rest, Held}
-use Rattle.mdr_exec.specs.Holding.{block_of, ends_with, here_of, held_of, wires_of}
+use Rattle.mdr_exec.specs.Holding.{block_of, ends_with, here_of, held_of}
 use Rattle.mdr_exec.specs.Places.{behind, code_before, part_of}
-use Rattle.mdr_exec.specs.Steps.{holds, front_after}
 
 abbrev pub is_loop : Option Code → Bool
 is_loop (Some (Code.Loop n e step body)) = true

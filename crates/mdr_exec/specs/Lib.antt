@@ -1,16 +1,12 @@
-pub mod Held
 pub mod Evaluation
 pub mod Effects
 pub mod Calling
-pub mod Steps
 pub mod StatementSteps
 pub mod Unwinding
-pub mod Running
 pub mod Places
 pub mod Found
 pub mod Holding
 pub mod Starting
-pub mod Outcomes
 pub mod Leaving
 pub mod Closing
 pub mod Beginning
@@ -23,6 +19,5 @@ pub mod Entering
 pub mod Printing
 pub mod Halves
 pub mod Going
-pub mod Integers
 pub mod Quick
 pub mod Behind

@@ -1,3 +1,4 @@
+-- protocol
 -- Places in code by numbers: a path of statements that are under way, from the outside in, and which of their lists is.
 use Rattle.std.specs.Prelude.{ℕ, zero, suc, List, [], ◌∷◌, Option, Some, None}
 use Rattle.mdr_core.specs.Code.{Code, Codes}

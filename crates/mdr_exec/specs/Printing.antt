@@ -1,3 +1,4 @@
+-- protocol
 -- Where a text is read, as the code has it.
 use Rattle.mdr_core.specs.Services as services
 use Rattle.mdr_exec.specs.declared.printing.Reading.{Reading}

@@ -1,13 +1,14 @@
+-- protocol
 -- What stays while statements of integers are done.
 use Rattle.std.specs.Prelude.{◌≡◌}
 use Rattle.mdr_core.specs.declared.program.Program.{Program}
 use Rattle.mdr_meaning.specs.Bodies.{known_of}
 use Rattle.mdr_meaning.specs.Sides.{Side}
 use Rattle.mdr_meaning.specs.Walk.{Accesses}
+use Rattle.mdr_events.specs.Running.{RunsTo}
+use Rattle.mdr_events.specs.Steps.{Goes, Ticks}
 use Rattle.mdr_exec.specs.declared.frame.Machine.{Machine}
 use Rattle.mdr_exec.specs.Holding.{block_of, held_of}
-use Rattle.mdr_exec.specs.Running.{RunsTo}
-use Rattle.mdr_exec.specs.Steps.{Goes, Ticks}
 use Rattle.std.specs.Prelude.{ℕ}
 
 -- nothing comes before the statements that follow, if nothing did, on the same side

@@ -1,3 +1,4 @@
+-- protocol
 -- The value of a call, as it is received, and where it goes.
 use Rattle.std.specs.Prelude.{ℕ, Bool, true, false, Some, Result, slice_get}
 use Rattle.mdr_core.specs.declared.kind.Kind.{Kind}

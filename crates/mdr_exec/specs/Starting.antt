@@ -1,3 +1,4 @@
+-- protocol
 -- What the slots of a function hold when it is called, one after the other.
 use Rattle.std.specs.Prelude.{◌≡◌, Bool, List, ◌++◌, drop, length, Option, Some, None}
 use Rattle.mdr_core.specs.declared.types.Ty.{Ty}

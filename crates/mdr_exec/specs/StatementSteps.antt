@@ -1,3 +1,4 @@
+-- protocol
 -- One step for each statement (C99 6.7, 6.8).
 use Rattle.std.specs.Prelude.{◌≡◌, ℕ, Bool, true, false, List, [], ◌∷◌, Option, Some, None, Result, Ok, Err, slice_get, slice_set}
 use Rattle.mdr_core.specs.declared.place.At.{At}
@@ -12,11 +13,11 @@ use Rattle.mdr_meaning.specs.Sides.{Side, Here, Locals, Ends, flow_of, framed, i
 use Rattle.mdr_meaning.specs.Statements.{characters}
 use Rattle.mdr_meaning.specs.Values.{first_of, is_true, wire_of}
 use Rattle.mdr_meaning.specs.Walk.{Accesses}
+use Rattle.mdr_events.specs.Held.{Runs, Enters, Born, WaitsValue, WaitsObject, Item, Rest, Scope, Around, Caller, Held}
+use Rattle.mdr_events.specs.Steps.{Left, holds, Came, Goes, Asks, Crosses, Stopped, came_by, held_after, IsSame, Ticks}
 use Rattle.mdr_exec.specs.Calling.{Calling, Entering, Crossing, Asking, called_of, entered}
-use Rattle.mdr_exec.specs.Effects.{Did, Left, ended, assigned, returned_by, texts_of}
+use Rattle.mdr_exec.specs.Effects.{Did, ended, assigned, returned_by, texts_of}
 use Rattle.mdr_exec.specs.Evaluation.{value_of}
-use Rattle.mdr_exec.specs.Held.{Runs, Enters, Born, WaitsValue, WaitsObject, Item, Rest, Scope, Around, Caller, Held}
-use Rattle.mdr_exec.specs.Steps.{holds, Came, Goes, Asks, Crosses, Stopped, came_by, held_after, IsSame, Ticks}
 
 -- ---- declarations (6.7)
 

@@ -1,3 +1,4 @@
+-- protocol
 -- How held work goes on where no statement runs: blocks, loops and functions are left, and what comes before the statements is done.
 use Rattle.std.specs.Prelude.{◌≡◌, ℕ, Bool, true, false, List, [], ◌∷◌, ◌++◌, Result, Ok, Err}
 use Rattle.mdr_core.specs.declared.place.At.{At}
@@ -8,10 +9,10 @@ use Rattle.mdr_meaning.specs.declared.shape.Shape64.{Shape64}
 use Rattle.mdr_meaning.specs.Lives.{after_deaths, asked_for, object_params, param_shapes, returned, with_object}
 use Rattle.mdr_meaning.specs.Sides.{Side, Here, Locals, Flow, Ends, Breaks, Continues, Returns, in_here}
 use Rattle.mdr_meaning.specs.Walk.{Accesses}
+use Rattle.mdr_events.specs.Held as held
+use Rattle.mdr_events.specs.Held.{Frame, Front, Runs, Unwinds, Comes, Enters, Fills, WaitsParams, WaitsDeath, Item, Rest, Scope, Around, Caller, Base, Held, loop_again}
+use Rattle.mdr_events.specs.Steps.{holds, Came, Goes, Asks, Ended, front_after, came_by, held_after, IsSame, Steps}
 use Rattle.mdr_exec.specs.Effects.{keep_of, fills_of}
-use Rattle.mdr_exec.specs.Held.{Frame, Front, Runs, Unwinds, Comes, Enters, Fills, WaitsParams, WaitsDeath, Item, Rest, Scope, Around, Caller, Base, Held, loop_again}
-use Rattle.mdr_exec.specs.Held as held
-use Rattle.mdr_exec.specs.Steps.{holds, Came, Goes, Asks, Ended, front_after, came_by, held_after, IsSame, Steps}
 
 abbrev pub is_return : Flow → Bool
 is_return (Returns v) = true

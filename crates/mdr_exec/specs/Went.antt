@@ -1,3 +1,4 @@
+-- protocol
 -- What a step comes to that leaves a block or a function.
 use Rattle.std.specs.Prelude.{Bool, true, false, List, [], ◌∷◌, ◌++◌, Option, Some, None}
 use Rattle.mdr_core.specs.declared.place.At.{At}
@@ -6,14 +7,14 @@ use Rattle.mdr_meaning.specs.declared.wire.Wire.{Wire}
 use Rattle.mdr_meaning.specs.Lives.{asked_for}
 use Rattle.mdr_meaning.specs.Sides.{Flow, Returns}
 use Rattle.mdr_meaning.specs.Values.{wire_of}
+use Rattle.mdr_events.specs.Steps.{Came, Goes, Asks, Ended}
+use Rattle.mdr_events.specs.Values.{wires_of}
 use Rattle.mdr_exec.specs.declared.frame.Machine.{Machine}
 use Rattle.mdr_exec.specs.declared.leave.Ending.{Ending}
 use Rattle.mdr_exec.specs.declared.leave.Ending.TheVariants as ending
 use Rattle.mdr_exec.specs.declared.places.Position.{Position}
 use Rattle.mdr_exec.specs.declared.unwind.Left.{Left}
 use Rattle.mdr_exec.specs.declared.unwind.Left.TheVariants as left
-use Rattle.mdr_exec.specs.Holding.{wires_of}
-use Rattle.mdr_exec.specs.Steps.{Came, Goes, Asks, Ended}
 
 abbrev pub left_came : Left → At → Came
 left_came left.Goes at = Goes

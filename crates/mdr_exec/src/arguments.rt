@@ -5,14 +5,14 @@ ghost use Rattle.mdr_core.specs.Folds.{term_of};
 ghost use Rattle.mdr_core.specs.Sound.{IsSound};
 ghost use Rattle.mdr_meaning.specs.Bodies.{known_of};
 ghost use Rattle.mdr_meaning.specs.Values.{first_of, rest_of, wire_of};
+ghost use Rattle.mdr_events.specs.Outcomes.{all_wired};
+ghost use Rattle.mdr_events.specs.Values.{wires_of};
 ghost use Rattle.mdr_exec.specs.Evaluation.{values_of};
-ghost use Rattle.mdr_exec.specs.Holding.{wires_of};
-ghost use Rattle.mdr_exec.specs.Outcomes.{all_wired};
 
 use crate::evaluate::evaluated;
 use crate::halt::Halt;
-use crate::memory::Memory;
 use mdr_core::{Expr, Items, Program, StopKind, Value};
+use mdr_events::Memory;
 use std::alloc::{AllocError, Global};
 
 /// The values of a list of expressions, or the first stop from left to right.

@@ -8,22 +8,23 @@ ghost use Rattle.mdr_meaning.specs.declared.wire.Wire.{Wire as AnyWire};
 ghost use Rattle.mdr_meaning.specs.Bodies.{known_of};
 ghost use Rattle.mdr_meaning.specs.Sides.{Locals, Side as AnySide, in_here};
 ghost use Rattle.mdr_meaning.specs.Values.{wire_of};
+ghost use Rattle.mdr_events.specs.Outcomes.{when_made, wired};
+ghost use Rattle.mdr_events.specs.Steps.{Ticks};
+ghost use Rattle.mdr_events.specs.Values.{wires_of};
 ghost use Rattle.mdr_exec.specs.Beginning.{came_of};
 ghost use Rattle.mdr_exec.specs.Effects.{after_result, did, put_of, stored};
 ghost use Rattle.mdr_exec.specs.Evaluation.{place_of, value_of};
-ghost use Rattle.mdr_exec.specs.Holding.{block_of, held_of, is_running, wires_of};
+ghost use Rattle.mdr_exec.specs.Holding.{block_of, held_of, is_running};
 ghost use Rattle.mdr_exec.specs.Leaving.{here_in};
-ghost use Rattle.mdr_exec.specs.Outcomes.{when_made, wired};
 ghost use Rattle.mdr_exec.specs.Places.{code_at};
-ghost use Rattle.mdr_exec.specs.Steps.{Ticks};
 ghost use Rattle.mdr_exec.specs.Storing.{slot_named, with_slots};
 
 use crate::evaluate::{evaluated, located};
 use crate::frame::Machine;
 use crate::halt::Halt;
 use crate::leave::go_on;
-use crate::memory::Memory;
 use mdr_core::{Expr, Items, Lval, Program, StopKind, Value};
+use mdr_events::Memory;
 
 /// A value is stored where a pointer says, if it was found.
 pub(crate) fn stored<C: Memory>(

@@ -8,21 +8,21 @@ ghost use Rattle.mdr_core.specs.Folds.{term_of, test_of};
 ghost use Rattle.mdr_core.specs.Sound.{IsSound};
 ghost use Rattle.mdr_meaning.specs.Bodies.{known_of};
 ghost use Rattle.mdr_meaning.specs.Sides.{Side as AnySide, flow_of, in_here};
+ghost use Rattle.mdr_events.specs.Steps.{Goes, IsSame, Ticks};
 ghost use Rattle.mdr_exec.specs.Beginning.{branch, came_of};
 ghost use Rattle.mdr_exec.specs.Holding.{block_of, flow_as, held_of, is_running};
 ghost use Rattle.mdr_exec.specs.Leaving.{here_in};
 ghost use Rattle.mdr_exec.specs.Places.{code_at};
-ghost use Rattle.mdr_exec.specs.Steps.{Goes, IsSame, Ticks};
 
 use crate::evaluate::evaluated;
 use crate::frame::{Flow, Machine};
 use crate::halt::Halt;
 use crate::leave::go_past;
-use crate::memory::Memory;
 use crate::places::Part;
 use crate::step::enter;
 use crate::values::is_true;
 use mdr_core::{Expr, Kind, Program, StopKind, Value};
+use mdr_events::Memory;
 use std::alloc::{AllocError, Global};
 
 fn branch(holds: bool) -> Part

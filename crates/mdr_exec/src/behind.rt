@@ -2,13 +2,13 @@
 
 ghost use Rattle.std.specs.Prelude.{◌≡◌, ◌++◌, ◌∷◌, [], List, None, true, IfSome};
 ghost use Rattle.mdr_meaning.specs.Sides.{Side as AnySide};
+ghost use Rattle.mdr_events.specs.Steps.{IsSame};
 ghost use Rattle.mdr_exec.specs.declared.places.Position.{Position as AnyPosition};
 ghost use Rattle.mdr_exec.specs.Behind.{GoesOnAt, is_stepless};
 ghost use Rattle.mdr_exec.specs.Found.{body_codes};
 ghost use Rattle.mdr_exec.specs.Holding.{block_of, held_of, is_running};
 ghost use Rattle.mdr_exec.specs.Places.{code_at, code_before, inner};
 ghost use Rattle.mdr_exec.specs.Quick.{IsAsBefore};
-ghost use Rattle.mdr_exec.specs.Steps.{IsSame};
 
 use crate::frame::Machine;
 use crate::leave::{is_while, last_off};

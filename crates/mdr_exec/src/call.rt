@@ -5,22 +5,23 @@ ghost use Rattle.mdr_core.specs.declared.program.Program.{Program as AnyProgram}
 ghost use Rattle.mdr_core.specs.Code.{Code, Goal};
 ghost use Rattle.mdr_core.specs.Folds.{call_of};
 ghost use Rattle.mdr_core.specs.Sound.{IsSound};
+ghost use Rattle.mdr_events.specs.Steps.{Crosses, Ticks};
+ghost use Rattle.mdr_events.specs.Values.{wires_of};
 ghost use Rattle.mdr_exec.specs.Events.{came_as, came_with};
 ghost use Rattle.mdr_exec.specs.Calling.{Entering};
 ghost use Rattle.mdr_exec.specs.Halves.{HoldsCall, awaits, body_in, calling_as, side_in};
-ghost use Rattle.mdr_exec.specs.Holding.{block_of, held_of, is_running, wires_of};
+ghost use Rattle.mdr_exec.specs.Holding.{block_of, held_of, is_running};
 ghost use Rattle.mdr_exec.specs.Leaving.{here_in};
 ghost use Rattle.mdr_exec.specs.Places.{code_at};
 ghost use Rattle.mdr_exec.specs.StatementSteps.{call_came};
-ghost use Rattle.mdr_exec.specs.Steps.{Crosses, Ticks};
 
 use crate::calling::{Calling, Calls, called};
-use crate::event::{Asked, Crossing, Outcome};
+use crate::event::Outcome;
 use crate::frame::{Frame, Front, Machine, Suspended, Until};
 use crate::halt::Halt;
-use crate::memory::Memory;
 use crate::run::slots_of;
 use mdr_core::{At, CallForm, Half, Items, Program, StopKind, Value};
+use mdr_events::{Asked, Crossing, Memory};
 use std::alloc::{AllocError, Global};
 use std::mem;
 

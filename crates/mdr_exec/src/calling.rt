@@ -12,28 +12,27 @@ ghost use Rattle.mdr_meaning.specs.Calls.{function_of};
 ghost use Rattle.mdr_meaning.specs.Lives.{asked_for};
 ghost use Rattle.mdr_meaning.specs.Printed.{print_text};
 ghost use Rattle.mdr_meaning.specs.Values.{first_of, natural, rest_of, wire_of};
+ghost use Rattle.mdr_events.specs.Outcomes.{all_wired};
+ghost use Rattle.mdr_events.specs.Values.{wires_of};
 ghost use Rattle.mdr_exec.specs.Calling.{Asking, called_of, direct_of, goes_by, served_by, through_of};
 ghost use Rattle.mdr_exec.specs.Evaluation.{after_value, value_of, values_of};
 ghost use Rattle.mdr_exec.specs.Halves.{called_as, calling_as, here_at, side_at, taking_by};
-ghost use Rattle.mdr_exec.specs.Holding.{wires_of};
-ghost use Rattle.mdr_exec.specs.Outcomes.{all_wired};
 
 use crate::arguments::{rest, second, values};
 use crate::evaluate::evaluated;
-use crate::event::Asked;
 use crate::frame::Machine;
 use crate::halt::Halt;
 use crate::halves::is_entered;
-use crate::memory::Memory;
 use crate::pointers::{number_fits, number_in};
 use crate::printing::{natural, print_text};
 use crate::values::{first, integer};
 use mdr_core::{At, CallForm, Callee, Expr, Half, Items, Name, Program, StopKind, Ty, Value};
+use mdr_events::{Asked, Memory};
 use mdr_meaning::Shape64;
 use std::alloc::Global;
 
 /// What a call comes to.
-#[derive(Debug, Drop)]
+#[derive(Drop)]
 pub enum Calling {
     /// The body of a function is entered with these arguments.
     Entering(u32, Items<Value>),
@@ -259,7 +258,7 @@ fn asks_to_deliver<C: Memory>(
 }
 
 /// Which services take other things than their arguments.
-#[derive(Clone, Copy, Debug, PartialEq, Eq)]
+#[derive(Clone, Copy)]
 pub(crate) enum Taking {
     Object,
     Objects,

@@ -7,17 +7,18 @@ ghost use Rattle.mdr_core.specs.declared.program.Program.{Program as AnyProgram}
 ghost use Rattle.mdr_meaning.specs.Lives.{after_deaths, is_into, returned};
 ghost use Rattle.mdr_meaning.specs.Sides.{Side as AnySide, in_here};
 ghost use Rattle.mdr_meaning.specs.Values.{wire_of};
+ghost use Rattle.mdr_events.specs.Steps.{IsSame, Steps};
+ghost use Rattle.mdr_events.specs.Values.{wires_of};
 ghost use Rattle.mdr_exec.specs.declared.frame.Front.TheVariants as front;
 ghost use Rattle.mdr_exec.specs.Closing.{DiesAt, Finishes, asked_to_die, asks_on};
-ghost use Rattle.mdr_exec.specs.Holding.{flow_as, held_of, wires_of};
+ghost use Rattle.mdr_exec.specs.Holding.{flow_as, held_of};
 ghost use Rattle.mdr_exec.specs.Leaving.{here_in};
-ghost use Rattle.mdr_exec.specs.Steps.{IsSame, Steps};
 ghost use Rattle.mdr_exec.specs.Unwinding.{dying_came, dying_memory, flow_after};
 
 use crate::frame::{Flow, Front, Machine, Side, Suspended, Until};
 use crate::leave::last_off;
-use crate::memory::Memory;
 use mdr_core::{Items, Value};
+use mdr_events::Memory;
 use std::alloc::Global;
 use std::mem;
 

@@ -8,21 +8,22 @@ ghost use Rattle.mdr_meaning.specs.Bodies.{known_of};
 ghost use Rattle.mdr_meaning.specs.Lives.{asked_for, shape_of};
 ghost use Rattle.mdr_meaning.specs.Sides.{Side as AnySide};
 ghost use Rattle.mdr_meaning.specs.Values.{first_of, wire_of};
+ghost use Rattle.mdr_events.specs.Events.{asked_as};
+ghost use Rattle.mdr_events.specs.Steps.{Goes, Ticks};
 ghost use Rattle.mdr_exec.specs.Declaring.{slot_as};
-ghost use Rattle.mdr_exec.specs.Events.{asked_as, came_as, came_with};
+ghost use Rattle.mdr_exec.specs.Events.{came_as, came_with};
 ghost use Rattle.mdr_exec.specs.Holding.{block_of, held_of, is_running, slots_by};
 ghost use Rattle.mdr_exec.specs.Places.{code_at};
-ghost use Rattle.mdr_exec.specs.Steps.{Goes, Ticks};
 
-use crate::event::{Asked, Outcome};
+use crate::event::Outcome;
 use crate::frame::{Flow, Front, Machine};
 use crate::halt::Halt;
 use crate::leave::go_past;
-use crate::memory::Memory;
 use crate::slots::{Declared, shape_of, slot_in};
 use crate::start::before_declared;
 use crate::values::first;
 use mdr_core::{At, Items, Program, Ty, Value};
+use mdr_events::{Asked, Memory};
 use mdr_meaning::Shape64;
 use std::alloc::{AllocError, Global};
 

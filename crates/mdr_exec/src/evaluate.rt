@@ -6,19 +6,19 @@ ghost use Rattle.mdr_core.specs.Sound.{IsSound};
 ghost use Rattle.mdr_meaning.specs.Bodies.{known_of};
 ghost use Rattle.mdr_meaning.specs.Pointers.{global as global_at};
 ghost use Rattle.mdr_meaning.specs.Values.{wire_of};
+ghost use Rattle.mdr_events.specs.Outcomes.{wired};
+ghost use Rattle.mdr_events.specs.Values.{wires_of};
 ghost use Rattle.mdr_exec.specs.Evaluation.{after_value, fresh_of, loaded_by, place_of, value_of};
-ghost use Rattle.mdr_exec.specs.Holding.{wires_of};
-ghost use Rattle.mdr_exec.specs.Outcomes.{wired};
 
 use crate::halt::Halt;
 use crate::members::member;
-use crate::memory::Memory;
 use crate::operators::{
     as_truth, both_by, combined, converted, either_by, flipped, inverted, negated,
 };
 use crate::pointers::{cast, difference, global, moved, related};
 use crate::values::slot_at;
 use mdr_core::{Expr, Lval, Program, StopKind, Value};
+use mdr_events::Memory;
 
 /// What a slot holds is read.
 fn fresh<C: Memory>(memory: &C, value: Value) -> Result<Value, StopKind>

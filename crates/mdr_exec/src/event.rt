@@ -4,47 +4,16 @@ ghost use Rattle.std.specs.Prelude.{◌≡◌};
 ghost use Rattle.mdr_exec.specs.Beginning.{came_of};
 ghost use Rattle.mdr_exec.specs.Events.{came_as};
 
-use mdr_core::{At, Items, StopKind, Value};
-use mdr_meaning::Shape64;
-
-/// A service that is asked for: its arguments, the objects that are to be born, and bytes.
-#[derive(Debug, Drop)]
-pub struct Asked {
-    pub service: u32,
-    pub at: At,
-    pub args: Items<Value>,
-    pub shapes: Items<Shape64>,
-    pub bytes: Items<u8>,
-}
-
-/// A call of a function of the other half, with so many functions active before it.
-#[derive(Debug, Drop)]
-pub struct Crossing {
-    pub at: At,
-    pub func: u32,
-    pub args: Items<Value>,
-    pub depth: u32,
-}
+use mdr_core::{At, StopKind, Value};
+use mdr_events::{Asked, Crossing};
 
 /// What running code comes to.
-#[derive(Debug, Drop)]
+#[derive(Drop)]
 pub enum Outcome {
     /// The function that was started last ended with a value.
     Done(Value),
     Cross(Crossing),
     Service(Asked),
-    Stop(StopKind, At),
-}
-
-/// What a run of the machine comes to.
-#[derive(Debug, Drop)]
-pub enum Event {
-    /// The function that was started last ended with a value.
-    Done(Value),
-    Cross(Crossing),
-    Service(Asked),
-    /// A tick is needed at a place, and none is left.
-    TicksOut(At),
     Stop(StopKind, At),
 }
 

@@ -4,7 +4,7 @@ use crate::places::Position;
 use mdr_core::{Items, Value};
 
 /// Which code runs here.
-#[derive(Clone, Copy, Debug, PartialEq, Eq)]
+#[derive(Clone, Copy)]
 pub enum Side {
     /// All of it.
     Whole,
@@ -15,7 +15,7 @@ pub enum Side {
 }
 
 /// How a statement ends.
-#[derive(Clone, Copy, Debug, PartialEq, Eq)]
+#[derive(Clone, Copy)]
 pub enum Flow {
     Ends,
     Breaks,
@@ -25,7 +25,7 @@ pub enum Flow {
 
 /// A function that runs: its place, by a path of statements that are under way and one more than the index of the one
 /// behind which it stands, what its slots hold, and the objects that were born in its innermost block.
-#[derive(Debug, Drop)]
+#[derive(Drop)]
 pub struct Frame {
     pub func: u32,
     pub depth: u32,
@@ -36,7 +36,7 @@ pub struct Frame {
 }
 
 /// What comes before the statements that follow.
-#[derive(Debug, Drop)]
+#[derive(Drop)]
 pub enum Front {
     /// Nothing.
     Runs,
@@ -58,7 +58,7 @@ pub enum Front {
 }
 
 /// What a frame waits for.
-#[derive(Debug, Drop)]
+#[derive(Drop)]
 pub enum Until {
     /// The value of the call that it stands behind.
     Call,
@@ -67,14 +67,14 @@ pub enum Until {
 }
 
 /// A frame below the one that runs.
-#[derive(Debug, Drop)]
+#[derive(Drop)]
 pub struct Suspended {
     pub frame: Frame,
     pub until: Until,
 }
 
 /// Code that runs on one side, and can stop between any two steps and go on. It borrows nothing.
-#[derive(Debug, Drop)]
+#[derive(Drop)]
 pub struct Machine {
     pub side: Side,
     pub front: Front,

@@ -2,16 +2,17 @@
 
 ghost use Rattle.std.specs.Prelude.{◌≡◌, ◌≤◌, ◌-◌, true, IfOk, OnOk};
 ghost use Rattle.mdr_core.specs.Sound.{IsSound};
-ghost use Rattle.mdr_exec.specs.Going.{RanTo, SteppedTo, has_room, is_open, ran_as};
+ghost use Rattle.mdr_events.specs.Going.{RanTo};
+ghost use Rattle.mdr_exec.specs.Going.{SteppedTo, has_room, is_open, ran_as};
 ghost use Rattle.mdr_exec.specs.Halves.{side_in};
 ghost use Rattle.mdr_exec.specs.Holding.{held_of, waits};
 
-use crate::event::{Asked, Event, Outcome};
+use crate::event::Outcome;
 use crate::frame::{Front, Machine};
 use crate::halt::Halt;
-use crate::memory::Memory;
 use crate::turn::{Stepped, step};
 use mdr_core::{Half, Program};
+use mdr_events::{Asked, Event, Memory};
 use std::alloc::Global;
 
 fn ran(event: Outcome) -> Event

@@ -8,18 +8,12 @@ ghost use Rattle.mdr_meaning.specs.declared.wire.Wire.TheVariants as wire;
 ghost use Rattle.mdr_meaning.specs.Expressions.{slot_of};
 ghost use Rattle.mdr_meaning.specs.Pointers.{related};
 ghost use Rattle.mdr_meaning.specs.Values.{at_kind, is_true, truth, wire_of};
-ghost use Rattle.mdr_exec.specs.Holding.{wires_of};
-ghost use Rattle.mdr_exec.specs.Integers.{integer_wire};
+ghost use Rattle.mdr_events.specs.Integers.{integer_wire};
+ghost use Rattle.mdr_events.specs.Values.{wires_of};
 
 use mdr_arith::{bin, flip, neg};
 use mdr_core::{BinOp, Kind, RelOp, Value};
-
-/// An integer with its kind.
-#[derive(Clone, Copy, Debug, PartialEq, Eq)]
-pub struct Integer {
-    pub number: i128,
-    pub kind: Kind,
-}
+use mdr_events::Integer;
 
 /// The `int` 1 or 0.
 pub(crate) fn truth_of(holds: bool) -> Integer

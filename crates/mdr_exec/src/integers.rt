@@ -4,18 +4,18 @@ ghost use Rattle.std.specs.Prelude.{◌≡◌, IfSome, Ok, true};
 ghost use Rattle.mdr_core.specs.Folds.{lvalue_of, term_of};
 ghost use Rattle.mdr_meaning.specs.Bodies.{known_of};
 ghost use Rattle.mdr_meaning.specs.Pointers.{global};
+ghost use Rattle.mdr_events.specs.Integers.{HasFirst, integer_wire};
+ghost use Rattle.mdr_events.specs.Values.{wires_of};
 ghost use Rattle.mdr_exec.specs.Evaluation.{loaded_by, place_of, value_of};
-ghost use Rattle.mdr_exec.specs.Holding.{wires_of};
-ghost use Rattle.mdr_exec.specs.Integers.{HasFirst, integer_wire};
 
 use crate::integer::{
-    Integer, as_integer, as_truth, compared, flipped, inverted, is_true, negated, operated,
-    slot_integer, truth_of,
+    as_integer, as_truth, compared, flipped, inverted, is_true, negated, operated, slot_integer,
+    truth_of,
 };
-use crate::memory::Memory;
 use crate::pointers::global_at;
 use mdr_arith::conv;
 use mdr_core::{Expr, Lval, Program, Value};
+use mdr_events::{Integer, Memory};
 
 /// Whether a global is there, with a first cell.
 pub(crate) fn has_first(program: &Program, g: u32) -> bool

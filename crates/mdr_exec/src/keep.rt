@@ -10,27 +10,27 @@ ghost use Rattle.mdr_meaning.specs.declared.wire.Wire.{Wire as AnyWire};
 ghost use Rattle.mdr_meaning.specs.Bodies.{known_of};
 ghost use Rattle.mdr_meaning.specs.Sides.{Side as AnySide, in_here};
 ghost use Rattle.mdr_meaning.specs.Values.{wire_of};
+ghost use Rattle.mdr_events.specs.Held.{Comes};
+ghost use Rattle.mdr_events.specs.Outcomes.{wired};
+ghost use Rattle.mdr_events.specs.Running.{number_of};
+ghost use Rattle.mdr_events.specs.Steps.{Goes, Steps};
 ghost use Rattle.mdr_exec.specs.Beginning.{came_of};
 ghost use Rattle.mdr_exec.specs.Events.{came_as};
 ghost use Rattle.mdr_exec.specs.Found.{code_in};
-ghost use Rattle.mdr_exec.specs.Held.{Comes};
 ghost use Rattle.mdr_exec.specs.Holding.{code_of_frame, front_in, goal_at, goal_in, held_of, number_at};
 ghost use Rattle.mdr_exec.specs.Leaving.{here_in};
 ghost use Rattle.mdr_exec.specs.Receiving.{goal_as, received_as, received_back};
-ghost use Rattle.mdr_exec.specs.Outcomes.{wired};
-ghost use Rattle.mdr_exec.specs.Running.{number_of};
-ghost use Rattle.mdr_exec.specs.Steps.{Goes, Steps};
 ghost use Rattle.mdr_exec.specs.declared.frame.Front.TheVariants as front;
 
 use crate::assign::put;
 use crate::event::{Outcome, stopped};
 use crate::frame::{Flow, Front, Machine};
 use crate::halt::Halt;
-use crate::memory::Memory;
 use crate::named::named_type;
 use crate::places::{Standing, block_at, body_of, standing_at};
 use crate::receive::received;
 use mdr_core::{At, Lval, Program, Step, Stmt, StopKind, Ty, Value};
+use mdr_events::Memory;
 
 /// Where the value of a call goes.
 #[derive(Clone, Copy)]

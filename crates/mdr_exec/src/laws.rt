@@ -1,8 +1,8 @@
 // Laws, each as a function that does nothing.
 
+ghost use Rattle.mdr_events.specs.Running.{FunctionsAreStarted, QuestionsAreAnswered, StatementsWantTicks, EachRunIsMade};
 ghost use Rattle.mdr_exec.specs.Evaluation.{ValuesArePassed, PlacesArePassed, ListsArePassed};
 ghost use Rattle.mdr_exec.specs.Halves.{SidesAreHalves};
-ghost use Rattle.mdr_exec.specs.Running.{FunctionsAreStarted, QuestionsAreAnswered, StatementsWantTicks, EachRunIsMade};
 ghost use Rattle.mdr_exec.specs.StatementSteps.{EachStatementSteps};
 ghost use Rattle.mdr_exec.specs.Unwinding.{HeldWorkGoesOn};
 

@@ -4,14 +4,15 @@ ghost use Rattle.std.specs.Prelude.{◌≡◌, ◌++◌, ◌∷◌, [], List, So
 ghost use Rattle.mdr_core.specs.Folds.{code_of, codes_of};
 ghost use Rattle.mdr_core.specs.declared.program.Program.{Program as AnyProgram};
 ghost use Rattle.mdr_meaning.specs.Sides.{Ends, Side as AnySide};
+ghost use Rattle.mdr_events.specs.Steps.{IsSame, front_after};
+ghost use Rattle.mdr_events.specs.Values.{wires_of};
 ghost use Rattle.mdr_exec.specs.declared.frame.Frame.{Frame as AnyFrame};
 ghost use Rattle.mdr_exec.specs.declared.places.Position.{Position as AnyPosition};
 ghost use Rattle.mdr_exec.specs.Behind.{is_stepless};
 ghost use Rattle.mdr_exec.specs.Found.{codes_in};
-ghost use Rattle.mdr_exec.specs.Holding.{block_of, flow_as, front_in, held_of, is_running, wires_of};
+ghost use Rattle.mdr_exec.specs.Holding.{block_of, flow_as, front_in, held_of, is_running};
 ghost use Rattle.mdr_exec.specs.Leaving.{LeavesNone, ending_by, goes_behind, goes_round, is_loop, leaves_list, passed_on, step_left, turn_left};
 ghost use Rattle.mdr_exec.specs.Places.{code_before};
-ghost use Rattle.mdr_exec.specs.Steps.{IsSame, front_after};
 
 use crate::frame::{Flow, Front, Machine};
 use crate::places::{
@@ -22,7 +23,7 @@ use std::alloc::{AllocError, Global};
 use std::mem;
 
 /// What ends with a list of statements.
-#[derive(Clone, Copy, Debug, PartialEq, Eq)]
+#[derive(Clone, Copy)]
 pub enum Ending {
     /// A turn of a loop's body.
     Turn,

@@ -40,7 +40,6 @@ mod laws;
 mod layout;
 mod leave;
 mod members;
-mod memory;
 mod named;
 mod next;
 mod operators;
@@ -61,13 +60,11 @@ mod turning;
 mod unwind;
 mod values;
 
-pub use event::{Asked, Crossing, Event, Outcome};
+pub use event::Outcome;
 pub use frame::{Flow, Frame, Front, Machine, Side, Suspended, Until};
 pub use halt::Halt;
-pub use integer::Integer;
 pub use laws::{
     each_run_is_made, each_statement_steps, evaluation_is_walked, functions_are_started,
     held_work_goes_on, questions_are_answered, sides_are_halves, statements_want_ticks,
 };
-pub use memory::Memory;
 pub use places::{Part, Position};

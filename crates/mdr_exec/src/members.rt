@@ -7,8 +7,8 @@ ghost use Rattle.mdr_meaning.specs.Bodies.{known_of, without_funcs};
 ghost use Rattle.mdr_meaning.specs.declared.wire.Wire.TheVariants as wire;
 ghost use Rattle.mdr_meaning.specs.Pointers.{field_by, field_in, field_view, member, position, struct_numbered};
 ghost use Rattle.mdr_meaning.specs.Values.{wire_of, wire_view};
+ghost use Rattle.mdr_events.specs.Outcomes.{wired};
 ghost use Rattle.mdr_exec.specs.Evaluation.{after_value};
-ghost use Rattle.mdr_exec.specs.Outcomes.{wired};
 
 use crate::halt::Halt;
 use crate::layout::{field_start, fields, struct_named};

@@ -7,8 +7,8 @@ ghost use Rattle.mdr_core.specs.declared.stop.StopKind.{StopKind};
 ghost use Rattle.mdr_meaning.specs.declared.wire.Wire.{Wire};
 ghost use Rattle.mdr_meaning.specs.declared.wire.Wire.TheVariants as wire;
 ghost use Rattle.mdr_meaning.specs.Values.{at_kind, integer, is_true, truth, wire_of};
+ghost use Rattle.mdr_events.specs.Outcomes.{wired};
 ghost use Rattle.mdr_exec.specs.Evaluation.{after_value, and_of, or_of};
-ghost use Rattle.mdr_exec.specs.Outcomes.{wired};
 
 use crate::halt::Halt;
 use crate::integer::may_stand_right;

@@ -9,7 +9,7 @@ ghost use Rattle.mdr_exec.specs.Found.{codes_in, code_in, turn_code, body_codes,
 use mdr_core::{Expr, Items, Program, Step, Stmt, Value};
 
 /// Which of its lists of statements a statement is in.
-#[derive(Clone, Copy, Debug, PartialEq, Eq)]
+#[derive(Clone, Copy)]
 pub enum Part {
     /// Where the test of an `if` holds, and where it doesn't.
     One,
@@ -23,7 +23,7 @@ pub enum Part {
 
 /// A statement that is under way: one more than its index in its block, which of its lists is under way, and the objects
 /// of its block that were born before it.
-#[derive(Debug, Drop)]
+#[derive(Drop)]
 pub struct Position {
     pub next: usize,
     pub part: Part,

@@ -8,15 +8,15 @@ ghost use Rattle.mdr_meaning.specs.declared.wire.Wire.TheVariants as wire;
 ghost use Rattle.mdr_meaning.specs.Numbers.{is_same_type, number_in};
 ghost use Rattle.mdr_meaning.specs.Pointers.{at_index, by_order, cast, difference, global, indexed, is_equal, is_one_array, moved, ordered, position, related, size, steps};
 ghost use Rattle.mdr_meaning.specs.Values.{integer, wire_of, wire_view};
+ghost use Rattle.mdr_events.specs.Outcomes.{wired};
 ghost use Rattle.mdr_exec.specs.Evaluation.{after_value};
-ghost use Rattle.mdr_exec.specs.Outcomes.{wired};
 
 use crate::halt::Halt;
-use crate::memory::Memory;
 use crate::values::{integer, truth};
 use mdr_core::{
     Block, GlobalDef, Kind, Program, RelOp, StopKind, Ty, Value, View, cells_of, same_type,
 };
+use mdr_events::Memory;
 
 // ---- moved
 

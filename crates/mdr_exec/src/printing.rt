@@ -6,7 +6,7 @@ ghost use Rattle.std.specs.Int.{int_rem_euclid};
 ghost use Rattle.mdr_core.specs.Services.{Percent, Plain};
 ghost use Rattle.mdr_meaning.specs.Printed.{print_text, printed, shown, told};
 ghost use Rattle.mdr_meaning.specs.Values.{integer, natural_of, rest_of};
-ghost use Rattle.mdr_exec.specs.Holding.{wires_of};
+ghost use Rattle.mdr_events.specs.Values.{wires_of};
 ghost use Rattle.mdr_exec.specs.Printing.{reading_as};
 
 use crate::halt::Halt;
@@ -15,7 +15,7 @@ use mdr_core::{Items, Value};
 use std::alloc::Global;
 
 /// Where a text is read: in plain bytes, behind a `%`, behind a `%l`.
-#[derive(Clone, Copy, Debug, PartialEq, Eq)]
+#[derive(Clone, Copy)]
 pub enum Reading {
     Plain,
     Percent,

@@ -6,20 +6,19 @@ ghost use Rattle.mdr_core.specs.Folds.{codes_of, lvalue_of, term_of};
 ghost use Rattle.mdr_meaning.specs.declared.wire.Wire.{Wire as AnyWire};
 ghost use Rattle.mdr_meaning.specs.Bodies.{known_of};
 ghost use Rattle.mdr_meaning.specs.Sides.{Side as AnySide};
+ghost use Rattle.mdr_events.specs.Integers.{integer_wire};
+ghost use Rattle.mdr_events.specs.Steps.{Goes, Ticks};
 ghost use Rattle.mdr_exec.specs.Effects.{did, put_of};
 ghost use Rattle.mdr_exec.specs.Holding.{block_of, held_of, is_running};
-ghost use Rattle.mdr_exec.specs.Integers.{integer_wire};
 ghost use Rattle.mdr_exec.specs.Places.{code_at};
 ghost use Rattle.mdr_exec.specs.Quick.{IsInList, RunsOn, TakesTick};
-ghost use Rattle.mdr_exec.specs.Steps.{Goes, Ticks};
 ghost use Rattle.mdr_exec.specs.Storing.{with_slots};
 
 use crate::frame::Machine;
-use crate::integer::Integer;
 use crate::integers::{has_first, integer_of};
-use crate::memory::Memory;
 use crate::places::statement_at;
 use mdr_core::{Expr, Items, Lval, Program, Step, Stmt, Value};
+use mdr_events::{Integer, Memory};
 
 /// An integer is put into a slot, or into the first cell of a global; or nothing is done.
 fn put_integer<C: Memory>(

@@ -5,7 +5,7 @@ ghost use Rattle.mdr_meaning.specs.Bodies.{known_of};
 ghost use Rattle.mdr_meaning.specs.Calls.{received};
 ghost use Rattle.mdr_meaning.specs.Pointers.{become};
 ghost use Rattle.mdr_meaning.specs.Values.{wire_of};
-ghost use Rattle.mdr_exec.specs.Outcomes.{wired};
+ghost use Rattle.mdr_events.specs.Outcomes.{wired};
 ghost use Rattle.mdr_exec.specs.Receiving.{is_no_value, of_kind};
 
 use crate::pointers::cast_value;

@@ -7,11 +7,12 @@ ghost use Rattle.mdr_meaning.specs.Cut.{cut};
 ghost use Rattle.mdr_meaning.specs.Sides.{Body, Side as AnySide, framed};
 ghost use Rattle.mdr_meaning.specs.Tree.{Tree};
 ghost use Rattle.mdr_meaning.specs.Values.{wire_of};
+ghost use Rattle.mdr_events.specs.Held.{tree};
+ghost use Rattle.mdr_events.specs.Running.{answered};
+ghost use Rattle.mdr_events.specs.Steps.{child};
+ghost use Rattle.mdr_events.specs.Values.{wires_of};
 ghost use Rattle.mdr_exec.specs.declared.frame.Frame.{Frame as AnyFrame};
-ghost use Rattle.mdr_exec.specs.Held.{tree};
-ghost use Rattle.mdr_exec.specs.Holding.{FitQuestion, front_in, held_of, here_of, slots_by, waits, wires_of};
-ghost use Rattle.mdr_exec.specs.Running.{answered};
-ghost use Rattle.mdr_exec.specs.Steps.{child};
+ghost use Rattle.mdr_exec.specs.Holding.{FitQuestion, front_in, held_of, here_of, slots_by, waits};
 
 use crate::frame::{Flow, Frame, Front, Machine, Side, Suspended, Until};
 use crate::start::slots_for;

@@ -5,7 +5,7 @@ ghost use Rattle.std.specs.Option.{option_map};
 ghost use Rattle.mdr_core.specs.Typing.{Slot, slot_of_local, slot_of_param, slots_of};
 ghost use Rattle.mdr_meaning.specs.Sides.{framed};
 ghost use Rattle.mdr_meaning.specs.Values.{wire_of};
-ghost use Rattle.mdr_exec.specs.Holding.{wires_of};
+ghost use Rattle.mdr_events.specs.Values.{wires_of};
 ghost use Rattle.mdr_exec.specs.Starting.{IsFilled, before_declared, slot_start};
 
 use mdr_core::{Func, Items, Local, LockState, Param, Ty, Value};

@@ -7,13 +7,13 @@ ghost use Rattle.mdr_core.specs.Folds.{code_of, term_of};
 ghost use Rattle.mdr_core.specs.Sound.{IsSound};
 ghost use Rattle.mdr_meaning.specs.Bodies.{known_of};
 ghost use Rattle.mdr_meaning.specs.Sides.{Side as AnySide, in_here};
+ghost use Rattle.mdr_events.specs.Steps.{Ticks};
 ghost use Rattle.mdr_exec.specs.Events.{came_as};
 ghost use Rattle.mdr_exec.specs.Found.{turn_code};
 ghost use Rattle.mdr_exec.specs.Halves.{side_in};
 ghost use Rattle.mdr_exec.specs.Holding.{block_of, held_of, is_running};
 ghost use Rattle.mdr_exec.specs.Leaving.{here_in};
 ghost use Rattle.mdr_exec.specs.Places.{code_at};
-ghost use Rattle.mdr_exec.specs.Steps.{Ticks};
 
 use crate::assign::begin_assign;
 use crate::begin::{begin_if, begin_jump, begin_loop, begin_return, begin_return_value};
@@ -23,10 +23,10 @@ use crate::declare::begin_declare;
 use crate::event::{Outcome, stopped};
 use crate::frame::{Flow, Machine};
 use crate::halt::Halt;
-use crate::memory::Memory;
 use crate::places::Turn;
 use crate::text::begin_text;
 use mdr_core::{At, Expr, Half, Program, Step, Stmt};
+use mdr_events::Memory;
 use std::alloc::Global;
 
 /// A `return`.

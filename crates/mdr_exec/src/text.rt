@@ -9,25 +9,25 @@ ghost use Rattle.mdr_meaning.specs.Sides.{Locals, Side as AnySide, Ends, in_here
 ghost use Rattle.mdr_core.specs.declared.types.Ty.{out-Ty};
 ghost use Rattle.mdr_meaning.specs.Statements.{characters, element, kind_by};
 ghost use Rattle.mdr_meaning.specs.Values.{wire_of};
+ghost use Rattle.mdr_events.specs.Outcomes.{when_made};
+ghost use Rattle.mdr_events.specs.Steps.{Ticks};
 ghost use Rattle.mdr_exec.specs.Beginning.{came_of};
 ghost use Rattle.mdr_exec.specs.Declaring.{slot_as};
 ghost use Rattle.mdr_exec.specs.Effects.{did, stored, texts_of};
 ghost use Rattle.mdr_exec.specs.Holding.{block_of, held_of, is_running};
 ghost use Rattle.mdr_exec.specs.Leaving.{here_in};
-ghost use Rattle.mdr_exec.specs.Outcomes.{when_made};
 ghost use Rattle.mdr_exec.specs.Places.{code_at};
-ghost use Rattle.mdr_exec.specs.Steps.{Ticks};
 
 use crate::assign::stored;
 use crate::frame::{Flow, Machine};
 use crate::halt::Halt;
 use crate::leave::go_past;
-use crate::memory::Memory;
 use crate::pointers::{at_index, cell_fits};
 use crate::slots::{Declared, slot_in};
 use crate::values::slot_at;
 use mdr_arith::conv;
 use mdr_core::{Kind, Program, StopKind, Ty, Value};
+use mdr_events::Memory;
 
 /// The kind of the characters of an array of this type.
 fn kind_by(ty: &Ty) -> Kind

@@ -8,24 +8,24 @@ ghost use Rattle.mdr_exec.specs.declared.frame.Front.TheVariants as front;
 ghost use Rattle.mdr_meaning.specs.Bodies.{known_of};
 ghost use Rattle.mdr_meaning.specs.Lives.{asked_for};
 ghost use Rattle.mdr_meaning.specs.Sides.{Side as AnySide};
+ghost use Rattle.mdr_events.specs.Running.{is_block};
+ghost use Rattle.mdr_events.specs.Steps.{Asks};
+ghost use Rattle.mdr_events.specs.Values.{wires_of};
 ghost use Rattle.mdr_exec.specs.Closing.{asks_on};
 ghost use Rattle.mdr_exec.specs.Events.{came_as, came_with};
 ghost use Rattle.mdr_exec.specs.Found.{turn_code};
 ghost use Rattle.mdr_exec.specs.Going.{SteppedTo, stepped_with};
 ghost use Rattle.mdr_exec.specs.Halves.{side_in};
-ghost use Rattle.mdr_exec.specs.Holding.{block_of, held_of, is_running, wires_of};
+ghost use Rattle.mdr_exec.specs.Holding.{block_of, held_of, is_running};
 ghost use Rattle.mdr_exec.specs.Places.{code_at};
-ghost use Rattle.mdr_exec.specs.Running.{is_block};
-ghost use Rattle.mdr_exec.specs.Steps.{Asks};
 ghost use Rattle.mdr_exec.specs.Went.{left_came};
 
 use crate::begin::begin_block;
 use crate::close::asks_on;
-use crate::event::{Asked, Outcome};
+use crate::event::Outcome;
 use crate::frame::{Flow, Front, Machine};
 use crate::halt::Halt;
 use crate::keep::{keep, number_in};
-use crate::memory::Memory;
 use crate::next::{run_out, stands_next, take_object};
 use crate::params::{enter_function, fill};
 use crate::places::{Standing, Turn};
@@ -33,11 +33,12 @@ use crate::statement::{do_statement, do_turn};
 use crate::turning::run_integers;
 use crate::unwind::{Left, unwind};
 use mdr_core::{At, Half, Items, Program, Step, Stmt, Value};
+use mdr_events::{Asked, Memory};
 use std::alloc::Global;
 use std::mem;
 
 /// What a step comes to, and the ticks that are left then.
-#[derive(Debug, Drop)]
+#[derive(Drop)]
 pub enum Stepped {
     /// The next step.
     Goes(u64),

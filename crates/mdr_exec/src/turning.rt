@@ -5,19 +5,19 @@ ghost use Rattle.mdr_core.specs.Code.{Code, Codes};
 ghost use Rattle.mdr_core.specs.Folds.{code_of, codes_of, term_of};
 ghost use Rattle.mdr_meaning.specs.Bodies.{known_of};
 ghost use Rattle.mdr_meaning.specs.Sides.{Side as AnySide};
+ghost use Rattle.mdr_events.specs.Steps.{Goes, Ticks};
 ghost use Rattle.mdr_exec.specs.Holding.{block_of, held_of, is_running};
 ghost use Rattle.mdr_exec.specs.Places.{code_at};
 ghost use Rattle.mdr_exec.specs.Quick.{IsAsBefore, RunsOn, TakesTick};
-ghost use Rattle.mdr_exec.specs.Steps.{Goes, Ticks};
 
 use crate::behind::leave_at_once;
 use crate::frame::Machine;
 use crate::integers::integer_of;
-use crate::memory::Memory;
 use crate::places::{Part, inside, statement_at, statements_of};
 use crate::quick::assign_all;
 use crate::step::enter;
 use mdr_core::{Expr, Program, Step, Stmt};
+use mdr_events::Memory;
 use std::alloc::{AllocError, Global};
 
 /// The test of a loop is done, where it is of integers; else nothing is.

@@ -3,25 +3,26 @@
 ghost use Rattle.std.specs.Prelude.{◌≡◌, ◌&&◌, [], IfOk, not};
 ghost use Rattle.mdr_core.specs.declared.program.Program.{Program as AnyProgram};
 ghost use Rattle.mdr_meaning.specs.Sides.{Side as AnySide, in_here};
+ghost use Rattle.mdr_events.specs.Steps.{Steps};
+ghost use Rattle.mdr_events.specs.Values.{wires_of};
 ghost use Rattle.mdr_exec.specs.declared.frame.Front.TheVariants as front;
 ghost use Rattle.mdr_exec.specs.Closing.{DiesAt, asks_on};
-ghost use Rattle.mdr_exec.specs.Holding.{block_of, flow_as, held_of, wires_of};
+ghost use Rattle.mdr_exec.specs.Holding.{block_of, flow_as, held_of};
 ghost use Rattle.mdr_exec.specs.Leaving.{ending_by, here_in, is_loop};
 ghost use Rattle.mdr_exec.specs.Places.{code_before};
-ghost use Rattle.mdr_exec.specs.Steps.{Steps};
 ghost use Rattle.mdr_exec.specs.Unwinding.{is_return};
 ghost use Rattle.mdr_exec.specs.Went.{dies_in, inside, left_came};
 
 use crate::close::{die, end_function};
 use crate::frame::{Flow, Machine};
 use crate::leave::{Ending, ending_at, last_off, leave_list};
-use crate::memory::Memory;
 use crate::places::{Part, Position};
 use mdr_core::{Items, Program, Value};
+use mdr_events::Memory;
 use std::alloc::{AllocError, Global};
 
 /// What a step comes to that leaves a block or a function.
-#[derive(Debug, Drop)]
+#[derive(Drop)]
 pub enum Left {
     /// The next step.
     Goes,

@@ -3,8 +3,8 @@
 ghost use Rattle.std.specs.Prelude.{◌≡◌};
 ghost use Rattle.mdr_meaning.specs.Expressions.{slot_of};
 ghost use Rattle.mdr_meaning.specs.Values.{at_kind, first_of, integer, is_true, stop_of, truth, wire_of};
-ghost use Rattle.mdr_exec.specs.Holding.{wires_of};
-ghost use Rattle.mdr_exec.specs.Outcomes.{wired};
+ghost use Rattle.mdr_events.specs.Outcomes.{wired};
+ghost use Rattle.mdr_events.specs.Values.{wires_of};
 
 use mdr_core::{Kind, StopKind, Undefined, Value};
 

@@ -1,3 +1,4 @@
+-- believed
 -- What each expression comes to, in a scope and among the locals so far (C99 6.5).
 use Rattle.std.specs.Prelude.{ℕ, List}
 use Rattle.mdr_core.specs.declared.place.Place.{Place}

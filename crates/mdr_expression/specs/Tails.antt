@@ -1,3 +1,4 @@
+-- protocol
 -- What stands behind the first tokens of expressions.
 use Rattle.std.specs.Prelude.{ℕ, suc, ◌+◌, ◌-◌, ◌<◌, ◌≤◌, ◌≡◌, Bool, true, false, not, List, [], ◌∷◌, ◌++◌, length, map, Option, Some, None, Result, Ok, Err}
 use Rattle.mdr_core.specs.declared.place.Place.{Place}

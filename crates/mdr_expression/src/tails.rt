@@ -13,7 +13,7 @@ use mdr_reader::look::{is_level_free, may_open, past, split};
 use mdr_syntax::Token;
 
 /// A postfix operator, told by its first token.
-#[derive(Clone, Copy, Debug)]
+#[derive(Clone, Copy)]
 pub enum Tail {
     Subscript,
     /// A member; true for `->`.

@@ -1,3 +1,4 @@
+-- believed
 -- What stands around a cell: its key, the annotation of the pointer in it, and the struct that it is in.
 use Rattle.std.specs.Prelude.{ℕ, zero, suc, ◌+◌, ◌-◌, ◌==◌, nat_lt, List, [], ◌∷◌, ◌++◌, length, Option, Some, None, slice_get}
 use Rattle.std.specs.Option.{option_map}

@@ -1,3 +1,4 @@
+-- believed
 -- Cells in their order: by serial, and in a block by index.
 use Rattle.std.specs.Prelude.{◌≡◌, ◌<◌, true, ◌⊎◌}
 use Rattle.std.proofs.Math.Nat.{lt_irrefl, lt_trans}

@@ -1,3 +1,4 @@
+-- believed
 -- How far a pointer may be followed: its extent.
 use Rattle.std.specs.Prelude.{ℕ, zero, suc, ◌+◌, ◌*◌, ◌-◌, nat_lt, Bool, true, false, not, List, [], Option, Some, None, ℤ, pos, negsuc}
 use Rattle.std.specs.List.{list_any}

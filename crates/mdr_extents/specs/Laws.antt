@@ -1,3 +1,4 @@
+-- protocol
 -- Laws of extents and of what is visible.
 use Rattle.std.specs.Prelude.{◌≡◌, ◌↔◌, ◌≤◌, ◌<◌, ℕ, ◌+◌, ◌-◌, Bool, true, List, Some, None, Ok, Err, slice_get}
 use Rattle.mdr_core.specs.declared.plan.Key.{Key}

@@ -1,3 +1,4 @@
+-- believed
 -- Which cells a function of the user half sees: those that pointers lead to.
 use Rattle.std.specs.Prelude.{ℕ, suc, ◌+◌, nat_lt, Bool, false, List, [], ◌∷◌, ◌++◌, filter, length, Option, Some, None, option_map, slice_get, Result, Ok, Err}
 use Rattle.mdr_core.specs.declared.plan.Key.{Key}

@@ -1,3 +1,4 @@
+-- protocol
 -- Structs in arrays of structs, worked out: the keys of cells, and the struct around each.
 use Rattle.std.specs.Prelude.{◌≡◌, ℕ, [], ◌∷◌, ◌++◌, codes, Some, None, false}
 use Rattle.mdr_core.specs.declared.kind.Kind.TheVariants.{U8, U32}

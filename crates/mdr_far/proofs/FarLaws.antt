@@ -3,7 +3,8 @@ use Rattle.std.proofs.Common.{◌≡◌, ℕ, List, [], Option, Some, None, refl
 use Rattle.mdr_core.specs.declared.plan.Plan.{Plan}
 use Rattle.mdr_core.specs.declared.program.Program.{Program}
 use Rattle.mdr_exchanges.specs.Meanings.{Honest}
-use Rattle.mdr_honest.specs.Honest.{IsHonest, Loads}
+use Rattle.mdr_honest.specs.Honest.{IsHonest}
+use Rattle.mdr_half_source.specs.Loads.{Loads}
 use Rattle.mdr_honest.proofs.Halves.{loads_once}
 use Rattle.mdr_outside.specs.declared.far.Exchange.{Exchange}
 use Rattle.mdr_outside.specs.declared.far.LoadAnswer.{LoadAnswer}

@@ -5,7 +5,7 @@ use Rattle.mdr_core.specs.declared.program.Program.{Program}
 use Rattle.mdr_core.specs.Sound.{IsSound}
 use Rattle.mdr_exchanges.specs.Runs.{sent_of}
 use Rattle.mdr_exchanges.specs.Meanings.{Honest}
-use Rattle.mdr_honest.specs.Honest.{Loads}
+use Rattle.mdr_half_source.specs.Loads.{Loads}
 use Rattle.mdr_honest.proofs.Halves.{half_is}
 use Rattle.mdr_model.specs.Bytes.{readings}
 use Rattle.mdr_model.specs.declared.message.Message.{Message}

@@ -1,3 +1,4 @@
+-- protocol
 -- The fields of a far side in the same process, as what it holds, and what holds of them.
 use Rattle.mdr_far.specs.declared.local_far.LocalFar.TheInside.{Inside}
 use Rattle.mdr_honest.specs.Honest.{IsHonest}

@@ -1,6 +1,7 @@
+-- protocol
 -- A far side in the same process.
 use Rattle.std.specs.Prelude.{◌≡◌, ℕ, List, [], Option, Some, None}
-use Rattle.mdr_honest.specs.Honest.{AreRefused, Loads}
+use Rattle.mdr_half_source.specs.Loads.{AreRefused, Loads}
 use Rattle.mdr_outside.specs.Calls.{FarCall}
 use Rattle.mdr_outside.specs.declared.far.Loaded.{Loaded}
 use Rattle.mdr_outside.specs.declared.far.Exchange.{Exchange}

@@ -1,3 +1,4 @@
+-- protocol
 -- The fields of the user half, as what callers see, and what holds of them.
 use Rattle.std.specs.Prelude.{[], IfSome, is_none}
 use Rattle.mdr_core.specs.Sound.{IsSound}

@@ -1,10 +1,11 @@
+-- protocol
 -- The user half, as callers see it.
 use Rattle.std.specs.Prelude.{◌≡◌, ℕ, Bool, true, false, List, [], ◌∷◌, ◌++◌, Some, Result, Ok, Err}
 use Rattle.mdr_core.specs.declared.plan.Plan.{Plan}
 use Rattle.mdr_core.specs.declared.program.Program.{Program}
 use Rattle.mdr_exchanges.specs.Runs.{sent_of}
 use Rattle.mdr_half_source.specs.declared.outcome.HalfSource.{HalfSource}
-use Rattle.mdr_honest.specs.Honest.{AreRefused, Loads}
+use Rattle.mdr_half_source.specs.Loads.{AreRefused, Loads}
 use Rattle.mdr_outside.specs.Far.{exchange}
 use Rattle.mdr_outside.specs.declared.far.Exchange.{Exchange}
 use Rattle.mdr_over_bytes.specs.OverBytes.{user_reply_to_bytes}

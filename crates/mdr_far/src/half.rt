@@ -15,7 +15,7 @@ ghost use Rattle.mdr_far.specs.Halves.{new_half, after_reply, lost, driver_in, R
 use crate::bytes::reply_to;
 use crate::load_error::LoadError;
 use crate::source::source;
-use mdr_core::{Items, OutOfMemory, Plan, Program};
+use mdr_core::{Items, Limit, OutOfMemory, Plan, Program};
 use mdr_half_source::HalfSource;
 use mdr_outside::Exchange;
 use mdr_user_code::{State, begins};
@@ -23,7 +23,7 @@ use std::alloc::Global;
 use std::marker::Model;
 
 /// The user half of a driver: it gets messages and replies to them. Once memory was wanting it replies no more.
-#[derive(Debug, Drop)]
+#[derive(Drop)]
 pub struct UserHalf {
     program: Program,
     plan: Plan,
@@ -127,7 +127,7 @@ impl UserHalf {
         ensures held { IfOk result (λ reply. self.old.is_lost ≡ false) }
     {
         let Some(mut state) = self.state.take() else {
-            return Err(OutOfMemory);
+            return Err(Limit::Unmet.past());
         };
         let reply = reply_to(alloc, &self.program, &self.plan, &mut state, bytes);
         match recorded(alloc, &mut self.exchanges, bytes, reply) {

@@ -7,7 +7,7 @@ use mdr_core::OutOfMemory;
 use thiserror::Error;
 
 /// Why a user half isn't loaded.
-#[derive(Clone, Copy, Debug, PartialEq, Eq, Error)]
+#[derive(Clone, Copy, Debug, Error)]
 pub enum LoadError {
     #[error("the plan is none")]
     Plan,

@@ -13,7 +13,7 @@ use std::alloc::Global;
 use std::marker::Model;
 
 /// A far side that holds the user half itself. It never fails.
-#[derive(Debug, Drop)]
+#[derive(Drop)]
 pub struct LocalFar {
     loaded: Option<Loaded>,
     half: Option<UserHalf>,
@@ -80,7 +80,7 @@ fn opened(
         Ok(half) => Ok((Some(half), LoadAnswer::Ok)),
         Err(LoadError::Plan) => Ok((None, LoadAnswer::Refused(1))),
         Err(LoadError::Source) => Ok((None, LoadAnswer::Refused(2))),
-        Err(LoadError::OutOfMemory) => Err(OutOfMemory),
+        Err(LoadError::OutOfMemory) => Err(OutOfMemory::passed_on()),
     }
 }
 

@@ -1,9 +1,8 @@
 -- Declarators, as their parts.
 use Rattle.std.proofs.Common.{ℕ, suc, ◌≡◌, ◌<◌, ◌+◌, List, [], ◌∷◌, ◌++◌, map, take, drop, length, get_or, refl, ap, Option, Some, None, Result}
-use Rattle.std.specs.Prelude.{◌||◌, ◌==◌, not}
+use Rattle.std.specs.Prelude.{◌==◌, not}
 use Rattle.std.proofs.lemmas.List.{map_more}
-use Rattle.mdr_faults.specs.declared.fault.FaultKind.TheVariants.{Redefined, Limit}
-use Rattle.std.specs.List.{list_any}
+use Rattle.mdr_faults.specs.declared.fault.FaultKind.TheVariants.{Limit}
 use Rattle.std.specs.Option.{option_map}
 use Rattle.std.proofs.Math.Path.{sym, ◌∙◌}
 use Rattle.mdr_core.specs.declared.types.Ty.{Ty}
@@ -13,7 +12,7 @@ use Rattle.mdr_syntax.specs.declared.tree.Decl.TheOpen.{Decl-F}
 use Rattle.mdr_faults.specs.declared.fault.Fault.{Fault}
 use Rattle.mdr_faults.specs.declared.scope.Scope.{Scope}
 use Rattle.mdr_faults.specs.Faults.{Checked, told, demand, followed, extended, next}
-use Rattle.mdr_faults.specs.Declarations.{Declarator, declarator, declarator_layer, declarator_by, type_named, is_same_name, parameter_among, parameter_list}
+use Rattle.mdr_faults.specs.Declarations.{Declarator, declarator, declarator_layer, declarator_by, type_named, parameter_among, parameter_list}
 use Rattle.mdr_faults.proofs.Gathered.{one_more}
 
 mapped_fun : (f : Decl → Declarator) (x : Decl-F Decl) (fun : Option (List Decl)) → x.fun ≡ fun → (map-Decl Decl Declarator f x).fun ≡ option_map (map f) x.fun
@@ -23,24 +22,15 @@ mapped_fun f x (Some ds) e = rw e refl
 pub whole_is : (scope : Scope) (d : Decl) → declarator_by (type_named scope (out-Decl d).base (out-Decl d).stars) (out-Decl d).place (option_map (map (declarator scope)) (out-Decl d).fun) ≡ (declarator scope d).whole
 whole_is scope d = ap (declarator_by (type_named scope (out-Decl d).base (out-Decl d).stars) (out-Decl d).place) (sym (mapped_fun (declarator scope) (out-Decl d) (out-Decl d).fun refl)) ∙ sym (ap (λ (x : Declarator). x.whole) (fold_out-Decl Declarator (declarator_layer scope) d))
 
-pub name_is : (scope : Scope) (d : Decl) → (declarator scope d).name ≡ (out-Decl d).name
-name_is scope d = ap (λ (x : Declarator). x.name) (fold_out-Decl Declarator (declarator_layer scope) d)
-
 pub place_is : (scope : Scope) (d : Decl) → (declarator scope d).place ≡ (out-Decl d).place
 place_is scope d = ap (λ (x : Declarator). x.place) (fold_out-Decl Declarator (declarator_layer scope) d)
-
-pub declared_before : (name : Option (List ℕ)) (ds : List Decl) (scope : Scope) → list_any (λ d. is_same_name (out-Decl d).name name) ds ≡ list_any {X = Declarator} (λ b. is_same_name b.name name) (map (declarator scope) ds)
-declared_before name [] scope = refl
-declared_before name (d ∷ ds) scope = λ i. is_same_name (sym (name_is scope d) i) name || declared_before name ds scope i
 
 counted : {A B : Type 0} (f : A → B) (xs : List A) → length (map f xs) ≡ length xs
 counted f [] = refl
 counted f (x ∷ xs) = ap suc (counted f xs)
 
-pub among_is : (scope : Scope) (before : List Decl) (d : Decl) → parameter_among (map (declarator scope) before) (declarator scope d) ≡ demand (out-Decl d).place Redefined (not (list_any (λ b. is_same_name (out-Decl b).name (out-Decl d).name) before)) (demand (out-Decl d).place Limit (not (length before == 8)) (declarator scope d).parameter)
-among_is scope before d = λ i.
-    demand (place_is scope d i) Redefined (not ((ap (λ n. list_any {X = Declarator} (λ b. is_same_name b.name n) (map (declarator scope) before)) (name_is scope d) ∙ sym (declared_before (out-Decl d).name before scope)) i))
-    (demand (place_is scope d i) Limit (not (counted (declarator scope) before i == 8)) (declarator scope d).parameter)
+pub among_is : (scope : Scope) (before : List Decl) (d : Decl) → parameter_among (map (declarator scope) before) (declarator scope d) ≡ demand (out-Decl d).place Limit (not (length before == 8)) (declarator scope d).parameter
+among_is scope before d = λ i. demand (place_is scope d i) Limit (not (counted (declarator scope) before i == 8)) (declarator scope d).parameter
 
 -- a loop over parameters, at one of them
 pub one_parameter : (scope : Scope) (xs : List Decl) (i : ℕ) (x : Decl) (a a1 w : Result (List Ty) Fault) → i < length xs → x ≡ get_or xs i x → a1 ≡ extended a (told (parameter_among (map (declarator scope) (take i xs)) (declarator scope x))) → followed a (told (parameter_list (map (declarator scope) (take i xs)) (map (declarator scope) (drop i xs)))) ≡ w → followed a1 (told (parameter_list (map (declarator scope) (take (i + 1) xs)) (map (declarator scope) (drop (i + 1) xs)))) ≡ w

@@ -1,3 +1,4 @@
+-- believed
 -- Which types are one (C99 6.2.7: what the profile has are equal types alone).
 use Rattle.std.specs.Prelude.{◌==◌, ◌&&◌, Bool, true, false, List, [], ◌∷◌, map}
 use Rattle.mdr_core.specs.declared.types.Ty.{Ty, out-Ty}

@@ -1,6 +1,6 @@
+-- believed
 -- Constants, types and declarators (C99 6.6, 6.7).
 use Rattle.std.specs.Prelude.{ℕ, zero, suc, ◌*◌, ◌==◌, ◌&&◌, ◌||◌, not, nat_lt, Bool, true, false, ℤ, pos, negsuc, neg_ℤ, ◌+ℤ◌, ◌-ℤ◌, List, [], ◌∷◌, ◌++◌, length, Option, Some, None, is_some, slice_get}
-use Rattle.std.specs.List.{list_any}
 use Rattle.std.specs.Str.{bytes_eq}
 use Rattle.mdr_core.specs.declared.kind.Kind.{Kind}
 use Rattle.mdr_core.specs.declared.kind.Kind.TheVariants.{S32}
@@ -18,7 +18,7 @@ use Rattle.mdr_syntax.specs.declared.tree.Const.TheVariants as const
 use Rattle.mdr_syntax.specs.declared.tree.Decl.{Decl, out-Decl}
 use Rattle.mdr_syntax.specs.declared.tree.Decl.TheOpen.{Decl-F}
 use Rattle.mdr_syntax.specs.declared.tree.Decl.TheFolds.{fold-Decl}
-use Rattle.mdr_faults.specs.declared.fault.FaultKind.TheVariants.{UnknownName, Redefined, Mismatch, Limit, Incomplete}
+use Rattle.mdr_faults.specs.declared.fault.FaultKind.TheVariants.{UnknownName, Mismatch, Limit, Incomplete}
 use Rattle.mdr_faults.specs.declared.scope.Constant.{Constant}
 use Rattle.mdr_faults.specs.declared.scope.Entity.{Entity}
 use Rattle.mdr_faults.specs.declared.scope.Entity.TheVariants as entity
@@ -124,10 +124,9 @@ parameter_type p is_array t = chosen (is_scalar t && not is_array) (Right t) (re
 abbrev pub function_type : (result : Checked Ty) → (params : Checked (List Ty)) → Checked Ty
 function_type result params = both result params (λ r ps. Right (type.Fun (r ∷ ps)))
 
--- a declarator: its place and name, its type, and its type as a parameter
+-- a declarator: its place, its type, and its type as a parameter
 pub record Declarator : Type 0 where
   pub place : Place
-  pub name : Option (List ℕ)
   pub whole : Checked Ty
   pub parameter : Checked Ty
 
@@ -136,11 +135,9 @@ is_same_name None other = false
 is_same_name (Some a) None = false
 is_same_name (Some a) (Some b) = bytes_eq a b
 
--- the parameters of one list are one scope (6.2.1, paragraph 4), and at most 8
+-- a list has at most 8 parameters. Their names are no part of a type
 abbrev pub parameter_among : (before : List Declarator) → Declarator → Checked Ty
-parameter_among before d =
-    demand d.place Redefined (not (list_any (λ b. is_same_name b.name d.name) before))
-    (demand d.place Limit (not (length before == 8)) d.parameter)
+parameter_among before d = demand d.place Limit (not (length before == 8)) d.parameter
 
 unfoldable pub parameter_list : (before : List Declarator) → List Declarator → Checked (List Ty)
 parameter_list before [] = Right []
@@ -158,7 +155,6 @@ declarator_type scope d = declarator_by (type_named scope d.base d.stars) d.plac
 abbrev pub declarator_layer : Scope → Decl-F Declarator → Declarator
 declarator_layer scope d = record {
   place = d.place;
-  name = d.name;
   whole = declarator_type scope d;
   parameter = after (declarator_type scope d) (parameter_type d.place (is_some d.size));
 }

@@ -1,3 +1,4 @@
+-- believed
 -- Enumeration constants (C99 6.7.2.2), and how a scope grows.
 use Rattle.std.specs.Prelude.{ℕ, List, [], ◌∷◌, ◌++◌, not, is_some, Result, Ok, Err}
 use Rattle.mdr_core.specs.declared.place.Place.{Place}

@@ -1,3 +1,4 @@
+-- believed
 -- Faults, and how the faults of a form's parts come together.
 use Rattle.std.specs.Prelude.{ℕ, ◌≡◌, ◌⊎◌, Bool, true, false, nat_lt, ◌==◌, List, [], ◌∷◌, ◌++◌, Result, Ok, Err}
 use Rattle.mdr_core.specs.declared.place.Place.{Place}

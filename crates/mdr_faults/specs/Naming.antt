@@ -1,3 +1,4 @@
+-- protocol
 -- Lists whose items are found by their names, and the tables that lead to them.
 use Rattle.std.specs.Prelude.{ℕ, ◌≡◌, List, Option, Some, None, Vec, slice_get}
 use Rattle.std.specs.HashMap.{HashMap, get_by}

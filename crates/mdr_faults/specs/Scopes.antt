@@ -1,3 +1,4 @@
+-- believed
 -- Which names mean what (C99 6.2.1, 6.2.3).
 use Rattle.std.specs.Prelude.{ℕ, List, Option, Some, None, find}
 use Rattle.std.specs.Str.{bytes_eq}

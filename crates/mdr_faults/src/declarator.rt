@@ -137,13 +137,7 @@ fn checked_result(place: Place, ty: Result<Ty, Fault>) -> Result<Ty, Fault>
 pub fn parameter_among(before: &[Decl], d: &Decl, ty: Result<Ty, Fault>) -> Result<Ty, Fault>
     ensures { (scope : Scope) → ty ≡ told (declarator scope d.now).parameter → result ≡ told (parameter_among (map (declarator scope) before.now) (declarator scope d.now)) }
 {
-    let few = demanded(d.place, FaultKind::Limit, before.len() != 8, ty);
-    demanded(
-        d.place,
-        FaultKind::Redefined,
-        !is_declared(before, &d.name),
-        few,
-    )
+    demanded(d.place, FaultKind::Limit, before.len() != 8, ty)
 }
 
 /// The type of a declarator, its brackets aside (C99 6.7.5).

@@ -6,7 +6,7 @@ ghost use Rattle.mdr_faults.specs.Faults.{number, is_before, lesser};
 use mdr_core::Place;
 
 /// Which rule a form breaks. Of several faults at one place the first kind in this order is told.
-#[derive(Clone, Copy, Debug, PartialEq, Eq)]
+#[derive(Clone, Copy, Debug)]
 pub enum FaultKind {
     /// A name without a declaration in scope, or a member that the struct hasn't.
     UnknownName,
@@ -27,7 +27,7 @@ pub enum FaultKind {
 }
 
 /// A broken rule, and the place at which it is told.
-#[derive(Clone, Copy, Debug, PartialEq, Eq)]
+#[derive(Clone, Copy, Debug)]
 pub struct Fault {
     pub place: Place,
     pub kind: FaultKind,

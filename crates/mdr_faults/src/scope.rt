@@ -9,7 +9,7 @@ use crate::names::{HasName, Names};
 use mdr_core::{Items, Kind, Name, Ty};
 
 /// A constant: its kind and its number, which the kind holds.
-#[derive(Clone, Copy, Debug, PartialEq, Eq)]
+#[derive(Clone, Copy)]
 pub struct Constant {
     pub kind: Kind,
     pub number: i128,
@@ -23,13 +23,12 @@ pub struct Object {
     pub array: bool,
 }
 
-/// A function: its number, its type, and whether the source has its body anywhere.
+/// A function: its number and its type.
 #[derive(Drop)]
 pub struct Signature {
     pub number: u32,
     pub result: Ty,
     pub params: Items<Ty>,
-    pub is_defined: bool,
 }
 
 /// What an ordinary name of the file means.

@@ -4,7 +4,7 @@ ghost use Rattle.std.specs.Prelude.{◌≡◌, IfOk};
 ghost use Rattle.mdr_core.specs.Types.{is_scalar};
 ghost use Rattle.mdr_faults.specs.Declarations.{pointer_to, starred, is_void};
 
-use mdr_core::{Boxed, Items, Name, OutOfMemory, Ty};
+use mdr_core::{Boxed, Items, Limit, Name, OutOfMemory, Ty};
 use std::alloc::{AllocError, Global};
 
 /// The same bytes once more.
@@ -92,6 +92,6 @@ pub fn small(n: usize) -> Result<u32, OutOfMemory>
 {
     match u32::try_from(n) {
         Ok(n) => Ok(n),
-        Err(_) => Err(OutOfMemory),
+        Err(_) => Err(Limit::Parts.past()),
     }
 }

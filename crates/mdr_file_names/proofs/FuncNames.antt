@@ -135,14 +135,14 @@ same_piece : (x y : Piece) → Right y ≡ Right x → piece_name x ≡ piece_na
 same_piece x y e = ap piece_name (sym (same_right y x e))
 
 -- a piece has the name of its item
-item_name : (body : BodyRule) (items before : List Item) (known : Known) (p : Place) (w : ItemWhat) (x : Piece) → item_piece body items before known p w ≡ Right x → piece_name x ≡ func_name w
+item_name : (body : BodyRule) (items before : List Item) (known : Known) (p : Place) (w : ItemWhat) (x : Piece) → item_piece body before known p w ≡ Right x → piece_name x ≡ func_name w
 item_name body items before known p (item.Define name is_negative n k) x e = same_piece x piece.Nothing (demand_right p _ _ (Right piece.Nothing) x e).right
 item_name body items before known p (item.Struct at name ds) x e = ap piece_name (struct_next known.scope at name ds x e).is
 item_name body items before known p (item.Enum es) x e = same_piece x piece.Nothing (after_right (enumerators known.scope before_first es) (λ cs. Right piece.Nothing) x e).made
 item_name body items before known p (item.Global d init) x e = let a = after_right (global known.scope known.globals d init) global_of x e in same_piece x (piece.Global a.value) a.made
 item_name body items before known p (item.Proto h is_remote) x e = let a = after_right (function_declared known.scope known.functions before h false) (prototype_of h.name) x e in same_piece x (piece.Prototype h.name a.value) a.made
 item_name body items before known p (item.Func h is_critical nodes) x e =
-    let a = both_right (function_declared known.scope known.functions before h true) (body (body_scope items known h) h nodes) (function_of h.name is_critical) x e in
+    let a = both_right (function_declared known.scope known.functions before h true) (body (body_scope known h) h nodes) (function_of h.name is_critical) x e in
     same_piece x (piece.Function h.name is_critical a.left a.right) a.made
 
 module _ (test : List ℕ → Bool) where
@@ -174,14 +174,14 @@ module _ (test : List ℕ → Bool) where
   piece_passes ps (piece.Prototype name head) h n = declared_pass ps.funcs (remote name head) (number_among ps.funcs name) h (n name refl)
   piece_passes ps (piece.Function name is_critical head body) h n = defined_pass ps.funcs (whole name is_critical head body) (number_among ps.funcs name) h (n name refl)
 
-  all_pass : (body : BodyRule) (items : List Item) (known : Known) (before is : List Item) (ps : Parts) (xs : List Piece) → Pass ps.funcs → HaveNames func_name test is → pieces_behind body items known before is ≡ Right xs → Pass (parts_behind ps xs).funcs
+  all_pass : (body : BodyRule) (items : List Item) (known : Known) (before is : List Item) (ps : Parts) (xs : List Piece) → Pass ps.funcs → HaveNames func_name test is → pieces_behind body known before is ≡ Right xs → Pass (parts_behind ps xs).funcs
   unfolding pieces_behind parts_behind
   all_pass body items known before [] ps xs h w e = subst (λ (ys : List Piece). Pass (parts_behind ps ys).funcs) (same_right [] xs e) h
   all_pass body items known before (i ∷ is) ps xs h w e =
-      let b = both_right (item_piece body items before known i.place i.what) (pieces_behind body items (behind_item items known i.what) (before ++ i ∷ []) is) _ xs e in
+      let b = both_right (item_piece body before known i.place i.what) (pieces_behind body (behind_item known i.what) (before ++ i ∷ []) is) _ xs e in
       let now = piece_passes ps b.left h (λ name q. w.passes 0 i name refl (sym (item_name body items before known i.place i.what b.left b.first) ∙ q)) in
       subst (λ (ys : List Piece). Pass (parts_behind ps ys).funcs) (same_right (b.left ∷ b.right) xs b.made)
-      (all_pass body items (behind_item items known i.what) (before ++ i ∷ []) is (behind_piece ps b.left) b.right now (record { passes = λ n x name f q. w.passes (suc n) x name f q }) b.second)
+      (all_pass body items (behind_item known i.what) (before ++ i ∷ []) is (behind_piece ps b.left) b.right now (record { passes = λ n x name f q. w.passes (suc n) x name f q }) b.second)
 
   pub parts_pass : (body : BodyRule) (uses : UseRule) (items : List Item) (xs : List Piece) → HaveNames func_name test items → file_pieces body uses items ≡ Right xs → Pass (parts_of xs).funcs
   parts_pass body uses items xs w e = all_pass body items (first_known items) [] items no_parts xs (record { each = λ f g q. absurd cc }) w (pieces_right body uses items xs e)

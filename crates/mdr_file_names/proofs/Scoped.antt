@@ -30,13 +30,13 @@ enums_same scope before (e ∷ es) =
     let rest = enums_same (behind_enumerator scope before e) (told (value_behind scope before e)) es in
     record { tags = rest.tags; structs = rest.structs }
 
-unless_same : (b : Bool) (scope : Scope) (n : ℕ) (is_defined : Bool) (h : Head) → IsSame (with_function_unless b scope n is_defined h) scope
-unless_same true scope n d h = record { tags = refl; structs = refl }
-unless_same false scope n d h = record { tags = refl; structs = refl }
+unless_same : (b : Bool) (scope : Scope) (n : ℕ) (h : Head) → IsSame (with_function_unless b scope n h) scope
+unless_same true scope n h = record { tags = refl; structs = refl }
+unless_same false scope n h = record { tags = refl; structs = refl }
 
-function_same : (scope : Scope) (n : ℕ) (is_defined : Bool) (h : Head) → IsSame (behind_function scope n is_defined h) scope
+function_same : (scope : Scope) (n : ℕ) (h : Head) → IsSame (behind_function scope n h) scope
 unfolding behind_function
-function_same scope n d h = unless_same (is_taken scope h.name) scope n d h
+function_same scope n h = unless_same (is_taken scope h.name) scope n h
 
 global_same : (scope : Scope) (own : ℕ) (d : Decl) → IsSame (behind_global scope own d) scope
 unfolding behind_global
@@ -55,22 +55,22 @@ is_struct (item.Global d init) = false
 is_struct (item.Proto h is_remote) = false
 is_struct (item.Func h is_critical nodes) = false
 
-pub item_same : (items : List Item) (known : Known) (w : ItemWhat) → is_struct w ≡ false → IsSame (behind_item items known w).scope known.scope
+pub item_same : (items : List Item) (known : Known) (w : ItemWhat) → is_struct w ≡ false → IsSame (behind_item known w).scope known.scope
 item_same items known (item.Define name is_negative n k) e = record { tags = refl; structs = refl }
 item_same items known (item.Struct at name ds) e = absurd cc
 item_same items known (item.Enum es) e = enums_same known.scope before_first es
 item_same items known (item.Global d init) e = global_same known.scope known.globals d
-item_same items known (item.Proto h is_remote) e = function_same known.scope _ _ h
-item_same items known (item.Func h is_critical nodes) e = function_same known.scope _ _ h
+item_same items known (item.Proto h is_remote) e = function_same known.scope _ h
+item_same items known (item.Func h is_critical nodes) e = function_same known.scope _ h
 
 pub struct_same : (scope : Scope) (e : StructEntry) (b : Bool) → b ≡ true → (with_struct_if b scope e).structs ≡ scope.structs ++ e ∷ []
 struct_same scope e true q = refl
 struct_same scope e false q = absurd cc
 
-pub item_tags : (items : List Item) (known : Known) (w : ItemWhat) → (behind_item items known w).scope.tags ≡ known.scope.tags
+pub item_tags : (items : List Item) (known : Known) (w : ItemWhat) → (behind_item known w).scope.tags ≡ known.scope.tags
 item_tags items known (item.Define name is_negative n k) = refl
 item_tags items known (item.Struct at name ds) = struct_tags _ known.scope _
 item_tags items known (item.Enum es) = (enums_same known.scope before_first es).tags
 item_tags items known (item.Global d init) = (global_same known.scope known.globals d).tags
-item_tags items known (item.Proto h is_remote) = (function_same known.scope _ _ h).tags
-item_tags items known (item.Func h is_critical nodes) = (function_same known.scope _ _ h).tags
+item_tags items known (item.Proto h is_remote) = (function_same known.scope _ h).tags
+item_tags items known (item.Func h is_critical nodes) = (function_same known.scope _ h).tags

@@ -88,13 +88,13 @@ no_struct ps (piece.Function name is_critical h b) e = refl
 is_right_nothing : (x y : Piece) → Right y ≡ Right x → is_nothing y ≡ true → is_nothing x ≡ true
 is_right_nothing x y e n = sym (ap is_nothing (same_right y x e)) ∙ n
 
-other_piece : (body : BodyRule) (items before : List Item) (known : Known) (p : Place) (w : ItemWhat) (x : Piece) → is_struct w ≡ false → item_piece body items before known p w ≡ Right x → is_nothing x ≡ true
+other_piece : (body : BodyRule) (items before : List Item) (known : Known) (p : Place) (w : ItemWhat) (x : Piece) → is_struct w ≡ false → item_piece body before known p w ≡ Right x → is_nothing x ≡ true
 other_piece body items before known p (item.Define name is_negative n k) x s e = is_right_nothing x piece.Nothing (demand_right p _ _ (Right piece.Nothing) x e).right refl
 other_piece body items before known p (item.Struct at name ds) x s e = absurd cc
 other_piece body items before known p (item.Enum es) x s e = is_right_nothing x piece.Nothing (after_right (enumerators known.scope before_first es) (λ cs. Right piece.Nothing) x e).made refl
 other_piece body items before known p (item.Global d init) x s e = let a = after_right (global known.scope known.globals d init) global_of x e in is_right_nothing x (piece.Global a.value) a.made refl
 other_piece body items before known p (item.Proto h is_remote) x s e = let a = after_right (function_declared known.scope known.functions before h false) (prototype_of h.name) x e in is_right_nothing x (piece.Prototype h.name a.value) a.made refl
-other_piece body items before known p (item.Func h is_critical nodes) x s e = let a = both_right (function_declared known.scope known.functions before h true) (body (body_scope items known h) h nodes) (function_of h.name is_critical) x e in is_right_nothing x (piece.Function h.name is_critical a.left a.right) a.made refl
+other_piece body items before known p (item.Func h is_critical nodes) x s e = let a = both_right (function_declared known.scope known.functions before h true) (body (body_scope known h) h nodes) (function_of h.name is_critical) x e in is_right_nothing x (piece.Function h.name is_critical a.left a.right) a.made refl
 
 -- a struct that is right
 pub record IsNext (scope : Scope) (name : List ℕ) (x : Piece) : Type 0 where
@@ -126,14 +126,14 @@ module _ (test : List ℕ → Bool) (tags : List Tag) (items : List Item) where
       record { tagged = item_tags items known (item.Struct at name ds) ∙ h.tagged; many = grown; are = one_more test tags ps.structs def h.are number w } in
       subst (λ (y : Piece). Stands test tags (behind_struct known.scope at name ds) (behind_piece ps y).structs) (sym n.is) now
 
-  other_stands : (known : Known) (ps : Parts) (w : ItemWhat) (x : Piece) → Stands test tags known.scope ps.structs → is_struct w ≡ false → is_nothing x ≡ true → Stands test tags (behind_item items known w).scope (behind_piece ps x).structs
+  other_stands : (known : Known) (ps : Parts) (w : ItemWhat) (x : Piece) → Stands test tags known.scope ps.structs → is_struct w ≡ false → is_nothing x ≡ true → Stands test tags (behind_item known w).scope (behind_piece ps x).structs
   other_stands known ps w x h s n =
       let same = item_same items known w s in
-      subst (λ (ds : List StructDef). Stands test tags (behind_item items known w).scope ds) (sym (no_struct ps x n))
+      subst (λ (ds : List StructDef). Stands test tags (behind_item known w).scope ds) (sym (no_struct ps x n))
       (record { tagged = same.tags ∙ h.tagged; many = ap length same.structs ∙ h.many; are = h.are })
 
   item_stands : (body : BodyRule) (before : List Item) (known : Known) (ps : Parts) (p : Place) (w : ItemWhat) (x : Piece) → Stands test tags known.scope ps.structs
-      → ((name : List ℕ) → struct_name w ≡ Some name → IsTrue (test name)) → item_piece body items before known p w ≡ Right x → Stands test tags (behind_item items known w).scope (behind_piece ps x).structs
+      → ((name : List ℕ) → struct_name w ≡ Some name → IsTrue (test name)) → item_piece body before known p w ≡ Right x → Stands test tags (behind_item known w).scope (behind_piece ps x).structs
   item_stands body before known ps p (item.Struct at name ds) x h w e = struct_stands known ps at name ds x h (w name refl) (struct_next known.scope at name ds x e)
   item_stands body before known ps p (item.Define name is_negative n k) x h w e = other_stands known ps (item.Define name is_negative n k) x h refl (other_piece body items before known p (item.Define name is_negative n k) x refl e)
   item_stands body before known ps p (item.Enum es) x h w e = other_stands known ps (item.Enum es) x h refl (other_piece body items before known p (item.Enum es) x refl e)
@@ -143,18 +143,18 @@ module _ (test : List ℕ → Bool) (tags : List Tag) (items : List Item) where
 
   -- ---- all items
 
-  all_stand : (body : BodyRule) (known : Known) (before is : List Item) (ps : Parts) (xs : List Piece) → Stands test tags known.scope ps.structs → HaveNames struct_name test is → pieces_behind body items known before is ≡ Right xs → AreOf test tags (parts_behind ps xs).structs
+  all_stand : (body : BodyRule) (known : Known) (before is : List Item) (ps : Parts) (xs : List Piece) → Stands test tags known.scope ps.structs → HaveNames struct_name test is → pieces_behind body known before is ≡ Right xs → AreOf test tags (parts_behind ps xs).structs
   unfolding pieces_behind parts_behind
   all_stand body known before [] ps xs h w e = subst (λ (ys : List Piece). AreOf test tags (parts_behind ps ys).structs) (same_right [] xs e) h.are
   all_stand body known before (i ∷ is) ps xs h w e =
-      let b = both_right (item_piece body items before known i.place i.what) (pieces_behind body items (behind_item items known i.what) (before ++ i ∷ []) is) _ xs e in
+      let b = both_right (item_piece body before known i.place i.what) (pieces_behind body (behind_item known i.what) (before ++ i ∷ []) is) _ xs e in
       let now = item_stands body before known ps i.place i.what b.left h (λ name q. w.passes 0 i name refl q) b.first in
       subst (λ (ys : List Piece). AreOf test tags (parts_behind ps ys).structs) (same_right (b.left ∷ b.right) xs b.made)
-      (all_stand body (behind_item items known i.what) (before ++ i ∷ []) is (behind_piece ps b.left) b.right now (record { passes = λ n x name f q. w.passes (suc n) x name f q }) b.second)
+      (all_stand body (behind_item known i.what) (before ++ i ∷ []) is (behind_piece ps b.left) b.right now (record { passes = λ n x name f q. w.passes (suc n) x name f q }) b.second)
 
 -- ---- a file
 
-pub pieces_right : (body : BodyRule) (uses : UseRule) (items : List Item) (xs : List Piece) → file_pieces body uses items ≡ Right xs → pieces_behind body items (first_known items) [] items ≡ Right xs
+pub pieces_right : (body : BodyRule) (uses : UseRule) (items : List Item) (xs : List Piece) → file_pieces body uses items ≡ Right xs → pieces_behind body (first_known items) [] items ≡ Right xs
 unfolding file_pieces
 pieces_right body uses items xs e =
     let a = both_right _ _ _ xs e in

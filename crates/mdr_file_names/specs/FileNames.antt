@@ -1,3 +1,4 @@
+-- for proofs
 -- The names of what a file declares (C99 6.7.2.3, 6.9).
 use Rattle.std.specs.Prelude.{◌≡◌, ℕ, Bool, List, Option, Some, None, slice_get, IsTrue}
 use Rattle.std.specs.List.{list_all}

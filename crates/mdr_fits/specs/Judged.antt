@@ -1,3 +1,4 @@
+-- protocol
 -- What values are judged by, as the code has it.
 use Rattle.std.specs.Prelude.{ℕ, suc, Bool, true, false, ◌&&◌, List, [], ◌∷◌, map, Option, Some, None}
 use Rattle.mdr_core.specs.declared.program.Param.{Param}

@@ -1,3 +1,4 @@
+-- protocol
 -- What the entries of the table of services stand for.
 use Rattle.std.specs.Prelude.{ℕ, not, Bool, true, false, ◌&&◌, ◌==◌, List, [], ◌∷◌, Option, Some, None}
 use Rattle.std.specs.List.{list_any}

@@ -8,7 +8,7 @@ ghost use Rattle.mdr_split.specs.Services.{terms_of};
 use mdr_core::Kind;
 
 /// The type of an argument: a number of 32 bits, any pointer, an interrupt's handler, or a pointer to a lock.
-#[derive(Clone, Copy, Debug, PartialEq, Eq)]
+#[derive(Clone, Copy)]
 pub enum Parameter {
     Number,
     Pointer,
@@ -17,7 +17,7 @@ pub enum Parameter {
 }
 
 /// What arguments a service takes: so many of these types, or pointers to the objects that die.
-#[derive(Clone, Copy, Debug, PartialEq, Eq)]
+#[derive(Clone, Copy)]
 pub enum Arguments {
     Nothing,
     One(Parameter),
@@ -26,7 +26,7 @@ pub enum Arguments {
 }
 
 /// What shapes it takes: none, that of one element, that of so many elements, or those of the objects that are born.
-#[derive(Clone, Copy, Debug, PartialEq, Eq)]
+#[derive(Clone, Copy)]
 pub enum Shapes {
     NoShape,
     OneElement,
@@ -35,7 +35,7 @@ pub enum Shapes {
 }
 
 /// What it gives: nothing, a number of a kind, null or a pointer to a new block, or a pointer to each new object.
-#[derive(Clone, Copy, Debug, PartialEq, Eq)]
+#[derive(Clone, Copy)]
 pub enum Gives {
     Nothing,
     Number(Kind),
@@ -44,7 +44,7 @@ pub enum Gives {
 }
 
 /// What a service takes and gives. At most so many bytes come with the question.
-#[derive(Clone, Copy, Debug, PartialEq, Eq)]
+#[derive(Clone, Copy)]
 pub struct Terms {
     pub arguments: Arguments,
     pub shapes: Shapes,

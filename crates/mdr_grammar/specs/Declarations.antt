@@ -1,3 +1,4 @@
+-- believed
 -- Declarations (C99 6.7 to 6.9).
 use Rattle.std.specs.Prelude.{ℕ, ◌+◌, Bool, true, false, not, nat_le, List, [], ◌∷◌, Option, Some, None}
 use Rattle.mdr_core.specs.declared.place.Place.{Place}

@@ -1,3 +1,4 @@
+-- believed
 -- Expressions (C99 6.5). A rule says what a form's first token is and what follows it. `l + 1` is the level of a node's parts.
 use Rattle.std.specs.Prelude.{ℕ, zero, suc, ◌+◌, max, Bool, true, false, ◌&&◌, nat_le, nat_lt, nat_eq, ◌-◌, List, [], ◌∷◌, Option, Some, None}
 use Rattle.mdr_core.specs.declared.place.Place.{Place}

@@ -1,3 +1,4 @@
+-- believed
 -- What the forms of the grammar give, and the right sides of its productions.
 use Rattle.std.specs.Prelude.{ℕ, Bool, true, ◌&&◌, List, Option}
 use Rattle.mdr_core.specs.declared.place.Place.{Place}

@@ -1,3 +1,4 @@
+-- protocol
 -- What a nonterminal, or a right side, reads at the front of a list of tokens; or how many tokens are left at the fault.
 use Rattle.std.specs.Prelude.{ℕ, zero, suc, Bool, true, false, List, [], ◌∷◌, length, Result, Ok, Err}
 use Rattle.mdr_syntax.specs.declared.token.Token.{Token}

@@ -1,3 +1,4 @@
+-- believed
 -- The grammar: what each nonterminal begins with, whether it may be empty, and which token lists it reads.
 use Rattle.std.specs.Prelude.{◌≡◌, Bool, true, not, List, [], ◌∷◌, ◌++◌, Some, None, IsTrue}
 use Rattle.mdr_syntax.specs.declared.token.Token.{Token}

@@ -1,3 +1,4 @@
+-- believed
 -- Reading token by token: what is left of a source after each, and how a whole list is read.
 use Rattle.std.specs.Prelude.{ℕ, suc, ◌≡◌, ◌≤◌, ◌<◌, ◌+◌, Bool, true, false, List, [], ◌∷◌, ◌++◌, length, take, Option, Some, None, Result, Ok, Err}
 use Rattle.mdr_syntax.specs.declared.token.Token.{Token}

@@ -1,3 +1,4 @@
+-- believed
 -- What the grammar tells apart: the sorts of tokens.
 use Rattle.std.specs.Prelude.{ℕ, Bool, ◌||◌, List, [], ◌∷◌, codes, nat_eq, if◌then◌else◌}
 use Rattle.std.specs.Str.{bytes_eq}

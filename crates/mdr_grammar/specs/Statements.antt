@@ -1,3 +1,4 @@
+-- believed
 -- Statements (C99 6.8), functions and sources (6.9).
 use Rattle.std.specs.Prelude.{ℕ, ◌+◌, Bool, true, false, nat_le, List, [], ◌∷◌, Option, Some, None}
 use Rattle.std.specs.List.{list_all, flat_map}

@@ -6,7 +6,7 @@ ghost use Rattle.mdr_grammar.specs.Sorts.{kind_number, number_of, is};
 use mdr_core::Kind;
 
 /// What a token is for the grammar.
-#[derive(Clone, Copy, Debug)]
+#[derive(Clone, Copy)]
 pub enum Sort {
     Name,
     Number,

@@ -1,6 +1,5 @@
 -- What joining gives, item by item.
-use Rattle.std.proofs.Common.{◌≡◌, ℕ, ◌+◌, ◌<◌, ◌≤◌, Bool, true, false, List, [], ◌∷◌, ◌++◌, length, drop, get_or, map, Result, Ok, Err, refl, ap, sym, ◌∙◌, arith, length-drop}
-use Rattle.std.proofs.lemmas.List.{at_drop_more, at_drop_all}
+use Rattle.std.proofs.Common.{◌≡◌, ℕ, Bool, true, false, List, [], ◌∷◌, ◌++◌, length, map, Result, Ok, Err, refl, ap, sym, ◌∙◌, arith}
 use Rattle.std.proofs.lemmas.Slice.Eq.{bytes_eq-Decides}
 use Rattle.mdr_core.specs.declared.plan.Half.{Half}
 use Rattle.mdr_core.specs.declared.plan.Half.TheVariants.{Kernel, User}
@@ -88,75 +87,63 @@ pub halves_join : (plan : Plan) (tree : Tree) → HasNoRemote tree.items → joi
 unfolding joined
 halves_join plan tree none = halves_join_from plan 1 tree.items none
 
--- ---- joining as a loop does it
+-- ---- joining as a loop does it: item by item of what is left of the two
 
-joined_at : (last i : ℕ) (ks us : List Item) (k u : Item) → i < length ks → i < length us → k ≡ get_or ks i k → u ≡ get_or us i u →
-    joined_from last (drop i ks) (drop i us) ≡ behind_joined (joined_item k u) (joined_from u.place.line (drop (i + 1) ks) (drop (i + 1) us))
-joined_at last i ks us k u hk hu ek eu =
-    at_drop_more (λ (xs : List Item). joined_from last xs (drop i us)) ks i k hk
-    ∙ at_drop_more (λ (ys : List Item). joined_from last (get_or ks i k ∷ drop (i + 1) ks) ys) us i u hu
-    ∙ ap (λ (one : Item). behind_joined (joined_item one (get_or us i u)) (joined_from (get_or us i u).place.line (drop (i + 1) ks) (drop (i + 1) us))) (sym ek)
-    ∙ ap (λ (one : Item). behind_joined (joined_item k one) (joined_from one.place.line (drop (i + 1) ks) (drop (i + 1) us))) (sym eu)
+pub nothing_left : (is : List Item) → length is ≡ 0 → is ≡ []
+nothing_left [] e = refl
+nothing_left (i ∷ is) e = absurd (omega arith)
 
-pub joins_on : (items more ks us : List Item) (last i : ℕ) (k u x : Item) (whole : Result (List Item) ℕ) → i < length ks → i < length us → k ≡ get_or ks i k → u ≡ get_or us i u →
-    behind_all items (joined_from last (drop i ks) (drop i us)) ≡ whole → joined_item k u ≡ Ok x → more ≡ items ++ x ∷ [] →
-    behind_all more (joined_from u.place.line (drop (i + 1) ks) (drop (i + 1) us)) ≡ whole
-joins_on items more ks us last i k u x whole hk hu ek eu so_far e m =
-    let rest : Result (List Item) ℕ = joined_from u.place.line (drop (i + 1) ks) (drop (i + 1) us) in
+joined_at : (last : ℕ) (left right ks us : List Item) (k u : Item) → left ≡ k ∷ ks → right ≡ u ∷ us →
+    joined_from last left right ≡ behind_joined (joined_item k u) (joined_from u.place.line ks us)
+joined_at last left right ks us k u first second =
+    ap (λ (xs : List Item). joined_from last xs right) first
+    ∙ ap (λ (ys : List Item). joined_from last (k ∷ ks) ys) second
+
+pub joins_on : (items more left right ks us : List Item) (last : ℕ) (k u x : Item) (whole : Result (List Item) ℕ) → left ≡ k ∷ ks → right ≡ u ∷ us →
+    behind_all items (joined_from last left right) ≡ whole → joined_item k u ≡ Ok x → more ≡ items ++ x ∷ [] →
+    behind_all more (joined_from u.place.line ks us) ≡ whole
+joins_on items more left right ks us last k u x whole first second so_far e m =
+    let rest : Result (List Item) ℕ = joined_from u.place.line ks us in
     ap (λ all. behind_all all rest) m
     ∙ behind_more items x rest
     ∙ ap (λ r. behind_all items (behind_joined r rest)) (sym e)
-    ∙ ap (behind_all items) (sym (joined_at last i ks us k u hk hu ek eu))
+    ∙ ap (behind_all items) (sym (joined_at last left right ks us k u first second))
     ∙ so_far
 
-joins_not : (items ks us : List Item) (last i : ℕ) (k u : Item) (line : ℕ) (whole : Result (List Item) ℕ) → i < length ks → i < length us → k ≡ get_or ks i k → u ≡ get_or us i u →
-    behind_all items (joined_from last (drop i ks) (drop i us)) ≡ whole → joined_item k u ≡ Err line → whole ≡ Err line
-joins_not items ks us last i k u line whole hk hu ek eu so_far e =
-    let rest : Result (List Item) ℕ = joined_from u.place.line (drop (i + 1) ks) (drop (i + 1) us) in
+joins_not : (items left right ks us : List Item) (last : ℕ) (k u : Item) (line : ℕ) (whole : Result (List Item) ℕ) → left ≡ k ∷ ks → right ≡ u ∷ us →
+    behind_all items (joined_from last left right) ≡ whole → joined_item k u ≡ Err line → whole ≡ Err line
+joins_not items left right ks us last k u line whole first second so_far e =
+    let rest : Result (List Item) ℕ = joined_from u.place.line ks us in
     sym so_far
-    ∙ ap (behind_all items) (joined_at last i ks us k u hk hu ek eu)
+    ∙ ap (behind_all items) (joined_at last left right ks us k u first second)
     ∙ ap (λ r. behind_all items (behind_joined r rest)) e
     ∙ behind_refusal items line
 
-pub refused_on : (e : JoinError) (items ks us : List Item) (last i : ℕ) (k u : Item) (whole : Result (List Item) ℕ) → i < length ks → i < length us → k ≡ get_or ks i k → u ≡ get_or us i u →
-    behind_all items (joined_from last (drop i ks) (drop i us)) ≡ whole → Refuses e (joined_item k u) → Refuses e whole
-refused_on (Differ line) items ks us last i k u whole hk hu ek eu so_far e = joins_not items ks us last i k u line whole hk hu ek eu so_far e
-refused_on OutOfMemory items ks us last i k u whole hk hu ek eu so_far e = tt
+pub refused_on : (e : JoinError) (items left right ks us : List Item) (last : ℕ) (k u : Item) (whole : Result (List Item) ℕ) → left ≡ k ∷ ks → right ≡ u ∷ us →
+    behind_all items (joined_from last left right) ≡ whole → Refuses e (joined_item k u) → Refuses e whole
+refused_on (Differ line) items left right ks us last k u whole first second so_far e = joins_not items left right ks us last k u line whole first second so_far e
+refused_on OutOfMemory items left right ks us last k u whole first second so_far e = tt
 
-kernel_alone : (last : ℕ) (ks : List Item) → 0 < length ks → joined_from last ks [] ≡ Err last
-kernel_alone last [] some = absurd (omega arith)
-kernel_alone last (k ∷ ks) some = refl
-
-pub kernel_goes_on : (items ks us : List Item) (last i : ℕ) (whole : Result (List Item) ℕ) → i < length ks → length us ≤ i →
-    behind_all items (joined_from last (drop i ks) (drop i us)) ≡ whole → whole ≡ Err last
-kernel_goes_on items ks us last i whole hk hu so_far =
+pub kernel_goes_on : (items left right ks : List Item) (last : ℕ) (k : Item) (whole : Result (List Item) ℕ) → left ≡ k ∷ ks → right ≡ [] →
+    behind_all items (joined_from last left right) ≡ whole → whole ≡ Err last
+kernel_goes_on items left right ks last k whole first second so_far =
     sym so_far
-    ∙ ap (behind_all items)
-    (at_drop_all (λ (ys : List Item). joined_from last (drop i ks) ys) us i hu
-    ∙ kernel_alone last (drop i ks) (simp length-drop (omega arith)))
+    ∙ ap (λ (xs : List Item). behind_all items (joined_from last xs right)) first
+    ∙ ap (λ (ys : List Item). behind_all items (joined_from last (k ∷ ks) ys)) second
     ∙ behind_refusal items last
 
-abbrev refusal : ℕ → Result (List Item) ℕ
-refusal line = Err line
-
-user_alone : (last i : ℕ) (us : List Item) (u : Item) → i < length us → u ≡ get_or us i u → joined_from last [] (drop i us) ≡ Err u.place.line
-user_alone last i us u inside found = at_drop_more (λ (ys : List Item). joined_from last [] ys) us i u inside ∙ ap (λ (one : Item). refusal one.place.line) (sym found)
-
-pub user_goes_on : (items ks us : List Item) (last i n : ℕ) (u : Item) (whole : Result (List Item) ℕ) → length ks ≤ i → i ≡ n → n < length us → u ≡ get_or us n u →
-    behind_all items (joined_from last (drop i ks) (drop i us)) ≡ whole → whole ≡ Err u.place.line
-user_goes_on items ks us last i n u whole hk here inside found so_far =
+pub user_goes_on : (items left right us : List Item) (last : ℕ) (u : Item) (whole : Result (List Item) ℕ) → left ≡ [] → right ≡ u ∷ us →
+    behind_all items (joined_from last left right) ≡ whole → whole ≡ Err u.place.line
+user_goes_on items left right us last u whole first second so_far =
     sym so_far
-    ∙ ap (behind_all items)
-    (at_drop_all (λ (xs : List Item). joined_from last xs (drop i us)) ks i hk
-    ∙ ap (λ k. joined_from last [] (drop k us)) here
-    ∙ user_alone last n us u inside found)
+    ∙ ap (λ (xs : List Item). behind_all items (joined_from last xs right)) first
+    ∙ ap (λ (ys : List Item). behind_all items (joined_from last [] ys)) second
     ∙ behind_refusal items u.place.line
 
-pub both_end : (items ks us : List Item) (last i : ℕ) (whole : Result (List Item) ℕ) → length ks ≤ i → length us ≤ i →
-    behind_all items (joined_from last (drop i ks) (drop i us)) ≡ whole → whole ≡ Ok items
-both_end items ks us last i whole hk hu so_far =
+pub both_end : (items left right : List Item) (last : ℕ) (whole : Result (List Item) ℕ) → left ≡ [] → right ≡ [] →
+    behind_all items (joined_from last left right) ≡ whole → whole ≡ Ok items
+both_end items left right last whole first second so_far =
     sym so_far
-    ∙ ap (behind_all items)
-    (at_drop_all (λ (xs : List Item). joined_from last xs (drop i us)) ks i hk
-    ∙ at_drop_all (λ (ys : List Item). joined_from last [] ys) us i hu)
+    ∙ ap (λ (xs : List Item). behind_all items (joined_from last xs right)) first
+    ∙ ap (λ (ys : List Item). behind_all items (joined_from last [] ys)) second
     ∙ behind_end items

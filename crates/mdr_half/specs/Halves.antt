@@ -1,3 +1,4 @@
+-- believed
 -- The two halves of a tree. Each has all items in order, and of a function of the other half a prototype marked `__remote`.
 use Rattle.std.specs.Prelude.{ℕ, Bool, true, false, List, map, Option, Some, None, slice_get}
 use Rattle.std.specs.List.{position}

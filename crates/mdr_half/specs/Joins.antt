@@ -1,3 +1,4 @@
+-- protocol
 -- Of which tree two trees are the halves. Their items stand in pairs.
 use Rattle.std.specs.Prelude.{◌≡◌, ℕ, Bool, true, false, List, [], ◌∷◌, Result, Ok, Err}
 use Rattle.std.specs.Str.{bytes_eq}

@@ -1,3 +1,4 @@
+-- believed
 -- The text of a plan, and what a report says of calls before it. Each line ends in a newline.
 use Rattle.std.specs.Prelude.{ℕ, ◌+◌, Bool, true, false, List, [], ◌∷◌, ◌++◌, Option, Some, None, codes, decimal, slice_get}
 use Rattle.mdr_core.specs.declared.types.Ty.{Ty}

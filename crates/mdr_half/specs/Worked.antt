@@ -1,3 +1,4 @@
+-- for proofs
 -- A plan worked out: a counter that the kernel half bumps and the user half opens.
 use Rattle.std.specs.Prelude.{◌≡◌, ℕ, pos, Bool, true, false, List, [], ◌∷◌, codes, Some}
 use Rattle.mdr_core.specs.declared.kind.Kind.TheVariants.{U32}

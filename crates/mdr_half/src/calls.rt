@@ -84,6 +84,6 @@ pub fn calls_text(
     let mut out = Vec::new(alloc);
     match put_calls(&mut out, program, graph, program.funcs.as_slice()) {
         Ok(()) => Ok(out),
-        Err(_) => Err(OutOfMemory),
+        Err(error) => Err(error.into()),
     }
 }

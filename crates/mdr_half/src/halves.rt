@@ -1,17 +1,18 @@
 // The two halves of a tree.
 
-ghost use Rattle.std.specs.Prelude.{◌≡◌, ◌++◌, IfOk, List, map, slice_get};
+ghost use Rattle.std.specs.Prelude.{◌≡◌, IfOk, OnOk, map, slice_get};
 ghost use Rattle.std.specs.List.{position};
 ghost use Rattle.std.specs.Str.{bytes_eq};
 ghost use Rattle.mdr_core.specs.declared.plan.Half.TheVariants.{Kernel, User};
+ghost use Rattle.mdr_print.specs.Marks.{Appends, spell, newline, row, ◌▸◌};
+ghost use Rattle.mdr_print.specs.Items.{item_words, item_lines, tree_marks, printed};
 ghost use Rattle.mdr_half.specs.Plans.{half_or_user};
 ghost use Rattle.mdr_half.specs.Halves.{half_by, half_of, is_same_half, remote, body_or_remote, what_in, item_in, half_tree, kernel_text, user_text};
 
 use crate::plan_lines::half_at;
-use mdr_copies::{copy_head, copy_item_what, copy_nodes};
-use mdr_core::{Half, Items, Name, OutOfMemory, Plan};
-use mdr_print::print;
-use mdr_syntax::{Head, Item, ItemWhat, Node, Tree};
+use mdr_core::{Half, Name, OutOfMemory, Plan};
+use mdr_print::{put_function, put_item, put_prototype};
+use mdr_syntax::{Head, Item, ItemWhat, Tree};
 use std::alloc::{AllocError, Global};
 
 fn name_position(names: &[Name], name: &[u8]) -> Option<usize>
@@ -42,74 +43,58 @@ fn is_same_half(a: Half, b: Half) -> bool
     }
 }
 
-/// A function's prototype, marked `__remote`.
-pub fn remote(alloc: Global, head: &Head) -> Result<ItemWhat, AllocError>
-    ensures { IfOk result (λ what. what ≡ remote head.now) }
+/// Whether a function is in a half.
+fn is_here(half: Half, plan: &Plan, head: &Head) -> bool
+    ensures { result ≡ is_same_half (half_of plan.now head.now.name) half }
 {
-    let head = copy_head(alloc, head)?;
-    Ok(ItemWhat::Proto(head, true))
+    is_same_half(half_of(plan, head.name.as_slice()), half)
 }
 
-fn body_or_remote(
+/// The lines of an item as a half has it: of a function of the other half its prototype, marked `__remote`.
+fn put_what_in(
     alloc: Global,
-    is_mine: bool,
-    head: &Head,
-    is_critical: bool,
-    body: &[Node],
-) -> Result<ItemWhat, AllocError>
-    ensures { IfOk result (λ what. what ≡ body_or_remote is_mine head.now is_critical body.now) }
-{
-    if !is_mine {
-        return remote(alloc, head);
-    }
-    let head = copy_head(alloc, head)?;
-    let body = copy_nodes(alloc, body)?;
-    Ok(ItemWhat::Func(head, is_critical, body))
-}
-
-fn what_in(alloc: Global, half: Half, plan: &Plan, what: &ItemWhat) -> Result<ItemWhat, AllocError>
-    ensures { IfOk result (λ copy. copy ≡ what_in half plan.now what.now) }
+    out: &mut Vec<u8>,
+    half: Half,
+    plan: &Plan,
+    what: &ItemWhat,
+) -> Result<(), AllocError>
+    ensures { OnOk result (Appends out.old.items out.new.items (item_words (what_in half plan.now what.now) ▸ newline)) }
 {
     match what {
         ItemWhat::Func(head, is_critical, body) => {
-            let is_mine = is_same_half(half_of(plan, head.name.as_slice()), half);
-            body_or_remote(alloc, is_mine, head, *is_critical, body.as_slice())
+            if is_here(half, plan, head) {
+                put_function(alloc, out, head, *is_critical, body.as_slice())
+            } else {
+                put_prototype(alloc, out, head, true)
+            }
         }
-        _ => copy_item_what(alloc, what),
+        _ => put_item(alloc, out, what),
     }
 }
 
-fn item_in(alloc: Global, half: Half, plan: &Plan, item: &Item) -> Result<Item, AllocError>
-    ensures { IfOk result (λ copy. copy ≡ item_in half plan.now item.now) }
-{
-    let what = what_in(alloc, half, plan, &item.what)?;
-    Ok(Item {
-        place: item.place,
-        what,
-    })
-}
-
-fn items_in(
+fn put_items_in(
     alloc: Global,
+    out: &mut Vec<u8>,
     half: Half,
     plan: &Plan,
     items: &[Item],
-) -> Result<Items<Item>, AllocError>
-    ensures { IfOk result (λ copies. copies ≡ map (item_in half plan.now) items.now) }
+) -> Result<(), AllocError>
+    ensures { OnOk result (Appends out.old.items out.new.items (row (map item_lines (map (item_in half plan.now) items.now)))) }
 {
-    let mut copies = Items::new(alloc);
     for item in items {
-        let copy = item_in(alloc, half, plan, item)?;
-        copies.push(copy)?;
+        put_what_in(alloc, out, half, plan, &item.what)?;
     }
-    Ok(copies)
+    Ok(())
 }
 
-fn half_tree(alloc: Global, half: Half, plan: &Plan, tree: &Tree) -> Result<Tree, OutOfMemory>
-    ensures { IfOk result (λ t. t ≡ half_tree half plan.now tree.now) }
+/// The text of a half. It is written from the tree itself, of which nothing is copied.
+#[tactic(auto, unfolding(mdr_print::specs::Items::printed, mdr_print::specs::Marks::spell))]
+fn half_text(alloc: Global, half: Half, plan: &Plan, tree: &Tree) -> Result<Vec<u8>, OutOfMemory>
+    ensures { IfOk result (λ bytes. bytes.items ≡ printed (half_tree half plan.now tree.now)) }
 {
-    let items = items_in(alloc, half, plan, tree.items.as_slice())?;
-    Ok(Tree { items })
+    let mut out = Vec::new(alloc);
+    put_items_in(alloc, &mut out, half, plan, tree.items.as_slice())?;
+    Ok(out)
 }
 
 /// The text of the kernel half: each function that the plan has in the user half is a prototype marked `__remote`. A
@@ -117,14 +102,12 @@ fn half_tree(alloc: Global, half: Half, plan: &Plan, tree: &Tree) -> Result<Tree
 pub fn kernel_text(alloc: Global, tree: &Tree, plan: &Plan) -> Result<Vec<u8>, OutOfMemory>
     ensures { IfOk result (λ bytes. bytes.items ≡ kernel_text plan.now tree.now) }
 {
-    let half = half_tree(alloc, Half::Kernel, plan, tree)?;
-    print(alloc, &half)
+    half_text(alloc, Half::Kernel, plan, tree)
 }
 
 /// The text of the user half: each function that the plan has in the kernel half is a prototype marked `__remote`.
 pub fn user_text(alloc: Global, tree: &Tree, plan: &Plan) -> Result<Vec<u8>, OutOfMemory>
     ensures { IfOk result (λ bytes. bytes.items ≡ user_text plan.now tree.now) }
 {
-    let half = half_tree(alloc, Half::User, plan, tree)?;
-    print(alloc, &half)
+    half_text(alloc, Half::User, plan, tree)
 }

@@ -7,7 +7,7 @@ use std::alloc::{AllocError, AllocFailed};
 use thiserror::Error;
 
 /// Why two trees aren't the halves of one.
-#[derive(Clone, Copy, Debug, PartialEq, Eq, Error)]
+#[derive(Clone, Copy, Debug, Error)]
 pub enum JoinError {
     /// The line of the first item of the user half's tree that doesn't fit, or of its last where only the kernel
     /// half's goes on.

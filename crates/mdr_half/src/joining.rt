@@ -1,19 +1,19 @@
 // The tree whose halves two trees are.
 
-ghost use Rattle.std.specs.Prelude.{◌≡◌, ◌++◌, IfOk, List};
+ghost use Rattle.std.specs.Prelude.{◌≡◌, ◌++◌, IfOk, OnOk, List};
 ghost use Rattle.std.specs.Str.{bytes_eq};
+ghost use Rattle.mdr_print.specs.Marks.{Appends, spell, newline, ◌▸◌};
+ghost use Rattle.mdr_print.specs.Items.{item_words, printed};
 ghost use Rattle.mdr_half.specs.Joins.{item_text, are_alike, part_of, part_of_proto, remote_of, whole_by, whole_of, whole_item, joined_item, joined_from, joined, Refuses, JoinsItem, JoinsItems, Joins};
 
-use crate::halves::remote;
 use crate::join_error::JoinError;
-use mdr_copies::{copy_item, copy_item_what};
-use mdr_core::{Items, OutOfMemory, Place};
-use mdr_print::print;
+use mdr_core::{Items, OutOfMemory};
+use mdr_print::{put_item, put_prototype};
 use mdr_syntax::{Item, ItemWhat, Tree};
 use std::alloc::{AllocError, Global};
 
 /// What an item is to a half: a function that is here, one that is in the other half, or an item of both.
-#[derive(Clone, Copy, Debug, PartialEq, Eq)]
+#[derive(Clone, Copy)]
 pub enum Part {
     Here,
     There,
@@ -21,7 +21,7 @@ pub enum Part {
 }
 
 /// Which of two items is the whole one.
-#[derive(Clone, Copy, Debug, PartialEq, Eq)]
+#[derive(Clone, Copy)]
 pub enum Whole {
     First,
     Second,
@@ -47,23 +47,24 @@ fn part_of_proto(is_remote: bool) -> Part
     if is_remote { Part::There } else { Part::Both }
 }
 
-fn remote_of(alloc: Global, what: &ItemWhat) -> Result<ItemWhat, AllocError>
-    ensures { IfOk result (λ r. r ≡ remote_of what.now) }
+/// The lines of an item as the half has it in which it is no function with a body.
+fn put_remote(alloc: Global, out: &mut Vec<u8>, what: &ItemWhat) -> Result<(), AllocError>
+    ensures { OnOk result (Appends out.old.items out.new.items (item_words (remote_of what.now) ▸ newline)) }
 {
     match what {
-        ItemWhat::Func(head, _, _) => remote(alloc, head),
-        _ => copy_item_what(alloc, what),
+        ItemWhat::Func(head, _, _) => put_prototype(alloc, out, head, true),
+        _ => put_item(alloc, out, what),
     }
 }
 
-/// The text of an item alone.
-fn item_text(alloc: Global, what: ItemWhat) -> Result<Vec<u8>, OutOfMemory>
-    ensures { IfOk result (λ bytes. bytes.items ≡ item_text what) }
+/// The text of these lines alone.
+#[tactic(auto, unfolding(mdr_print::specs::Items::printed, mdr_print::specs::Marks::spell))]
+fn remote_text(alloc: Global, what: &ItemWhat) -> Result<Vec<u8>, OutOfMemory>
+    ensures { IfOk result (λ bytes. bytes.items ≡ item_text (remote_of what.now)) }
 {
-    let place = Place { line: 1, column: 1 };
-    let mut items = Items::new(alloc);
-    items.push(Item { place, what })?;
-    print(alloc, &Tree { items })
+    let mut out = Vec::new(alloc);
+    put_remote(alloc, &mut out, what)?;
+    Ok(out)
 }
 
 fn same_bytes(a: &[u8], b: &[u8]) -> bool
@@ -72,11 +73,11 @@ fn same_bytes(a: &[u8], b: &[u8]) -> bool
     a == b
 }
 
-fn are_alike(alloc: Global, a: ItemWhat, b: ItemWhat) -> Result<bool, OutOfMemory>
-    ensures { IfOk result (λ r. r ≡ are_alike a b) }
+fn are_alike(alloc: Global, a: &ItemWhat, b: &ItemWhat) -> Result<bool, OutOfMemory>
+    ensures { IfOk result (λ r. r ≡ are_alike (remote_of a.now) (remote_of b.now)) }
 {
-    let a = item_text(alloc, a)?;
-    let b = item_text(alloc, b)?;
+    let a = remote_text(alloc, a)?;
+    let b = remote_text(alloc, b)?;
     Ok(same_bytes(a.as_slice(), b.as_slice()))
 }
 
@@ -94,56 +95,85 @@ fn whole_by(p: Part, q: Part, is_alike: bool) -> Whole
 fn whole_of(alloc: Global, a: &ItemWhat, b: &ItemWhat) -> Result<Whole, OutOfMemory>
     ensures { IfOk result (λ r. r ≡ whole_of a.now b.now) }
 {
-    let first = remote_of(alloc, a)?;
-    let second = remote_of(alloc, b)?;
-    let is_alike = are_alike(alloc, first, second)?;
+    let is_alike = are_alike(alloc, a, b)?;
     Ok(whole_by(part_of(a), part_of(b), is_alike))
 }
 
-fn joined_item(alloc: Global, kernel: &Item, user: &Item) -> Result<Item, JoinError>
-    ensures { JoinsItem result (joined_item kernel.now user.now) }
+fn whole_item(kernel: Item, user: Item, whole: Whole) -> Result<Item, JoinError>
+    ensures { JoinsItem result (whole_item kernel user whole) }
 {
-    let whole = match whole_of(alloc, &kernel.what, &user.what) {
-        Ok(whole) => whole,
-        Err(_) => return Err(JoinError::OutOfMemory),
-    };
     match whole {
-        Whole::First => Ok(copy_item(alloc, kernel)?),
-        Whole::Second => Ok(copy_item(alloc, user)?),
-        Whole::Neither => Err(JoinError::Differ(user.place.line)),
+        Whole::First => {
+            drop(user);
+            Ok(kernel)
+        }
+        Whole::Second => {
+            drop(kernel);
+            Ok(user)
+        }
+        Whole::Neither => {
+            let line = user.place.line;
+            drop(kernel);
+            drop(user);
+            Err(JoinError::Differ(line))
+        }
     }
 }
 
-fn joined_items(alloc: Global, kernel: &[Item], user: &[Item]) -> Result<Items<Item>, JoinError>
-    ensures { JoinsItems result (joined_from 1 kernel.now user.now) }
+fn joined_item(alloc: Global, kernel: Item, user: Item) -> Result<Item, JoinError>
+    ensures { JoinsItem result (joined_item kernel user) }
+{
+    match whole_of(alloc, &kernel.what, &user.what) {
+        Ok(whole) => whole_item(kernel, user, whole),
+        Err(_) => {
+            drop(kernel);
+            drop(user);
+            Err(JoinError::OutOfMemory)
+        }
+    }
+}
+
+fn joined_items(
+    alloc: Global,
+    kernel: Items<Item>,
+    user: Items<Item>,
+) -> Result<Items<Item>, JoinError>
+    ensures { JoinsItems result (joined_from 1 kernel user) }
 {
     let mut items = Items::new(alloc);
     let mut last = 1;
-    for i in 0..kernel.len() {
-        if i >= user.len() {
-            return Err(JoinError::Differ(last));
-        }
-        let theirs = &user[i];
-        let item = match joined_item(alloc, &kernel[i], theirs) {
+    let mut theirs = user.into_vec().into_iter();
+    for mine in kernel.into_vec() {
+        let other = match theirs.next() {
+            Some(other) => other,
+            None => {
+                drop(mine);
+                return Err(JoinError::Differ(last));
+            }
+        };
+        last = other.place.line;
+        let item = match joined_item(alloc, mine, other) {
             Ok(item) => item,
             Err(e) => return Err(e),
         };
         items.push(item)?;
-        last = theirs.place.line;
     }
-    if kernel.len() < user.len() {
-        let theirs = &user[kernel.len()];
-        return Err(JoinError::Differ(theirs.place.line));
+    match theirs.next() {
+        Some(other) => {
+            let line = other.place.line;
+            drop(other);
+            Err(JoinError::Differ(line))
+        }
+        None => Ok(items),
     }
-    Ok(items)
 }
 
-/// The tree whose halves two trees are: its items in order, of each function the one that has a body. The places of an
-/// item are those of the tree that it is taken from.
+/// The tree whose halves two trees are: its items in order, of each function the one that has a body. The items are
+/// moved out of the two trees, with their places.
 #[tactic(auto, unfolding(crate::specs::Joins::joined))]
-pub fn join(alloc: Global, kernel: &Tree, user: &Tree) -> Result<Tree, JoinError>
-    ensures { Joins result (joined kernel.now user.now) }
+pub fn join(alloc: Global, kernel: Tree, user: Tree) -> Result<Tree, JoinError>
+    ensures { Joins result (joined kernel user) }
 {
-    let items = joined_items(alloc, kernel.items.as_slice(), user.items.as_slice())?;
+    let items = joined_items(alloc, kernel.items, user.items)?;
     Ok(Tree { items })
 }

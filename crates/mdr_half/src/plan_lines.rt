@@ -254,6 +254,6 @@ pub fn plan_text(alloc: Global, program: &Program, plan: &Plan) -> Result<Vec<u8
     let mut out = Vec::new(alloc);
     match put_plan(alloc, &mut out, program, plan) {
         Ok(()) => Ok(out),
-        Err(_) => Err(OutOfMemory),
+        Err(error) => Err(error.into()),
     }
 }

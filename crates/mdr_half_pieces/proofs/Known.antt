@@ -13,10 +13,10 @@ use Rattle.mdr_syntax.specs.declared.tree.Head.{Head}
 use Rattle.mdr_syntax.specs.declared.tree.Item.{Item}
 use Rattle.mdr_syntax.specs.declared.tree.ItemWhat.{ItemWhat}
 use Rattle.std.proofs.Common.{Bool, List, [], ap, false, length, map, refl, true, ℕ, ◌||◌, ◌∙◌, ◌∷◌, ◌≡◌}
-use Rattle.mdr_check.specs.Files.{behind_head, behind_item, first_known, first_scope, known_behind, outlines_behind, outlines_from, with_outlines}
+use Rattle.mdr_check.specs.Files.{behind_item, first_known, first_scope, known_behind, outlines_behind, outlines_from, with_outlines}
 use Rattle.mdr_headings.specs.Names.{Verdict}
 use Rattle.mdr_half.specs.Halves.{half_of, is_same_half, remote, body_or_remote, what_in, item_in}
-use Rattle.mdr_headings.specs.Functions.{is_defined, defines_by, behind_function, functions_behind}
+use Rattle.mdr_headings.specs.Functions.{is_defined, defines_by}
 use Rattle.mdr_syntax.specs.declared.tree.ItemWhat.TheVariants as item
 use Rattle.mdr_syntax.specs.declared.tree.Node.{Node}
 
@@ -76,22 +76,10 @@ module _ (half : Half) (plan : Plan) where
 
   -- ---- behind items
 
-  module _ (items : List Item) where
-    heads_there : (known : Known) (h : Head) → behind_head (there items) known h ≡ behind_head items known h
-    heads_there known h = ap (λ (b : Bool). record { scope = behind_function known.scope (length known.functions) b h; globals = known.globals; functions = functions_behind known.scope known.functions h }) (defined_there items h.name)
+  pub item_there : (known : Known) (w : ItemWhat) → behind_item known (what_in half plan w) ≡ behind_item known w
+  item_there known w = rest_alike (behind_item known) (λ h c ns. refl) w
 
-    same_items : (known : Known) (w : ItemWhat) → behind_item (there items) known w ≡ behind_item items known w
-    same_items known (item.Define name is_negative n k) = refl
-    same_items known (item.Struct p name ds) = refl
-    same_items known (item.Enum es) = refl
-    same_items known (item.Global d init) = refl
-    same_items known (item.Proto h is_remote) = heads_there known h
-    same_items known (item.Func h is_critical ns) = heads_there known h
-
-    pub item_there : (known : Known) (w : ItemWhat) → behind_item (there items) known (what_in half plan w) ≡ behind_item items known w
-    item_there known w = rest_alike (behind_item (there items) known) (λ h c ns. refl) w ∙ same_items known w
-
-    pub known_there : (is : List Item) (known : Known) → known_behind (there items) known (there is) ≡ known_behind items known is
-    unfolding known_behind
-    known_there [] known = refl
-    known_there (i ∷ is) known = ap (λ (k : Known). known_behind (there items) k (there is)) (item_there known i.what) ∙ known_there is (behind_item items known i.what)
+  pub known_there : (is : List Item) (known : Known) → known_behind known (there is) ≡ known_behind known is
+  unfolding known_behind
+  known_there [] known = refl
+  known_there (i ∷ is) known = ap (λ (k : Known). known_behind k (there is)) (item_there known i.what) ∙ known_there is (behind_item known i.what)

@@ -1,10 +1,11 @@
 -- The items of a half come to the pieces of the whole source, but for bodies of the other half.
-use Rattle.mdr_check.specs.Uses.{UseRule, defined_functions, defined_rule, is_used, uses_by}
+use Rattle.mdr_check.specs.Uses.{UseRule, defined_functions, defined_rule}
 use Rattle.mdr_check.specs.declared.file.Known.{Known}
+use Rattle.mdr_core.specs.Layout.{chosen}
 use Rattle.mdr_core.specs.declared.place.Place.{Place}
 use Rattle.mdr_core.specs.declared.plan.Half.{Half}
 use Rattle.mdr_core.specs.declared.plan.Plan.{Plan}
-use Rattle.mdr_faults.specs.declared.fault.FaultKind.TheVariants.{Incomplete, Limit, Redefined}
+use Rattle.mdr_faults.specs.declared.fault.FaultKind.TheVariants.{Limit, Redefined}
 use Rattle.mdr_faults.specs.declared.scope.Scope.{Scope}
 use Rattle.mdr_half_pieces.proofs.Known.{defined_there, first_there, item_there, known_there, shorts_there, there}
 use Rattle.mdr_half_pieces.proofs.Leading.{Leads, after_leads, both_leads, demand_leads, goods_by, itself, led, next_leads}
@@ -18,9 +19,9 @@ use Rattle.std.proofs.Common.{Bool, List, None, Option, Some, [], ap, bytes_eq, 
 use Rattle.mdr_check.specs.Files.{BodyRule, struct_of, struct_piece, global_of, prototype_of, function_of, body_scope, item_piece, behind_item, pieces_behind, known_behind, first_known}
 use Rattle.mdr_check.specs.Whole.{kept, named, file_pieces}
 use Rattle.mdr_check.specs.declared.file.Piece.TheVariants as piece
-use Rattle.mdr_faults.specs.Faults.{Checked, Right, Wrong, after, both, next, each}
+use Rattle.mdr_faults.specs.Faults.{Checked, Faults, Right, Wrong, after, both, next, each}
 use Rattle.mdr_half.specs.Halves.{half_of, is_same_half, body_or_remote, what_in, item_in}
-use Rattle.mdr_headings.specs.Functions.{is_taken, may_stand, function_declared, function_rule, function_named, has_body, is_body_by, behind_function}
+use Rattle.mdr_headings.specs.Functions.{is_taken, may_stand, function_declared, function_rule, function_named, has_body, is_body_by}
 use Rattle.mdr_headings.specs.Heads.{heading}
 use Rattle.mdr_headings.specs.declared.body.Body.{Body}
 use Rattle.mdr_headings.specs.declared.head.Heading.{Heading}
@@ -91,21 +92,18 @@ module _ (half : Half) (plan : Plan) where
 
   -- ---- one item
 
-  module _ (body : BodyRule) (items : List Item) where
-    scope_there : (known : Known) (h : Head) → body_scope (there half plan items) known h ≡ body_scope items known h
-    scope_there known h = ap (λ (b : Bool). behind_function known.scope (length known.functions) b h) (defined_there half plan items h.name)
-
+  module _ (body : BodyRule) where
     function_leads : (before : List Item) (known : Known) (p : Place) (h : Head) (is_critical : Bool) (ns : List Node) (b : Bool) → is_same_half (half_of plan h.name) half ≡ b
-        → Leads (piece_in half plan) (item_piece body items before known p (item.Func h is_critical ns)) (item_piece body (there half plan items) (there half plan before) known p (body_or_remote b h is_critical ns))
+        → Leads (piece_in half plan) (item_piece body before known p (item.Func h is_critical ns)) (item_piece body (there half plan before) known p (body_or_remote b h is_critical ns))
     function_leads before known p h is_critical ns true e =
         both_leads (λ x. x) (λ x. x) (piece_in half plan) (function_of h.name is_critical) (function_of h.name is_critical)
         (same_leads _ _ (whole_same known.scope known.functions before (there half plan before) h (body_there h.name e before)))
-        (same_leads _ _ (ap (λ (s : Scope). body s h ns) (scope_there known h)))
+        (itself _)
         (λ x y. goods_by (piece_in half plan) (piece.Function h.name is_critical x y) (piece.Function h.name is_critical x y) (ap (λ t. function_or_prototype t h.name is_critical x y) e))
     function_leads before known p h is_critical ns false e =
-        prototype_leads h is_critical e (bare_leads known.scope known.functions before (there half plan before) h) (body (body_scope items known h) h ns)
+        prototype_leads h is_critical e (bare_leads known.scope known.functions before (there half plan before) h) (body (body_scope known h) h ns)
 
-    item_leads : (before : List Item) (known : Known) (p : Place) (w : ItemWhat) → Leads (piece_in half plan) (item_piece body items before known p w) (item_piece body (there half plan items) (there half plan before) known p (what_in half plan w))
+    item_leads : (before : List Item) (known : Known) (p : Place) (w : ItemWhat) → Leads (piece_in half plan) (item_piece body before known p w) (item_piece body (there half plan before) known p (what_in half plan w))
     item_leads before known p (item.Define name is_negative n k) = demand_leads (piece_in half plan) p Redefined _ _ (λ e. e) (Goods piece.Nothing)
     item_leads before known p (item.Struct at name ds) = struct_leads known.scope at name ds
     item_leads before known p (item.Enum es) = after_leads (λ x. x) (piece_in half plan) _ _ (itself _) (λ x. Goods piece.Nothing)
@@ -116,34 +114,20 @@ module _ (half : Half) (plan : Plan) where
 
     -- ---- all items
 
-    pieces_lead : (is : List Item) (known : Known) (before : List Item) → Leads (map (piece_in half plan)) (pieces_behind body items known before is) (pieces_behind body (there half plan items) known (there half plan before) (there half plan is))
+    pieces_lead : (is : List Item) (known : Known) (before : List Item) → Leads (map (piece_in half plan)) (pieces_behind body known before is) (pieces_behind body known (there half plan before) (there half plan is))
     unfolding pieces_behind
     pieces_lead [] known before = Goods []
     pieces_lead (i ∷ is) known before =
         next_leads (piece_in half plan) (item_leads before known i.place i.what)
-        (subst (λ (k : Known). Leads (map (piece_in half plan)) (pieces_behind body items (behind_item items known i.what) (before ++ i ∷ []) is) (pieces_behind body (there half plan items) k (there half plan before ++ item_in half plan i ∷ []) (there half plan is))) (sym (item_there half plan items known i.what))
-        (subst (λ (b : List Item). Leads (map (piece_in half plan)) (pieces_behind body items (behind_item items known i.what) (before ++ i ∷ []) is) (pieces_behind body (there half plan items) (behind_item items known i.what) b (there half plan is))) (map-append (item_in half plan) before (i ∷ []))
-        (pieces_lead is (behind_item items known i.what) (before ++ i ∷ []))))
+        (subst (λ (k : Known). Leads (map (piece_in half plan)) (pieces_behind body (behind_item known i.what) (before ++ i ∷ []) is) (pieces_behind body k (there half plan before ++ item_in half plan i ∷ []) (there half plan is))) (sym (item_there half plan known i.what))
+        (subst (λ (b : List Item). Leads (map (piece_in half plan)) (pieces_behind body (behind_item known i.what) (before ++ i ∷ []) is) (pieces_behind body (behind_item known i.what) b (there half plan is))) (map-append (item_in half plan) before (i ∷ []))
+        (pieces_lead is (behind_item known i.what) (before ++ i ∷ []))))
 
   -- ---- functions that are declared
 
-  used_by : (uses : UseRule) (name : List ℕ) (w : ItemWhat) → uses_by unused name w ≡ true → uses_by uses name (what_in half plan w) ≡ true
-  used_by uses name (item.Define other is_negative n k) e = e
-  used_by uses name (item.Struct p other ds) e = e
-  used_by uses name (item.Enum es) e = e
-  used_by uses name (item.Global d init) e = e
-  used_by uses name (item.Proto h is_remote) e = e
-  used_by uses name (item.Func h is_critical ns) e = absurd cc
-
-  or_by : (a b c d : Bool) → (a ≡ true → c ≡ true) → (b ≡ true → d ≡ true) → (a || b) ≡ true → (c || d) ≡ true
-  or_by true b c d f g e = ap (λ x. x || d) (f refl)
-  or_by false b true d f g e = refl
-  or_by false b false d f g e = g e
-
-  used_there : (uses : UseRule) (name : List ℕ) (is : List Item) → is_used unused name is ≡ true → is_used uses name (there half plan is) ≡ true
-  unfolding is_used
-  used_there uses name [] e = e
-  used_there uses name (i ∷ is) e = or_by _ _ _ _ (used_by uses name i.what) (used_there uses name is) e
+  defined_leads : (p : Place) (f g : Faults) (t u : Bool) → t ≡ u → Leads (λ x. x) (chosen t (Right p) (Wrong f)) (chosen u (Right p) (Wrong g))
+  defined_leads p f g true u e = subst (λ b. Leads (λ x. x) (Right p) (chosen b (Right p) (Wrong g))) e (Goods p)
+  defined_leads p f g false u e = Bads f (chosen u (Right p) (Wrong g))
 
   next_same : {A : Type 0} {c d : Checked A} {cs ds : Checked (List A)} → Leads (λ x. x) c d → Leads (λ x. x) cs ds → Leads (λ x. x) (next c cs) (next d ds)
   next_same l ls = both_leads (λ x. x) (λ x. x) (λ x. x) _ _ l ls (λ x xs. Goods (x ∷ xs))
@@ -151,7 +135,7 @@ module _ (half : Half) (plan : Plan) where
   each_leads : (uses : UseRule) (items : List Item) (fs : List Declared) → Leads (λ x. x) (each (map (defined_rule unused items) fs)) (each (map (defined_rule uses (there half plan items)) fs))
   each_leads uses items [] = Goods []
   each_leads uses items (f ∷ fs) =
-      next_same (demand_leads (λ x. x) f.place Incomplete _ _ (or_by _ _ _ _ (λ e. defined_there half plan items f.name ∙ e) (used_there uses f.name items)) (Goods f.place)) (each_leads uses items fs)
+      next_same (defined_leads f.place _ _ _ _ (sym (defined_there half plan items f.name))) (each_leads uses items fs)
 
   defined_lead : (uses : UseRule) (items : List Item) (fs gs : List Declared) → gs ≡ fs → Leads (λ x. x) (defined_functions unused items fs) (defined_functions uses (there half plan items) gs)
   unfolding defined_functions
@@ -159,15 +143,15 @@ module _ (half : Half) (plan : Plan) where
 
   -- ---- whole files
 
-  functions_same : (items : List Item) → (known_behind (there half plan items) (first_known (there half plan items)) (there half plan items)).functions ≡ (known_behind items (first_known items) items).functions
-  functions_same items = ap (λ (k : Known). (known_behind (there half plan items) k (there half plan items)).functions) (first_there half plan items) ∙ ap (λ (k : Known). k.functions) (known_there half plan items items (first_known items))
+  functions_same : (items : List Item) → (known_behind (first_known (there half plan items)) (there half plan items)).functions ≡ (known_behind (first_known items) items).functions
+  functions_same items = ap (λ (k : Known). (known_behind k (there half plan items)).functions) (first_there half plan items) ∙ ap (λ (k : Known). k.functions) (known_there half plan items (first_known items))
 
   files_lead : (body : BodyRule) (uses : UseRule) (items : List Item) → Leads (map (piece_in half plan)) (file_pieces body unused items) (file_pieces body uses (there half plan items))
   unfolding file_pieces
   files_lead body uses items =
       both_leads (λ x. x) (map (piece_in half plan)) (map (piece_in half plan)) named named (same_leads _ _ (shorts_there half plan items))
       (both_leads (map (piece_in half plan)) (λ x. x) (map (piece_in half plan)) kept kept
-      (subst (λ (k : Known). Leads (map (piece_in half plan)) (pieces_behind body items (first_known items) [] items) (pieces_behind body (there half plan items) k [] (there half plan items))) (sym (first_there half plan items)) (pieces_lead body items items (first_known items) []))
+      (subst (λ (k : Known). Leads (map (piece_in half plan)) (pieces_behind body (first_known items) [] items) (pieces_behind body k [] (there half plan items))) (sym (first_there half plan items)) (pieces_lead body items (first_known items) []))
       (defined_lead uses items _ _ (functions_same items))
       (λ x y. Goods x))
       (λ u xs. Goods xs)

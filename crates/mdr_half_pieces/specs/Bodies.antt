@@ -1,3 +1,4 @@
+-- for proofs
 -- Sources in which each function that is declared has its body (C99 6.9, paragraph 3).
 use Rattle.std.specs.Prelude.{◌≡◌, true, List, [], ◌∷◌, is_some}
 use Rattle.mdr_core.specs.declared.program.Func.{Func}
@@ -14,6 +15,6 @@ abbrev pub HaveBodies : List Func → Type 0
 HaveBodies [] = Unit {0}
 HaveBodies (f ∷ fs) = (is_some f.body ≡ true) × HaveBodies fs
 
--- where each function of the program has a body, no use of a function is asked for
+-- what a file without faults comes to doesn't depend on what its bodies use
 abbrev pub NoUseIsAskedFor : Type 0
-NoUseIsAskedFor = (body : BodyRule) (uses : UseRule) (items : List Item) (xs : List Piece) → file_pieces body uses items ≡ Right xs → HaveBodies (program_of xs).funcs → file_pieces body unused items ≡ Right xs
+NoUseIsAskedFor = (body : BodyRule) (uses : UseRule) (items : List Item) (xs : List Piece) → file_pieces body uses items ≡ Right xs → file_pieces body unused items ≡ Right xs

@@ -1,3 +1,4 @@
+-- for proofs
 -- How many structs a program's type table has.
 use Rattle.std.specs.Prelude.{◌≡◌, List, length}
 use Rattle.mdr_core.specs.declared.types.Ty.{Ty}

@@ -1,5 +1,6 @@
+-- for proofs
 -- What the items of one half's text come to.
-use Rattle.std.specs.Prelude.{◌≡◌, ℕ, Bool, true, false, List, map}
+use Rattle.std.specs.Prelude.{◌≡◌, ℕ, Bool, true, false, List, map, None}
 use Rattle.mdr_core.specs.declared.plan.Half.{Half}
 use Rattle.mdr_core.specs.declared.plan.Plan.{Plan}
 use Rattle.mdr_syntax.specs.declared.tree.Tree.{Tree}
@@ -25,9 +26,9 @@ piece_in half plan (piece.Global v) = piece.Global v
 piece_in half plan (piece.Prototype name h) = piece.Prototype name h
 piece_in half plan (piece.Function name is_critical h b) = function_or_prototype (is_same_half (half_of plan name) half) name is_critical h b
 
--- nothing is used, so that each function that is declared must have its body (6.9, paragraphs 3 and 5)
+-- nothing is used. What a file comes to doesn't depend on uses: they say where an undefined function is told of
 abbrev pub unused : UseRule
-unused h body name = false
+unused h body name = None
 
 abbrev pub HalvesHaveThePieces : Type 0
 HalvesHaveThePieces = (body : BodyRule) (uses : UseRule) (half : Half) (plan : Plan) (tree : Tree) (xs : List Piece)

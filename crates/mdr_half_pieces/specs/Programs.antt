@@ -1,3 +1,4 @@
+-- for proofs
 -- The program of a half's text, beside that of the whole source.
 use Rattle.std.specs.Prelude.{◌≡◌, true, List, map}
 use Rattle.mdr_core.specs.declared.plan.Half.{Half}

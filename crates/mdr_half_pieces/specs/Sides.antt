@@ -1,3 +1,4 @@
+-- for proofs
 -- Which functions a half's text has, beside those of the whole program.
 use Rattle.std.specs.Prelude.{◌≡◌, Bool, true, false, List, [], ◌∷◌, map, None}
 use Rattle.mdr_core.specs.declared.plan.Half.{Half}

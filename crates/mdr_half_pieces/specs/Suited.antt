@@ -1,3 +1,4 @@
+-- for proofs
 -- Which plans suit the functions and the keys of a half's text.
 use Rattle.std.specs.Prelude.{◌≡◌, ℕ, true, List, [], ◌∷◌, length, map}
 use Rattle.mdr_core.specs.declared.plan.Half.{Half}

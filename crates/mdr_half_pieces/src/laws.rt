@@ -24,7 +24,7 @@ pub fn halves_have_the_programs()
     ensures { HalvesHaveThePrograms }
 {}
 
-/// Where each function of the program has a body, no use of a function is asked for.
+/// What a file without faults comes to doesn't depend on what its bodies use: each function that it declares is defined.
 pub fn no_use_is_asked_for()
     ensures { NoUseIsAskedFor }
 {}

@@ -16,7 +16,7 @@ use Rattle.mdr_grammar.proofs.Exact.{one_tree}
 use Rattle.mdr_roundtrip.specs.Again.{IsPrintedAsSource}
 use Rattle.mdr_roundtrip.specs.Itemised.{unplaced_tree}
 use Rattle.mdr_body.specs.Bodies.{body_rule}
-use Rattle.mdr_body.specs.Mentions.{uses}
+use Rattle.mdr_body.specs.Uses.{first_use}
 use Rattle.mdr_typing.specs.Profile.{profile_rules}
 use Rattle.mdr_check.specs.declared.file.Piece.{Piece}
 use Rattle.mdr_program.specs.declared.parts.Parts.{Parts}
@@ -81,7 +81,7 @@ pub read_again : PrintedHalvesHaveThePrograms
 read_again plan tree read tokens xs p e r pieces bodies suited types =
     let side = sides_both User plan xs in
     let fits = functions_suited plan (parts_of xs) (parts_of (map (piece_in User plan) xs)) side suited (bodies_fit xs bodies) (halves_fit plan xs suited) in
-    let part = halves_are_parts (body_rule profile_rules) uses User plan tree xs (no_use_asked (body_rule profile_rules) uses tree.items xs pieces bodies) suited.types (suits_by plan (parts_of (map (piece_in User plan) xs)) fits (structs_fit plan (parts_of xs) (parts_of (map (piece_in User plan) xs)) side.structs suited.types) types) in
+    let part = halves_are_parts (body_rule profile_rules) first_use User plan tree xs (no_use_asked (body_rule profile_rules) first_use tree.items xs pieces) suited.types (suits_by plan (parts_of (map (piece_in User plan) xs)) fits (structs_fit plan (parts_of xs) (parts_of (map (piece_in User plan) xs)) side.structs suited.types) types) in
     record {
       part = part.part;
       typed = right_same part.part (halves_alike plan (user_tree plan tree) read (sym (the_same (user_tree plan tree) read tokens p e r))) part.typed;

@@ -1,3 +1,4 @@
+-- for proofs
 -- The printed text of a half, read with the plan.
 use Rattle.std.specs.Prelude.{◌≡◌, true, List, map, Ok}
 use Rattle.std.specs.List.{list_all}
@@ -13,7 +14,7 @@ use Rattle.mdr_grammar.specs.Grammar.{Reads}
 use Rattle.mdr_roundtrip.specs.Again.{IsPrintedAsSource}
 use Rattle.mdr_faults.specs.Faults.{Right}
 use Rattle.mdr_body.specs.Bodies.{body_rule}
-use Rattle.mdr_body.specs.Mentions.{uses}
+use Rattle.mdr_body.specs.Uses.{first_use}
 use Rattle.mdr_typing.specs.Profile.{profile_rules}
 use Rattle.mdr_check.specs.declared.file.Piece.{Piece}
 use Rattle.mdr_check.specs.Whole.{file_pieces}
@@ -31,7 +32,7 @@ use Rattle.mdr_half_pieces.specs.Programs.{IsPartOf}
 -- the tree that was read of a half's text comes with the plan to the half's part of the program
 pub record ComesToPart (half : Half) (plan : Plan) (read : Tree) (whole : Program) : Type 0 where
   pub part : Program
-  pub typed : half_typed (body_rule profile_rules) uses plan read.items ≡ Right part
+  pub typed : half_typed (body_rule profile_rules) first_use plan read.items ≡ Right part
   pub is_part : IsPartOf half plan whole part
 
 -- the plan has each type that occurs in the text
@@ -42,5 +43,5 @@ HasTypes plan ps = list_all (λ t. has_type plan.types t) (occurring ps) ≡ tru
 abbrev pub PrintedHalvesHaveThePrograms : Type 0
 PrintedHalvesHaveThePrograms = (plan : Plan) (tree read : Tree) (tokens : List Token) (xs : List Piece)
     → IsPrintedAsSource true (user_tree plan tree) → tokens_of (user_text plan tree) ≡ Ok tokens → Reads true tokens read
-    → file_pieces (body_rule profile_rules) uses tree.items ≡ Right xs → HaveBodies (program_of xs).funcs → IsSuited plan (program_of xs) → HasTypes plan (parts_of (map (piece_in User plan) xs))
+    → file_pieces (body_rule profile_rules) first_use tree.items ≡ Right xs → HaveBodies (program_of xs).funcs → IsSuited plan (program_of xs) → HasTypes plan (parts_of (map (piece_in User plan) xs))
     → ComesToPart User plan read (program_of xs)

@@ -22,7 +22,7 @@ use Rattle.mdr_plan.specs.declared.plan_error.PlanKind.{PlanKind}
 use Rattle.mdr_plan.specs.Texts.{Fails, IsFault, IsPlanText}
 use Rattle.mdr_plan.proofs.Running.{no_fault}
 use Rattle.mdr_source.specs.Backs.{functions_call_back}
-use Rattle.mdr_honest.specs.Honest.{AreRefused, Loads}
+use Rattle.mdr_half_source.specs.Loads.{AreRefused, Loads}
 use Rattle.mdr_half_source.specs.declared.misfit.Misfit.{Misfit}
 use Rattle.mdr_half_source.specs.declared.misfit.Misfit.TheVariants as misfit
 use Rattle.mdr_half_source.specs.declared.outcome.HalfSource.{HalfSource}

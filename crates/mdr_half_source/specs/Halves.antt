@@ -1,6 +1,7 @@
+-- protocol
 -- What the text of a user half and the text of its plan come to.
 use Rattle.std.specs.Prelude.{ℕ, List, Result, Ok, Err}
-use Rattle.mdr_honest.specs.Honest.{AreRefused, Loads}
+use Rattle.mdr_half_source.specs.Loads.{AreRefused, Loads}
 use Rattle.mdr_half_source.specs.declared.misfit.Misfit.{Misfit}
 use Rattle.mdr_half_source.specs.declared.misfit.Misfit.TheVariants as misfit
 use Rattle.mdr_half_source.specs.declared.outcome.HalfSource.{HalfSource}

@@ -1,3 +1,4 @@
+-- protocol
 -- The program of a user half's text, stage by stage.
 use Rattle.std.specs.Prelude.{◌≡◌, ◌≤◌, ℕ, true, false, List, length, Option, Some, None}
 use Rattle.mdr_core.specs.declared.plan.Plan.{Plan}
@@ -9,15 +10,15 @@ use Rattle.mdr_parse.specs.declared.error.ParseError.TheVariants as parse
 use Rattle.mdr_grammar.specs.Grammar.{Reads}
 use Rattle.mdr_faults.specs.Faults.{Checked, Right}
 use Rattle.mdr_body.specs.Bodies.{body_rule}
-use Rattle.mdr_body.specs.Mentions.{uses}
+use Rattle.mdr_body.specs.Uses.{first_use}
 use Rattle.mdr_typing.specs.Profile.{profile_rules}
 use Rattle.mdr_check_half.specs.HalfPrograms.{half_typed}
 use Rattle.mdr_source.specs.Backs.{functions_call_back}
-use Rattle.mdr_honest.specs.Honest.{ComesTo}
+use Rattle.mdr_half_source.specs.Loads.{ComesTo}
 
 -- the program of a tree with a plan, or all faults in it
 abbrev pub typed_half : Plan → Tree → Checked Program
-typed_half plan tree = half_typed (body_rule profile_rules) uses plan tree.items
+typed_half plan tree = half_typed (body_rule profile_rules) first_use plan tree.items
 
 -- a program that is right and calls nothing back
 pub record IsRight (c : Checked Program) (program : Program) : Type 0 where

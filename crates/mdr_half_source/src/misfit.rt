@@ -3,7 +3,7 @@
 use thiserror::Error;
 
 /// Which of two texts is none of a user half.
-#[derive(Clone, Copy, Debug, PartialEq, Eq, Error)]
+#[derive(Clone, Copy, Debug, Error)]
 pub enum Misfit {
     #[error("the plan is none")]
     Plan,

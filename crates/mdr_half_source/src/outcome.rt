@@ -3,7 +3,7 @@
 use mdr_core::{Plan, Program};
 
 /// A plan that was read, and the program that the text of a user half has with it.
-#[derive(Debug, Drop)]
+#[derive(Drop)]
 pub struct HalfSource {
     pub plan: Plan,
     pub program: Program,

@@ -11,7 +11,7 @@ use crate::misfit::Misfit;
 use crate::outcome::HalfSource;
 use mdr_body::Rule;
 use mdr_check_half::check_half;
-use mdr_core::{OutOfMemory, Plan, Program};
+use mdr_core::{Limit, OutOfMemory, Plan, Program};
 use mdr_express::left_over;
 use mdr_faults::Fault;
 use mdr_parse::{ParseError, parse};
@@ -79,7 +79,7 @@ fn unread(error: ParseError) -> Result<Option<Program>, OutOfMemory>
     match error {
         ParseError::NotInProfile(_, _) => Ok(None),
         ParseError::Expected(_) => Ok(None),
-        ParseError::OutOfMemory => Err(OutOfMemory),
+        ParseError::OutOfMemory => Err(OutOfMemory::passed_on()),
     }
 }
 
@@ -114,7 +114,7 @@ fn found_in(alloc: Global, plan: &Plan, user: &[u8]) -> Result<Option<Program>, 
         Err(LexError::BadNumber(_)) => Ok(None),
         Err(LexError::OpenComment(_)) => Ok(None),
         Err(LexError::OpenText(_)) => Ok(None),
-        Err(LexError::OutOfMemory) => Err(OutOfMemory),
+        Err(LexError::OutOfMemory) => Err(OutOfMemory::passed_on()),
     }
 }
 
@@ -123,7 +123,7 @@ fn of_text(alloc: Global, plan: &Plan, user: &[u8]) -> Result<Option<Program>, O
     ensures { IfOk result (HasHalf user.now plan.now) }
 {
     if plan.types.len() > MOST_TYPES {
-        return Err(OutOfMemory);
+        return Err(Limit::Parts.past());
     }
     let found = found_in(alloc, plan, user)?;
     Ok(found)
@@ -161,6 +161,6 @@ pub fn half_source(
     match read_plan(alloc, plan) {
         Ok(plan) => of_plan(alloc, plan, user),
         Err(PlanError::Line(_, _)) => Ok(Err(Misfit::Plan)),
-        Err(PlanError::OutOfMemory) => Err(OutOfMemory),
+        Err(PlanError::OutOfMemory) => Err(OutOfMemory::passed_on()),
     }
 }

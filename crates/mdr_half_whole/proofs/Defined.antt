@@ -70,17 +70,17 @@ all_keep [] ps name h = h
 all_keep (x ∷ xs) ps name h = all_keep xs (behind_piece ps x) name (one_keeps ps x name h)
 
 -- what a body comes to
-body_puts : (body : BodyRule) (items before : List Item) (known : Known) (i : Item) (x : Piece) (ps : Parts) (name : List ℕ) → item_piece body items before known i.place i.what ≡ Right x → is_body_by name i.what ≡ true → IsBodied name (behind_piece ps x).funcs
+body_puts : (body : BodyRule) (items before : List Item) (known : Known) (i : Item) (x : Piece) (ps : Parts) (name : List ℕ) → item_piece body before known i.place i.what ≡ Right x → is_body_by name i.what ≡ true → IsBodied name (behind_piece ps x).funcs
 body_puts body items before known i x ps name = by i.what
   where
-    by : (w : ItemWhat) → item_piece body items before known i.place w ≡ Right x → is_body_by name w ≡ true → IsBodied name (behind_piece ps x).funcs
+    by : (w : ItemWhat) → item_piece body before known i.place w ≡ Right x → is_body_by name w ≡ true → IsBodied name (behind_piece ps x).funcs
     by (item.Define n is_negative v k) e q = absurd cc
     by (item.Struct p n ds) e q = absurd cc
     by (item.Enum es) e q = absurd cc
     by (item.Global d init) e q = absurd cc
     by (item.Proto h is_remote) e q = absurd cc
     by (item.Func h is_critical nodes) e q =
-        let b = both_right (function_declared known.scope known.functions before h true) (body (body_scope items known h) h nodes) (function_of h.name is_critical) x e in
+        let b = both_right (function_declared known.scope known.functions before h true) (body (body_scope known h) h nodes) (function_of h.name is_critical) x e in
         let f : Func = whole h.name is_critical b.left b.right in
         subst (λ (y : Piece). IsBodied name (behind_piece ps y).funcs) (same_right (piece.Function h.name is_critical b.left b.right) x b.made)
         (subst (IsBodied name) (sym (defined_put ps.funcs f)) (subst (λ (n : List ℕ). IsBodied n (put_named ps.funcs f)) ((bytes_eq-Decides h.name name).0 q) (put_has ps.funcs f refl)))
@@ -94,13 +94,13 @@ module _ (body : BodyRule) (items : List Item) (name : List ℕ) where
   unfolding parts_behind
   first_of ps x ys h = h
 
-  bodied : (is : List Item) (before : List Item) (known : Known) (xs : List Piece) (ps : Parts) → pieces_behind body items known before is ≡ Right xs → has_body is name ≡ true → IsBodied name (parts_behind ps xs).funcs
+  bodied : (is : List Item) (before : List Item) (known : Known) (xs : List Piece) (ps : Parts) → pieces_behind body known before is ≡ Right xs → has_body is name ≡ true → IsBodied name (parts_behind ps xs).funcs
   bodied [] before known xs ps e h = absurd cc
   bodied (i ∷ is) before known xs ps e h =
       let p = pieces_parted body items before known i is xs e in
-      subst (λ (ys : List Piece). IsBodied name (parts_behind ps ys).funcs) (sym p.all) (by p.first p.rest p.one p.others (either (is_body_by name i.what) (has_body is name) h) (bodied is (before ++ i ∷ []) (behind_item items known i.what) p.rest (behind_piece ps p.first) p.others))
+      subst (λ (ys : List Piece). IsBodied name (parts_behind ps ys).funcs) (sym p.all) (by p.first p.rest p.one p.others (either (is_body_by name i.what) (has_body is name) h) (bodied is (before ++ i ∷ []) (behind_item known i.what) p.rest (behind_piece ps p.first) p.others))
     where
-      by : (x : Piece) (ys : List Piece) → item_piece body items before known i.place i.what ≡ Right x → pieces_behind body items (behind_item items known i.what) (before ++ i ∷ []) is ≡ Right ys → (is_body_by name i.what ≡ true) ⊎ (has_body is name ≡ true) → (has_body is name ≡ true → IsBodied name (parts_behind (behind_piece ps x) ys).funcs) → IsBodied name (parts_behind ps (x ∷ ys)).funcs
+      by : (x : Piece) (ys : List Piece) → item_piece body before known i.place i.what ≡ Right x → pieces_behind body (behind_item known i.what) (before ++ i ∷ []) is ≡ Right ys → (is_body_by name i.what ≡ true) ⊎ (has_body is name ≡ true) → (has_body is name ≡ true → IsBodied name (parts_behind (behind_piece ps x) ys).funcs) → IsBodied name (parts_behind ps (x ∷ ys)).funcs
       by x ys one others (inl q) rest = first_of ps x ys (all_keep ys (behind_piece ps x) name (body_puts body items before known i x ps name one q))
       by x ys one others (inr q) rest = first_of ps x ys (rest q)
 

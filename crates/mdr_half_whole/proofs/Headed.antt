@@ -127,7 +127,7 @@ first_heading known ps h g f r c named headed None e =
 
 -- ---- one item
 
-one_behind : (body : BodyRule) (items before : List Item) (known : Known) (what : ItemWhat) (x : Piece) (ps : Parts) → Comes body items before known what x → Counts known ps → HaveFirstHeadings known.functions ps.funcs → HaveFirstHeadings (behind_item items known what).functions (behind_piece ps x).funcs
+one_behind : (body : BodyRule) (items before : List Item) (known : Known) (what : ItemWhat) (x : Piece) (ps : Parts) → Comes body items before known what x → Counts known ps → HaveFirstHeadings known.functions ps.funcs → HaveFirstHeadings (behind_item known what).functions (behind_piece ps x).funcs
 unfolding functions_behind
 one_behind body items before known _ _ ps (OfDefine name is_negative n k) c a = a
 one_behind body items before known _ _ ps (OfStruct at name ds fields) c a = a
@@ -148,7 +148,7 @@ one_behind body items before known _ _ ps (OfFunction h is_critical nodes g b e 
 
 -- the functions that are known at a file's end
 abbrev pub functions_of : List Item → List Declared
-functions_of items = (known_behind items (first_known items) items).functions
+functions_of items = (known_behind (first_known items) items).functions
 
 abbrev AreHeaded : Known → Parts → Type 0
 AreHeaded known ps = HaveFirstHeadings known.functions ps.funcs

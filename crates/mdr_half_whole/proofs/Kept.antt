@@ -21,7 +21,7 @@ use Rattle.mdr_headings.specs.declared.function.Declared.{Declared}
 use Rattle.mdr_headings.specs.declared.head.Heading.{Heading}
 use Rattle.mdr_headings.specs.Functions.{function_named}
 use Rattle.mdr_body.specs.Bodies.{body_rule}
-use Rattle.mdr_body.specs.Mentions.{uses}
+use Rattle.mdr_body.specs.Uses.{first_use}
 use Rattle.mdr_typing.specs.Profile.{profile_rules}
 use Rattle.mdr_check.specs.declared.file.Known.{Known}
 use Rattle.mdr_check.specs.declared.file.Piece.{Piece}
@@ -80,12 +80,12 @@ known_all body uses items xs e = ((counted_all body items xs (pieces_right body 
 
 functions_there : (half : Half) (plan : Plan) (items : List Item) → functions_of (map (item_in half plan) items) ≡ functions_of items
 functions_there half plan items =
-    ap (λ (k : Known). (known_behind (map (item_in half plan) items) k (map (item_in half plan) items)).functions) (first_there half plan items)
-    ∙ ap (λ (k : Known). k.functions) (known_there half plan items items (first_known items))
+    ap (λ (k : Known). (known_behind k (map (item_in half plan) items)).functions) (first_there half plan items)
+    ∙ ap (λ (k : Known). k.functions) (known_there half plan items (first_known items))
 
 pub functions_keep : FunctionsKeepTheirHeadings
 functions_keep body uses half plan tree xs e bodies =
-    let there = halves_lead body uses half plan tree xs (no_use_asked body uses tree.items xs e bodies) in
+    let there = halves_lead body uses half plan tree xs (no_use_asked body uses tree.items xs e) in
     let ys = map (piece_in half plan) xs in
     let a = known_all body uses tree.items xs e in
     let b = subst (λ (ds : List Declared). AreKnown ds (parts_of ys).funcs) (functions_there half plan tree.items) (known_all body uses (half_tree half plan tree).items ys there) in
@@ -114,20 +114,20 @@ funcs_planned plan ps part e =
 
 -- what the text comes to is what the half's tree comes to
 planned_there : (plan : Plan) (tree read : Tree) (xs : List Piece) (part : Program) → unplaced_tree read ≡ unplaced_tree (user_tree plan tree)
-    → file_pieces (body_rule profile_rules) uses (user_tree plan tree).items ≡ Right xs → half_typed (body_rule profile_rules) uses plan read.items ≡ Right part → planned plan (parts_of xs) ≡ Right part
+    → file_pieces (body_rule profile_rules) first_use (user_tree plan tree).items ≡ Right xs → half_typed (body_rule profile_rules) first_use plan read.items ≡ Right part → planned plan (parts_of xs) ≡ Right part
 planned_there plan tree read xs part same pieces e =
     sym (ap (λ (c : Checked (List Piece)). after c (half_right plan)) pieces) ∙ right_same part (halves_alike plan read (user_tree plan tree) same) e
 
 pub user_text_keeps : TheUserTextKeepsTheHeadings
 user_text_keeps bytes tree read program part plan is of e =
-    let a = after_right (file_pieces (body_rule profile_rules) uses tree.items) program_right program is.right in
+    let a = after_right (file_pieces (body_rule profile_rules) first_use tree.items) program_right program is.right in
     let xs = a.value in
     let ys = map (piece_in User plan) xs in
     let bodies = sources_have bytes is.tokens tree xs is.lexed is.reads a.right in
-    let there = halves_lead (body_rule profile_rules) uses User plan tree xs (no_use_asked (body_rule profile_rules) uses tree.items xs a.right bodies) in
+    let there = halves_lead (body_rule profile_rules) first_use User plan tree xs (no_use_asked (body_rule profile_rules) first_use tree.items xs a.right) in
     let same = the_same (user_tree plan tree) read of.tokens (half_again bytes is.tokens tree User plan is.lexed is.reads) of.lexed of.reads in
     let whole : (parts_of xs).funcs ≡ program.funcs = sym (funcs_made (parts_of xs)) ∙ ap (λ (p : Program). p.funcs) (same_right (program_of xs) program a.made) in
     let other : (parts_of ys).funcs ≡ part.funcs = sym (funcs_planned plan (parts_of ys) part (planned_there plan tree read ys part same there e)) in
     subst (λ (fs : List Func). HaveSameHeadings fs part.funcs) whole
     (subst (HaveSameHeadings (parts_of xs).funcs) other
-    (functions_keep (body_rule profile_rules) uses User plan tree xs a.right bodies))
+    (functions_keep (body_rule profile_rules) first_use User plan tree xs a.right bodies))

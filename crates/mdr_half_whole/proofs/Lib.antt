@@ -5,8 +5,6 @@ pub mod Tabled
 pub mod Together
 pub mod UsedForms
 pub mod UsedLines
-pub mod UsedInits
-pub mod UsedFiles
 pub mod Sourced
 pub mod Agreeing
 pub mod Headed

@@ -3,7 +3,7 @@ use Rattle.std.proofs.Common.{◌≡◌, ℕ, List, length, map, refl, sym, ap, 
 use Rattle.std.proofs.lemmas.List.{length-map}
 use Rattle.mdr_access.proofs.KeyLaws.{keys_are_right}
 use Rattle.mdr_body.specs.Bodies.{body_rule}
-use Rattle.mdr_body.specs.Mentions.{uses}
+use Rattle.mdr_body.specs.Uses.{first_use}
 use Rattle.mdr_check.specs.Whole.{file_pieces}
 use Rattle.mdr_core.specs.declared.plan.Half.TheVariants.{User}
 use Rattle.mdr_core.specs.declared.plan.Plan.{Plan}
@@ -38,7 +38,7 @@ funcs_made ps = refl
 -- a plan that suits the program of a source gives each function its half by its name
 halves_named : (bytes : List ℕ) (tree : Tree) (program : Program) (plan : Plan) → IsWhole bytes tree program → IsSuited plan program → HaveHalves (half_of plan) plan.halves program.funcs
 halves_named bytes tree program plan is suited =
-    let a = after_right (file_pieces (body_rule profile_rules) uses tree.items) program_right program is.right in
+    let a = after_right (file_pieces (body_rule profile_rules) first_use tree.items) program_right program is.right in
     let xs = a.value in
     let whole : (parts_of xs).funcs ≡ program.funcs = sym (funcs_made (parts_of xs)) ∙ ap (λ (p : Program). p.funcs) (same_right (program_of xs) program a.made) in
     let names : plan.names ≡ map (λ (f : Func). f.name) (parts_of xs).funcs = suited.names ∙ ap (λ (fs : List Func). map (λ (f : Func). f.name) fs) (sym whole) in

@@ -40,18 +40,18 @@ all_same (d ∷ ds) (f ∷ fs) [] a b = absurd b
 all_same (d ∷ ds) (f ∷ fs) (g ∷ gs) a b = (one_same d f g a.0 b.0, all_same ds fs gs a.1 b.1)
 
 -- the functions of a file's parts are those that are known at its end
-declared_all : (body : BodyRule) (uses : UseRule) (items : List Item) (xs : List Piece) → file_pieces body uses items ≡ Right xs → AreDeclaredAs (known_behind items (first_known items) items).functions (parts_of xs).funcs
+declared_all : (body : BodyRule) (uses : UseRule) (items : List Item) (xs : List Piece) → file_pieces body uses items ≡ Right xs → AreDeclaredAs (known_behind (first_known items) items).functions (parts_of xs).funcs
 declared_all body uses items xs e = (counted_all body items xs (pieces_right body uses items xs e)).functions
 
 -- the same is known at the end of the half's text
-known_same : (half : Half) (plan : Plan) (items : List Item) → known_behind (map (item_in half plan) items) (first_known (map (item_in half plan) items)) (map (item_in half plan) items) ≡ known_behind items (first_known items) items
+known_same : (half : Half) (plan : Plan) (items : List Item) → known_behind (first_known (map (item_in half plan) items)) (map (item_in half plan) items) ≡ known_behind (first_known items) items
 known_same half plan items =
-    ap (λ (k : Known). known_behind (map (item_in half plan) items) k (map (item_in half plan) items)) (first_there half plan items)
-    ∙ known_there half plan items items (first_known items)
+    ap (λ (k : Known). known_behind k (map (item_in half plan) items)) (first_there half plan items)
+    ∙ known_there half plan items (first_known items)
 
 pub functions_keep : FunctionsKeepTheirTypes
 functions_keep body uses half plan tree xs e bodies =
-    let there = halves_lead body uses half plan tree xs (no_use_asked body uses tree.items xs e bodies) in
+    let there = halves_lead body uses half plan tree xs (no_use_asked body uses tree.items xs e) in
     let other = declared_all body uses (half_tree half plan tree).items (map (piece_in half plan) xs) there in
-    all_same (known_behind tree.items (first_known tree.items) tree.items).functions (parts_of xs).funcs (parts_of (map (piece_in half plan) xs)).funcs (declared_all body uses tree.items xs e)
+    all_same (known_behind (first_known tree.items) tree.items).functions (parts_of xs).funcs (parts_of (map (piece_in half plan) xs)).funcs (declared_all body uses tree.items xs e)
     (subst (λ (k : Known). AreDeclaredAs k.functions (parts_of (map (piece_in half plan) xs)).funcs) (known_same half plan tree.items) other)

@@ -15,7 +15,7 @@ use Rattle.mdr_syntax.specs.declared.tree.Tree.{Tree}
 use Rattle.mdr_faults.specs.Alike.{is_alike}
 use Rattle.mdr_faults.specs.Faults.{Checked, Right, after}
 use Rattle.mdr_body.specs.Bodies.{body_rule}
-use Rattle.mdr_body.specs.Mentions.{uses}
+use Rattle.mdr_body.specs.Uses.{first_use}
 use Rattle.mdr_typing.specs.Profile.{profile_rules}
 use Rattle.mdr_check.specs.declared.file.Piece.{Piece}
 use Rattle.mdr_check.specs.Whole.{file_pieces}
@@ -99,7 +99,7 @@ words_of items h = record { passes = λ i x name at e. word_at items i x name h 
 
 -- ---- each type that occurs in a source has a number
 
-typed_by : (items : List Item) (xs : List Piece) → file_pieces (body_rule profile_rules) uses items ≡ Right xs → typed (body_rule profile_rules) uses items ≡ Right (program_of xs)
+typed_by : (items : List Item) (xs : List Piece) → file_pieces (body_rule profile_rules) first_use items ≡ Right xs → typed (body_rule profile_rules) first_use items ≡ Right (program_of xs)
 typed_by items xs e = ap (λ (c : Checked (List Piece)). after c program_right) e
 
 not_wrong : IsObjectSort Wrong → ⊥
@@ -118,16 +118,16 @@ numbered : (xs : List Piece) → AreNamed (program_of xs).structs → AreFormed 
 unfolding made
 numbered xs named formed few t occurs = types_that_occur_have_numbers (parts_of xs) t named (pointers_formed xs formed) few occurs (formed t occurs)
 
-plans_by : (half : Half) (plan : Plan) (tree : Tree) (xs : List Piece) → AreProperItems tree.items → AreFormed xs → file_pieces (body_rule profile_rules) uses tree.items ≡ Right xs → HaveBodies (program_of xs).funcs
+plans_by : (half : Half) (plan : Plan) (tree : Tree) (xs : List Piece) → AreProperItems tree.items → AreFormed xs → file_pieces (body_rule profile_rules) first_use tree.items ≡ Right xs → HaveBodies (program_of xs).funcs
     → length (program_of xs).types ≤ 4294967296 → plan.types ≡ (program_of xs).types → HasTypes plan (parts_of (map (piece_in half plan) xs))
 plans_by half plan tree xs proper formed e bodies few types =
-    let named = structs_are_named (body_rule profile_rules) uses tree.items (program_of xs) (words_of tree.items proper) (typed_by tree.items xs e) in
-    table_has plan (parts_of xs) (parts_of (map (piece_in half plan) xs)) (types_occur_there (body_rule profile_rules) uses half plan tree xs e bodies) (numbered xs named formed few) types
+    let named = structs_are_named (body_rule profile_rules) first_use tree.items (program_of xs) (words_of tree.items proper) (typed_by tree.items xs e) in
+    table_has plan (parts_of xs) (parts_of (map (piece_in half plan) xs)) (types_occur_there (body_rule profile_rules) first_use half plan tree xs e bodies) (numbered xs named formed few) types
 
 -- ---- a source
 pub plans_have : PlansHaveTheTypes
 plans_have bytes tokens half plan tree xs lexed reads e few types =
     let bodies = sources_have bytes tokens tree xs lexed reads e in
     let proper = bytes_proper bytes false tokens tree lexed reads in
-    let formed = types_of_files (program_of xs) profile_rules uses tree.items (typed_by tree.items xs e) (ranges_of tree.items proper) (profile_formed (program_of xs)) in
+    let formed = types_of_files (program_of xs) profile_rules first_use tree.items (typed_by tree.items xs e) (ranges_of tree.items proper) (profile_formed (program_of xs)) in
     plans_by half plan tree xs proper formed e bodies few types

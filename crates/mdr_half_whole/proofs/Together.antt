@@ -11,7 +11,7 @@ use Rattle.mdr_syntax.specs.declared.tree.Tree.{Tree}
 use Rattle.mdr_roundtrip.specs.Again.{IsPrintedAsSource}
 use Rattle.mdr_faults.specs.Faults.{Right}
 use Rattle.mdr_body.specs.Bodies.{body_rule}
-use Rattle.mdr_body.specs.Mentions.{uses}
+use Rattle.mdr_body.specs.Uses.{first_use}
 use Rattle.mdr_typing.specs.Profile.{profile_rules}
 use Rattle.mdr_check.specs.declared.file.Piece.{Piece}
 use Rattle.mdr_check.specs.Whole.{file_pieces}
@@ -28,16 +28,16 @@ use Rattle.mdr_half_whole.specs.Whole.{IsReadOf, TheUserTextGivesItsPart}
 use Rattle.mdr_half_whole.proofs.Sourced.{sources_have}
 use Rattle.mdr_half_whole.proofs.Tabled.{plans_have}
 
-by_pieces : (tree read : Tree) (xs : List Piece) (halves : Halves) (plan : Plan) → IsPrintedAsSource true (user_tree plan tree) → file_pieces (body_rule profile_rules) uses tree.items ≡ Right xs → HaveBodies (program_of xs).funcs
+by_pieces : (tree read : Tree) (xs : List Piece) (halves : Halves) (plan : Plan) → IsPrintedAsSource true (user_tree plan tree) → file_pieces (body_rule profile_rules) first_use tree.items ≡ Right xs → HaveBodies (program_of xs).funcs
     → (plan.types ≡ (program_of xs).types → HasTypes plan (parts_of (map (piece_in User plan) xs))) → HasEach (program_of xs) halves → IsPlan (program_of xs) halves plan → IsReadOf plan tree read → ComesToPart User plan read (program_of xs)
 by_pieces tree read xs halves plan printed e bodies types each is r =
     let suited : IsSuited plan (program_of xs) = keys_are_right.suits (program_of xs) halves plan each is in
     read_again plan tree read r.tokens xs printed r.lexed r.reads e bodies suited (types suited.types)
 
 -- a tree without faults comes to the program of its pieces
-with_pieces : (tree : Tree) (program : Program) (w : Program → Type 0) → ((xs : List Piece) → file_pieces (body_rule profile_rules) uses tree.items ≡ Right xs → w (program_of xs)) → typed (body_rule profile_rules) uses tree.items ≡ Right program → w program
+with_pieces : (tree : Tree) (program : Program) (w : Program → Type 0) → ((xs : List Piece) → file_pieces (body_rule profile_rules) first_use tree.items ≡ Right xs → w (program_of xs)) → typed (body_rule profile_rules) first_use tree.items ≡ Right program → w program
 with_pieces tree program w h e =
-    let a = after_right (file_pieces (body_rule profile_rules) uses tree.items) program_right program e in
+    let a = after_right (file_pieces (body_rule profile_rules) first_use tree.items) program_right program e in
     subst w (same_right (program_of a.value) program a.made) (h a.value a.right)
 
 -- ---- a source

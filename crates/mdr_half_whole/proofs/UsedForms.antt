@@ -1,5 +1,5 @@
 -- Forms without faults use no name that gives nothing.
-use Rattle.std.proofs.Common.{◌≡◌, ℕ, ◌||◌, Bool, true, false, List, ◌∷◌, Option, Some, None, refl, sym, ap, ◌∙◌, subst}
+use Rattle.std.proofs.Common.{◌≡◌, ℕ, Bool, true, false, List, ◌∷◌, Option, Some, None, refl, sym, ap, ◌∙◌, subst}
 use Rattle.std.proofs.lemmas.Slice.Eq.{bytes_eq-Decides}
 use Rattle.std.specs.Str.{bytes_eq}
 use Rattle.mdr_core.specs.declared.code.Lval.{Lval}
@@ -8,16 +8,12 @@ use Rattle.mdr_core.specs.declared.place.Place.{Place}
 use Rattle.mdr_core.specs.declared.types.Ty.{Ty}
 use Rattle.mdr_core.specs.Layout.{chosen}
 use Rattle.mdr_syntax.specs.declared.tree.Base.{Base}
-use Rattle.mdr_faults.specs.declared.fault.FaultKind.TheVariants.{Incomplete}
-use Rattle.mdr_faults.specs.declared.scope.Entity.{Entity}
-use Rattle.mdr_faults.specs.declared.scope.Entity.TheVariants as entity
 use Rattle.mdr_faults.specs.declared.scope.Named.{Named}
 use Rattle.mdr_faults.specs.declared.scope.Scope.{Scope}
 use Rattle.mdr_faults.specs.Declarations.{type_named}
 use Rattle.mdr_faults.specs.Faults.{Checked, Right, again, after}
-use Rattle.mdr_faults.specs.Scopes.{entity_named}
+use Rattle.mdr_faults.specs.Scopes.{entity_named, or_else}
 use Rattle.mdr_operand.specs.declared.operand.Operand.{Operand}
-use Rattle.mdr_operand.specs.declared.operand.Operand.TheVariants as operand
 use Rattle.mdr_operand.specs.declared.operator.PrefixOperator.{PrefixOperator}
 use Rattle.mdr_operand.specs.declared.room.LocalName.{LocalName}
 use Rattle.mdr_operand.specs.Converting.{cast_rule, cast_to}
@@ -27,7 +23,7 @@ use Rattle.mdr_operand.specs.Signs.{assignment_operator, binary_operator, prefix
 use Rattle.mdr_operand.specs.Written.{Written, Writtens}
 use Rattle.mdr_binary.specs.Binaries.{binary_by, binary_rule}
 use Rattle.mdr_postfix.specs.Members.{member_of, member_rule}
-use Rattle.mdr_postfix.specs.Names.{entity_operand, file_name, function_operand, local_or, name_rule}
+use Rattle.mdr_postfix.specs.Names.{entity_operand, file_name, local_or, name_rule}
 use Rattle.mdr_postfix.specs.Subscripts.{subscript_of, subscript_rule}
 use Rattle.mdr_express.specs.Expressions.{signed_rule, typed}
 use Rattle.mdr_call.specs.declared.parts.Argument.{Argument}
@@ -39,36 +35,25 @@ use Rattle.mdr_call.specs.declared.service.Service.{Service}
 use Rattle.mdr_call.specs.Calls.{argument_of, arguments_of, call_by, call_rule, callee_behind, is_star, named_target, starred_callee, target_of}
 use Rattle.mdr_call.specs.Services.{service_named}
 use Rattle.mdr_assign.specs.Assignments.{step_operator, step_rule, stepped_at}
-use Rattle.mdr_body.specs.declared.mention.Mention.TheVariants.{Use}
-use Rattle.mdr_body.specs.Mentions.{any_mentions, mentions}
+use Rattle.mdr_body.specs.Uses.{use_among, use_in}
 use Rattle.mdr_typing.specs.declared.source.Source.{Source}
 use Rattle.mdr_typing.specs.Calling.{call_at}
 use Rattle.mdr_typing.specs.Profile.{assigned, called, calling, returned, stepped, stored}
 use Rattle.mdr_typing.specs.Sources.{assigning, call_source, source_assigned, source_of, source_returned, source_stored, value_source}
-use Rattle.mdr_sound_code.proofs.Rights.{after_right, again_right, both_right, chosen_right, not_right}
-use Rattle.mdr_half_whole.specs.Usable.{GivesNothing, IsUndefined, IsUseless}
+use Rattle.mdr_sound_code.proofs.Rights.{after_right, again_right, both_right, not_right}
+use Rattle.mdr_half_whole.specs.Usable.{GivesNothing, IsUseless}
 
-pub neither : (a b : Bool) → a ≡ false → b ≡ false → (a || b) ≡ false
-neither a b e f = ap (λ t. t || b) e ∙ f
-
-pub clash : {C : Type 0} (b : Bool) → b ≡ true → b ≡ false → C
-clash true e f = absurd cc
-clash false e f = absurd cc
+pub neither : (a b : Option Place) → a ≡ None → b ≡ None → or_else a b ≡ None
+neither a b e f = ap (λ p. or_else p b) e ∙ f
 
 -- ---- names
-
-function_refused : {C : Type 0} (p : Place) (n : Entity) (x : Operand) → IsUndefined n → entity_operand p n ≡ Right x → C
-unfolding entity_operand function_operand
-function_refused p (entity.Constant c) x d e = absurd d
-function_refused p (entity.Global g o) x d e = absurd d
-function_refused p (entity.Function f) x d e = clash f.is_defined (chosen_right f.is_defined (Right (operand.Function f.number (f.result ∷ f.params))) p Incomplete x e).holds d
 
 file_refused : {C : Type 0} (p : Place) (o : Option Named) (x : Operand) → GivesNothing o → file_name p o ≡ Right x → C
 unfolding file_name
 file_refused p None x g e = not_right _ x e
 file_refused p (Some entry) x g e =
-    let a = after_right (again entry.means) (entity_operand p) x e in
-    function_refused p a.value x (subst IsUseless (again_right entry.means a.value a.right) g) a.made
+    let a = after_right (again entry.means) (λ n. Right (entity_operand n)) x e in
+    absurd (subst IsUseless (again_right entry.means a.value a.right) g)
 
 -- ---- rules of one part
 
@@ -124,17 +109,17 @@ module _ (scope : Scope) (name : List ℕ) (gives : GivesNothing (entity_named s
   -- ---- where no local has the name
 
   module _ (names : List LocalName) (free : local_named names name ≡ None) where
-    name_free : (p : Place) (other : List ℕ) (x : Operand) → name_rule scope names p other ≡ Right x → bytes_eq other name ≡ false
+    name_free : (p : Place) (other : List ℕ) (x : Operand) → name_rule scope names p other ≡ Right x → use_in name (Written.Name p other) ≡ None
     unfolding name_rule
     name_free p other x e = by (bytes_eq other name) refl
       where
-        by : (t : Bool) → bytes_eq other name ≡ t → t ≡ false
+        by : (t : Bool) → bytes_eq other name ≡ t → chosen t (Some p) None ≡ None
         by false q = refl
         by true q =
             let here = subst (λ n. local_or (local_named names n) (file_name p (entity_named scope n)) ≡ Right x) ((bytes_eq-Decides other name).0 q) e in
             file_refused p (entity_named scope name) x gives (sym (ap (λ o. local_or o (file_name p (entity_named scope name))) free) ∙ here)
 
-    pub typed_free : (w : Written) (x : Operand) → typed scope names w ≡ Right x → mentions Use name w ≡ false
+    pub typed_free : (w : Written) (x : Operand) → typed scope names w ≡ Right x → use_in name w ≡ None
     typed_free (Written.Number p n k) x e = refl
     typed_free (Written.Null p) x e = refl
     typed_free (Written.Name p other) x e = name_free p other x e
@@ -144,12 +129,12 @@ module _ (scope : Scope) (name : List ℕ) (gives : GivesNothing (entity_named s
     typed_free (Written.Binary p op a b) x e =
         let c = binary_first p op (typed scope names a) (typed scope names b) x e in
         let d = binary_second p op (typed scope names a) (typed scope names b) x e in
-        neither (mentions Use name a) (mentions Use name b) (typed_free a c.value c.right) (typed_free b d.value d.right)
+        neither (use_in name a) (use_in name b) (typed_free a c.value c.right) (typed_free b d.value d.right)
     typed_free (Written.Choice p c a b) x e = not_right _ x e
     typed_free (Written.Subscript p a i) x e =
         let c = array_comes p (typed scope names a) (typed scope names i) x e in
         let d = index_comes p (typed scope names a) (typed scope names i) x e in
-        neither (mentions Use name a) (mentions Use name i) (typed_free a c.value c.right) (typed_free i d.value d.right)
+        neither (use_in name a) (use_in name i) (typed_free a c.value c.right) (typed_free i d.value d.right)
     typed_free (Written.Member p a is_arrow at other) x e = let c = member_comes p at is_arrow other (typed scope names a) x e in typed_free a c.value c.right
     typed_free (Written.Call p f args) x e = not_right _ x e
     typed_free (Written.Text p bytes) x e = refl
@@ -157,20 +142,20 @@ module _ (scope : Scope) (name : List ℕ) (gives : GivesNothing (entity_named s
 
     -- ---- calls
 
-    callee_free : (w : Written) (t : Target) → after (typed scope names w) (λ x. Right (target.Callee x)) ≡ Right t → mentions Use name w ≡ false
+    callee_free : (w : Written) (t : Target) → after (typed scope names w) (λ x. Right (target.Callee x)) ≡ Right t → use_in name w ≡ None
     callee_free w t e = let a = after_right (typed scope names w) (λ x. Right (target.Callee x)) t e in typed_free w a.value a.right
 
-    named_free : (p : Place) (other : List ℕ) (t : Target) (o : Option Service) → service_named other ≡ o → named_target o (typed scope names (Written.Name p other)) ≡ Right t → bytes_eq other name ≡ false
+    named_free : (p : Place) (other : List ℕ) (t : Target) (o : Option Service) → service_named other ≡ o → named_target o (typed scope names (Written.Name p other)) ≡ Right t → use_in name (Written.Name p other) ≡ None
     named_free p other t None q e = callee_free (Written.Name p other) t e
     named_free p other t (Some s) q e = by (bytes_eq other name) refl
       where
-        by : (b : Bool) → bytes_eq other name ≡ b → b ≡ false
+        by : (b : Bool) → bytes_eq other name ≡ b → chosen b (Some p) None ≡ None
         by false k = refl
         by true k =
             let none : Some s ≡ None = sym q ∙ ap service_named ((bytes_eq-Decides other name).0 k) ∙ plain in
             absurd cc
 
-    target_free : (w : Written) (t : Target) → target_of (typed scope names) w ≡ Right t → mentions Use name w ≡ false
+    target_free : (w : Written) (t : Target) → target_of (typed scope names) w ≡ Right t → use_in name w ≡ None
     target_free (Written.Number p n k) t e = refl
     target_free (Written.Null p) t e = refl
     target_free (Written.Name p other) t e = named_free p other t (service_named other) refl e
@@ -188,10 +173,10 @@ module _ (scope : Scope) (name : List ℕ) (gives : GivesNothing (entity_named s
     target_free (Written.Text p bytes) t e = refl
     target_free (Written.Names p b n) t e = refl
 
-    value_free : (w : Written) (y : Argument) → after (typed scope names w) (λ x. Right (argument.Value x)) ≡ Right y → mentions Use name w ≡ false
+    value_free : (w : Written) (y : Argument) → after (typed scope names w) (λ x. Right (argument.Value x)) ≡ Right y → use_in name w ≡ None
     value_free w y e = let a = after_right (typed scope names w) (λ x. Right (argument.Value x)) y e in typed_free w a.value a.right
 
-    argument_free : (w : Written) (y : Argument) → argument_of (typed scope names) scope w ≡ Right y → mentions Use name w ≡ false
+    argument_free : (w : Written) (y : Argument) → argument_of (typed scope names) scope w ≡ Right y → use_in name w ≡ None
     argument_free (Written.Number p n k) y e = refl
     argument_free (Written.Null p) y e = refl
     argument_free (Written.Name p other) y e = value_free (Written.Name p other) y e
@@ -206,24 +191,24 @@ module _ (scope : Scope) (name : List ℕ) (gives : GivesNothing (entity_named s
     argument_free (Written.Text p bytes) y e = refl
     argument_free (Written.Names p b n) y e = refl
 
-    arguments_free : (ws : Writtens) (ys : List Argument) → arguments_of (typed scope names) scope ws ≡ Right ys → any_mentions Use name ws ≡ false
+    arguments_free : (ws : Writtens) (ys : List Argument) → arguments_of (typed scope names) scope ws ≡ Right ys → use_among name ws ≡ None
     arguments_free Writtens.End ys e = refl
     arguments_free (Writtens.Then w ws) ys e =
         let b = both_right (argument_of (typed scope names) scope w) (arguments_of (typed scope names) scope ws) (λ x xs. Right (x ∷ xs)) ys e in
-        neither (mentions Use name w) (any_mentions Use name ws) (argument_free w b.left b.first) (arguments_free ws b.right b.second)
+        neither (use_in name w) (use_among name ws) (argument_free w b.left b.first) (arguments_free ws b.right b.second)
 
-    call_free : (p : Place) (f : Written) (args : Writtens) (c : TypedCall) → call_at scope names p f args ≡ Right c → (mentions Use name f || any_mentions Use name args) ≡ false
+    call_free : (p : Place) (f : Written) (args : Writtens) (c : TypedCall) → call_at scope names p f args ≡ Right c → or_else (use_in name f) (use_among name args) ≡ None
     unfolding call_at call_rule
     call_free p f args c e =
         let b = both_right (target_of (typed scope names) f) (arguments_of (typed scope names) scope args) (λ t args. call_by scope p args t) c e in
-        neither (mentions Use name f) (any_mentions Use name args) (target_free f b.left b.first) (arguments_free args b.right b.second)
+        neither (use_in name f) (use_among name args) (target_free f b.left b.first) (arguments_free args b.right b.second)
 
     -- ---- what stands behind `=` and `return`
 
-    typed_source : (w : Written) (s : Source) → after (typed scope names w) value_source ≡ Right s → mentions Use name w ≡ false
+    typed_source : (w : Written) (s : Source) → after (typed scope names w) value_source ≡ Right s → use_in name w ≡ None
     typed_source w s e = let a = after_right (typed scope names w) value_source s e in typed_free w a.value a.right
 
-    source_free : (w : Written) (s : Source) → source_of scope names w ≡ Right s → mentions Use name w ≡ false
+    source_free : (w : Written) (s : Source) → source_of scope names w ≡ Right s → use_in name w ≡ None
     source_free (Written.Number p n k) s e = refl
     source_free (Written.Null p) s e = refl
     source_free (Written.Name p other) s e = typed_source (Written.Name p other) s e
@@ -240,25 +225,25 @@ module _ (scope : Scope) (name : List ℕ) (gives : GivesNothing (entity_named s
 
     -- ---- steps
 
-    pub assigned_free : (p : Place) (op : List ℕ) (a b : Written) (s : Step) → assigned scope names p op a b ≡ Right s → (mentions Use name a || mentions Use name b) ≡ false
+    pub assigned_free : (p : Place) (op : List ℕ) (a b : Written) (s : Step) → assigned scope names p op a b ≡ Right s → or_else (use_in name a) (use_in name b) ≡ None
     unfolding assigned
     assigned_free p op a b s e =
         let c = both_right (typed scope names a) (source_of scope names b) (source_assigned scope p (assignment_operator op)) s e in
-        neither (mentions Use name a) (mentions Use name b) (typed_free a c.left c.first) (source_free b c.right c.second)
+        neither (use_in name a) (use_in name b) (typed_free a c.left c.first) (source_free b c.right c.second)
 
-    pub stored_free : (p : Place) (l : Lval) (t : Ty) (w : Written) (s : Step) → stored scope names p l t w ≡ Right s → mentions Use name w ≡ false
+    pub stored_free : (p : Place) (l : Lval) (t : Ty) (w : Written) (s : Step) → stored scope names p l t w ≡ Right s → use_in name w ≡ None
     unfolding stored
     stored_free p l t w s e = let a = after_right (source_of scope names w) (source_stored p l t) s e in source_free w a.value a.right
 
-    pub returned_free : (p : Place) (t : Ty) (w : Written) (s : Step) → returned scope names p t w ≡ Right s → mentions Use name w ≡ false
+    pub returned_free : (p : Place) (t : Ty) (w : Written) (s : Step) → returned scope names p t w ≡ Right s → use_in name w ≡ None
     unfolding returned
     returned_free p t w s e = let a = after_right (source_of scope names w) (source_returned p t) s e in source_free w a.value a.right
 
-    stepped_free : (p : Place) (op : List ℕ) (w : Written) (s : Step) → stepped scope names p op w ≡ Right s → mentions Use name w ≡ false
+    stepped_free : (p : Place) (op : List ℕ) (w : Written) (s : Step) → stepped scope names p op w ≡ Right s → use_in name w ≡ None
     unfolding stepped
     stepped_free p op w s e = let c = step_comes p op (typed scope names w) s e in typed_free w c.value c.right
 
-    pub called_free : (w : Written) (s : Step) → called scope names w ≡ Right s → mentions Use name w ≡ false
+    pub called_free : (w : Written) (s : Step) → called scope names w ≡ Right s → use_in name w ≡ None
     called_free (Written.Number p n k) s e = refl
     called_free (Written.Null p) s e = refl
     called_free (Written.Name p other) s e = not_right _ s e

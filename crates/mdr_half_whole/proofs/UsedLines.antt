@@ -17,7 +17,7 @@ use Rattle.mdr_faults.specs.declared.scope.Object.{Object}
 use Rattle.mdr_faults.specs.declared.scope.Scope.{Scope}
 use Rattle.mdr_faults.specs.Declarations.{is_same_name, is_void}
 use Rattle.mdr_faults.specs.Faults.{Checked, Right, again, both, told}
-use Rattle.mdr_faults.specs.Scopes.{entity_named}
+use Rattle.mdr_faults.specs.Scopes.{entity_named, or_else}
 use Rattle.mdr_headings.specs.Structs.{name_or_none}
 use Rattle.mdr_operand.specs.declared.room.LocalName.{LocalName}
 use Rattle.mdr_operand.specs.Rooms.{local_from, local_named}
@@ -26,17 +26,17 @@ use Rattle.mdr_express.specs.Expressions.{typed}
 use Rattle.mdr_call.specs.Services.{service_named}
 use Rattle.mdr_body.specs.declared.here.Frame.{Frame}
 use Rattle.mdr_body.specs.declared.here.Here.{Here}
-use Rattle.mdr_body.specs.declared.mention.Mention.TheVariants.{Use}
 use Rattle.mdr_body.specs.Bodies.{body_of, body_rule, declared_locals, frame_of}
 use Rattle.mdr_body.specs.Locals.{entered, first_here, is_own_object, is_taken, local_object, name_of, named_local, numbered, parameter_means, parameter_taken, parameters_from, with_local}
-use Rattle.mdr_body.specs.Mentions.{has, have, hides, is_declared_by, is_parameter, mentions, perhaps_mentions, uses}
+use Rattle.mdr_body.specs.Addresses.{hides, is_declared_by}
+use Rattle.mdr_body.specs.Uses.{first_use, is_parameter, perhaps_use, use_along, use_at, use_in}
 use Rattle.mdr_body.specs.Statements.{ForHead, appended, as_part, behind_head, block_of, condition, declared_then, for_head, for_of, head_taken, heads_behind, heads_made, if_of, initial_by, initial_step, is_single, line_behind, line_made, lines_behind, lines_made, local_made, own_place, pair, perhaps_condition, perhaps_made, return_by, return_step, simple_behind, simple_made, single, some, steps_behind, steps_made, tested, text_of, while_of}
 use Rattle.mdr_typing.specs.Profile.{assigned, called, profile_rules, returned, stored}
 use Rattle.mdr_sound_code.proofs.Rights.{after_right, both_right, chosen_right, not_right, refused_right}
 use Rattle.mdr_sound_bodies.specs.Written.{AreNamed, AreProper, AreStatements, IsNamed, IsProper, IsStatement}
 use Rattle.mdr_sound_bodies.proofs.Growing.{names_keep}
 use Rattle.mdr_sound_bodies.proofs.Naming.{named_last}
-use Rattle.mdr_half_whole.specs.Usable.{BodiesUseWhatIsDefined, GivesNothing}
+use Rattle.mdr_half_whole.specs.Usable.{BodiesUseWhatIsDeclared, GivesNothing}
 use Rattle.mdr_half_whole.proofs.UsedForms.{assigned_free, called_free, neither, returned_free, stored_free, typed_free}
 
 -- ---- what may be missing is one line at most
@@ -117,18 +117,18 @@ nodes_whole : (ns : List Node) → AreWhole (lines_of ns)
 nodes_whole [] = tt
 nodes_whole (n ∷ ns) = (node_whole n, nodes_whole ns)
 
--- ---- truth
+-- ---- no use
 
-no_and : (b : Bool) → (b && false) ≡ false
-no_and true = refl
-no_and false = refl
+no_either : (b : Bool) → ◌≡◌ {A = Option Place} (chosen b None None) None
+no_either true = refl
+no_either false = refl
 
 -- what holds where a line doesn't hide the name
-unless : (t m : Bool) → (t ≡ false → m ≡ false) → (not t && m) ≡ false
+unless : (t : Bool) (m : Option Place) → (t ≡ false → m ≡ None) → chosen t None m ≡ None
 unless true m h = refl
 unless false m h = h refl
 
-text_free : (name : List ℕ) (w : Written) (bytes : List ℕ) → text_of w ≡ Some bytes → mentions Use name w ≡ false
+text_free : (name : List ℕ) (w : Written) (bytes : List ℕ) → text_of w ≡ Some bytes → use_in name w ≡ None
 text_free name (Written.Number p n k) bytes e = refl
 text_free name (Written.Null p) bytes e = refl
 text_free name (Written.Name p other) bytes e = absurd cc
@@ -160,34 +160,34 @@ module _ (scope : Scope) (name : List ℕ) (gives : GivesNothing (entity_named s
 
   -- ---- conditions
 
-  condition_free : (here : Here) (p : Place) (w : Written) (x : Expr) → IsFree here → condition profile_rules scope here p w ≡ Right x → mentions Use name w ≡ false
+  condition_free : (here : Here) (p : Place) (w : Written) (x : Expr) → IsFree here → condition profile_rules scope here p w ≡ Right x → use_in name w ≡ None
   unfolding condition
   condition_free here p w x f e = let a = after_right (typed scope here.names w) (tested p) x e in typed_free scope name gives plain here.names f w a.value a.right
 
-  perhaps_free : (here : Here) (p : Place) (o : Option Written) (x : Option Expr) → IsFree here → perhaps_condition profile_rules scope here p o ≡ Right x → perhaps_mentions Use name o ≡ false
+  perhaps_free : (here : Here) (p : Place) (o : Option Written) (x : Option Expr) → IsFree here → perhaps_condition profile_rules scope here p o ≡ Right x → perhaps_use name o ≡ None
   unfolding perhaps_condition
   perhaps_free here p None x f e = refl
   perhaps_free here p (Some w) x f e = let a = after_right (condition profile_rules scope here p w) some x e in condition_free here p w a.value f a.right
 
   -- ---- declarations
 
-  initial_free : (names : List LocalName) (p : Place) (slot : ℕ) (t : Bool) (w : Written) (o : Option (List ℕ)) (object : Object) (s : Step) → local_named names name ≡ None → text_of w ≡ o → initial_by profile_rules scope names p slot t w o object ≡ Right s → mentions Use name w ≡ false
+  initial_free : (names : List LocalName) (p : Place) (slot : ℕ) (t : Bool) (w : Written) (o : Option (List ℕ)) (object : Object) (s : Step) → local_named names name ≡ None → text_of w ≡ o → initial_by profile_rules scope names p slot t w o object ≡ Right s → use_in name w ≡ None
   initial_free names p slot t w (Some bytes) object s f q e = text_free name w bytes q
   initial_free names p slot t w None object s f q e =
       let c = chosen_right (is_single object) (stored scope names p (own_place (is_own_object t object) slot) object.ty w) p Mismatch s e in
       stored_free scope name gives plain names f p (own_place (is_own_object t object) slot) object.ty w s c.right
 
-  local_free : (here : Here) (t : Bool) (d : Decl) (init : Option Written) (ss : List Stmt) → IsNamed d → IsFree here → local_made profile_rules scope frame here t d init ≡ Right ss → (not (is_declared_by name d) && perhaps_mentions Use name init) ≡ false
+  local_free : (here : Here) (t : Bool) (d : Decl) (init : Option Written) (ss : List Stmt) → IsNamed d → IsFree here → local_made profile_rules scope frame here t d init ≡ Right ss → chosen (is_declared_by name d) None (perhaps_use name init) ≡ None
   unfolding local_made initial_step
-  local_free here t d None ss n f e = no_and (not (is_declared_by name d))
+  local_free here t d None ss n f e = no_either (is_declared_by name d)
   local_free here t d (Some w) ss n f e =
       let a = after_right (initial_step profile_rules scope frame here t d w) (declared_then here.number here.slot) ss e in
       let b = after_right (local_object scope frame.locks d) (initial_by profile_rules scope (with_local scope frame.locks t d here).names (out-Decl d).place here.slot t w (text_of w)) a.value a.right in
-      unless (is_declared_by name d) (mentions Use name w) (λ q. initial_free (with_local scope frame.locks t d here).names (out-Decl d).place here.slot t w (text_of w) b.value a.value (free_local here t d n q f) refl b.made)
+      unless (is_declared_by name d) (use_in name w) (λ q. initial_free (with_local scope frame.locks t d here).names (out-Decl d).place here.slot t w (text_of w) b.value a.value (free_local here t d n q f) refl b.made)
 
   -- ---- statements without parts
 
-  return_free : (here : Here) (p : Place) (o : Option Written) (s : Step) → IsFree here → return_step profile_rules scope frame here p o ≡ Right s → perhaps_mentions Use name o ≡ false
+  return_free : (here : Here) (p : Place) (o : Option Written) (s : Step) → IsFree here → return_step profile_rules scope frame here p o ≡ Right s → perhaps_use name o ≡ None
   unfolding return_step
   return_free here p None s f e = refl
   return_free here p (Some w) s f e =
@@ -195,7 +195,7 @@ module _ (scope : Scope) (name : List ℕ) (gives : GivesNothing (entity_named s
       let r = refused_right (is_void a.value) (returned scope here.names p a.value w) p Mismatch s a.made in
       returned_free scope name gives plain here.names f p a.value w s r.right
 
-  simple_free : (in_loop : Bool) (here : Here) (t : Bool) (l : Line) (ss : List Stmt) → IsProper l → IsFree here → simple_made profile_rules scope frame in_loop here t l ≡ Right ss → has Use name l ≡ false
+  simple_free : (in_loop : Bool) (here : Here) (t : Bool) (l : Line) (ss : List Stmt) → IsProper l → IsFree here → simple_made profile_rules scope frame in_loop here t l ≡ Right ss → use_at name l ≡ None
   simple_free in_loop here t (Line.Empty p) ss h f e = refl
   simple_free in_loop here t (Line.Block p ls) ss h f e = not_right _ ss e
   simple_free in_loop here t (Line.Local p d init) ss h f e = local_free here t d init ss h.0 f e
@@ -247,32 +247,32 @@ module _ (scope : Scope) (name : List ℕ) (gives : GivesNothing (entity_named s
 
   -- ---- the head of a `for`
 
-  heads_free : (here : Here) (test : Option Written) (step : Lines) (body : Line) (ls : Lines) (ss : List Stmt) (behind : Bool) → AreProper ls → IsFree here → (IsFree (heads_behind scope frame here test step body ls) → behind ≡ false)
-      → heads_made profile_rules scope frame here test step body ls ≡ Right ss → have Use name ls behind ≡ false
+  heads_free : (here : Here) (test : Option Written) (step : Lines) (body : Line) (ls : Lines) (ss : List Stmt) (behind : Option Place) → AreProper ls → IsFree here → (IsFree (heads_behind scope frame here test step body ls) → behind ≡ None)
+      → heads_made profile_rules scope frame here test step body ls ≡ Right ss → use_along name ls behind ≡ None
   unfolding heads_made heads_behind
   heads_free here test step body Lines.End ss behind h f k e = k f
   heads_free here test step body (Lines.Then l ls) ss behind h f k e =
       let t : Bool = head_taken l ls test step body in
       let b = both_right (simple_made profile_rules scope frame false here t l) (heads_made profile_rules scope frame (simple_behind scope frame here t l) test step body ls) appended ss e in
-      neither (has Use name l) (not (hides name l) && have Use name ls behind) (simple_free false here t l b.left h.0 f b.first)
-      (unless (hides name l) (have Use name ls behind) (λ q. heads_free (simple_behind scope frame here t l) test step body ls b.right behind h.1 (free_simple here t l h.0 q f) k b.second))
+      neither (use_at name l) (chosen (hides name l) None (use_along name ls behind)) (simple_free false here t l b.left h.0 f b.first)
+      (unless (hides name l) (use_along name ls behind) (λ q. heads_free (simple_behind scope frame here t l) test step body ls b.right behind h.1 (free_simple here t l h.0 q f) k b.second))
 
-  steps_free : (here : Here) (ls : Lines) (ss : List Stmt) → AtMostOne ls → AreProper ls → IsFree here → steps_made profile_rules scope frame here ls ≡ Right ss → have Use name ls false ≡ false
+  steps_free : (here : Here) (ls : Lines) (ss : List Stmt) → AtMostOne ls → AreProper ls → IsFree here → steps_made profile_rules scope frame here ls ≡ Right ss → use_along name ls None ≡ None
   steps_free here Lines.End ss a h f e = refl
-  steps_free here (Lines.Then l Lines.End) ss a h f e = neither (has Use name l) (not (hides name l) && false) (simple_free false here false l ss h.0 f e) (no_and (not (hides name l)))
+  steps_free here (Lines.Then l Lines.End) ss a h f e = neither (use_at name l) (chosen (hides name l) None None) (simple_free false here false l ss h.0 f e) (no_either (hides name l))
   steps_free here (Lines.Then l (Lines.Then m ls)) ss a h f e = absurd a
 
   for_free : (here : Here) (p : Place) (init : Lines) (test : Option Written) (step : Lines) (body : Line) (x : ForHead) → (AreProper init × (AreStatements step × AreProper step)) → AtMostOne step → IsFree here
-      → (IsFree (behind_head scope frame here init test step body) → has Use name body ≡ false)
-      → for_head profile_rules scope frame here p init test step body ≡ Right x → have Use name init (perhaps_mentions Use name test || (have Use name step false || has Use name body)) ≡ false
+      → (IsFree (behind_head scope frame here init test step body) → use_at name body ≡ None)
+      → for_head profile_rules scope frame here p init test step body ≡ Right x → use_along name init (or_else (perhaps_use name test) (or_else (use_along name step None) (use_at name body))) ≡ None
   unfolding for_head behind_head
   for_free here p init test step body x h one f k e =
       let there : Here = heads_behind scope frame here test step body init in
       let outer = both_right (both (heads_made profile_rules scope frame here test step body init) (perhaps_condition profile_rules scope there p test) pair) (steps_made profile_rules scope frame there step) pair x e in
       let inner = both_right (heads_made profile_rules scope frame here test step body init) (perhaps_condition profile_rules scope there p test) pair outer.left outer.first in
-      heads_free here test step body init inner.left (perhaps_mentions Use name test || (have Use name step false || has Use name body)) h.0 f
-      (λ g. neither (perhaps_mentions Use name test) (have Use name step false || has Use name body) (perhaps_free there p test inner.right g inner.second)
-      (neither (have Use name step false) (has Use name body) (steps_free there step outer.right one h.1.1 g outer.second) (k (free_steps there step h.1.0 g))))
+      heads_free here test step body init inner.left (or_else (perhaps_use name test) (or_else (use_along name step None) (use_at name body))) h.0 f
+      (λ g. neither (perhaps_use name test) (or_else (use_along name step None) (use_at name body)) (perhaps_free there p test inner.right g inner.second)
+      (neither (use_along name step None) (use_at name body) (steps_free there step outer.right one h.1.1 g outer.second) (k (free_steps there step h.1.0 g))))
       inner.first
 
   -- ---- all statements
@@ -282,7 +282,7 @@ module _ (scope : Scope) (name : List ℕ) (gives : GivesNothing (entity_named s
   part_comes false c ss e = let a = after_right c block_of ss e in (a.value, a.right)
 
   mutual
-    line_free : (in_loop is_part : Bool) (here : Here) (t : Bool) (l : Line) (ss : List Stmt) → IsProper l → IsWhole l → IsFree here → line_made profile_rules scope frame in_loop is_part here t l ≡ Right ss → has Use name l ≡ false
+    line_free : (in_loop is_part : Bool) (here : Here) (t : Bool) (l : Line) (ss : List Stmt) → IsProper l → IsWhole l → IsFree here → line_made profile_rules scope frame in_loop is_part here t l ≡ Right ss → use_at name l ≡ None
     line_free in_loop is_part here t (Line.Empty p) ss h w f e = refl
     line_free in_loop is_part here t (Line.Block p ls) ss h w f e =
         let c = part_comes is_part (lines_made profile_rules scope frame in_loop (entered here) ls) ss e in
@@ -294,12 +294,12 @@ module _ (scope : Scope) (name : List ℕ) (gives : GivesNothing (entity_named s
         let there : Here = line_behind scope frame (numbered here) false one in
         let outer = both_right (both (condition profile_rules scope here p c) (line_made profile_rules scope frame in_loop true (numbered here) false one) pair) (perhaps_made profile_rules scope frame in_loop there other) (if_of here.number) ss e in
         let inner = both_right (condition profile_rules scope here p c) (line_made profile_rules scope frame in_loop true (numbered here) false one) pair outer.left outer.first in
-        neither (mentions Use name c) (has Use name one || have Use name other false) (condition_free here p c inner.left f inner.first)
-        (neither (has Use name one) (have Use name other false) (line_free in_loop true (numbered here) false one inner.right h.1.0.1 w.0 f inner.second)
+        neither (use_in name c) (or_else (use_at name one) (use_along name other None)) (condition_free here p c inner.left f inner.first)
+        (neither (use_at name one) (use_along name other None) (line_free in_loop true (numbered here) false one inner.right h.1.0.1 w.0 f inner.second)
         (others_free in_loop there other outer.right h.1.1.1 w.1.0 w.1.1 (free_kept (numbered here) false one h.1.0.0 h.1.0.1 f) outer.second))
     line_free in_loop is_part here t (Line.While p c body) ss h w f e =
         let b = both_right (condition profile_rules scope here p c) (line_made profile_rules scope frame true true (numbered here) false body) (while_of here.number) ss e in
-        neither (mentions Use name c) (has Use name body) (condition_free here p c b.left f b.first) (line_free true true (numbered here) false body b.right h.1.1 w f b.second)
+        neither (use_in name c) (use_at name body) (condition_free here p c b.left f b.first) (line_free true true (numbered here) false body b.right h.1.1 w f b.second)
     line_free in_loop is_part here t (Line.For p init test step body) ss h w f e =
         let there : Here = behind_head scope frame (entered here) init test step body in
         let b = both_right (for_head profile_rules scope frame (entered here) p init test step body) (line_made profile_rules scope frame true true there false body) (for_of here.number) ss e in
@@ -310,18 +310,18 @@ module _ (scope : Scope) (name : List ℕ) (gives : GivesNothing (entity_named s
     line_free in_loop is_part here t (Line.Break p) ss h w f e = refl
     line_free in_loop is_part here t (Line.Continue p) ss h w f e = refl
 
-    others_free : (in_loop : Bool) (here : Here) (ls : Lines) (ss : List Stmt) → AreProper ls → AtMostOne ls → AreWhole ls → IsFree here → perhaps_made profile_rules scope frame in_loop here ls ≡ Right ss → have Use name ls false ≡ false
+    others_free : (in_loop : Bool) (here : Here) (ls : Lines) (ss : List Stmt) → AreProper ls → AtMostOne ls → AreWhole ls → IsFree here → perhaps_made profile_rules scope frame in_loop here ls ≡ Right ss → use_along name ls None ≡ None
     others_free in_loop here Lines.End ss h a w f e = refl
-    others_free in_loop here (Lines.Then l Lines.End) ss h a w f e = neither (has Use name l) (not (hides name l) && false) (line_free in_loop true here false l ss h.0 w.0 f e) (no_and (not (hides name l)))
+    others_free in_loop here (Lines.Then l Lines.End) ss h a w f e = neither (use_at name l) (chosen (hides name l) None None) (line_free in_loop true here false l ss h.0 w.0 f e) (no_either (hides name l))
     others_free in_loop here (Lines.Then l (Lines.Then m ls)) ss h a w f e = absurd a
 
-    lines_free : (in_loop : Bool) (here : Here) (ls : Lines) (ss : List Stmt) → AreProper ls → AreWhole ls → IsFree here → lines_made profile_rules scope frame in_loop here ls ≡ Right ss → have Use name ls false ≡ false
+    lines_free : (in_loop : Bool) (here : Here) (ls : Lines) (ss : List Stmt) → AreProper ls → AreWhole ls → IsFree here → lines_made profile_rules scope frame in_loop here ls ≡ Right ss → use_along name ls None ≡ None
     lines_free in_loop here Lines.End ss h w f e = refl
     lines_free in_loop here (Lines.Then l ls) ss h w f e =
         let t : Bool = is_taken l ls in
         let b = both_right (line_made profile_rules scope frame in_loop false here t l) (lines_made profile_rules scope frame in_loop (line_behind scope frame here t l) ls) appended ss e in
-        neither (has Use name l) (not (hides name l) && have Use name ls false) (line_free in_loop false here t l b.left h.0 w.0 f b.first)
-        (unless (hides name l) (have Use name ls false) (λ q. lines_free in_loop (line_behind scope frame here t l) ls b.right h.1 w.1 (free_line here t l h.0 q f) b.second))
+        neither (use_at name l) (chosen (hides name l) None (use_along name ls None)) (line_free in_loop false here t l b.left h.0 w.0 f b.first)
+        (unless (hides name l) (use_along name ls None) (λ q. lines_free in_loop (line_behind scope frame here t l) ls b.right h.1 w.1 (free_line here t l h.0 q f) b.second))
 
 -- ---- parameters
 
@@ -345,11 +345,11 @@ unfolding first_here
 first_free scope name body ds n q = params_free scope name body 0 ds n q
 
 -- ---- bodies
-pub bodies_free : BodiesUseWhatIsDefined
-unfolding body_rule uses
+pub bodies_free : BodiesUseWhatIsDeclared
+unfolding body_rule first_use
 bodies_free scope h nodes b name n proper gives plain e =
     let ls : Lines = lines_of nodes in
     let frame : Frame = frame_of scope h in
     let here : Here = first_here scope ls h.params in
     let c = both_right (declared_locals (lines_behind scope frame here ls).locals) (lines_made profile_rules scope frame false here ls) (body_of (map (parameter_taken ls) h.params)) b e in
-    unless (is_parameter h.params name) (have Use name ls false) (λ q. lines_free scope name gives plain frame false here ls c.right proper (nodes_whole nodes) (first_free scope name ls h.params n q) c.second)
+    unless (is_parameter h.params name) (use_along name ls None) (λ q. lines_free scope name gives plain frame false here ls c.right proper (nodes_whole nodes) (first_free scope name ls h.params n q) c.second)

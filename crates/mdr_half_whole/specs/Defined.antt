@@ -1,3 +1,4 @@
+-- for proofs
 -- Sources that define each function that they declare (C99 6.9, paragraphs 3 and 5).
 use Rattle.std.specs.Prelude.{◌≡◌, ℕ, true, List, Some, slice_get}
 use Rattle.mdr_core.specs.declared.program.Func.{Func}

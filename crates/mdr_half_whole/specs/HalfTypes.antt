@@ -1,3 +1,4 @@
+-- for proofs
 -- The types that occur in a half's text.
 use Rattle.std.specs.Prelude.{◌≡◌, ◌≤◌, ℕ, false, List, length, map, Ok}
 use Rattle.mdr_core.specs.declared.plan.Half.{Half}
@@ -9,7 +10,7 @@ use Rattle.mdr_syntax.specs.Tokens.{tokens_of}
 use Rattle.mdr_grammar.specs.Grammar.{Reads}
 use Rattle.mdr_faults.specs.Faults.{Right}
 use Rattle.mdr_body.specs.Bodies.{body_rule}
-use Rattle.mdr_body.specs.Mentions.{uses}
+use Rattle.mdr_body.specs.Uses.{first_use}
 use Rattle.mdr_typing.specs.Profile.{profile_rules}
 use Rattle.mdr_check.specs.declared.file.Piece.{Piece}
 use Rattle.mdr_check.specs.Files.{BodyRule}
@@ -31,5 +32,5 @@ TypesOfHalvesOccur = (body : BodyRule) (uses : UseRule) (half : Half) (plan : Pl
 -- a plan with the type table of the whole program has each
 abbrev pub PlansHaveTheTypes : Type 0
 PlansHaveTheTypes = (bytes : List ℕ) (tokens : List Token) (half : Half) (plan : Plan) (tree : Tree) (xs : List Piece)
-    → tokens_of bytes ≡ Ok tokens → Reads false tokens tree → file_pieces (body_rule profile_rules) uses tree.items ≡ Right xs
+    → tokens_of bytes ≡ Ok tokens → Reads false tokens tree → file_pieces (body_rule profile_rules) first_use tree.items ≡ Right xs
     → length (program_of xs).types ≤ 4294967296 → plan.types ≡ (program_of xs).types → HasTypes plan (parts_of (map (piece_in half plan) xs))

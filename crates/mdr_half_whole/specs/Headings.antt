@@ -1,3 +1,4 @@
+-- for proofs
 -- The headings of functions in the user half's text, beside those of the whole source (C99 6.7, paragraph 4).
 use Rattle.std.specs.Prelude.{◌≡◌, ℕ, List, [], ◌∷◌, map}
 use Rattle.mdr_core.specs.declared.plan.Half.{Half}
@@ -10,7 +11,7 @@ use Rattle.mdr_core.specs.declared.types.Ty.{Ty}
 use Rattle.mdr_syntax.specs.declared.tree.Tree.{Tree}
 use Rattle.mdr_faults.specs.Faults.{Right}
 use Rattle.mdr_body.specs.Bodies.{body_rule}
-use Rattle.mdr_body.specs.Mentions.{uses}
+use Rattle.mdr_body.specs.Uses.{first_use}
 use Rattle.mdr_typing.specs.Profile.{profile_rules}
 use Rattle.mdr_check.specs.declared.file.Piece.{Piece}
 use Rattle.mdr_check.specs.Files.{BodyRule}
@@ -49,4 +50,4 @@ FunctionsKeepTheirHeadings = (body : BodyRule) (uses : UseRule) (half : Half) (p
 -- where the user text of a source, read with a plan, comes to a program, that has the headings of the source's program
 abbrev pub TheUserTextKeepsTheHeadings : Type 0
 TheUserTextKeepsTheHeadings = (bytes : List ℕ) (tree read : Tree) (program part : Program) (plan : Plan)
-    → IsWhole bytes tree program → IsReadOf plan tree read → half_typed (body_rule profile_rules) uses plan read.items ≡ Right part → HaveSameHeadings program.funcs part.funcs
+    → IsWhole bytes tree program → IsReadOf plan tree read → half_typed (body_rule profile_rules) first_use plan read.items ≡ Right part → HaveSameHeadings program.funcs part.funcs

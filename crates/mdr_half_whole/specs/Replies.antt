@@ -1,8 +1,9 @@
+-- for proofs
 -- The text that is printed of the user half replies as the whole program does.
 use Rattle.std.specs.Prelude.{◌≡◌, ℕ, List}
 use Rattle.mdr_access.specs.Keys.{HasEach, IsPlan}
 use Rattle.mdr_body.specs.Bodies.{body_rule}
-use Rattle.mdr_body.specs.Mentions.{uses}
+use Rattle.mdr_body.specs.Uses.{first_use}
 use Rattle.mdr_check_half.specs.HalfPrograms.{half_typed}
 use Rattle.mdr_core.specs.declared.plan.Plan.{Plan}
 use Rattle.mdr_core.specs.declared.program.Program.{Program}
@@ -19,7 +20,7 @@ use Rattle.mdr_watched.specs.Driver.{driver_of}
 -- the tree comes with the plan to a program that has the user half's bodies and all headings, and whose user half gives the same replies
 pub record RepliesAsTheWhole (plan : Plan) (read : Tree) (program : Program) : Type 0 where
   pub part : Program
-  pub typed : half_typed (body_rule profile_rules) uses plan read.items ≡ Right part
+  pub typed : half_typed (body_rule profile_rules) first_use plan read.items ≡ Right part
   pub is_text : IsUserText plan program part
   pub replies : (before : List Reading) (last : Reading) → user_reply (driver_of part plan) before last ≡ user_reply (driver_of program plan) before last
 

@@ -1,3 +1,4 @@
+-- for proofs
 -- The types of functions in a half's text, beside those of the whole source (C99 6.7, paragraph 4).
 use Rattle.std.specs.Prelude.{◌≡◌, List, [], ◌∷◌, map}
 use Rattle.mdr_core.specs.declared.plan.Half.{Half}

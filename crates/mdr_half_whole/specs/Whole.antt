@@ -1,3 +1,4 @@
+-- for proofs
 -- From a source to the program of its user half.
 use Rattle.std.specs.Prelude.{◌≡◌, ◌≤◌, ℕ, false, true, List, length, Ok}
 use Rattle.mdr_core.specs.declared.plan.Half.TheVariants.{User}
@@ -11,7 +12,7 @@ use Rattle.mdr_syntax.specs.Tokens.{tokens_of}
 use Rattle.mdr_grammar.specs.Grammar.{Reads}
 use Rattle.mdr_faults.specs.Faults.{Right}
 use Rattle.mdr_body.specs.Bodies.{body_rule}
-use Rattle.mdr_body.specs.Mentions.{uses}
+use Rattle.mdr_body.specs.Uses.{first_use}
 use Rattle.mdr_typing.specs.Profile.{profile_rules}
 use Rattle.mdr_program.specs.Programs.{typed}
 use Rattle.mdr_half.specs.Halves.{user_text}
@@ -22,7 +23,7 @@ pub record IsWhole (bytes : List ℕ) (tree : Tree) (program : Program) : Type 0
   pub tokens : List Token
   pub lexed : tokens_of bytes ≡ Ok tokens
   pub reads : Reads false tokens tree
-  pub right : typed (body_rule profile_rules) uses tree.items ≡ Right program
+  pub right : typed (body_rule profile_rules) first_use tree.items ≡ Right program
   pub types : length program.types ≤ 4294967296
 
 -- the tree is read of the text that is printed of the user half

@@ -6,7 +6,7 @@ ghost use Rattle.mdr_half_whole.specs.Headings.{FunctionsKeepTheirHeadings, TheU
 ghost use Rattle.mdr_half_whole.specs.Replies.{TheUserTextRepliesAsTheWhole};
 ghost use Rattle.mdr_half_whole.specs.SameTypes.{FunctionsKeepTheirTypes};
 ghost use Rattle.mdr_half_whole.specs.Sourced.{SourcesHaveBodies};
-ghost use Rattle.mdr_half_whole.specs.Usable.{BodiesUseWhatIsDefined};
+ghost use Rattle.mdr_half_whole.specs.Usable.{BodiesUseWhatIsDeclared};
 ghost use Rattle.mdr_half_whole.specs.Whole.{TheUserTextGivesItsPart};
 
 /// Where each function of a source's program has a body among the items, it has it in the program.
@@ -36,9 +36,9 @@ pub fn the_user_text_gives_its_part()
     ensures { TheUserTextGivesItsPart }
 {}
 
-/// A body without faults uses no function that the file doesn't define, and nothing that isn't declared.
-pub fn bodies_use_what_is_defined()
-    ensures { BodiesUseWhatIsDefined }
+/// A body without faults uses nothing that isn't declared, and nothing that is wrongly declared.
+pub fn bodies_use_what_is_declared()
+    ensures { BodiesUseWhatIsDeclared }
 {}
 
 /// Each function of the program of a source without faults has its body.

@@ -1,3 +1,4 @@
+-- believed
 -- Annotations: how far the pointers of a declaration may be followed.
 use Rattle.std.specs.Prelude.{ℕ, zero, suc, ◌&&◌, ◌||◌, not, nat_lt, Bool, true, false, ℤ, pos, negsuc, List, Option, Some, None, is_some, Result, Ok, Err, position, slice_get}
 use Rattle.std.specs.List.{list_any}

@@ -1,3 +1,4 @@
+-- believed
 -- Functions behind declarations (C99 6.7, 6.9.1): which are declared, and whether their declarations agree.
 use Rattle.std.specs.Prelude.{ℕ, ◌==◌, ◌&&◌, ◌||◌, not, Bool, true, false, List, [], ◌∷◌, ◌++◌, length, find, Option, Some, None, is_some, Result, Ok, Err}
 use Rattle.std.specs.List.{list_any}
@@ -118,12 +119,12 @@ function_means (Ok s) = Ok (entity.Function s)
 function_means (Err f) = Err f
 
 -- the first declaration of a name brings it into scope, and with it its function's type
-abbrev pub with_function_unless : (is_taken : Bool) → Scope → (number : ℕ) → (is_defined : Bool) → Head → Scope
-with_function_unless true scope n is_defined h = scope
-with_function_unless false scope n is_defined h = with_name scope h.name (function_means (told (signature scope n is_defined h)))
+abbrev pub with_function_unless : (is_taken : Bool) → Scope → (number : ℕ) → Head → Scope
+with_function_unless true scope n h = scope
+with_function_unless false scope n h = with_name scope h.name (function_means (told (signature scope n h)))
 
-unfoldable pub behind_function : Scope → (number : ℕ) → (is_defined : Bool) → Head → Scope
-behind_function scope n is_defined h = with_function_unless (is_taken scope h.name) scope n is_defined h
+unfoldable pub behind_function : Scope → (number : ℕ) → Head → Scope
+behind_function scope n h = with_function_unless (is_taken scope h.name) scope n h
 
 abbrev pub declared_unless : (is_taken : Bool) → List Declared → Head → Result Heading Fault → List Declared
 declared_unless true fs h r = fs

@@ -1,3 +1,4 @@
+-- believed
 -- What stands before a function's body (C99 6.7.5.3, 6.9.1).
 use Rattle.std.specs.Prelude.{ℕ, false, List, [], ◌∷◌, ◌++◌, map, Option, Some}
 use Rattle.mdr_core.specs.declared.place.Place.{Place}
@@ -12,7 +13,7 @@ use Rattle.mdr_headings.specs.declared.head.Given.{Given}
 use Rattle.mdr_faults.specs.declared.scope.Candidate.{Candidate}
 use Rattle.mdr_faults.specs.declared.scope.Scope.{Scope}
 use Rattle.mdr_headings.specs.Annotations.{annotated, bare, candidate}
-use Rattle.mdr_faults.specs.Declarations.{declarator, parameter_among, result_type, type_named}
+use Rattle.mdr_faults.specs.Declarations.{declarator, parameter_among, parameter_list, result_type, type_named}
 use Rattle.mdr_faults.specs.Faults.{Checked, Right, after, both, next}
 use Rattle.mdr_headings.specs.Structs.{name_or_none}
 use Rattle.mdr_headings.specs.Within.{beside, names_around, within}
@@ -47,9 +48,16 @@ annotated_result scope siblings p ann t = after (annotated scope siblings p t an
 unfoldable pub head_result : Scope → Head → Checked Ty
 head_result scope h = after (type_named scope h.base h.stars) (result_type h.place)
 
+-- where the types of the parameters are right, too
+abbrev pub result_where : Ty → List Ty → Checked Ty
+result_where t ts = Right t
+
+unfoldable pub typed_result : Scope → Head → Checked Ty
+typed_result scope h = both (head_result scope h) (parameter_list [] (map (declarator scope) h.params)) result_where
+
 -- the same with its annotation, which stands beside the parameters
 unfoldable pub given : Scope → List Candidate → Head → Checked Given
-given scope siblings h = after (head_result scope h) (annotated_result scope siblings h.place h.ann)
+given scope siblings h = after (typed_result scope h) (annotated_result scope siblings h.place h.ann)
 
 -- ---- heads
 

@@ -1,3 +1,4 @@
+-- believed
 -- What is known at each place of a file (C99 6.2.1, 6.9).
 use Rattle.std.specs.Prelude.{ℕ, ◌==◌, Bool, true, false, List, [], ◌∷◌, ◌++◌, map, length, Option, Some, None, Result, Ok, negsuc}
 use Rattle.std.specs.List.{list_any}
@@ -84,9 +85,9 @@ behind_struct scope p name ds = with_struct_if (is_numbered (tag_named scope nam
 abbrev pub before_first : Result Constant Fault
 before_first = Ok (record { kind = S32; number = negsuc 0 })
 
-abbrev pub signature_by : (number : ℕ) → (is_defined : Bool) → Ty → List Ty → Checked Signature
-signature_by n is_defined t ts = Right (record { number = n; result = t; params = ts; is_defined = is_defined })
+abbrev pub signature_by : (number : ℕ) → Ty → List Ty → Checked Signature
+signature_by n t ts = Right (record { number = n; result = t; params = ts })
 
 -- a function's type, as its uses see it
-unfoldable pub signature : Scope → (number : ℕ) → (is_defined : Bool) → Head → Checked Signature
-signature scope n is_defined h = both (head_result scope h) (parameter_list [] (map (declarator scope) h.params)) (signature_by n is_defined)
+unfoldable pub signature : Scope → (number : ℕ) → Head → Checked Signature
+signature scope n h = both (head_result scope h) (parameter_list [] (map (declarator scope) h.params)) (signature_by n)

@@ -1,3 +1,4 @@
+-- believed
 -- Annotations within a declarator: those of a function pointer's parameters (C99 6.7.5.3). They are judged, and dropped.
 use Rattle.std.specs.Prelude.{List, [], ◌∷◌, ◌++◌, map, Option, Some, None}
 use Rattle.mdr_core.specs.declared.types.Ann.{Ann}

@@ -1,6 +1,6 @@
 // What the bodies of functions come to (C99 6.9.1).
 
-use mdr_core::{Items, Local, OutOfMemory, Stmt};
+use mdr_core::{Items, Local, OutOfMemory, Place, Stmt};
 use mdr_faults::{Fault, Scope};
 use mdr_syntax::{Head, Node};
 use std::alloc::Global;
@@ -15,7 +15,8 @@ pub struct Body {
 
 /// The rule of bodies. The scope is that behind the name of the function.
 pub trait Bodies {
-    ghost use Rattle.std.specs.Prelude.{◌≡◌, ℕ, Bool, List, IfOk};
+    ghost use Rattle.std.specs.Prelude.{◌≡◌, ℕ, List, Option, IfOk};
+    ghost use Rattle.mdr_core.specs.declared.place.Place.{Place as OnePlace};
     ghost use Rattle.mdr_syntax.specs.declared.tree.Head.{Head as OneHead};
     ghost use Rattle.mdr_syntax.specs.declared.tree.Node.{Node as OneNode};
     ghost use Rattle.mdr_headings.specs.declared.body.Body.{Body as OneBody};
@@ -24,7 +25,7 @@ pub trait Bodies {
 
     ghost rule: { Self → OneScope → OneHead → List OneNode → Checked OneBody };
 
-    ghost used: { Self → OneHead → List OneNode → List ℕ → Bool };
+    ghost used: { Self → OneHead → List OneNode → List ℕ → Option OnePlace };
 
     /// What a body comes to.
     fn body(
@@ -36,7 +37,7 @@ pub trait Bodies {
     ) -> Result<Result<Body, Fault>, OutOfMemory>
         ensures { IfOk result (λ r. r ≡ told (rule self.now scope.now h.now nodes.now)) };
 
-    /// Whether a body uses a name for what the file declares by it.
-    fn uses(&self, h: &Head, nodes: &[Node], name: &[u8]) -> bool
+    /// Where a body first uses a name for what the file declares by it.
+    fn first_use(&self, h: &Head, nodes: &[Node], name: &[u8]) -> Option<Place>
         ensures { result ≡ used self.now h.now nodes.now name.now };
 }

@@ -187,16 +187,14 @@ fn behind_function(
     alloc: Global,
     scope: &mut Scope,
     number: u32,
-    items: &[Item],
     h: &Head,
 ) -> Result<(), AllocError>
-    ensures { OnOk result (scope.new ≡ behind_function scope.old number (is_defined items.now h.now.name) h.now) }
+    ensures { OnOk result (scope.new ≡ behind_function scope.old number h.now) }
 {
     if is_declared_name(scope, h.name.as_slice()) {
         return Ok(());
     }
-    let is_defined = is_defined(items, h.name.as_slice());
-    let s = signature(alloc, scope, number, is_defined, h)?;
+    let s = signature(alloc, scope, number, h)?;
     declare(alloc, scope, &h.name, function_means(s))
 }
 
@@ -284,17 +282,11 @@ fn function_rule(
 }
 
 /// Brings the name of a function of this number into scope.
-fn grow(
-    alloc: Global,
-    scope: &mut Scope,
-    number: usize,
-    items: &[Item],
-    h: &Head,
-) -> Result<(), OutOfMemory>
-    ensures { OnOk result (scope.new ≡ behind_function scope.old number (is_defined items.now h.now.name) h.now) }
+fn grow(alloc: Global, scope: &mut Scope, number: usize, h: &Head) -> Result<(), OutOfMemory>
+    ensures { OnOk result (scope.new ≡ behind_function scope.old number h.now) }
 {
     let number = small(number)?;
-    behind_function(alloc, scope, number, items, h)?;
+    behind_function(alloc, scope, number, h)?;
     Ok(())
 }
 
@@ -304,26 +296,25 @@ fn is_second_body(before: &[Item], name: &[u8], is_body: bool) -> bool
     is_body && has_body(before, name)
 }
 
-/// A declaration of a function among those before it, in a file of these items; the scope and the functions behind it.
+/// A declaration of a function among those before it; the scope and the functions behind it.
 #[tactic(auto, unfolding(crate::specs::Functions::function_declared, crate::specs::Functions::functions_behind))]
 pub fn function_declared(
     alloc: Global,
     scope: &mut Scope,
     fs: &mut Names<Declared>,
-    items: &[Item],
     before: &[Item],
     h: &Head,
     is_body: bool,
 ) -> Result<Result<Heading, Fault>, OutOfMemory>
     ensures told { IfOk result (λ r. r ≡ told (function_declared scope.old fs.old before.now h.now is_body)) }
-    ensures grown { OnOk result (scope.new ≡ behind_function scope.old (length fs.old) (is_defined items.now h.now.name) h.now) }
+    ensures grown { OnOk result (scope.new ≡ behind_function scope.old (length fs.old) h.now) }
     ensures counted { OnOk result (fs.new ≡ functions_behind scope.old fs.old h.now) }
 {
     let is_taken = is_declared_name(scope, h.name.as_slice());
     let number = fs.len();
     let second = is_second_body(before, h.name.as_slice(), is_body);
     let heading = checked_heading(alloc, scope, h)?;
-    grow(alloc, scope, number, items, h)?;
+    grow(alloc, scope, number, h)?;
     let kept = copied_told(alloc, &heading)?;
     let entry = function_named(fs, h.name.as_slice());
     let told = function_rule(h.place, is_taken, entry, second, number, heading);

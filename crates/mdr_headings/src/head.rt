@@ -2,19 +2,22 @@
 
 ghost use Rattle.std.specs.Prelude.{◌≡◌, ◌++◌, ◌∷◌, [], IfOk, List, Some, map};
 ghost use Rattle.mdr_core.specs.declared.program.Param.{Param};
+ghost use Rattle.mdr_core.specs.declared.types.Ty.{Ty};
 ghost use Rattle.mdr_syntax.specs.declared.tree.Decl.{out-Decl};
 ghost use Rattle.mdr_headings.specs.declared.head.Given.{Given};
 ghost use Rattle.mdr_faults.specs.Faults.{Checked, told, after, both};
 ghost use Rattle.mdr_faults.specs.Declarations.{declarator, parameter_among};
 ghost use Rattle.mdr_headings.specs.Annotations.{bare};
 ghost use Rattle.mdr_headings.specs.Within.{beside, names_around, within};
-ghost use Rattle.mdr_headings.specs.Heads.{annotated_param, param_among, params_behind, annotated_result, head_result, given, heading_of, heading};
+ghost use Rattle.mdr_headings.specs.Heads.{annotated_param, param_among, params_behind, annotated_result, head_result, result_where, typed_result, given, heading_of, heading};
 
 use crate::annotation::annotated;
 use crate::inner::{bare, beside, candidates, names_around, type_among, within};
 use crate::structs::declared_name;
 use mdr_core::{Ann, Items, OutOfMemory, Param, Place, Ty};
-use mdr_faults::{Candidate, Fault, Scope, both, copied, extended, result_type, type_named};
+use mdr_faults::{
+    Candidate, Fault, Scope, both, copied, extended, parameter_list, result_type, type_named,
+};
 use mdr_syntax::{AnnText, Decl, Head};
 use std::alloc::{AllocError, Global};
 
@@ -133,6 +136,28 @@ pub fn head_result(alloc: Global, scope: &Scope, h: &Head) -> Result<Result<Ty, 
     }
 }
 
+fn result_where(
+    result_type: Result<Ty, Fault>,
+    params: Result<Items<Ty>, Fault>,
+) -> Result<Ty, Fault>
+    ensures { (c : Checked Ty) (d : Checked (List Ty)) → result_type ≡ told c → params ≡ told d → result ≡ told (both c d result_where) }
+{
+    match both(result_type, params) {
+        Ok((ty, _)) => Ok(ty),
+        Err(fault) => Err(fault),
+    }
+}
+
+/// The type of what a function gives, where the types of its parameters are right, too.
+#[tactic(auto, unfolding(crate::specs::Heads::typed_result))]
+fn typed_result(alloc: Global, scope: &Scope, h: &Head) -> Result<Result<Ty, Fault>, AllocError>
+    ensures { IfOk result (λ r. r ≡ told (typed_result scope.now h.now)) }
+{
+    let result_type = head_result(alloc, scope, h)?;
+    let params = parameter_list(alloc, scope, h.params.as_slice())?;
+    Ok(result_where(result_type, params))
+}
+
 #[tactic(auto, unfolding(crate::specs::Heads::given))]
 fn result_given(
     alloc: Global,
@@ -142,7 +167,7 @@ fn result_given(
 ) -> Result<Result<Given, Fault>, OutOfMemory>
     ensures { IfOk result (λ r. r ≡ told (given scope.now siblings.now h.now)) }
 {
-    match head_result(alloc, scope, h)? {
+    match typed_result(alloc, scope, h)? {
         Ok(ty) => annotated_result(scope, siblings, h.place, &h.ann, ty),
         Err(fault) => Ok(Err(fault)),
     }

@@ -157,18 +157,16 @@ pub fn behind_struct(
 
 fn signature_by(
     number: u32,
-    is_defined: bool,
     result_type: Result<Ty, Fault>,
     params: Result<Items<Ty>, Fault>,
 ) -> Result<Signature, Fault>
-    ensures { (c : Checked Ty) (d : Checked (List Ty)) → result_type ≡ told c → params ≡ told d → result ≡ told (both c d (signature_by number is_defined)) }
+    ensures { (c : Checked Ty) (d : Checked (List Ty)) → result_type ≡ told c → params ≡ told d → result ≡ told (both c d (signature_by number)) }
 {
     match both(result_type, params) {
         Ok((ty, params)) => Ok(Signature {
             number,
             result: ty,
             params,
-            is_defined,
         }),
         Err(fault) => Err(fault),
     }
@@ -180,12 +178,11 @@ pub fn signature(
     alloc: Global,
     scope: &Scope,
     number: u32,
-    is_defined: bool,
     h: &Head,
 ) -> Result<Result<Signature, Fault>, AllocError>
-    ensures { IfOk result (λ r. r ≡ told (signature scope.now number is_defined h.now)) }
+    ensures { IfOk result (λ r. r ≡ told (signature scope.now number h.now)) }
 {
     let result_type = head_result(alloc, scope, h)?;
     let params = parameter_list(alloc, scope, h.params.as_slice())?;
-    Ok(signature_by(number, is_defined, result_type, params))
+    Ok(signature_by(number, result_type, params))
 }

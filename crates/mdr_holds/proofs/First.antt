@@ -38,7 +38,7 @@ use Rattle.mdr_model.specs.Values.{names_block}
 use Rattle.mdr_model.proofs.LifeLaws.{get-map, there}
 use Rattle.mdr_plain.specs.Scripts.{first_world}
 use Rattle.mdr_plain.specs.Storage.{birth_of, first_memory, global_block, global_blocks, next_serial}
-use Rattle.mdr_script.specs.declared.bound.Bound.{Bound}
+use Rattle.mdr_bound.specs.declared.bound.Bound.{Bound}
 use Rattle.mdr_watched.proofs.MemoryOrder.{first_in_order}
 use Rattle.mdr_holds.specs.Holding.{FitsCell, Holds, KnowsBirths, born_global, first_knowledge, shape_of}
 use Rattle.mdr_holds.specs.Laws.{IsScript, TakesFirst}

@@ -16,8 +16,6 @@ pub mod States
 pub mod Commands
 pub mod Globals
 pub mod First
-pub mod Bindings
 pub mod Drivers
-pub mod ScriptTexts
 pub mod Scripts
 pub mod Services

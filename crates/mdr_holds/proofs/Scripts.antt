@@ -8,7 +8,7 @@ use Rattle.mdr_meaning.specs.Sides.{Side}
 use Rattle.mdr_meaning.specs.Within.{Uses}
 use Rattle.mdr_plain.specs.Plain.{entered, plain_of, whole}
 use Rattle.mdr_plain.specs.Scripts.{first_world}
-use Rattle.mdr_script.specs.declared.bound.Bound.{Bound}
+use Rattle.mdr_bound.specs.declared.bound.Bound.{Bound}
 use Rattle.mdr_watched.specs.Driver.{Driver, is_user}
 use Rattle.mdr_watched.specs.Watched.{held, upcall, watched_of}
 use Rattle.mdr_holds.specs.Holding.{Holds, first_knowledge}

@@ -1,3 +1,4 @@
+-- believed
 -- What holds of a run's state at any time while a sound program's code runs: its memory is in order, each cell has a value that fits, and what is known of blocks is what was born.
 use Rattle.std.specs.Prelude.{◌≡◌, ◌⊎◌, ℕ, ◌<◌, true, List, [], ◌∷◌, map, Some, slice_get}
 use Rattle.std.specs.Option.{option_map}

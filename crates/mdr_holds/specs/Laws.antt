@@ -1,3 +1,4 @@
+-- believed
 -- Laws: what code of a sound program, services and commands leave of a run's state.
 use Rattle.std.specs.Prelude.{◌≡◌, ℕ, ◌≤◌, true, false, Bool, List, [], ◌∷◌, map, Some, None, Ok, slice_get, is_some}
 use Rattle.mdr_callees.specs.Callees.{uses_by}
@@ -38,10 +39,7 @@ use Rattle.mdr_plain.specs.Scripts.{Beginning, Did, Opens, begin, begun, first_w
 use Rattle.mdr_plain.specs.Services.{served}
 use Rattle.mdr_plain.specs.Storage.{accesses, next_serial}
 use Rattle.mdr_plain.specs.World.{World, Ran, left, noted}
-use Rattle.mdr_script.specs.declared.bound.Bound.{Bound}
-use Rattle.mdr_script.specs.declared.script.Script.{Script}
-use Rattle.mdr_script.specs.Binding.{bound_of}
-use Rattle.mdr_script.specs.Scripts.{script_of}
+use Rattle.mdr_bound.specs.declared.bound.Bound.{Bound}
 use Rattle.mdr_slice.specs.declared.halves.Halves.{Halves}
 use Rattle.mdr_paths.specs.Numbers.{numbers}
 use Rattle.mdr_paths.specs.Paths.{is_in}
@@ -236,14 +234,6 @@ pub record RunsHold : Type 0 where
   pub plain : (program : Program) → IsSound program → (uses : Uses) (side : Side) → IsCode program uses side → TakesFirst program uses → (script : Bound) → IsScript program script → (budget : ℕ) → (K : Knowledge) × Holds program K (plain_of program side script budget).world
 
 -- ---- what meets these conditions
-
--- commands of a script that was bound to the program
-abbrev pub BoundCommandsFit : Type 0
-BoundCommandsFit = (program : Program) → IsSound program → (script : Script) (bound : Bound) → bound_of script program ≡ Ok bound → AreCommands program bound.commands
-
--- so a script that is read from a text and bound to the program is one for it
-abbrev pub TextScriptsFit : Type 0
-TextScriptsFit = (program : Program) → IsSound program → (text : List ℕ) (script : Script) (bound : Bound) → script_of text ≡ Ok script → bound_of script program ≡ Ok bound → IsScript program bound
 
 -- each function has a body
 abbrev pub HaveBodies : Program → Type 0

@@ -1,3 +1,4 @@
+-- believed
 -- What a piece of work leaves of a run's state.
 use Rattle.std.specs.Prelude.{◌≡◌, ℕ, suc, ◌+◌, ◌<◌, ◌≤◌, false, List, [], ◌∷◌, map, Option, Some}
 use Rattle.mdr_core.specs.declared.place.At.{At}

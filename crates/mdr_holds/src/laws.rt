@@ -1,6 +1,6 @@
 // Laws, each as a function that does nothing.
 
-ghost use Rattle.mdr_holds.specs.Laws.{BoundCommandsFit, CodeAgrees, CodeLeaves, CodeStays, CommandsLeave, KernelCodeLeaves, ProgramsAreDrivers, RunsHold, ServicesLeave, StatesHold, TextScriptsFit, UserCodeLeaves};
+ghost use Rattle.mdr_holds.specs.Laws.{CodeAgrees, CodeLeaves, CodeStays, CommandsLeave, KernelCodeLeaves, ProgramsAreDrivers, RunsHold, ServicesLeave, StatesHold, UserCodeLeaves};
 
 /// A state that holds is in order, with blocks and globals as laws of memories want them; a known pointer names a block of
 /// the shape that is known; and values fit as they are passed.
@@ -48,16 +48,6 @@ pub fn commands_leave()
 /// So the whole run of a script leaves one, on one memory with user code held to its cells or not.
 pub fn runs_hold()
     ensures { RunsHold }
-{}
-
-/// A script that was bound to a program calls its functions with arguments that fit.
-pub fn bound_commands_fit()
-    ensures { BoundCommandsFit }
-{}
-
-/// One that was read from a text has numbers of 32 bits for the device besides.
-pub fn text_scripts_fit()
-    ensures { TextScriptsFit }
 {}
 
 /// A sound program with any plan is such a driver, by what the call graph says; and with the halves that the slicer gives

@@ -5,7 +5,6 @@
 mod laws;
 
 pub use laws::{
-    bound_commands_fit, code_agrees, code_leaves, code_stays, commands_leave, kernel_code_leaves,
-    programs_are_drivers, runs_hold, services_leave, states_hold, text_scripts_fit,
-    user_code_leaves,
+    code_agrees, code_leaves, code_stays, commands_leave, kernel_code_leaves, programs_are_drivers,
+    runs_hold, services_leave, states_hold, user_code_leaves,
 };

@@ -7,7 +7,7 @@ use Rattle.mdr_syntax.specs.declared.tree.Tree.{Tree}
 use Rattle.mdr_grammar.specs.Grammar.{Reads}
 use Rattle.mdr_grammar.proofs.Exact.{one_tree}
 use Rattle.mdr_body.specs.Bodies.{body_rule}
-use Rattle.mdr_body.specs.Mentions.{uses}
+use Rattle.mdr_body.specs.Uses.{first_use}
 use Rattle.mdr_typing.specs.Profile.{profile_rules}
 use Rattle.mdr_source.proofs.NothingBack.{body_calls_nothing_back}
 use Rattle.mdr_plan.proofs.Running.{plan_once}
@@ -17,7 +17,7 @@ use Rattle.mdr_check_half.proofs.Accepted.{plans_suit}
 use Rattle.mdr_sound_code.proofs.Rights.{same_right}
 use Rattle.mdr_sound_half.proofs.HalfSounding.{halves_sound}
 use Rattle.mdr_sound_half.proofs.PlansRead.{plans_planned}
-use Rattle.mdr_honest.specs.Honest.{AreRefused, ComesTo}
+use Rattle.mdr_half_source.specs.Loads.{AreRefused, ComesTo}
 use Rattle.mdr_honest.specs.Loading.{LoadedHalvesAreSound, LoadedTextsAreNotRefused, TextsLoadOneThing}
 
 -- ---- one program and one plan
@@ -29,7 +29,7 @@ pub comes_once : (user : List ℕ) (plan : Plan) (program other : Program) → C
 comes_once user plan program other a b =
     let tokens : a.tokens ≡ b.tokens = same_tokens _ a.tokens b.tokens a.lexed b.lexed in
     let trees : a.tree ≡ b.tree = one_tree true b.tokens a.tree b.tree (subst (λ (ts : List Token). Reads true ts a.tree) tokens a.read) b.read in
-    same_right program other (sym a.typed ∙ ap (λ (t : Tree). half_typed (body_rule profile_rules) uses plan t.items) trees ∙ b.typed)
+    same_right program other (sym a.typed ∙ ap (λ (t : Tree). half_typed (body_rule profile_rules) first_use plan t.items) trees ∙ b.typed)
 
 pub loads_once : TextsLoadOneThing
 loads_once user text program other plan another a b =
@@ -57,6 +57,6 @@ half_is user text program plan h =
     let planned : IsPlanned plan = plans_planned text plan h.planned in
     let is = h.comes in
     record {
-      sound = halves_sound user true uses plan program is planned h.types (body_calls_nothing_back program.funcs h.no_back);
-      suited = plans_suit (body_rule profile_rules) uses plan (is.tree).items program planned is.typed;
+      sound = halves_sound user true first_use plan program is planned h.types (body_calls_nothing_back program.funcs h.no_back);
+      suited = plans_suit (body_rule profile_rules) first_use plan (is.tree).items program planned is.typed;
     }

@@ -1,4 +1,6 @@
 pub mod Halves
 pub mod Taken
+pub mod Bindings
+pub mod ScriptTexts
 pub mod FittingScripts
 pub mod Meant

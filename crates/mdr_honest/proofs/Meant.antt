@@ -17,7 +17,8 @@ use Rattle.mdr_watched.specs.Driver.{Driver, driver_of}
 use Rattle.mdr_over_bytes.specs.OverBytes.{IsHonestReply, user_reply_to_bytes}
 use Rattle.mdr_exchanges.specs.Meanings.{Honest, IsRunnable}
 use Rattle.mdr_exchanges.proofs.Meant.{honest_runs_are_meant}
-use Rattle.mdr_honest.specs.Honest.{IsHonestSince, Loads}
+use Rattle.mdr_honest.specs.Honest.{IsHonestSince}
+use Rattle.mdr_half_source.specs.Loads.{Loads}
 use Rattle.mdr_honest.specs.Loading.{AreItsHalf}
 use Rattle.mdr_honest.specs.Meanings.{HasTexts, RunIsMeaning}
 use Rattle.mdr_honest.specs.Scripts.{IsScriptFor}

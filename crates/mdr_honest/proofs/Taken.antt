@@ -16,7 +16,7 @@ use Rattle.mdr_slice.specs.Halves.{AreHalves}
 use Rattle.mdr_access.specs.Keys.{HasEach}
 use Rattle.mdr_roundtrip.specs.Again.{IsPrintedAsSource}
 use Rattle.mdr_body.specs.Bodies.{body_rule}
-use Rattle.mdr_body.specs.Mentions.{uses}
+use Rattle.mdr_body.specs.Uses.{first_use}
 use Rattle.mdr_typing.specs.Profile.{profile_rules}
 use Rattle.mdr_check.specs.Whole.{file_pieces}
 use Rattle.mdr_program.specs.Programs.{program_of, program_right}
@@ -58,7 +58,7 @@ is_whole bytes source s = record { tokens = s.tokens; lexed = s.are_tokens; read
 
 pub source_sound : (bytes : List ℕ) (source : Source) → IsSource bytes source → IsSound source.program
 source_sound bytes source s =
-    sources_sound bytes false uses source.program (record { tokens = s.tokens; tree = source.tree; lexed = s.are_tokens; read = s.reads; typed = s.judged }) s.types (body_calls_nothing_back (source.program).funcs s.no_back)
+    sources_sound bytes false first_use source.program (record { tokens = s.tokens; tree = source.tree; lexed = s.are_tokens; read = s.reads; typed = s.judged }) s.types (body_calls_nothing_back (source.program).funcs s.no_back)
 
 same_func : (a b : Func) → Some a ≡ Some b → a ≡ b
 same_func a b e = cc
@@ -70,7 +70,7 @@ bodies_at (g ∷ gs) h (suc f) func e = bodies_at gs h.1 f func e
 
 pub source_bodies : (bytes : List ℕ) (source : Source) → IsSource bytes source → HaveBodies source.program
 source_bodies bytes source s =
-    let a = after_right (file_pieces (body_rule profile_rules) uses source.tree.items) program_right source.program s.judged in
+    let a = after_right (file_pieces (body_rule profile_rules) first_use source.tree.items) program_right source.program s.judged in
     let each : HaveEach source.program.funcs =
     subst (λ (p : Program). HaveEach p.funcs) (same_right (program_of a.value) source.program a.made) (sources_have bytes s.tokens source.tree a.value s.are_tokens s.reads a.right) in
     bodies_at source.program.funcs each
@@ -88,7 +88,7 @@ formed_pointers : (bytes : List ℕ) (source : Source) → IsSource bytes source
 formed_pointers bytes source s =
     let proper = bytes_proper bytes false s.tokens source.tree s.are_tokens s.reads in
     let formed : (t : Ty) → Occurs source.program t → IsObjectSort (sort_of (length source.program.structs) t) =
-    types_of_files source.program profile_rules uses source.tree.items s.judged (ranges_of source.tree.items proper) (profile_formed source.program) in
+    types_of_files source.program profile_rules first_use source.tree.items s.judged (ranges_of source.tree.items proper) (profile_formed source.program) in
     record { formed = λ t occurs pointer. record { formed = λ wrong. not_wrong (subst IsObjectSort wrong (formed t occurs)) } }
 
 -- each struct stands in the type table
@@ -111,7 +111,7 @@ plan_is_read : (bytes : List ℕ) (source : Source) (plan : Plan) → IsCut byte
 plan_is_read bytes source plan cut =
     let s = cut.source_is in
     let is = cut.plan_is in
-    plans_of_sources_are_read (body_rule profile_rules) uses bytes source.program is.halves plan
+    plans_of_sources_are_read (body_rule profile_rules) first_use bytes source.program is.halves plan
     (record { tree = source.tree; source = record { tokens = s.tokens; lexed = s.are_tokens; read = s.reads }; right = s.judged })
     (formed_pointers bytes source s) (are_short source.program (source_sound bytes source s) s.types cut.short) (has_each source.program is.roots is.halves is.are_halves) is.is_plan
 

@@ -1,3 +1,4 @@
+-- believed
 -- What texts that are loaded come to, and that those of a source are loaded.
 use Rattle.std.specs.Prelude.{◌≡◌, ◌≤◌, ◌^◌, ℕ, List, length}
 use Rattle.mdr_core.specs.declared.plan.Plan.{Plan}
@@ -14,7 +15,8 @@ use Rattle.mdr_source.specs.declared.outcome.Source.{Source}
 use Rattle.mdr_source.specs.Sources.{IsSource}
 use Rattle.mdr_split.specs.User.{user_reply}
 use Rattle.mdr_watched.specs.Driver.{driver_of}
-use Rattle.mdr_honest.specs.Honest.{AreRefused, IsHonestLoad, Loads}
+use Rattle.mdr_honest.specs.Honest.{IsHonestLoad}
+use Rattle.mdr_half_source.specs.Loads.{AreRefused, Loads}
 
 -- ---- texts
 

@@ -1,3 +1,4 @@
+-- for proofs
 -- What a run over an honest far side means.
 use Rattle.std.specs.Prelude.{◌≡◌, ℕ, ◌⊎◌, List, Some}
 use Rattle.mdr_core.specs.declared.plan.Plan.{Plan}
@@ -8,7 +9,7 @@ use Rattle.mdr_outside.specs.declared.far.Loaded.{Loaded}
 use Rattle.mdr_plain.specs.declared.outcome.Outcome.{Outcome}
 use Rattle.mdr_exchanges.specs.Meanings.{IsMeant}
 use Rattle.mdr_exchanges.specs.Runs.{IsFarFault, IsRun}
-use Rattle.mdr_script.specs.declared.bound.Bound.{Bound}
+use Rattle.mdr_bound.specs.declared.bound.Bound.{Bound}
 use Rattle.mdr_source.specs.declared.outcome.Source.{Source}
 use Rattle.mdr_watched.specs.Driver.{driver_of}
 use Rattle.mdr_honest.specs.Honest.{IsHonest}

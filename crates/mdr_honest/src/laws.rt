@@ -2,7 +2,7 @@
 
 ghost use Rattle.mdr_honest.specs.Loading.{LoadedHalvesAreSound, LoadedTextsAreNotRefused, TextsLoadOneThing, TextsOfSourcesAreLoaded, TextsOfSourcesAreTaken};
 ghost use Rattle.mdr_honest.specs.Meanings.{RunIsMeaning};
-ghost use Rattle.mdr_honest.specs.Scripts.{ScriptsFit};
+ghost use Rattle.mdr_honest.specs.Scripts.{BoundCommandsFit, ScriptsFit, TextScriptsFit};
 
 /// Texts are loaded as one program and one plan.
 pub fn texts_load_one_thing()
@@ -27,6 +27,16 @@ pub fn texts_of_sources_are_loaded()
 /// So an honest far side doesn't refuse them.
 pub fn texts_of_sources_are_taken()
     ensures { TextsOfSourcesAreTaken }
+{}
+
+/// A script that was bound to a program calls its functions with arguments that fit.
+pub fn bound_commands_fit()
+    ensures { BoundCommandsFit }
+{}
+
+/// One that was read from a text has numbers of 32 bits for the device besides.
+pub fn text_scripts_fit()
+    ensures { TextScriptsFit }
 {}
 
 /// A script that is read and bound fits its program: each command names a function or a global of it, with arguments that

@@ -5,6 +5,7 @@
 mod laws;
 
 pub use laws::{
-    loaded_halves_are_sound, loaded_texts_are_not_refused, run_is_meaning, scripts_fit,
-    texts_load_one_thing, texts_of_sources_are_loaded, texts_of_sources_are_taken,
+    bound_commands_fit, loaded_halves_are_sound, loaded_texts_are_not_refused, run_is_meaning,
+    scripts_fit, text_scripts_fit, texts_load_one_thing, texts_of_sources_are_loaded,
+    texts_of_sources_are_taken,
 };

@@ -21,7 +21,7 @@ use Rattle.mdr_plain.specs.Scripts.{Finish, and_then, begin, begun, called_by, c
 use Rattle.mdr_plain.specs.Services.{served}
 use Rattle.mdr_plain.specs.Storage.{accesses}
 use Rattle.mdr_plain.specs.World.{World, Ran, Ended, Stopped, Work, after, counted, done, given, then}
-use Rattle.mdr_script.specs.declared.bound.Bound.{Bound}
+use Rattle.mdr_bound.specs.declared.bound.Bound.{Bound}
 use Rattle.mdr_watched.specs.Driver.{Driver, driver_of, is_user}
 use Rattle.mdr_watched.specs.Kept.{due_plainly, followed_of, free, meets_none, meets_user, unless_due}
 use Rattle.mdr_watched.specs.Views.{may_touch, taken}

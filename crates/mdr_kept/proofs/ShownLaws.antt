@@ -26,7 +26,7 @@ use Rattle.mdr_watched.specs.Driver.{driver_of}
 use Rattle.mdr_watched.specs.Watched.{watched}
 use Rattle.mdr_kept.specs.Alike.{plainly_finished, spun, spun_block, spun_event, spun_lock, spun_memory, spun_outcome, spun_value}
 use Rattle.mdr_core.specs.declared.plan.Plan.{Plan}
-use Rattle.mdr_script.specs.declared.bound.Bound.{Bound}
+use Rattle.mdr_bound.specs.declared.bound.Bound.{Bound}
 use Rattle.mdr_kept.specs.Laws.{IsStrict, LocksAreHeld, StrictOutcomesAgree, StrictReportsAgree}
 use Rattle.mdr_kept.specs.Strict.{strict_of}
 use Rattle.mdr_kept.proofs.FollowLaws.{strict_runs_are_followed}

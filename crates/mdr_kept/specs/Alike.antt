@@ -1,3 +1,4 @@
+-- for proofs
 -- Values, states and outcomes, how a lock is held set aside: one that sleeps counts as one that spins. Reports print both as held.
 use Rattle.std.specs.Prelude.{[], map}
 use Rattle.mdr_core.specs.declared.value.LockState.{LockState}

@@ -1,3 +1,4 @@
+-- for proofs
 -- Laws of runs that keep their annotations.
 use Rattle.std.specs.Prelude.{◌≡◌, ℕ}
 use Rattle.mdr_core.specs.declared.plan.Plan.{Plan}
@@ -7,7 +8,7 @@ use Rattle.mdr_plain.specs.declared.outcome.Outcome.{Outcome}
 use Rattle.mdr_plain.specs.Outcome.{outcome_of}
 use Rattle.mdr_plain.specs.Plain.{plain}
 use Rattle.mdr_plain.specs.Report.{report}
-use Rattle.mdr_script.specs.declared.bound.Bound.{Bound}
+use Rattle.mdr_bound.specs.declared.bound.Bound.{Bound}
 use Rattle.mdr_watched.specs.Driver.{Driver, driver_of}
 use Rattle.mdr_watched.specs.Kept.{Kept, followed_of}
 use Rattle.mdr_watched.specs.Watched.{watched, watched_of}

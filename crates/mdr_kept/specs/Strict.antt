@@ -1,3 +1,4 @@
+-- for proofs
 -- A followed run that also ends where the halves could be told from one piece of code.
 use Rattle.std.specs.Prelude.{ℕ, suc, Bool, true, false, not, ◌||◌, List, [], ◌∷◌, map, Option, Some, None, is_some}
 use Rattle.mdr_core.specs.declared.place.At.{At}
@@ -20,7 +21,7 @@ use Rattle.mdr_plain.specs.Scripts.{Finish, begun, commands, first_world, idled,
 use Rattle.mdr_plain.specs.Services.{served}
 use Rattle.mdr_plain.specs.Storage.{accesses, next_serial}
 use Rattle.mdr_plain.specs.World.{World, Ran, Ended, Stopped, Work, after, done, given, then, ticked}
-use Rattle.mdr_script.specs.declared.bound.Bound.{Bound}
+use Rattle.mdr_bound.specs.declared.bound.Bound.{Bound}
 use Rattle.mdr_watched.specs.Driver.{Driver, entry_roots, is_user, touched_by}
 use Rattle.mdr_watched.specs.Kept.{due_plainly, free, meets_user, unless_due}
 use Rattle.mdr_watched.specs.Views.{gained, may_touch, opened, taken}

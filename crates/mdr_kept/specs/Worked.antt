@@ -1,3 +1,4 @@
+-- for proofs
 -- Small drivers in two halves, worked out: where their watched runs and their plain runs are told apart, and where not.
 use Rattle.std.specs.Prelude.{◌≡◌, List, true, false, [], ◌∷◌, codes, Some, None}
 use Rattle.mdr_core.specs.declared.stop.StopKind.TheVariants as stop
@@ -15,7 +16,7 @@ use Rattle.mdr_plain.specs.Plain.{plain_of}
 use Rattle.mdr_plain.specs.Scripts.{Finish}
 use Rattle.mdr_plain.specs.Worked.{Driver as Written, calls, global_named, just, named, program_of, serves, side_of}
 use Rattle.mdr_plain.specs.WorkedRuns.{setup_and_take}
-use Rattle.mdr_script.specs.declared.bound.Bound.{Bound}
+use Rattle.mdr_bound.specs.declared.bound.Bound.{Bound}
 use Rattle.mdr_watched.specs.Driver.{Driver}
 use Rattle.mdr_watched.specs.Kept.{followed_of}
 use Rattle.mdr_watched.specs.Worked.{aliases, arrays, began, cut, objects, returned, setup_then}

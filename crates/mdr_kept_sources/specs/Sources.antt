@@ -1,3 +1,4 @@
+-- for proofs
 -- Programs of sources that keep their annotations.
 use Rattle.std.specs.Prelude.{◌≡◌, ℕ, ◌≤◌, Bool, List, length}
 use Rattle.mdr_check.specs.Uses.{UseRule}
@@ -8,7 +9,7 @@ use Rattle.mdr_plain.specs.Outcome.{outcome_of}
 use Rattle.mdr_plain.specs.Plain.{plain}
 use Rattle.mdr_plain.specs.Report.{report}
 use Rattle.mdr_reports.specs.Laws.{IsSliced}
-use Rattle.mdr_script.specs.declared.bound.Bound.{Bound}
+use Rattle.mdr_bound.specs.declared.bound.Bound.{Bound}
 use Rattle.mdr_sound.specs.Sources.{IsProgramOf}
 use Rattle.mdr_sound.specs.Whole.{CallsNothingBack}
 use Rattle.mdr_watched.specs.Kept.{Kept}

@@ -1,3 +1,4 @@
+-- protocol
 -- A run's state with another memory, or another clock.
 use Rattle.std.specs.Prelude.{ℕ}
 use Rattle.mdr_meaning.specs.declared.wire.Wire.{Wire}

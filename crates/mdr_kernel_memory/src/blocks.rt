@@ -4,7 +4,7 @@ ghost use Rattle.std.specs.Prelude.{◌≡◌, IfOk, Some, map, option_map, slic
 ghost use Rattle.mdr_mem.specs.Contents.{current, wire_in};
 
 use mdr_copy::wire_of;
-use mdr_core::{Items, OutOfMemory, Value};
+use mdr_core::{Items, Limit, OutOfMemory, Value};
 use mdr_mem::{Blocks, Cells};
 use mdr_model::{MemoryBlock, Wire};
 use mdr_world::World;
@@ -49,7 +49,7 @@ fn cells_at(blocks: &Blocks, alloc: Global, place: usize) -> Result<Items<Wire>,
 {
     match blocks.cells_at(place) {
         Some(cells) => wires_now(blocks, alloc, cells),
-        None => Err(OutOfMemory),
+        None => Err(Limit::Unmet.past()),
     }
 }
 
@@ -61,7 +61,7 @@ fn block_at(blocks: &Blocks, alloc: Global, place: usize) -> Result<MemoryBlock,
             let cells = cells_at(blocks, alloc, place)?;
             Ok(MemoryBlock { born, cells })
         }
-        None => Err(OutOfMemory),
+        None => Err(Limit::Unmet.past()),
     }
 }
 

@@ -7,7 +7,7 @@ ghost use Rattle.mdr_model.specs.declared.memory.Cell.{Cell};
 ghost use Rattle.mdr_watched.specs.Views.{living};
 
 use mdr_cells::{CellName, CellSet};
-use mdr_core::{Items, OutOfMemory};
+use mdr_core::{Items, Limit, OutOfMemory};
 use mdr_model::Cell;
 use mdr_world::World;
 use std::alloc::Global;
@@ -29,7 +29,7 @@ fn cell_named(name: CellName) -> Result<Cell, OutOfMemory>
             serial: name.serial,
             index,
         }),
-        Err(_) => Err(OutOfMemory),
+        Err(_) => Err(Limit::Unmet.past()),
     }
 }
 

@@ -1,12 +1,12 @@
 // Values by their wires. A pointer's slot is where its block lies now.
 
 ghost use Rattle.std.specs.Prelude.{◌≡◌, IfOk};
-ghost use Rattle.mdr_exec.specs.Holding.{wires_of};
+ghost use Rattle.mdr_events.specs.Values.{wires_of};
 ghost use Rattle.mdr_meaning.specs.Values.{wire_of, wire_view};
 
 use mdr_copy::wire_of;
 use mdr_core::{Block, Items, OutOfMemory, Value, View};
-use mdr_exec::Memory;
+use mdr_events::Memory;
 use mdr_model::{Wire, WireView};
 use mdr_world::World;
 use std::alloc::Global;

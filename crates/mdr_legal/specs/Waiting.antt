@@ -1,3 +1,4 @@
+-- protocol
 -- Where the kernel half waits, as far as an answer is judged by it.
 use Rattle.std.specs.Prelude.{◌≡◌, ℕ, false, List, [], ◌∷◌, None}
 use Rattle.mdr_device.specs.Machines.{made}

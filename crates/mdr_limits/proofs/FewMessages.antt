@@ -21,7 +21,7 @@ use Rattle.mdr_model.proofs.Accepted.{or_none, unless_passes}
 use Rattle.mdr_plain.specs.Running.{call, interrupts}
 use Rattle.mdr_plain.specs.Scripts.{begin, begun, called_by, idled, returned, showed}
 use Rattle.mdr_plain.specs.World.{World, Ran, Ended, Stopped, Work, done, left}
-use Rattle.mdr_script.specs.declared.bound.Bound.{Bound}
+use Rattle.mdr_bound.specs.declared.bound.Bound.{Bound}
 use Rattle.mdr_split.specs.AnyAnswers.{MessagesAreFew, kernel_in}
 use Rattle.mdr_split.specs.Fits.{fits}
 use Rattle.mdr_split.specs.Kernel.{answered, answers, applied, begins, called, calls, comes_back, downcalled, ended, first_kernel, judged, next, run_from_pending, serviced, split_by, split_commands, split_run, taken, then_split}

@@ -1,3 +1,4 @@
+-- believed
 -- Trees that are alike: a relation that each node keeps.
 use Rattle.std.specs.Prelude.{ℕ, suc, ◌≤◌, List}
 use Rattle.mdr_core.specs.declared.stop.StopKind.{StopKind}

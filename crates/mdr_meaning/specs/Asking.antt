@@ -1,3 +1,4 @@
+-- believed
 -- What a call of a service asks for.
 use Rattle.std.specs.Prelude.{ℕ, List, [], ◌∷◌, Option, Some, None, unwrap_or}
 use Rattle.mdr_core.specs.declared.types.Ty.{Ty}

@@ -1,3 +1,4 @@
+-- believed
 -- The tree of a function's body, with fuel, and the sides of a program.
 use Rattle.std.specs.Prelude.{ℕ, zero, suc, Bool, true, false, List, [], Option, Some, None}
 use Rattle.std.specs.Prelude.{slice_get}

@@ -1,3 +1,4 @@
+-- believed
 -- The trees of calls (C99 6.5.2.2), and where their values go.
 use Rattle.std.specs.Prelude.{ℕ, suc, List, [], Option, Some, None, Result, Ok, Err, ◌==◌, nat_lt, slice_set}
 use Rattle.mdr_core.specs.declared.types.Ty.{Ty}

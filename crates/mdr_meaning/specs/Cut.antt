@@ -1,3 +1,4 @@
+-- believed
 -- A tree as far as a number of ticks lets it go.
 use Rattle.std.specs.Prelude.{◌≡◌, ℕ, zero, suc, ◌≤◌}
 use Rattle.mdr_core.specs.declared.place.At.{At}

@@ -1,3 +1,4 @@
+-- believed
 -- The trees of expressions and lvalues (C99 6.5), from left to right. They are made by passing on what comes next.
 use Rattle.std.specs.Prelude.{ℕ, true, false, not, List, [], ◌∷◌, Result, Ok, Err, unwrap_or, slice_get}
 use Rattle.mdr_core.specs.declared.stop.StopKind.{StopKind}

@@ -1,3 +1,4 @@
+-- believed
 -- Fair trees: what is known of the tree of a sound program's code. It names only what there is and what is known, uses values as their types allow, and comes to no stop but its own.
 use Rattle.std.specs.Prelude.{◌≡◌, ℕ, ◌≤◌, Bool, true, false, ◌||◌, ◌==◌, ◌⊎◌, List, [], ◌∷◌, ◌++◌, length, map, Some, None, slice_get, IsTrue}
 use Rattle.mdr_core.specs.declared.kind.Kind.TheVariants.{U8, U32, S32}

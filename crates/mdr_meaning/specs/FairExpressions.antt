@@ -1,3 +1,4 @@
+-- for proofs
 -- What is known of the values of a sound program's expressions and lvalues: they name nothing unknown and fit their types.
 use Rattle.mdr_core.specs.declared.place.At.{At}
 use Rattle.mdr_core.specs.declared.program.Program.{Program}

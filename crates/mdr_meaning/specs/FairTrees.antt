@@ -1,3 +1,4 @@
+-- believed
 -- The trees of a sound program's functions are fair: whatever they are answered, they name nothing unknown, pass on values that fit, and stop for code's own reasons.
 use Rattle.std.specs.Prelude.{◌≡◌, ℕ, ◌<◌, ◌≤◌, Bool, List, [], map, Some, slice_get}
 use Rattle.mdr_core.specs.declared.program.Program.{Program}

@@ -1,3 +1,4 @@
+-- for proofs
 -- Questions are few: a tick gives two, each question takes one.
 use Rattle.std.specs.Prelude.{ℕ, suc, ◌+◌, ◌≤◌, List}
 use Rattle.mdr_core.specs.declared.stop.StopKind.{StopKind}

@@ -1,3 +1,4 @@
+-- believed
 -- Values that name nothing unknown and fit their type.
 use Rattle.std.specs.Prelude.{◌≡◌, ℕ, ◌≤◌, true, List, ◌∷◌, map, Option, Some, slice_get}
 use Rattle.mdr_core.specs.declared.kind.Kind.{Kind}

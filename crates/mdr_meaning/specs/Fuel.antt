@@ -1,3 +1,4 @@
+-- believed
 -- Fuel is no matter, as far as it goes; and what a side enters is all that its trees depend on.
 use Rattle.std.specs.Prelude.{◌≡◌, ℕ, ◌<◌, Bool, false, List}
 use Rattle.mdr_core.specs.declared.program.Program.{Program}

@@ -1,3 +1,4 @@
+-- believed
 -- Objects of locals: when they are born, and when they die (C99 6.2.4, paragraphs 4 to 6).
 use Rattle.std.specs.Prelude.{ℕ, suc, Bool, true, false, not, ◌&&◌, ◌==◌, List, [], ◌∷◌, ◌++◌, slice_set}
 use Rattle.std.specs.List.{list_any}

@@ -1,3 +1,4 @@
+-- believed
 -- The type of what an lvalue names, of each element where it is an array, and of what a pointer points to (C99 6.3.2.1, 6.5.1 to 6.5.6).
 use Rattle.std.specs.Prelude.{ℕ, List, Option, Some, None, slice_get}
 use Rattle.std.specs.Option.{option_map}

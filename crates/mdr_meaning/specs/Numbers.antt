@@ -1,3 +1,4 @@
+-- believed
 -- Types by their numbers: trees name a type by its number in the type table.
 use Rattle.std.specs.Prelude.{◌≡◌, ℕ, suc, Bool, true, false, ◌&&◌, ◌==◌, List, [], ◌∷◌, Some, slice_get}
 use Rattle.mdr_core.specs.declared.types.Ty.{Ty, out-Ty}

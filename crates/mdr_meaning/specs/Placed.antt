@@ -1,3 +1,4 @@
+-- for proofs
 -- What the tree of any code names: places of its side, and crossings to functions that the side has no body of.
 use Rattle.std.specs.Prelude.{◌≡◌, ℕ, ◌<◌, ◌≤◌, true, List, Some, None}
 use Rattle.mdr_meaning.specs.declared.wire.Wire.{Wire}

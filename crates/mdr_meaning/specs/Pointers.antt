@@ -1,3 +1,4 @@
+-- believed
 -- What is done with pointers in hand, which needs no memory: a pointer says what it views.
 use Rattle.std.specs.Prelude.{ℕ, ◌+◌, ◌*◌, Bool, true, false, not, ◌&&◌, ◌||◌, ◌==◌, nat_lt, length, Option, Some, None, slice_get, Result, Ok, Err, ℤ, pos, ◌+ℤ◌, ◌-ℤ◌, neg_ℤ, int_lt, unsigned_abs}
 use Rattle.std.specs.Ordering.{int_eq}

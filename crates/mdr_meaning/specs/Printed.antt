@@ -1,3 +1,4 @@
+-- believed
 -- The text of a `printk`: its bytes, with each directive's number in its place.
 use Rattle.std.specs.Prelude.{ℕ, false, ◌==◌, List, [], ◌∷◌, ◌++◌, take, ℤ, pos, unsigned_abs}
 use Rattle.std.specs.Fmt.{decimal, digits, signed_decimal}

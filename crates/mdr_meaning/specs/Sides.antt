@@ -1,3 +1,4 @@
+-- believed
 -- Where code runs: the bodies of its side, the function that is active, its slots and what follows a statement.
 use Rattle.std.specs.Prelude.{ℕ, Bool, List, [], ◌∷◌, Option}
 use Rattle.mdr_core.specs.declared.types.Ty.{Ty}

@@ -1,3 +1,4 @@
+-- for proofs
 -- What the slots of a function hold.
 use Rattle.std.specs.Prelude.{◌≡◌, ℕ, Bool, true, false, List, Some, slice_get}
 use Rattle.mdr_core.specs.declared.types.Ty.{Ty}

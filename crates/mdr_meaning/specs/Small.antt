@@ -1,3 +1,4 @@
+-- for proofs
 -- A small run for worked examples: a tree folded over a memory that is a list of blocks, with the services that make and free objects.
 use Rattle.std.specs.Prelude.{ℕ, suc, ◌+◌, ◌==◌, ◌||◌, nat_lt, Bool, true, false, List, [], ◌∷◌, ◌++◌, length, map, Option, Some, None, Result, Ok, Err, slice_get, slice_set}
 use Rattle.mdr_core.specs.declared.place.At.{At}

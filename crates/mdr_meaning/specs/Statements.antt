@@ -1,3 +1,4 @@
+-- believed
 -- The trees of statements (C99 6.7, 6.8). Each takes a tick, a block and the end of a function none.
 use Rattle.std.specs.Prelude.{ℕ, ◌+◌, suc, Bool, true, false, List, [], ◌∷◌, Option, Some, None, slice_get, slice_set, pos}
 use Rattle.mdr_core.specs.declared.kind.Kind.{Kind}

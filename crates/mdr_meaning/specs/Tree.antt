@@ -1,3 +1,4 @@
+-- believed
 -- The meaning of a piece of code on one side: the tree of its observable steps, in which what comes next is a function of the answer.
 use Rattle.std.specs.Prelude.{ℕ, List}
 use Rattle.mdr_core.specs.declared.stop.StopKind.{StopKind}

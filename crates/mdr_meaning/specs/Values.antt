@@ -1,3 +1,4 @@
+-- believed
 -- Values as trees have them.
 use Rattle.std.specs.Prelude.{ℕ, Bool, true, false, not, List, [], ◌∷◌, ℤ, pos, negsuc, Result, Ok, Err}
 use Rattle.std.specs.Ordering.{int_eq}

@@ -1,3 +1,4 @@
+-- believed
 -- A walk: what a tree does on a memory, whatever a memory is, up to its next event.
 use Rattle.std.specs.Prelude.{◌≡◌, ℕ, zero, suc, ◌+◌, List, Result, Ok, Err}
 use Rattle.mdr_core.specs.declared.stop.StopKind.{StopKind}

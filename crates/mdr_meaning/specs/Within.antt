@@ -1,3 +1,4 @@
+-- believed
 -- Which functions code names: those whose addresses it takes, those that it may call, and those that handle interrupts.
 use Rattle.std.specs.Prelude.{◌≡◌, ℕ, Bool, true, List, [], ◌∷◌, Option, Some, None, slice_get}
 use Rattle.std.specs.Option.{option_map}

@@ -1,3 +1,4 @@
+-- for proofs
 -- Functions worked out: what the definitions make of small bodies, on a small memory.
 use Rattle.std.specs.Prelude.{◌≡◌, ℕ, zero, suc, Bool, true, false, List, [], ◌∷◌, ◌++◌, Option, Some, None, pos, codes}
 use Rattle.mdr_core.specs.declared.kind.Kind.TheVariants.{U8, S8, U32, S32}

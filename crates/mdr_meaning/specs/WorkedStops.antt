@@ -1,3 +1,4 @@
+-- for proofs
 -- Each stop that code itself comes to, at its place; and the order in which parts are evaluated, by which stop comes first.
 use Rattle.std.specs.Prelude.{◌≡◌, ℕ, true, false, List, [], ◌∷◌, Option, pos, negsuc, codes}
 use Rattle.mdr_core.specs.declared.kind.Kind.TheVariants.{U32, S32}

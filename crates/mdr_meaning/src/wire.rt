@@ -4,7 +4,7 @@ use mdr_core::{Kind, LockState};
 
 /// What a pointer names, by the serial of its block: `count` elements of type `ty` from cell `first`, and of
 /// these the one at `index`. `ty` is a number of the type table.
-#[derive(Clone, Copy, Debug, PartialEq, Eq)]
+#[derive(Clone, Copy, Debug)]
 pub struct WireView {
     pub serial: u64,
     pub first: u32,
@@ -14,7 +14,7 @@ pub struct WireView {
 }
 
 /// A value whose pointers name serials, so that it means the same in both halves.
-#[derive(Clone, Copy, Debug, PartialEq, Eq)]
+#[derive(Clone, Copy, Debug)]
 pub enum Wire {
     /// An integer, which lies in the range of its kind.
     Int(Kind, i128),

@@ -1,3 +1,4 @@
+-- believed
 -- What a memory of running code holds: the handles of its live blocks, the blocks, and the births and deaths so far.
 use Rattle.std.specs.Prelude.{ℕ, ◌≡◌, Bool, true, false, cond, ◌&&◌, ◌||◌, List, [], ◌∷◌, ◌++◌, map, length, count_by, Option, Some, None, option_map, ◌==◌, is_some}
 use Rattle.std.specs.List.{list_any}

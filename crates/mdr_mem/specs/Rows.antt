@@ -1,3 +1,4 @@
+-- protocol
 -- How the plain memory lies: handles in the order of births, and what each slot holds.
 use Rattle.std.specs.Prelude.{ℕ, ◌≡◌, ◌<◌, ◌≤◌, ◌+◌, Bool, true, false, List, [], ◌∷◌, map, length, Option, Some, None, ◌==◌, slice_index_or, slice_set}
 use Rattle.mdr_core.specs.declared.value.Block.{Block}

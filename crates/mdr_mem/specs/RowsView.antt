@@ -1,3 +1,4 @@
+-- protocol
 -- The fields of the plain memory, as what it holds.
 use Rattle.std.specs.Prelude.{vec_capacity}
 use Rattle.mdr_mem.specs.declared.rows.Rows.{Rows}

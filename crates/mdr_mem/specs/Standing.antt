@@ -1,3 +1,4 @@
+-- for proofs
 -- How the values of code stand to those of memories, whose pointers name serials alone.
 use Rattle.std.specs.Prelude.{ℕ, ◌≡◌, List, ◌∷◌, [], ◌++◌, map, IfSome}
 use Rattle.mdr_core.specs.declared.value.Block.{Block}

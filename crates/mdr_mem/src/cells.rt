@@ -5,7 +5,7 @@ use mdr_model::BirthKind;
 use std::alloc::Global;
 
 /// A birth or a death.
-#[derive(Clone, Copy, Debug, PartialEq, Eq)]
+#[derive(Clone, Copy)]
 pub enum Life {
     /// Of a block of so many cells.
     Birth { cells: u32 },

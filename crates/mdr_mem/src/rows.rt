@@ -10,13 +10,13 @@ ghost use Rattle.mdr_mem.specs.RowsView.{contents_of, AreSound};
 
 use crate::cells::Life;
 use crate::search::{forget, place_of};
-use mdr_core::{Block, Items, OutOfMemory, Shape, Value};
+use mdr_core::{Block, Items, Limit, OutOfMemory, Shape, Value};
 use mdr_model::{BirthKind, New};
 use slab::Slab;
 use std::alloc::Global;
 
 // A block in its slot.
-#[derive(Debug, Drop)]
+#[derive(Drop)]
 pub struct Held {
     pub born: New,
     pub cells: Items<Value>,
@@ -97,10 +97,10 @@ impl Rows {
         ensures more { OnOk result (self.now.births < 2 ^ 64 - 1) }
     {
         let Ok(slot) = u32::try_from(self.held.vacant_key()) else {
-            return Err(OutOfMemory);
+            return Err(Limit::Blocks.past());
         };
         if self.births == u64::MAX {
-            return Err(OutOfMemory);
+            return Err(Limit::Births.past());
         }
         Ok(Block {
             slot,

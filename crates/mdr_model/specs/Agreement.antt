@@ -1,3 +1,4 @@
+-- believed
 -- How the copy that both halves agree on goes with their memories and with the whole run's, and what messages and replies keep. It is said of every memory that code of the kernel half can leave, and of every set of visible cells.
 use Rattle.std.specs.Prelude.{◌≡◌, ℕ, suc, ◌<◌, ◌≤◌, Bool, true, false, cond, ◌&&◌, ◌||◌, List, [], ◌∷◌, Option, Some, None, length, is_some, option_map, ◌⊎◌, ◌==◌, nat_lt}
 use Rattle.std.specs.List.{list_any, list_all}

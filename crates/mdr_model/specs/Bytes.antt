@@ -1,3 +1,4 @@
+-- believed
 -- Messages as bytes: each is what it reads as.
 use Rattle.std.specs.Prelude.{ℕ, List, [], ◌∷◌}
 use Rattle.mdr_model.specs.Reading.{reading_of}

@@ -1,3 +1,4 @@
+-- believed
 -- What messages tell of memory, and the agreed copy: the blocks that both halves know, with the values that were told last.
 use Rattle.std.specs.Prelude.{ℕ, suc, Bool, cond, not, ◌&&◌, List, [], ◌∷◌, ◌++◌, map, nat_le, unwrap_or}
 use Rattle.std.specs.List.{list_any}

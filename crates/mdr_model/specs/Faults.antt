@@ -1,3 +1,4 @@
+-- believed
 -- What is wrong with a message: the first fault of its parts, in their order.
 use Rattle.std.specs.Prelude.{ℕ, Bool, true, false, List, [], ◌∷◌, length, Option, Some, None}
 use Rattle.mdr_core.specs.declared.refusal.RefuseKind.{RefuseKind}

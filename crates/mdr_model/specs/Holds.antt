@@ -1,3 +1,4 @@
+-- believed
 -- Which values a lock's cell may hold.
 use Rattle.mdr_meaning.specs.declared.wire.Wire.{Wire}
 use Rattle.mdr_meaning.specs.declared.wire.Wire.TheVariants as wire

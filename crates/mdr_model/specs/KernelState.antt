@@ -1,3 +1,4 @@
+-- believed
 -- What the kernel half gets for an answer.
 use Rattle.std.specs.Prelude.{Result}
 use Rattle.mdr_model.specs.declared.message.Fault.{Fault}

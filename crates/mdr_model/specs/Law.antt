@@ -1,3 +1,4 @@
+-- believed
 -- What a law over split runs says of messages and of ends.
 use Rattle.std.specs.Prelude.{List, [], ◌∷◌, Ok}
 use Rattle.mdr_model.specs.declared.message.Message.{Message}

@@ -1,3 +1,4 @@
+-- believed
 -- That a legal answer changes visible cells alone.
 use Rattle.std.specs.Prelude.{◌≡◌, ℕ, Bool, true, false, List, Option, Some, None}
 use Rattle.mdr_core.specs.declared.program.Program.{Program}

@@ -1,3 +1,4 @@
+-- believed
 -- A program's functions by their numbers.
 use Rattle.std.specs.Prelude.{ℕ, Option, slice_get}
 use Rattle.mdr_core.specs.declared.program.Program.{Program}

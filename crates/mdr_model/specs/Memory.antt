@@ -1,3 +1,4 @@
+-- believed
 -- A memory is the list of its live blocks (C99 6.2.4): what was born and has not died.
 use Rattle.std.specs.Prelude.{ℕ, ◌+◌, Bool, true, false, cond, List, [], ◌∷◌, map, length, Option, Some, None, Result, Ok, Err, ◌==◌, nat_lt, is_some, slice_get, slice_set}
 use Rattle.mdr_core.specs.declared.types.Ty.{Ty}

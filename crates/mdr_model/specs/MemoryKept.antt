@@ -1,3 +1,4 @@
+-- for proofs
 -- Laws of memories: what a store, a death and a birth change.
 use Rattle.std.specs.Prelude.{◌≡◌, ℕ, true, false, Some, is_some, option_map, ◌==◌}
 use Rattle.mdr_core.specs.declared.program.Program.{Program}

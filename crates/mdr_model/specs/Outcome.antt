@@ -1,3 +1,4 @@
+-- believed
 -- What a report shows of a lock.
 use Rattle.mdr_core.specs.declared.value.LockState.{LockState}
 use Rattle.mdr_core.specs.declared.value.LockState.TheVariants.{Free, Spin, Sleep}

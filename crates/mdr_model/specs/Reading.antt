@@ -1,3 +1,4 @@
+-- believed
 -- What bytes are as a message: the message that they spell, or why they are none, with the offset.
 use Rattle.std.specs.Prelude.{ℕ, cond, List, [], ◌∷◌, length, Option, Some, None, Result, Ok, Err, ◌==◌, slice_get}
 use Rattle.mdr_core.specs.declared.kind.Kind.{Kind}

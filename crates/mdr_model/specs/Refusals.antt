@@ -1,3 +1,4 @@
+-- for proofs
 -- Replies that tell of a refused message.
 use Rattle.std.specs.Prelude.{Bool, true, false}
 use Rattle.mdr_model.specs.declared.message.Message.{Message}

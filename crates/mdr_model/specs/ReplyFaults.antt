@@ -1,3 +1,4 @@
+-- believed
 -- Which messages are replies, and at which stops user code may end.
 use Rattle.std.specs.Prelude.{ℕ, Bool, not, ◌&&◌, ◌||◌, List, [], ◌∷◌, Option, Some, None, ◌==◌, is_none, find}
 use Rattle.mdr_core.specs.declared.stop.StopKind.{StopKind}

@@ -1,3 +1,4 @@
+-- believed
 -- Sets of cells: rising lists of cells, and the same as runs of cells of one block that follow one another.
 use Rattle.std.specs.Prelude.{ℕ, zero, suc, ◌+◌, Bool, true, cond, ◌&&◌, ◌||◌, List, [], ◌∷◌, ◌++◌, Option, Some, None, ◌==◌, nat_lt, nat_le}
 use Rattle.std.specs.List.{list_any}

@@ -1,3 +1,4 @@
+-- believed
 -- The one spelling of each message.
 use Rattle.std.specs.Prelude.{ℕ, List, [], ◌++◌}
 use Rattle.mdr_core.specs.declared.place.At.{At}

@@ -1,3 +1,4 @@
+-- believed
 -- Which births and deaths the user half accepts, and what messages grant it.
 use Rattle.std.specs.Prelude.{ℕ, ◌+◌, Bool, true, not, ◌&&◌, List, [], ◌∷◌, map, length, Option, Some, None, Ok, Err, nat_lt, nat_le, is_none}
 use Rattle.std.specs.List.{list_all}

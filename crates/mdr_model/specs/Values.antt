@@ -1,3 +1,4 @@
+-- believed
 -- Values: the types of a table, which values are the same, and the values of events.
 use Rattle.std.specs.Prelude.{ℕ, Bool, true, false, ◌&&◌, Option, ◌==◌, slice_get}
 use Rattle.std.specs.Ordering.{int_eq}

@@ -1,3 +1,4 @@
+-- for proofs
 -- Messages worked out to the byte.
 use Rattle.std.specs.Prelude.{◌≡◌, ℕ, List, [], ◌∷◌, ◌++◌, map, pos}
 use Rattle.mdr_core.specs.declared.kind.Kind.TheVariants.{U32}

@@ -1,3 +1,4 @@
+-- for proofs
 -- Messages worked out by hand: blocks that are born and die, that point to each other, and that are told in another order than they were born in.
 use Rattle.std.specs.Prelude.{◌≡◌, ℕ, true, List, [], ◌∷◌, codes, pos}
 use Rattle.mdr_core.specs.declared.kind.Kind.TheVariants.{U32}

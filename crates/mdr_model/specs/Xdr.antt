@@ -1,3 +1,4 @@
+-- believed
 -- XDR items (RFC 4506): how numbers, opaque bytes and lists are spelled, and what is read where bytes begin with them.
 use Rattle.std.specs.Prelude.{ℕ, zero, suc, ◌+◌, ◌-◌, ◌%◌, cond, not, List, [], ◌∷◌, ◌++◌, length, take, drop, replicate, flat_map, Option, Some, None, Result, Ok, Err, ℤ, pos, nat_lt, ◌==◌, position}
 use Rattle.std.specs.Int.{Width, w32, w64, byte_len, to_be_bytes, from_be_bytes, cast_unsigned, cast_signed}

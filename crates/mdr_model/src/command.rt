@@ -3,7 +3,7 @@
 use mdr_core::{Items, Value};
 
 /// A command. Functions and globals are named by their numbers; in its values no slot is meant.
-#[derive(Debug, Drop)]
+#[derive(Drop)]
 pub enum Command {
     /// Calls a function with arguments.
     Call(u32, Items<Value>),

@@ -4,7 +4,7 @@ use mdr_core::{At, Items, RefuseKind};
 use mdr_meaning::{Shape64, Wire};
 
 /// How a block was born.
-#[derive(Clone, Copy, Debug, PartialEq, Eq)]
+#[derive(Clone, Copy, Debug)]
 pub enum BirthKind {
     /// A global.
     Static,
@@ -15,7 +15,7 @@ pub enum BirthKind {
 }
 
 /// A block that the other half is told of for the first time: `count` elements of a type of the table.
-#[derive(Clone, Copy, Debug, PartialEq, Eq)]
+#[derive(Clone, Copy, Debug)]
 pub struct New {
     pub serial: u64,
     pub kind: BirthKind,
@@ -32,7 +32,7 @@ pub struct Run {
 }
 
 /// Cells of one block that follow one another.
-#[derive(Clone, Copy, Debug, PartialEq, Eq)]
+#[derive(Clone, Copy, Debug)]
 pub struct SetRun {
     pub serial: u64,
     pub first: u32,
@@ -112,7 +112,7 @@ pub enum Message {
 }
 
 /// Why bytes are no message, or a message no legal reply: the cause, and its offset or position.
-#[derive(Clone, Copy, Debug, PartialEq, Eq)]
+#[derive(Clone, Copy)]
 pub struct Fault {
     pub kind: RefuseKind,
     pub number: u64,

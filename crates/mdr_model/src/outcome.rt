@@ -3,7 +3,7 @@
 use mdr_core::{At, Items, Name, RefuseKind, StopKind, Value};
 
 /// An event of a run. In its values no slot is meant.
-#[derive(Debug, Drop)]
+#[derive(Drop)]
 pub enum Happened {
     /// A command called a function.
     Call(Name, Items<Value>),
@@ -14,7 +14,7 @@ pub enum Happened {
 }
 
 /// How a run ended.
-#[derive(Clone, Copy, Debug, PartialEq, Eq)]
+#[derive(Clone, Copy)]
 pub enum End {
     /// The script was done.
     Ok,
@@ -27,7 +27,7 @@ pub enum End {
 }
 
 /// The value of a cell as a report shows it. Objects are named by their numbers in the report, from 1.
-#[derive(Clone, Copy, Debug, PartialEq, Eq)]
+#[derive(Clone, Copy)]
 pub enum Seen {
     Int(i128),
     Null,
@@ -40,7 +40,7 @@ pub enum Seen {
 }
 
 /// An object as a report shows it: `count` elements of a type of the table, and their cells.
-#[derive(Debug, Drop)]
+#[derive(Drop)]
 pub struct Object {
     pub ty: u32,
     pub count: u32,

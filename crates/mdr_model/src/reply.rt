@@ -5,7 +5,7 @@ use mdr_core::{At, Items};
 use mdr_meaning::{Shape64, Wire};
 
 /// What the kernel half awaits. Its fields are those of the message of the same name.
-#[derive(Debug, Drop)]
+#[derive(Drop)]
 pub enum Reply {
     /// The upcall's function returned.
     Return {

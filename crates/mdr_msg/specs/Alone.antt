@@ -1,3 +1,4 @@
+-- for proofs
 -- No message's bytes begin another's: with their end cut off, or with bytes added, they are no message.
 use Rattle.std.specs.Prelude.{◌≡◌, ℕ, List, [], ◌++◌, Ok}
 use Rattle.mdr_model.specs.declared.message.Message.{Message}

@@ -1,3 +1,4 @@
+-- protocol
 -- What a reader of messages answers.
 use Rattle.std.specs.Prelude.{◌≡◌, ℕ, List, Result, Ok, Err}
 use Rattle.mdr_core.specs.declared.refusal.RefuseKind.TheVariants as refusal

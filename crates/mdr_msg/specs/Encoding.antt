@@ -1,3 +1,4 @@
+-- protocol
 -- Which messages are written.
 use Rattle.std.specs.Prelude.{◌<◌, ◌^◌, List, length, IsTrue}
 use Rattle.std.specs.List.{AllByRecursion}

@@ -1,3 +1,4 @@
+-- believed
 -- Messages that have spellings.
 use Rattle.std.specs.Prelude.{List}
 use Rattle.std.specs.List.{AllByRecursion}

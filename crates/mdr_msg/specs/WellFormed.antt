@@ -1,3 +1,4 @@
+-- believed
 -- Which messages have a spelling: each number fits its bytes, and no value is a lock.
 use Rattle.std.specs.Prelude.{◌<◌, ◌^◌, ℕ, List, length, IsTrue}
 use Rattle.std.specs.List.{AllByRecursion}

@@ -10,7 +10,7 @@ use crate::encodable::can_encode;
 use crate::error::MsgError;
 use crate::reading::decode;
 use crate::writing::encode;
-use mdr_core::{OutOfMemory, RefuseKind};
+use mdr_core::{Limit, OutOfMemory, RefuseKind};
 use mdr_model::{Fault, Message};
 use std::alloc::Global;
 
@@ -31,7 +31,7 @@ pub fn reading_of(alloc: Global, bytes: &[u8]) -> Result<Result<Message, Fault>,
         Err(MsgError::Padding(at)) => Ok(misread(RefuseKind::Padding, at)),
         Err(MsgError::Kind(at)) => Ok(misread(RefuseKind::Kind, at)),
         Err(MsgError::Trailing(at)) => Ok(misread(RefuseKind::Trailing, at)),
-        Err(MsgError::OutOfMemory) => Err(OutOfMemory),
+        Err(MsgError::OutOfMemory) => Err(OutOfMemory::passed_on()),
     }
 }
 
@@ -44,6 +44,6 @@ pub fn spelled(alloc: Global, message: &Message) -> Result<Vec<u8>, OutOfMemory>
     if can_encode(message) {
         encode(alloc, message)
     } else {
-        Err(OutOfMemory)
+        Err(Limit::Items.past())
     }
 }

@@ -28,7 +28,7 @@ use Rattle.mdr_outside.specs.Calls.{FarCall, Sends, and_then}
 use Rattle.mdr_outside.specs.declared.far.Exchange.{Exchange}
 use Rattle.mdr_outside.specs.Far.{exchange}
 use Rattle.mdr_plain.specs.Scripts.{first_world}
-use Rattle.mdr_script.specs.declared.bound.Bound.{Bound}
+use Rattle.mdr_bound.specs.declared.bound.Bound.{Bound}
 use Rattle.mdr_split.specs.Kernel.{SplitRun, beginning, first_kernel, next, run_from_pending, split_commands}
 use Rattle.mdr_split.specs.State.{Kernel, Noted, Pending, Over, Waits}
 use Rattle.mdr_turns.specs.declared.state.Pending.{Pending as CodePending}

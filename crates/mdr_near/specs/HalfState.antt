@@ -1,3 +1,4 @@
+-- protocol
 -- What a kernel half holds.
 use Rattle.std.specs.Prelude.{◌≡◌, ℕ, ◌+◌, Bool, List, length}
 use Rattle.mdr_core.specs.declared.plan.Plan.{Plan}
@@ -5,7 +6,7 @@ use Rattle.mdr_core.specs.declared.program.Program.{Program}
 use Rattle.mdr_exchanges.specs.Runs.{answers_of, run_over}
 use Rattle.mdr_model.specs.Memory.{Memory}
 use Rattle.mdr_outside.specs.declared.far.Exchange.{Exchange}
-use Rattle.mdr_script.specs.declared.bound.Bound.{Bound}
+use Rattle.mdr_bound.specs.declared.bound.Bound.{Bound}
 use Rattle.mdr_split.specs.AnyAnswers.{kernel_in}
 use Rattle.mdr_watched.specs.Driver.{Driver, driver_of}
 

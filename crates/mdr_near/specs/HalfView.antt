@@ -1,3 +1,4 @@
+-- protocol
 -- The fields of a kernel half, as its state.
 use Rattle.std.specs.Prelude.{◌≡◌, true, [], length}
 use Rattle.mdr_core.specs.Sound.{IsSound}

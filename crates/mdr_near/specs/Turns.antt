@@ -1,3 +1,4 @@
+-- protocol
 -- What comes of a message that a run sends.
 use Rattle.std.specs.Prelude.{◌≡◌, ℕ, List, [], ◌∷◌, ◌++◌, drop, Option, Some, None}
 use Rattle.mdr_model.specs.declared.command.Command.{Command}

@@ -11,17 +11,17 @@ ghost use Rattle.mdr_outside.specs.Count.{Rose};
 ghost use Rattle.mdr_outside.specs.Far.{IsLoaded};
 
 use crate::whole::run_whole;
-use mdr_core::{OutOfMemory, Plan, Program};
+use mdr_bound::Bound;
+use mdr_core::{Limit, OutOfMemory, Plan, Program};
 use mdr_model::MemoryBlock;
 use mdr_outside::Far;
 use mdr_plain::Outcome;
-use mdr_script::Bound;
 use mdr_watch::{Watch, is_fit};
 use std::alloc::Global;
 use std::marker::Model;
 
 /// The kernel half of a driver, for one run. It borrows the program and the plan.
-#[derive(Debug, Drop)]
+#[derive(Drop)]
 pub struct KernelHalf<'a> {
     program: &'a Program,
     plan: &'a Plan,
@@ -60,7 +60,7 @@ impl<'a> KernelHalf<'a> {
         ensures { IfOk result (λ h. h ≡ record { program = program.now; plan = plan.now; is_fresh = true; memory = []; messages = 0 }) }
     {
         if !is_fit(Watch { program, plan }) {
-            return Err(OutOfMemory);
+            return Err(Limit::Unmet.past());
         }
         Ok(KernelHalf {
             program,

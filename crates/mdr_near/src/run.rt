@@ -11,11 +11,11 @@ ghost use Rattle.mdr_outside.specs.Far.{IsLoaded};
 ghost use Rattle.mdr_watch.specs.Watching.{IsFit, driver_in};
 
 use crate::turn::{Turn, first, turned};
+use mdr_bound::Bound;
 use mdr_copy::copied;
-use mdr_core::OutOfMemory;
+use mdr_core::{Limit, OutOfMemory};
 use mdr_model::{End, MemoryBlock};
 use mdr_outside::Far;
-use mdr_script::Bound;
 use mdr_turns::Pending;
 use mdr_watch::Watch;
 use mdr_world::World;
@@ -88,5 +88,5 @@ pub(crate) fn run_script<'a, F: Far>(
         }
     }
     drop(pending);
-    Err(OutOfMemory)
+    Err(Limit::Turns.past())
 }

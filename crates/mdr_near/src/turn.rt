@@ -16,10 +16,10 @@ ghost use Rattle.mdr_turns.specs.States.{StandsFor, begun_of, kernel_of, open_of
 ghost use Rattle.mdr_watch.specs.Watching.{IsFit, driver_in};
 
 use crate::send::send;
+use mdr_bound::Bound;
 use mdr_core::OutOfMemory;
 use mdr_model::{Fault, Message};
 use mdr_outside::Far;
-use mdr_script::Bound;
 use mdr_turns::{Pending, Waiting, begun, next, unanswered};
 use mdr_watch::Watch;
 use mdr_world::World;

@@ -13,12 +13,12 @@ ghost use Rattle.mdr_split.specs.AnyAnswers.{kernel_in};
 ghost use Rattle.mdr_watch.specs.Watching.{IsFit, driver_in};
 
 use crate::run::{Ended, run_script};
+use mdr_bound::Bound;
 use mdr_core::OutOfMemory;
 use mdr_kernel_memory::snapshot;
 use mdr_model::{End, MemoryBlock};
 use mdr_outside::Far;
 use mdr_plain::Outcome;
-use mdr_script::Bound;
 use mdr_shown::outcome;
 use mdr_watch::Watch;
 use mdr_world::World;

@@ -1,3 +1,4 @@
+-- believed
 -- Which values become values of other types: as if by assignment (C99 6.3.2.3, 6.5.16.1), and by a cast (6.5.4).
 use Rattle.std.specs.Prelude.{ℕ, List, Option, Some, None}
 use Rattle.mdr_core.specs.declared.code.Expr.{Expr}

@@ -1,3 +1,4 @@
+-- believed
 -- Expressions: the rule of each form, over its parts (C99 6.3, 6.5).
 use Rattle.std.specs.Prelude.{ℕ, ◌==◌, nat_lt, Bool, true, false, pos, length, Option, Some, None}
 use Rattle.mdr_core.specs.declared.code.Expr.{Expr}

@@ -1,3 +1,4 @@
+-- believed
 -- Names inside a function (C99 6.2.1).
 use Rattle.std.specs.Prelude.{ℕ, List, [], ◌∷◌, Option, Some, None}
 use Rattle.std.specs.Str.{bytes_eq}

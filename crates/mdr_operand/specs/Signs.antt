@@ -1,3 +1,4 @@
+-- believed
 -- Which operator a punctuation is (C99 6.4.6).
 use Rattle.std.specs.Prelude.{ℕ, List, Option, Some, None, codes}
 use Rattle.std.specs.Str.{bytes_eq}

@@ -1,3 +1,4 @@
+-- believed
 -- The forms and statements of a source as plain data: what the rules speak of (C99 6.5, 6.8). Each has its place.
 use Rattle.std.specs.Prelude.{ℕ, Bool, List, [], ◌∷◌, map, Option, Some, None}
 use Rattle.std.specs.Option.{option_map}

@@ -1,3 +1,4 @@
+-- believed
 -- The calls that were made of what lies outside, in their order.
 use Rattle.std.specs.Prelude.{ℕ, List, [], ◌∷◌, ◌++◌}
 use Rattle.mdr_outside.specs.declared.shelf.ReadAnswer.{ReadAnswer}

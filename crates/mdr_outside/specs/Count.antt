@@ -1,3 +1,4 @@
+-- believed
 -- Counts of answers, and calls that are numbered from 1.
 use Rattle.std.specs.Prelude.{ℕ, ◌+◌, ◌-◌, ◌^◌, ◌≤◌, ◌==◌, min, Bool, List}
 use Rattle.std.specs.List.{list_any}

@@ -1,3 +1,4 @@
+-- believed
 -- What the far side holds after its answers.
 use Rattle.std.specs.Prelude.{ℕ, ◌≡◌, ◌⊎◌, List, [], ◌∷◌, ◌++◌, Option, None, Some, IsSomeAnd}
 use Rattle.mdr_outside.specs.declared.far.LoadAnswer.{LoadAnswer}

@@ -1,3 +1,4 @@
+-- protocol
 -- A far side that gives the answers that it was told to give.
 use Rattle.std.specs.Prelude.{ℕ, ◌≡◌, ◌⊎◌, List, [], ◌∷◌, ◌++◌, Option, None, Some, unwrap_or, slice_get}
 use Rattle.mdr_outside.specs.Calls.{FarCall, Sends, and_then}

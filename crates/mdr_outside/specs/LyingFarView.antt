@@ -1,3 +1,4 @@
+-- protocol
 -- The fields of a lying far side, as its state.
 use Rattle.mdr_outside.specs.LyingFar.{FarState}
 use Rattle.mdr_outside.specs.declared.lying_far.LyingFar.TheInside.{Inside}

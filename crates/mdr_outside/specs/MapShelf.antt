@@ -1,3 +1,4 @@
+-- protocol
 -- A shelf in memory: its files with their names, the calls that fail, and its counts.
 use Rattle.std.specs.Prelude.{ℕ, ◌≤◌, Bool, true, not, ◌&&◌, List, [], ◌∷◌, map, find, length, nat_lt, Option, None, Some, option_map, if◌then◌else◌, String, Vec}
 use Rattle.std.specs.List.{list_any}

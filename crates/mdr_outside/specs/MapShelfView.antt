@@ -1,3 +1,4 @@
+-- protocol
 -- The fields of a shelf in memory, as its state.
 use Rattle.mdr_outside.specs.MapShelf.{ShelfState, named}
 use Rattle.mdr_outside.specs.declared.map_shelf.MapShelf.TheInside.{Inside}

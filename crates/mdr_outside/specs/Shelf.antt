@@ -1,3 +1,4 @@
+-- believed
 -- What a shelf's answers say of its files, which are a function of the name.
 use Rattle.std.specs.Prelude.{ℕ, ◌≡◌, ◌≢◌, ◌≤◌, ◌<◌, List, length, Option, None, Some, IfSome, IsSomeAnd}
 use Rattle.mdr_outside.specs.Count.{raised}

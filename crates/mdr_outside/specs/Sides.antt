@@ -1,3 +1,4 @@
+-- believed
 -- What contracts see of a shelf, a sink and a far side, each as one record.
 use Rattle.std.specs.Prelude.{ℕ, List, Option}
 use Rattle.mdr_outside.specs.Calls.{ShelfCall, FarCall}

@@ -1,3 +1,4 @@
+-- believed
 -- What a sink's answers say of the bytes that it holds.
 use Rattle.std.specs.Prelude.{ℕ, ◌≡◌, ◌≤◌, ◌<◌, List, ◌++◌, length, take, Option, option_map}
 use Rattle.std.specs.Io.KnownBytes.{Keeps, Appends as KnownAppends}

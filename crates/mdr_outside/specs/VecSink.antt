@@ -1,3 +1,4 @@
+-- protocol
 -- A sink in memory: its bytes, its limits, the calls that fail, its count, and its calls.
 use Rattle.std.specs.Prelude.{ℕ, ◌-◌, ◌==◌, ◌&&◌, ◌||◌, not, min, List, [], ◌++◌, length, take, if◌then◌else◌}
 use Rattle.mdr_outside.specs.Calls.{and_then}

@@ -1,3 +1,4 @@
+-- protocol
 -- The fields of a sink in memory, as its state.
 use Rattle.std.specs.Prelude.{◌≤◌, ◌<◌, length}
 use Rattle.std.specs.Vec.{vec_capacity}

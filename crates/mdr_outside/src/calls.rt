@@ -6,7 +6,7 @@ ghost use Rattle.mdr_outside.specs.Count.{raised, is_failing};
 use mdr_core::Items;
 
 /// How many calls were made, and the numbers, from 1, of those that fail.
-#[derive(Debug, Drop)]
+#[derive(Drop)]
 pub(crate) struct Calls {
     pub(crate) fails: Items<u64>,
     pub(crate) made: u64,

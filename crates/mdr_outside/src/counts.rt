@@ -9,7 +9,7 @@ ghost use Rattle.mdr_outside.specs.Shelf.{counts_after_read, counts_after_write,
 use crate::shelf::{ReadAnswer, WriteAnswer};
 
 /// How often reads failed, missed, and were too long, and how often writes failed.
-#[derive(Debug, Drop)]
+#[derive(Drop)]
 pub(crate) struct Counts {
     pub(crate) faults: u64,
     pub(crate) absent: u64,

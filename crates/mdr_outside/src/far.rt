@@ -16,7 +16,7 @@ pub enum LoadAnswer {
 }
 
 /// What the far side answers to a message.
-#[derive(Debug, Drop)]
+#[derive(Drop)]
 pub enum DeliverAnswer {
     /// The reply.
     Ok(Items<u8>),
@@ -26,7 +26,7 @@ pub enum DeliverAnswer {
 }
 
 /// A load: the two texts, and the answer.
-#[derive(Debug, Drop)]
+#[derive(Drop)]
 pub struct Loaded {
     pub user: Items<u8>,
     pub plan: Items<u8>,
@@ -34,7 +34,7 @@ pub struct Loaded {
 }
 
 /// A message that was sent, and the reply where there was one.
-#[derive(Debug, Drop)]
+#[derive(Drop)]
 pub struct Exchange {
     pub sent: Items<u8>,
     pub got: Option<Items<u8>>,

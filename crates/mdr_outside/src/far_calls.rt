@@ -4,8 +4,6 @@ ghost use Rattle.std.specs.Prelude.{◌≡◌, []};
 ghost use Rattle.mdr_outside.specs.Calls.{Loads, Sends, and_then};
 
 use logbook::{Gain, Offer, Plain, Rule, Seen, Start};
-use std::fmt;
-use std::fmt::Write;
 use std::marker::Model;
 
 /// The type of the list; no value of it is made.
@@ -117,11 +115,5 @@ impl FarCalls {
         FarCalls {
             offer: seen.plain::<Still, (&FarCalls, &[u8]), Still>(&(self, message)),
         }
-    }
-}
-
-impl fmt::Debug for FarCalls {
-    fn fmt<W: Write>(&self, f: &mut fmt::Formatter<W>) -> fmt::Result {
-        f.write_str("FarCalls")
     }
 }

@@ -3,8 +3,6 @@
 ghost use Rattle.std.specs.Prelude.{◌≡◌, []};
 
 use logbook::{Gain, Offer, Plain, Rule, Seen, Start};
-use std::fmt;
-use std::fmt::Write;
 use std::marker::{Model, PhantomData};
 
 /// The type of a list; no value of it is made.
@@ -83,11 +81,5 @@ impl<T> History<T> {
         History {
             offer: seen.plain::<Still, (), Still>(&()),
         }
-    }
-}
-
-impl<T> fmt::Debug for History<T> {
-    fn fmt<W: Write>(&self, f: &mut fmt::Formatter<W>) -> fmt::Result {
-        f.write_str("History")
     }
 }

@@ -13,7 +13,7 @@ use std::marker::Model;
 
 /// Each load gets one answer, and the messages get the replies in turn. When these are used up each message
 /// fails.
-#[derive(Debug, Drop)]
+#[derive(Drop)]
 pub struct LyingFar {
     load: LoadAnswer,
     replies: Items<DeliverAnswer>,

@@ -15,7 +15,7 @@ use std::alloc::{AllocError, Global};
 use std::marker::Model;
 
 /// Files in memory. Reads and writes are counted together from 1, and those of the given numbers fail.
-#[derive(Debug, Drop)]
+#[derive(Drop)]
 pub struct MapShelf {
     files: Vec<(String, Vec<u8>)>,
     calls: Calls,

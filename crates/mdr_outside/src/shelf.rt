@@ -4,7 +4,7 @@ use mdr_core::Items;
 use std::alloc::Global;
 
 /// What a shelf answers to a read.
-#[derive(Debug, Drop)]
+#[derive(Drop)]
 pub enum ReadAnswer {
     /// The bytes of the file.
     Ok(Items<u8>),
@@ -18,7 +18,7 @@ pub enum ReadAnswer {
 }
 
 /// What a shelf answers to a write.
-#[derive(Clone, Copy, Debug, PartialEq, Eq)]
+#[derive(Clone, Copy, Debug)]
 pub enum WriteAnswer {
     /// The file is the bytes.
     Ok,

@@ -5,8 +5,6 @@ ghost use Rattle.mdr_outside.specs.Calls.{Read, Written, and_then};
 
 use crate::shelf::{ReadAnswer, WriteAnswer};
 use logbook::{Gain, Offer, Plain, Rule, Seen, Start};
-use std::fmt;
-use std::fmt::Write;
 use std::marker::Model;
 
 /// The type of the list; no value of it is made.
@@ -121,11 +119,5 @@ impl ShelfCalls {
                 self, name, bytes, answer,
             )),
         }
-    }
-}
-
-impl fmt::Debug for ShelfCalls {
-    fn fmt<W: Write>(&self, f: &mut fmt::Formatter<W>) -> fmt::Result {
-        f.write_str("ShelfCalls")
     }
 }

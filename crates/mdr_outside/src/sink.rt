@@ -12,7 +12,7 @@ pub enum SinkAnswer {
 }
 
 /// A write: the piece, and the answer.
-#[derive(Debug, Drop)]
+#[derive(Drop)]
 pub struct SinkCall {
     pub piece: Items<u8>,
     pub answer: SinkAnswer,

@@ -11,7 +11,7 @@ use std::alloc::Global;
 use std::marker::Model;
 
 /// Bytes in memory. Writes are counted from 1, and those of the given numbers fail.
-#[derive(Debug, Drop)]
+#[derive(Drop)]
 pub struct VecSink {
     bytes: Vec<u8>,
     room: usize,
@@ -45,9 +45,7 @@ impl VecSink {
         requires { 0 < take }
         ensures { IfOk result (λ sink. sink ≡ new_sink room take fails.items) }
     {
-        let Ok(bytes) = Vec::with_capacity(alloc, room) else {
-            return Err(OutOfMemory);
-        };
+        let bytes = Vec::with_capacity(alloc, room)?;
         Ok(VecSink {
             bytes,
             room,

@@ -10,7 +10,7 @@ use Rattle.mdr_msg.proofs.Messages.{reading_again}
 use Rattle.mdr_msg.specs.OverBytes.{HaveSpellings}
 use Rattle.mdr_msg.specs.WellFormed.{IsMessage}
 use Rattle.mdr_over_bytes.specs.OverBytes.{IsHonestOverBytes, IsOneMemoryOverBytes, SplitOverBytesIsOneMemory, split_run_over_bytes, user_reply_to_bytes}
-use Rattle.mdr_script.specs.declared.bound.Bound.{Bound}
+use Rattle.mdr_bound.specs.declared.bound.Bound.{Bound}
 use Rattle.mdr_serves.proofs.LawProof.{split_is_one_memory}
 use Rattle.mdr_split.specs.Kernel.{SplitRun, first_kernel, next, run_from_pending, split_commands, split_run}
 use Rattle.mdr_split.specs.Law.{IsHonest, IsOneMemory}

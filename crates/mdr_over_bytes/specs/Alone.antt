@@ -1,3 +1,4 @@
+-- for proofs
 -- No legal reply's bytes begin another's.
 use Rattle.std.specs.Prelude.{◌≡◌, ℕ, List, [], ◌++◌}
 use Rattle.mdr_model.specs.Reading.{reading_of}

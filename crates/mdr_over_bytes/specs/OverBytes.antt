@@ -1,3 +1,4 @@
+-- believed
 -- The law over bytes: a split run whose messages and answers are bytes, with an honest far side, is the watched run on one memory.
 use Rattle.std.specs.Prelude.{◌≡◌, ℕ, List, [], ◌∷◌, ◌++◌, map}
 use Rattle.mdr_core.specs.declared.plan.Plan.{Plan}
@@ -12,7 +13,7 @@ use Rattle.mdr_model.specs.Reading.{reading_of}
 use Rattle.mdr_model.specs.Text.{text}
 use Rattle.mdr_msg.specs.OverBytes.{HaveSpellings}
 use Rattle.mdr_msg.specs.WellFormed.{IsMessage}
-use Rattle.mdr_script.specs.declared.bound.Bound.{Bound}
+use Rattle.mdr_bound.specs.declared.bound.Bound.{Bound}
 use Rattle.mdr_split.specs.Kernel.{SplitRun, split_run}
 use Rattle.mdr_split.specs.Law.{HaveBodies, IsHonest, IsPlanOf, IsWatched}
 use Rattle.mdr_split.specs.State.{Kernel, Over}

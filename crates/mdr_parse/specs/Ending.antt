@@ -1,3 +1,4 @@
+-- protocol
 -- What reading a whole list of tokens ends in.
 use Rattle.std.specs.Prelude.{ℕ, suc, ◌≡◌, List, [], ◌∷◌, length, Result, Ok, Err}
 use Rattle.mdr_syntax.specs.declared.tree.Item.{Item}

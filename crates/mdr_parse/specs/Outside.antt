@@ -1,3 +1,4 @@
+-- protocol
 -- What stands behind the first tokens of items.
 use Rattle.std.specs.Prelude.{ℕ, Bool, true, List, [], Option, Some, None}
 use Rattle.mdr_core.specs.declared.place.Place.{Place}

@@ -1,3 +1,4 @@
+-- believed
 -- What is said of tokens: their tree, or the first of them that can't stand where it does.
 use Rattle.std.specs.Prelude.{ℕ, ◌≡◌, Bool, false, List, [], ◌∷◌, Option, Some, None, Result, Ok, Err, codes, slice_get, if◌then◌else◌}
 use Rattle.std.specs.List.{list_any}

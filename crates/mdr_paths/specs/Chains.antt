@@ -1,3 +1,4 @@
+-- believed
 -- What a list of steps leads to, whatever the nodes and the steps are.
 use Rattle.std.specs.Prelude.{◌≡◌, ◌↔◌, ℕ, ◌<◌, true, List, [], length, get_or}
 use Rattle.mdr_paths.specs.Paths.{is_in}

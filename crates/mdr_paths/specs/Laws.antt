@@ -1,3 +1,4 @@
+-- for proofs
 -- Laws of reachability at a kind of node, for a contract.
 use Rattle.std.specs.Prelude.{◌≡◌, ℕ, Bool, true, List, [], ◌∷◌, ◌++◌, ◌↔◌, Ok, Err}
 use Rattle.mdr_paths.specs.Numbers.{graph, number_graph, IsTable}

@@ -1,3 +1,4 @@
+-- protocol
 -- Entering nodes into marks and a worklist.
 use Rattle.std.specs.Prelude.{◌≡◌, ◌↔◌, ◌⊎◌, ℕ, ◌<◌, Bool, true, cond, not, ◌&&◌, nat_lt, List, [], ◌∷◌, ◌++◌, length, set}
 use Rattle.std.specs.List.{sum_by}

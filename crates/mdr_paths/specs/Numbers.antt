@@ -1,3 +1,4 @@
+-- believed
 -- Nodes that are natural numbers, and the graph of a table of edges.
 use Rattle.std.specs.Prelude.{◌≡◌, ℕ, ◌<◌, Bool, true, false, ◌&&◌, eqb, List, [], length, get_or, ◌↔◌}
 use Rattle.std.specs.List.{range_with_len, filter}

@@ -1,3 +1,4 @@
+-- protocol
 -- A table's edges turned round, and nodes that lead to each other.
 use Rattle.std.specs.Prelude.{◌≡◌, ◌↔◌, ℕ, ◌<◌, true, List, [], ◌∷◌, ◌++◌, length, get_or, set}
 use Rattle.mdr_paths.specs.Paths.{is_in, Path}

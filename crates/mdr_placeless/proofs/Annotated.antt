@@ -10,7 +10,7 @@ use Rattle.mdr_faults.specs.declared.scope.Entity.{Entity}
 use Rattle.mdr_faults.specs.declared.scope.Named.{Named}
 use Rattle.mdr_faults.specs.declared.scope.Scope.{Scope}
 use Rattle.mdr_headings.specs.Annotations.{annotated, array_length, array_on, as_length, bare, candidate, candidate_by, entity_constant, entity_global, field_named, field_suits, has_sibling, length_named, no_length, or_constant, or_global, or_sibling, sentinel_among, sentinel_at, sentinel_of, sentinel_on, sibling_named, suits_if, target_by}
-use Rattle.mdr_headings.specs.Names.{short_params}
+use Rattle.mdr_headings.specs.Names.{good_params}
 use Rattle.mdr_headings.specs.Within.{Inner, inner, inner_among, inner_by, inner_layer, inner_list, inner_siblings, names_around, own_annotation, within}
 use Rattle.mdr_placeless.proofs.Combined.{after_alike, both_alike, chosen_alike, next_alike}
 use Rattle.mdr_placeless.proofs.Constants.{AreConsts, AreTexts}
@@ -36,7 +36,7 @@ use Rattle.mdr_core.specs.declared.types.Ty.{Ty, out-Ty}
 use Rattle.mdr_faults.specs.declared.scope.Entity.TheVariants as entity
 use Rattle.mdr_headings.proofs.Inners.{decl_is}
 use Rattle.mdr_placeless.proofs.Constants.AreConsts.{Numbers, Worded}
-use Rattle.mdr_placeless.proofs.Verdicts.{short_params_both}
+use Rattle.mdr_placeless.proofs.Verdicts.{good_params_both}
 use Rattle.mdr_roundtrip.proofs.Unplacing.{decl_made}
 use Rattle.mdr_syntax.specs.declared.tree.Decl.TheFolds.{ind-Decl, map-Decl, fold-roll-Decl}
 use Rattle.mdr_syntax.specs.declared.tree.Decl.{Decl, out-Decl, roll-Decl}
@@ -223,10 +223,10 @@ module _ {s t : Scope} (a : AreScopes s t) where
 pub record AreWhole (d e : Decl) : Type 0 where
   pub decl : AreDecls d e
   pub inside : (s t : Scope) → AreScopes s t → (around : List Candidate) → AreAlike (within s around d) (within t around e)
-  pub short : AreAlike (short_params d) (short_params e)
+  pub short : AreAlike (good_params d) (good_params e)
 
 pub wholes : (d : Decl) → AreWhole d (unplaced_decl d)
-wholes d = record { decl = decls d; inside = λ s t a around. withins a around d; short = short_params_both d }
+wholes d = record { decl = decls d; inside = λ s t a around. withins a around d; short = good_params_both d }
 
 pub decls_of : {ds es : List Decl} → Pairs AreWhole ds es → Pairs AreDecls ds es
 decls_of Nil = Nil

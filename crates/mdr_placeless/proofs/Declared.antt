@@ -4,12 +4,12 @@ use Rattle.mdr_core.specs.declared.place.Place.{Place}
 use Rattle.mdr_core.specs.declared.types.Ty.TheOpen.{Ty-F}
 use Rattle.mdr_faults.specs.Declarations.{Declarator, cells_by, cells_of, count_of, declarator, element_count, is_same_name, object_declared, object_of, parameter_among, parameter_list, sized, struct_cells}
 use Rattle.mdr_faults.specs.Faults.{Checked}
-use Rattle.mdr_faults.specs.declared.fault.FaultKind.TheVariants.{Limit, Redefined}
+use Rattle.mdr_faults.specs.declared.fault.FaultKind.TheVariants.{Limit}
 use Rattle.mdr_faults.specs.declared.scope.Scope.{Scope}
 use Rattle.mdr_faults.specs.declared.scope.StructEntry.{StructEntry}
 use Rattle.mdr_placeless.proofs.Combined.{after_alike, both_alike, chosen_alike, demand_by, next_alike}
 use Rattle.mdr_placeless.proofs.Constants.{AreBases, AreConsts, AreTexts, bases, constants, consts, parameter_types, perhaps_map, result_types, texts, types_named}
-use Rattle.mdr_placeless.proofs.Scopes.{AreEntries, AreScopes, Pairs, Perhaps, again_alike, one_more, pairs_any, pairs_get, pairs_length, pairs_over, perhaps_some}
+use Rattle.mdr_placeless.proofs.Scopes.{AreEntries, AreScopes, Pairs, Perhaps, again_alike, one_more, pairs_get, pairs_length, pairs_over, perhaps_some}
 use Rattle.mdr_placeless.proofs.Scopes.Pairs.{Cons, Nil}
 use Rattle.mdr_placeless.proofs.Scopes.Perhaps.{Nones, Somes}
 use Rattle.mdr_placeless.specs.Alike.{AreAlike}
@@ -33,7 +33,6 @@ use Rattle.std.specs.Prelude.{pos, negsuc, ◌*◌}
 -- ---- declarators as they are typed
 
 pub record AreDeclarators (x y : Declarator) : Type 0 where
-  pub named : x.name ≡ y.name
   pub all : AreAlike x.whole y.whole
   pub param : AreAlike x.parameter y.parameter
 
@@ -41,9 +40,7 @@ pub same_names : (m n o p : Option (List ℕ)) → m ≡ n → o ≡ p → is_sa
 same_names m n o p e f = ap (λ (x : Option (List ℕ)). is_same_name x o) e ∙ ap (λ (x : Option (List ℕ)). is_same_name n x) f
 
 pub parameters_among : {xs ys : List Declarator} {x y : Declarator} → Pairs AreDeclarators xs ys → AreDeclarators x y → AreAlike (parameter_among xs x) (parameter_among ys y)
-parameters_among {xs = xs} {ys = ys} {x = x} {y = y} h r =
-    demand_by x.place y.place Redefined _ _ (ap (λ b. not b) (pairs_any (λ b. is_same_name b.name x.name) (λ b. is_same_name b.name y.name) (λ a b s. same_names a.name b.name x.name y.name s.named r.named) h))
-    (demand_by x.place y.place Limit _ _ (ap (λ n. not (n == 8)) (pairs_length h)) r.param)
+parameters_among {x = x} {y = y} h r = demand_by x.place y.place Limit _ _ (ap (λ n. not (n == 8)) (pairs_length h)) r.param
 
 pub parameter_lists : {zs ws : List Declarator} → Pairs AreDeclarators zs ws → (xs ys : List Declarator) → Pairs AreDeclarators xs ys → AreAlike (parameter_list xs zs) (parameter_list ys ws)
 unfolding parameter_list
@@ -58,7 +55,6 @@ layers : {s t : Scope} → AreScopes s t → (p q : Place) (name : Option (List 
     → AreBases b c → Perhaps AreConsts size size' → Perhaps (Pairs AreDeclarators) fun fun'
     → AreDeclarators (declarator_layer s (record { place = p; name = name; base = b; stars = n; size = size; fun = fun; ann = ann })) (declarator_layer t (record { place = q; name = name; base = c; stars = n; size = size'; fun = fun'; ann = ann' }))
 layers {s = s} {t = t} a p q name {b = b} {c = c} n {size = size} {size' = size'} {fun = fun} {fun' = fun'} ann ann' bs ss fs = record {
-  named = refl;
   all = declarators_by p q (types_named a bs n) fs;
   param = after_alike (declarators_by p q (types_named a bs n) fs) (λ u. subst (λ b. AreAlike (parameter_type p (is_some size) u) (parameter_type q b u)) (perhaps_some ss) (parameter_types p q (is_some size) u));
 }

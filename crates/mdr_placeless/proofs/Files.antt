@@ -1,15 +1,15 @@
 -- The rules of files look at no place.
 use Rattle.mdr_body.specs.Bodies.{body_rule}
 use Rattle.mdr_check.specs.Files.{behind_item, first_known, first_scope, item_piece, known_behind, outlines_behind, outlines_from, pieces_behind, struct_piece, with_outline_if}
-use Rattle.mdr_check.specs.Uses.{defined_functions, defined_rule, is_used, perhaps_names, uses_by}
+use Rattle.mdr_check.specs.Uses.{defined_functions, defined_rule}
 use Rattle.mdr_check.specs.declared.file.Known.{Known}
 use Rattle.mdr_core.specs.Folds.{before}
+use Rattle.mdr_core.specs.Layout.{chosen}
 use Rattle.mdr_core.specs.declared.place.Place.{Place}
-use Rattle.mdr_faults.specs.Faults.{Checked, Faults, Right, Wrong, both, demand, each, next}
+use Rattle.mdr_faults.specs.Faults.{Checked, Faults, Right, Wrong, both, each, next}
 use Rattle.mdr_faults.specs.Scopes.{tag_named}
 use Rattle.mdr_faults.specs.declared.fault.Fault.{Fault}
-use Rattle.mdr_faults.specs.declared.fault.FaultKind.{FaultKind}
-use Rattle.mdr_faults.specs.declared.fault.FaultKind.TheVariants.{Incomplete, Limit, Redefined}
+use Rattle.mdr_faults.specs.declared.fault.FaultKind.TheVariants.{Limit, Redefined}
 use Rattle.mdr_faults.specs.declared.scope.Candidate.{Candidate}
 use Rattle.mdr_faults.specs.declared.scope.Named.{Named}
 use Rattle.mdr_faults.specs.declared.scope.Scope.{Scope}
@@ -44,7 +44,7 @@ use Rattle.mdr_syntax.specs.declared.tree.Item.{Item}
 use Rattle.mdr_syntax.specs.declared.tree.ItemWhat.{ItemWhat}
 use Rattle.mdr_typing.specs.Profile.{profile_rules}
 use Rattle.std.proofs.Common.{Bool, List, Option, Result, [], ap, bytes_eq, false, length, map, not, refl, subst, true, ℕ, ◌&&◌, ◌++◌, ◌+◌, ◌==◌, ◌||◌, ◌∙◌, ◌∷◌, ◌≡◌}
-use Rattle.mdr_body.specs.Mentions.{uses}
+use Rattle.mdr_body.specs.Uses.{first_use}
 use Rattle.mdr_check.specs.Files.{BodyRule, behind_head, body_scope}
 use Rattle.mdr_check.specs.Globals.{variable_of, variable, global, behind_global, first_value, global_means}
 use Rattle.mdr_check.specs.Whole.{kept, file_pieces}
@@ -55,7 +55,6 @@ use Rattle.mdr_core.specs.declared.kind.Kind.{Kind}
 use Rattle.mdr_core.specs.declared.types.Ann.{Ann}
 use Rattle.mdr_faults.specs.declared.scope.Object.{Object}
 use Rattle.mdr_headings.specs.Functions.{is_defined}
-use Rattle.mdr_placeless.proofs.Mentions.{uses_both as body_uses}
 use Rattle.mdr_syntax.specs.declared.tree.Decl.{Decl, out-Decl}
 use Rattle.mdr_syntax.specs.declared.tree.Init.{Init}
 use Rattle.mdr_syntax.specs.declared.tree.ItemWhat.TheVariants as item
@@ -155,14 +154,13 @@ struct_pieces a p q name h =
     (demand_by p q Limit _ _ (ap (λ n. not (n == 256)) (structs_length a))
     (after_alike (fields_both a p q h) (λ xs. Rights _)))
 
-module _ {items others : List Item} (is : Pairs AreItems items others) {x y : Known} (r : AreKnown x y) where
-  scopes_of : {h k : Head} → AreHeads h k → AreScopes (body_scope items x h) (body_scope others y k)
+module _ {x y : Known} (r : AreKnown x y) where
+  scopes_of : {h k : Head} → AreHeads h k → AreScopes (body_scope x h) (body_scope y k)
   scopes_of {h = h} {k = k} q =
-      subst (λ b. AreScopes (body_scope items x h) (behind_function y.scope (length y.functions) b k)) (defined_both is h.name k.name q.named)
-      (subst (λ n. AreScopes (body_scope items x h) (behind_function y.scope n (is_defined items h.name) k)) (pairs_length r.functions_same)
-      (behind_both r.scopes_both q (length x.functions) (is_defined items h.name)))
+      subst (λ n. AreScopes (body_scope x h) (behind_function y.scope n k)) (pairs_length r.functions_same)
+      (behind_both r.scopes_both q (length x.functions))
 
-  item_pieces : {before past : List Item} → Pairs AreItems before past → (p q : Place) {v w : ItemWhat} → AreWhat v w → AreAlike (item_piece rules items before x p v) (item_piece rules others past y q w)
+  item_pieces : {before past : List Item} → Pairs AreItems before past → (p q : Place) {v w : ItemWhat} → AreWhat v w → AreAlike (item_piece rules before x p v) (item_piece rules past y q w)
   item_pieces b p q (Defines name is_negative n k) = new_names r.scopes_both p q name name refl (Rights _)
   item_pieces b p q (Structs at there name h) = struct_pieces r.scopes_both at there name h
   item_pieces b p q (Enums h) = after_alike (enumerators_from h r.scopes_both (told_same before_first)) (λ cs. Rights _)
@@ -173,10 +171,10 @@ module _ {items others : List Item} (is : Pairs AreItems items others) {x y : Kn
   item_pieces {before = before} {past = past} b p q (Funcs h is_critical ns) =
       both_alike (functions_declared r.scopes_both (heads h) r.functions_same before past true (has_body_both b h.name h.name refl)) (bodies (scopes_of (heads h)) h ns) (λ g c. Rights _)
 
-  heads_behind : {h k : Head} → AreHeads h k → AreKnown (behind_head items x h) (behind_head others y k)
+  heads_behind : {h k : Head} → AreHeads h k → AreKnown (behind_head x h) (behind_head y k)
   heads_behind q = record { scopes_both = scopes_of q; globals_same = r.globals_same; functions_same = functions_both r.scopes_both q r.functions_same }
 
-  known_past : {v w : ItemWhat} → AreWhat v w → AreKnown (behind_item items x v) (behind_item others y w)
+  known_past : {v w : ItemWhat} → AreWhat v w → AreKnown (behind_item x v) (behind_item y w)
   known_past (Defines name is_negative n k) = record { scopes_both = with_name_alike r.scopes_both name (Oks _); globals_same = r.globals_same; functions_same = r.functions_same }
   known_past (Structs at there name h) = record { scopes_both = struct_behind r.scopes_both at there name h; globals_same = r.globals_same; functions_same = r.functions_same }
   known_past (Enums h) = record { scopes_both = enumerators_past h r.scopes_both (told_same before_first); globals_same = r.globals_same; functions_same = r.functions_same }
@@ -188,17 +186,18 @@ module _ {items others : List Item} (is : Pairs AreItems items others) {x y : Kn
   known_past (Protos is_remote z) = heads_behind z
   known_past (Funcs h is_critical ns) = heads_behind (heads h)
 
-module _ {items others : List Item} (is : Pairs AreItems items others) where
-  pieces_both : {xs ys : List Item} → Pairs AreItems xs ys → {x y : Known} → AreKnown x y → (before past : List Item) → Pairs AreItems before past → AreAlike (pieces_behind rules items x before xs) (pieces_behind rules others y past ys)
-  unfolding pieces_behind
-  pieces_both Nil r before past b = Rights _
-  pieces_both (Cons {x = i} {y = j} k ks) r before past b =
-      next_alike (item_pieces is r b i.place j.place k.what_both) (pieces_both ks (known_past is r k.what_both) (before ++ i ∷ []) (past ++ j ∷ []) (one_more b k))
+-- ---- all items
 
-  pub all_known : {xs ys : List Item} → Pairs AreItems xs ys → {x y : Known} → AreKnown x y → AreKnown (known_behind items x xs) (known_behind others y ys)
-  unfolding known_behind
-  all_known Nil r = r
-  all_known (Cons k ks) r = all_known ks (known_past is r k.what_both)
+pieces_both : {xs ys : List Item} → Pairs AreItems xs ys → {x y : Known} → AreKnown x y → (before past : List Item) → Pairs AreItems before past → AreAlike (pieces_behind rules x before xs) (pieces_behind rules y past ys)
+unfolding pieces_behind
+pieces_both Nil r before past b = Rights _
+pieces_both (Cons {x = i} {y = j} k ks) r before past b =
+    next_alike (item_pieces r b i.place j.place k.what_both) (pieces_both ks (known_past r k.what_both) (before ++ i ∷ []) (past ++ j ∷ []) (one_more b k))
+
+pub all_known : {xs ys : List Item} → Pairs AreItems xs ys → {x y : Known} → AreKnown x y → AreKnown (known_behind x xs) (known_behind y ys)
+unfolding known_behind
+all_known Nil r = r
+all_known (Cons k ks) r = all_known ks (known_past r k.what_both)
 
 -- ---- what is known before the first item
 
@@ -258,31 +257,14 @@ first_both h = record {
 
 -- ---- functions that are declared
 
-init_uses : {i j : Option Init} (name : List ℕ) → Perhaps AreInits i j → perhaps_names name i ≡ perhaps_names name j
-init_uses name Nones = refl
-init_uses name (Somes r) = r.uses_both name
-
-uses_what : (name : List ℕ) {v w : ItemWhat} → AreWhat v w → uses_by uses name v ≡ uses_by uses name w
-uses_what name (Defines other b x k) = refl
-uses_what name (Structs p q other h) = refl
-uses_what name (Enums h) = refl
-uses_what name (Globals d h) = init_uses name h
-uses_what name (Protos is_remote r) = refl
-uses_what name (Funcs h is_critical ns) = body_uses h ns name
-
-used_both : {xs ys : List Item} → Pairs AreItems xs ys → (name : List ℕ) → is_used uses name xs ≡ is_used uses name ys
-unfolding is_used
-used_both Nil name = refl
-used_both (Cons {x = i} {y = j} {xs = xs} {ys = ys} k ks) name = ap (λ b. b || is_used uses name xs) (uses_what name k.what_both) ∙ ap (λ b. uses_by uses name j.what || b) (used_both ks name)
-
 -- both are right, or there are faults in both
 pub data AreBoth {A : Type 0} : Checked A → Checked A → Type 0 where
   Goods : (x y : A) → AreBoth (Right x) (Right y)
   Bads : (f g : Faults) → AreBoth (Wrong f) (Wrong g)
 
-demand_both : (p q x y : Place) (k : FaultKind) (t u : Bool) → t ≡ u → AreBoth (demand p k t (Right x)) (demand q k u (Right y))
-demand_both p q x y k true u e = subst (λ b. AreBoth (Right x) (demand q k b (Right y))) e (Goods _ _)
-demand_both p q x y k false u e = subst (λ b. AreBoth (demand p k false (Right x)) (demand q k b (Right y))) e (Bads _ _)
+defined_or : (x y : Place) (f g : Faults) (t u : Bool) → t ≡ u → AreBoth (chosen t (Right x) (Wrong f)) (chosen u (Right y) (Wrong g))
+defined_or x y f g true u e = subst (λ b. AreBoth (Right x) (chosen b (Right y) (Wrong g))) e (Goods _ _)
+defined_or x y f g false u e = subst (λ b. AreBoth (Wrong f) (chosen b (Right y) (Wrong g))) e (Bads _ _)
 
 next_both : {A : Type 0} {c d : Checked A} {cs ds : Checked (List A)} → AreBoth c d → AreBoth cs ds → AreBoth (next c cs) (next d ds)
 next_both (Goods x y) (Goods xs ys) = Goods _ _
@@ -297,25 +279,22 @@ kept_both (Wrongs f g) (Goods xs ys) = Wrongs _ _
 kept_both (Wrongs f g) (Bads f' g') = Wrongs _ _
 
 module _ {items others : List Item} (is : Pairs AreItems items others) where
-  one_defined : {f g : Declared} → AreFunctions f g → AreBoth (defined_rule uses items f) (defined_rule uses others g)
-  one_defined {f = f} {g = g} r =
-      demand_both f.place g.place f.place g.place Incomplete _ _
-      (ap (λ b. b || is_used uses f.name items) (defined_both is f.name g.name r.called)
-      ∙ ap (λ b. is_defined others g.name || b) (used_both is f.name ∙ ap (λ (n : List ℕ). is_used uses n others) r.called))
+  one_defined : {f g : Declared} → AreFunctions f g → AreBoth (defined_rule first_use items f) (defined_rule first_use others g)
+  one_defined {f = f} {g = g} r = defined_or f.place g.place _ _ _ _ (defined_both is f.name g.name r.called)
 
-  each_defined : {fs gs : List Declared} → Pairs AreFunctions fs gs → AreBoth (each (map (defined_rule uses items) fs)) (each (map (defined_rule uses others) gs))
+  each_defined : {fs gs : List Declared} → Pairs AreFunctions fs gs → AreBoth (each (map (defined_rule first_use items) fs)) (each (map (defined_rule first_use others) gs))
   each_defined Nil = Goods _ _
   each_defined (Cons r rs) = next_both (one_defined r) (each_defined rs)
 
-  all_defined : {fs gs : List Declared} → Pairs AreFunctions fs gs → AreBoth (defined_functions uses items fs) (defined_functions uses others gs)
+  all_defined : {fs gs : List Declared} → Pairs AreFunctions fs gs → AreBoth (defined_functions first_use items fs) (defined_functions first_use others gs)
   unfolding defined_functions
   all_defined h = each_defined h
 
 -- ---- whole files
 
-pub files : (xs : List Item) → AreAlike (file_pieces (body_rule profile_rules) uses xs) (file_pieces (body_rule profile_rules) uses (map unplaced_item xs))
+pub files : (xs : List Item) → AreAlike (file_pieces (body_rule profile_rules) first_use xs) (file_pieces (body_rule profile_rules) first_use (map unplaced_item xs))
 unfolding file_pieces
 files xs =
     both_alike (short_both xs)
-    (kept_both (pieces_both (items_both xs) (items_both xs) (first_both (items_both xs)) [] [] Nil) (all_defined (items_both xs) (all_known (items_both xs) (items_both xs) (first_both (items_both xs))).functions_same))
+    (kept_both (pieces_both (items_both xs) (first_both (items_both xs)) [] [] Nil) (all_defined (items_both xs) (all_known (items_both xs) (first_both (items_both xs))).functions_same))
     (λ u ps. Rights _)

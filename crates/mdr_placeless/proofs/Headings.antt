@@ -10,7 +10,7 @@ use Rattle.mdr_faults.specs.declared.scope.Candidate.{Candidate}
 use Rattle.mdr_faults.specs.declared.scope.Entity.{Entity}
 use Rattle.mdr_faults.specs.declared.scope.Scope.{Scope}
 use Rattle.mdr_headings.specs.Annotations.{bare, candidate}
-use Rattle.mdr_headings.specs.Functions.{agrees, agrees_with, behind_function, declared_unless, function_declared, function_means, function_named, function_rule, functions_behind, has_body, is_defined, may_stand, with_function_unless}
+use Rattle.mdr_headings.specs.Functions.{agrees, agrees_with, behind_function, declared_unless, function_declared, function_means, function_named, function_rule, functions_behind, has_body, may_stand, with_function_unless}
 use Rattle.mdr_headings.specs.Source.{signature}
 use Rattle.mdr_headings.specs.Within.{names_around, within}
 use Rattle.mdr_headings.specs.declared.function.Declared.{Declared}
@@ -34,7 +34,7 @@ use Rattle.mdr_core.specs.declared.types.Ann.{Ann}
 use Rattle.mdr_core.specs.declared.types.Ty.{Ty}
 use Rattle.mdr_faults.specs.declared.scope.Signature.{Signature}
 use Rattle.mdr_headings.specs.Functions.{is_taken}
-use Rattle.mdr_headings.specs.Heads.{given, heading, head_result, param_of, param_among, params_behind, annotated_param, result_siblings}
+use Rattle.mdr_headings.specs.Heads.{given, heading, head_result, typed_result, param_of, param_among, params_behind, annotated_param, result_siblings}
 use Rattle.mdr_syntax.specs.declared.tree.Decl.{Decl, out-Decl}
 
 -- ---- heads
@@ -78,9 +78,13 @@ head_results {s = s} {t = t} a {h = h} {k = k} r =
     subst (λ n. AreAlike (after (type_named s h.base h.stars) (result_type h.place)) (after (type_named t k.base n) (result_type k.place))) r.stars_both
     (after_alike (types_named a r.bases_both h.stars) (result_types h.place k.place))
 
+typed_results : {s t : Scope} → AreScopes s t → {h k : Head} → AreHeads h k → AreAlike (typed_result s h) (typed_result t k)
+unfolding typed_result
+typed_results {s = s} {t = t} a r = both_alike (head_results a r) (parameter_lists (typed_both (decls_of r.params_both) s t a) [] [] Nil) (λ u us. Rights _)
+
 results_given : {s t : Scope} → AreScopes s t → (siblings : List Candidate) {h k : Head} → AreHeads h k → AreAlike (given s siblings h) (given t siblings k)
 unfolding given
-results_given a siblings {h = h} {k = k} r = after_alike (head_results a r) (λ u. after_alike (annotations a siblings h.place k.place u r.ann_both) (λ x. Rights _))
+results_given a siblings {h = h} {k = k} r = after_alike (typed_results a r) (λ u. after_alike (annotations a siblings h.place k.place u r.ann_both) (λ x. Rights _))
 
 siblings_both : {s t : Scope} → AreScopes s t → {h k : Head} → AreHeads h k → result_siblings s h ≡ result_siblings t k
 siblings_both {s = s} {t = t} a {h = h} {k = k} r =
@@ -94,9 +98,9 @@ headings {s = s} {t = t} a {h = h} {k = k} r = both_alike
     (subst (λ cs. AreAlike (params_behind s (map (candidate s) h.params) [] h.params) (params_behind t cs [] k.params)) (all_candidates a (decls_of r.params_both)) (param_lists a (map (candidate s) h.params) r.params_both [] [] Nil))
     (λ x xs. Rights _)
 
-pub signatures : {s t : Scope} → AreScopes s t → (n : ℕ) (is_defined : Bool) {h k : Head} → AreHeads h k → AreAlike (signature s n is_defined h) (signature t n is_defined k)
+pub signatures : {s t : Scope} → AreScopes s t → (n : ℕ) {h k : Head} → AreHeads h k → AreAlike (signature s n h) (signature t n k)
 unfolding signature
-signatures {s = s} {t = t} a n is_defined r = both_alike (head_results a r) (parameter_lists (typed_both (decls_of r.params_both) s t a) [] [] Nil) (λ u us. Rights _)
+signatures {s = s} {t = t} a n r = both_alike (head_results a r) (parameter_lists (typed_both (decls_of r.params_both) s t a) [] [] Nil) (λ u us. Rights _)
 
 -- ---- functions so far
 
@@ -156,11 +160,11 @@ told_functions (Errs f g) = Errs _ _
 pub named_both : {s t : Scope} → AreScopes s t → (m n : List ℕ) → m ≡ n → {q r : Result Entity Fault} → AreTold q r → AreScopes (with_name s m q) (with_name t n r)
 named_both {s = s} {t = t} a m n e {q = q} {r = r} h = subst (λ (x : List ℕ). AreScopes (with_name s m q) (with_name t x r)) e (with_name_alike a m h)
 
-module _ {s t : Scope} (a : AreScopes s t) {h k : Head} (r : AreHeads h k) (n : ℕ) (is_defined : Bool) where
-  unless_both : (is_taken : Bool) → AreScopes (with_function_unless is_taken s n is_defined h) (with_function_unless is_taken t n is_defined k)
+module _ {s t : Scope} (a : AreScopes s t) {h k : Head} (r : AreHeads h k) (n : ℕ) where
+  unless_both : (is_taken : Bool) → AreScopes (with_function_unless is_taken s n h) (with_function_unless is_taken t n k)
   unless_both true = a
-  unless_both false = named_both a h.name k.name r.named (told_functions (told_alike (signatures a n is_defined r)))
+  unless_both false = named_both a h.name k.name r.named (told_functions (told_alike (signatures a n r)))
 
-  pub behind_both : AreScopes (behind_function s n is_defined h) (behind_function t n is_defined k)
+  pub behind_both : AreScopes (behind_function s n h) (behind_function t n k)
   unfolding behind_function
-  behind_both = subst (λ b. AreScopes (with_function_unless (is_taken s h.name) s n is_defined h) (with_function_unless b t n is_defined k)) (taken_both a h.name k.name r.named) (unless_both (is_taken s h.name))
+  behind_both = subst (λ b. AreScopes (with_function_unless (is_taken s h.name) s n h) (with_function_unless b t n k)) (taken_both a h.name k.name r.named) (unless_both (is_taken s h.name))

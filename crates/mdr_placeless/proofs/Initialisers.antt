@@ -1,6 +1,5 @@
 -- The rules of initialisers look at no place.
-use Rattle.mdr_check.specs.Initialisers.{address_first, address_if, address_named, are_once, are_plain, array_first, constant_first, element_of, elements_first, entity_first, function_first, handle_first, has_room, initial, initial_layer, is_aggregate, is_any_pointer_by, is_same_field, list_by, list_first, located_first, member_first, members_first, named_first, null_if, number_first, part, part_field, part_for, part_layer, part_number, placed_at, placed_part, placed_parts, struct_first, suits_struct, text_by, text_first}
-use Rattle.mdr_check.specs.Uses.{any_of, const_names, elem_names, elem_names_layer, init_names, init_names_layer}
+use Rattle.mdr_check.specs.Initialisers.{address_first, address_if, address_named, are_once, are_plain, array_first, constant_first, element_of, elements_first, entity_first, handle_first, has_room, initial, initial_layer, is_aggregate, is_any_pointer_by, is_same_field, list_by, list_first, located_first, member_first, members_first, named_first, null_if, number_first, part, part_field, part_for, part_layer, part_number, placed_at, placed_part, placed_parts, struct_first, suits_struct, text_by, text_first}
 use Rattle.mdr_check.specs.declared.initialiser.Placed.{Placed}
 use Rattle.mdr_core.specs.Types.{is_scalar}
 use Rattle.mdr_core.specs.declared.place.Place.{Place}
@@ -68,17 +67,14 @@ handles_first p q f Ty-F.VoidPtr = Wrongs _ _
 handles_first p q f (Ty-F.Fun us) = chosen_alike (are_alike us (f.result ∷ f.params)) (Rights _) (Wrongs _ _)
 handles_first p q f Ty-F.Void = Wrongs _ _
 
-functions_first : (at there p q : Place) (f : Signature) (u : Ty) → AreAlike (function_first at p f u) (function_first there q f u)
-functions_first at there p q f u = chosen_alike f.is_defined (handles_first p q f (out-Ty u)) (Wrongs _ _)
-
-entities_first : (at there p q : Place) (u : Ty) (x : Entity) → AreAlike (entity_first at p u x) (entity_first there q u x)
-entities_first at there p q u (entity.Constant c) = numbers_first p q false c (out-Ty u)
-entities_first at there p q u (entity.Global g o) = Wrongs _ _
-entities_first at there p q u (entity.Function f) = functions_first at there p q f u
+entities_first : (p q : Place) (u : Ty) (x : Entity) → AreAlike (entity_first p u x) (entity_first q u x)
+entities_first p q u (entity.Constant c) = numbers_first p q false c (out-Ty u)
+entities_first p q u (entity.Global g o) = Wrongs _ _
+entities_first p q u (entity.Function f) = handles_first p q f (out-Ty u)
 
 names_first : (at there p q : Place) (u : Ty) {n m : Option Named} → Perhaps AreNamed n m → AreAlike (named_first at p u n) (named_first there q u m)
 names_first at there p q u Nones = Wrongs _ _
-names_first at there p q u (Somes r) = after_alike (again_alike r.mean) (entities_first at there p q u)
+names_first at there p q u (Somes r) = after_alike (again_alike r.mean) (entities_first p q u)
 
 constants_first : {s t : Scope} → AreScopes s t → (p q : Place) {c d : Const} → AreConsts c d → (u : Ty) → AreAlike (constant_first s p c u) (constant_first t q d u)
 constants_first a p q (Numbers at there b n k) u = numbers_first p q (not b && (n == 0)) (number_constant b n k) (out-Ty u)
@@ -99,14 +95,14 @@ addresses_first p q may_be g o Ty-F.VoidPtr = addresses_if p q g may_be
 addresses_first p q may_be g o (Ty-F.Fun us) = Wrongs _ _
 addresses_first p q may_be g o Ty-F.Void = Wrongs _ _
 
-locations_first : (own : ℕ) (at there p q : Place) (u : Ty) (x : Entity) → AreAlike (located_first own at p u x) (located_first own there q u x)
-locations_first own at there p q u (entity.Constant c) = Wrongs _ _
-locations_first own at there p q u (entity.Global g o) = addresses_first p q (nat_lt g own && not o.array) g o (out-Ty u)
-locations_first own at there p q u (entity.Function f) = functions_first at there p q f u
+locations_first : (own : ℕ) (p q : Place) (u : Ty) (x : Entity) → AreAlike (located_first own p u x) (located_first own q u x)
+locations_first own p q u (entity.Constant c) = Wrongs _ _
+locations_first own p q u (entity.Global g o) = addresses_first p q (nat_lt g own && not o.array) g o (out-Ty u)
+locations_first own p q u (entity.Function f) = handles_first p q f (out-Ty u)
 
 addresses_named : (own : ℕ) (at there p q : Place) (u : Ty) {n m : Option Named} → Perhaps AreNamed n m → AreAlike (address_named own at p u n) (address_named own there q u m)
 addresses_named own at there p q u Nones = Wrongs _ _
-addresses_named own at there p q u (Somes r) = after_alike (again_alike r.mean) (locations_first own at there p q u)
+addresses_named own at there p q u (Somes r) = after_alike (again_alike r.mean) (locations_first own p q u)
 
 -- ---- what takes a single value, and texts
 
@@ -240,22 +236,12 @@ lists_first a p q k o = chosen_alike o.array (arrays_first p q o k) (lists_by a 
 
 pub record AreInits (i j : Init) : Type 0 where
   pub initials_both : (s t : Scope) → AreScopes s t → (own : ℕ) (p q : Place) (o : Object) → AreAlike (initial s own p i o) (initial t own q j o)
-  pub uses_both : (name : List ℕ) → init_names name i ≡ init_names name j
 
 record AreElems (e f : Elem) : Type 0 where
   parts_both : (s t : Scope) → AreScopes s t → (own : ℕ) (p q : Place) → AreParts (part s own p e) (part t own q f)
-  used_both : (name : List ℕ) → elem_names name e ≡ elem_names name f
 
 parts_of : {es fs : List Elem} → Pairs AreElems es fs → (s t : Scope) → AreScopes s t → (own : ℕ) (p q : Place) → Pairs AreParts (map (part s own p) es) (map (part t own q) fs)
 parts_of h s t a own p q = pairs_over (part s own p) (part t own q) (λ e f r. r.parts_both s t a own p q) h
-
-uses_any : {es fs : List Elem} → Pairs AreElems es fs → (name : List ℕ) → any_of (map (elem_names name) es) ≡ any_of (map (elem_names name) fs)
-uses_any Nil name = refl
-uses_any (Cons {x = e} {y = f} {xs = es} {ys = fs} r rs) name = ap (λ b. b || any_of (map (elem_names name) es)) (r.used_both name) ∙ ap (λ b. elem_names name f || b) (uses_any rs name)
-
-names_const : {c d : Const} (name : List ℕ) → AreConsts c d → const_names name c ≡ const_names name d
-names_const name (Numbers p q b n k) = refl
-names_const name (Worded p q other) = refl
 
 -- layers that are alike
 data AreLayers : Init-F Init Elem → Init-F Init Elem → Type 0 where
@@ -273,20 +259,12 @@ layer_initials (Addresses at there name) s t a own p q o = singles p q o (addres
 layer_initials (Texts at there bytes) s t a own p q o = texts_first p q bytes o
 layer_initials (Lists at there h) s t a own p q o = lists_first a p q (parts_of h s t a own p q) o
 
-layer_names : {k l : Init-F Init Elem} → AreLayers k l → (name : List ℕ) → init_names_layer name (map-Init Init Elem Bool Bool (init_names name) (elem_names name) k) ≡ init_names_layer name (map-Init Init Elem Bool Bool (init_names name) (elem_names name) l)
-layer_names (Consts r) name = names_const name r
-layer_names (Nulls at there) name = refl
-layer_names (Addresses at there other) name = refl
-layer_names (Texts at there bytes) name = refl
-layer_names (Lists at there h) name = uses_any h name
-
 rolled_both : {k l : Init-F Init Elem} → AreLayers k l → AreInits (roll-Init k) (roll-Init l)
 rolled_both {k = k} {l = l} r = record {
   initials_both = λ s t a own p q o.
       subst (λ f. AreAlike (f o) (initial t own q (roll-Init l) o)) (sym (fold-roll-Init (Object → Checked (List First)) Part (initial_layer s own p) part_layer k))
       (subst (λ f. AreAlike (initial_layer s own p (map-Init Init Elem (Object → Checked (List First)) Part (initial s own p) (part s own p) k) o) (f o)) (sym (fold-roll-Init (Object → Checked (List First)) Part (initial_layer t own q) part_layer l))
       (layer_initials r s t a own p q o));
-  uses_both = λ name. fold-roll-Init Bool Bool (init_names_layer name) elem_names_layer k ∙ layer_names r name ∙ sym (fold-roll-Init Bool Bool (init_names_layer name) elem_names_layer l);
 }
 
 record GoodInit (i : Init) : Type 0 where
@@ -319,7 +297,6 @@ elems_both f g h {i = i} {j = j} r = record {
       subst (λ x. AreParts x (part t own q (record { field = g; init = j }))) (sym (fold_out-Elem (Object → Checked (List First)) Part (initial_layer s own p) part_layer (record { field = f; init = i })))
       (subst (λ y. AreParts (record { field = f; init = initial s own p i }) y) (sym (fold_out-Elem (Object → Checked (List First)) Part (initial_layer t own q) part_layer (record { field = g; init = j })))
       (record { fields_both = h; inits_both = r.initials_both s t a own p q }));
-  used_both = λ name. fold_out-Elem Bool Bool (init_names_layer name) elem_names_layer (record { field = f; init = i }) ∙ r.uses_both name ∙ sym (fold_out-Elem Bool Bool (init_names_layer name) elem_names_layer (record { field = g; init = j }));
 }
 
 good_inits : (i : Init) → GoodInit i

@@ -12,7 +12,7 @@ pub mod Steps
 pub mod Annotated
 pub mod Headings
 pub mod Lines
-pub mod Mentions
+pub mod Addresses
 pub mod Locals
 pub mod Statements
 pub mod Initialisers

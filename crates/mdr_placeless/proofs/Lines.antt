@@ -12,7 +12,7 @@ use Rattle.mdr_syntax.specs.declared.tree.Decl.{Decl}
 use Rattle.mdr_syntax.specs.declared.tree.Form.{Form}
 use Rattle.mdr_syntax.specs.declared.tree.Node.{Node}
 use Rattle.std.proofs.Common.{List, None, Option, Some, [], ap, map, option_map, subst, sym, ℕ, ◌∙◌, ◌∷◌, ◌≡◌}
-use Rattle.mdr_body.specs.Mentions.{line_what}
+use Rattle.mdr_body.specs.Addresses.{line_what}
 use Rattle.mdr_operand.specs.Written.{Written, Line, Lines, written_of, line_list, node_what_written, clause_written, node_written, line_of, lines_of}
 use Rattle.mdr_syntax.specs.declared.tree.NodeWhat.TheFolds.{ind-Node, map-NodeWhat, fold-Clause, fold-roll-NodeWhat, fold_out-Node}
 use Rattle.mdr_syntax.specs.declared.tree.NodeWhat.TheOpen.{NodeWhat-F}

@@ -19,7 +19,7 @@ use Rattle.mdr_placeless.proofs.Constants.{AreConsts}
 use Rattle.mdr_placeless.proofs.Declared.{AreDecls, objects}
 use Rattle.mdr_placeless.proofs.Headings.{AreHeads, head_results}
 use Rattle.mdr_placeless.proofs.Lines.{AreLines}
-use Rattle.mdr_placeless.proofs.Mentions.{takes_both}
+use Rattle.mdr_placeless.proofs.Addresses.{takes_both}
 use Rattle.mdr_placeless.proofs.Postfixes.{AreLocalNames, local_alike}
 use Rattle.mdr_placeless.proofs.Scopes.{AreEntries, AreMembers, AreScopes, AreTold, Pairs, Perhaps, one_more, pairs_length, pairs_map, perhaps_some, told_alike}
 use Rattle.mdr_placeless.proofs.Scopes.AreTold.{Errs, Oks}

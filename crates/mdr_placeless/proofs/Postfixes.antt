@@ -3,7 +3,6 @@ use Rattle.mdr_core.specs.Layout.{chosen}
 use Rattle.mdr_core.specs.declared.place.Place.{Place}
 use Rattle.mdr_core.specs.declared.types.Ty.TheOpen.{Ty-F}
 use Rattle.mdr_faults.specs.Faults.{Checked, after}
-use Rattle.mdr_faults.specs.declared.scope.Entity.{Entity}
 use Rattle.mdr_faults.specs.declared.scope.Member.{Member}
 use Rattle.mdr_faults.specs.declared.scope.Named.{Named}
 use Rattle.mdr_faults.specs.declared.scope.Scope.{Scope}
@@ -22,15 +21,13 @@ use Rattle.mdr_placeless.proofs.Scopes.Perhaps.{Nones, Somes}
 use Rattle.mdr_placeless.specs.Alike.{AreAlike}
 use Rattle.mdr_placeless.specs.Alike.AreAlike.{Rights, Wrongs}
 use Rattle.mdr_postfix.specs.Members.{located, member_among, member_found, member_in, member_named, member_numbered, member_of, member_position, member_rule, object_at, target_located}
-use Rattle.mdr_postfix.specs.Names.{entity_operand, file_name, function_operand, local_operand, local_or, name_rule, object_operand, place_of_local}
+use Rattle.mdr_postfix.specs.Names.{file_name, local_operand, local_or, name_rule, object_operand, place_of_local}
 use Rattle.mdr_postfix.specs.Subscripts.{array_of, element, element_at, element_by, element_of_array, element_of_pointer, is_array, subscript_of, subscript_rule}
 use Rattle.mdr_postfix.specs.declared.located.Located.{Located}
 use Rattle.std.proofs.Common.{Bool, List, None, Option, Some, ap, bytes_eq, false, nat_lt, refl, subst, true, ℕ, ◌∙◌, ◌≡◌}
 use Rattle.mdr_core.specs.declared.code.Lval.TheVariants as lval
 use Rattle.mdr_core.specs.declared.code.Lval.{Lval}
 use Rattle.mdr_core.specs.declared.types.Ty.{Ty, out-Ty}
-use Rattle.mdr_faults.specs.declared.scope.Entity.TheVariants as entity
-use Rattle.mdr_faults.specs.declared.scope.Signature.{Signature}
 use Rattle.mdr_postfix.specs.Members.{object_of, struct_entry, struct_of}
 
 -- ---- complete types
@@ -69,20 +66,10 @@ local_from_alike name (Cons {x = x} {y = y} r rs) o p h =
 pub local_alike : {ns ms : List LocalName} (name : List ℕ) → Pairs AreLocalNames ns ms → Perhaps AreLocalNames (local_named ns name) (local_named ms name)
 local_alike name h = local_from_alike name h None None Nones
 
-functions : (p q : Place) (f : Signature) → AreAlike (function_operand p f) (function_operand q f)
-unfolding function_operand
-functions p q f = chosen_alike f.is_defined (Rights _) (Wrongs _ _)
-
-entities : (p q : Place) (x : Entity) → AreAlike (entity_operand p x) (entity_operand q x)
-unfolding entity_operand
-entities p q (entity.Constant c) = Rights _
-entities p q (entity.Global g o) = Rights _
-entities p q (entity.Function f) = functions p q f
-
 file_names : (p q : Place) {n m : Option Named} → Perhaps AreNamed n m → AreAlike (file_name p n) (file_name q m)
 unfolding file_name
 file_names p q Nones = Wrongs _ _
-file_names p q (Somes r) = after_alike (again_alike r.mean) (entities p q)
+file_names p q (Somes r) = after_alike (again_alike r.mean) (λ e. Rights _)
 
 local_place : {n m : LocalName} → AreLocalNames n m → place_of_local n ≡ place_of_local m
 local_place {n = n} {m = m} r = ap (λ i. chosen n.is_object (lval.Object i) (lval.Slot i)) r.at_slot ∙ ap (λ b. chosen b (lval.Object m.slot) (lval.Slot m.slot)) r.apart

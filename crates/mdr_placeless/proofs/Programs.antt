@@ -28,7 +28,7 @@ use Rattle.mdr_roundtrip.specs.Unplaced.{unplaced_form}
 use Rattle.mdr_syntax.specs.declared.tree.Tree.{Tree}
 use Rattle.mdr_typing.specs.Profile.{profile_rules}
 use Rattle.std.proofs.Common.{map, refl, subst, sym, ◌≡◌}
-use Rattle.mdr_body.specs.Mentions.{uses}
+use Rattle.mdr_body.specs.Uses.{first_use}
 use Rattle.mdr_express.specs.Expressions.{typed as typed_form}
 
 pub right_same : {A : Type 0} {c d : Checked A} (x : A) → AreAlike c d → c ≡ Right x → d ≡ Right x
@@ -80,7 +80,7 @@ bodies_alike scope h k body other e f =
 -- ---- files
 
 pub pieces_alike : FilesLookAtNoPlace
-pieces_alike tree other e = through (λ (t : Tree). file_pieces (body_rule profile_rules) uses t.items) unplaced_tree (λ (t : Tree). files t.items) tree other e
+pieces_alike tree other e = through (λ (t : Tree). file_pieces (body_rule profile_rules) first_use t.items) unplaced_tree (λ (t : Tree). files t.items) tree other e
 
 pub programs_alike : ProgramsLookAtNoPlace
 programs_alike tree other e = after_alike (pieces_alike tree other e) (λ ps. Rights _)

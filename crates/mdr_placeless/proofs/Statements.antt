@@ -18,7 +18,7 @@ use Rattle.mdr_placeless.proofs.Headings.{heads}
 use Rattle.mdr_placeless.proofs.Lines.{AreLine, AreLines, lines_both}
 use Rattle.mdr_placeless.proofs.Lines.AreLine.{Assigns, Blocks, Breaks, Continues, Dos, Empties, Fors, Ifs, Locals, Plains, Returns, Switches, Whiles}
 use Rattle.mdr_placeless.proofs.Locals.{AreFrames, AreHere, AreLocals, entered_both, first_here_both, frames, left_both, local_objects, numbered_both, with_both}
-use Rattle.mdr_placeless.proofs.Mentions.{head_both, line_taken, takes_both}
+use Rattle.mdr_placeless.proofs.Addresses.{head_both, line_taken, takes_both}
 use Rattle.mdr_placeless.proofs.Operands.{scalars}
 use Rattle.mdr_placeless.proofs.Postfixes.{AreLocalNames}
 use Rattle.mdr_placeless.proofs.Scopes.{AreScopes, Pairs, Perhaps, again_alike, pairs_map}

@@ -1,3 +1,4 @@
+-- for proofs
 -- What two forms come to, faults aside.
 use Rattle.mdr_faults.specs.Faults.{Checked, Right, Wrong, Faults}
 

@@ -1,3 +1,4 @@
+-- for proofs
 -- What a source comes to doesn't depend on its places (C99 5.1.1.2, 6.5 to 6.9).
 use Rattle.std.specs.Prelude.{◌≡◌, List, map}
 use Rattle.mdr_core.specs.declared.place.Place.{Place}
@@ -18,7 +19,7 @@ use Rattle.mdr_operand.specs.declared.room.LocalName.{LocalName}
 use Rattle.mdr_operand.specs.Written.{written_of}
 use Rattle.mdr_express.specs.Expressions.{typed as typed_form}
 use Rattle.mdr_body.specs.Bodies.{body_rule}
-use Rattle.mdr_body.specs.Mentions.{uses}
+use Rattle.mdr_body.specs.Uses.{first_use}
 use Rattle.mdr_typing.specs.Profile.{profile_rules}
 use Rattle.mdr_check.specs.Whole.{file_pieces}
 use Rattle.mdr_program.specs.Programs.{typed}
@@ -43,12 +44,12 @@ BodiesLookAtNoPlace = (scope : Scope) (h k : Head) (body other : List Node) → 
 
 -- the items of a file (6.9)
 abbrev pub FilesLookAtNoPlace : Type 0
-FilesLookAtNoPlace = (tree other : Tree) → unplaced_tree tree ≡ unplaced_tree other → AreAlike (file_pieces (body_rule profile_rules) uses tree.items) (file_pieces (body_rule profile_rules) uses other.items)
+FilesLookAtNoPlace = (tree other : Tree) → unplaced_tree tree ≡ unplaced_tree other → AreAlike (file_pieces (body_rule profile_rules) first_use tree.items) (file_pieces (body_rule profile_rules) first_use other.items)
 
 -- the program of a source
 abbrev pub ProgramsLookAtNoPlace : Type 0
-ProgramsLookAtNoPlace = (tree other : Tree) → unplaced_tree tree ≡ unplaced_tree other → AreAlike (typed (body_rule profile_rules) uses tree.items) (typed (body_rule profile_rules) uses other.items)
+ProgramsLookAtNoPlace = (tree other : Tree) → unplaced_tree tree ≡ unplaced_tree other → AreAlike (typed (body_rule profile_rules) first_use tree.items) (typed (body_rule profile_rules) first_use other.items)
 
 -- the program of a user half's text with a plan
 abbrev pub HalvesLookAtNoPlace : Type 0
-HalvesLookAtNoPlace = (plan : Plan) (tree other : Tree) → unplaced_tree tree ≡ unplaced_tree other → AreAlike (half_typed (body_rule profile_rules) uses plan tree.items) (half_typed (body_rule profile_rules) uses plan other.items)
+HalvesLookAtNoPlace = (plan : Plan) (tree other : Tree) → unplaced_tree tree ≡ unplaced_tree other → AreAlike (half_typed (body_rule profile_rules) first_use plan tree.items) (half_typed (body_rule profile_rules) first_use plan other.items)

@@ -1,3 +1,4 @@
+-- believed
 -- When an interrupt is taken.
 use Rattle.std.specs.Prelude.{◌≡◌, ℕ, Bool, true, false, not, ◌&&◌, List, [], ◌∷◌, Option, Some, None}
 use Rattle.mdr_core.specs.Layout.{chosen}

@@ -1,3 +1,4 @@
+-- protocol
 -- What holds of every run's parts.
 use Rattle.std.specs.Prelude.{◌≡◌, ◌↔◌, ◌<◌, ◌≤◌, ℕ, true, List, [], ◌∷◌, ◌++◌, length, Some}
 use Rattle.mdr_core.specs.declared.program.Program.{Program}
@@ -10,7 +11,7 @@ use Rattle.mdr_meaning.specs.Walk.{Reached, Walked, walk}
 use Rattle.mdr_meaning.specs.declared.wire.WireView.{WireView}
 use Rattle.mdr_model.specs.declared.memory.Cell.{Cell}
 use Rattle.mdr_model.specs.Memory.{Memory, cell_at, is_live, normal}
-use Rattle.mdr_script.specs.declared.bound.Bound.{Bound}
+use Rattle.mdr_bound.specs.declared.bound.Bound.{Bound}
 use Rattle.mdr_plain.specs.Gate.{Gate, due}
 use Rattle.mdr_plain.specs.Outcome.{first_serials, met_in, shown_blocks}
 use Rattle.mdr_plain.specs.Plain.{never, plain_of, whole}

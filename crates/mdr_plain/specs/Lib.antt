@@ -1,6 +1,7 @@
 pub mod World
 pub mod Storage
 pub mod Locks
+pub mod Atomic
 pub mod Gate
 pub mod Services
 pub mod Running

@@ -1,3 +1,4 @@
+-- believed
 -- Locks: what takes and what frees one, and whether one is held.
 use Rattle.std.specs.Prelude.{ℕ, Bool, true, false, List, [], ◌∷◌, ◌==◌, ◌&&◌, Option, Some, Result, Ok, Err}
 use Rattle.std.specs.List.{list_any}

@@ -1,3 +1,4 @@
+-- believed
 -- What a run shows: events, end, ticks, and the objects that the globals lead to.
 use Rattle.std.specs.Prelude.{ℕ, zero, suc, ◌+◌, Bool, List, [], ◌∷◌, ◌++◌, length, map, Option, Some, None, unwrap_or, ◌==◌, slice_get}
 use Rattle.std.specs.List.{list_any, position}

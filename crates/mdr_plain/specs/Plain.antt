@@ -1,3 +1,4 @@
+-- believed
 -- The plain meaning of a driver and a script: every body is entered, on one memory.
 use Rattle.std.specs.Prelude.{ℕ, false, List}
 use Rattle.mdr_core.specs.declared.program.Program.{Program}
@@ -6,7 +7,7 @@ use Rattle.mdr_meaning.specs.declared.wire.Wire.TheVariants as wire
 use Rattle.mdr_meaning.specs.Bodies.{whole_side}
 use Rattle.mdr_meaning.specs.Sides.{Side}
 use Rattle.mdr_model.specs.declared.command.Command.{Command}
-use Rattle.mdr_script.specs.declared.bound.Bound.{Bound}
+use Rattle.mdr_bound.specs.declared.bound.Bound.{Bound}
 use Rattle.mdr_plain.specs.Running.{Crossing, KernelCode, call, in_kernel, interrupts}
 use Rattle.mdr_plain.specs.Scripts.{Finish, begin, commands, first_world, in_place}
 use Rattle.mdr_plain.specs.World.{World, Ran, Ended, Work}

@@ -1,3 +1,4 @@
+-- believed
 -- The printed report of an outcome.
 use Rattle.std.specs.Prelude.{ℕ, suc, false, ◌&&◌, ◌==◌, nat_le, nat_lt, List, [], ◌∷◌, ◌++◌, Option, Some, None, codes, decimal}
 use Rattle.std.specs.Fmt.{digits}

@@ -1,3 +1,4 @@
+-- believed
 -- How code runs in a world, and how interrupts are taken.
 use Rattle.std.specs.Prelude.{ℕ, suc, true, false, Bool, List, [], Option, Some, None}
 use Rattle.mdr_core.specs.declared.place.At.{At}

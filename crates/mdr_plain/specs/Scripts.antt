@@ -1,3 +1,4 @@
+-- believed
 -- Scripts: what each command does, and how a run ends.
 use Rattle.std.specs.Prelude.{ℕ, zero, suc, ◌+◌, Bool, true, false, List, [], ◌∷◌, map, None, ◌==◌}
 use Rattle.mdr_core.specs.declared.program.Program.{Program}
@@ -14,7 +15,7 @@ use Rattle.mdr_model.specs.declared.outcome.End.TheVariants as ends
 use Rattle.mdr_model.specs.Memory.{Memory}
 use Rattle.mdr_model.specs.Report.{func_name, global_name}
 use Rattle.mdr_model.specs.Values.{value_of}
-use Rattle.mdr_script.specs.declared.bound.Bound.{Bound}
+use Rattle.mdr_bound.specs.declared.bound.Bound.{Bound}
 use Rattle.mdr_plain.specs.declared.outcome.Happened.TheVariants as happened
 use Rattle.mdr_plain.specs.Running.{Before, KernelCode, call, interrupts}
 use Rattle.mdr_plain.specs.Storage.{birth_of, first_memory}

@@ -1,3 +1,4 @@
+-- believed
 -- What each service does.
 use Rattle.std.specs.Prelude.{ℕ, ◌+◌, ◌*◌, Bool, true, false, ◌||◌, ◌&&◌, ◌==◌, nat_lt, List, [], ◌∷◌, map, Option, Some, None, Result, pos, negsuc}
 use Rattle.std.specs.List.{list_any}

@@ -1,3 +1,4 @@
+-- believed
 -- What code does to memory: accesses, births and deaths (C99 6.2.4).
 use Rattle.std.specs.Prelude.{ℕ, suc, ◌+◌, Bool, not, filter, List, [], ◌∷◌, ◌++◌, map, length, Option, Some, None, Result, Ok, Err, ◌==◌, nat_le}
 use Rattle.std.specs.List.{list_all}

@@ -1,3 +1,4 @@
+-- for proofs
 -- Words for worked examples: small drivers whose bodies are written with `mdr_meaning`'s, their scripts, and what is printed of a run.
 use Rattle.std.specs.Prelude.{ℕ, false, List, [], ◌∷◌, ◌++◌, Some, None, slice_get, pos}
 use Rattle.mdr_core.specs.declared.kind.Kind.TheVariants.{U32}
@@ -20,7 +21,7 @@ use Rattle.mdr_meaning.specs.Sides.{Body, Side}
 use Rattle.mdr_meaning.specs.Worked.{form, side_by}
 use Rattle.mdr_model.specs.declared.command.Command.{Command}
 use Rattle.mdr_model.specs.declared.command.Command.TheVariants as command
-use Rattle.mdr_script.specs.declared.bound.Bound.{Bound}
+use Rattle.mdr_bound.specs.declared.bound.Bound.{Bound}
 use Rattle.mdr_plain.specs.declared.outcome.Outcome.{Outcome}
 use Rattle.mdr_plain.specs.Outcome.{outcome_of}
 use Rattle.mdr_plain.specs.Plain.{plain_of}

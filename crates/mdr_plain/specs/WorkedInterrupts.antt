@@ -1,3 +1,4 @@
+-- for proofs
 -- Devices, interrupts, locks and texts worked out on one memory: what is printed of runs.
 use Rattle.std.specs.Prelude.{◌≡◌, ℕ, true, List, [], ◌∷◌, codes, pos, Some, None}
 use Rattle.mdr_core.specs.declared.kind.Kind.TheVariants.{U8}
@@ -15,7 +16,7 @@ use Rattle.mdr_device.specs.Worked.{rule, when_bit}
 use Rattle.mdr_meaning.specs.Sides.{Body}
 use Rattle.mdr_meaning.specs.Worked.{add, body, glob, node, node_pointer, number, u32}
 use Rattle.mdr_model.specs.declared.command.Command.TheVariants as command
-use Rattle.mdr_script.specs.declared.bound.Bound.{Bound}
+use Rattle.mdr_bound.specs.declared.bound.Bound.{Bound}
 use Rattle.mdr_plain.specs.Plain.{plain_of}
 use Rattle.mdr_plain.specs.Worked.{Driver, calls, global_named, named, printed, program_of, serves, serves_into, side_of, with_rules, zero_u32}
 

@@ -1,3 +1,4 @@
+-- for proofs
 -- A network driver worked out on one memory: the report of its script.
 use Rattle.std.specs.Prelude.{◌≡◌, ℕ, ◌+◌, true, false, List, [], ◌∷◌, ◌++◌, codes, pos, negsuc, Some, None, slice_get}
 use Rattle.mdr_core.specs.declared.kind.Kind.TheVariants.{U32, S32}
@@ -22,7 +23,7 @@ use Rattle.mdr_meaning.specs.Sides.{Body, Side}
 use Rattle.mdr_meaning.specs.Worked.{add, behind, body, code, form, int, local, number, param, s32, side_by, u32, var}
 use Rattle.mdr_model.specs.declared.command.Command.{Command}
 use Rattle.mdr_model.specs.declared.command.Command.TheVariants as command
-use Rattle.mdr_script.specs.declared.bound.Bound.{Bound}
+use Rattle.mdr_bound.specs.declared.bound.Bound.{Bound}
 use Rattle.mdr_plain.specs.declared.outcome.Outcome.{Outcome}
 use Rattle.mdr_plain.specs.Outcome.{outcome_of}
 use Rattle.mdr_plain.specs.Plain.{plain_of}

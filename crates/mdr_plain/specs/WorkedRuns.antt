@@ -1,3 +1,4 @@
+-- for proofs
 -- Drivers worked out on one memory: what is printed of their runs.
 use Rattle.std.specs.Prelude.{◌≡◌, ℕ, List, [], ◌∷◌, codes, pos, negsuc, Some}
 use Rattle.mdr_core.specs.declared.kind.Kind.TheVariants.{U8, U32, U64, S32}
@@ -10,7 +11,7 @@ use Rattle.mdr_core.specs.Code.{Term, Lvalue, Code, Codes}
 use Rattle.mdr_meaning.specs.Sides.{Body}
 use Rattle.mdr_meaning.specs.Worked.{add, body, code, countdown, field, fill, glob, local, make_ring, node, node_pointer, number, object_local, param, pop, s32, take_node, u32, var, walk_ring}
 use Rattle.mdr_model.specs.declared.command.Command.TheVariants as command
-use Rattle.mdr_script.specs.declared.bound.Bound.{Bound}
+use Rattle.mdr_bound.specs.declared.bound.Bound.{Bound}
 use Rattle.mdr_plain.specs.Worked.{Driver, allocates, calls, just, named, of_type, printed, serves, zero_u32}
 
 -- ---- a loop: u32 a; void f(u32 n){while(n){a=a+n; n=n-1;}}

@@ -1,3 +1,4 @@
+-- for proofs
 -- Each stop that a service comes to, and what services give, shown by runs of one function.
 use Rattle.std.specs.Prelude.{◌≡◌, ℕ, true, false, List, [], ◌∷◌, codes, pos, negsuc, Some, Ok}
 use Rattle.mdr_core.specs.declared.kind.Kind.TheVariants.{U8, U64, S32}
@@ -16,7 +17,7 @@ use Rattle.mdr_meaning.specs.declared.wire.Wire.TheVariants as wire
 use Rattle.mdr_meaning.specs.Worked.{at_stmt, body, field, glob, int, node_pointer, number, s32, u32, w32}
 use Rattle.mdr_model.specs.declared.outcome.End.{End}
 use Rattle.mdr_model.specs.declared.outcome.End.TheVariants as ends
-use Rattle.mdr_script.specs.declared.bound.Bound.{Bound}
+use Rattle.mdr_bound.specs.declared.bound.Bound.{Bound}
 use Rattle.mdr_plain.specs.Locks.{acquired, released, taken_as}
 use Rattle.mdr_plain.specs.Plain.{plain_of}
 use Rattle.mdr_plain.specs.Scripts.{Finish, block_cells}

@@ -1,3 +1,4 @@
+-- believed
 -- The state of a run: what code runs on, and what runs around it.
 use Rattle.std.specs.Prelude.{ℕ, zero, suc, ◌+◌, ◌-◌, Bool, List, [], ◌∷◌, ◌++◌, Option, Some, Result, Ok, Err}
 use Rattle.mdr_core.specs.declared.place.At.{At}

@@ -4,7 +4,7 @@ use mdr_core::{Items, Name, Value};
 use mdr_model::{End, Object};
 
 /// An event of a run. In its values no slot is meant.
-#[derive(Debug, Drop)]
+#[derive(Drop)]
 pub enum Happened {
     /// A command called a function.
     Call(Name, Items<Value>),
@@ -27,7 +27,7 @@ pub enum Happened {
 }
 
 /// What a run shows: its events in order, its end, the ticks used, the live blocks and the objects.
-#[derive(Debug, Drop)]
+#[derive(Drop)]
 pub struct Outcome {
     pub events: Items<Happened>,
     pub end: End,

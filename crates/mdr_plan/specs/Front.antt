@@ -1,3 +1,4 @@
+-- protocol
 -- What stands at the front of a text.
 use Rattle.std.specs.Prelude.{ℕ, ◌==◌, if◌then◌else◌, List, [], ◌∷◌, take, drop, Option, Some, None}
 use Rattle.std.specs.List.{prefix_len}

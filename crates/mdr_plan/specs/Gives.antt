@@ -1,3 +1,4 @@
+-- believed
 -- What a function returned is what is read, unless memory ran out.
 use Rattle.std.specs.Prelude.{◌≡◌, Option, Some, None, Result, Ok, Err}
 use Rattle.mdr_plan.specs.declared.unread.Unread.{Unread}

@@ -1,3 +1,4 @@
+-- protocol
 -- Reading a line.
 use Rattle.std.specs.Prelude.{ℕ, ◌+◌, ◌-◌, ◌^◌, Bool, true, false, ◌==◌, ◌&&◌, nat_lt, nat_le, if◌then◌else◌, List, length, drop, Option, Some, None, codes, decimal}
 use Rattle.std.specs.List.{list_all}

@@ -1,3 +1,4 @@
+-- believed
 -- The lines that may come next, each with its text, where so much was read before. A line's newline isn't part of it.
 use Rattle.std.specs.Prelude.{◌≡◌, ℕ, ◌+◌, ◌-◌, ◌^◌, ◌<◌, Bool, true, false, ◌==◌, ◌&&◌, ◌||◌, nat_lt, nat_le, if◌then◌else◌, List, [], ◌++◌, length, take, drop, Option, Some, None, IsTrue, codes, decimal, slice_get}
 use Rattle.std.specs.List.{list_all}

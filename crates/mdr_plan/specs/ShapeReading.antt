@@ -1,3 +1,4 @@
+-- protocol
 -- Reading the form of a line.
 use Rattle.std.specs.Prelude.{ℕ, List, Option, Some, None, if◌then◌else◌, codes}
 use Rattle.std.specs.Str.{bytes_eq}

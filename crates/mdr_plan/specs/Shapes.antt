@@ -1,3 +1,4 @@
+-- believed
 -- The forms of a plan's lines, and why a line is refused.
 use Rattle.std.specs.Prelude.{◌≡◌, ℕ, Bool, List, ◌++◌, IsTrue, codes}
 use Rattle.mdr_core.specs.declared.types.Ty.{Ty}

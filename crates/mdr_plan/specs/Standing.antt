@@ -1,3 +1,4 @@
+-- protocol
 -- Which forms may stand next, and the kind of a line that may not.
 use Rattle.std.specs.Prelude.{◌≡◌, ℕ, ◌+◌, ◌-◌, ◌^◌, Bool, true, false, ◌&&◌, ◌||◌, not, nat_lt, if◌then◌else◌, List, length, drop, Option, Some, None}
 use Rattle.std.specs.List.{list_all}

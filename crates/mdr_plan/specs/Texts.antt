@@ -1,3 +1,4 @@
+-- believed
 -- The text of a plan as lines, and the first line that may not stand there.
 use Rattle.std.specs.Prelude.{◌≡◌, ℕ, ◌+◌, Bool, true, false, ◌==◌, not, List, [], ◌∷◌, ◌++◌, length, Result, Ok, Err}
 use Rattle.std.specs.List.{prefix_len}

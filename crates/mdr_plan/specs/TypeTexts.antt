@@ -1,3 +1,4 @@
+-- believed
 -- The types that a plan's text may name, each with its text.
 use Rattle.std.specs.Prelude.{◌≡◌, ℕ, Bool, true, false, ◌||◌, List, [], ◌∷◌, ◌++◌, length, map, Some, IsTrue, codes}
 use Rattle.std.specs.List.{prefix_len}

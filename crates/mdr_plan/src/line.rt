@@ -3,7 +3,7 @@
 use mdr_core::{Half, Key, Name, Ty};
 
 /// Which lines were read last.
-#[derive(Clone, Copy, Debug, PartialEq, Eq)]
+#[derive(Clone, Copy)]
 pub enum Stage {
     /// None.
     Start,
@@ -16,7 +16,7 @@ pub enum Stage {
 }
 
 /// What a line says. Its number, where it has one that isn't told here, is that of what comes next.
-#[derive(Debug, Drop)]
+#[derive(Drop)]
 pub enum Line {
     Heading,
     /// The next of the types that each table begins with.

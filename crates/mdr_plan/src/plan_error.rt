@@ -6,7 +6,7 @@ ghost use Rattle.mdr_plan.specs.declared.plan_error.PlanError.TheVariants.{OutOf
 use std::alloc::{AllocError, AllocFailed};
 
 /// Why a line is refused.
-#[derive(Clone, Copy, Debug, PartialEq, Eq)]
+#[derive(Clone, Copy)]
 pub enum PlanKind {
     /// It has the form of no line of a plan, or the text ended.
     Form,
@@ -17,7 +17,7 @@ pub enum PlanKind {
 }
 
 /// Why bytes are no plan's text.
-#[derive(Clone, Copy, Debug, PartialEq, Eq)]
+#[derive(Clone, Copy)]
 pub enum PlanError {
     /// The first line, counted from 1, that no plan's text goes on with, or the text's end before its last line.
     Line(u32, PlanKind),

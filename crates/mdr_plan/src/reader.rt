@@ -13,7 +13,7 @@ use std::alloc::{AllocError, Global};
 use std::mem;
 
 /// What was read of a plan so far. The plan has one item for each function in each of its lists.
-#[derive(Debug, Drop)]
+#[derive(Drop)]
 pub struct Reader {
     pub stage: Stage,
     /// The names of the structs.

@@ -16,7 +16,7 @@ use crate::unread::Unread;
 use std::alloc::Global;
 
 /// What a line is, whatever its numbers, names and types are.
-#[derive(Clone, Copy, Debug, PartialEq, Eq)]
+#[derive(Clone, Copy)]
 pub enum Shape {
     Heading,
     Type,

@@ -6,7 +6,7 @@ ghost use Rattle.mdr_plan.specs.declared.unread.Unread.TheVariants.{OutOfMemory}
 use std::alloc::{AllocError, AllocFailed};
 
 /// Why something was not read.
-#[derive(Clone, Copy, Debug)]
+#[derive(Clone, Copy)]
 pub enum Unread {
     /// It doesn't stand there.
     Refused,

@@ -1,3 +1,4 @@
+-- believed
 -- Members (C99 6.5.2.3).
 use Rattle.std.specs.Prelude.{ℕ, Bool, true, false, List, Option, Some, None, position, slice_get}
 use Rattle.std.specs.Str.{bytes_eq}

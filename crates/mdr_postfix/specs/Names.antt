@@ -1,3 +1,4 @@
+-- believed
 -- Names (C99 6.5.1).
 use Rattle.std.specs.Prelude.{ℕ, List, ◌∷◌, Option, Some, None}
 use Rattle.mdr_core.specs.declared.code.Expr.TheVariants as expr
@@ -6,7 +7,7 @@ use Rattle.mdr_core.specs.declared.code.Lval.TheVariants as lval
 use Rattle.mdr_core.specs.declared.place.Place.{Place}
 use Rattle.mdr_core.specs.declared.value.Value.TheVariants as value
 use Rattle.mdr_core.specs.Layout.{chosen}
-use Rattle.mdr_faults.specs.declared.fault.FaultKind.TheVariants.{UnknownName, Incomplete}
+use Rattle.mdr_faults.specs.declared.fault.FaultKind.TheVariants.{UnknownName}
 use Rattle.mdr_faults.specs.declared.scope.Constant.{Constant}
 use Rattle.mdr_faults.specs.declared.scope.Entity.{Entity}
 use Rattle.mdr_faults.specs.declared.scope.Entity.TheVariants as entity
@@ -29,18 +30,18 @@ object_operand l o = chosen o.array (operand.Array l o.ty o.count) (operand.Obje
 abbrev pub constant_operand : Constant → Operand
 constant_operand c = number (expr.Lit (value.Int c.kind c.number)) c.kind
 
--- every function that is used has its body somewhere in the file (6.9, paragraph 3)
-unfoldable pub function_operand : Place → Signature → Checked Operand
-function_operand p f = chosen f.is_defined (Right (operand.Function f.number (f.result ∷ f.params))) (refuse p Incomplete)
+-- a function has the type of its first declaration. Whether it is defined is asked of the whole file (6.9, paragraph 3)
+abbrev pub function_operand : Signature → Operand
+function_operand f = operand.Function f.number (f.result ∷ f.params)
 
-unfoldable pub entity_operand : Place → Entity → Checked Operand
-entity_operand p (entity.Constant c) = Right (constant_operand c)
-entity_operand p (entity.Global g o) = Right (object_operand (lval.Global g) o)
-entity_operand p (entity.Function f) = function_operand p f
+unfoldable pub entity_operand : Entity → Operand
+entity_operand (entity.Constant c) = constant_operand c
+entity_operand (entity.Global g o) = object_operand (lval.Global g) o
+entity_operand (entity.Function f) = function_operand f
 
 unfoldable pub file_name : Place → Option Named → Checked Operand
 file_name p None = refuse p UnknownName
-file_name p (Some entry) = after (again entry.means) (entity_operand p)
+file_name p (Some entry) = after (again entry.means) (λ e. Right (entity_operand e))
 
 abbrev pub place_of_local : LocalName → Lval
 place_of_local n = chosen n.is_object (lval.Object n.slot) (lval.Slot n.slot)

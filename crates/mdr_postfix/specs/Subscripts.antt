@@ -1,3 +1,4 @@
+-- believed
 -- Subscripts (C99 6.5.2.1).
 use Rattle.std.specs.Prelude.{Bool, true, false, Option, Some, None}
 use Rattle.mdr_core.specs.declared.code.Expr.TheVariants as expr

@@ -3,7 +3,7 @@
 ghost use Rattle.std.specs.Prelude.{◌≡◌, ◌∷◌, IfOk};
 ghost use Rattle.std.specs.Option.{option_copied};
 ghost use Rattle.mdr_faults.specs.Faults.{told};
-ghost use Rattle.mdr_postfix.specs.Names.{object_operand, constant_operand, function_operand, entity_operand, file_name, place_of_local, local_operand, name_rule};
+ghost use Rattle.mdr_postfix.specs.Names.{object_operand, constant_operand, entity_operand, file_name, place_of_local, local_operand, name_rule};
 
 use mdr_core::{Expr, Items, Lval, Place, Ty, Value};
 use mdr_faults::{
@@ -58,35 +58,14 @@ fn signature_types(alloc: Global, f: &Signature) -> Result<Items<Ty>, AllocError
     with_first(copied_type(alloc, &f.result)?, params)
 }
 
-#[tactic(auto, unfolding(crate::specs::Names::function_operand))]
-fn function_operand(
-    alloc: Global,
-    place: Place,
-    f: &Signature,
-) -> Result<Result<Operand, Fault>, AllocError>
-    ensures { IfOk result (λ r. r ≡ told (function_operand place f.now)) }
-{
-    if f.is_defined {
-        return Ok(Ok(Operand::Function(f.number, signature_types(alloc, f)?)));
-    }
-    Ok(Err(Fault {
-        place,
-        kind: FaultKind::Incomplete,
-    }))
-}
-
 #[tactic(auto, unfolding(crate::specs::Names::entity_operand))]
-fn entity_operand(
-    alloc: Global,
-    place: Place,
-    entity: &Entity,
-) -> Result<Result<Operand, Fault>, AllocError>
-    ensures { IfOk result (λ r. r ≡ told (entity_operand place entity.now)) }
+fn entity_operand(alloc: Global, entity: &Entity) -> Result<Operand, AllocError>
+    ensures { IfOk result (λ x. x ≡ entity_operand entity.now) }
 {
     match entity {
-        Entity::Constant(c) => Ok(Ok(constant_operand(*c))),
-        Entity::Global(g, o) => Ok(Ok(object_operand(Lval::Global(*g), copied_object(alloc, o)?))),
-        Entity::Function(f) => function_operand(alloc, place, f),
+        Entity::Constant(c) => Ok(constant_operand(*c)),
+        Entity::Global(g, o) => Ok(object_operand(Lval::Global(*g), copied_object(alloc, o)?)),
+        Entity::Function(f) => Ok(Operand::Function(f.number, signature_types(alloc, f)?)),
     }
 }
 
@@ -104,7 +83,7 @@ fn file_name(
             kind: FaultKind::UnknownName,
         })),
         Some(entry) => match &entry.means {
-            Ok(entity) => entity_operand(alloc, place, entity),
+            Ok(entity) => Ok(Ok(entity_operand(alloc, entity)?)),
             Err(fault) => Ok(Err(*fault)),
         },
     }

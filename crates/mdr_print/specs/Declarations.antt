@@ -1,3 +1,4 @@
+-- believed
 -- Declarations and initialisers (C99 6.7).
 use Rattle.std.specs.Prelude.{ℕ, Bool, true, false, ◌==◌, ◌&&◌, is_none, List, [], ◌∷◌, map, Option, Some, None, codes}
 use Rattle.std.specs.Option.{option_map}

@@ -1,3 +1,4 @@
+-- believed
 -- Expressions (C99 6.5).
 use Rattle.std.specs.Prelude.{Bool, true, false, not, ◌||◌, List, map, codes}
 use Rattle.mdr_syntax.specs.declared.tree.Form.{Form}

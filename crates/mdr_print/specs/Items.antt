@@ -1,3 +1,4 @@
+-- believed
 -- Items (C99 6.9) and the whole text.
 use Rattle.std.specs.Prelude.{ℕ, Bool, true, false, List, [], map, codes}
 use Rattle.mdr_syntax.specs.declared.tree.Decl.{Decl}

@@ -1,3 +1,4 @@
+-- believed
 -- What a printed text is put together from: tokens (C99 6.4), and the blanks, tabs and ends of lines between them.
 use Rattle.std.specs.Prelude.{◌≡◌, ℕ, zero, suc, Bool, true, false, ◌==◌, if◌then◌else◌, List, [], ◌∷◌, ◌++◌, codes, decimal}
 use Rattle.mdr_core.specs.declared.kind.Kind.{Kind}

@@ -1,3 +1,4 @@
+-- for proofs
 -- The tokens that a printed text is made of.
 use Rattle.std.specs.Prelude.{◌≡◌, ℕ, ◌+◌, Bool, List, [], ◌∷◌, ◌++◌, length, map, Option, Some, Result, Ok}
 use Rattle.mdr_core.specs.declared.place.Place.{Place}

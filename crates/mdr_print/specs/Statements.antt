@@ -1,3 +1,4 @@
+-- believed
 -- Statements (C99 6.8).
 use Rattle.std.specs.Prelude.{ℕ, suc, Bool, true, false, List, [], ◌∷◌, map, Option, Some, None, codes}
 use Rattle.mdr_syntax.specs.declared.tree.Form.{Form}

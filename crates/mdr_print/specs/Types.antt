@@ -1,3 +1,4 @@
+-- believed
 -- The names of types (C99 6.7.2), and stars.
 use Rattle.std.specs.Prelude.{ℕ, zero, suc, ◌==◌, List, codes}
 use Rattle.mdr_core.specs.declared.kind.Kind.{Kind}

@@ -1,6 +1,7 @@
 // Items and whole texts.
 
 ghost use Rattle.std.specs.Prelude.{◌≡◌, OnOk, IfOk, map, codes};
+ghost use Rattle.mdr_syntax.specs.declared.tree.ItemWhat.TheVariants.{Proto, Func};
 ghost use Rattle.mdr_print.specs.Marks.{Appends, spell, word, blank, newline, row, ◌▸◌};
 ghost use Rattle.mdr_print.specs.Statements.{semicolon, braced, opened, closed, block_words, written};
 ghost use Rattle.mdr_print.specs.Items.{marked, field, struct_head, fields_words, item_words, item_lines, tree_marks, printed};
@@ -10,7 +11,7 @@ use crate::initialiser::{put_braced_enumerators, put_initialised};
 use crate::put::{put_blank, put_define, put_newline, put_tabs, put_word};
 use crate::statement::{put_block, put_closed, put_opened, put_semicolon};
 use mdr_core::OutOfMemory;
-use mdr_syntax::{Decl, Item, ItemWhat, Node, Tree};
+use mdr_syntax::{Decl, Head, Item, ItemWhat, Node, Tree};
 use std::alloc::{AllocError, Global};
 
 /// A word and a blank, where they are to stand.
@@ -87,6 +88,33 @@ fn put_function_body(alloc: Global, out: &mut Vec<u8>, body: &[Node]) -> Result<
     put_block(alloc, out, 0, body)
 }
 
+fn put_prototype_words(
+    alloc: Global,
+    out: &mut Vec<u8>,
+    head: &Head,
+    is_remote: bool,
+) -> Result<(), AllocError>
+    ensures { OnOk result (Appends out.old.items out.new.items (item_words (Proto head.now is_remote))) }
+{
+    put_marked(out, b"__remote", is_remote)?;
+    put_head(alloc, out, head)?;
+    put_semicolon(out)
+}
+
+fn put_function_words(
+    alloc: Global,
+    out: &mut Vec<u8>,
+    head: &Head,
+    is_critical: bool,
+    body: &[Node],
+) -> Result<(), AllocError>
+    ensures { OnOk result (Appends out.old.items out.new.items (item_words (Func head.now is_critical body.now))) }
+{
+    put_marked(out, b"__critical", is_critical)?;
+    put_head(alloc, out, head)?;
+    put_function_body(alloc, out, body)
+}
+
 fn put_item_words(alloc: Global, out: &mut Vec<u8>, what: &ItemWhat) -> Result<(), AllocError>
     ensures { OnOk result (Appends out.old.items out.new.items (item_words what.now)) }
 {
@@ -109,23 +137,45 @@ fn put_item_words(alloc: Global, out: &mut Vec<u8>, what: &ItemWhat) -> Result<(
             put_initialised(alloc, out, value)?;
             put_semicolon(out)
         }
-        ItemWhat::Proto(head, is_remote) => {
-            put_marked(out, b"__remote", *is_remote)?;
-            put_head(alloc, out, head)?;
-            put_semicolon(out)
-        }
+        ItemWhat::Proto(head, is_remote) => put_prototype_words(alloc, out, head, *is_remote),
         ItemWhat::Func(head, is_critical, body) => {
-            put_marked(out, b"__critical", *is_critical)?;
-            put_head(alloc, out, head)?;
-            put_function_body(alloc, out, body.as_slice())
+            put_function_words(alloc, out, head, *is_critical, body.as_slice())
         }
     }
 }
 
-fn put_item(alloc: Global, out: &mut Vec<u8>, item: &Item) -> Result<(), AllocError>
-    ensures { OnOk result (Appends out.old.items out.new.items (item_lines item.now)) }
+/// The lines of an item. Its place doesn't matter.
+pub fn put_item(alloc: Global, out: &mut Vec<u8>, what: &ItemWhat) -> Result<(), AllocError>
+    ensures { OnOk result (Appends out.old.items out.new.items (item_words what.now ▸ newline)) }
 {
-    put_item_words(alloc, out, &item.what)?;
+    put_item_words(alloc, out, what)?;
+    put_newline(out)
+}
+
+/// The line of a prototype, marked `__remote` where `is_remote`.
+pub fn put_prototype(
+    alloc: Global,
+    out: &mut Vec<u8>,
+    head: &Head,
+    is_remote: bool,
+) -> Result<(), AllocError>
+    ensures { OnOk result (Appends out.old.items out.new.items (item_words (Proto head.now is_remote) ▸ newline)) }
+{
+    put_prototype_words(alloc, out, head, is_remote)?;
+    put_newline(out)
+}
+
+/// The lines of a function with its body, marked `__critical` where `is_critical`.
+pub fn put_function(
+    alloc: Global,
+    out: &mut Vec<u8>,
+    head: &Head,
+    is_critical: bool,
+    body: &[Node],
+) -> Result<(), AllocError>
+    ensures { OnOk result (Appends out.old.items out.new.items (item_words (Func head.now is_critical body.now) ▸ newline)) }
+{
+    put_function_words(alloc, out, head, is_critical, body)?;
     put_newline(out)
 }
 
@@ -133,7 +183,7 @@ fn put_items(alloc: Global, out: &mut Vec<u8>, items: &[Item]) -> Result<(), All
     ensures { OnOk result (Appends out.old.items out.new.items (row (map item_lines items.now))) }
 {
     for item in items {
-        put_item(alloc, out, item)?;
+        put_item(alloc, out, &item.what)?;
     }
     Ok(())
 }

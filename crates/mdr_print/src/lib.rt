@@ -10,5 +10,5 @@ mod put;
 mod statement;
 mod types;
 
-pub use item::print;
+pub use item::{print, put_function, put_item, put_prototype};
 pub use laws::printed_tokens_are_read;

@@ -1,3 +1,4 @@
+-- believed
 -- The types that occur in a program: those of fields, globals, parameters and locals, and those that allocations name. The result of a function adds none.
 use Rattle.std.specs.Prelude.{List, [], ◌∷◌, ◌++◌, map, Option, Some, None}
 use Rattle.mdr_core.specs.declared.types.Ty.{Ty}

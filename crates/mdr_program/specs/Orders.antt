@@ -1,3 +1,4 @@
+-- protocol
 -- In which order the type table of a program is.
 use Rattle.std.specs.Prelude.{◌≡◌, ◌⊎◌, ℕ, ◌+◌, ◌<◌, Some, slice_get, List, [], ◌∷◌, ◌++◌, length, IsTrue}
 use Rattle.mdr_core.specs.declared.kind.Kind.{Kind}

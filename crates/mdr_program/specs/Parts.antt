@@ -1,3 +1,4 @@
+-- believed
 -- What a file declares: its structs, globals and functions by their numbers (C99 6.7, 6.9).
 use Rattle.std.specs.Prelude.{ℕ, ◌+◌, Bool, false, List, [], ◌∷◌, ◌++◌, position, Option, Some, None, slice_get, slice_set}
 use Rattle.std.specs.Str.{bytes_eq}

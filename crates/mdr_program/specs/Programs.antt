@@ -1,3 +1,4 @@
+-- believed
 -- The program of a file.
 use Rattle.std.specs.Prelude.{List, [], ◌∷◌}
 use Rattle.mdr_core.specs.declared.types.Ty.{Ty}

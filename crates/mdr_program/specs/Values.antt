@@ -1,3 +1,4 @@
+-- believed
 -- First values of globals, cell by cell (C99 6.7.8).
 use Rattle.std.specs.Prelude.{ℕ, List, [], ◌∷◌, ◌++◌, map, position, Option, Some, None, slice_get}
 use Rattle.mdr_core.specs.declared.types.Ty.{Ty}

@@ -106,9 +106,9 @@ pub fn made(alloc: Global, parts: Parts) -> Result<Program, OutOfMemory>
 {
     match occurring_types(alloc, &parts) {
         Ok(types) => made_of(alloc, parts, types),
-        Err(_) => {
+        Err(error) => {
             drop(parts);
-            Err(OutOfMemory)
+            Err(error.into())
         }
     }
 }

@@ -1,3 +1,4 @@
+-- protocol
 -- What a search for the visible cells answers.
 use Rattle.std.specs.Prelude.{◌≡◌, ℕ, ◌<◌, true, List, map, Result, Ok, Err}
 use Rattle.mdr_cells.specs.Names.{cell_of}

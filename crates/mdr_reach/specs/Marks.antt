@@ -1,3 +1,4 @@
+-- protocol
 -- Cells that are marked as visible, and what the code has at hand of memory.
 use Rattle.std.specs.Prelude.{◌≡◌, ℕ, ◌+◌, ◌*◌, ◌-◌, ◌==◌, nat_lt, Result, Ok, Err, MatchResult, ℤ, pos, negsuc, Bool, true, false, not, ◌&&◌, ◌⊎◌, List, [], ◌∷◌, ◌++◌, map, Option, Some, None, is_some, slice_get, drop, take}
 use Rattle.std.specs.HashSet.{HashSet}

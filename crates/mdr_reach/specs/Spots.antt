@@ -1,3 +1,4 @@
+-- protocol
 -- The table of what stands around the cells of types.
 use Rattle.std.specs.Prelude.{◌≡◌, ℕ, ◌+◌, ◌<◌, List, [], ◌∷◌, ◌++◌, length, map, Option, Some, None, slice_get, unwrap_or}
 use Rattle.mdr_access.specs.KeyOrder.{keys}

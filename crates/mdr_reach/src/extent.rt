@@ -21,7 +21,7 @@ use crate::searches::first_empty;
 use mdr_core::{Ann, OutOfMemory, Program, Ty, Value, View};
 
 /// So many elements from a pointer's index on, or failure.
-#[derive(Clone, Copy, Debug, PartialEq, Eq)]
+#[derive(Clone, Copy)]
 pub enum Extent {
     Elements(u64),
     Fails,

@@ -11,7 +11,7 @@ use mdr_core::{Items, Key, OutOfMemory, Program, Ty};
 use std::alloc::Global;
 
 /// The rows of structs, that of a scalar, and that of nothing.
-#[derive(Debug, Drop)]
+#[derive(Drop)]
 pub struct Layouts {
     pub rows: Items<Row>,
     pub lone: Row,

@@ -3,7 +3,7 @@
 use mdr_core::{Ann, Value};
 
 /// A value that is passed, with its annotation.
-#[derive(Clone, Copy, Debug, PartialEq, Eq)]
+#[derive(Clone, Copy)]
 pub struct Root {
     pub ann: Ann,
     pub value: Value,

@@ -14,7 +14,7 @@ use std::alloc::Global;
 
 /// What stands innermost around a cell: no struct, or a field of one, and whether the field's key is among those that may
 /// be touched.
-#[derive(Clone, Copy, Debug, PartialEq, Eq)]
+#[derive(Clone, Copy)]
 pub enum Around {
     Nothing,
     Field(u32, u32, bool),
@@ -22,7 +22,7 @@ pub enum Around {
 
 /// The cells of an element of a type: of each what stands around it, and how many cells of that struct come before it.
 /// Of a struct also the cell with which each field begins.
-#[derive(Debug, Drop)]
+#[derive(Drop)]
 pub struct Row {
     pub arounds: Items<Around>,
     pub offsets: Items<usize>,

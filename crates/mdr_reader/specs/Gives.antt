@@ -1,3 +1,4 @@
+-- protocol
 -- What a function returned is what is read at the front of the tokens, unless memory ran out.
 use Rattle.std.specs.Prelude.{ℕ, Bool, false, nat_eq, true, length, ◌≡◌, List, Option, Some, None, [], ◌∷◌, Result, Ok, Err}
 use Rattle.mdr_core.specs.Layout.{chosen}

@@ -6,7 +6,7 @@ ghost use Rattle.mdr_reader.specs.Gives.{is_at as is_fault_at};
 use std::alloc::{AllocError, AllocFailed};
 
 /// Why nothing was read: no memory, or a token that can't stand there, told by how many are left.
-#[derive(Clone, Copy, Debug)]
+#[derive(Clone, Copy)]
 pub enum Failure {
     Memory,
     Fault(usize),

@@ -13,7 +13,7 @@ use mdr_syntax::{Lexeme, Token};
 use std::alloc::{AllocError, Global};
 
 /// What all of reading needs: an allocator, and whether `__remote` may stand in the text.
-#[derive(Clone, Copy, Debug)]
+#[derive(Clone, Copy)]
 pub struct Reader {
     pub alloc: Global,
     pub halves: bool,

@@ -9,7 +9,7 @@ ghost use Rattle.mdr_region.specs.PlacesView.{AreSound, Fits};
 
 use crate::holes::{Hole, drop_top, first_of, give_back, take_first};
 use crate::lives::Lives;
-use mdr_core::OutOfMemory;
+use mdr_core::{Limit, OutOfMemory};
 use std::alloc::Global;
 
 // Where a block begins, and where the top is with it.
@@ -96,14 +96,12 @@ impl Places {
         ensures as_before { OnErr result (vec_capacity self.new.holes ≡ vec_capacity self.old.holes) }
     {
         let Some(most) = self.live.checked_add(blocks) else {
-            return Err(OutOfMemory);
+            return Err(Limit::Blocks.past());
         };
         if most <= self.holes.capacity() {
             return Ok(());
         }
-        if self.holes.reserve(most).is_err() {
-            return Err(OutOfMemory);
-        }
+        self.holes.reserve(most)?;
         Ok(())
     }
 
@@ -125,11 +123,11 @@ impl Places {
         ensures succeeds { Fits self.old cells → self.old.live < vec_capacity self.old.holes → self.old.births < 2 ^ 64 - 1 → IsOk result }
     {
         if self.births == u64::MAX {
-            return Err(OutOfMemory);
+            return Err(Limit::Births.past());
         }
         self.make_room(1)?;
         let Some(placed) = place(&mut self.holes, cells as usize, self.top) else {
-            return Err(OutOfMemory);
+            return Err(Limit::Cells.past());
         };
         self.top = placed.top;
         self.taken += cells as usize;

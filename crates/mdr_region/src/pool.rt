@@ -9,7 +9,7 @@ ghost use Rattle.mdr_region.specs.PlacesView.{IsSound};
 ghost use Rattle.mdr_region.specs.Cells.{cells_of, written, put_cell};
 
 use crate::places::Places;
-use mdr_core::{OutOfMemory, Value};
+use mdr_core::{Limit, OutOfMemory, Value};
 use std::alloc::Global;
 
 /// The cells of all blocks, each at its place. `cells_left` and `births_left` are what was reserved.
@@ -97,9 +97,7 @@ impl Pool {
         ensures same_serials { OnErr result (self.new.places.births ≡ self.old.places.births) }
         ensures succeeds { length first.now ≤ self.old.cells_left → 0 < self.old.births_left → IsOk result }
     {
-        if self.values.reserve(first.len()).is_err() {
-            return Err(OutOfMemory);
-        }
+        self.values.reserve(first.len())?;
         let start = self.places.birth(first.len() as u32)?;
         if self.values.extend_from_slice(first).is_err() {
             unreachable!()
@@ -197,12 +195,10 @@ impl Pool {
         ensures same_births { OnErr result (self.new.births_left ≡ self.old.births_left) }
     {
         if births as u64 > u64::MAX - self.places.births {
-            return Err(OutOfMemory);
+            return Err(Limit::Births.past());
         }
         self.places.make_room(births)?;
-        if self.values.reserve(cells).is_err() {
-            return Err(OutOfMemory);
-        }
+        self.values.reserve(cells)?;
         if self.cells_left < cells {
             self.cells_left = cells;
         }

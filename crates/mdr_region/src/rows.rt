@@ -77,12 +77,8 @@ impl Rows {
         ensures room { OnOk result (HasRoomFor self.new.rows 1) }
         ensures succeeds { 0 < self.old.pool.births_left → IsOk result }
     {
-        if self.live.reserve(1).is_err() {
-            return Err(OutOfMemory);
-        }
-        if self.rows.reserve(1).is_err() {
-            return Err(OutOfMemory);
-        }
+        self.live.reserve(1)?;
+        self.rows.reserve(1)?;
         let slot = next_slot(&mut self.rows)?;
         Ok(Block {
             slot,
@@ -272,9 +268,7 @@ impl Rows {
         ensures room { OnOk result (HasRoomFor self.new.rows births) }
         ensures small { OnOk result (self.new.rows.capacity ≤ 2 ^ 32) }
     {
-        if self.live.reserve(births).is_err() {
-            return Err(OutOfMemory);
-        }
+        self.live.reserve(births)?;
         make_slots(&mut self.rows, births)
     }
 

@@ -4,7 +4,7 @@ ghost use Rattle.std.specs.Prelude.{◌≡◌, ◌<◌, ◌≤◌, ◌+◌, ◌^
 ghost use Rattle.slab.specs.Slab.{HasRoomFor, SameValues, slab_len};
 ghost use Rattle.mdr_region.specs.Slots.{is_there, row_in, current_at, settled};
 
-use mdr_core::{Block, OutOfMemory, Value};
+use mdr_core::{Block, Limit, OutOfMemory, Value};
 use mdr_model::{BirthKind, New};
 use slab::Slab;
 
@@ -83,7 +83,7 @@ pub fn next_slot(rows: &mut Slab<Row>) -> Result<u32, OutOfMemory>
     let slot = rows.insert_reserved(no_row());
     rows.remove(slot);
     if slot >= TOO_MANY {
-        return Err(OutOfMemory);
+        return Err(Limit::Blocks.past());
     }
     Ok(slot as u32)
 }
@@ -115,7 +115,7 @@ pub fn make_slots(rows: &mut Slab<Row>, more: usize) -> Result<(), OutOfMemory>
         return grow_slots(rows, more);
     }
     if rows.capacity() > TOO_MANY {
-        return Err(OutOfMemory);
+        return Err(Limit::Blocks.past());
     }
     Ok(())
 }
@@ -132,11 +132,9 @@ fn grow_slots(rows: &mut Slab<Row>, more: usize) -> Result<(), OutOfMemory>
     ensures as_before { OnErr result (rows.new ≡ rows.old) }
 {
     let mut larger = rows.clone()?;
-    if larger.reserve(more).is_err() {
-        return Err(OutOfMemory);
-    }
+    larger.reserve(more)?;
     if larger.capacity() > TOO_MANY {
-        return Err(OutOfMemory);
+        return Err(Limit::Blocks.past());
     }
     *rows = larger;
     Ok(())

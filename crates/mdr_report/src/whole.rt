@@ -39,6 +39,6 @@ pub fn report_whole(
     let mut out = Vec::new(alloc);
     match put_whole(alloc, &mut out, program, outcome) {
         Ok(()) => Ok(Items::from_vec(out)),
-        Err(_) => Err(OutOfMemory),
+        Err(error) => Err(error.into()),
     }
 }

@@ -27,7 +27,7 @@ use Rattle.mdr_plain.specs.Scripts.{Finish, and_then, begin, begun, called_by, c
 use Rattle.mdr_plain.specs.Storage.{next_serial}
 use Rattle.mdr_plain.specs.World.{Ended, Ran, Stopped, Work, World, advanced, after, counted, left, noted, then}
 use Rattle.mdr_plain.proofs.KeepLaws.{interrupts_keep}
-use Rattle.mdr_script.specs.declared.bound.Bound.{Bound}
+use Rattle.mdr_bound.specs.declared.bound.Bound.{Bound}
 use Rattle.mdr_watched.specs.Driver.{Driver, driver_of, is_user}
 use Rattle.mdr_watched.specs.Kept.{due_plainly, followed_of, free, unless_due}
 use Rattle.mdr_watched.specs.Views.{living}

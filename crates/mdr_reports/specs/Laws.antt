@@ -1,3 +1,4 @@
+-- for proofs
 -- Laws of reports: where a run keeps its annotations, the watched run has the plain run's report.
 use Rattle.std.specs.Prelude.{◌≡◌, ℕ, false, List}
 use Rattle.mdr_core.specs.declared.plan.Plan.{Plan}
@@ -7,7 +8,7 @@ use Rattle.mdr_holds.specs.Laws.{IsScript}
 use Rattle.mdr_plain.specs.Outcome.{outcome_of}
 use Rattle.mdr_plain.specs.Plain.{plain}
 use Rattle.mdr_plain.specs.Report.{report}
-use Rattle.mdr_script.specs.declared.bound.Bound.{Bound}
+use Rattle.mdr_bound.specs.declared.bound.Bound.{Bound}
 use Rattle.mdr_scoped.specs.Scopes.{IsScoped}
 use Rattle.mdr_slice.specs.declared.halves.Halves.{Halves}
 use Rattle.mdr_slice.specs.Graph.{AreCallees, AreRoots}

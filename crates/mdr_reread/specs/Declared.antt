@@ -1,3 +1,4 @@
+-- for proofs
 -- Declarations and initialisers whose text can be read again.
 use Rattle.std.specs.Prelude.{Bool, true, ◌&&◌, Option, Some, None}
 use Rattle.std.specs.List.{list_all}

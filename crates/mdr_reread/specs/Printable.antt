@@ -1,3 +1,4 @@
+-- for proofs
 -- Expressions whose text can be read again.
 use Rattle.std.specs.Prelude.{Bool, true, ◌&&◌, List}
 use Rattle.std.specs.List.{list_all}

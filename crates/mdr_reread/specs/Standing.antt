@@ -1,3 +1,4 @@
+-- for proofs
 -- Marks whose tokens are apart, by the byte that stands behind them.
 use Rattle.std.specs.Prelude.{◌≡◌, ℕ, Bool, true, false, ◌==◌, ◌&&◌, not, List, slice_index}
 use Rattle.mdr_syntax.specs.Bytes.{is_name_byte, is_number_byte}

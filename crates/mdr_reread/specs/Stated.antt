@@ -1,3 +1,4 @@
+-- for proofs
 -- Statements whose text can be read again.
 use Rattle.std.specs.Prelude.{Bool, true, ◌&&◌}
 use Rattle.std.specs.List.{list_all}

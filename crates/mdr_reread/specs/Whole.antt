@@ -1,3 +1,4 @@
+-- for proofs
 -- Items and trees whose text can be read again.
 use Rattle.std.specs.Prelude.{ℕ, Bool, not, ◌&&◌, List, map}
 use Rattle.std.specs.List.{list_all}

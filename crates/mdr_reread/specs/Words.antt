@@ -1,3 +1,4 @@
+-- for proofs
 -- What tokens must be for their text to be read again (C99 6.4).
 use Rattle.std.specs.Prelude.{ℕ, ◌^◌, Bool, true, false, ◌==◌, ◌||◌, ◌&&◌, nat_lt, nat_le, List, [], ◌∷◌, codes}
 use Rattle.std.specs.List.{list_any, list_all}

@@ -1,3 +1,4 @@
+-- for proofs
 -- Sources that are read, printed and read again (C99 5.1.1.2, 6.9).
 use Rattle.std.specs.Prelude.{◌≡◌, Bool, List, Ok}
 use Rattle.mdr_syntax.specs.declared.token.Token.{Token}

@@ -1,3 +1,4 @@
+-- for proofs
 -- Expressions that are statements by themselves: calls, and forms with `++` or `--` (C99 6.8.3).
 use Rattle.std.specs.Prelude.{Bool, true, false}
 use Rattle.mdr_syntax.specs.declared.tree.Form.{Form}

@@ -1,3 +1,4 @@
+-- for proofs
 -- Declarations as they are read, by where they stand and how many parentheses are open there; and with their places set aside (C99 6.7.5).
 use Rattle.std.specs.Prelude.{ℕ, ◌+◌, Bool, true, false, ◌&&◌, Option, Some, None, List, map}
 use Rattle.std.specs.Option.{option_map}

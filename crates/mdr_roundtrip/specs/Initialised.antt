@@ -1,3 +1,4 @@
+-- for proofs
 -- Initialisers as they are read, by how many braces are open before them; and with their places set aside (C99 6.7.8).
 use Rattle.std.specs.Prelude.{ℕ, ◌+◌, Bool, true, false, ◌&&◌, Option, Some, None, List, [], ◌∷◌, map}
 use Rattle.std.specs.List.{list_all}

@@ -1,3 +1,4 @@
+-- for proofs
 -- Items and trees as they are read, and with their places set aside (C99 6.7, 6.9).
 use Rattle.std.specs.Prelude.{ℕ, Bool, true, false, not, ◌&&◌, ◌||◌, List, map}
 use Rattle.std.specs.List.{list_all}

@@ -1,3 +1,4 @@
+-- for proofs
 -- What the lexer's tokens are (C99 6.4).
 use Rattle.std.specs.Prelude.{Bool, true, ◌&&◌, List}
 use Rattle.std.specs.List.{list_all}

@@ -1,3 +1,4 @@
+-- for proofs
 -- Expressions as they are read: which stand as expressions, as what is called, and as arguments (C99 6.5).
 use Rattle.std.specs.Prelude.{ℕ, Bool, true, false, ◌&&◌, ◌||◌, not, nat_le, List, [], ◌∷◌, map, codes}
 use Rattle.std.specs.List.{list_all}

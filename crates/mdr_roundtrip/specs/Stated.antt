@@ -1,3 +1,4 @@
+-- for proofs
 -- Statements as they are read, by the level at which they stand; and with their places set aside (C99 6.8).
 use Rattle.std.specs.Prelude.{ℕ, ◌+◌, Bool, true, false, ◌&&◌, ◌||◌, is_none, Option, Some, None, List, [], ◌∷◌, map, codes}
 use Rattle.std.specs.List.{list_all}

@@ -1,3 +1,4 @@
+-- for proofs
 -- Expressions with their places set aside.
 use Rattle.std.specs.Prelude.{List, map}
 use Rattle.mdr_core.specs.declared.place.Place.{Place}

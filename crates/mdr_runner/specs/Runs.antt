@@ -1,3 +1,4 @@
+-- believed
 -- What running a script over a source on one memory does to the shelf, and what is due for it: one constructor for each way that it goes.
 use Rattle.std.specs.Prelude.{◌≡◌, ℕ, true, false, List}
 use Rattle.mdr_core.specs.declared.plan.Plan.{Plan}
@@ -6,7 +7,7 @@ use Rattle.mdr_cut.specs.Cuts.{IsPlanOf}
 use Rattle.mdr_outside.specs.Calls.{ShelfCall}
 use Rattle.mdr_model.specs.declared.outcome.End.{End}
 use Rattle.mdr_model.specs.declared.outcome.End.TheVariants as ends
-use Rattle.mdr_script.specs.declared.bound.Bound.{Bound}
+use Rattle.mdr_bound.specs.declared.bound.Bound.{Bound}
 use Rattle.mdr_plain.specs.declared.outcome.Outcome.{Outcome}
 use Rattle.mdr_plain.specs.Outcome.{outcome_of}
 use Rattle.mdr_plain.specs.Plain.{plain}

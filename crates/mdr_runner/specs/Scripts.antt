@@ -1,9 +1,10 @@
+-- believed
 -- The script that is run over a source, and what is due where there is none.
 use Rattle.std.specs.Prelude.{◌≡◌, ℕ, List, codes, Result, Ok, Err}
 use Rattle.mdr_core.specs.declared.program.Program.{Program}
 use Rattle.mdr_outside.specs.Calls.{ShelfCall}
 use Rattle.mdr_outside.specs.declared.shelf.ReadAnswer.TheVariants as reads
-use Rattle.mdr_script.specs.declared.bound.Bound.{Bound}
+use Rattle.mdr_bound.specs.declared.bound.Bound.{Bound}
 use Rattle.mdr_script.specs.declared.script.Script.{Script}
 use Rattle.mdr_script.specs.declared.script_error.ScriptKind.{ScriptKind}
 use Rattle.mdr_script.specs.declared.script_error.ScriptKind.TheVariants.{Form, Range, Order, NoFunction, Arity, ArgKind, NoGlobal, Limit}

@@ -1,7 +1,7 @@
 // What a run on one memory is asked for.
 
 /// The manner in which a script is run on one memory.
-#[derive(Clone, Copy, Debug, PartialEq, Eq)]
+#[derive(Clone, Copy)]
 pub struct Manner {
     /// The budget.
     pub ticks: u64,

@@ -5,10 +5,10 @@ ghost use Rattle.mdr_core.specs.Sound.{IsSound};
 ghost use Rattle.mdr_runner.specs.Runs.{IsOutcome};
 
 use crate::manner::Manner;
+use mdr_bound::Bound;
 use mdr_core::{OutOfMemory, Program};
 use mdr_cut::plan_of;
 use mdr_plain::Outcome;
-use mdr_script::Bound;
 use mdr_watch::run_watched;
 use mdr_whole::run_whole;
 use std::alloc::Global;

@@ -10,11 +10,11 @@ use crate::ending::status_of;
 use crate::manner::Manner;
 use crate::outcomes::outcome_in;
 use crate::scripts::script_of;
+use mdr_bound::Bound;
 use mdr_core::{OutOfMemory, Program};
 use mdr_due::{Due, Stage};
 use mdr_outside::Shelf;
 use mdr_report::report_whole;
-use mdr_script::Bound;
 use mdr_slicer::source_of;
 use std::alloc::Global;
 

@@ -9,10 +9,11 @@ ghost use Rattle.mdr_script.specs.Scripts.{Told};
 ghost use Rattle.mdr_runner.specs.Scripts.{script_for, kind_word, HasScript, NoScript, IsScriptOf, NoScriptOf};
 
 use crate::kinds::kind_word;
+use mdr_bound::Bound;
 use mdr_core::{OutOfMemory, Program};
 use mdr_due::{Due, Stage, Status, file, script_line};
 use mdr_outside::Shelf;
-use mdr_script::{Bound, ScriptError, ScriptKind, bind, read_script};
+use mdr_script::{ScriptError, ScriptKind, bind, read_script};
 use std::alloc::Global;
 
 /// The largest script: 256 KiB.
@@ -48,7 +49,7 @@ fn judged(alloc: Global, program: &Program, bytes: &[u8]) -> Result<Stage<Bound>
             let due = refused(alloc, line, kind)?;
             Ok(Stage::Ends(due))
         }
-        Err(ScriptError::OutOfMemory) => Err(OutOfMemory),
+        Err(ScriptError::OutOfMemory) => Err(OutOfMemory::passed_on()),
     }
 }
 

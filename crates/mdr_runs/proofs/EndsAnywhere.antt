@@ -4,13 +4,13 @@ use Rattle.mdr_core.specs.declared.place.At.{At}
 use Rattle.mdr_core.specs.declared.stop.StopKind.{StopKind}
 use Rattle.mdr_core.specs.declared.stop.StopKind.TheVariants as stop
 use Rattle.mdr_core.specs.declared.value.Value.{Value}
-use Rattle.mdr_exec.specs.declared.event.Asked.{Asked as Question}
-use Rattle.mdr_exec.specs.declared.event.Crossing.{Crossing as Call}
-use Rattle.mdr_exec.specs.declared.event.Event.TheVariants as event
-use Rattle.mdr_exec.specs.Events.{asked_as}
-use Rattle.mdr_exec.specs.Held.{Held, tree}
-use Rattle.mdr_exec.specs.Holding.{wires_of}
-use Rattle.mdr_exec.specs.Running.{WantsTick}
+use Rattle.mdr_events.specs.declared.event.Asked.{Asked as Question}
+use Rattle.mdr_events.specs.declared.event.Crossing.{Crossing as Call}
+use Rattle.mdr_events.specs.declared.event.Event.TheVariants as event
+use Rattle.mdr_events.specs.Events.{asked_as}
+use Rattle.mdr_events.specs.Held.{Held, tree}
+use Rattle.mdr_events.specs.Running.{WantsTick}
+use Rattle.mdr_events.specs.Values.{wires_of}
 use Rattle.mdr_meaning.specs.declared.wire.Wire.{Wire}
 use Rattle.mdr_meaning.specs.Sides.{Side}
 use Rattle.mdr_meaning.specs.Tree.{Tree}

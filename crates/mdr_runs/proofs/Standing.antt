@@ -2,14 +2,14 @@
 use Rattle.std.proofs.Common.{◌≡◌, ℕ, zero, suc, ◌+◌, ◌-◌, ◌≤◌, List, [], ◌∷◌, Some, refl, sym, ◌∙◌, ap, arith, le_refl, subst}
 use Rattle.mdr_core.specs.declared.place.At.{At}
 use Rattle.mdr_core.specs.declared.program.Program.{Program}
-use Rattle.mdr_exec.specs.declared.event.Event.{Event}
-use Rattle.mdr_exec.specs.declared.event.Event.TheVariants as event
-use Rattle.mdr_exec.specs.Events.{asked_as}
-use Rattle.mdr_exec.specs.Going.{RanTo}
-use Rattle.mdr_exec.specs.Held.{Held, tree}
-use Rattle.mdr_exec.specs.Holding.{wires_of}
-use Rattle.mdr_exec.specs.Running.{RunsTo, WantsTick}
-use Rattle.mdr_exec.specs.Steps.{after as came_after}
+use Rattle.mdr_events.specs.declared.event.Event.{Event}
+use Rattle.mdr_events.specs.declared.event.Event.TheVariants as event
+use Rattle.mdr_events.specs.Events.{asked_as}
+use Rattle.mdr_events.specs.Going.{RanTo}
+use Rattle.mdr_events.specs.Held.{Held, tree}
+use Rattle.mdr_events.specs.Running.{RunsTo, WantsTick}
+use Rattle.mdr_events.specs.Steps.{after as came_after}
+use Rattle.mdr_events.specs.Values.{wires_of}
 use Rattle.mdr_meaning.specs.declared.wire.Wire.{Wire}
 use Rattle.mdr_meaning.specs.Bodies.{started}
 use Rattle.mdr_meaning.specs.Sides.{Side}

@@ -1,16 +1,17 @@
+-- protocol
 -- What follows an event of running code, whatever stands around it.
 use Rattle.std.specs.Prelude.{◌≡◌, ◌≤◌, ℕ, List, [], ◌∷◌, Some, Result, Ok, Err}
 use Rattle.mdr_core.specs.declared.place.At.{At}
 use Rattle.mdr_core.specs.declared.program.Program.{Program}
 use Rattle.mdr_core.specs.declared.stop.StopKind.{StopKind}
-use Rattle.mdr_exec.specs.declared.event.Event.{Event}
-use Rattle.mdr_exec.specs.declared.event.Event.TheVariants as event
-use Rattle.mdr_exec.specs.Events.{asked_as}
-use Rattle.mdr_exec.specs.Held.{Held, tree}
-use Rattle.mdr_exec.specs.Holding.{wires_of}
-use Rattle.mdr_exec.specs.Running.{WantsTick}
-use Rattle.mdr_exec.specs.Steps.{Came, child}
-use Rattle.mdr_exec.specs.Steps as came
+use Rattle.mdr_events.specs.declared.event.Event.{Event}
+use Rattle.mdr_events.specs.declared.event.Event.TheVariants as event
+use Rattle.mdr_events.specs.Events.{asked_as}
+use Rattle.mdr_events.specs.Held.{Held, tree}
+use Rattle.mdr_events.specs.Running.{WantsTick}
+use Rattle.mdr_events.specs.Steps as came
+use Rattle.mdr_events.specs.Steps.{Came, child}
+use Rattle.mdr_events.specs.Values.{wires_of}
 use Rattle.mdr_meaning.specs.declared.shape.Shape64.{Shape64}
 use Rattle.mdr_meaning.specs.declared.wire.Wire.{Wire}
 use Rattle.mdr_meaning.specs.Sides.{Side}

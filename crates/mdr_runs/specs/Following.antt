@@ -1,8 +1,9 @@
+-- protocol
 -- What follows an event of running code, where all of a driver's code runs on one memory.
 use Rattle.std.specs.Prelude.{ℕ, Bool, true, false, List}
 use Rattle.mdr_core.specs.declared.program.Program.{Program}
-use Rattle.mdr_exec.specs.declared.event.Event.{Event}
-use Rattle.mdr_exec.specs.Held.{Held}
+use Rattle.mdr_events.specs.declared.event.Event.{Event}
+use Rattle.mdr_events.specs.Held.{Held}
 use Rattle.mdr_meaning.specs.declared.wire.Wire.{Wire}
 use Rattle.mdr_meaning.specs.Sides.{Side}
 use Rattle.mdr_meaning.specs.Tree.{Tree}

@@ -1,3 +1,4 @@
+-- protocol
 -- One tick in which no code runs.
 use Rattle.std.specs.Prelude.{None}
 use Rattle.mdr_plain.specs.Running.{Before}

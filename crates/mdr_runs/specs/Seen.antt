@@ -1,3 +1,4 @@
+-- for proofs
 -- The memory that code runs on, seen as the world of a driver that runs.
 use Rattle.std.specs.Prelude.{◌≡◌, ℕ}
 use Rattle.mdr_core.specs.declared.program.Program.{Program}

@@ -1,5 +1,5 @@
-//! How the code of a driver runs from event to event: laws about what `mdr_plain` says of a run and what a machine of
-//! `mdr_exec` comes to, whatever stands around the code, and for all of a driver's code on one memory. Laws alone: nothing
+//! How the code of a driver runs from event to event: laws about what `mdr_plain` says of a run and what running code comes
+//! to (`mdr_events`), whatever stands around the code, and for all of a driver's code on one memory. Laws alone: nothing
 //! here runs.
 #![tactic(auto)]
 

@@ -1,3 +1,4 @@
+-- for proofs
 -- Values as they are now: no pointer among them names a block that has died. What code of a sound program passes on is so, where objects are named where they live.
 use Rattle.std.specs.Prelude.{◌≡◌, ℕ, ◌<◌, Bool, true, false, not, ◌&&◌, List, [], ◌∷◌, ◌++◌, length, Option, Some}
 use Rattle.std.specs.List.{list_any}

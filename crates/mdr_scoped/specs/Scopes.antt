@@ -1,3 +1,4 @@
+-- for proofs
 -- Code that names objects of locals only where they live: behind their declaration, up to the end of its block (C99 6.2.1, 6.2.4).
 use Rattle.std.specs.Prelude.{◌≡◌, ℕ, Bool, true, false, ◌==◌, List, [], ◌∷◌, Option, Some, None, slice_get}
 use Rattle.std.specs.List.{list_any}

@@ -1,3 +1,4 @@
+-- believed
 -- Names of a script bound to a program, and arguments checked against parameters.
 use Rattle.std.specs.Prelude.{◌≡◌, ℕ, Bool, true, false, ◌==◌, if◌then◌else◌, List, [], ◌∷◌, ◌++◌, length, Option, Some, None, Result, Ok, Err, ℤ, slice_get}
 use Rattle.std.specs.List.{list_any, position}
@@ -20,7 +21,7 @@ use Rattle.mdr_script.specs.declared.line.LineWhat.{LineWhat}
 use Rattle.mdr_script.specs.declared.line.LineWhat.TheVariants as what
 use Rattle.mdr_script.specs.declared.line.ScriptLine.{ScriptLine}
 use Rattle.mdr_script.specs.declared.script.Script.{Script}
-use Rattle.mdr_script.specs.declared.bound.Bound.{Bound}
+use Rattle.mdr_bound.specs.declared.bound.Bound.{Bound}
 use Rattle.mdr_script.specs.declared.unbound.Unbound.{Unbound}
 use Rattle.mdr_script.specs.declared.unbound.Unbound.TheVariants as unbound
 use Rattle.mdr_script.specs.declared.script_error.ScriptKind.{ScriptKind}

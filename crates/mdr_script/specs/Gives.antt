@@ -1,3 +1,4 @@
+-- believed
 -- What a function returned is what is read, unless memory ran out.
 use Rattle.std.specs.Prelude.{◌≡◌, Bool, if◌then◌else◌, List, Option, Some, None, Result, Ok, Err, ℕ}
 use Rattle.mdr_script.specs.declared.unread.Unread.{Unread}

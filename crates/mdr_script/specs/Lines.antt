@@ -1,3 +1,4 @@
+-- believed
 -- Reading a line of a script. Where `any` is true, each number will do in the place of any other.
 use Rattle.std.specs.Prelude.{ℕ, zero, suc, Bool, ◌==◌, ◌||◌, if◌then◌else◌, List, [], ◌∷◌, ◌++◌, length, Option, Some, None, codes}
 use Rattle.std.specs.Str.{bytes_eq}

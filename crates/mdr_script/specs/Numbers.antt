@@ -1,3 +1,4 @@
+-- believed
 -- Numbers, and the ranges in which they lie. 45 is `-`, 48 is `0`, 120 is `x`.
 use Rattle.std.specs.Prelude.{ℕ, ◌-◌, ◌^◌, min, Bool, true, false, ◌==◌, ◌&&◌, not, nat_lt, nat_le, if◌then◌else◌, List, [], ◌∷◌, Option, Some, None, ℤ, pos, neg_ℤ}
 use Rattle.std.specs.List.{list_all}

@@ -1,3 +1,4 @@
+-- believed
 -- Reading a rule of a device.
 use Rattle.std.specs.Prelude.{ℕ, zero, suc, Bool, if◌then◌else◌, List, [], ◌∷◌, ◌++◌, length, Option, Some, None, codes}
 use Rattle.std.specs.Str.{bytes_eq}

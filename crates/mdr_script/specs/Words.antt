@@ -1,3 +1,4 @@
+-- believed
 -- The words of a line. 32 is a blank, 9 a tab, 44 a comma, 35 is `#`.
 use Rattle.std.specs.Prelude.{ℕ, ◌-◌, Bool, false, ◌==◌, ◌&&◌, not, nat_lt, if◌then◌else◌, List, [], ◌∷◌, length, take, drop, Option, Some, slice_index}
 use Rattle.std.specs.List.{prefix_len, list_all}

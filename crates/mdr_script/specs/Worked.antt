@@ -1,3 +1,4 @@
+-- for proofs
 -- Lines and texts worked out.
 use Rattle.std.specs.Prelude.{◌≡◌, true, false, [], ◌∷◌, Some, None, Err, codes, negsuc}
 use Rattle.mdr_device.specs.declared.rule.Trigger.TheVariants as trigger

@@ -5,12 +5,12 @@ ghost use Rattle.std.specs.List.{position};
 ghost use Rattle.mdr_script.specs.Scripts.{Told};
 ghost use Rattle.mdr_script.specs.Binding.{Binds, LineBinds, func_number, values_bound, called, call_by, call_bound, show_bound, command_bound, commands_behind, bound_of};
 
-use crate::bound::Bound;
 use crate::line::{ArgText, LineWhat, ScriptLine};
 use crate::script::Script;
 use crate::script_error::{ScriptError, ScriptKind};
 use crate::unbound::Unbound;
 use crate::values::{bind_args, global_number, has_unknown, small};
+use mdr_bound::Bound;
 use mdr_core::{Func, Items, Param, Program, Value};
 use mdr_device::copied_rules;
 use mdr_model::Command;

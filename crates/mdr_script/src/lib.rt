@@ -3,7 +3,6 @@
 
 mod arguments;
 mod binding;
-mod bound;
 mod laws;
 mod line;
 mod lines;
@@ -18,7 +17,6 @@ mod values;
 mod words;
 
 pub use binding::bind;
-pub use bound::Bound;
 pub use laws::{a_scripts_text_has_no_fault, a_text_is_one_script, lines_are_read};
 pub use line::{ArgText, Line, LineWhat, ScriptLine};
 pub use reading::read_script;

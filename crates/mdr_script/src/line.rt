@@ -4,7 +4,7 @@ use mdr_core::{Items, Name};
 use mdr_device::Rule;
 
 /// An argument as it is written.
-#[derive(Debug, Drop)]
+#[derive(Drop)]
 pub enum ArgText {
     Int(i128),
     Null,
@@ -13,7 +13,7 @@ pub enum ArgText {
 }
 
 /// A command as it is written.
-#[derive(Debug, Drop)]
+#[derive(Drop)]
 pub enum LineWhat {
     /// Calls the function of this name.
     Call(Name, Items<ArgText>),
@@ -24,14 +24,14 @@ pub enum LineWhat {
 }
 
 /// A command and the number of its line, counted from 1.
-#[derive(Debug, Drop)]
+#[derive(Drop)]
 pub struct ScriptLine {
     pub line: u32,
     pub what: LineWhat,
 }
 
 /// What a line says.
-#[derive(Debug, Drop)]
+#[derive(Drop)]
 pub enum Line {
     /// It is empty or a comment.
     Nothing,

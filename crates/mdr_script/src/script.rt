@@ -14,7 +14,7 @@ use std::alloc::{AllocError, Global};
 
 /// A script: the words with which registers begin, the device's rules, the numbers of the allocations that fail, and
 /// the commands in order.
-#[derive(Debug, Drop)]
+#[derive(Drop)]
 pub struct Script {
     pub words: Items<(u32, u32)>,
     pub rules: Items<Rule>,

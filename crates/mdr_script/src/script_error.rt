@@ -6,7 +6,7 @@ ghost use Rattle.mdr_script.specs.declared.script_error.ScriptError.TheVariants.
 use std::alloc::{AllocError, AllocFailed};
 
 /// Why a line is refused.
-#[derive(Clone, Copy, Debug, PartialEq, Eq)]
+#[derive(Clone, Copy)]
 pub enum ScriptKind {
     /// It is no line of a script, whatever its numbers are.
     Form,
@@ -27,7 +27,7 @@ pub enum ScriptKind {
 }
 
 /// Why a script is refused.
-#[derive(Clone, Copy, Debug, PartialEq, Eq)]
+#[derive(Clone, Copy)]
 pub enum ScriptError {
     /// The first line that is refused, counted from 1.
     Line(u32, ScriptKind),

@@ -7,7 +7,7 @@ use crate::script_error::ScriptKind;
 use std::alloc::{AllocError, AllocFailed};
 
 /// Why something was not bound.
-#[derive(Clone, Copy, Debug)]
+#[derive(Clone, Copy)]
 pub enum Unbound {
     Kind(ScriptKind),
     OutOfMemory,

@@ -25,7 +25,7 @@ use Rattle.mdr_plain.specs.Outcome.{outcome_of}
 use Rattle.mdr_plain.specs.Scripts.{Finish, and_then, commands, first_world}
 use Rattle.mdr_plain.specs.Storage.{first_memory, next_serial}
 use Rattle.mdr_plain.specs.World.{World, Ended, Stopped, Work}
-use Rattle.mdr_script.specs.declared.bound.Bound.{Bound}
+use Rattle.mdr_bound.specs.declared.bound.Bound.{Bound}
 use Rattle.mdr_model.proofs.FuelLaws.{allowance-append, allowance_one}
 use Rattle.mdr_split.proofs.FuelLaws.{reply_with_fuel, user_after-append}
 use Rattle.mdr_split.specs.Kernel.{first_kernel, next, run_from_pending, split_commands, split_run}

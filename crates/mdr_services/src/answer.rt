@@ -11,7 +11,7 @@ use mdr_core::{Items, StopKind, Value};
 use std::alloc::{AllocError, Global};
 
 /// What a service comes to: its results, or a stop at the place where it was asked for.
-#[derive(Debug, Drop)]
+#[derive(Drop)]
 pub enum Served {
     Done(Items<Value>),
     Stop(StopKind),

@@ -1,7 +1,7 @@
 // The arguments of a question.
 
 ghost use Rattle.std.specs.Prelude.{◌≡◌, IfOk, map};
-ghost use Rattle.mdr_exec.specs.Holding.{wires_of};
+ghost use Rattle.mdr_events.specs.Values.{wires_of};
 ghost use Rattle.mdr_meaning.specs.Values.{first_of, natural, natural_of, rest_of, wire_of};
 ghost use Rattle.mdr_model.specs.Memory.{normal};
 ghost use Rattle.mdr_plain.specs.Services.{function_named};

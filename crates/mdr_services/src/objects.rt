@@ -2,7 +2,7 @@
 
 ghost use Rattle.std.specs.Prelude.{◌≡◌, IfOk, OnOk};
 ghost use Rattle.mdr_core.specs.declared.place.At.{At as Place};
-ghost use Rattle.mdr_exec.specs.Holding.{wires_of};
+ghost use Rattle.mdr_events.specs.Values.{wires_of};
 ghost use Rattle.mdr_model.specs.declared.message.BirthKind.TheVariants as kind;
 ghost use Rattle.mdr_plain.specs.Services.{as_served, gives_none};
 ghost use Rattle.mdr_plain.specs.Storage.{births, deaths};
@@ -10,7 +10,7 @@ ghost use Rattle.mdr_services.specs.Serving.{served_as};
 
 use crate::answer::{Served, nothing};
 use mdr_core::{OutOfMemory, Value};
-use mdr_exec::Memory;
+use mdr_events::Memory;
 use mdr_meaning::Shape64;
 use mdr_model::BirthKind;
 use mdr_world::World;

@@ -5,7 +5,7 @@ ghost use Rattle.mdr_core.specs.Services.{service_numbered};
 ghost use Rattle.mdr_services.specs.Serving.{service_as};
 
 /// A service of the kernel. In the order of the variants they have the numbers 1 to 14.
-#[derive(Clone, Copy, Debug, PartialEq, Eq)]
+#[derive(Clone, Copy)]
 pub enum Service {
     /// Allocates one object.
     Kzalloc,

@@ -2,8 +2,8 @@
 
 ghost use Rattle.std.specs.Prelude.{◌≡◌, IfOk, OnOk, Some};
 ghost use Rattle.mdr_core.specs.Services.{service_numbered};
-ghost use Rattle.mdr_exec.specs.Events.{asked_as};
-ghost use Rattle.mdr_exec.specs.Holding.{wires_of};
+ghost use Rattle.mdr_events.specs.Events.{asked_as};
+ghost use Rattle.mdr_events.specs.Values.{wires_of};
 ghost use Rattle.mdr_plain.specs.Services.{served, served_by};
 ghost use Rattle.mdr_services.specs.Serving.{served_as, service_as, with_args};
 
@@ -18,7 +18,7 @@ use crate::registers::{read_register, write_register};
 use crate::service::{Service, numbered};
 use crate::texts::{deliver, print};
 use mdr_core::{OutOfMemory, StopKind, Value};
-use mdr_exec::Asked;
+use mdr_events::Asked;
 use mdr_world::World;
 use std::alloc::Global;
 

@@ -1,3 +1,4 @@
+-- protocol
 -- Blocks that were met, and the number that each has as an object.
 use Rattle.std.specs.Prelude.{◌≡◌, ℕ, ◌+◌, List, Option, ◌==◌, nat_eq}
 use Rattle.std.specs.HashMap.{get}

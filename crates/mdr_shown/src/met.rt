@@ -4,7 +4,7 @@ ghost use Rattle.std.specs.Prelude.{◌≡◌, ◌++◌, [], ◌∷◌, length, 
 ghost use Rattle.mdr_plain.specs.Outcome.{first_serials, is_among, object_number, with_block};
 ghost use Rattle.mdr_shown.specs.Met.{AreNumbered};
 
-use mdr_core::OutOfMemory;
+use mdr_core::{Limit, OutOfMemory};
 use std::alloc::Global;
 use std::collections::HashMap;
 
@@ -39,7 +39,7 @@ fn small(number: usize) -> Result<u32, OutOfMemory>
 {
     match u32::try_from(number) {
         Ok(n) => Ok(n),
-        Err(_) => Err(OutOfMemory),
+        Err(_) => Err(Limit::Unmet.past()),
     }
 }
 

@@ -1,7 +1,7 @@
 // Which blocks are shown, and in which order.
 
 ghost use Rattle.std.specs.Prelude.{◌≡◌, length, IfOk, OnOk, slice_get};
-ghost use Rattle.mdr_exec.specs.Holding.{wires_of};
+ghost use Rattle.mdr_events.specs.Values.{wires_of};
 ghost use Rattle.mdr_meaning.specs.Values.{wire_of};
 ghost use Rattle.mdr_plain.specs.Outcome.{cells_shown, met_in, scanned, shown_blocks, with_named};
 ghost use Rattle.mdr_plain.specs.Scripts.{block_cells};

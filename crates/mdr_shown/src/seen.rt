@@ -2,7 +2,7 @@
 
 ghost use Rattle.std.specs.Prelude.{◌≡◌, ◌++◌, IfOk, OnOk, map};
 ghost use Rattle.mdr_core.specs.Sound.{IsSound};
-ghost use Rattle.mdr_exec.specs.Holding.{wires_of};
+ghost use Rattle.mdr_events.specs.Values.{wires_of};
 ghost use Rattle.mdr_meaning.specs.declared.wire.Wire.TheVariants as wire;
 ghost use Rattle.mdr_meaning.specs.Pointers.{position, size};
 ghost use Rattle.mdr_meaning.specs.Values.{wire_of, wire_view};
@@ -11,7 +11,7 @@ ghost use Rattle.mdr_plain.specs.Outcome.{seen_of};
 ghost use Rattle.mdr_shown.specs.Met.{AreNumbered};
 
 use crate::met::{Met, number_of};
-use mdr_core::{Items, LockState, OutOfMemory, Program, Value, View, cells_of};
+use mdr_core::{Items, Limit, LockState, OutOfMemory, Program, Value, View, cells_of};
 use mdr_model::Seen;
 use std::alloc::Global;
 
@@ -48,7 +48,7 @@ fn cell_of(program: &Program, view: View) -> Result<u32, OutOfMemory>
     let cell = view.first as u64 + view.index as u64 * size_of(program, view.ty) as u64;
     match u32::try_from(cell) {
         Ok(small) => Ok(small),
-        Err(_) => Err(OutOfMemory),
+        Err(_) => Err(Limit::Unmet.past()),
     }
 }
 

@@ -1,3 +1,4 @@
+-- for proofs
 -- What is asked of a set of visible cells, and of a world in which a service is done.
 use Rattle.std.specs.Prelude.{◌≡◌, ℕ, Bool, true, false, List, [], ◌∷◌, ◌++◌, map, Option, Some, None, Result, Ok, Err, length, nat_lt, slice_get}
 use Rattle.mdr_access.specs.KeyOrder.{keys}

@@ -1,3 +1,4 @@
+-- for proofs
 -- Laws of the sets of cells that user code sees in a split run.
 use Rattle.std.specs.Prelude.{◌≡◌, ◌≤◌, ℕ, Bool, true, ◌&&◌, List, [], ◌∷◌, ◌++◌, length, map, nat_lt, None, Some, Ok}
 use Rattle.std.specs.List.{list_all}

@@ -1,3 +1,4 @@
+-- protocol
 -- What stands behind the first words of statements, and what their parts are in code.
 use Rattle.std.specs.Prelude.{ℕ, ◌+◌, Bool, true, List, [], ◌∷◌, Option, Some, None, Ok}
 use Rattle.mdr_core.specs.declared.place.Place.{Place}

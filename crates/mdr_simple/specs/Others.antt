@@ -1,3 +1,4 @@
+-- protocol
 -- Whether an `else` goes on behind a branch.
 use Rattle.std.specs.Prelude.{ℕ, ◌≡◌, Bool, List, Option, Some, None, Ok}
 use Rattle.mdr_syntax.specs.declared.token.Token.{Token}

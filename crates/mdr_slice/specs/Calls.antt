@@ -1,3 +1,4 @@
+-- believed
 -- The calls of code, and the functions whose names stand in it.
 use Rattle.std.specs.Prelude.{ℕ, ◌==◌, List, [], ◌∷◌, ◌++◌, Option, Some, None}
 use Rattle.mdr_core.specs.declared.code.Stmt.{Stmt}

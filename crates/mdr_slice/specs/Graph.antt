@@ -1,3 +1,4 @@
+-- believed
 -- Which function may call which.
 use Rattle.std.specs.Prelude.{◌≡◌, ℕ, ◌<◌, ◌↔◌, ◌⊎◌, Bool, true, false, List, [], ◌∷◌, Some, slice_get, get_or, length}
 use Rattle.mdr_core.specs.declared.program.Program.{Program}

@@ -1,3 +1,4 @@
+-- believed
 -- Which half a function belongs to.
 use Rattle.std.specs.Prelude.{◌≡◌, ◌↔◌, ℕ, ◌<◌, true, false, List, Some, slice_get, length}
 use Rattle.mdr_core.specs.declared.plan.Half.TheVariants.{Kernel, User}

@@ -1,3 +1,4 @@
+-- for proofs
 -- What is promised of the halves of every program.
 use Rattle.std.specs.Prelude.{◌≡◌, ℕ, Bool, true, false, List}
 use Rattle.mdr_core.specs.declared.program.Program.{Program}

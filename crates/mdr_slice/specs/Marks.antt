@@ -1,3 +1,4 @@
+-- protocol
 -- What marks of functions tell, as the halves are made from them.
 use Rattle.std.specs.Prelude.{◌≡◌, ℕ, ◌<◌, Bool, true, false, List, [], get_or}
 use Rattle.mdr_core.specs.declared.plan.Half.{Half}

@@ -1,3 +1,4 @@
+-- believed
 -- The types of what lvalues name and of what pointers point to.
 use Rattle.std.specs.Prelude.{ℕ, List, Option, Some, None, slice_get}
 use Rattle.std.specs.Option.{option_map}

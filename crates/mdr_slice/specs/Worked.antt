@@ -1,3 +1,4 @@
+-- for proofs
 -- A network driver worked out: which function may call which, the roots, and the halves.
 use Rattle.std.specs.Prelude.{ℕ, Bool, true, false, List, [], ◌∷◌, ◌++◌, map, None, Some, codes, pos, negsuc}
 use Rattle.mdr_core.specs.declared.kind.Kind.TheVariants.{U32, S32}

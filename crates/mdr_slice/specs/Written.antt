@@ -1,3 +1,4 @@
+-- for proofs
 -- Code that is written once: as a program holds it, with its plain data. Worked examples are made of it.
 use Rattle.std.specs.Prelude.{◌≡◌, ℕ, Bool, List, [], ◌∷◌, map, Some, None}
 use Rattle.std.proofs.Common.{refl, ap, ◌∙◌}

@@ -13,7 +13,7 @@ ghost use Rattle.mdr_slice.specs.Graph.{AreCallees, KernelCallReaches, MayPointT
 use crate::calls::calls_of;
 use crate::names::names_of;
 use crate::pointed::is_called_type;
-use mdr_core::{CallForm, Callee, Expr, Func, OutOfMemory, Program};
+use mdr_core::{CallForm, Callee, Expr, Func, Limit, OutOfMemory, Program};
 use mdr_paths::{marked_nodes, marks_of};
 use std::alloc::{AllocError, Global};
 
@@ -155,7 +155,7 @@ pub(crate) fn graph(
 {
     let count = program.funcs.len();
     if count > 1 << 32 {
-        return Err(OutOfMemory);
+        return Err(Limit::Unmet.past());
     }
     let names = names_of(alloc, program)?;
     let taken = marks_of(alloc, count, names.as_slice())?;

@@ -14,7 +14,7 @@ use std::alloc::{AllocError, Global};
 
 /// The halves of a driver. Of each function: its half, whether it is a root, and whether it has a down stub, by which the
 /// user half calls it.
-#[derive(Debug, Drop)]
+#[derive(Drop)]
 pub struct Halves {
     pub halves: Items<Half>,
     pub roots: Items<bool>,

@@ -7,7 +7,7 @@ ghost use Rattle.mdr_slice.specs.Graph.{AreRoots, IsRoot};
 
 use crate::graph::{func_at, is_marked};
 use crate::handlers::handlers_of;
-use mdr_core::{OutOfMemory, Program};
+use mdr_core::{Limit, OutOfMemory, Program};
 use mdr_paths::{marked_nodes, marks_of};
 use std::alloc::{AllocError, Global};
 
@@ -42,7 +42,7 @@ pub fn roots_of(alloc: Global, program: &Program) -> Result<Vec<u32>, OutOfMemor
 {
     let count = program.funcs.len();
     if count > 1 << 32 {
-        return Err(OutOfMemory);
+        return Err(Limit::Unmet.past());
     }
     let names = handlers_of(alloc, program)?;
     let handlers = marks_of(alloc, count, names.as_slice())?;

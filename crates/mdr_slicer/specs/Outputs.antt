@@ -1,3 +1,4 @@
+-- believed
 -- The files that a source is cut into, and what is printed of them.
 use Rattle.std.specs.Prelude.{ℕ, List, [], ◌∷◌, ◌++◌, length, codes, decimal}
 use Rattle.std.specs.String.{string_bytes}

@@ -1,3 +1,4 @@
+-- believed
 -- What cutting a source does to the shelf, and what is due for it: one constructor for each way that it goes.
 use Rattle.std.specs.Prelude.{◌≡◌, ℕ, List, Ok, Err}
 use Rattle.mdr_core.specs.declared.program.Program.{Program}

@@ -1,3 +1,4 @@
+-- believed
 -- Files that are written one after the other.
 use Rattle.std.specs.Prelude.{◌≡◌, ℕ, List, [], ◌∷◌, codes}
 use Rattle.mdr_outside.specs.Calls.{ShelfCall, Written, and_then}

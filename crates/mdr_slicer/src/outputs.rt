@@ -12,14 +12,14 @@ use mdr_source::Source;
 use std::alloc::Global;
 
 /// A file that is to be written.
-#[derive(Debug, Drop)]
+#[derive(Drop)]
 pub(crate) struct File {
     pub(crate) name: String,
     pub(crate) bytes: Items<u8>,
 }
 
 /// What is made before anything is written: the files, and what is printed once they are there.
-#[derive(Debug, Drop)]
+#[derive(Drop)]
 pub(crate) struct Cut {
     pub(crate) files: Vec<File>,
     pub(crate) lines: Vec<u8>,

@@ -28,7 +28,7 @@ fn put<S: Shelf>(alloc: Global, shelf: &mut S, file: &File) -> Result<Stage<()>,
             status: Status::WriteFault,
             text: file_line(alloc, "write fault ", file.name.as_str())?,
         })),
-        WriteAnswer::OutOfMemory => Err(OutOfMemory),
+        WriteAnswer::OutOfMemory => Err(OutOfMemory::passed_on()),
     }
 }
 

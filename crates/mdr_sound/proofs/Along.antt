@@ -20,24 +20,24 @@ module _ (body : BodyRule) (items : List Item) (whole : Parts) (functions : List
     pub at : IsAt items before known
     pub counts : Counts known ps
     pub begins : Begins (before ++ i ∷ []) items
-    pub one : item_piece body items before known i.place i.what ≡ Right x
+    pub one : item_piece body before known i.place i.what ≡ Right x
     pub structs : Begins (behind_piece ps x).structs whole.structs
     pub variables : Begins (behind_piece ps x).variables whole.variables
-    pub declared : Begins (behind_item items known i.what).functions functions
+    pub declared : Begins (behind_item known i.what).functions functions
 
   pub record GoesOn (Q : Known → Parts → Type 0) : Type 0 where
-    pub behind : (before : List Item) (known : Known) (i : Item) (x : Piece) (ps : Parts) → IsPlace before known i x ps → Q known ps → Q (behind_item items known i.what) (behind_piece ps x)
+    pub behind : (before : List Item) (known : Known) (i : Item) (x : Piece) (ps : Parts) → IsPlace before known i x ps → Q known ps → Q (behind_item known i.what) (behind_piece ps x)
 
   -- what stands in front of the other items
   record Front (before : List Item) (known : Known) (is : List Item) (xs : List Piece) (ps : Parts) : Type 0 where
     at : IsAt items before known
     counts : Counts known ps
     all : items ≡ before ++ is
-    right : pieces_behind body items known before is ≡ Right xs
+    right : pieces_behind body known before is ≡ Right xs
     parts : parts_behind ps xs ≡ whole
-    declared : (known_behind items known is).functions ≡ functions
+    declared : (known_behind known is).functions ≡ functions
 
-  ends : (Q : Known → Parts → Type 0) (known : Known) (before : List Item) (xs : List Piece) (ps : Parts) → Front before known [] xs ps → Q known ps → Q (known_behind items known []) whole
+  ends : (Q : Known → Parts → Type 0) (known : Known) (before : List Item) (xs : List Piece) (ps : Parts) → Front before known [] xs ps → Q known ps → Q (known_behind known []) whole
   unfolding pieces_behind known_behind parts_behind
   ends Q known before xs ps f q = subst (Q known) (ap (parts_behind ps) (same_right [] xs f.right) ∙ f.parts) q
 
@@ -52,10 +52,10 @@ module _ (body : BodyRule) (items : List Item) (whole : Parts) (functions : List
         one = p.one;
         structs = subst (λ (w : Parts). Begins (behind_piece ps p.first).structs w.structs) last (structs_begin (behind_piece ps p.first) p.rest);
         variables = subst (λ (w : Parts). Begins (behind_piece ps p.first).variables w.variables) last (variables_begin (behind_piece ps p.first) p.rest);
-        declared = subst (Begins (behind_item items known i.what).functions) f.declared (functions_begin items (behind_item items known i.what) is);
+        declared = subst (Begins (behind_item known i.what).functions) f.declared (functions_begin items (behind_item known i.what) is);
       }
 
-  front_behind : (before : List Item) (known : Known) (i : Item) (is : List Item) (xs : List Piece) (ps : Parts) (f : Front before known (i ∷ is) xs ps) (p : Pieces body items before known i is xs) → Front (before ++ i ∷ []) (behind_item items known i.what) is p.rest (behind_piece ps p.first)
+  front_behind : (before : List Item) (known : Known) (i : Item) (is : List Item) (xs : List Piece) (ps : Parts) (f : Front before known (i ∷ is) xs ps) (p : Pieces body items before known i is xs) → Front (before ++ i ∷ []) (behind_item known i.what) is p.rest (behind_piece ps p.first)
   unfolding parts_behind known_behind
   front_behind before known i is xs ps f p = record {
     at = at_behind body items before known i p.first f.at (record { more = is; whole = f.all ∙ sym (append_assoc before (i ∷ []) is) }) p.one;
@@ -66,23 +66,23 @@ module _ (body : BodyRule) (items : List Item) (whole : Parts) (functions : List
     declared = f.declared;
   }
 
-  known_next : (known : Known) (i : Item) (is : List Item) → known_behind items (behind_item items known i.what) is ≡ known_behind items known (i ∷ is)
+  known_next : (known : Known) (i : Item) (is : List Item) → known_behind (behind_item known i.what) is ≡ known_behind known (i ∷ is)
   unfolding known_behind
   known_next known i is = refl
 
-  along_from : (Q : Known → Parts → Type 0) → GoesOn Q → (before : List Item) (known : Known) (is : List Item) (xs : List Piece) (ps : Parts) → Front before known is xs ps → Q known ps → Q (known_behind items known is) whole
+  along_from : (Q : Known → Parts → Type 0) → GoesOn Q → (before : List Item) (known : Known) (is : List Item) (xs : List Piece) (ps : Parts) → Front before known is xs ps → Q known ps → Q (known_behind known is) whole
   along_from Q on before known [] xs ps f q = ends Q known before xs ps f q
   along_from Q on before known (i ∷ is) xs ps f q =
       let p = pieces_parted body items before known i is xs f.right in
       subst (λ k. Q k whole) (known_next known i is)
-      (along_from Q on (before ++ i ∷ []) (behind_item items known i.what) is p.rest (behind_piece ps p.first) (front_behind before known i is xs ps f p) (on.behind before known i p.first ps (place_at before known i is xs ps f p) q))
+      (along_from Q on (before ++ i ∷ []) (behind_item known i.what) is p.rest (behind_piece ps p.first) (front_behind before known i is xs ps f p) (on.behind before known i p.first ps (place_at before known i is xs ps f p) q))
 
-  at_end : (before : List Item) (known : Known) (is : List Item) (xs : List Piece) (ps : Parts) → Front before known is xs ps → IsAt items items (known_behind items known is)
+  at_end : (before : List Item) (known : Known) (is : List Item) (xs : List Piece) (ps : Parts) → Front before known is xs ps → IsAt items items (known_behind known is)
   unfolding known_behind
   at_end before known [] xs ps f = subst (λ bs. IsAt items bs known) (sym (f.all ∙ append-nil before)) f.at
   at_end before known (i ∷ is) xs ps f =
       let p = pieces_parted body items before known i is xs f.right in
-      at_end (before ++ i ∷ []) (behind_item items known i.what) is p.rest (behind_piece ps p.first) (front_behind before known i is xs ps f p)
+      at_end (before ++ i ∷ []) (behind_item known i.what) is p.rest (behind_piece ps p.first) (front_behind before known i is xs ps f p)
 
 -- nothing is counted at the begin
 first_counts : (items : List Item) → Counts (first_known items) no_parts
@@ -90,15 +90,15 @@ unfolding first_known
 first_counts items = record { globals = refl; structs = refl; functions = tt; taken = λ i d e. absurd cc }
 
 -- what holds at the begin of a file, and goes on behind each of its items, holds at its end
-pub along : (body : BodyRule) (items : List Item) (xs : List Piece) (Q : Known → Parts → Type 0) → pieces_behind body items (first_known items) [] items ≡ Right xs → GoesOn body items (parts_behind no_parts xs) (known_behind items (first_known items) items).functions Q → Q (first_known items) no_parts → Q (known_behind items (first_known items) items) (parts_behind no_parts xs)
+pub along : (body : BodyRule) (items : List Item) (xs : List Piece) (Q : Known → Parts → Type 0) → pieces_behind body (first_known items) [] items ≡ Right xs → GoesOn body items (parts_behind no_parts xs) (known_behind (first_known items) items).functions Q → Q (first_known items) no_parts → Q (known_behind (first_known items) items) (parts_behind no_parts xs)
 along body items xs Q right on first =
-    along_from body items (parts_behind no_parts xs) (known_behind items (first_known items) items).functions Q on [] (first_known items) items xs no_parts
+    along_from body items (parts_behind no_parts xs) (known_behind (first_known items) items).functions Q on [] (first_known items) items xs no_parts
     (record { at = first_at items; counts = first_counts items; all = refl; right = right; parts = refl; declared = refl }) first
 
 -- behind all items everything is counted
-pub counted_all : (body : BodyRule) (items : List Item) (xs : List Piece) → pieces_behind body items (first_known items) [] items ≡ Right xs → Counts (known_behind items (first_known items) items) (parts_behind no_parts xs)
+pub counted_all : (body : BodyRule) (items : List Item) (xs : List Piece) → pieces_behind body (first_known items) [] items ≡ Right xs → Counts (known_behind (first_known items) items) (parts_behind no_parts xs)
 counted_all body items xs right = along body items xs Counts right (record { behind = λ before known i x ps place c. counted_by body items before known i.place i.what x ps c place.one }) (first_counts items)
 
 -- and all that the file has is there
-pub at_all : (body : BodyRule) (items : List Item) (xs : List Piece) → pieces_behind body items (first_known items) [] items ≡ Right xs → IsAt items items (known_behind items (first_known items) items)
-at_all body items xs right = at_end body items (parts_behind no_parts xs) (known_behind items (first_known items) items).functions [] (first_known items) items xs no_parts (record { at = first_at items; counts = first_counts items; all = refl; right = right; parts = refl; declared = refl })
+pub at_all : (body : BodyRule) (items : List Item) (xs : List Piece) → pieces_behind body (first_known items) [] items ≡ Right xs → IsAt items items (known_behind (first_known items) items)
+at_all body items xs right = at_end body items (parts_behind no_parts xs) (known_behind (first_known items) items).functions [] (first_known items) items xs no_parts (record { at = first_at items; counts = first_counts items; all = refl; right = right; parts = refl; declared = refl })

@@ -25,7 +25,7 @@ use Rattle.mdr_faults.specs.Scopes.{entity_among, tag_named}
 use Rattle.mdr_headings.specs.declared.function.Declared.{Declared}
 use Rattle.mdr_headings.specs.declared.head.Heading.{Heading}
 use Rattle.mdr_headings.specs.Heads.{heading}
-use Rattle.mdr_headings.specs.Functions.{is_same_param, are_same_params, is_same_heading, agrees, agrees_with, function_named, may_stand, is_taken, with_function_unless, behind_function, declared_unless, function_rule, function_declared, functions_behind, is_defined, has_body}
+use Rattle.mdr_headings.specs.Functions.{is_same_param, are_same_params, is_same_heading, agrees, agrees_with, function_named, may_stand, is_taken, with_function_unless, behind_function, declared_unless, function_rule, function_declared, functions_behind, has_body}
 use Rattle.mdr_headings.specs.Structs.{name_or_none, struct_fields, struct_entry}
 use Rattle.mdr_syntax.specs.declared.tree.Decl.{out-Decl}
 use Rattle.mdr_headings.specs.Source.{is_numbered, before_first, with_struct_if}
@@ -199,31 +199,31 @@ last_or_before [] y (suc i) z e = absurd cc
 last_or_before (x ∷ xs) y zero z e = inl e
 last_or_before (x ∷ xs) y (suc i) z e = last_or_before xs y i z e
 
-names_behind : (t : Bool) (scope : Scope) (n : ℕ) (d : Bool) (h : Head) → NamesGrow scope (with_function_unless t scope n d h)
-names_behind true scope n d h = record { names = []; grown = sym (append-nil scope.names) }
-names_behind false scope n d h = record { names = _ ∷ []; grown = refl }
+names_behind : (t : Bool) (scope : Scope) (n : ℕ) (h : Head) → NamesGrow scope (with_function_unless t scope n h)
+names_behind true scope n h = record { names = []; grown = sym (append-nil scope.names) }
+names_behind false scope n h = record { names = _ ∷ []; grown = refl }
 
-structs_behind : (t : Bool) (scope : Scope) (n : ℕ) (d : Bool) (h : Head) → (with_function_unless t scope n d h).structs ≡ scope.structs
-structs_behind true scope n d h = refl
-structs_behind false scope n d h = refl
+structs_behind : (t : Bool) (scope : Scope) (n : ℕ) (h : Head) → (with_function_unless t scope n h).structs ≡ scope.structs
+structs_behind true scope n h = refl
+structs_behind false scope n h = refl
 
-taken_behind : (t : Bool) (known : Known) (ps : Parts) (n : ℕ) (is_def : Bool) (h : Head) (r : Result Heading Fault) → Counts known ps → (i : ℕ) (d : Declared) → slice_get (declared_unless t known.functions h r) i ≡ Some d → is_some (entity_among (with_function_unless t known.scope n is_def h).names d.name) ≡ true
-taken_behind true known ps n is_def h r c i d e = c.taken i d e
-taken_behind false known ps n is_def h r c i d e = by (last_or_before known.functions _ i d e)
+taken_behind : (t : Bool) (known : Known) (ps : Parts) (n : ℕ) (h : Head) (r : Result Heading Fault) → Counts known ps → (i : ℕ) (d : Declared) → slice_get (declared_unless t known.functions h r) i ≡ Some d → is_some (entity_among (with_function_unless t known.scope n h).names d.name) ≡ true
+taken_behind true known ps n h r c i d e = c.taken i d e
+taken_behind false known ps n h r c i d e = by (last_or_before known.functions _ i d e)
   where
-    by : (slice_get known.functions i ≡ Some d) ⊎ (record { name = h.name; place = h.place; heading = r } ≡ d) → is_some (entity_among (with_function_unless false known.scope n is_def h).names d.name) ≡ true
+    by : (slice_get known.functions i ≡ Some d) ⊎ (record { name = h.name; place = h.place; heading = r } ≡ d) → is_some (entity_among (with_function_unless false known.scope n h).names d.name) ≡ true
     by (inl old) = found_more (λ (x : Entry). bytes_eq x.name d.name) known.scope.names _ (c.taken i d old)
     by (inr new) = found_last (λ (x : Entry). bytes_eq x.name d.name) known.scope.names _ (subst (λ (x : Declared). bytes_eq h.name x.name ≡ true) new (bytes_same h.name))
 
 -- ---- one item
 
-function_kept : (known : Known) (ps more : Parts) (items : List Item) (h : Head) → Counts known ps → more.variables ≡ ps.variables → more.structs ≡ ps.structs → AreDeclaredAs (functions_behind known.scope known.functions h) more.funcs → Counts (behind_head items known h) more
+function_kept : (known : Known) (ps more : Parts) (items : List Item) (h : Head) → Counts known ps → more.variables ≡ ps.variables → more.structs ≡ ps.structs → AreDeclaredAs (functions_behind known.scope known.functions h) more.funcs → Counts (behind_head known h) more
 unfolding behind_function functions_behind
 function_kept known ps more items h c variables structs all = record {
   globals = c.globals ∙ ap length (sym variables);
-  structs = ap length (structs_behind (is_taken known.scope h.name) known.scope (length known.functions) (is_defined items h.name) h) ∙ c.structs ∙ ap length (sym structs);
+  structs = ap length (structs_behind (is_taken known.scope h.name) known.scope (length known.functions) h) ∙ c.structs ∙ ap length (sym structs);
   functions = all;
-  taken = taken_behind (is_taken known.scope h.name) known ps (length known.functions) (is_defined items h.name) h (told (heading known.scope h)) c;
+  taken = taken_behind (is_taken known.scope h.name) known ps (length known.functions) h (told (heading known.scope h)) c;
 }
 
 struct_kept : (known : Known) (ps : Parts) (scope : Scope) (test : Bool) (entry : _) (def : _) → test ≡ true → Counts known ps → Counts (with_scope known (with_struct_if test known.scope entry)) (record ps { structs = ps.structs ++ def ∷ [] })
@@ -249,9 +249,9 @@ functions_kept known h fs all = all
 
 -- the counts behind an item that comes to a piece
 abbrev Counted : List Item → Known → Parts → ItemWhat → Piece → Type 0
-Counted items known ps what x = Counts (behind_item items known what) (behind_piece ps x)
+Counted items known ps what x = Counts (behind_item known what) (behind_piece ps x)
 
-pub counted_by : (body : BodyRule) (items before : List Item) (known : Known) (p : Place) (what : ItemWhat) (x : Piece) (ps : Parts) → Counts known ps → item_piece body items before known p what ≡ Right x → Counted items known ps what x
+pub counted_by : (body : BodyRule) (items before : List Item) (known : Known) (p : Place) (what : ItemWhat) (x : Piece) (ps : Parts) → Counts known ps → item_piece body before known p what ≡ Right x → Counted items known ps what x
 unfolding struct_piece behind_global
 counted_by body items before known p (item.Define name is_negative n k) x ps c e =
     let d = demand_right p Redefined (not (is_some (entity_among known.scope.names name))) (Right piece.Nothing) x e in
@@ -282,7 +282,7 @@ counted_by body items before known p (item.Proto h is_remote) x ps c e =
     let more = behind_piece ps (piece.Prototype h.name a.value) in
     subst (λ y. Counted items known ps (item.Proto h is_remote) y) is (function_kept known ps more items h c refl refl (functions_kept known h more.funcs (prototype_counts known ps h a.value (remote h.name a.value) (is_taken known.scope h.name) refl f)))
 counted_by body items before known p (item.Func h is_critical nodes) x ps c e =
-    let b = both_right (function_declared known.scope known.functions before h true) (body (body_scope items known h) h nodes) (function_of h.name is_critical) x e in
+    let b = both_right (function_declared known.scope known.functions before h true) (body (body_scope known h) h nodes) (function_of h.name is_critical) x e in
     let made = piece.Function h.name is_critical b.left b.right in
     let is : made ≡ x = same_right made x b.made in
     let f : Function known ps h b.left (whole h.name is_critical b.left b.right) = record { counts = c; rule = ruled known.scope known.functions before h true b.left b.first; named = refl; types = whole_type h.name is_critical b.left b.right } in

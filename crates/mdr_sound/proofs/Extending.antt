@@ -76,7 +76,7 @@ unless_begins : (t : Bool) (fs : List Declared) (h : Head) (r : _) → Begins fs
 unless_begins true fs h r = begins_itself fs
 unless_begins false fs h r = begins_more fs (_ ∷ [])
 
-functions_one : (items : List Item) (known : Known) (what : ItemWhat) → Begins known.functions (behind_item items known what).functions
+functions_one : (items : List Item) (known : Known) (what : ItemWhat) → Begins known.functions (behind_item known what).functions
 unfolding functions_behind
 functions_one items known (item.Define name is_negative n k) = begins_itself known.functions
 functions_one items known (item.Struct at name ds) = begins_itself known.functions
@@ -85,10 +85,10 @@ functions_one items known (item.Global d init) = begins_itself known.functions
 functions_one items known (item.Proto h is_remote) = unless_begins (is_taken known.scope h.name) known.functions h (told (heading known.scope h))
 functions_one items known (item.Func h is_critical nodes) = unless_begins (is_taken known.scope h.name) known.functions h (told (heading known.scope h))
 
-pub functions_begin : (items : List Item) (known : Known) (is : List Item) → Begins known.functions (known_behind items known is).functions
+pub functions_begin : (items : List Item) (known : Known) (is : List Item) → Begins known.functions (known_behind known is).functions
 unfolding known_behind
 functions_begin items known [] = begins_itself known.functions
-functions_begin items known (i ∷ is) = begins_behind known.functions (behind_item items known i.what).functions (known_behind items (behind_item items known i.what) is).functions (functions_one items known i.what) (functions_begin items (behind_item items known i.what) is)
+functions_begin items known (i ∷ is) = begins_behind known.functions (behind_item known i.what).functions (known_behind (behind_item known i.what) is).functions (functions_one items known i.what) (functions_begin items (behind_item known i.what) is)
 
 -- ---- all items
 
@@ -96,12 +96,12 @@ functions_begin items known (i ∷ is) = begins_behind known.functions (behind_i
 pub record Pieces (body : BodyRule) (items before : List Item) (known : Known) (i : Item) (is : List Item) (xs : List Piece) : Type 0 where
   pub first : Piece
   pub rest : List Piece
-  pub one : item_piece body items before known i.place i.what ≡ Right first
-  pub others : pieces_behind body items (behind_item items known i.what) (before ++ i ∷ []) is ≡ Right rest
+  pub one : item_piece body before known i.place i.what ≡ Right first
+  pub others : pieces_behind body (behind_item known i.what) (before ++ i ∷ []) is ≡ Right rest
   pub all : xs ≡ first ∷ rest
 
-pub pieces_parted : (body : BodyRule) (items before : List Item) (known : Known) (i : Item) (is : List Item) (xs : List Piece) → pieces_behind body items known before (i ∷ is) ≡ Right xs → Pieces body items before known i is xs
+pub pieces_parted : (body : BodyRule) (items before : List Item) (known : Known) (i : Item) (is : List Item) (xs : List Piece) → pieces_behind body known before (i ∷ is) ≡ Right xs → Pieces body items before known i is xs
 unfolding pieces_behind
 pieces_parted body items before known i is xs e =
-    let b = both_right (item_piece body items before known i.place i.what) (pieces_behind body items (behind_item items known i.what) (before ++ i ∷ []) is) (λ x ys. Right (x ∷ ys)) xs e in
+    let b = both_right (item_piece body before known i.place i.what) (pieces_behind body (behind_item known i.what) (before ++ i ∷ []) is) (λ x ys. Right (x ∷ ys)) xs e in
     record { first = b.left; rest = b.right; one = b.first; others = b.second; all = sym (same_right (b.left ∷ b.right) xs b.made) }

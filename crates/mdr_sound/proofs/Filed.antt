@@ -18,15 +18,15 @@ use Rattle.mdr_sound.proofs.Sounding.{program_sound}
 
 pub record IsFile (body : BodyRule) (items : List Item) (program : Program) : Type 0 where
   pub pieces : List Piece
-  pub right : pieces_behind body items (first_known items) [] items ≡ Right pieces
+  pub right : pieces_behind body (first_known items) [] items ≡ Right pieces
   pub is : program ≡ program_of pieces
 
-pub pieces_right : (body : BodyRule) (uses : UseRule) (items : List Item) (xs : List Piece) → file_pieces body uses items ≡ Right xs → pieces_behind body items (first_known items) [] items ≡ Right xs
+pub pieces_right : (body : BodyRule) (uses : UseRule) (items : List Item) (xs : List Piece) → file_pieces body uses items ≡ Right xs → pieces_behind body (first_known items) [] items ≡ Right xs
 unfolding file_pieces
 pieces_right body uses items xs e =
-    let used = defined_functions uses items (known_behind items (first_known items) items).functions in
-    let a = both_right (short_items items) (both (pieces_behind body items (first_known items) [] items) used kept) named xs e in
-    let b = both_right (pieces_behind body items (first_known items) [] items) used kept a.right a.second in
+    let used = defined_functions uses items (known_behind (first_known items) items).functions in
+    let a = both_right (short_items items) (both (pieces_behind body (first_known items) [] items) used kept) named xs e in
+    let b = both_right (pieces_behind body (first_known items) [] items) used kept a.right a.second in
     b.first ∙ ap Right (same_right b.left a.right b.made ∙ same_right a.right xs a.made)
 
 pub file_of : (body : BodyRule) (uses : UseRule) (items : List Item) (program : Program) → typed body uses items ≡ Right program → IsFile body items program

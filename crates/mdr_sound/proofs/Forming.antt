@@ -24,7 +24,7 @@ use Rattle.mdr_faults.specs.declared.scope.Scope.{Scope}
 use Rattle.mdr_faults.specs.Faults.{Right}
 use Rattle.mdr_headings.specs.declared.body.Body.{Body}
 use Rattle.mdr_headings.specs.declared.head.Heading.{Heading}
-use Rattle.mdr_headings.specs.Functions.{function_declared, functions_behind, behind_function, is_taken, is_defined}
+use Rattle.mdr_headings.specs.Functions.{function_declared, functions_behind, behind_function, is_taken}
 use Rattle.mdr_headings.specs.Heads.{heading}
 use Rattle.mdr_check.specs.declared.file.Known.{Known}
 use Rattle.mdr_check.specs.declared.file.Piece.{Piece}
@@ -112,12 +112,12 @@ mutual
   allocated_in_among t Codes.End h = h
   allocated_in_among t (Codes.Then c cs) h = in_parts t (allocated c) (allocated_in cs) (either (allocated_among t c) (allocated_in_among t cs) h)
 
-module _ (program : Program) (rules : Rules) (items : List Item) (xs : List Piece) (right : pieces_behind (body_rule rules) items (first_known items) [] items ≡ Right xs) (made : IsMadeOf program (parts_behind no_parts xs)) (ranges : AreDefinesInRange items) (steps : (scope : Scope) → Knows program scope → AreFormedSteps program scope rules) where
+module _ (program : Program) (rules : Rules) (items : List Item) (xs : List Piece) (right : pieces_behind (body_rule rules) (first_known items) [] items ≡ Right xs) (made : IsMadeOf program (parts_behind no_parts xs)) (ranges : AreDefinesInRange items) (steps : (scope : Scope) → Knows program scope → AreFormedSteps program scope rules) where
   abbrev Whole : Parts
   Whole = parts_behind no_parts xs
 
   abbrev Last : Known
-  Last = known_behind items (first_known items) items
+  Last = known_behind (first_known items) items
 
   abbrev Turn : List Item → Known → Item → Piece → Parts → Type 0
   Turn = IsPlace (body_rule rules) items Whole Last.functions
@@ -133,9 +133,9 @@ module _ (program : Program) (rules : Rules) (items : List Item) (xs : List Piec
 
   -- ---- one function
 
-  scope_structs : (known : Known) (h : Head) → (body_scope items known h).structs ≡ known.scope.structs
+  scope_structs : (known : Known) (h : Head) → (body_scope known h).structs ≡ known.scope.structs
   unfolding behind_function
-  scope_structs known h = function_structs (is_taken known.scope h.name) known.scope (length known.functions) (is_defined items h.name) h
+  scope_structs known h = function_structs (is_taken known.scope h.name) known.scope (length known.functions) h
 
   knows_there : (known : Known) (ps : Parts) (scope : Scope) → AtRest known ps → Stands program scope → scope.structs ≡ known.scope.structs → KnowsDeclarations program scope
   knows_there known ps scope q st same =
@@ -148,7 +148,7 @@ module _ (program : Program) (rules : Rules) (items : List Item) (xs : List Piec
         fields = λ s f entry x e g. q.fields s f entry x (ap (λ es. slice_get es s) (sym same) ∙ e) g;
       }
 
-  scope_stands : (before : List Item) (known : Known) (ps : Parts) (h : Head) (is_body : Bool) (g : Heading) → function_declared known.scope known.functions before h is_body ≡ Right g → Begins (functions_behind known.scope known.functions h) Last.functions → AtRest known ps → AreNumbered known.scope (length program.structs) → Stands program (body_scope items known h)
+  scope_stands : (before : List Item) (known : Known) (ps : Parts) (h : Head) (is_body : Bool) (g : Heading) → function_declared known.scope known.functions before h is_body ≡ Right g → Begins (functions_behind known.scope known.functions h) Last.functions → AtRest known ps → AreNumbered known.scope (length program.structs) → Stands program (body_scope known h)
   scope_stands before known ps h is_body g e b q low =
       function_stands program (body_rule rules) items xs right made ranges known h (record { heading = g; listed = (ruled known.scope known.functions before h is_body g e).right; begins = b }) q.stands low
 
@@ -164,9 +164,9 @@ module _ (program : Program) (rules : Rules) (items : List Item) (xs : List Piec
     body = tt;
   }
 
-  body_formed : (before : List Item) (known : Known) (ps : Parts) (h : Head) (is_critical : Bool) (nodes : List Node) (g : Heading) (body : Body) → function_declared known.scope known.functions before h true ≡ Right g → body_rule rules (body_scope items known h) h nodes ≡ Right body → Begins (functions_behind known.scope known.functions h) Last.functions → AtRest known ps → AreNumbered known.scope (length program.structs) → IsFormedFunc program (whole h.name is_critical g body)
+  body_formed : (before : List Item) (known : Known) (ps : Parts) (h : Head) (is_critical : Bool) (nodes : List Node) (g : Heading) (body : Body) → function_declared known.scope known.functions before h true ≡ Right g → body_rule rules (body_scope known h) h nodes ≡ Right body → Begins (functions_behind known.scope known.functions h) Last.functions → AtRest known ps → AreNumbered known.scope (length program.structs) → IsFormedFunc program (whole h.name is_critical g body)
   body_formed before known ps h is_critical nodes g body e f b q low =
-      let scope = body_scope items known h in
+      let scope = body_scope known h in
       let st = scope_stands before known ps h true g e b q low in
       record {
         params = marked_formed program body.objects g.params (heading_formed before known ps h true g e b q low);
@@ -182,7 +182,7 @@ module _ (program : Program) (rules : Rules) (items : List Item) (xs : List Piec
   one_global vs v w h own g (inl old) = h g w old
   one_global vs v w h own g (inr new) = subst (λ (u : Variable). IsFormed program u.object.ty) new own
 
-  formed_behind : (before : List Item) (known : Known) (ps : Parts) (what : ItemWhat) (x : Piece) → Comes (body_rule rules) items before known what x → Begins (behind_item items known what).functions Last.functions → AreNumbered known.scope (length program.structs) → AtRest (behind_item items known what) (behind_piece ps x) → AreFormedParts known ps → AreFormedParts (behind_item items known what) (behind_piece ps x)
+  formed_behind : (before : List Item) (known : Known) (ps : Parts) (what : ItemWhat) (x : Piece) → Comes (body_rule rules) items before known what x → Begins (behind_item known what).functions Last.functions → AreNumbered known.scope (length program.structs) → AtRest (behind_item known what) (behind_piece ps x) → AreFormedParts known ps → AreFormedParts (behind_item known what) (behind_piece ps x)
   formed_behind before known ps _ _ (OfDefine name is_negative n k) begins low rests q = record { rests = rests; globals = q.globals; funcs = q.funcs }
   formed_behind before known ps _ _ (OfStruct at name ds fields) begins low rests q = record { rests = rests; globals = q.globals; funcs = q.funcs }
   formed_behind before known ps _ _ (OfEnum es) begins low rests q = record { rests = rests; globals = q.globals; funcs = q.funcs }

@@ -1,7 +1,6 @@
 -- What stands before a function's body is sound.
 use Rattle.std.proofs.Common.{◌≡◌, ℕ, ◌⊎◌, inl, inr, Bool, true, not, List, [], ◌∷◌, ◌++◌, map, length, Option, Some, is_some, slice_get, refl, sym, ap, subst, ◌∙◌}
 use Rattle.std.specs.Prelude.{◌&&◌, ◌==◌}
-use Rattle.std.specs.List.{list_any}
 use Rattle.mdr_core.specs.declared.program.Param.{Param}
 use Rattle.mdr_core.specs.declared.program.Program.{Program}
 use Rattle.mdr_core.specs.declared.types.Ty.{Ty}
@@ -12,16 +11,16 @@ use Rattle.mdr_syntax.specs.declared.tree.Decl.{Decl, out-Decl}
 use Rattle.mdr_syntax.specs.declared.tree.Decl.TheOpen.{Decl-F}
 use Rattle.mdr_syntax.specs.declared.tree.Decl.TheFolds.{fold_out-Decl, map-Decl}
 use Rattle.mdr_syntax.specs.declared.tree.Head.{Head}
-use Rattle.mdr_faults.specs.declared.fault.FaultKind.TheVariants.{Redefined, Mismatch, Limit}
+use Rattle.mdr_faults.specs.declared.fault.FaultKind.TheVariants.{Mismatch, Limit}
 use Rattle.mdr_faults.specs.declared.scope.Candidate.{Candidate}
 use Rattle.mdr_faults.specs.declared.scope.Scope.{Scope}
 use Rattle.mdr_faults.specs.declared.scope.Signature.{Signature}
-use Rattle.mdr_faults.specs.Declarations.{Declarator, declarator, declarator_layer, declarator_type, is_same_name, parameter_among, parameter_list, parameter_type, result_type, type_named}
+use Rattle.mdr_faults.specs.Declarations.{Declarator, declarator, declarator_layer, declarator_type, parameter_among, parameter_list, parameter_type, result_type, type_named}
 use Rattle.mdr_faults.specs.Faults.{Right, after}
 use Rattle.mdr_headings.specs.declared.head.Given.{Given}
 use Rattle.mdr_headings.specs.declared.head.Heading.{Heading}
 use Rattle.mdr_headings.specs.Annotations.{annotated, bare, candidate, is_integer}
-use Rattle.mdr_headings.specs.Heads.{param_of, annotated_param, param_among, params_behind, given_by, annotated_result, head_result, given, heading_of, result_siblings, heading}
+use Rattle.mdr_headings.specs.Heads.{param_of, annotated_param, param_among, params_behind, given_by, annotated_result, head_result, typed_result, given, heading_of, result_siblings, heading}
 use Rattle.mdr_headings.specs.Within.{names_around, within}
 use Rattle.mdr_headings.specs.Source.{signature, signature_by}
 use Rattle.mdr_sound_code.proofs.Rights.{after_right, both_right, same_right, demand_right, chosen_right}
@@ -36,6 +35,7 @@ use Rattle.mdr_sound.proofs.Annotating.{annotation_sound, integer}
 use Rattle.mdr_sound.proofs.Gathering.{Pairwise, pair_of_left, pair_of_right, gathered}
 use Rattle.mdr_sound.proofs.Candidates.{candidate_integer}
 use Rattle.mdr_sound.proofs.CountedItems.{last_or_before}
+use Rattle.mdr_sound_bodies.proofs.Making.{typed_right}
 use Rattle.mdr_sound_bodies.proofs.Scoping.{beside_right, same_declarator, same_result}
 
 -- ---- parameters, as they are declared
@@ -58,12 +58,10 @@ pub record IsParamOf (scope : Scope) (siblings : List Candidate) (d : Decl) (x :
 among_is : (scope : Scope) (siblings : List Candidate) (before : List Decl) (d : Decl) (x : Param) → param_among scope siblings before d ≡ Right x → IsParamOf scope siblings d x
 unfolding param_among annotated_param
 among_is scope siblings before d x e =
-    let p = (declarator scope d).place in
     let earlier = map (declarator scope) before in
     let rule = after (parameter_among earlier (declarator scope d)) (annotated_param scope siblings d) in
     let c = after_right (parameter_among earlier (declarator scope d)) (annotated_param scope siblings d) x (beside_right (within scope (names_around [] before) d) rule x e) in
-    let a = demand_right p Redefined (not (list_any (λ b. is_same_name b.name (declarator scope d).name) earlier)) _ c.value c.right in
-    let b = demand_right p Limit (not (length earlier == 8)) (declarator scope d).parameter c.value a.right in
+    let b = demand_right (declarator scope d).place Limit (not (length earlier == 8)) (declarator scope d).parameter c.value c.right in
     let n = after_right (annotated scope siblings (out-Decl d).place c.value (out-Decl d).ann) (λ a. Right (param_of (out-Decl d).name c.value a)) x c.made in
     subst (IsParamOf scope siblings d) (same_right (param_of (out-Decl d).name c.value n.value) x n.made) (record { type = b.right; noted = n.right })
 
@@ -111,12 +109,13 @@ heading_as scope h x e =
     let candidates = map (candidate scope) h.params in
     let all = result_siblings scope h in
     let b = both_right (given scope all h) (params_behind scope candidates [] h.params) heading_of x e in
-    let g = after_right (head_result scope h) (annotated_result scope all h.place h.ann) b.left b.first in
+    let g = after_right (typed_result scope h) (annotated_result scope all h.place h.ann) b.left b.first in
+    let r = typed_right scope h g.value g.right in
     let n = after_right (annotated scope all h.place g.value h.ann) (given_by g.value) b.left g.made in
     let same : record { ty = g.value; ann = n.value } ≡ b.left = same_right (record { ty = g.value; ann = n.value }) b.left n.made in
     let whole : record { result = b.left.ty; ann = b.left.ann; params = b.right } ≡ x = same_right (record { result = b.left.ty; ann = b.left.ann; params = b.right }) x b.made in
     subst (IsHeadingOf scope h) whole (record {
-      result = g.right ∙ ap (λ (y : Given). Right y.ty) same;
+      result = r ∙ ap (λ (y : Given). Right y.ty) same;
       noted = subst (λ (y : Given). annotated scope all h.place y.ty h.ann ≡ Right y.ann) same n.right;
       params = params_are scope candidates h.params b.right b.second;
     })
@@ -155,8 +154,7 @@ IsTypeOf d t = d.parameter ≡ Right t
 types_are : (ds : List Declarator) (ts : List Ty) → parameter_list [] ds ≡ Right ts → Pairwise IsTypeOf ds ts
 unfolding parameter_list
 types_are ds ts e = gathered parameter_list parameter_among IsTypeOf (λ b. refl) (λ b d rest. refl) (λ b d t f.
-    let a = demand_right d.place Redefined (not (list_any (λ c. is_same_name c.name d.name) b)) _ t f in
-    let c = demand_right d.place Limit (not (length b == 8)) d.parameter t a.right in
+    let c = demand_right d.place Limit (not (length b == 8)) d.parameter t f in
     c.right) [] ds ts e
 
 types_same : (scope other : Scope) (siblings : List Candidate) (ds : List Decl) (ts : List Ty) (xs : List Param) → scope.tags ≡ other.tags → Pairwise IsTypeOf (map (declarator scope) ds) ts → Pairwise (IsParamOf other siblings) ds xs → ts ≡ map (λ (p : Param). p.ty) xs
@@ -170,35 +168,33 @@ types_same scope other siblings (d ∷ ds) (t ∷ ts) (x ∷ xs) tags f g =
     let rest : ts ≡ map (λ (p : Param). p.ty) xs = types_same scope other siblings ds ts xs tags f.1 g.1 in
     λ i. one i ∷ rest i
 
-record IsSignatureRight (scope : Scope) (n : ℕ) (is_defined : Bool) (h : Head) (s : Signature) : Type 0 where
+record IsSignatureRight (scope : Scope) (n : ℕ) (h : Head) (s : Signature) : Type 0 where
   result : head_result scope h ≡ Right s.result
   params : parameter_list [] (map (declarator scope) h.params) ≡ Right s.params
   number : s.number ≡ n
-  defined : s.is_defined ≡ is_defined
 
-signature_as : (scope : Scope) (n : ℕ) (is_defined : Bool) (h : Head) (s : Signature) → signature scope n is_defined h ≡ Right s → IsSignatureRight scope n is_defined h s
+signature_as : (scope : Scope) (n : ℕ) (h : Head) (s : Signature) → signature scope n h ≡ Right s → IsSignatureRight scope n h s
 unfolding signature
-signature_as scope n is_defined h s e =
-    let b = both_right (head_result scope h) (parameter_list [] (map (declarator scope) h.params)) (signature_by n is_defined) s e in
-    let same : record { number = n; result = b.left; params = b.right; is_defined = is_defined } ≡ s = same_right (record { number = n; result = b.left; params = b.right; is_defined = is_defined }) s b.made in
-    subst (IsSignatureRight scope n is_defined h) same (record { result = b.first; params = b.second; number = refl; defined = refl })
+signature_as scope n h s e =
+    let b = both_right (head_result scope h) (parameter_list [] (map (declarator scope) h.params)) (signature_by n) s e in
+    let same : record { number = n; result = b.left; params = b.right } ≡ s = same_right (record { number = n; result = b.left; params = b.right }) s b.made in
+    subst (IsSignatureRight scope n h) same (record { result = b.first; params = b.second; number = refl })
 
 -- a head has the types of its signature, which comes from a place with the same structs' names
-pub signature_of_heading : (scope other : Scope) (n : ℕ) (is_defined : Bool) (h : Head) (s : Signature) (x : Heading) → scope.tags ≡ other.tags → signature scope n is_defined h ≡ Right s → heading other h ≡ Right x → IsSignatureOf n is_defined s x
-signature_of_heading scope other n is_defined h s x tags e f =
-    let a = signature_as scope n is_defined h s e in
+pub signature_of_heading : (scope other : Scope) (n : ℕ) (h : Head) (s : Signature) (x : Heading) → scope.tags ≡ other.tags → signature scope n h ≡ Right s → heading other h ≡ Right x → IsSignatureOf n s x
+signature_of_heading scope other n h s x tags e f =
+    let a = signature_as scope n h s e in
     let b = heading_as other h x f in
     record {
       number = a.number;
-      defined = a.defined;
       result_is = same_right s.result x.result (sym a.result ∙ same_result scope other h tags ∙ b.result);
       params_are = types_same scope other (map (candidate other) h.params) h.params s.params x.params tags (types_are (map (declarator scope) h.params) s.params a.params) b.params;
     }
 
 -- a pointer to the function has a type of objects
-pub signature_formed : (scope : Scope) (m n : ℕ) (is_defined : Bool) (h : Head) (s : Signature) → AreNumbered scope m → signature scope n is_defined h ≡ Right s → sort_of m (type.Fun (s.result ∷ s.params)) ≡ Scalar
-signature_formed scope m n is_defined h s low e =
-    let a = signature_as scope n is_defined h s e in
+pub signature_formed : (scope : Scope) (m n : ℕ) (h : Head) (s : Signature) → AreNumbered scope m → signature scope n h ≡ Right s → sort_of m (type.Fun (s.result ∷ s.params)) ≡ Scalar
+signature_formed scope m n h s low e =
+    let a = signature_as scope n h s e in
     handle_sort m s.result s.params (is_result m s.result (head_result_is scope m h s.result low a.result)) (parameter_list_is scope m h.params s.params low a.params)
 
 -- the parameters of a head are scalars, whatever stands in the type table

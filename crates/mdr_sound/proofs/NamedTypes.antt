@@ -1,7 +1,7 @@
 -- What the types of a file's declarations are.
 use Rattle.std.proofs.Common.{◌≡◌, ℕ, zero, suc, ◌<◌, ◌⊎◌, Bool, true, not, List, [], ◌∷◌, ◌++◌, map, Option, Some, None, is_some, refl, sym, ap, subst, ◌∙◌, option_map}
 use Rattle.std.specs.Prelude.{◌&&◌, ◌||◌, ◌==◌, length}
-use Rattle.std.specs.List.{list_all, list_any}
+use Rattle.std.specs.List.{list_all}
 use Rattle.mdr_core.specs.declared.place.Place.{Place}
 use Rattle.mdr_core.specs.declared.types.Ty.{Ty}
 use Rattle.mdr_core.specs.declared.types.Ty.TheVariants as type
@@ -11,10 +11,10 @@ use Rattle.mdr_syntax.specs.declared.tree.Base.TheVariants as base
 use Rattle.mdr_syntax.specs.declared.tree.Decl.{Decl}
 use Rattle.mdr_syntax.specs.declared.tree.Decl.TheOpen.{Decl-F}
 use Rattle.mdr_syntax.specs.declared.tree.Decl.TheFolds.{ind-Decl, map-Decl, fold-roll-Decl}
-use Rattle.mdr_faults.specs.declared.fault.FaultKind.TheVariants.{Redefined, Mismatch, Limit}
+use Rattle.mdr_faults.specs.declared.fault.FaultKind.TheVariants.{Mismatch, Limit}
 use Rattle.mdr_faults.specs.declared.scope.Scope.{Scope}
 use Rattle.mdr_faults.specs.declared.scope.Tag.{Tag}
-use Rattle.mdr_faults.specs.Declarations.{Declarator, declarator, declarator_by, declarator_layer, declarator_type, base_type, struct_named, starred, pointer_to, type_named, result_type, parameter_type, parameter_among, parameter_list, is_same_name, is_void}
+use Rattle.mdr_faults.specs.Declarations.{Declarator, declarator, declarator_by, declarator_layer, declarator_type, base_type, struct_named, starred, pointer_to, type_named, result_type, parameter_type, parameter_among, parameter_list, is_void}
 use Rattle.mdr_faults.specs.Faults.{Checked, Right, after}
 use Rattle.mdr_faults.specs.Scopes.{tag_named}
 use Rattle.mdr_sound_code.proofs.Alike.{left_of}
@@ -70,8 +70,7 @@ AreGood n (d ∷ ds) = IsGoodDeclarator n d × AreGood n ds
 
 pub parameter_among_is : (n : ℕ) (before : List Declarator) (d : Declarator) (t : Ty) → IsGoodDeclarator n d → parameter_among before d ≡ Right t → sort_of n t ≡ Scalar
 parameter_among_is n before d t g e =
-    let a = demand_right d.place Redefined (not (list_any (λ b. is_same_name b.name d.name) before)) _ t e in
-    let b = demand_right d.place Limit (not (length before == 8)) d.parameter t a.right in
+    let b = demand_right d.place Limit (not (length before == 8)) d.parameter t e in
     g.parameter t b.right
 
 one_scalar : (n : ℕ) (t : Ty) (ts us : List Ty) → sort_of n t ≡ Scalar → list_all is_scalar_sort (map (sort_of n) ts) ≡ true → t ∷ ts ≡ us → list_all is_scalar_sort (map (sort_of n) us) ≡ true

@@ -36,12 +36,12 @@ use Rattle.mdr_sound.proofs.NamedTypes.{AreNumbered}
 use Rattle.mdr_sound.proofs.Outlined.{outline_is}
 use Rattle.mdr_sound.proofs.Passing.{struct_next, all_tags_numbered, prefix_outlines, outlines_more, IsStructItem, struct_or_not}
 
-module _ (program : Program) (body : BodyRule) (items : List Item) (xs : List Piece) (right : pieces_behind body items (first_known items) [] items ≡ Right xs) (made : IsMadeOf program (parts_behind no_parts xs)) where
+module _ (program : Program) (body : BodyRule) (items : List Item) (xs : List Piece) (right : pieces_behind body (first_known items) [] items ≡ Right xs) (made : IsMadeOf program (parts_behind no_parts xs)) where
   abbrev Whole : Parts
   Whole = parts_behind no_parts xs
 
   abbrev Last : Known
-  Last = known_behind items (first_known items) items
+  Last = known_behind (first_known items) items
 
   -- ---- structs by their names
 
@@ -73,7 +73,7 @@ module _ (program : Program) (body : BodyRule) (items : List Item) (xs : List Pi
 
   pub completes : (before : List Item) (known : Known) (i : Item) (x : Piece) (ps : Parts) (at : Place) (name : List ℕ) (ds : List Decl) → i.what ≡ item.Struct at name ds → IsPlace body items Whole Last.functions before known i x ps → (fields : List Field) × Completes known at name ds fields
   completes before known i x ps at name ds is place =
-      let next = struct_next known.scope at name ds x (subst (λ w. item_piece body items before known i.place w ≡ Right x) is place.one) in
+      let next = struct_next known.scope at name ds x (subst (λ w. item_piece body before known i.place w ≡ Right x) is place.one) in
       let def : StructDef = record { name = name; fields = next.fields } in
       let begins : Begins (ps.structs ++ def ∷ []) Whole.structs = subst (λ (y : Piece). Begins (behind_piece ps y).structs Whole.structs) next.made place.structs in
       let there : slice_get Whole.structs (length ps.structs) ≡ Some def = begins_last ps.structs Whole.structs def begins in
@@ -123,13 +123,13 @@ module _ (program : Program) (body : BodyRule) (items : List Item) (xs : List Pi
       some_same q = cc
 
   -- behind a struct the scope has one struct more
-  pub one_struct_more : (known : Known) (what : ItemWhat) (at : Place) (name : List ℕ) (ds : List Decl) → what ≡ item.Struct at name ds → is_numbered (tag_named known.scope name) (length known.scope.structs) ≡ true → (behind_item items known what).scope.structs ≡ known.scope.structs ++ struct_entry known.scope at ds ∷ []
-  one_struct_more known what at name ds is numbered = ap (λ (w : ItemWhat). (behind_item items known w).scope.structs) is ∙ ap (λ b. (with_struct_if b known.scope (struct_entry known.scope at ds)).structs) numbered
+  pub one_struct_more : (known : Known) (what : ItemWhat) (at : Place) (name : List ℕ) (ds : List Decl) → what ≡ item.Struct at name ds → is_numbered (tag_named known.scope name) (length known.scope.structs) ≡ true → (behind_item known what).scope.structs ≡ known.scope.structs ++ struct_entry known.scope at ds ∷ []
+  one_struct_more known what at name ds is numbered = ap (λ (w : ItemWhat). (behind_item known w).scope.structs) is ∙ ap (λ b. (with_struct_if b known.scope (struct_entry known.scope at ds)).structs) numbered
 
   seen_behind : GoesOn body items Whole Last.functions Seen
   seen_behind = record { behind = λ before known i x ps place q. by before known i x ps place q (struct_or_not items known i.what) }
     where
-      by : (before : List Item) (known : Known) (i : Item) (x : Piece) (ps : Parts) → IsPlace body items Whole Last.functions before known i x ps → Seen known ps → IsStructItem i.what ⊎ ((behind_item items known i.what).scope.structs ≡ known.scope.structs) → Seen (behind_item items known i.what) (behind_piece ps x)
+      by : (before : List Item) (known : Known) (i : Item) (x : Piece) (ps : Parts) → IsPlace body items Whole Last.functions before known i x ps → Seen known ps → IsStructItem i.what ⊎ ((behind_item known i.what).scope.structs ≡ known.scope.structs) → Seen (behind_item known i.what) (behind_piece ps x)
       by before known i x ps place q (inr same) = record { seen = λ s f fields c less e g h. q.seen s f fields c (subst (λ n. s < n) (ap length same) less) e g h }
       by before known i x ps place q (inl v) = record {
         seen = λ s f fields c less e g h.

@@ -19,7 +19,7 @@ use Rattle.mdr_faults.specs.Enums.{behind_enumerator, behind_enumerators, value_
 use Rattle.mdr_faults.specs.Faults.{Right, told, after, demand}
 use Rattle.mdr_faults.specs.Scopes.{tag_named}
 use Rattle.mdr_headings.specs.Annotations.{candidate}
-use Rattle.mdr_headings.specs.Functions.{is_taken, is_defined, with_function_unless, behind_function}
+use Rattle.mdr_headings.specs.Functions.{is_taken, with_function_unless, behind_function}
 use Rattle.mdr_headings.specs.Source.{has_tag, tags_behind, tags_from, defines_from, is_numbered, with_struct_if, before_first}
 use Rattle.mdr_headings.specs.Structs.{struct_fields, struct_entry}
 use Rattle.mdr_check.specs.declared.file.Known.{Known}
@@ -50,22 +50,22 @@ enumerators_same scope before (e ∷ es) =
     let b = enumerators_same (behind_enumerator scope before e) (told (value_behind scope before e)) es in
     record { tags = b.tags; defines = b.defines; outlines = b.outlines }
 
-function_same : (t : Bool) (scope : Scope) (n : ℕ) (d : Bool) (h : Head) → SameFile scope (with_function_unless t scope n d h)
-function_same true scope n d h = same_file scope
-function_same false scope n d h = record { tags = refl; defines = refl; outlines = refl }
+function_same : (t : Bool) (scope : Scope) (n : ℕ) (h : Head) → SameFile scope (with_function_unless t scope n h)
+function_same true scope n h = same_file scope
+function_same false scope n h = record { tags = refl; defines = refl; outlines = refl }
 
 struct_same : (t : Bool) (scope : Scope) (e : _) → SameFile scope (with_struct_if t scope e)
 struct_same true scope e = record { tags = refl; defines = refl; outlines = refl }
 struct_same false scope e = same_file scope
 
-pub item_same : (items : List Item) (known : Known) (what : ItemWhat) → SameFile known.scope (behind_item items known what).scope
+pub item_same : (items : List Item) (known : Known) (what : ItemWhat) → SameFile known.scope (behind_item known what).scope
 unfolding behind_function behind_global
 item_same items known (item.Define name is_negative n k) = record { tags = refl; defines = refl; outlines = refl }
 item_same items known (item.Struct at name ds) = struct_same (is_numbered (tag_named known.scope name) (length known.scope.structs)) known.scope (struct_entry known.scope at ds)
 item_same items known (item.Enum es) = enumerators_same known.scope before_first es
 item_same items known (item.Global d init) = record { tags = refl; defines = refl; outlines = refl }
-item_same items known (item.Proto h is_remote) = function_same (is_taken known.scope h.name) known.scope (length known.functions) (is_defined items h.name) h
-item_same items known (item.Func h is_critical nodes) = function_same (is_taken known.scope h.name) known.scope (length known.functions) (is_defined items h.name) h
+item_same items known (item.Proto h is_remote) = function_same (is_taken known.scope h.name) known.scope (length known.functions) h
+item_same items known (item.Func h is_critical nodes) = function_same (is_taken known.scope h.name) known.scope (length known.functions) h
 
 -- ---- item by item
 
@@ -132,13 +132,13 @@ unfolding behind_enumerators
 enumerators_structs scope before [] = refl
 enumerators_structs scope before (e ∷ es) = enumerators_structs (behind_enumerator scope before e) (told (value_behind scope before e)) es
 
-pub function_tags : (t : Bool) (scope : Scope) (n : ℕ) (d : Bool) (h : Head) → scope.tags ≡ (with_function_unless t scope n d h).tags
-function_tags true scope n d h = refl
-function_tags false scope n d h = refl
+pub function_tags : (t : Bool) (scope : Scope) (n : ℕ) (h : Head) → scope.tags ≡ (with_function_unless t scope n h).tags
+function_tags true scope n h = refl
+function_tags false scope n h = refl
 
-pub function_structs : (t : Bool) (scope : Scope) (n : ℕ) (d : Bool) (h : Head) → (with_function_unless t scope n d h).structs ≡ scope.structs
-function_structs true scope n d h = refl
-function_structs false scope n d h = refl
+pub function_structs : (t : Bool) (scope : Scope) (n : ℕ) (h : Head) → (with_function_unless t scope n h).structs ≡ scope.structs
+function_structs true scope n h = refl
+function_structs false scope n h = refl
 
 -- the struct is the one that comes next
 pub record IsNext (scope : Scope) (p : Place) (name : List ℕ) (ds : List Decl) (x : Piece) : Type 0 where
@@ -157,7 +157,7 @@ struct_next scope at name ds x e =
     let a = after_right fields (struct_of name) x d'.right in
     record { numbered = d.holds; fields = a.value; right = a.right; made = sym (same_right (piece.Struct (record { name = name; fields = a.value })) x a.made) }
 
-sizes_behind : (body : BodyRule) (items before : List Item) (known : Known) (p : Place) (what : ItemWhat) (x : Piece) (tags all : List Tag) (os : List (List Candidate)) → AreNumbered all → Begins tags all → known.scope.tags ≡ all → (first_scope items).tags ≡ all → Sizes known.scope tags os → item_piece body items before known p what ≡ Right x → Sizes (behind_item items known what).scope (tags_behind tags what) (outlines_behind (first_scope items) os what)
+sizes_behind : (body : BodyRule) (items before : List Item) (known : Known) (p : Place) (what : ItemWhat) (x : Piece) (tags all : List Tag) (os : List (List Candidate)) → AreNumbered all → Begins tags all → known.scope.tags ≡ all → (first_scope items).tags ≡ all → Sizes known.scope tags os → item_piece body before known p what ≡ Right x → Sizes (behind_item known what).scope (tags_behind tags what) (outlines_behind (first_scope items) os what)
 unfolding behind_function behind_global
 sizes_behind body items before known p (item.Define name is_negative n k) x tags all os num b is first z e = same_sizes known.scope _ tags os refl z
 sizes_behind body items before known p (item.Struct at name ds) x tags all os num b is first z e =
@@ -168,8 +168,8 @@ sizes_behind body items before known p (item.Struct at name ds) x tags all os nu
     struct_sizes (first_scope items) known.scope tags os name ds (struct_entry known.scope at ds) (has_tag tags name) (is_numbered (tag_named known.scope name) (length known.scope.structs)) (is_numbered (tag_named (first_scope items) name) (length os)) has next.numbered shown z
 sizes_behind body items before known p (item.Enum es) x tags all os num b is first z e = same_sizes known.scope (behind_enumerators known.scope before_first es) tags os (enumerators_structs known.scope before_first es) z
 sizes_behind body items before known p (item.Global d init) x tags all os num b is first z e = same_sizes known.scope _ tags os refl z
-sizes_behind body items before known p (item.Proto h is_remote) x tags all os num b is first z e = same_sizes known.scope (with_function_unless (is_taken known.scope h.name) known.scope (length known.functions) (is_defined items h.name) h) tags os (function_structs (is_taken known.scope h.name) known.scope (length known.functions) (is_defined items h.name) h) z
-sizes_behind body items before known p (item.Func h is_critical nodes) x tags all os num b is first z e = same_sizes known.scope (with_function_unless (is_taken known.scope h.name) known.scope (length known.functions) (is_defined items h.name) h) tags os (function_structs (is_taken known.scope h.name) known.scope (length known.functions) (is_defined items h.name) h) z
+sizes_behind body items before known p (item.Proto h is_remote) x tags all os num b is first z e = same_sizes known.scope (with_function_unless (is_taken known.scope h.name) known.scope (length known.functions) h) tags os (function_structs (is_taken known.scope h.name) known.scope (length known.functions) h) z
+sizes_behind body items before known p (item.Func h is_critical nodes) x tags all os num b is first z e = same_sizes known.scope (with_function_unless (is_taken known.scope h.name) known.scope (length known.functions) h) tags os (function_structs (is_taken known.scope h.name) known.scope (length known.functions) h) z
 
 no_tags : AreNumbered []
 no_tags = record { numbers = λ i t e. absurd (none i e) }
@@ -189,7 +189,7 @@ prefix_outlines scope before items b = subst (Begins (outlines_from scope [] bef
 shorter : (before items : List Item) (i : Item) → Begins (before ++ i ∷ []) items → Begins before items
 shorter before items i b = begins_behind before (before ++ i ∷ []) items (begins_more before (i ∷ [])) b
 
-pub at_behind : (body : BodyRule) (items before : List Item) (known : Known) (i : Item) (x : Piece) → IsAt items before known → Begins (before ++ i ∷ []) items → item_piece body items before known i.place i.what ≡ Right x → IsAt items (before ++ i ∷ []) (behind_item items known i.what)
+pub at_behind : (body : BodyRule) (items before : List Item) (known : Known) (i : Item) (x : Piece) → IsAt items before known → Begins (before ++ i ∷ []) items → item_piece body before known i.place i.what ≡ Right x → IsAt items (before ++ i ∷ []) (behind_item known i.what)
 unfolding tags_from outlines_from
 at_behind body items before known i x a b e =
     let same = item_same items known i.what in
@@ -210,11 +210,11 @@ pub record IsStructItem (what : ItemWhat) : Type 0 where
   pub decls : List Decl
   pub is : what ≡ item.Struct at name decls
 
-pub struct_or_not : (items : List Item) (known : Known) (what : ItemWhat) → IsStructItem what ⊎ ((behind_item items known what).scope.structs ≡ known.scope.structs)
+pub struct_or_not : (items : List Item) (known : Known) (what : ItemWhat) → IsStructItem what ⊎ ((behind_item known what).scope.structs ≡ known.scope.structs)
 unfolding behind_function behind_global
 struct_or_not items known (item.Define name is_negative n k) = inr refl
 struct_or_not items known (item.Struct at name ds) = inl (record { at = at; name = name; decls = ds; is = refl })
 struct_or_not items known (item.Enum es) = inr (enumerators_structs known.scope before_first es)
 struct_or_not items known (item.Global d init) = inr refl
-struct_or_not items known (item.Proto h is_remote) = inr (function_structs (is_taken known.scope h.name) known.scope (length known.functions) (is_defined items h.name) h)
-struct_or_not items known (item.Func h is_critical nodes) = inr (function_structs (is_taken known.scope h.name) known.scope (length known.functions) (is_defined items h.name) h)
+struct_or_not items known (item.Proto h is_remote) = inr (function_structs (is_taken known.scope h.name) known.scope (length known.functions) h)
+struct_or_not items known (item.Func h is_critical nodes) = inr (function_structs (is_taken known.scope h.name) known.scope (length known.functions) h)

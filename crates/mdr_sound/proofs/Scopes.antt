@@ -34,7 +34,7 @@ use Rattle.mdr_faults.specs.Faults.{Right, told}
 use Rattle.mdr_faults.specs.Scopes.{or_else, entity_among}
 use Rattle.mdr_headings.specs.declared.head.Heading.{Heading}
 use Rattle.mdr_headings.specs.Heads.{heading as heading_in}
-use Rattle.mdr_headings.specs.Functions.{is_taken, is_defined, with_function_unless, behind_function, declared_unless, function_declared, function_means, functions_behind}
+use Rattle.mdr_headings.specs.Functions.{is_taken, with_function_unless, behind_function, declared_unless, function_declared, function_means, functions_behind}
 use Rattle.mdr_headings.specs.Source.{defines_from, defines_behind, defined_constant, with_struct_if, before_first, signature}
 use Rattle.mdr_headings.specs.Structs.{struct_entry, member, name_or_none}
 use Rattle.mdr_check.specs.declared.file.Known.{Known}
@@ -156,12 +156,12 @@ found_define program names name entry e a found m = by (entity_among names name)
 
 -- ---- the scope at each place
 
-module _ (program : Program) (body : BodyRule) (items : List Item) (xs : List Piece) (right : pieces_behind body items (first_known items) [] items ≡ Right xs) (made : IsMadeOf program (parts_behind no_parts xs)) (ranges : AreDefinesInRange items) where
+module _ (program : Program) (body : BodyRule) (items : List Item) (xs : List Piece) (right : pieces_behind body (first_known items) [] items ≡ Right xs) (made : IsMadeOf program (parts_behind no_parts xs)) (ranges : AreDefinesInRange items) where
   abbrev Whole : Parts
   Whole = parts_behind no_parts xs
 
   abbrev Last : Known
-  Last = known_behind items (first_known items) items
+  Last = known_behind (first_known items) items
 
   -- an item at its place in this file
   abbrev Turn : List Item → Known → Item → Piece → Parts → Type 0
@@ -209,7 +209,7 @@ module _ (program : Program) (body : BodyRule) (items : List Item) (xs : List Pi
 
   known_global : (before : List Item) (known : Known) (i : Item) (x : Piece) (ps : Parts) (d : Decl) (init : Option Init) → i.what ≡ item.Global d init → Turn before known i x ps → Stands program known.scope → (e : Entity) → global_means known.globals (told (global_object known.scope d)) ≡ Ok e → IsKnownEntity program e
   known_global before known i x ps d init is place st e m =
-      let a = after_right (global known.scope known.globals d init) global_of x (subst (λ w. item_piece body items before known i.place w ≡ Right x) is place.one) in
+      let a = after_right (global known.scope known.globals d init) global_of x (subst (λ w. item_piece body before known i.place w ≡ Right x) is place.one) in
       let v = a.value in
       let found = declared known.scope known.globals d init v a.right in
       let g = means_global known.globals (told (global_object known.scope d)) e m in
@@ -237,52 +237,52 @@ module _ (program : Program) (body : BodyRule) (items : List Item) (xs : List Pi
     pub listed : heading_in known.scope h ≡ Right heading
     pub begins : Begins (functions_behind known.scope known.functions h) Last.functions
 
-  known_function : (known : Known) (h : Head) → IsHeaded known h → is_taken known.scope h.name ≡ false → Stands program known.scope → AreNumbered known.scope (length program.structs) → (e : Entity) → function_means (told (signature known.scope (length known.functions) (is_defined items h.name) h)) ≡ Ok e → IsKnownEntity program e
+  known_function : (known : Known) (h : Head) → IsHeaded known h → is_taken known.scope h.name ≡ false → Stands program known.scope → AreNumbered known.scope (length program.structs) → (e : Entity) → function_means (told (signature known.scope (length known.functions) h)) ≡ Ok e → IsKnownEntity program e
   unfolding functions_behind behind_function
   known_function known h headed free st low e m =
       let n = length known.functions in
-      let f = means_function (told (signature known.scope n (is_defined items h.name) h)) e m in
+      let f = means_function (told (signature known.scope n h)) e m in
       let s = f.signature in
-      let right = told_right (signature known.scope n (is_defined items h.name) h) s f.told in
+      let right = told_right (signature known.scope n h) s f.told in
       let new = new_declared known.scope h in
       let begins : Begins (known.functions ++ new ∷ []) Last.functions = subst (λ t. Begins (declared_unless t known.functions h (told (heading_in known.scope h))) Last.functions) free headed.begins in
       let there = declared_at Last.functions Whole.funcs n new all_declared (begins_last known.functions Last.functions new begins) in
       let d = there.2 in
       let listed : heading_in known.scope h ≡ Right d.heading = told_right (heading_in known.scope h) d.heading d.told in
-      let same = signature_of_heading known.scope known.scope n (is_defined items h.name) h s d.heading refl right listed in
+      let same = signature_of_heading known.scope known.scope n h s d.heading refl right listed in
       let types : function_type there.0 ≡ type.Fun (s.result ∷ s.params) = d.types ∙ (λ i. type.Fun (sym same.result_is i ∷ sym same.params_are i)) in
       let kept : IsKnownFunction program s = record {
         func = there.0;
         names = ap (slice_get program.funcs) same.number ∙ ap (λ (fs : List Func). slice_get fs n) made.funcs ∙ there.1;
         types = types;
-        formed = signature_formed known.scope (length program.structs) n (is_defined items h.name) h s low right;
+        formed = signature_formed known.scope (length program.structs) n h s low right;
       }
       in
-      subst (IsKnownEntity program) (sym f.is) (λ defined. kept)
+      subst (IsKnownEntity program) (sym f.is) kept
 
-  pub function_stands : (known : Known) (h : Head) → IsHeaded known h → Stands program known.scope → AreNumbered known.scope (length program.structs) → Stands program (body_scope items known h)
+  pub function_stands : (known : Known) (h : Head) → IsHeaded known h → Stands program known.scope → AreNumbered known.scope (length program.structs) → Stands program (body_scope known h)
   unfolding behind_function
   function_stands known h headed st low = by (is_taken known.scope h.name) refl
     where
-      by : (t : Bool) → is_taken known.scope h.name ≡ t → Stands program (with_function_unless t known.scope (length known.functions) (is_defined items h.name) h)
+      by : (t : Bool) → is_taken known.scope h.name ≡ t → Stands program (with_function_unless t known.scope (length known.functions) h)
       by true e = st
-      by false e = stands_named program known.scope h.name (function_means (told (signature known.scope (length known.functions) (is_defined items h.name) h))) st (λ x m. known_function known h headed e st low x m)
+      by false e = stands_named program known.scope h.name (function_means (told (signature known.scope (length known.functions) h))) st (λ x m. known_function known h headed e st low x m)
 
   -- ---- behind each item
 
   pub prototype_headed : (before : List Item) (known : Known) (i : Item) (x : Piece) (ps : Parts) (h : Head) (is_remote : Bool) → i.what ≡ item.Proto h is_remote → Turn before known i x ps → IsHeaded known h
   prototype_headed before known i x ps h is_remote is place =
-      let a = after_right (function_declared known.scope known.functions before h false) (prototype_of h.name) x (subst (λ w. item_piece body items before known i.place w ≡ Right x) is place.one) in
+      let a = after_right (function_declared known.scope known.functions before h false) (prototype_of h.name) x (subst (λ w. item_piece body before known i.place w ≡ Right x) is place.one) in
       let r = ruled known.scope known.functions before h false a.value a.right in
-      record { heading = a.value; listed = r.right; begins = subst (λ w. Begins (behind_item items known w).functions Last.functions) is place.declared }
+      record { heading = a.value; listed = r.right; begins = subst (λ w. Begins (behind_item known w).functions Last.functions) is place.declared }
 
   pub body_headed : (before : List Item) (known : Known) (i : Item) (x : Piece) (ps : Parts) (h : Head) (is_critical : Bool) (nodes : _) → i.what ≡ item.Func h is_critical nodes → Turn before known i x ps → IsHeaded known h
   body_headed before known i x ps h is_critical nodes is place =
-      let b = both_right (function_declared known.scope known.functions before h true) (body (body_scope items known h) h nodes) (function_of h.name is_critical) x (subst (λ w. item_piece body items before known i.place w ≡ Right x) is place.one) in
+      let b = both_right (function_declared known.scope known.functions before h true) (body (body_scope known h) h nodes) (function_of h.name is_critical) x (subst (λ w. item_piece body before known i.place w ≡ Right x) is place.one) in
       let r = ruled known.scope known.functions before h true b.left b.first in
-      record { heading = b.left; listed = r.right; begins = subst (λ w. Begins (behind_item items known w).functions Last.functions) is place.declared }
+      record { heading = b.left; listed = r.right; begins = subst (λ w. Begins (behind_item known w).functions Last.functions) is place.declared }
 
-  stands_behind : (before : List Item) (known : Known) (i : Item) (x : Piece) (ps : Parts) (what : ItemWhat) → i.what ≡ what → Turn before known i x ps → Stands program known.scope → AreNumbered known.scope (length program.structs) → Stands program (behind_item items known what).scope
+  stands_behind : (before : List Item) (known : Known) (i : Item) (x : Piece) (ps : Parts) (what : ItemWhat) → i.what ≡ what → Turn before known i x ps → Stands program known.scope → AreNumbered known.scope (length program.structs) → Stands program (behind_item known what).scope
   unfolding behind_global
   stands_behind before known i x ps (item.Define name is_negative n k) is place st low =
       let range = subst IsDefineInRange is (define_at before (place.begins).more i (subst AreDefinesInRange (place.begins).whole ranges)) in
@@ -355,7 +355,7 @@ module _ (program : Program) (body : BodyRule) (items : List Item) (xs : List Pi
   any_parts known ps qs q = record { stands = q.stands; sound = q.sound; members = q.members; fields = q.fields; small = q.small; few = q.few }
 
   -- behind an item that completes no struct
-  standing_same : (before : List Item) (known : Known) (i : Item) (x : Piece) (ps : Parts) → Turn before known i x ps → IsStanding known no_parts → Stands program (behind_item items known i.what).scope → (behind_item items known i.what).scope.structs ≡ known.scope.structs → IsStanding (behind_item items known i.what) no_parts
+  standing_same : (before : List Item) (known : Known) (i : Item) (x : Piece) (ps : Parts) → Turn before known i x ps → IsStanding known no_parts → Stands program (behind_item known i.what).scope → (behind_item known i.what).scope.structs ≡ known.scope.structs → IsStanding (behind_item known i.what) no_parts
   standing_same before known i x ps place q st same = record {
     stands = st;
     sound = λ all s def less e. q.sound all s def (subst (λ n. s < n) (ap length same) less) e;
@@ -366,13 +366,13 @@ module _ (program : Program) (body : BodyRule) (items : List Item) (xs : List Pi
   }
 
   -- behind a struct
-  standing_more : (before : List Item) (known : Known) (i : Item) (x : Piece) (ps : Parts) → Turn before known i x ps → IsStanding known no_parts → Stands program (behind_item items known i.what).scope → IsStructItem i.what → IsStanding (behind_item items known i.what) no_parts
+  standing_more : (before : List Item) (known : Known) (i : Item) (x : Piece) (ps : Parts) → Turn before known i x ps → IsStanding known no_parts → Stands program (behind_item known i.what).scope → IsStructItem i.what → IsStanding (behind_item known i.what) no_parts
   standing_more before known i x ps place q st v =
       let k = completes program body items xs right made before known i x ps v.at v.name v.decls v.is place in
       let is = struct_known program known.scope v.at v.decls k.0 q.stands (k.1).listed (k.1).fields_are in
       let more = one_struct_more program body items xs right made known i.what v.at v.name v.decls v.is (k.1).numbered in
       let many = ap length more ∙ length-append known.scope.structs (struct_entry known.scope v.at v.decls ∷ []) in
-      let which : (s : ℕ) → s < length (behind_item items known i.what).scope.structs → (s < length known.scope.structs) ⊎ (s ≡ length known.scope.structs) = λ s less. same_or_less program body items xs right made s (length known.scope.structs) (subst (λ n. s < n) many less) in
+      let which : (s : ℕ) → s < length (behind_item known i.what).scope.structs → (s < length known.scope.structs) ⊎ (s ≡ length known.scope.structs) = λ s less. same_or_less program body items xs right made s (length known.scope.structs) (subst (λ n. s < n) many less) in
       record {
         stands = st;
         sound = λ all s def less e. sound_struct all known v.at v.name v.decls k.0 s def k.1 q (which s less) e;
@@ -383,9 +383,9 @@ module _ (program : Program) (body : BodyRule) (items : List Item) (xs : List Pi
       }
 
   pub standing_goes_on : GoesOn body items Whole Last.functions IsStanding
-  standing_goes_on = record { behind = λ before known i x ps place q. any_parts (behind_item items known i.what) no_parts (behind_piece ps x) (by before known i x ps place (any_parts known ps no_parts q) (stands_behind before known i x ps i.what refl place q.stands (names_structs program body items xs right made known.scope (place.at).tags)) (struct_or_not items known i.what)) }
+  standing_goes_on = record { behind = λ before known i x ps place q. any_parts (behind_item known i.what) no_parts (behind_piece ps x) (by before known i x ps place (any_parts known ps no_parts q) (stands_behind before known i x ps i.what refl place q.stands (names_structs program body items xs right made known.scope (place.at).tags)) (struct_or_not items known i.what)) }
     where
-      by : (before : List Item) (known : Known) (i : Item) (x : Piece) (ps : Parts) → Turn before known i x ps → IsStanding known no_parts → Stands program (behind_item items known i.what).scope → IsStructItem i.what ⊎ ((behind_item items known i.what).scope.structs ≡ known.scope.structs) → IsStanding (behind_item items known i.what) no_parts
+      by : (before : List Item) (known : Known) (i : Item) (x : Piece) (ps : Parts) → Turn before known i x ps → IsStanding known no_parts → Stands program (behind_item known i.what).scope → IsStructItem i.what ⊎ ((behind_item known i.what).scope.structs ≡ known.scope.structs) → IsStanding (behind_item known i.what) no_parts
       by before known i x ps place q st (inl v) = standing_more before known i x ps place q st v
       by before known i x ps place q st (inr same) = standing_same before known i x ps place q st same
 

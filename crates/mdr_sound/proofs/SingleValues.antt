@@ -19,8 +19,8 @@ use Rattle.mdr_syntax.specs.declared.tree.Const.TheVariants as const
 use Rattle.mdr_check.specs.declared.initialiser.First.{First}
 use Rattle.mdr_check.specs.declared.initialiser.First.TheVariants as first
 use Rattle.mdr_check.specs.declared.variable.Variable.{Variable}
-use Rattle.mdr_check.specs.Initialisers.{null_if, number_first, is_any_pointer_by, null_first, handle_first, function_first, entity_first, named_first, constant_first, address_if, address_first, located_first, address_named}
-use Rattle.mdr_faults.specs.declared.fault.FaultKind.TheVariants.{Mismatch, Incomplete}
+use Rattle.mdr_check.specs.Initialisers.{null_if, number_first, is_any_pointer_by, null_first, handle_first, entity_first, named_first, constant_first, address_if, address_first, located_first, address_named}
+use Rattle.mdr_faults.specs.declared.fault.FaultKind.TheVariants.{Mismatch}
 use Rattle.mdr_faults.specs.declared.scope.Constant.{Constant}
 use Rattle.mdr_faults.specs.declared.scope.Entity.{Entity}
 use Rattle.mdr_faults.specs.declared.scope.Entity.TheVariants as entity
@@ -89,11 +89,6 @@ handle_known program vs own ty x p s (Ty-F.Fun ts) known q e =
     subst (IsSingle program vs own ty) (same_right (first.Function s.number) x found.right)
     (record { value = value.Fn s.number; made = refl; fits = (known.func, known.names, is_fun ty ts q ∙ ap type.Fun types ∙ sym known.types) })
 handle_known program vs own ty x p s Ty-F.Void known q e = not_right _ x e
-
-function_known : (program : Program) (vs : List Variable) (own : ℕ) (ty : Ty) (x : First) (at p : Place) (s : Signature) → IsKnownEntity program (entity.Function s) → function_first at p s ty ≡ Right x → IsSingle program vs own ty x
-function_known program vs own ty x at p s known e =
-    let found = chosen_right s.is_defined (handle_first p s (out-Ty ty)) at Incomplete x e in
-    handle_known program vs own ty x p s (out-Ty ty) (known found.holds) refl found.right
 
 -- ---- addresses
 
@@ -175,27 +170,27 @@ address_known program vs own g o ty x p Ty-F.Void has known q e = not_right _ x 
 
 -- ---- names
 
-entity_known : (program : Program) (vs : List Variable) (own : ℕ) (ty : Ty) (x : First) (at p : Place) (n : Entity) → IsKnownEntity program n → entity_first at p ty n ≡ Right x → IsSingle program vs own ty x
-entity_known program vs own ty x at p (entity.Constant c) known e = number_known program vs own ty x p false c (out-Ty ty) refl e
-entity_known program vs own ty x at p (entity.Global g o) known e = not_right _ x e
-entity_known program vs own ty x at p (entity.Function s) known e = function_known program vs own ty x at p s known e
+entity_known : (program : Program) (vs : List Variable) (own : ℕ) (ty : Ty) (x : First) (p : Place) (n : Entity) → IsKnownEntity program n → entity_first p ty n ≡ Right x → IsSingle program vs own ty x
+entity_known program vs own ty x p (entity.Constant c) known e = number_known program vs own ty x p false c (out-Ty ty) refl e
+entity_known program vs own ty x p (entity.Global g o) known e = not_right _ x e
+entity_known program vs own ty x p (entity.Function s) known e = handle_known program vs own ty x p s (out-Ty ty) known refl e
 
-located_known : (program : Program) (vs : List Variable) (own : ℕ) (ty : Ty) (x : First) (at p : Place) (n : Entity) → HasVariables program vs → IsKnownEntity program n → located_first own at p ty n ≡ Right x → IsSingle program vs own ty x
-located_known program vs own ty x at p (entity.Constant c) has known e = not_right _ x e
-located_known program vs own ty x at p (entity.Global g o) has known e = address_known program vs own g o ty x p (out-Ty ty) has known refl e
-located_known program vs own ty x at p (entity.Function s) has known e = function_known program vs own ty x at p s known e
+located_known : (program : Program) (vs : List Variable) (own : ℕ) (ty : Ty) (x : First) (p : Place) (n : Entity) → HasVariables program vs → IsKnownEntity program n → located_first own p ty n ≡ Right x → IsSingle program vs own ty x
+located_known program vs own ty x p (entity.Constant c) has known e = not_right _ x e
+located_known program vs own ty x p (entity.Global g o) has known e = address_known program vs own g o ty x p (out-Ty ty) has known refl e
+located_known program vs own ty x p (entity.Function s) has known e = handle_known program vs own ty x p s (out-Ty ty) known refl e
 
 named_known : (program : Program) (scope : Scope) (vs : List Variable) (own : ℕ) (ty : Ty) (x : First) (at p : Place) (name : List ℕ) (o : Option Named) → Knows program scope → entity_named scope name ≡ o → named_first at p ty o ≡ Right x → IsSingle program vs own ty x
 named_known program scope vs own ty x at p name None knows q e = not_right _ x e
 named_known program scope vs own ty x at p name (Some entry) knows q e =
-    let found = after_right (again entry.means) (entity_first at p ty) x e in
-    entity_known program vs own ty x at p found.value (knows.entities name entry found.value q (again_right entry.means found.value found.right)) found.made
+    let found = after_right (again entry.means) (entity_first p ty) x e in
+    entity_known program vs own ty x p found.value (knows.entities name entry found.value q (again_right entry.means found.value found.right)) found.made
 
 address_named_known : (program : Program) (scope : Scope) (vs : List Variable) (own : ℕ) (ty : Ty) (x : First) (at p : Place) (name : List ℕ) (o : Option Named) → Knows program scope → HasVariables program vs → entity_named scope name ≡ o → address_named own at p ty o ≡ Right x → IsSingle program vs own ty x
 address_named_known program scope vs own ty x at p name None knows has q e = not_right _ x e
 address_named_known program scope vs own ty x at p name (Some entry) knows has q e =
-    let found = after_right (again entry.means) (located_first own at p ty) x e in
-    located_known program vs own ty x at p found.value has (knows.entities name entry found.value q (again_right entry.means found.value found.right)) found.made
+    let found = after_right (again entry.means) (located_first own p ty) x e in
+    located_known program vs own ty x p found.value has (knows.entities name entry found.value q (again_right entry.means found.value found.right)) found.made
 
 pub constant_single : (program : Program) (scope : Scope) (vs : List Variable) (own : ℕ) (ty : Ty) (x : First) (p : Place) (c : Const) → Knows program scope → constant_first scope p c ty ≡ Right x → IsSingle program vs own ty x
 constant_single program scope vs own ty x p (const.Number at is_negative n k) knows e = number_known program vs own ty x p (not is_negative && (n == 0)) (number_constant is_negative n k) (out-Ty ty) refl e

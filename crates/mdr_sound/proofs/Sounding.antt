@@ -27,7 +27,7 @@ use Rattle.mdr_faults.specs.declared.scope.Scope.{Scope}
 use Rattle.mdr_faults.specs.Faults.{Right}
 use Rattle.mdr_headings.specs.declared.body.Body.{Body}
 use Rattle.mdr_headings.specs.declared.head.Heading.{Heading}
-use Rattle.mdr_headings.specs.Functions.{function_declared, functions_behind, behind_function, is_taken, is_defined}
+use Rattle.mdr_headings.specs.Functions.{function_declared, functions_behind, behind_function, is_taken}
 use Rattle.mdr_check.specs.declared.file.Known.{Known}
 use Rattle.mdr_check.specs.declared.file.Piece.{Piece}
 use Rattle.mdr_check.specs.declared.variable.Variable.{Variable}
@@ -120,12 +120,12 @@ head_params program objects ps h i p e =
 
 -- ---- a whole file
 
-module _ (program : Program) (rules : Rules) (items : List Item) (xs : List Piece) (right : pieces_behind (body_rule rules) items (first_known items) [] items ≡ Right xs) (made : IsMadeOf program (parts_behind no_parts xs)) (ranges : AreDefinesInRange items) (proper : AreBodiesProper items) (all : HasAll program) (sound_rules : (scope : Scope) → Knows program scope → (slots : List Slot) → AreSoundRules program slots scope rules) where
+module _ (program : Program) (rules : Rules) (items : List Item) (xs : List Piece) (right : pieces_behind (body_rule rules) (first_known items) [] items ≡ Right xs) (made : IsMadeOf program (parts_behind no_parts xs)) (ranges : AreDefinesInRange items) (proper : AreBodiesProper items) (all : HasAll program) (sound_rules : (scope : Scope) → Knows program scope → (slots : List Slot) → AreSoundRules program slots scope rules) where
   abbrev pub Whole : Parts
   Whole = parts_behind no_parts xs
 
   abbrev pub Last : Known
-  Last = known_behind items (first_known items) items
+  Last = known_behind (first_known items) items
 
   abbrev Turn : List Item → Known → Item → Piece → Parts → Type 0
   Turn = IsPlace (body_rule rules) items Whole Last.functions
@@ -142,7 +142,7 @@ module _ (program : Program) (rules : Rules) (items : List Item) (xs : List Piec
   counted_one known ps v c own g w (inl old) = c.each g w old
   counted_one known ps v c own g w (inr new) = subst (λ (u : Variable). IsCount u.object.array u.object.count) new own
 
-  counted_behind : (before : List Item) (known : Known) (ps : Parts) (what : ItemWhat) (x : Piece) → Comes (body_rule rules) items before known what x → AreCounted known ps → AreCounted (behind_item items known what) (behind_piece ps x)
+  counted_behind : (before : List Item) (known : Known) (ps : Parts) (what : ItemWhat) (x : Piece) → Comes (body_rule rules) items before known what x → AreCounted known ps → AreCounted (behind_item known what) (behind_piece ps x)
   counted_behind before known ps _ _ (OfDefine name is_negative n k) c = record { each = c.each }
   counted_behind before known ps _ _ (OfStruct at name ds fields) c = record { each = c.each }
   counted_behind before known ps _ _ (OfEnum es) c = record { each = c.each }
@@ -190,13 +190,13 @@ module _ (program : Program) (rules : Rules) (items : List Item) (xs : List Piec
         fields = λ s f entry x e g. q.fields s f entry x (ap (λ es. slice_get es s) (sym same) ∙ e) g;
       }
 
-  pub body_scope_structs : (known : Known) (h : Head) → (body_scope items known h).structs ≡ known.scope.structs
+  pub body_scope_structs : (known : Known) (h : Head) → (body_scope known h).structs ≡ known.scope.structs
   unfolding behind_function
-  body_scope_structs known h = function_structs (is_taken known.scope h.name) known.scope (length known.functions) (is_defined items h.name) h
+  body_scope_structs known h = function_structs (is_taken known.scope h.name) known.scope (length known.functions) h
 
-  pub body_scope_tags : (known : Known) (h : Head) → known.scope.tags ≡ (body_scope items known h).tags
+  pub body_scope_tags : (known : Known) (h : Head) → known.scope.tags ≡ (body_scope known h).tags
   unfolding behind_function
-  body_scope_tags known h = function_tags (is_taken known.scope h.name) known.scope (length known.functions) (is_defined items h.name) h
+  body_scope_tags known h = function_tags (is_taken known.scope h.name) known.scope (length known.functions) h
 
   -- ---- globals and functions, behind each item
 
@@ -216,10 +216,10 @@ module _ (program : Program) (rules : Rules) (items : List Item) (xs : List Piec
   prototype_sound : (before : List Item) (known : Known) (ps : Parts) (h : Head) (g : Heading) → function_declared known.scope known.functions before h false ≡ Right g → Begins (functions_behind known.scope known.functions h) Last.functions → AtRest known ps → AreNumbered known.scope (length program.structs) → IsPlaced program (remote h.name g) → IsSoundFunc program (remote h.name g)
   prototype_sound before known ps h g e b q low placed = remote_sound program h.name g (head_sound known ps h (headed_by before known h false g e b) q low placed.params)
 
-  function_sound : (before : List Item) (known : Known) (ps : Parts) (h : Head) (is_critical : Bool) (nodes : List Node) (g : Heading) (b : Body) → function_declared known.scope known.functions before h true ≡ Right g → body_rule rules (body_scope items known h) h nodes ≡ Right b → AreNamed h.params × AreProper (lines_of nodes) → Begins (functions_behind known.scope known.functions h) Last.functions → AtRest known ps → AreNumbered known.scope (length program.structs) → IsPlaced program (whole h.name is_critical g b) → IsSoundFunc program (whole h.name is_critical g b)
+  function_sound : (before : List Item) (known : Known) (ps : Parts) (h : Head) (is_critical : Bool) (nodes : List Node) (g : Heading) (b : Body) → function_declared known.scope known.functions before h true ≡ Right g → body_rule rules (body_scope known h) h nodes ≡ Right b → AreNamed h.params × AreProper (lines_of nodes) → Begins (functions_behind known.scope known.functions h) Last.functions → AtRest known ps → AreNumbered known.scope (length program.structs) → IsPlaced program (whole h.name is_critical g b) → IsSoundFunc program (whole h.name is_critical g b)
   function_sound before known ps h is_critical nodes g b e f written begins q low placed =
       let headed = headed_by before known h true g e begins in
-      let scope = body_scope items known h in
+      let scope = body_scope known h in
       let st = function_stands program (body_rule rules) items xs right made ranges known h headed q.stands low in
       let declarations = knows_declarations known ps scope q st (body_scope_structs known h) in
       let is_made : IsMade program rules scope h nodes g b = record { front = known.scope; tags = body_scope_tags known h; heading_is = headed.listed; body_is = f; named = written.0; proper = written.1; in_table = placed.locals; grounded = placed.body } in
@@ -239,7 +239,7 @@ module _ (program : Program) (rules : Rules) (items : List Item) (xs : List Piec
       let good = sound_globals program known.scope known.globals d init Whole.variables v (among known ps q.rests) here e in
       subst (λ n. IsSoundGlobal program n (global_def program.types program.structs Whole.variables w)) (sym number) (subst (λ (u : Variable). IsSoundGlobal program known.globals (global_def program.types program.structs Whole.variables u)) new.is good.sound)
 
-  sound_behind : (before : List Item) (known : Known) (ps : Parts) (what : ItemWhat) (x : Piece) → Comes (body_rule rules) items before known what x → IsBodyProper what → Begins (behind_item items known what).functions Last.functions → AreNumbered known.scope (length program.structs) → known.globals ≡ length ps.variables → AtRest (behind_item items known what) (behind_piece ps x) → IsSoundFile known ps → IsSoundFile (behind_item items known what) (behind_piece ps x)
+  sound_behind : (before : List Item) (known : Known) (ps : Parts) (what : ItemWhat) (x : Piece) → Comes (body_rule rules) items before known what x → IsBodyProper what → Begins (behind_item known what).functions Last.functions → AreNumbered known.scope (length program.structs) → known.globals ≡ length ps.variables → AtRest (behind_item known what) (behind_piece ps x) → IsSoundFile known ps → IsSoundFile (behind_item known what) (behind_piece ps x)
   sound_behind before known ps _ _ (OfDefine name is_negative n k) written begins low own rests q = record { rests = rests; globals = q.globals; funcs = q.funcs }
   sound_behind before known ps _ _ (OfStruct at name ds fields) written begins low own rests q = record { rests = rests; globals = q.globals; funcs = q.funcs }
   sound_behind before known ps _ _ (OfEnum es) written begins low own rests q = record { rests = rests; globals = q.globals; funcs = q.funcs }

@@ -35,9 +35,9 @@ pub data Comes (body : BodyRule) (items before : List Item) (known : Known) : It
   OfEnum : (es : List Enumerator) → Comes body items before known (item.Enum es) piece.Nothing
   OfGlobal : (d : Decl) (init : Option Init) (v : Variable) → global known.scope known.globals d init ≡ Right v → Comes body items before known (item.Global d init) (piece.Global v)
   OfPrototype : (h : Head) (is_remote : Bool) (g : Heading) → function_declared known.scope known.functions before h false ≡ Right g → Comes body items before known (item.Proto h is_remote) (piece.Prototype h.name g)
-  OfFunction : (h : Head) (is_critical : Bool) (nodes : List Node) (g : Heading) (b : Body) → function_declared known.scope known.functions before h true ≡ Right g → body (body_scope items known h) h nodes ≡ Right b → Comes body items before known (item.Func h is_critical nodes) (piece.Function h.name is_critical g b)
+  OfFunction : (h : Head) (is_critical : Bool) (nodes : List Node) (g : Heading) (b : Body) → function_declared known.scope known.functions before h true ≡ Right g → body (body_scope known h) h nodes ≡ Right b → Comes body items before known (item.Func h is_critical nodes) (piece.Function h.name is_critical g b)
 
-pub comes_to : (body : BodyRule) (items before : List Item) (known : Known) (p : Place) (what : ItemWhat) (x : Piece) → item_piece body items before known p what ≡ Right x → Comes body items before known what x
+pub comes_to : (body : BodyRule) (items before : List Item) (known : Known) (p : Place) (what : ItemWhat) (x : Piece) → item_piece body before known p what ≡ Right x → Comes body items before known what x
 comes_to body items before known p (item.Define name is_negative n k) x e =
     let d = demand_right p Redefined (not (is_some (entity_among known.scope.names name))) (Right piece.Nothing) x e in
     subst (Comes body items before known (item.Define name is_negative n k)) (same_right piece.Nothing x d.right) (OfDefine name is_negative n k)
@@ -54,5 +54,5 @@ comes_to body items before known p (item.Proto h is_remote) x e =
     let a = after_right (function_declared known.scope known.functions before h false) (prototype_of h.name) x e in
     subst (Comes body items before known (item.Proto h is_remote)) (same_right (piece.Prototype h.name a.value) x a.made) (OfPrototype h is_remote a.value a.right)
 comes_to body items before known p (item.Func h is_critical nodes) x e =
-    let b = both_right (function_declared known.scope known.functions before h true) (body (body_scope items known h) h nodes) (function_of h.name is_critical) x e in
+    let b = both_right (function_declared known.scope known.functions before h true) (body (body_scope known h) h nodes) (function_of h.name is_critical) x e in
     subst (Comes body items before known (item.Func h is_critical nodes)) (same_right (piece.Function h.name is_critical b.left b.right) x b.made) (OfFunction h is_critical nodes b.left b.right b.first b.second)

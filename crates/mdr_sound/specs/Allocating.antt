@@ -1,3 +1,4 @@
+-- for proofs
 -- What the rules of the profile give allocates objects of types of objects alone (C99 6.2.5, paragraph 1).
 use Rattle.mdr_core.specs.declared.program.Program.{Program}
 use Rattle.mdr_faults.specs.declared.scope.Scope.{Scope}

@@ -1,3 +1,4 @@
+-- for proofs
 -- How what is known at a place of a file counts the structs, globals and functions of its program (C99 6.9).
 use Rattle.std.specs.Prelude.{◌≡◌, ℕ, true, List, [], ◌∷◌, ◌++◌, length, map, Ok, Some, is_some, slice_get}
 use Rattle.mdr_core.specs.declared.program.Func.{Func}

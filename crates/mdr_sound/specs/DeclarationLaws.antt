@@ -1,3 +1,4 @@
+-- protocol
 -- What holds of all declarations in which no fault is found.
 use Rattle.std.specs.Prelude.{◌≡◌, ℕ, Bool, List, ◌∷◌, length, Option, Some, slice_get, IsTrue}
 use Rattle.mdr_core.specs.declared.place.Place.{Place}
@@ -56,13 +57,13 @@ HeadingsAreSound = (program : Program) (scope : Scope) (h : Head) (x : Heading)
     → Stands program scope → ((i : ℕ) (p : Param) → slice_get x.params i ≡ Some p → HasNumber program p.ty) → heading scope h ≡ Right x → IsSoundHeading program x
 
 -- a heading has the types that uses of the function see, and a pointer to the function is one to a function
-pub record HasSignature (program : Program) (n : ℕ) (is_defined : Bool) (s : Signature) (x : Heading) : Type 0 where
-  pub signature : IsSignatureOf n is_defined s x
+pub record HasSignature (program : Program) (n : ℕ) (s : Signature) (x : Heading) : Type 0 where
+  pub signature : IsSignatureOf n s x
   pub formed : sort_of (length program.structs) (type.Fun (s.result ∷ s.params)) ≡ Scalar
 
 abbrev pub HeadingsHaveSignatures : Type 0
-HeadingsHaveSignatures = (program : Program) (scope other : Scope) (n : ℕ) (is_defined : Bool) (h : Head) (s : Signature) (x : Heading)
-    → AreNumbered scope (length program.structs) → scope.tags ≡ other.tags → signature scope n is_defined h ≡ Right s → heading other h ≡ Right x → HasSignature program n is_defined s x
+HeadingsHaveSignatures = (program : Program) (scope other : Scope) (n : ℕ) (h : Head) (s : Signature) (x : Heading)
+    → AreNumbered scope (length program.structs) → scope.tags ≡ other.tags → signature scope n h ≡ Right s → heading other h ≡ Right x → HasSignature program n s x
 
 -- a table of types of objects
 abbrev pub TablesAreSound : Type 0

@@ -1,3 +1,4 @@
+-- protocol
 -- What declarations come to, as of the program that the file comes to (C99 6.2.5, 6.7).
 use Rattle.std.specs.Prelude.{◌≡◌, ◌⊎◌, ℕ, ◌<◌, ◌≤◌, Bool, true, List, map, length, Some, Ok, slice_get}
 use Rattle.mdr_core.specs.declared.place.Place.{Place}
@@ -61,8 +62,7 @@ pub record IsSoundHeading (program : Program) (x : Heading) : Type 0 where
   pub params : (i : ℕ) (p : Param) → slice_get x.params i ≡ Some p → IsSoundParam program (map sibling_param x.params) p
 
 -- a function's type, as its uses see it
-pub record IsSignatureOf (n : ℕ) (is_defined : Bool) (s : Signature) (x : Heading) : Type 0 where
+pub record IsSignatureOf (n : ℕ) (s : Signature) (x : Heading) : Type 0 where
   pub number : s.number ≡ n
-  pub defined : s.is_defined ≡ is_defined
   pub result_is : s.result ≡ x.result
   pub params_are : s.params ≡ map (λ (p : Param). p.ty) x.params

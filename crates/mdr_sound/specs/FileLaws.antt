@@ -1,3 +1,4 @@
+-- for proofs
 -- What holds of the program of a file in which no fault is found.
 use Rattle.std.specs.Prelude.{◌≡◌, List}
 use Rattle.mdr_core.specs.declared.program.Program.{Program}

@@ -1,3 +1,4 @@
+-- for proofs
 -- What holds of all globals of a file.
 use Rattle.std.specs.Prelude.{◌≡◌, ℕ, List, Option, Some, slice_get}
 use Rattle.mdr_core.specs.declared.program.Program.{Program}

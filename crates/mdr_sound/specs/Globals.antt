@@ -1,3 +1,4 @@
+-- for proofs
 -- What is known at a place of a file of its globals, as of the program that the file comes to (C99 6.7.8, 6.9.2).
 use Rattle.std.specs.Prelude.{◌≡◌, ℕ, List, length, Some, slice_get}
 use Rattle.mdr_core.specs.declared.program.Program.{Program}

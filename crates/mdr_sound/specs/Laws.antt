@@ -1,3 +1,4 @@
+-- for proofs
 -- The rules of the profile keep to those of sound programs (C99 6.5, 6.7.8, 6.8.3, 6.8.6.4).
 use Rattle.std.specs.Prelude.{List}
 use Rattle.mdr_core.specs.declared.program.Program.{Program}

@@ -1,3 +1,4 @@
+-- for proofs
 -- What the grammar gives of a source's items: numbers are of their kinds, what has to be named is named, and no declaration stands where a statement has to (C99 6.4.2.1, 6.4.4.1, 6.8, 6.9.1).
 use Rattle.std.specs.Prelude.{ℕ, ◌<◌, List, [], ◌∷◌, length, IsTrue}
 use Rattle.std.specs.List.{list_all}

@@ -1,3 +1,4 @@
+-- for proofs
 -- The program of a source in which no fault is found is sound.
 use Rattle.std.specs.Prelude.{◌≡◌, ℕ, ◌≤◌, Bool, List, length, Ok}
 use Rattle.mdr_core.specs.declared.program.Program.{Program}

@@ -1,3 +1,4 @@
+-- protocol
 -- What is known at a place of a file, as of the program that the file comes to (C99 6.2.1, 6.7.2.1).
 use Rattle.std.specs.Prelude.{◌≡◌, ℕ, true, false, List, length, Ok, Some, slice_get}
 use Rattle.mdr_core.specs.declared.program.Field.{Field}

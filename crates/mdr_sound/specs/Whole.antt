@@ -1,3 +1,4 @@
+-- for proofs
 -- A program and the parts of the file that it comes from.
 use Rattle.std.specs.Prelude.{◌≡◌, ℕ, false, List, [], ◌∷◌, Some, slice_get, IsTrue}
 use Rattle.mdr_core.specs.declared.code.Stmt.{Stmt}

@@ -16,7 +16,7 @@ use Rattle.mdr_faults.specs.Declarations.{object_declared, sized, cells_of, coun
 use Rattle.mdr_faults.specs.Faults.{Checked, Right, told, demand}
 use Rattle.mdr_body.specs.declared.here.DeclaredLocal.{DeclaredLocal}
 use Rattle.mdr_body.specs.declared.here.Here.{Here}
-use Rattle.mdr_headings.specs.Names.{short_params}
+use Rattle.mdr_headings.specs.Names.{good_params}
 use Rattle.mdr_headings.specs.Structs.{is_struct}
 use Rattle.mdr_headings.specs.Within.{beside, within}
 use Rattle.mdr_body.specs.Locals.{holds_lock, without_lock, local_object, local_declared, local_whole, local_of, is_own_object, is_again, has_place, has_no_size, name_of, lies_apart, named_local, names_here, with_local}
@@ -60,13 +60,13 @@ local_right scope locks here t d l e =
     let p = (out-Decl d).place in
     let whole : Checked Local = local_whole t d (local_object scope locks d) in
     let dropped = within scope (names_here here.names) d in
-    let held : Checked Local = beside (short_params d) (beside dropped whole) in
+    let held : Checked Local = beside (good_params d) (beside dropped whole) in
     let sized : Checked Local = demand p Mismatch (not (has_no_size here.names (out-Decl d).size)) held in
     let placed : Checked Local = demand p Limit (has_place (length here.locals) (name_of d)) sized in
     let a = demand_right p Redefined (not (is_again here.first (name_of d) here.names)) placed l e in
     let b = demand_right p Limit (has_place (length here.locals) (name_of d)) sized l a.right in
     let c = demand_right p Mismatch (not (has_no_size here.names (out-Decl d).size)) held l b.right in
-    let w = after_right (local_object scope locks d) (λ o. Right (local_of t d o)) l (beside_right dropped whole l (beside_right (short_params d) (beside dropped whole) l c.right)) in
+    let w = after_right (local_object scope locks d) (λ o. Right (local_of t d o)) l (beside_right dropped whole l (beside_right (good_params d) (beside dropped whole) l c.right)) in
     record { object = w.value; right = w.right; is = same_right _ _ w.made }
 
 -- ---- how many elements

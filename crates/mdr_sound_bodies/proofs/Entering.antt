@@ -14,12 +14,12 @@ use Rattle.mdr_core.specs.Typing.{Slot, slot_of_param, slot_of_local}
 use Rattle.mdr_core.proofs.Laid.{sort_is}
 use Rattle.mdr_syntax.specs.declared.tree.Decl.{Decl, out-Decl}
 use Rattle.mdr_faults.specs.declared.fault.Fault.{Fault}
-use Rattle.mdr_faults.specs.declared.fault.FaultKind.TheVariants.{Redefined, Limit}
+use Rattle.mdr_faults.specs.declared.fault.FaultKind.TheVariants.{Limit}
 use Rattle.mdr_faults.specs.declared.scope.Candidate.{Candidate}
 use Rattle.mdr_faults.specs.declared.scope.Object.{Object}
 use Rattle.mdr_faults.specs.declared.scope.Scope.{Scope}
 use Rattle.mdr_faults.specs.Declarations.{Declarator, declarator, parameter_among}
-use Rattle.mdr_faults.specs.Faults.{Right, after, demand, told}
+use Rattle.mdr_faults.specs.Faults.{Right, after, told}
 use Rattle.mdr_headings.specs.Annotations.{annotated}
 use Rattle.mdr_headings.specs.Heads.{param_of, annotated_param, param_among, params_behind}
 use Rattle.mdr_headings.specs.Structs.{is_struct, is_struct_by, name_or_none}
@@ -27,9 +27,8 @@ use Rattle.mdr_headings.specs.Within.{names_around, within}
 use Rattle.mdr_operand.specs.declared.room.LocalName.{LocalName}
 use Rattle.mdr_operand.specs.Rooms.{local_from, local_named}
 use Rattle.mdr_operand.specs.Written.{Lines}
-use Rattle.mdr_body.specs.declared.mention.Mention.TheVariants.{Address}
 use Rattle.mdr_body.specs.Locals.{takes, lies_apart, is_own_object, named_local, name_of, parameter_object, parameter_means, parameter_taken, parameters_from, first_here}
-use Rattle.mdr_body.specs.Mentions.{have}
+use Rattle.mdr_body.specs.Addresses.{takes_along}
 use Rattle.mdr_program.specs.Parts.{flagged, marked}
 use Rattle.mdr_sound_code.specs.Knowing.{IsFormed, IsKnownLocal, KnowsLocals}
 use Rattle.mdr_sound_code.proofs.Rights.{same_right, after_right, both_right, demand_right, told_right}
@@ -97,8 +96,7 @@ parameter_right scope siblings before d p e =
     let x : Declarator = declarator scope d in
     let rule = after (parameter_among (map (declarator scope) before) x) (annotated_param scope siblings d) in
     let a = after_right (parameter_among (map (declarator scope) before) x) (annotated_param scope siblings d) p (beside_right (within scope (names_around [] before) d) rule p e) in
-    let r = demand_right x.place Redefined _ (demand x.place Limit _ x.parameter) a.value a.right in
-    let l = demand_right x.place Limit _ x.parameter a.value r.right in
+    let l = demand_right x.place Limit _ x.parameter a.value a.right in
     let b = after_right (annotated scope siblings (out-Decl d).place a.value (out-Decl d).ann) (λ an. Right (param_of (out-Decl d).name a.value an)) p a.made in
     l.right ∙ ap (λ (q : Param). Right q.ty) (same_right (param_of (out-Decl d).name a.value b.value) p b.made)
 
@@ -224,22 +222,22 @@ module _ (program : Program) (front scope : Scope) (tags : front.tags ≡ scope.
       known_at : (i : ℕ) (d : Decl) (o : Object) → slice_get ds i ≡ Some d → (named_local (0 + i) (parameter_taken body d) d (told (parameter_means scope d))).means ≡ Ok o → IsKnownLocal program slots (named_local (0 + i) (parameter_taken body d) d (told (parameter_means scope d))) o
       known_at i d o at m = parameter_known i d o at (told_right (parameter_means scope d) o (means_of (0 + i) (parameter_taken body d) d (told (parameter_means scope d)) ∙ m))
 
-  parameter_untaken : (i : ℕ) (d : Decl) (name : List ℕ) → slice_get ds i ≡ Some d → IsNamed d → bytes_eq (named_local (0 + i) (parameter_taken body d) d (told (parameter_means scope d))).name name ≡ true → (named_local (0 + i) (parameter_taken body d) d (told (parameter_means scope d))).is_object ≡ false → have Address name body false ≡ false
+  parameter_untaken : (i : ℕ) (d : Decl) (name : List ℕ) → slice_get ds i ≡ Some d → IsNamed d → bytes_eq (named_local (0 + i) (parameter_taken body d) d (told (parameter_means scope d))).name name ≡ true → (named_local (0 + i) (parameter_taken body d) d (told (parameter_means scope d))).is_object ≡ false → takes_along name body false ≡ false
   unfolding named_local
   parameter_untaken i d name at named same e =
       let untaken : parameter_taken body d ≡ false = untaken_by (parameter_taken body d) (told (parameter_means scope d)) e in
       let declared : name_of d ≡ named.name = ap name_or_none named.is in
       let one : named.name ≡ name = sym declared ∙ (bytes_eq-Decides (name_of d) name).0 same in
-      subst (λ x. have Address x body false ≡ false) one (ap (λ o. takes o None body) (sym named.is) ∙ untaken)
+      subst (λ x. takes_along x body false ≡ false) one (ap (λ o. takes o None body) (sym named.is) ∙ untaken)
 
-  pub parameters_here : AreNamed ds → IsHere program slots (length ds) (first_here scope body ds) (λ n. have Address n body false)
+  pub parameters_here : AreNamed ds → IsHere program slots (length ds) (first_here scope body ds) (λ n. takes_along n body false)
   unfolding first_here
   parameters_here named = record {
     knows = parameters_known;
     untaken = λ name n e.
         let s = named_stands (parameters_from scope body 0 ds) name n e in
         let p = parameter_at scope body ds 0 s.index n s.at in
-        subst (λ (x : LocalName). bytes_eq x.name name ≡ true → x.is_object ≡ false → have Address name body false ≡ false) p.is (parameter_untaken s.index p.decl name p.at (named_at ds s.index p.decl named p.at)) s.same;
+        subst (λ (x : LocalName). bytes_eq x.name name ≡ true → x.is_object ≡ false → takes_along name body false ≡ false) p.is (parameter_untaken s.index p.decl name p.at (named_at ds s.index p.decl named p.at)) s.same;
     slot = sym (add-zero (length ds));
     number = omega arith;
   }

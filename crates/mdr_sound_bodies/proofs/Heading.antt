@@ -13,9 +13,8 @@ use Rattle.mdr_faults.specs.Faults.{Checked, Right, both}
 use Rattle.mdr_operand.specs.Written.{Written, Line, Lines}
 use Rattle.mdr_body.specs.declared.here.Frame.{Frame}
 use Rattle.mdr_body.specs.declared.here.Here.{Here}
-use Rattle.mdr_body.specs.declared.mention.Mention.TheVariants.{Address}
 use Rattle.mdr_body.specs.Locals.{with_local, takes, is_taken}
-use Rattle.mdr_body.specs.Mentions.{perhaps_mentions, has, have}
+use Rattle.mdr_body.specs.Addresses.{perhaps_takes, takes_at, takes_along}
 use Rattle.mdr_body.specs.Statements.{Rules, appended, pair, taken_behind, head_taken, simple_made, simple_behind, heads_made, heads_behind, steps_made, steps_behind}
 use Rattle.mdr_sound_code.proofs.Rights.{same_right, both_right}
 use Rattle.mdr_sound_bodies.specs.Grounded.{AreGrounded}
@@ -42,23 +41,23 @@ pair_right c d z e =
 
 -- ---- what is known of the addresses that are taken
 
--- what a `for` mentions behind the first part of its head
+-- whose addresses a `for` takes behind the first part of its head
 abbrev pub tail : (test : Option Written) → (step : Lines) → (body : Line) → List ℕ → Bool
-tail test step body name = perhaps_mentions Address name test || (have Address name step false || has Address name body)
+tail test step body name = perhaps_takes name test || (takes_along name step false || takes_at name body)
 
-told_by : (name : Option (List ℕ)) (init : Option Written) (ls : Lines) (test : Option Written) (step : Lines) (body : Line) → taken_behind name init ls test step body ≡ takes_behind name init (λ n. have Address n ls (tail test step body n))
+told_by : (name : Option (List ℕ)) (init : Option Written) (ls : Lines) (test : Option Written) (step : Lines) (body : Line) → taken_behind name init ls test step body ≡ takes_behind name init (λ n. takes_along n ls (tail test step body n))
 told_by None init ls test step body = refl
 told_by (Some name) init ls test step body = refl
 
-pub told_head : (l : Line) (ls : Lines) (test : Option Written) (step : Lines) (body : Line) → IsTold (head_taken l ls test step body) l (λ n. have Address n ls (tail test step body n))
+pub told_head : (l : Line) (ls : Lines) (test : Option Written) (step : Lines) (body : Line) → IsTold (head_taken l ls test step body) l (λ n. takes_along n ls (tail test step body n))
 told_head (Line.Local p d init) ls test step body = told_by (out-Decl d).name init ls test step body
 told_head l ls test step body = tt
 
-takes_by : (name : Option (List ℕ)) (init : Option Written) (ls : Lines) → takes name init ls ≡ takes_behind name init (λ n. have Address n ls false)
+takes_by : (name : Option (List ℕ)) (init : Option Written) (ls : Lines) → takes name init ls ≡ takes_behind name init (λ n. takes_along n ls false)
 takes_by None init ls = refl
 takes_by (Some name) init ls = refl
 
-pub told_line : (l : Line) (ls : Lines) → IsTold (is_taken l ls) l (λ n. have Address n ls false)
+pub told_line : (l : Line) (ls : Lines) → IsTold (is_taken l ls) l (λ n. takes_along n ls false)
 told_line (Line.Local p d init) ls = takes_by (out-Decl d).name init ls
 told_line l ls = tt
 
@@ -77,26 +76,26 @@ steps_same scope frame here (Lines.Then l ls) s = on l s.0 where
 module _ (program : Program) (slots : List Slot) (base : ℕ) (scope : Scope) (frame : Frame) (known : KnowsDeclarations program scope) where
   pub simple_here : (here : Here) (t : Bool) (l : Line) (behind : List ℕ → Bool) → IsHere program slots base here (in_front l behind) → IsProper l → IsTold t l behind → AreDeclared slots base (simple_behind scope frame here t l).locals → IsHere program slots base (simple_behind scope frame here t l) behind
   simple_here here t (Line.Local p d init) behind h proper told declared =
-      here_less program slots base (with_local scope frame.locks t d here) _ behind (here_local program slots base scope frame known here t p d init behind h proper.0 told declared) (λ name e. or_right (perhaps_mentions Address name init) (behind name) e)
-  simple_here here t l behind h proper told declared = here_less program slots base here (in_front l behind) behind h (λ name e. or_right (has Address name l) (behind name) e)
+      here_less program slots base (with_local scope frame.locks t d here) _ behind (here_local program slots base scope frame known here t p d init behind h proper.0 told declared) (λ name e. or_right (perhaps_takes name init) (behind name) e)
+  simple_here here t l behind h proper told declared = here_less program slots base here (in_front l behind) behind h (λ name e. or_right (takes_at name l) (behind name) e)
 
-  pub heads_here : (here : Here) (test : Option Written) (step : Lines) (body : Line) (ls : Lines) → IsHere program slots base here (λ n. have Address n ls (tail test step body n)) → AreProper ls → AreDeclared slots base (heads_behind scope frame here test step body ls).locals → IsHere program slots base (heads_behind scope frame here test step body ls) (tail test step body)
+  pub heads_here : (here : Here) (test : Option Written) (step : Lines) (body : Line) (ls : Lines) → IsHere program slots base here (λ n. takes_along n ls (tail test step body n)) → AreProper ls → AreDeclared slots base (heads_behind scope frame here test step body ls).locals → IsHere program slots base (heads_behind scope frame here test step body ls) (tail test step body)
   unfolding heads_behind
   heads_here here test step body Lines.End h proper declared = h
   heads_here here test step body (Lines.Then l ls) h proper declared =
       let t = head_taken l ls test step body in
       let b : Here = simple_behind scope frame here t l in
       let first = declared_before slots base b.locals (heads_behind scope frame b test step body ls).locals _ (heads_grow scope frame b test step body ls).locals_are declared in
-      heads_here b test step body ls (simple_here here t l (λ n. have Address n ls (tail test step body n)) h proper.0 (told_head l ls test step body) first) proper.1 declared
+      heads_here b test step body ls (simple_here here t l (λ n. takes_along n ls (tail test step body n)) h proper.0 (told_head l ls test step body) first) proper.1 declared
 
   module _ (rules : Rules) (sound : AreSoundRules program slots scope rules) (result : Ty) (gives : frame.result ≡ Ok result) (given : (sort_of (length program.structs) result ≡ Scalar) ⊎ (result ≡ type.Void)) where
-    pub heads_typed : (b : Bool) (here : Here) (test : Option Written) (step : Lines) (body : Line) (ls : Lines) (ss : List Stmt) → IsHere program slots base here (λ n. have Address n ls (tail test step body n)) → AreProper ls → AreDeclared slots base (heads_behind scope frame here test step body ls).locals → AreGrounded program (codes_of ss) → heads_made rules scope frame here test step body ls ≡ Right ss → AreTyped program slots result b (codes_of ss)
+    pub heads_typed : (b : Bool) (here : Here) (test : Option Written) (step : Lines) (body : Line) (ls : Lines) (ss : List Stmt) → IsHere program slots base here (λ n. takes_along n ls (tail test step body n)) → AreProper ls → AreDeclared slots base (heads_behind scope frame here test step body ls).locals → AreGrounded program (codes_of ss) → heads_made rules scope frame here test step body ls ≡ Right ss → AreTyped program slots result b (codes_of ss)
     unfolding heads_behind heads_made
     heads_typed b here test step body Lines.End ss h proper declared g e = subst (λ xs. AreTyped program slots result b (codes_of xs)) (same_right [] ss e) tt
     heads_typed b here test step body (Lines.Then l ls) ss h proper declared g e =
         let t = head_taken l ls test step body in
         let next : Here = simple_behind scope frame here t l in
-        let behind : List ℕ → Bool = λ n. have Address n ls (tail test step body n) in
+        let behind : List ℕ → Bool = λ n. takes_along n ls (tail test step body n) in
         let first = declared_before slots base next.locals (heads_behind scope frame next test step body ls).locals _ (heads_grow scope frame next test step body ls).locals_are declared in
         let parts = both_right (simple_made rules scope frame false here t l) (heads_made rules scope frame next test step body ls) appended ss e in
         let grounded = subst (λ xs. AreGrounded program (codes_of xs)) (sym (same_right _ _ parts.made)) g in
@@ -104,7 +103,7 @@ module _ (program : Program) (slots : List Slot) (base : ℕ) (scope : Scope) (f
         let rest = heads_typed b next test step body ls parts.right (simple_here here t l behind h proper.0 (told_head l ls test step body) first) proper.1 declared (grounded_right program parts.left parts.right grounded) parts.second in
         subst (λ xs. AreTyped program slots result b (codes_of xs)) (same_right _ _ parts.made) (typed_both program slots result b parts.left parts.right one rest)
 
-    pub steps_typed : (b : Bool) (here : Here) (ls : Lines) (ss : List Stmt) → IsHere program slots base here (λ n. have Address n ls false) → AreStatements ls → AreProper ls → AreDeclared slots base (steps_behind scope frame here ls).locals → AreGrounded program (codes_of ss) → steps_made rules scope frame here ls ≡ Right ss → AreTyped program slots result b (codes_of ss)
+    pub steps_typed : (b : Bool) (here : Here) (ls : Lines) (ss : List Stmt) → IsHere program slots base here (λ n. takes_along n ls false) → AreStatements ls → AreProper ls → AreDeclared slots base (steps_behind scope frame here ls).locals → AreGrounded program (codes_of ss) → steps_made rules scope frame here ls ≡ Right ss → AreTyped program slots result b (codes_of ss)
     steps_typed b here Lines.End ss h s proper declared g e = subst (λ xs. AreTyped program slots result b (codes_of xs)) (same_right [] ss e) tt
     steps_typed b here (Lines.Then l ls) ss h s proper declared g e =
-        simple_typed program slots base scope frame known rules sound result here false false b l (λ n. have Address n ls false) ss gives given (λ f. absurd (true≢false (sym f))) h proper.0 (told_none false l (λ n. have Address n ls false) s.0) declared g e
+        simple_typed program slots base scope frame known rules sound result here false false b l (λ n. takes_along n ls false) ss gives given (λ f. absurd (true≢false (sym f))) h proper.0 (told_none false l (λ n. takes_along n ls false) s.0) declared g e

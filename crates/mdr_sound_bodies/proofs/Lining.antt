@@ -17,9 +17,8 @@ use Rattle.mdr_faults.specs.Faults.{Checked, Right, both}
 use Rattle.mdr_operand.specs.Written.{Written, Line, Lines}
 use Rattle.mdr_body.specs.declared.here.Frame.{Frame}
 use Rattle.mdr_body.specs.declared.here.Here.{Here}
-use Rattle.mdr_body.specs.declared.mention.Mention.TheVariants.{Address}
 use Rattle.mdr_body.specs.Locals.{with_local, is_taken, entered, numbered}
-use Rattle.mdr_body.specs.Mentions.{mentions, perhaps_mentions, has, have, hides}
+use Rattle.mdr_body.specs.Addresses.{takes_in, perhaps_takes, takes_at, takes_along, hides}
 use Rattle.mdr_body.specs.Statements.{Rules, stmt, single, condition, perhaps_condition, appended, pair, ForHead, heads_made, heads_behind, steps_made, steps_behind, for_head, behind_head, block_of, as_part, if_of, while_of, for_of, line_behind, perhaps_behind, lines_behind, line_made, perhaps_made, lines_made}
 use Rattle.mdr_sound_code.proofs.Rights.{same_right, after_right, both_right}
 use Rattle.mdr_sound_bodies.specs.Grounded.{IsGrounded, AreGrounded}
@@ -40,8 +39,8 @@ and_none : (h : Bool) → (not h && false) ≡ false
 and_none true = refl
 and_none false = refl
 
-pub front_of_none : (l : Line) (name : List ℕ) → has Address name l ≡ false → in_front l (λ n. false) name ≡ false
-front_of_none l name e = or_both (has Address name l) (not (hides name l) && false) e (and_none (hides name l))
+pub front_of_none : (l : Line) (name : List ℕ) → takes_at name l ≡ false → in_front l (λ n. false) name ≡ false
+front_of_none l name e = or_both (takes_at name l) (not (hides name l) && false) e (and_none (hides name l))
 
 -- the parts of the head of a `for`
 pub record IsHead (rules : Rules) (scope : Scope) (frame : Frame) (here : Here) (p : Place) (init : Lines) (test : Option Written) (step : Lines) (body : Line) (head : ForHead) : Type 0 where
@@ -64,10 +63,10 @@ module _ (program : Program) (slots : List Slot) (base : ℕ) (scope : Scope) (f
   pub line_here : (here : Here) (t : Bool) (l : Line) (behind : List ℕ → Bool) → IsHere program slots base here (in_front l behind) → IsProper l → IsTold t l behind → AreDeclared slots base (line_behind scope frame here t l).locals → IsHere program slots base (line_behind scope frame here t l) behind
   line_here here t (Line.Local p d init) behind h proper told declared =
       here_numbered program slots base (with_local scope frame.locks t d here) behind
-      (here_less program slots base (with_local scope frame.locks t d here) _ behind (here_local program slots base scope frame known here t p d init behind h proper.0 told declared) (λ name e. or_right (perhaps_mentions Address name init) (behind name) e))
+      (here_less program slots base (with_local scope frame.locks t d here) _ behind (here_local program slots base scope frame known here t p d init behind h proper.0 told declared) (λ name e. or_right (perhaps_takes name init) (behind name) e))
   line_here here t l behind h proper told declared =
       here_same program slots base here (line_behind scope frame here t l) behind (line_grows scope frame here t l) (names_keep scope frame here t l refl proper)
-      (here_less program slots base here (in_front l behind) behind h (λ name e. or_right (has Address name l) (behind name) e))
+      (here_less program slots base here (in_front l behind) behind h (λ name e. or_right (takes_at name l) (behind name) e))
 
   -- behind a part of a statement
   pub part_here : (here : Here) (l : Line) (rest : List ℕ → Bool) → IsHere program slots base here rest → IsStatement l → IsProper l → IsHere program slots base (line_behind scope frame here false l) rest
@@ -128,15 +127,15 @@ module _ (program : Program) (slots : List Slot) (base : ℕ) (scope : Scope) (f
         (λ q. while_typed program slots result b n parts.left parts.right some (t parts.left parts.first) (h parts.right (while_part program n parts.left parts.right q) parts.second))
         parts.made g
 
-    for_right : (b : Bool) (here : Here) (p : Place) (init : Lines) (test : Option Written) (next : Lines) (body : Line) (n : ℕ) (c : Checked (List Stmt)) (ss : List Stmt) → 1 ≤ n → IsHere program slots base here (λ m. have Address m init (tail test next body m)) → AreProper init → PerhapsHasNumbers test → AreStatements next → AreProper next → AreDeclared slots base (line_behind scope frame (behind_head scope frame here init test next body) false body).locals → ((xs : List Stmt) → AreGrounded program (codes_of xs) → c ≡ Right xs → AreTyped program slots result true (codes_of xs)) → AreGrounded program (codes_of ss) → both (for_head rules scope frame here p init test next body) c (for_of n) ≡ Right ss → AreTyped program slots result b (codes_of ss)
+    for_right : (b : Bool) (here : Here) (p : Place) (init : Lines) (test : Option Written) (next : Lines) (body : Line) (n : ℕ) (c : Checked (List Stmt)) (ss : List Stmt) → 1 ≤ n → IsHere program slots base here (λ m. takes_along m init (tail test next body m)) → AreProper init → PerhapsHasNumbers test → AreStatements next → AreProper next → AreDeclared slots base (line_behind scope frame (behind_head scope frame here init test next body) false body).locals → ((xs : List Stmt) → AreGrounded program (codes_of xs) → c ≡ Right xs → AreTyped program slots result true (codes_of xs)) → AreGrounded program (codes_of ss) → both (for_head rules scope frame here p init test next body) c (for_of n) ≡ Right ss → AreTyped program slots result b (codes_of ss)
     for_right b here p init test next body n c ss some h proper numbers statements steps declared k g e =
         let all = both_right (for_head rules scope frame here p init test next body) c (for_of n) ss e in
         let head = head_right rules scope frame here p init test next body all.left all.first in
         let declared_first = head_declared here init test next body statements declared in
         let behind : Here = heads_behind scope frame here test next body init in
         let inside = heads_here program slots base scope frame known here test next body init h proper declared_first in
-        let tested = perhaps_right program slots base scope frame known rules sound result behind (tail test next body) test inside (λ m q. or_left (perhaps_mentions Address m test) (have Address m next false || has Address m body) q) numbers in
-        let before_step = here_less program slots base behind (tail test next body) (λ m. have Address m next false) inside (λ m q. or_left (have Address m next false) (has Address m body) (or_right (perhaps_mentions Address m test) (have Address m next false || has Address m body) q)) in
+        let tested = perhaps_right program slots base scope frame known rules sound result behind (tail test next body) test inside (λ m q. or_left (perhaps_takes m test) (takes_along m next false || takes_at m body) q) numbers in
+        let before_step = here_less program slots base behind (tail test next body) (λ m. takes_along m next false) inside (λ m q. or_left (takes_along m next false) (takes_at m body) (or_right (perhaps_takes m test) (takes_along m next false || takes_at m body) q)) in
         let declared_step = subst (λ (x : Here). AreDeclared slots base x.locals) (sym (steps_same scope frame behind next statements)) declared_first in
         single_typed b n (step.For all.left.0.0 all.left.0.1 all.left.1 all.right) ss
         (λ q.
@@ -153,52 +152,52 @@ module _ (program : Program) (slots : List Slot) (base : ℕ) (scope : Scope) (f
     mutual
       pub line_typed : (here : Here) (in_loop is_part t : Bool) (l : Line) (behind : List ℕ → Bool) (ss : List Stmt) → IsHere program slots base here (in_front l behind) → IsProper l → IsTold t l behind → AreDeclared slots base (line_behind scope frame here t l).locals → AreGrounded program (codes_of ss) → line_made rules scope frame in_loop is_part here t l ≡ Right ss → AreTyped program slots result in_loop (codes_of ss)
       line_typed here in_loop is_part t (Line.Block p ls) behind ss h proper told declared g e =
-          let inside = here_entered program slots base here (λ n. have Address n ls false) (here_less program slots base here _ (λ n. have Address n ls false) h (λ name q. or_left (have Address name ls false) (behind name) q)) in
+          let inside = here_entered program slots base here (λ n. takes_along n ls false) (here_less program slots base here _ (λ n. takes_along n ls false) h (λ name q. or_left (takes_along name ls false) (behind name) q)) in
           part_typed in_loop is_part (lines_made rules scope frame in_loop (entered here) ls) ss (λ xs k q. lines_typed (entered here) in_loop ls xs inside proper declared k q) g e
       line_typed here in_loop is_part t (Line.If p w one other) behind ss h proper told declared g e =
           let b : Here = line_behind scope frame (numbered here) false one in
-          let all = here_less program slots base here _ (λ n. mentions Address n w || (has Address n one || have Address n other false)) h (λ name q. or_left (mentions Address name w || (has Address name one || have Address name other false)) (behind name) q) in
-          let parts = here_numbered program slots base here _ (here_less program slots base here _ (λ n. has Address n one || have Address n other false) all (λ name q. or_right (mentions Address name w) _ q)) in
-          let first = here_less program slots base (numbered here) _ (in_front one (λ n. false)) parts (λ name q. front_of_none one name (or_left (has Address name one) (have Address name other false) q)) in
-          let second = part_here (numbered here) one (λ n. have Address n other false) (here_less program slots base (numbered here) _ (λ n. have Address n other false) parts (λ name q. or_right (has Address name one) (have Address name other false) q)) proper.1.0.0 proper.1.0.1 in
+          let all = here_less program slots base here _ (λ n. takes_in n w || (takes_at n one || takes_along n other false)) h (λ name q. or_left (takes_in name w || (takes_at name one || takes_along name other false)) (behind name) q) in
+          let parts = here_numbered program slots base here _ (here_less program slots base here _ (λ n. takes_at n one || takes_along n other false) all (λ name q. or_right (takes_in name w) _ q)) in
+          let first = here_less program slots base (numbered here) _ (in_front one (λ n. false)) parts (λ name q. front_of_none one name (or_left (takes_at name one) (takes_along name other false) q)) in
+          let second = part_here (numbered here) one (λ n. takes_along n other false) (here_less program slots base (numbered here) _ (λ n. takes_along n other false) parts (λ name q. or_right (takes_at name one) (takes_along name other false) q)) proper.1.0.0 proper.1.0.1 in
           let declared_first = declared_before slots base b.locals (perhaps_behind scope frame b other).locals _ (perhaps_grow scope frame b other).locals_are declared in
-          let right = written_right program slots base scope frame known rules sound result here _ w all (λ name q. or_left (mentions Address name w) _ q) proper.0 in
+          let right = written_right program slots base scope frame known rules sound result here _ w all (λ name q. or_left (takes_in name w) _ q) proper.0 in
           if_right in_loop here.number (condition rules scope here p w) (line_made rules scope frame in_loop true (numbered here) false one) (perhaps_made rules scope frame in_loop b other) ss h.number
           (λ x q. condition_typed program slots scope rules sound here p w x h.knows right q)
           (λ xs k q. line_typed (numbered here) in_loop true false one (λ n. false) xs first proper.1.0.1 (told_none false one (λ n. false) proper.1.0.0) declared_first k q)
           (λ xs k q. perhaps_typed b in_loop other xs second proper.1.1.0 proper.1.1.1 declared k q)
           g e
       line_typed here in_loop is_part t (Line.While p w body) behind ss h proper told declared g e =
-          let all = here_less program slots base here _ (λ n. mentions Address n w || has Address n body) h (λ name q. or_left (mentions Address name w || has Address name body) (behind name) q) in
-          let inside = here_numbered program slots base here _ (here_less program slots base here _ (in_front body (λ n. false)) all (λ name q. front_of_none body name (or_right (mentions Address name w) (has Address name body) q))) in
-          let right = written_right program slots base scope frame known rules sound result here _ w all (λ name q. or_left (mentions Address name w) _ q) proper.0 in
+          let all = here_less program slots base here _ (λ n. takes_in n w || takes_at n body) h (λ name q. or_left (takes_in name w || takes_at name body) (behind name) q) in
+          let inside = here_numbered program slots base here _ (here_less program slots base here _ (in_front body (λ n. false)) all (λ name q. front_of_none body name (or_right (takes_in name w) (takes_at name body) q))) in
+          let right = written_right program slots base scope frame known rules sound result here _ w all (λ name q. or_left (takes_in name w) _ q) proper.0 in
           while_right in_loop here.number (condition rules scope here p w) (line_made rules scope frame true true (numbered here) false body) ss h.number
           (λ x q. condition_typed program slots scope rules sound here p w x h.knows right q)
           (λ xs k q. line_typed (numbered here) true true false body (λ n. false) xs inside proper.1.1 (told_none false body (λ n. false) proper.1.0) declared k q)
           g e
       line_typed here in_loop is_part t (Line.For p init test next body) behind ss h proper told declared g e =
-          let all = here_entered program slots base here _ (here_less program slots base here _ (λ n. have Address n init (tail test next body n)) h (λ name q. or_left (have Address name init (tail test next body name)) (behind name) q)) in
+          let all = here_entered program slots base here _ (here_less program slots base here _ (λ n. takes_along n init (tail test next body n)) h (λ name q. or_left (takes_along name init (tail test next body name)) (behind name) q)) in
           let first = heads_here program slots base scope frame known (entered here) test next body init all proper.0.0 (head_declared (entered here) init test next body proper.1.0.0 declared) in
           let b : Here = behind_head scope frame (entered here) init test next body in
-          let inside = here_less program slots base b (tail test next body) (in_front body (λ n. false)) (head_here (entered here) init test next body first proper.1.0.0) (λ name q. front_of_none body name (or_right (have Address name next false) (has Address name body) (or_right (perhaps_mentions Address name test) (have Address name next false || has Address name body) q))) in
+          let inside = here_less program slots base b (tail test next body) (in_front body (λ n. false)) (head_here (entered here) init test next body first proper.1.0.0) (λ name q. front_of_none body name (or_right (takes_along name next false) (takes_at name body) (or_right (perhaps_takes name test) (takes_along name next false || takes_at name body) q))) in
           for_right in_loop (entered here) p init test next body here.number (line_made rules scope frame true true b false body) ss h.number all proper.0.0 proper.0.1 proper.1.0.0 proper.1.0.1 declared
           (λ xs k q. line_typed b true true false body (λ n. false) xs inside proper.1.1.1 (told_none false body (λ n. false) proper.1.1.0) declared k q)
           g e
       line_typed here in_loop is_part t l behind ss h proper told declared g e =
           simple_typed program slots base scope frame known rules sound result here in_loop t in_loop l behind ss gives given (λ q. q) h proper told declared g e
 
-      pub perhaps_typed : (here : Here) (in_loop : Bool) (ls : Lines) (ss : List Stmt) → IsHere program slots base here (λ n. have Address n ls false) → AreStatements ls → AreProper ls → AreDeclared slots base (perhaps_behind scope frame here ls).locals → AreGrounded program (codes_of ss) → perhaps_made rules scope frame in_loop here ls ≡ Right ss → AreTyped program slots result in_loop (codes_of ss)
+      pub perhaps_typed : (here : Here) (in_loop : Bool) (ls : Lines) (ss : List Stmt) → IsHere program slots base here (λ n. takes_along n ls false) → AreStatements ls → AreProper ls → AreDeclared slots base (perhaps_behind scope frame here ls).locals → AreGrounded program (codes_of ss) → perhaps_made rules scope frame in_loop here ls ≡ Right ss → AreTyped program slots result in_loop (codes_of ss)
       perhaps_typed here in_loop Lines.End ss h s proper declared g e = subst (λ xs. AreTyped program slots result in_loop (codes_of xs)) (same_right [] ss e) tt
-      perhaps_typed here in_loop (Lines.Then l ls) ss h s proper declared g e = line_typed here in_loop true false l (λ n. have Address n ls false) ss h proper.0 (told_none false l (λ n. have Address n ls false) s.0) declared g e
+      perhaps_typed here in_loop (Lines.Then l ls) ss h s proper declared g e = line_typed here in_loop true false l (λ n. takes_along n ls false) ss h proper.0 (told_none false l (λ n. takes_along n ls false) s.0) declared g e
 
-      pub lines_typed : (here : Here) (in_loop : Bool) (ls : Lines) (ss : List Stmt) → IsHere program slots base here (λ n. have Address n ls false) → AreProper ls → AreDeclared slots base (lines_behind scope frame here ls).locals → AreGrounded program (codes_of ss) → lines_made rules scope frame in_loop here ls ≡ Right ss → AreTyped program slots result in_loop (codes_of ss)
+      pub lines_typed : (here : Here) (in_loop : Bool) (ls : Lines) (ss : List Stmt) → IsHere program slots base here (λ n. takes_along n ls false) → AreProper ls → AreDeclared slots base (lines_behind scope frame here ls).locals → AreGrounded program (codes_of ss) → lines_made rules scope frame in_loop here ls ≡ Right ss → AreTyped program slots result in_loop (codes_of ss)
       lines_typed here in_loop Lines.End ss h proper declared g e = subst (λ xs. AreTyped program slots result in_loop (codes_of xs)) (same_right [] ss e) tt
       lines_typed here in_loop (Lines.Then l ls) ss h proper declared g e =
           let t = is_taken l ls in
           let b : Here = line_behind scope frame here t l in
           let first = declared_before slots base b.locals (lines_behind scope frame b ls).locals _ (lines_grow scope frame b ls).locals_are declared in
-          let next = line_here here t l (λ n. have Address n ls false) h proper.0 (told_line l ls) first in
+          let next = line_here here t l (λ n. takes_along n ls false) h proper.0 (told_line l ls) first in
           joined_typed in_loop (line_made rules scope frame in_loop false here t l) (lines_made rules scope frame in_loop b ls) ss
-          (λ xs k q. line_typed here in_loop false t l (λ n. have Address n ls false) xs h proper.0 (told_line l ls) first k q)
+          (λ xs k q. line_typed here in_loop false t l (λ n. takes_along n ls false) xs h proper.0 (told_line l ls) first k q)
           (λ xs k q. lines_typed b in_loop ls xs next proper.1 declared k q)
           g e

@@ -16,8 +16,9 @@ use Rattle.mdr_faults.specs.Faults.{Right, told}
 use Rattle.mdr_headings.specs.declared.body.Body.{Body}
 use Rattle.mdr_headings.specs.declared.head.Given.{Given}
 use Rattle.mdr_headings.specs.declared.head.Heading.{Heading}
+use Rattle.mdr_faults.specs.Declarations.{declarator, parameter_list}
 use Rattle.mdr_headings.specs.Annotations.{annotated, candidate}
-use Rattle.mdr_headings.specs.Heads.{params_behind, given_by, annotated_result, head_result, given, heading_of, result_siblings, heading}
+use Rattle.mdr_headings.specs.Heads.{params_behind, given_by, annotated_result, head_result, result_where, typed_result, given, heading_of, result_siblings, heading}
 use Rattle.mdr_operand.specs.Written.{Lines, lines_of}
 use Rattle.mdr_body.specs.declared.here.DeclaredLocal.{DeclaredLocal}
 use Rattle.mdr_body.specs.declared.here.Frame.{Frame}
@@ -45,12 +46,18 @@ pub record IsHeaded (scope : Scope) (siblings : List Candidate) (h : Head) (g : 
   pub result : head_result scope h ≡ Right g.result
   pub params : params_behind scope siblings [] h.params ≡ Right g.params
 
+pub typed_right : (scope : Scope) (h : Head) (t : Ty) → typed_result scope h ≡ Right t → head_result scope h ≡ Right t
+unfolding typed_result
+typed_right scope h t e =
+    let b = both_right (head_result scope h) (parameter_list [] (map (declarator scope) h.params)) result_where t e in
+    b.first ∙ b.made
+
 given_right : (scope : Scope) (siblings : List Candidate) (h : Head) (v : Given) → given scope siblings h ≡ Right v → head_result scope h ≡ Right v.ty
 unfolding given
 given_right scope siblings h v e =
-    let a = after_right (head_result scope h) (annotated_result scope siblings h.place h.ann) v e in
+    let a = after_right (typed_result scope h) (annotated_result scope siblings h.place h.ann) v e in
     let b = after_right (annotated scope siblings h.place a.value h.ann) (given_by a.value) v a.made in
-    a.right ∙ ap (λ (x : Given). Right x.ty) (same_right (record { ty = a.value; ann = b.value }) v b.made)
+    typed_right scope h a.value a.right ∙ ap (λ (x : Given). Right x.ty) (same_right (record { ty = a.value; ann = b.value }) v b.made)
 
 pub heading_right : (scope : Scope) (h : Head) (g : Heading) → heading scope h ≡ Right g → IsHeaded scope (map (candidate scope) h.params) h g
 unfolding heading

@@ -27,9 +27,8 @@ use Rattle.mdr_operand.specs.declared.room.LocalName.{LocalName}
 use Rattle.mdr_operand.specs.Written.{Written, Line}
 use Rattle.mdr_body.specs.declared.here.Frame.{Frame}
 use Rattle.mdr_body.specs.declared.here.Here.{Here}
-use Rattle.mdr_body.specs.declared.mention.Mention.TheVariants.{Address}
 use Rattle.mdr_body.specs.Locals.{local_object, local_of, is_own_object, with_local}
-use Rattle.mdr_body.specs.Mentions.{mentions, perhaps_mentions, has}
+use Rattle.mdr_body.specs.Addresses.{takes_in, perhaps_takes, takes_at}
 use Rattle.mdr_body.specs.Statements.{Rules, stmt, single, stated, text_of, takes_text, is_single, own_place, initial_by, initial_step, declared_then, local_made, jumped, return_by, return_step, simple_made, simple_behind}
 use Rattle.mdr_sound_code.specs.Knowing.{KnowsLocals, HasNumbers, IsFormed}
 use Rattle.mdr_sound_code.proofs.Layers.{int_from}
@@ -228,13 +227,13 @@ module _ (program : Program) (slots : List Slot) (base : ℕ) (scope : Scope) (f
   perhaps_numbers (Some w) v h e = subst HasNumbers (same_Some _ _ e) h
 
   -- what may be written is right where the rest takes no address of what is in a slot
-  pub perhaps_right : (here : Here) (r : List ℕ → Bool) (init : Option Written) → IsHere program slots base here r → ((name : List ℕ) → r name ≡ false → perhaps_mentions Address name init ≡ false) → PerhapsHasNumbers init → (v : Written) → init ≡ Some v → IsRight here.names v
+  pub perhaps_right : (here : Here) (r : List ℕ → Bool) (init : Option Written) → IsHere program slots base here r → ((name : List ℕ) → r name ≡ false → perhaps_takes name init ≡ false) → PerhapsHasNumbers init → (v : Written) → init ≡ Some v → IsRight here.names v
   perhaps_right here r init h less numbers v e = record {
     numbers = perhaps_numbers init v numbers e;
-    no_slot = takes_no_slot program slots base here r v h (λ name n. subst (λ x. perhaps_mentions Address name x ≡ false) e (less name n));
+    no_slot = takes_no_slot program slots base here r v h (λ name n. subst (λ x. perhaps_takes name x ≡ false) e (less name n));
   }
 
-  pub written_right : (here : Here) (r : List ℕ → Bool) (w : Written) → IsHere program slots base here r → ((name : List ℕ) → r name ≡ false → mentions Address name w ≡ false) → HasNumbers w → IsRight here.names w
+  pub written_right : (here : Here) (r : List ℕ → Bool) (w : Written) → IsHere program slots base here r → ((name : List ℕ) → r name ≡ false → takes_in name w ≡ false) → HasNumbers w → IsRight here.names w
   written_right here r w h less numbers = record { numbers = numbers; no_slot = takes_no_slot program slots base here r w h less }
 
   pub simple_typed : (here : Here) (in_loop t b : Bool) (l : Line) (behind : List ℕ → Bool) (ss : List Stmt) → frame.result ≡ Ok result → (sort_of (length program.structs) result ≡ Scalar) ⊎ (result ≡ type.Void) → (in_loop ≡ true → b ≡ true) → IsHere program slots base here (in_front l behind) → IsProper l → IsTold t l behind → AreDeclared slots base (simple_behind scope frame here t l).locals → AreGrounded program (codes_of ss) → simple_made rules scope frame in_loop here t l ≡ Right ss → AreTyped program slots result b (codes_of ss)
@@ -243,14 +242,14 @@ module _ (program : Program) (slots : List Slot) (base : ℕ) (scope : Scope) (f
   simple_typed here in_loop t b (Line.Local p d init) behind ss gives given inside h proper told declared g e =
       let behind_it = here_local program slots base scope frame known here t p d init behind h proper.0 told declared in
       local_typed here t b d init ss h.number (local_at slots base scope frame.locks here t d h.slot declared) behind_it.knows
-      (perhaps_right (with_local scope frame.locks t d here) _ init behind_it (λ name n. or_left (perhaps_mentions Address name init) (behind name) n) proper.1)
+      (perhaps_right (with_local scope frame.locks t d here) _ init behind_it (λ name n. or_left (perhaps_takes name init) (behind name) n) proper.1)
       g e
   simple_typed here in_loop t b (Line.Assign p at op x y) behind ss gives given inside h proper told declared g e =
-      let first = written_right here _ x h (λ name n. or_left (mentions Address name x) _ (or_left (has Address name (Line.Assign p at op x y)) _ n)) proper.0 in
-      let second = written_right here _ y h (λ name n. or_right (mentions Address name x) _ (or_left (has Address name (Line.Assign p at op x y)) _ n)) proper.1 in
+      let first = written_right here _ x h (λ name n. or_left (takes_in name x) _ (or_left (takes_at name (Line.Assign p at op x y)) _ n)) proper.0 in
+      let second = written_right here _ y h (λ name n. or_right (takes_in name x) _ (or_left (takes_at name (Line.Assign p at op x y)) _ n)) proper.1 in
       stated_typed program slots result here.number _ ss b (λ s is. sound.assigned here.names at op x y s result h.knows first second is) h.number e g
   simple_typed here in_loop t b (Line.Plain p w) behind ss gives given inside h proper told declared g e =
-      let right = written_right here _ w h (λ name n. or_left (has Address name (Line.Plain p w)) _ n) proper in
+      let right = written_right here _ w h (λ name n. or_left (takes_at name (Line.Plain p w)) _ n) proper in
       stated_typed program slots result here.number _ ss b (λ s is. sound.called here.names w s result h.knows right is) h.number e g
   simple_typed here in_loop t b (Line.If p w one other) behind ss gives given inside h proper told declared g e = not_right _ ss e
   simple_typed here in_loop t b (Line.While p w body) behind ss gives given inside h proper told declared g e = not_right _ ss e
@@ -258,7 +257,7 @@ module _ (program : Program) (slots : List Slot) (base : ℕ) (scope : Scope) (f
   simple_typed here in_loop t b (Line.Do p body w) behind ss gives given inside h proper told declared g e = not_right _ ss e
   simple_typed here in_loop t b (Line.Switch p w) behind ss gives given inside h proper told declared g e = not_right _ ss e
   simple_typed here in_loop t b (Line.Return p w) behind ss gives given inside h proper told declared g e =
-      let right = perhaps_right here _ w h (λ name n. or_left (has Address name (Line.Return p w)) _ n) proper in
+      let right = perhaps_right here _ w h (λ name n. or_left (takes_at name (Line.Return p w)) _ n) proper in
       stated_typed program slots result here.number _ ss b (λ s is. return_sound here p w s gives given h.knows right is) h.number e g
   simple_typed here in_loop t b (Line.Break p) behind ss gives given inside h proper told declared g e = breaks program slots result p in_loop b here.number ss inside h.number e
   simple_typed here in_loop t b (Line.Continue p) behind ss gives given inside h proper told declared g e = continues program slots result p in_loop b here.number ss inside h.number e

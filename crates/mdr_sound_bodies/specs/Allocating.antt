@@ -1,3 +1,4 @@
+-- for proofs
 -- The types that a body's allocations name are types of objects (C99 6.2.5, paragraph 1).
 use Rattle.std.specs.Prelude.{◌≡◌, ℕ, Bool, List}
 use Rattle.mdr_core.specs.declared.code.Lval.{Lval}

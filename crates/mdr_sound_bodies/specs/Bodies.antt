@@ -1,3 +1,4 @@
+-- for proofs
 -- Bodies that keep to the rules of sound programs (C99 6.9.1).
 use Rattle.std.specs.Prelude.{◌≡◌, ℕ, Bool, true, List, Some, slice_get}
 use Rattle.mdr_core.specs.declared.program.Func.{Func}

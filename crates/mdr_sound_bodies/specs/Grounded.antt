@@ -1,3 +1,4 @@
+-- for proofs
 -- What code asks of the type table, and of the services that are built.
 use Rattle.std.specs.Prelude.{◌≡◌, false}
 use Rattle.mdr_core.specs.declared.program.Program.{Program}

@@ -1,3 +1,4 @@
+-- for proofs
 -- Rules of expressions, assignments and calls whose results keep to the rules of sound programs.
 use Rattle.std.specs.Prelude.{◌≡◌, ℕ, ◌≤◌, Bool, List, length}
 use Rattle.mdr_core.specs.declared.code.Lval.{Lval}

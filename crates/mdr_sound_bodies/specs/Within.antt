@@ -1,3 +1,4 @@
+-- for proofs
 -- What is known at a place of a body, as of the slots of the finished function (C99 6.2.1, 6.2.4).
 use Rattle.std.specs.Prelude.{◌≡◌, ◌⊎◌, ℕ, ◌+◌, ◌≤◌, ◌||◌, ◌&&◌, not, Bool, false, List, length, Option, Some, None, Ok, slice_get}
 use Rattle.mdr_core.specs.declared.place.Place.{Place}
@@ -24,8 +25,7 @@ use Rattle.mdr_operand.specs.Rooms.{local_named}
 use Rattle.mdr_operand.specs.Written.{Written, Line}
 use Rattle.mdr_body.specs.declared.here.DeclaredLocal.{DeclaredLocal}
 use Rattle.mdr_body.specs.declared.here.Here.{Here}
-use Rattle.mdr_body.specs.declared.mention.Mention.TheVariants.{Address}
-use Rattle.mdr_body.specs.Mentions.{perhaps_mentions, has, hides}
+use Rattle.mdr_body.specs.Addresses.{perhaps_takes, takes_at, hides}
 use Rattle.mdr_sound_code.specs.Knowing.{IsFormed, KnowsLocals}
 
 -- ---- declarations
@@ -64,11 +64,11 @@ pub record AreDeclared (slots : List Slot) (base : ℕ) (ds : List DeclaredLocal
 
 -- a line in front of what takes the addresses of some names takes those of these (6.2.1, paragraph 4)
 abbrev pub in_front : Line → (behind : List ℕ → Bool) → List ℕ → Bool
-in_front l behind name = has Address name l || (not (hides name l) && behind name)
+in_front l behind name = takes_at name l || (not (hides name l) && behind name)
 
 abbrev pub takes_behind : Option (List ℕ) → Option Written → (behind : List ℕ → Bool) → Bool
 takes_behind None init behind = false
-takes_behind (Some name) init behind = perhaps_mentions Address name init || behind name
+takes_behind (Some name) init behind = perhaps_takes name init || behind name
 
 -- it is known whether the address of what a line declares is taken
 abbrev pub IsTold : (is_taken : Bool) → Line → (behind : List ℕ → Bool) → Type 0

@@ -1,3 +1,4 @@
+-- for proofs
 -- What the source of a body is made of, beside its form: numbers, names, and statements where no declaration may stand (C99 6.4.4.1, 6.8).
 use Rattle.std.specs.Prelude.{◌≡◌, ℕ, false, List, [], ◌∷◌, Option, Some, None}
 use Rattle.mdr_syntax.specs.declared.tree.Decl.{Decl, out-Decl}

@@ -1,5 +1,5 @@
 -- What a name stands for is known (C99 6.5.1).
-use Rattle.std.specs.Prelude.{◌≡◌, ℕ, Bool, true, false, List, ◌∷◌, Option, Some, None}
+use Rattle.std.specs.Prelude.{◌≡◌, ℕ, Bool, true, false, List, Option, Some, None}
 use Rattle.std.proofs.Common.{inr, refl, sym, ◌∙◌, subst}
 use Rattle.mdr_core.specs.declared.code.Lval.TheVariants as lval
 use Rattle.mdr_core.specs.declared.place.Place.{Place}
@@ -14,8 +14,6 @@ use Rattle.mdr_faults.specs.declared.scope.Entity.TheVariants as entity
 use Rattle.mdr_faults.specs.declared.scope.Named.{Named}
 use Rattle.mdr_faults.specs.declared.scope.Object.{Object}
 use Rattle.mdr_faults.specs.declared.scope.Scope.{Scope}
-use Rattle.mdr_faults.specs.declared.scope.Signature.{Signature}
-use Rattle.mdr_faults.specs.declared.fault.FaultKind.TheVariants.{Incomplete}
 use Rattle.mdr_faults.specs.Faults.{Right, again}
 use Rattle.mdr_faults.specs.Scopes.{entity_named}
 use Rattle.mdr_operand.specs.declared.operand.Operand.{Operand}
@@ -23,11 +21,11 @@ use Rattle.mdr_operand.specs.declared.operand.Operand.TheVariants as operand
 use Rattle.mdr_operand.specs.declared.room.LocalName.{LocalName}
 use Rattle.mdr_operand.specs.Rooms.{local_named}
 use Rattle.mdr_operand.specs.Written.{Written}
-use Rattle.mdr_postfix.specs.Names.{object_operand, function_operand, entity_operand, file_name, place_of_local, local_operand, local_or, name_rule}
-use Rattle.mdr_sound_code.specs.Knowing.{IsKnownGlobal, IsKnownFunction, IsKnownEntity, IsKnownLocal, Knows, KnowsLocals}
+use Rattle.mdr_postfix.specs.Names.{object_operand, entity_operand, file_name, place_of_local, local_operand, local_or, name_rule}
+use Rattle.mdr_sound_code.specs.Knowing.{IsKnownGlobal, IsKnownEntity, IsKnownLocal, Knows, KnowsLocals}
 use Rattle.mdr_sound_code.specs.Operands.{IsInSlot, IsKnown}
 use Rattle.mdr_sound_code.proofs.Placed.{same_extent, placed_known, object_known}
-use Rattle.mdr_sound_code.proofs.Rights.{after_right, again_right, chosen_right, same_right, not_right}
+use Rattle.mdr_sound_code.proofs.Rights.{after_right, again_right, same_right, not_right}
 use Rattle.mdr_sound_code.proofs.Values.{of_term}
 
 module _ (program : Program) (slots : List Slot) (names : List LocalName) where
@@ -43,25 +41,18 @@ module _ (program : Program) (slots : List Slot) (names : List LocalName) where
         }))
         h.formed (subst HasAddress (sym (global_is g)) tt)
 
-    function_known : (p : Place) (f : Signature) (y : Operand) → (f.is_defined ≡ true → IsKnownFunction program f) → function_operand p f ≡ Right y → IsKnown program slots names w y
-    unfolding function_operand
-    function_known p f y h q =
-        let c = chosen_right f.is_defined (Right (operand.Function f.number (f.result ∷ f.params))) p Incomplete y q in
-        let known = h c.holds in
-        subst (IsKnown program slots names w) (same_right _ _ c.right) (record { func = known.func; names = known.names; types = known.types; formed = known.formed })
-
-    entity_known : (p : Place) (e : Entity) (y : Operand) → IsKnownEntity program e → entity_operand p e ≡ Right y → IsKnown program slots names w y
+    entity_known : (e : Entity) → IsKnownEntity program e → IsKnown program slots names w (entity_operand e)
     unfolding entity_operand
-    entity_known p (entity.Constant c) y h q = subst (IsKnown program slots names w) (same_right _ _ q) (of_term program slots _ _ (type.Int c.kind) (lit_is (value.Int c.kind c.number)) (refl, h))
-    entity_known p (entity.Global g o) y h q = subst (IsKnown program slots names w) (same_right _ _ q) (global_known g o h)
-    entity_known p (entity.Function f) y h q = function_known p f y h q
+    entity_known (entity.Constant c) h = of_term program slots _ _ (type.Int c.kind) (lit_is (value.Int c.kind c.number)) (refl, h)
+    entity_known (entity.Global g o) h = global_known g o h
+    entity_known (entity.Function f) h = record { func = h.func; names = h.names; types = h.types; formed = h.formed }
 
     file_name_known : (scope : Scope) (p : Place) (name : List ℕ) (o : Option Named) (y : Operand) → Knows program scope → entity_named scope name ≡ o → file_name p o ≡ Right y → IsKnown program slots names w y
     unfolding file_name
     file_name_known scope p name None y k is q = not_right _ y q
     file_name_known scope p name (Some entry) y k is q =
-        let a = after_right (again entry.means) (entity_operand p) y q in
-        entity_known p a.value y (k.entities name entry a.value is (again_right entry.means a.value a.right)) a.made
+        let a = after_right (again entry.means) (λ e. Right (entity_operand e)) y q in
+        subst (IsKnown program slots names w) (same_right _ _ a.made) (entity_known a.value (k.entities name entry a.value is (again_right entry.means a.value a.right)))
 
   -- ---- names of the function
 

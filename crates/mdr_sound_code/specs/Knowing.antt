@@ -1,3 +1,4 @@
+-- protocol
 -- What a scope and the names of locals say of a program (C99 6.2.1): each name that means something stands for what the program has.
 use Rattle.std.specs.Prelude.{◌≡◌, ℕ, ◌<◌, ◌≤◌, true, false, List, ◌∷◌, length, Some, Ok, slice_get, IsTrue, pos}
 use Rattle.mdr_core.specs.declared.program.Field.{Field}
@@ -24,8 +25,7 @@ use Rattle.mdr_faults.specs.Scopes.{entity_named, tag_named}
 use Rattle.mdr_operand.specs.declared.room.LocalName.{LocalName}
 use Rattle.mdr_operand.specs.Rooms.{local_named}
 use Rattle.mdr_operand.specs.Written.{Written, Writtens}
-use Rattle.mdr_body.specs.declared.mention.Mention.TheVariants.{Address}
-use Rattle.mdr_body.specs.Mentions.{mentions, any_mentions}
+use Rattle.mdr_body.specs.Addresses.{takes_in, takes_among}
 
 -- ---- types
 
@@ -51,11 +51,11 @@ pub record IsKnownFunction (program : Program) (f : Signature) : Type 0 where
   pub types : function_type func ≡ type.Fun (f.result ∷ f.params)
   pub formed : sort_of (length program.structs) (type.Fun (f.result ∷ f.params)) ≡ Scalar
 
--- a constant is one of its kind. A function may be used where the file has its body
+-- a constant is one of its kind
 abbrev pub IsKnownEntity : Program → Entity → Type 0
 IsKnownEntity program (entity.Constant c) = IsTrue (is_in_range c.kind c.number)
 IsKnownEntity program (entity.Global g o) = IsKnownGlobal program g o
-IsKnownEntity program (entity.Function f) = f.is_defined ≡ true → IsKnownFunction program f
+IsKnownEntity program (entity.Function f) = IsKnownFunction program f
 
 -- a field of a struct of a program
 pub record IsKnownField (program : Program) (s f : ℕ) (o : Object) : Type 0 where
@@ -115,7 +115,7 @@ abbrev mutual
 
 -- the expression takes no address of what lies in a slot (6.5.3.2)
 pub record TakesNoSlot (names : List LocalName) (w : Written) : Type 0 where
-  pub slots : (name : List ℕ) (n : LocalName) → local_named names name ≡ Some n → n.is_object ≡ false → mentions Address name w ≡ false
+  pub slots : (name : List ℕ) (n : LocalName) → local_named names name ≡ Some n → n.is_object ≡ false → takes_in name w ≡ false
 
 pub record TakeNoSlot (names : List LocalName) (ws : Writtens) : Type 0 where
-  pub slots : (name : List ℕ) (n : LocalName) → local_named names name ≡ Some n → n.is_object ≡ false → any_mentions Address name ws ≡ false
+  pub slots : (name : List ℕ) (n : LocalName) → local_named names name ≡ Some n → n.is_object ≡ false → takes_among name ws ≡ false

@@ -1,3 +1,4 @@
+-- for proofs
 -- What holds of all expressions of a function.
 use Rattle.std.specs.Prelude.{◌≡◌, List}
 use Rattle.mdr_core.specs.declared.program.Program.{Program}

@@ -1,3 +1,4 @@
+-- for proofs
 -- What an expression comes to, as something of a program: with the types that the program's own rules give it (C99 6.5).
 use Rattle.std.specs.Prelude.{◌≡◌, ◌⊎◌, ℕ, false, List, length, Some, slice_get, IsTrue}
 use Rattle.mdr_core.specs.declared.code.Expr.{Expr}

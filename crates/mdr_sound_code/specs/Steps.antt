@@ -1,3 +1,4 @@
+-- for proofs
 -- What holds of all assignments and calls of a function.
 use Rattle.std.specs.Prelude.{◌≡◌, List, Option, Some}
 use Rattle.mdr_core.specs.declared.code.BinOp.{BinOp}

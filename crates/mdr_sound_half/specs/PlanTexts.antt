@@ -1,3 +1,4 @@
+-- for proofs
 -- What a plan's text gives.
 use Rattle.std.specs.Prelude.{ℕ, ◌≤◌, List, length}
 use Rattle.mdr_core.specs.declared.plan.Plan.{Plan}

@@ -45,21 +45,21 @@ use Rattle.mdr_sound_scopes.specs.Bodies.{ScopedWith, IsScopedFunc}
 use Rattle.mdr_sound_scopes.specs.Plain.{ArePlainRules}
 use Rattle.mdr_sound_scopes.proofs.Making.{bodies_scoped}
 
-module _ (program : Program) (rules : Rules) (items : List Item) (xs : List Piece) (right : pieces_behind (body_rule rules) items (first_known items) [] items ≡ Right xs) (made : IsMadeOf program (parts_behind no_parts xs)) (ranges : AreDefinesInRange items) (proper : AreBodiesProper items) (all : HasAll program) (sound_rules : (scope : Scope) → Knows program scope → (slots : List Slot) → AreSoundRules program slots scope rules) (plain : (scope : Scope) → ArePlainRules scope rules) where
+module _ (program : Program) (rules : Rules) (items : List Item) (xs : List Piece) (right : pieces_behind (body_rule rules) (first_known items) [] items ≡ Right xs) (made : IsMadeOf program (parts_behind no_parts xs)) (ranges : AreDefinesInRange items) (proper : AreBodiesProper items) (all : HasAll program) (sound_rules : (scope : Scope) → Knows program scope → (slots : List Slot) → AreSoundRules program slots scope rules) (plain : (scope : Scope) → ArePlainRules scope rules) where
   abbrev Whole : Parts
   Whole = parts_behind no_parts xs
 
   abbrev Last : Known
-  Last = known_behind items (first_known items) items
+  Last = known_behind (first_known items) items
 
   abbrev AtRest : Known → Parts → Type 0
   AtRest = IsStanding program (body_rule rules) items xs right made ranges
 
   -- a function in its place
-  function_scoped : (before : List Item) (known : Known) (ps : Parts) (h : Head) (is_critical : Bool) (nodes : List Node) (g : Heading) (b : Body) → function_declared known.scope known.functions before h true ≡ Right g → body_rule rules (body_scope items known h) h nodes ≡ Right b → AreNamed h.params × AreProper (lines_of nodes) → Begins (functions_behind known.scope known.functions h) Last.functions → AtRest known ps → AreNumbered known.scope (length program.structs) → IsPlaced program (whole h.name is_critical g b) → IsScopedFunc (whole h.name is_critical g b)
+  function_scoped : (before : List Item) (known : Known) (ps : Parts) (h : Head) (is_critical : Bool) (nodes : List Node) (g : Heading) (b : Body) → function_declared known.scope known.functions before h true ≡ Right g → body_rule rules (body_scope known h) h nodes ≡ Right b → AreNamed h.params × AreProper (lines_of nodes) → Begins (functions_behind known.scope known.functions h) Last.functions → AtRest known ps → AreNumbered known.scope (length program.structs) → IsPlaced program (whole h.name is_critical g b) → IsScopedFunc (whole h.name is_critical g b)
   function_scoped before known ps h is_critical nodes g b e f written begins q low placed =
       let headed = headed_by program rules items xs right made ranges proper all sound_rules before known h true g e begins in
-      let scope = body_scope items known h in
+      let scope = body_scope known h in
       let st = function_stands program (body_rule rules) items xs right made ranges known h headed q.stands low in
       let declarations = knows_declarations program rules items xs right made ranges proper all sound_rules known ps scope q st (body_scope_structs program rules items xs right made ranges proper all sound_rules known h) in
       let is_made : IsMade program rules scope h nodes g b = record { front = known.scope; tags = body_scope_tags program rules items xs right made ranges proper all sound_rules known h; heading_is = headed.listed; body_is = f; named = written.0; proper = written.1; in_table = placed.locals; grounded = placed.body } in
@@ -74,7 +74,7 @@ module _ (program : Program) (rules : Rules) (items : List Item) (xs : List Piec
   one_func fs f g h own i (inl old) placed = h i g old placed
   one_func fs f g h own i (inr new) placed = subst (λ (x : Func). IsPlaced program x → IsScopedFunc x) new own placed
 
-  scoped_behind : (before : List Item) (known : Known) (ps : Parts) (what : ItemWhat) (x : Piece) → Comes (body_rule rules) items before known what x → IsBodyProper what → Begins (behind_item items known what).functions Last.functions → AreNumbered known.scope (length program.structs) → AtRest (behind_item items known what) (behind_piece ps x) → IsScopedFile known ps → IsScopedFile (behind_item items known what) (behind_piece ps x)
+  scoped_behind : (before : List Item) (known : Known) (ps : Parts) (what : ItemWhat) (x : Piece) → Comes (body_rule rules) items before known what x → IsBodyProper what → Begins (behind_item known what).functions Last.functions → AreNumbered known.scope (length program.structs) → AtRest (behind_item known what) (behind_piece ps x) → IsScopedFile known ps → IsScopedFile (behind_item known what) (behind_piece ps x)
   scoped_behind before known ps _ _ (OfDefine name is_negative n k) written begins low rests q = record { rests = rests; funcs = q.funcs }
   scoped_behind before known ps _ _ (OfStruct at name ds fields) written begins low rests q = record { rests = rests; funcs = q.funcs }
   scoped_behind before known ps _ _ (OfEnum es) written begins low rests q = record { rests = rests; funcs = q.funcs }

@@ -18,9 +18,8 @@ use Rattle.mdr_faults.specs.Faults.{Checked, Right, both}
 use Rattle.mdr_operand.specs.Written.{Written, Line, Lines}
 use Rattle.mdr_body.specs.declared.here.Frame.{Frame}
 use Rattle.mdr_body.specs.declared.here.Here.{Here}
-use Rattle.mdr_body.specs.declared.mention.Mention.TheVariants.{Address}
 use Rattle.mdr_body.specs.Locals.{is_taken, entered, numbered}
-use Rattle.mdr_body.specs.Mentions.{mentions, perhaps_mentions, has, have}
+use Rattle.mdr_body.specs.Addresses.{takes_in, perhaps_takes, takes_at, takes_along}
 use Rattle.mdr_body.specs.Statements.{Rules, stmt, single, condition, perhaps_condition, appended, pair, head_taken, simple_made, simple_behind, heads_made, heads_behind, steps_made, steps_behind, for_head, behind_head, block_of, as_part, if_of, while_of, for_of, line_behind, perhaps_behind, lines_behind, line_made, perhaps_made, lines_made}
 use Rattle.mdr_scoped.specs.Scopes.{TermScoped, CodesScoped}
 use Rattle.mdr_sound_code.proofs.Rights.{same_right, after_right, both_right}
@@ -98,13 +97,13 @@ module _ (program : Program) (slots : List Slot) (base : ℕ) (scope : Scope) (f
 
   -- ---- the head of a `for`
 
-  heads_leave : (here : Here) (objects : List ℕ) (test : Option Written) (next : Lines) (body : Line) (ls : Lines) (ss : List Stmt) → Live here objects → IsHere program slots base here (λ n. have Address n ls (tail test next body n)) → AreProper ls → AreDeclared slots base (heads_behind scope frame here test next body ls).locals → AreGrounded program (codes_of ss) → heads_made rules scope frame here test next body ls ≡ Right ss → Leaves slots (heads_behind scope frame here test next body ls) objects false ss
+  heads_leave : (here : Here) (objects : List ℕ) (test : Option Written) (next : Lines) (body : Line) (ls : Lines) (ss : List Stmt) → Live here objects → IsHere program slots base here (λ n. takes_along n ls (tail test next body n)) → AreProper ls → AreDeclared slots base (heads_behind scope frame here test next body ls).locals → AreGrounded program (codes_of ss) → heads_made rules scope frame here test next body ls ≡ Right ss → Leaves slots (heads_behind scope frame here test next body ls) objects false ss
   unfolding heads_behind heads_made
   heads_leave here objects test next body Lines.End ss live h proper declared g e = leaves_none slots here objects false ss live e
   heads_leave here objects test next body (Lines.Then l ls) ss live h proper declared g e =
       let t = head_taken l ls test next body in
       let there : Here = simple_behind scope frame here t l in
-      let rest : List ℕ → Bool = λ n. have Address n ls (tail test next body n) in
+      let rest : List ℕ → Bool = λ n. takes_along n ls (tail test next body n) in
       let first = declared_before slots base there.locals (heads_behind scope frame there test next body ls).locals _ (heads_grow scope frame there test next body ls).locals_are declared in
       let parts = both_right (simple_made rules scope frame false here t l) (heads_made rules scope frame there test next body ls) appended ss e in
       let grounded = subst (λ xs. AreGrounded program (codes_of xs)) (sym (same_right _ _ parts.made)) g in
@@ -113,10 +112,10 @@ module _ (program : Program) (slots : List Slot) (base : ℕ) (scope : Scope) (f
       (λ more. heads_leave there (behinds slots objects (codes_of parts.left)) test next body ls parts.right more (simple_here program slots base scope frame known here t l rest h proper.0 (told_head l ls test next body) first) proper.1 declared (grounded_right program parts.left parts.right grounded) parts.second)
       parts.made
 
-  steps_scoped : (here : Here) (objects : List ℕ) (ls : Lines) (ss : List Stmt) → Live here objects → IsHere program slots base here (λ n. have Address n ls false) → AreStatements ls → AreProper ls → AreDeclared slots base (steps_behind scope frame here ls).locals → AreGrounded program (codes_of ss) → steps_made rules scope frame here ls ≡ Right ss → CodesScoped slots objects (codes_of ss)
+  steps_scoped : (here : Here) (objects : List ℕ) (ls : Lines) (ss : List Stmt) → Live here objects → IsHere program slots base here (λ n. takes_along n ls false) → AreStatements ls → AreProper ls → AreDeclared slots base (steps_behind scope frame here ls).locals → AreGrounded program (codes_of ss) → steps_made rules scope frame here ls ≡ Right ss → CodesScoped slots objects (codes_of ss)
   steps_scoped here objects Lines.End ss live h s proper declared g e = subst (λ xs. CodesScoped slots objects (codes_of xs)) (same_right [] ss e) tt
   steps_scoped here objects (Lines.Then l ls) ss live h s proper declared g e =
-      (simple_leaves program slots base scope frame known rules sound plain result gives given here objects false false l (λ n. have Address n ls false) ss live h proper.0 (told_none false l (λ n. have Address n ls false) s.0) declared g e).scoped
+      (simple_leaves program slots base scope frame known rules sound plain result gives given here objects false false l (λ n. takes_along n ls false) ss live h proper.0 (told_none false l (λ n. takes_along n ls false) s.0) declared g e).scoped
 
   -- behind the head
   head_live : (here : Here) (objects : List ℕ) (init : Lines) (test : Option Written) (next : Lines) (body : Line) → AreStatements next → Live (heads_behind scope frame here test next body init) objects → Live (behind_head scope frame here init test next body) objects
@@ -162,15 +161,15 @@ module _ (program : Program) (slots : List Slot) (base : ℕ) (scope : Scope) (f
       (while_still slots objects n parts.left parts.right (t parts.left parts.first) (h parts.right inside parts.second))
       parts.made
 
-  for_leaves : (there here : Here) (objects : List ℕ) (is_part : Bool) (p : Place) (init : Lines) (test : Option Written) (next : Lines) (body : Line) (n : ℕ) (c : Checked (List Stmt)) (ss : List Stmt) → Live there objects → Live here objects → IsHere program slots base here (λ m. have Address m init (tail test next body m)) → AreProper init → PerhapsHasNumbers test → AreStatements next → AreProper next → AreDeclared slots base (line_behind scope frame (behind_head scope frame here init test next body) false body).locals → ((more : List ℕ) → Live (heads_behind scope frame here test next body init) more → PartScoped more c) → AreGrounded program (codes_of ss) → both (for_head rules scope frame here p init test next body) c (for_of n) ≡ Right ss → Leaves slots there objects is_part ss
+  for_leaves : (there here : Here) (objects : List ℕ) (is_part : Bool) (p : Place) (init : Lines) (test : Option Written) (next : Lines) (body : Line) (n : ℕ) (c : Checked (List Stmt)) (ss : List Stmt) → Live there objects → Live here objects → IsHere program slots base here (λ m. takes_along m init (tail test next body m)) → AreProper init → PerhapsHasNumbers test → AreStatements next → AreProper next → AreDeclared slots base (line_behind scope frame (behind_head scope frame here init test next body) false body).locals → ((more : List ℕ) → Live (heads_behind scope frame here test next body init) more → PartScoped more c) → AreGrounded program (codes_of ss) → both (for_head rules scope frame here p init test next body) c (for_of n) ≡ Right ss → Leaves slots there objects is_part ss
   for_leaves there here objects is_part p init test next body n c ss live inside_live h proper numbers statements steps declared k g e =
       let all = both_right (for_head rules scope frame here p init test next body) c (for_of n) ss e in
       let head = head_right rules scope frame here p init test next body all.left all.first in
       let declared_first = head_declared program slots base scope frame known here init test next body statements declared in
       let behind : Here = heads_behind scope frame here test next body init in
       let inside = heads_here program slots base scope frame known here test next body init h proper declared_first in
-      let tested = perhaps_right program slots base scope frame known rules (sound slots) result behind (tail test next body) test inside (λ m q. or_left (perhaps_mentions Address m test) (have Address m next false || has Address m body) q) numbers in
-      let before_step = here_less program slots base behind (tail test next body) (λ m. have Address m next false) inside (λ m q. or_left (have Address m next false) (has Address m body) (or_right (perhaps_mentions Address m test) (have Address m next false || has Address m body) q)) in
+      let tested = perhaps_right program slots base scope frame known rules (sound slots) result behind (tail test next body) test inside (λ m q. or_left (perhaps_takes m test) (takes_along m next false || takes_at m body) q) numbers in
+      let before_step = here_less program slots base behind (tail test next body) (λ m. takes_along m next false) inside (λ m q. or_left (takes_along m next false) (takes_at m body) (or_right (perhaps_takes m test) (takes_along m next false || takes_at m body) q)) in
       let declared_step = subst (λ (x : Here). AreDeclared slots base x.locals) (sym (steps_same scope frame behind next statements)) declared_first in
       let parts = for_parts program n all.left.0.0 all.left.0.1 all.left.1 all.right (one_grounded n (step.For all.left.0.0 all.left.0.1 all.left.1 all.right) ss all.made g) in
       let first = heads_leave here objects test next body init all.left.0.0 inside_live h proper declared_first parts.first head.first in
@@ -188,7 +187,7 @@ module _ (program : Program) (slots : List Slot) (base : ℕ) (scope : Scope) (f
   mutual
     pub line_leaves : (here : Here) (objects : List ℕ) (in_loop is_part t : Bool) (l : Line) (rest : List ℕ → Bool) (ss : List Stmt) → Live here objects → IsHere program slots base here (in_front l rest) → IsProper l → IsTold t l rest → AreDeclared slots base (line_behind scope frame here t l).locals → AreGrounded program (codes_of ss) → line_made rules scope frame in_loop is_part here t l ≡ Right ss → Leaves slots (line_behind scope frame here t l) objects is_part ss
     line_leaves here objects in_loop is_part t (Line.Block p ls) rest ss live h proper told declared g e =
-        let inside = here_entered program slots base here (λ n. have Address n ls false) (here_less program slots base here _ (λ n. have Address n ls false) h (λ name q. or_left (have Address name ls false) (rest name) q)) in
+        let inside = here_entered program slots base here (λ n. takes_along n ls false) (here_less program slots base here _ (λ n. takes_along n ls false) h (λ name q. or_left (takes_along name ls false) (rest name) q)) in
         let there : Here = line_behind scope frame here t (Line.Block p ls) in
         part_leaves there objects is_part (lines_made rules scope frame in_loop (entered here) ls) ss
         (live_same here there objects (line_grows scope frame here t (Line.Block p ls)) (names_keep scope frame here t (Line.Block p ls) refl proper) live)
@@ -196,12 +195,12 @@ module _ (program : Program) (slots : List Slot) (base : ℕ) (scope : Scope) (f
     line_leaves here objects in_loop is_part t (Line.If p w one other) rest ss live h proper told declared g e =
         let there : Here = line_behind scope frame here t (Line.If p w one other) in
         let b : Here = line_behind scope frame (numbered here) false one in
-        let all = here_less program slots base here _ (λ n. mentions Address n w || (has Address n one || have Address n other false)) h (λ name q. or_left (mentions Address name w || (has Address name one || have Address name other false)) (rest name) q) in
-        let parts = here_numbered program slots base here _ (here_less program slots base here _ (λ n. has Address n one || have Address n other false) all (λ name q. or_right (mentions Address name w) _ q)) in
-        let first = here_less program slots base (numbered here) _ (in_front one (λ n. false)) parts (λ name q. front_of_none one name (or_left (has Address name one) (have Address name other false) q)) in
-        let second = part_here program slots base scope frame known (numbered here) one (λ n. have Address n other false) (here_less program slots base (numbered here) _ (λ n. have Address n other false) parts (λ name q. or_right (has Address name one) (have Address name other false) q)) proper.1.0.0 proper.1.0.1 in
+        let all = here_less program slots base here _ (λ n. takes_in n w || (takes_at n one || takes_along n other false)) h (λ name q. or_left (takes_in name w || (takes_at name one || takes_along name other false)) (rest name) q) in
+        let parts = here_numbered program slots base here _ (here_less program slots base here _ (λ n. takes_at n one || takes_along n other false) all (λ name q. or_right (takes_in name w) _ q)) in
+        let first = here_less program slots base (numbered here) _ (in_front one (λ n. false)) parts (λ name q. front_of_none one name (or_left (takes_at name one) (takes_along name other false) q)) in
+        let second = part_here program slots base scope frame known (numbered here) one (λ n. takes_along n other false) (here_less program slots base (numbered here) _ (λ n. takes_along n other false) parts (λ name q. or_right (takes_at name one) (takes_along name other false) q)) proper.1.0.0 proper.1.0.1 in
         let declared_first = declared_before slots base b.locals (perhaps_behind scope frame b other).locals _ (perhaps_grow scope frame b other).locals_are declared in
-        let right = written_right program slots base scope frame known rules (sound slots) result here _ w all (λ name q. or_left (mentions Address name w) _ q) proper.0 in
+        let right = written_right program slots base scope frame known rules (sound slots) result here _ w all (λ name q. or_left (takes_in name w) _ q) proper.0 in
         let live_part = live_numbered here objects live in
         if_leaves there objects is_part here.number (condition rules scope here p w) (line_made rules scope frame in_loop true (numbered here) false one) (perhaps_made rules scope frame in_loop b other) ss
         (live_same here there objects (line_grows scope frame here t (Line.If p w one other)) (names_keep scope frame here t (Line.If p w one other) refl proper) live)
@@ -211,9 +210,9 @@ module _ (program : Program) (slots : List Slot) (base : ℕ) (scope : Scope) (f
         g e
     line_leaves here objects in_loop is_part t (Line.While p w body) rest ss live h proper told declared g e =
         let there : Here = line_behind scope frame here t (Line.While p w body) in
-        let all = here_less program slots base here _ (λ n. mentions Address n w || has Address n body) h (λ name q. or_left (mentions Address name w || has Address name body) (rest name) q) in
-        let inside = here_numbered program slots base here _ (here_less program slots base here _ (in_front body (λ n. false)) all (λ name q. front_of_none body name (or_right (mentions Address name w) (has Address name body) q))) in
-        let right = written_right program slots base scope frame known rules (sound slots) result here _ w all (λ name q. or_left (mentions Address name w) _ q) proper.0 in
+        let all = here_less program slots base here _ (λ n. takes_in n w || takes_at n body) h (λ name q. or_left (takes_in name w || takes_at name body) (rest name) q) in
+        let inside = here_numbered program slots base here _ (here_less program slots base here _ (in_front body (λ n. false)) all (λ name q. front_of_none body name (or_right (takes_in name w) (takes_at name body) q))) in
+        let right = written_right program slots base scope frame known rules (sound slots) result here _ w all (λ name q. or_left (takes_in name w) _ q) proper.0 in
         while_leaves there objects is_part here.number (condition rules scope here p w) (line_made rules scope frame true true (numbered here) false body) ss
         (live_same here there objects (line_grows scope frame here t (Line.While p w body)) (names_keep scope frame here t (Line.While p w body) refl proper) live)
         (λ x q. condition_scoped here objects p w _ x live all right q)
@@ -221,10 +220,10 @@ module _ (program : Program) (slots : List Slot) (base : ℕ) (scope : Scope) (f
         g e
     line_leaves here objects in_loop is_part t (Line.For p init test next body) rest ss live h proper told declared g e =
         let there : Here = line_behind scope frame here t (Line.For p init test next body) in
-        let all = here_entered program slots base here _ (here_less program slots base here _ (λ n. have Address n init (tail test next body n)) h (λ name q. or_left (have Address name init (tail test next body name)) (rest name) q)) in
+        let all = here_entered program slots base here _ (here_less program slots base here _ (λ n. takes_along n init (tail test next body n)) h (λ name q. or_left (takes_along name init (tail test next body name)) (rest name) q)) in
         let first = heads_here program slots base scope frame known (entered here) test next body init all proper.0.0 (head_declared program slots base scope frame known (entered here) init test next body proper.1.0.0 declared) in
         let b : Here = behind_head scope frame (entered here) init test next body in
-        let inside = here_less program slots base b (tail test next body) (in_front body (λ n. false)) (head_here program slots base scope frame known (entered here) init test next body first proper.1.0.0) (λ name q. front_of_none body name (or_right (have Address name next false) (has Address name body) (or_right (perhaps_mentions Address name test) (have Address name next false || has Address name body) q))) in
+        let inside = here_less program slots base b (tail test next body) (in_front body (λ n. false)) (head_here program slots base scope frame known (entered here) init test next body first proper.1.0.0) (λ name q. front_of_none body name (or_right (takes_along name next false) (takes_at name body) (or_right (perhaps_takes name test) (takes_along name next false || takes_at name body) q))) in
         for_leaves there (entered here) objects is_part p init test next body here.number (line_made rules scope frame true true b false body) ss
         (live_same here there objects (line_grows scope frame here t (Line.For p init test next body)) (names_keep scope frame here t (Line.For p init test next body) refl proper) live)
         (live_entered here objects live) all proper.0.0 proper.0.1 proper.1.0.0 proper.1.0.1 declared
@@ -233,20 +232,20 @@ module _ (program : Program) (slots : List Slot) (base : ℕ) (scope : Scope) (f
     line_leaves here objects in_loop is_part t l rest ss live h proper told declared g e =
         numbered_leaves slots (simple_behind scope frame here t l) objects is_part ss (simple_leaves program slots base scope frame known rules sound plain result gives given here objects in_loop t l rest ss live h proper told declared g e)
 
-    pub perhaps_scoped : (here : Here) (objects : List ℕ) (in_loop : Bool) (ls : Lines) (ss : List Stmt) → Live here objects → IsHere program slots base here (λ n. have Address n ls false) → AreStatements ls → AreProper ls → AreDeclared slots base (perhaps_behind scope frame here ls).locals → AreGrounded program (codes_of ss) → perhaps_made rules scope frame in_loop here ls ≡ Right ss → CodesScoped slots objects (codes_of ss)
+    pub perhaps_scoped : (here : Here) (objects : List ℕ) (in_loop : Bool) (ls : Lines) (ss : List Stmt) → Live here objects → IsHere program slots base here (λ n. takes_along n ls false) → AreStatements ls → AreProper ls → AreDeclared slots base (perhaps_behind scope frame here ls).locals → AreGrounded program (codes_of ss) → perhaps_made rules scope frame in_loop here ls ≡ Right ss → CodesScoped slots objects (codes_of ss)
     perhaps_scoped here objects in_loop Lines.End ss live h s proper declared g e = subst (λ xs. CodesScoped slots objects (codes_of xs)) (same_right [] ss e) tt
-    perhaps_scoped here objects in_loop (Lines.Then l ls) ss live h s proper declared g e = (line_leaves here objects in_loop true false l (λ n. have Address n ls false) ss live h proper.0 (told_none false l (λ n. have Address n ls false) s.0) declared g e).scoped
+    perhaps_scoped here objects in_loop (Lines.Then l ls) ss live h s proper declared g e = (line_leaves here objects in_loop true false l (λ n. takes_along n ls false) ss live h proper.0 (told_none false l (λ n. takes_along n ls false) s.0) declared g e).scoped
 
-    pub lines_leave : (here : Here) (objects : List ℕ) (in_loop : Bool) (ls : Lines) (ss : List Stmt) → Live here objects → IsHere program slots base here (λ n. have Address n ls false) → AreProper ls → AreDeclared slots base (lines_behind scope frame here ls).locals → AreGrounded program (codes_of ss) → lines_made rules scope frame in_loop here ls ≡ Right ss → Leaves slots (lines_behind scope frame here ls) objects false ss
+    pub lines_leave : (here : Here) (objects : List ℕ) (in_loop : Bool) (ls : Lines) (ss : List Stmt) → Live here objects → IsHere program slots base here (λ n. takes_along n ls false) → AreProper ls → AreDeclared slots base (lines_behind scope frame here ls).locals → AreGrounded program (codes_of ss) → lines_made rules scope frame in_loop here ls ≡ Right ss → Leaves slots (lines_behind scope frame here ls) objects false ss
     lines_leave here objects in_loop Lines.End ss live h proper declared g e = leaves_none slots here objects false ss live e
     lines_leave here objects in_loop (Lines.Then l ls) ss live h proper declared g e =
         let t = is_taken l ls in
         let b : Here = line_behind scope frame here t l in
         let first = declared_before slots base b.locals (lines_behind scope frame b ls).locals _ (lines_grow scope frame b ls).locals_are declared in
-        let next = line_here program slots base scope frame known here t l (λ n. have Address n ls false) h proper.0 (told_line l ls) first in
+        let next = line_here program slots base scope frame known here t l (λ n. takes_along n ls false) h proper.0 (told_line l ls) first in
         let parts = both_right (line_made rules scope frame in_loop false here t l) (lines_made rules scope frame in_loop b ls) appended ss e in
         let grounded = subst (λ xs. AreGrounded program (codes_of xs)) (sym (same_right _ _ parts.made)) g in
         leaves_both slots b (lines_behind scope frame b ls) objects parts.left parts.right ss
-        (line_leaves here objects in_loop false t l (λ n. have Address n ls false) parts.left live h proper.0 (told_line l ls) first (grounded_left program parts.left parts.right grounded) parts.first)
+        (line_leaves here objects in_loop false t l (λ n. takes_along n ls false) parts.left live h proper.0 (told_line l ls) first (grounded_left program parts.left parts.right grounded) parts.first)
         (λ more. lines_leave b (behinds slots objects (codes_of parts.left)) in_loop ls parts.right more next proper.1 declared (grounded_right program parts.left parts.right grounded) parts.second)
         parts.made

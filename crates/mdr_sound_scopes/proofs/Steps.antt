@@ -22,9 +22,8 @@ use Rattle.mdr_operand.specs.declared.room.LocalName.{LocalName}
 use Rattle.mdr_operand.specs.Written.{Written, Line}
 use Rattle.mdr_body.specs.declared.here.Frame.{Frame}
 use Rattle.mdr_body.specs.declared.here.Here.{Here}
-use Rattle.mdr_body.specs.declared.mention.Mention.TheVariants.{Address}
 use Rattle.mdr_body.specs.Locals.{local_object, is_own_object, with_local}
-use Rattle.mdr_body.specs.Mentions.{mentions, perhaps_mentions, has}
+use Rattle.mdr_body.specs.Addresses.{takes_in, perhaps_takes, takes_at}
 use Rattle.mdr_body.specs.Statements.{Rules, stmt, single, stated, text_of, takes_text, is_single, own_place, initial_by, initial_step, declared_then, local_made, return_by, return_step, simple_made, simple_behind}
 use Rattle.mdr_scoped.specs.Scopes.{behind, CodeScoped, CodesScoped}
 use Rattle.mdr_sound_code.specs.Knowing.{KnowsLocals}
@@ -163,16 +162,16 @@ module _ (program : Program) (slots : List Slot) (base : ℕ) (scope : Scope) (f
   simple_leaves here objects in_loop t (Line.Local p d init) rest ss live h proper told declared g e =
       let behind_it = here_local program slots base scope frame known here t p d init rest h proper.0 told declared in
       local_leaves here objects t d init ss h.number live (local_at slots base scope frame.locks here t d h.slot declared) behind_it.knows
-      (perhaps_right program slots base scope frame known rules (sound slots) result (with_local scope frame.locks t d here) _ init behind_it (λ name n. or_left (perhaps_mentions Address name init) (rest name) n) proper.1)
+      (perhaps_right program slots base scope frame known rules (sound slots) result (with_local scope frame.locks t d here) _ init behind_it (λ name n. or_left (perhaps_takes name init) (rest name) n) proper.1)
       g e
   simple_leaves here objects in_loop t (Line.Assign p at op x y) rest ss live h proper told declared g e =
-      let first = written_right program slots base scope frame known rules (sound slots) result here _ x h (λ name n. or_left (mentions Address name x) _ (or_left (has Address name (Line.Assign p at op x y)) _ n)) proper.0 in
-      let second = written_right program slots base scope frame known rules (sound slots) result here _ y h (λ name n. or_right (mentions Address name x) _ (or_left (has Address name (Line.Assign p at op x y)) _ n)) proper.1 in
+      let first = written_right program slots base scope frame known rules (sound slots) result here _ x h (λ name n. or_left (takes_in name x) _ (or_left (takes_at name (Line.Assign p at op x y)) _ n)) proper.0 in
+      let second = written_right program slots base scope frame known rules (sound slots) result here _ y h (λ name n. or_right (takes_in name x) _ (or_left (takes_at name (Line.Assign p at op x y)) _ n)) proper.1 in
       let seen = knows_hidden program slots here objects h.knows live in
       stated_leaves program slots result here objects here.number (rules.assigned scope here.names at op x y) ss live
       (λ s is. (sound (hidden objects slots)).assigned here.names at op x y s result seen first second is) (plain.assigned here.names at op x y) h.number g e
   simple_leaves here objects in_loop t (Line.Plain p w) rest ss live h proper told declared g e =
-      let right = written_right program slots base scope frame known rules (sound slots) result here _ w h (λ name n. or_left (has Address name (Line.Plain p w)) _ n) proper in
+      let right = written_right program slots base scope frame known rules (sound slots) result here _ w h (λ name n. or_left (takes_at name (Line.Plain p w)) _ n) proper in
       let seen = knows_hidden program slots here objects h.knows live in
       stated_leaves program slots result here objects here.number (rules.called scope here.names w) ss live
       (λ s is. (sound (hidden objects slots)).called here.names w s result seen right is) (plain.called here.names w) h.number g e
@@ -182,7 +181,7 @@ module _ (program : Program) (slots : List Slot) (base : ℕ) (scope : Scope) (f
   simple_leaves here objects in_loop t (Line.Do p body w) rest ss live h proper told declared g e = not_right _ ss e
   simple_leaves here objects in_loop t (Line.Switch p w) rest ss live h proper told declared g e = not_right _ ss e
   simple_leaves here objects in_loop t (Line.Return p w) rest ss live h proper told declared g e =
-      let right = perhaps_right program slots base scope frame known rules (sound slots) result here _ w h (λ name n. or_left (has Address name (Line.Return p w)) _ n) proper in
+      let right = perhaps_right program slots base scope frame known rules (sound slots) result here _ w h (λ name n. or_left (takes_at name (Line.Return p w)) _ n) proper in
       let seen = knows_hidden program slots here objects h.knows live in
       stated_leaves program slots result here objects here.number (return_step rules scope frame here p w) ss live
       (λ s is. return_sound program (hidden objects slots) base scope frame known rules (sound (hidden objects slots)) result here p w s gives given seen right is) (return_step_plain scope rules plain frame here p w) h.number g e

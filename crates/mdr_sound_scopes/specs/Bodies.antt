@@ -1,3 +1,4 @@
+-- for proofs
 -- Functions whose code names objects of locals only where they live.
 use Rattle.std.specs.Prelude.{ℕ, Bool, List, Option, Some, None}
 use Rattle.mdr_core.specs.declared.code.Stmt.{Stmt}

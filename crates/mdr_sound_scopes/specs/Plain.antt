@@ -1,3 +1,4 @@
+-- for proofs
 -- Rules of expressions, assignments and calls whose steps declare nothing and have no statements inside (C99 6.8.3).
 use Rattle.std.specs.Prelude.{◌≡◌, ℕ, List}
 use Rattle.mdr_core.specs.declared.code.Lval.{Lval}

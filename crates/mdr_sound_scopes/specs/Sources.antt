@@ -1,3 +1,4 @@
+-- for proofs
 -- The program of a source in which no fault is found names objects of locals only where they live (C99 6.2.1, 6.2.4).
 use Rattle.std.specs.Prelude.{ℕ, ◌≤◌, Bool, List, length}
 use Rattle.mdr_core.specs.declared.program.Program.{Program}

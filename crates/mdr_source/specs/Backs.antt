@@ -1,3 +1,4 @@
+-- believed
 -- Functions that call the service that calls back, which isn't built yet (C99 6.5.2.2).
 use Rattle.std.specs.Prelude.{◌||◌, Bool, false, List, [], ◌∷◌, Option, Some, None}
 use Rattle.mdr_core.specs.declared.code.Stmt.{Stmt}

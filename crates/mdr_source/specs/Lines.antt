@@ -1,3 +1,4 @@
+-- believed
 -- The line that is printed of a source that is refused.
 use Rattle.std.specs.Prelude.{ℕ, List, ◌++◌, codes, decimal}
 use Rattle.mdr_core.specs.declared.place.Place.{Place}

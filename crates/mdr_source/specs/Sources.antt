@@ -1,3 +1,4 @@
+-- believed
 -- What the bytes of a source come to: its tree and its program, or the one thing for which it is refused. Stage by stage, with one constructor for each reason.
 use Rattle.std.specs.Prelude.{◌≡◌, ◌≤◌, ◌<◌, ℕ, true, false, List, length, Option, Some, None, slice_get, Result, Ok, Err}
 use Rattle.mdr_core.specs.declared.place.Place.{Place}
@@ -14,7 +15,7 @@ use Rattle.mdr_parse.specs.Parsing.{end_place, error_in}
 use Rattle.mdr_faults.specs.declared.fault.Fault.{Fault}
 use Rattle.mdr_faults.specs.Faults.{Checked, Right, IsFirst}
 use Rattle.mdr_body.specs.Bodies.{body_rule}
-use Rattle.mdr_body.specs.Mentions.{uses}
+use Rattle.mdr_body.specs.Uses.{first_use}
 use Rattle.mdr_typing.specs.Profile.{profile_rules}
 use Rattle.mdr_program.specs.Programs.{typed}
 use Rattle.mdr_source.specs.declared.refusal.Refusal.{Refusal}
@@ -25,7 +26,7 @@ use Rattle.mdr_source.specs.Unbuilt.{waits}
 
 -- the program of a tree, or all faults in it
 abbrev pub typed_tree : Tree → Checked Program
-typed_tree tree = typed (body_rule profile_rules) uses tree.items
+typed_tree tree = typed (body_rule profile_rules) first_use tree.items
 
 -- the refusal of tokens that aren't read: want of memory is none
 abbrev pub refused_as : ParseError → Option Refusal

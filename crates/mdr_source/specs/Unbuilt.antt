@@ -1,3 +1,4 @@
+-- believed
 -- The forms of sources that aren't built yet: `?:`, `switch`, `do`, `++`, `--`, and calls as parts of expressions (C99 6.5.15, 6.8.4.2, 6.8.5.2, 6.5.2.2, 6.5.2.4, 6.5.3.1).
 use Rattle.std.specs.Prelude.{ℕ, ◌||◌, Bool, true, false, List, [], ◌∷◌, Option, Some, None, codes}
 use Rattle.std.specs.Str.{bytes_eq}

@@ -1,3 +1,4 @@
+-- for proofs
 -- Statements that are built, and statements that aren't yet.
 use Rattle.std.specs.Prelude.{ℕ, List, [], ◌∷◌, Some, codes}
 use Rattle.mdr_core.specs.declared.kind.Kind.TheVariants.{S32}

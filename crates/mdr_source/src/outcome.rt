@@ -4,7 +4,7 @@ use mdr_core::Program;
 use mdr_syntax::Tree;
 
 /// A source that was read, and the program that it declares.
-#[derive(Debug, Drop)]
+#[derive(Drop)]
 pub struct Source {
     pub tree: Tree,
     pub program: Program,

@@ -3,7 +3,7 @@
 ghost use Rattle.std.specs.Prelude.{◌≡◌, ◌||◌, map};
 ghost use Rattle.std.specs.Option.{option_map};
 ghost use Rattle.mdr_operand.specs.Written.{written_of, written_what, written_list, line_of, lines_of, perhaps};
-ghost use Rattle.mdr_body.specs.Mentions.{line_what};
+ghost use Rattle.mdr_body.specs.Addresses.{line_what};
 ghost use Rattle.mdr_source.specs.Unbuilt.{is_step, part_waits, any_part_waits, perhaps_part_waits, whole_waits, perhaps_whole_waits, right_waits, line_waits, lines_wait, item_waits, waits};
 
 use mdr_core::{Boxed, Place};

@@ -13,7 +13,7 @@ use crate::outcome::Source;
 use crate::refusal::Refusal;
 use crate::unbuilt::waits;
 use mdr_body::Rule;
-use mdr_core::{OutOfMemory, Program};
+use mdr_core::{Limit, OutOfMemory, Program};
 use mdr_express::left_over;
 use mdr_faults::Fault;
 use mdr_parse::{ParseError, parse};
@@ -39,7 +39,7 @@ fn settled<P: Drop>(
         return Ok(Err(Refusal::Unbuilt));
     }
     if types > MOST_TYPES {
-        return Err(OutOfMemory);
+        return Err(Limit::Parts.past());
     }
     Ok(Ok(program))
 }
@@ -99,7 +99,7 @@ fn refused_as(error: ParseError) -> Result<Refusal, OutOfMemory>
     match error {
         ParseError::NotInProfile(place, word) => Ok(Refusal::NotInProfile(place, word)),
         ParseError::Expected(place) => Ok(Refusal::Expected(place)),
-        ParseError::OutOfMemory => Err(OutOfMemory),
+        ParseError::OutOfMemory => Err(OutOfMemory::passed_on()),
     }
 }
 
@@ -136,6 +136,6 @@ pub fn source(alloc: Global, bytes: &[u8]) -> Result<Result<Source, Refusal>, Ou
         Err(LexError::BadNumber(place)) => Ok(Err(Refusal::BadNumber(place))),
         Err(LexError::OpenComment(place)) => Ok(Err(Refusal::OpenComment(place))),
         Err(LexError::OpenText(place)) => Ok(Err(Refusal::OpenText(place))),
-        Err(LexError::OutOfMemory) => Err(OutOfMemory),
+        Err(LexError::OutOfMemory) => Err(OutOfMemory::passed_on()),
     }
 }

@@ -1,3 +1,4 @@
+-- for proofs
 -- The plans of sources.
 use Rattle.std.specs.Prelude.{◌≡◌, ℕ, false, List, Ok}
 use Rattle.mdr_core.specs.declared.plan.Plan.{Plan}

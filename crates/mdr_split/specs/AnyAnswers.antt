@@ -1,3 +1,4 @@
+-- believed
 -- What holds whatever the answers are: one that isn't legal changes nothing, one that is changes visible cells alone, and messages are few.
 use Rattle.std.specs.Prelude.{◌≡◌, ℕ, ◌+◌, ◌*◌, ◌≤◌, List, [], ◌∷◌, ◌++◌, Option, Some, None, Ok, Err}
 use Rattle.mdr_core.specs.declared.refusal.RefuseKind.{RefuseKind}
@@ -12,7 +13,7 @@ use Rattle.mdr_model.specs.Faults.{fault}
 use Rattle.mdr_model.specs.KernelState.{Reading}
 use Rattle.mdr_model.specs.Legal.{IsContained, runs_told}
 use Rattle.mdr_model.specs.ReplyFaults.{reply_of}
-use Rattle.mdr_script.specs.declared.bound.Bound.{Bound}
+use Rattle.mdr_bound.specs.declared.bound.Bound.{Bound}
 use Rattle.mdr_split.specs.Kernel.{refused, split_run}
 use Rattle.mdr_split.specs.Legal.{fault_of}
 use Rattle.mdr_split.specs.State.{Kernel, Open, Rest, Pending, Over, Waits}

@@ -1,3 +1,4 @@
+-- believed
 -- Which values fit where: pointers as views of their blocks, and values by the types of their places.
 use Rattle.std.specs.Prelude.{ℕ, zero, suc, ◌+◌, Bool, true, false, ◌&&◌, ◌||◌, ◌==◌, nat_le, List, [], ◌∷◌, length, Option, Some, None, slice_get}
 use Rattle.mdr_core.specs.declared.program.Field.{Field}

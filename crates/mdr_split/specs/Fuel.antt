@@ -1,3 +1,4 @@
+-- for proofs
 -- A reply is made with fuel for the ticks that the messages grant, and more makes no other.
 use Rattle.std.specs.Prelude.{◌≡◌, ℕ, ◌+◌, ◌<◌, List}
 use Rattle.mdr_model.specs.KernelState.{Reading}

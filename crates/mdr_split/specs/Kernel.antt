@@ -1,3 +1,4 @@
+-- believed
 -- The kernel half as a machine over answers: it waits at each message that it sends, judges the answer, and goes on.
 use Rattle.std.specs.Prelude.{ℕ, suc, List, [], ◌∷◌, Option, Some, None, Ok, Err, unwrap_or}
 use Rattle.mdr_core.specs.declared.refusal.RefuseKind.TheVariants as refusal
@@ -22,7 +23,7 @@ use Rattle.mdr_model.specs.ReplyFaults.{reply_of, user_stop}
 use Rattle.mdr_plain.specs.Running.{interrupts}
 use Rattle.mdr_plain.specs.Scripts.{Beginning, Did, Opens, begin, first_world, returned}
 use Rattle.mdr_plain.specs.World.{World, Ran, Ended, Stopped, Work, advanced, done}
-use Rattle.mdr_script.specs.declared.bound.Bound.{Bound}
+use Rattle.mdr_bound.specs.declared.bound.Bound.{Bound}
 use Rattle.mdr_split.specs.Legal.{fault_of}
 use Rattle.mdr_split.specs.Services.{counted}
 use Rattle.mdr_split.specs.State.{Kernel, Open, Rest, Noted, Pending, Over, Waits}

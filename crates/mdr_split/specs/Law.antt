@@ -1,3 +1,4 @@
+-- believed
 -- The law: a split run with an honest far side is the watched run on one memory.
 use Rattle.std.specs.Prelude.{◌≡◌, ℕ, ◌+◌, ◌*◌, ◌≤◌, true, not, List, [], ◌∷◌, ◌++◌, Some, Ok, slice_get, is_some}
 use Rattle.std.specs.Option.{option_map}
@@ -15,7 +16,7 @@ use Rattle.mdr_model.specs.KernelState.{Reading}
 use Rattle.mdr_model.specs.Law.{IsOwn, read}
 use Rattle.mdr_plain.specs.Outcome.{outcome_of}
 use Rattle.mdr_plain.specs.Scripts.{finish}
-use Rattle.mdr_script.specs.declared.bound.Bound.{Bound}
+use Rattle.mdr_bound.specs.declared.bound.Bound.{Bound}
 use Rattle.mdr_slice.specs.declared.halves.Halves.{Halves}
 use Rattle.mdr_slice.specs.Graph.{AreRoots}
 use Rattle.mdr_slice.specs.Halves.{AreHalves}

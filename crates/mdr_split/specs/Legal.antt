@@ -1,3 +1,4 @@
+-- believed
 -- Which replies are legal: the first fault of a reply, where the kernel half waits in a state.
 use Rattle.std.specs.Prelude.{ℕ, suc, ◌+◌, ◌*◌, min, Bool, true, false, cond, ◌&&◌, ◌||◌, ◌==◌, nat_lt, nat_le, List, [], ◌∷◌, length, map, Option, Some, None, is_some, slice_get}
 use Rattle.std.specs.List.{list_all}

@@ -1,3 +1,4 @@
+-- for proofs
 -- Messages that the user half refuses: the reply to some messages is the reply to them without those.
 use Rattle.std.specs.Prelude.{◌≡◌, ℕ, true, cond, List, [], ◌∷◌, ◌++◌}
 use Rattle.mdr_model.specs.KernelState.{Reading}

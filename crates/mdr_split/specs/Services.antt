@@ -1,3 +1,4 @@
+-- believed
 -- What each service takes and gives, as messages carry it: one table, which both halves read.
 use Rattle.std.specs.Prelude.{ℕ, ◌*◌, Bool, true, false, not, ◌&&◌, ◌==◌, nat_le, List, [], ◌∷◌, ◌++◌, map, filter, Option, Some, None, is_some, slice_get}
 use Rattle.std.specs.List.{list_all}

@@ -1,3 +1,4 @@
+-- believed
 -- Where a split run stands: the kernel half's state, and what it waits for.
 use Rattle.std.specs.Prelude.{ℕ, List}
 use Rattle.mdr_model.specs.declared.command.Command.{Command}

@@ -1,3 +1,4 @@
+-- believed
 -- The user half's reply to the messages so far. It knows its own half's text, the plan and the messages alone.
 use Rattle.std.specs.Prelude.{ℕ, suc, ◌-◌, Bool, true, false, not, ◌&&◌, List, [], ◌∷◌, ◌++◌, map, filter, Option, Some, None, slice_get, Ok, Err, nat_lt, nat_le, is_none}
 use Rattle.std.specs.List.{list_all}

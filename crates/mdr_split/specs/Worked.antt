@@ -1,3 +1,4 @@
+-- for proofs
 -- Small drivers in two halves, worked out: the messages of their runs.
 use Rattle.std.specs.Prelude.{◌≡◌, ℕ, Bool, true, false, List, [], ◌∷◌, codes, pos}
 use Rattle.mdr_core.specs.declared.kind.Kind.TheVariants.{U32}
@@ -18,7 +19,7 @@ use Rattle.mdr_plain.specs.Outcome.{outcome_of}
 use Rattle.mdr_plain.specs.Scripts.{finish}
 use Rattle.mdr_plain.specs.Worked.{calls, just, named, of_type, serves, zero_u32}
 use Rattle.mdr_plain.specs.WorkedInterrupts.{sets}
-use Rattle.mdr_script.specs.declared.bound.Bound.{Bound}
+use Rattle.mdr_bound.specs.declared.bound.Bound.{Bound}
 use Rattle.mdr_split.specs.Kernel.{split_run}
 use Rattle.mdr_split.specs.Law.{IsHonest}
 use Rattle.mdr_split.specs.State.{Kernel, Over}

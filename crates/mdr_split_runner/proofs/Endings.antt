@@ -18,7 +18,7 @@ use Rattle.mdr_plain.specs.declared.outcome.Outcome.{Outcome}
 use Rattle.mdr_plain.specs.Outcome.{outcome_of}
 use Rattle.mdr_plain.specs.Scripts.{Finish, finish}
 use Rattle.mdr_runner.specs.Runs.{status_of}
-use Rattle.mdr_script.specs.declared.bound.Bound.{Bound}
+use Rattle.mdr_bound.specs.declared.bound.Bound.{Bound}
 use Rattle.mdr_split.specs.AnyAnswers.{kernel_in}
 use Rattle.mdr_split.specs.State.{Over, Pending, Waits}
 use Rattle.mdr_split_runner.proofs.Steps.{nothing_end}

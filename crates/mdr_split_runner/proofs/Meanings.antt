@@ -29,7 +29,7 @@ use Rattle.mdr_outside.specs.Sides.{FarSide}
 use Rattle.mdr_plain.specs.declared.outcome.Outcome.{Outcome}
 use Rattle.mdr_runner.specs.Runs.{IsOutcome, IsRun, status_of}
 use Rattle.mdr_runner.specs.Scripts.{HasScript, NoScriptOf, bound_by}
-use Rattle.mdr_script.specs.declared.bound.Bound.{Bound}
+use Rattle.mdr_bound.specs.declared.bound.Bound.{Bound}
 use Rattle.mdr_script.specs.declared.script.Script.{Script}
 use Rattle.mdr_script.specs.declared.script_error.ScriptKind.{ScriptKind}
 use Rattle.mdr_script.specs.Scripts.{script_of}

@@ -9,7 +9,7 @@ use Rattle.mdr_exchanges.specs.Runs.{run_over, sent_of}
 use Rattle.mdr_model.specs.Text.{text}
 use Rattle.mdr_outside.specs.Calls.{FarCall}
 use Rattle.mdr_outside.specs.declared.far.Exchange.{Exchange}
-use Rattle.mdr_script.specs.declared.bound.Bound.{Bound}
+use Rattle.mdr_bound.specs.declared.bound.Bound.{Bound}
 use Rattle.mdr_split_runner.specs.Loads.{SentPart}
 use Rattle.mdr_watched.specs.Driver.{driver_of}
 

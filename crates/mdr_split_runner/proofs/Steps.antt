@@ -16,7 +16,7 @@ use Rattle.mdr_outside.specs.Sides.{FarSide}
 use Rattle.mdr_plain.specs.Outcome.{outcome_of}
 use Rattle.mdr_runner.specs.Runs.{status_of}
 use Rattle.mdr_runner.specs.Scripts.{IsScriptOf, NoScriptOf}
-use Rattle.mdr_script.specs.declared.bound.Bound.{Bound}
+use Rattle.mdr_bound.specs.declared.bound.Bound.{Bound}
 use Rattle.mdr_slicer.specs.Slicing.{IsSourceOf}
 use Rattle.mdr_source.specs.declared.outcome.Source.{Source}
 use Rattle.mdr_split_runner.specs.Reports.{Reported, nothing_ran}

@@ -1,3 +1,4 @@
+-- believed
 -- What a source is cut into for a run.
 use Rattle.mdr_core.specs.declared.plan.Plan.{Plan}
 use Rattle.mdr_cut.specs.declared.texts.Texts.{Texts}

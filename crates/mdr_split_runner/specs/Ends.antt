@@ -1,3 +1,4 @@
+-- protocol
 -- How a run over a far side ends.
 use Rattle.std.specs.Prelude.{◌≡◌, ℕ, List, Option, Some, IsSomeAnd}
 use Rattle.mdr_core.specs.declared.plan.Plan.{Plan}
@@ -15,7 +16,7 @@ use Rattle.mdr_outside.specs.declared.far.Loaded.{Loaded}
 use Rattle.mdr_outside.specs.Far.{loaded_with}
 use Rattle.mdr_plain.specs.declared.outcome.Outcome.{Outcome}
 use Rattle.mdr_runner.specs.Runs.{status_of}
-use Rattle.mdr_script.specs.declared.bound.Bound.{Bound}
+use Rattle.mdr_bound.specs.declared.bound.Bound.{Bound}
 use Rattle.mdr_split.specs.AnyAnswers.{kernel_in}
 use Rattle.mdr_split_runner.specs.Reports.{Ran}
 use Rattle.mdr_watched.specs.Driver.{Driver, driver_of}

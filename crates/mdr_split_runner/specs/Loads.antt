@@ -1,3 +1,4 @@
+-- believed
 -- What the far side gets.
 use Rattle.std.specs.Prelude.{◌≡◌, ℕ, List, ◌++◌}
 use Rattle.mdr_core.specs.declared.plan.Plan.{Plan}
@@ -6,7 +7,7 @@ use Rattle.mdr_cut.specs.declared.texts.Texts.{Texts}
 use Rattle.mdr_exchanges.specs.Calls.{IsPart, sends}
 use Rattle.mdr_outside.specs.Calls.{FarCall, Loads, and_then}
 use Rattle.mdr_outside.specs.declared.far.Exchange.{Exchange}
-use Rattle.mdr_script.specs.declared.bound.Bound.{Bound}
+use Rattle.mdr_bound.specs.declared.bound.Bound.{Bound}
 use Rattle.mdr_watched.specs.Driver.{driver_of}
 
 -- it was loaded once, with the texts of the user half and of the plan, and then got messages

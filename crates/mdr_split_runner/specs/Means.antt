@@ -1,3 +1,4 @@
+-- believed
 -- What a run over an honest far side is reported as.
 use Rattle.std.specs.Prelude.{◌≡◌, ◌≢◌, ℕ, ◌+◌, ◌*◌, ◌≤◌, ◌⊎◌, true, List, length, Option, Some}
 use Rattle.mdr_core.specs.declared.plan.Plan.{Plan}
@@ -19,7 +20,7 @@ use Rattle.mdr_plain.specs.Outcome.{outcome_of}
 use Rattle.mdr_runner.specs.declared.manner.Manner.{Manner}
 use Rattle.mdr_runner.specs.Runs.{IsRun}
 use Rattle.mdr_runner.specs.Scripts.{IsScriptOf}
-use Rattle.mdr_script.specs.declared.bound.Bound.{Bound}
+use Rattle.mdr_bound.specs.declared.bound.Bound.{Bound}
 use Rattle.mdr_slicer.specs.Slicing.{IsSourceOf}
 use Rattle.mdr_source.specs.declared.outcome.Source.{Source}
 use Rattle.mdr_split_runner.specs.Cuts.{IsCutInto}

@@ -1,3 +1,4 @@
+-- believed
 -- What is reported of a run over a far side that was loaded first.
 use Rattle.std.specs.Prelude.{◌≡◌, ℕ, List, Option, Some}
 use Rattle.mdr_core.specs.declared.plan.Plan.{Plan}
@@ -18,7 +19,7 @@ use Rattle.mdr_plain.specs.Outcome.{outcome_of}
 use Rattle.mdr_plain.specs.Report.{report}
 use Rattle.mdr_plain.specs.Scripts.{finish, first_world}
 use Rattle.mdr_runner.specs.Runs.{status_of}
-use Rattle.mdr_script.specs.declared.bound.Bound.{Bound}
+use Rattle.mdr_bound.specs.declared.bound.Bound.{Bound}
 use Rattle.mdr_watched.specs.Driver.{driver_of}
 
 -- the outcome where the far side loaded nothing: that of a run that began nothing, with this end

@@ -1,3 +1,4 @@
+-- believed
 -- What running a script over the two halves of a source does to the shelf and to the far side, and what is due for it: one constructor for each way that it goes.
 use Rattle.std.specs.Prelude.{◌≡◌, ℕ, List}
 use Rattle.mdr_core.specs.declared.plan.Plan.{Plan}
@@ -8,7 +9,7 @@ use Rattle.mdr_exchanges.specs.Runs.{sent_of}
 use Rattle.mdr_outside.specs.Calls.{ShelfCall}
 use Rattle.mdr_outside.specs.Sides.{FarSide}
 use Rattle.mdr_runner.specs.Scripts.{IsScriptOf, NoScriptOf}
-use Rattle.mdr_script.specs.declared.bound.Bound.{Bound}
+use Rattle.mdr_bound.specs.declared.bound.Bound.{Bound}
 use Rattle.mdr_slicer.specs.Slicing.{IsSourceOf, NoSourceOf}
 use Rattle.mdr_source.specs.declared.outcome.Source.{Source}
 use Rattle.mdr_split_runner.specs.Cuts.{IsCutInto}

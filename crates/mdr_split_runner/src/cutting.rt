@@ -5,7 +5,7 @@ ghost use Rattle.mdr_core.specs.Sound.{IsSound};
 ghost use Rattle.mdr_honest.specs.Loading.{HasShortNumbers};
 ghost use Rattle.mdr_split_runner.specs.Cuts.{IsCutInto};
 
-use mdr_core::{OutOfMemory, Plan, Program};
+use mdr_core::{Limit, OutOfMemory, Plan, Program};
 use mdr_cut::{Texts, plan_of, texts_of};
 use mdr_source::Source;
 use std::alloc::Global;
@@ -14,7 +14,7 @@ use std::alloc::Global;
 const MOST: usize = 4_294_967_296;
 
 /// The plan of a source, and the texts of its halves and of the plan.
-#[derive(Debug, Drop)]
+#[derive(Drop)]
 pub(crate) struct Cut {
     pub(crate) plan: Plan,
     pub(crate) texts: Texts,
@@ -36,7 +36,7 @@ pub(crate) fn cut_of(alloc: Global, source: &Source) -> Result<Cut, OutOfMemory>
     ensures { IfOk result (λ cut. IsCutInto source.now cut.plan cut.texts) }
 {
     if !has_short_numbers(&source.program) {
-        return Err(OutOfMemory);
+        return Err(Limit::Unmet.past());
     }
     let plan = plan_of(alloc, &source.program)?;
     match texts_of(alloc, &source.tree, &source.program) {

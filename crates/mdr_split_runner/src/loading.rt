@@ -13,12 +13,12 @@ ghost use Rattle.mdr_split_runner.specs.Reports.{Began, Ran};
 
 use crate::cutting::Cut;
 use crate::reporting::{reported, unstarted};
+use mdr_bound::Bound;
 use mdr_core::{OutOfMemory, Plan, Program, RefuseKind};
 use mdr_due::Due;
 use mdr_model::End;
 use mdr_near::KernelHalf;
 use mdr_outside::{Far, LoadAnswer};
-use mdr_script::Bound;
 use std::alloc::Global;
 
 /// Runs a script under a budget over a far side that was loaded and got no message since, and makes the report.
@@ -72,6 +72,6 @@ pub(crate) fn ran<F: Far>(
             unstarted(alloc, program, script, ticks, end)
         }
         LoadAnswer::Failed => unstarted(alloc, program, script, ticks, End::FarFault(0)),
-        LoadAnswer::OutOfMemory => Err(OutOfMemory),
+        LoadAnswer::OutOfMemory => Err(OutOfMemory::passed_on()),
     }
 }

@@ -4,13 +4,13 @@ ghost use Rattle.std.specs.Prelude.{◌≡◌, IfOk};
 ghost use Rattle.mdr_core.specs.Sound.{IsSound};
 ghost use Rattle.mdr_split_runner.specs.Reports.{Reported, nothing_ran};
 
+use mdr_bound::Bound;
 use mdr_core::{OutOfMemory, Program};
 use mdr_due::Due;
 use mdr_model::End;
 use mdr_plain::Outcome;
 use mdr_report::report_whole;
 use mdr_runner::status_of;
-use mdr_script::Bound;
 use mdr_shown::outcome;
 use mdr_world::World;
 use std::alloc::Global;

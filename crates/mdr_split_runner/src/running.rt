@@ -9,11 +9,11 @@ ghost use Rattle.mdr_split_runner.specs.SplitRuns.{IsSplitPart, IsSplitRun, Spli
 
 use crate::cutting::cut_of;
 use crate::loading::ran;
+use mdr_bound::Bound;
 use mdr_core::OutOfMemory;
 use mdr_due::{Due, Stage};
 use mdr_outside::{Far, FarSeen, Shelf};
 use mdr_runner::script_of;
-use mdr_script::Bound;
 use mdr_slicer::source_of;
 use mdr_source::Source;
 use std::alloc::Global;

@@ -1,3 +1,4 @@
+-- for proofs
 -- Small drivers in two halves, worked out: their messages, and what their runs show.
 use Rattle.std.specs.Prelude.{◌≡◌, ℕ, suc, true, false, List, [], ◌∷◌, Option, Some, None, codes}
 use Rattle.mdr_core.specs.declared.plan.Key.TheVariants as key
@@ -32,7 +33,7 @@ use Rattle.mdr_plain.specs.Outcome.{outcome_of}
 use Rattle.mdr_plain.specs.Scripts.{finish}
 use Rattle.mdr_plain.specs.Worked.{allocates, calls, just, named, of_type, serves, with_rules, zero_u32}
 use Rattle.mdr_plain.specs.WorkedInterrupts.{after_two, counts_hit, hitting, reads, requests, sets, writes}
-use Rattle.mdr_script.specs.declared.bound.Bound.{Bound}
+use Rattle.mdr_bound.specs.declared.bound.Bound.{Bound}
 use Rattle.mdr_split.specs.AnyAnswers.{kernel_in}
 use Rattle.mdr_split.specs.Kernel.{split_run}
 use Rattle.mdr_split.specs.Law.{IsHonest}

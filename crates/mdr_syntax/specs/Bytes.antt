@@ -1,3 +1,4 @@
+-- believed
 -- The classes of bytes. 9 is a tab, 10 a newline, 13 a carriage return, 32 a blank, 92 a backslash.
 use Rattle.std.specs.Prelude.{ℕ, Bool, ◌==◌, ◌||◌, ◌&&◌, not, nat_le}
 use Rattle.std.specs.Char.{is_ascii_alphabetic, is_ascii_digit}

@@ -1,3 +1,4 @@
+-- believed
 -- Steps of reading, which may meet a fault.
 use Rattle.std.specs.Prelude.{◌≡◌, Option, Some, None, Result, Ok, Err}
 use Rattle.mdr_syntax.specs.declared.error.LexError.{LexError}

@@ -1,3 +1,4 @@
+-- believed
 -- Steps that may give nothing.
 use Rattle.std.specs.Prelude.{Option, option_and_then}
 

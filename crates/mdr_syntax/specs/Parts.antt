@@ -1,3 +1,4 @@
+-- for proofs
 -- A text as its tokens and what separates them, in their order.
 use Rattle.std.specs.Prelude.{◌≡◌, ℕ, ◌+◌, Bool, List, [], ◌∷◌, ◌++◌, take, Option, Ok}
 use Rattle.mdr_core.specs.declared.place.Place.{Place}

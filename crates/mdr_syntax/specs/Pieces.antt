@@ -1,3 +1,4 @@
+-- believed
 -- What stands at the front of a text: a token, or what separates tokens.
 use Rattle.std.specs.Prelude.{ℕ, ◌+◌, ◌-◌, Bool, true, false, ◌==◌, ◌||◌, ◌&&◌, not, if◌then◌else◌, List, [], ◌∷◌, length, take, drop, Option, Some, None, Result, Ok, Err, codes, slice_index}
 use Rattle.std.specs.Option.{option_map}

@@ -1,3 +1,4 @@
+-- believed
 -- Places in a text.
 use Rattle.std.specs.Prelude.{ℕ, ◌+◌, ◌==◌, List, [], ◌∷◌, if◌then◌else◌}
 use Rattle.mdr_core.specs.declared.place.Place.{Place}

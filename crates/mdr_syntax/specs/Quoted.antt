@@ -1,3 +1,4 @@
+-- believed
 -- Character constants and texts (C99 6.4.4.4, 6.4.5).
 use Rattle.std.specs.Prelude.{ℕ, ◌+◌, Bool, true, false, ◌==◌, ◌||◌, ◌&&◌, if◌then◌else◌, List, [], ◌∷◌, Option, Some, None}
 use Rattle.std.specs.Option.{option_map}

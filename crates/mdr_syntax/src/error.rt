@@ -7,7 +7,7 @@ use mdr_core::Place;
 use std::alloc::{AllocError, AllocFailed};
 
 /// The first fault of a source, and its place.
-#[derive(Clone, Copy, Debug, PartialEq, Eq)]
+#[derive(Clone, Copy)]
 pub enum LexError {
     /// A byte that begins no token.
     BadByte(Place),

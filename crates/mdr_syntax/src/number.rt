@@ -7,7 +7,7 @@ ghost use Rattle.mdr_syntax.specs.Numbers.{digit_of, is_digit_of, radix_of, is_u
 use mdr_core::Kind;
 
 /// What a number's suffix says.
-#[derive(Clone, Copy, Debug, PartialEq, Eq)]
+#[derive(Clone, Copy)]
 pub struct Suffix {
     pub unsigned: bool,
     pub long: bool,

@@ -16,7 +16,7 @@ use mdr_core::{Items, Kind, Place};
 use std::alloc::Global;
 
 /// A token, or what separates tokens, and how many bytes it has behind its first.
-#[derive(Debug, Drop)]
+#[derive(Drop)]
 pub struct Piece {
     pub what: Option<Lexeme>,
     pub more: usize,

@@ -11,7 +11,7 @@ use mdr_core::{Items, Name, Place};
 use std::alloc::Global;
 
 /// What a byte is in a text.
-#[derive(Clone, Copy, Debug, PartialEq, Eq)]
+#[derive(Clone, Copy)]
 pub enum Part {
     /// It stands for this byte, with the backslash before it if there is one.
     Byte(u8),

@@ -3,7 +3,7 @@
 use mdr_core::{Kind, Name, Place};
 
 /// What a token is.
-#[derive(Debug, Drop)]
+#[derive(Drop)]
 pub enum Lexeme {
     /// A name or a word of the language.
     Word(Name),
@@ -19,7 +19,7 @@ pub enum Lexeme {
 }
 
 /// A token and the place of its first byte.
-#[derive(Debug, Drop)]
+#[derive(Drop)]
 pub struct Token {
     pub place: Place,
     pub what: Lexeme,

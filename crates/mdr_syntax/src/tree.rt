@@ -3,20 +3,20 @@
 use mdr_core::{Boxed, Items, Kind, Name, Place};
 
 /// A whole source. Each declarator of a list is an item, a field or a statement of its own.
-#[derive(Debug, Drop)]
+#[derive(Drop)]
 pub struct Tree {
     pub items: Items<Item>,
 }
 
 /// What stands outside functions. Its place is that of the first token of its declaration.
-#[derive(Debug, Drop)]
+#[derive(Drop)]
 pub struct Item {
     pub place: Place,
     pub what: ItemWhat,
 }
 
 /// What an item is.
-#[derive(Debug, Drop)]
+#[derive(Drop)]
 pub enum ItemWhat {
     /// A `#define`: its name, whether a `-` stands before its number, and the number.
     Define(Name, bool, u64, Kind),
@@ -32,7 +32,7 @@ pub enum ItemWhat {
 }
 
 /// An enumeration constant.
-#[derive(Debug, Drop)]
+#[derive(Drop)]
 pub struct Enumerator {
     pub place: Place,
     pub name: Name,
@@ -40,7 +40,7 @@ pub struct Enumerator {
 }
 
 /// The type that a declaration begins with, without stars.
-#[derive(Debug, Drop)]
+#[derive(Drop)]
 pub enum Base {
     Int(Kind),
     /// A struct: the place of its name, and its name.
@@ -50,7 +50,7 @@ pub enum Base {
 }
 
 /// A declarator with its base type. Its place is that of its name, or the base's where there is no name.
-#[derive(Debug, Drop)]
+#[derive(Drop)]
 pub struct Decl {
     pub place: Place,
     pub name: Option<Name>,
@@ -64,7 +64,7 @@ pub struct Decl {
 }
 
 /// What stands before a function's body. Its place is that of its name.
-#[derive(Debug, Drop)]
+#[derive(Drop)]
 pub struct Head {
     pub place: Place,
     pub name: Name,
@@ -76,7 +76,7 @@ pub struct Head {
 }
 
 /// An annotation as it is written.
-#[derive(Debug, Drop)]
+#[derive(Drop)]
 pub enum AnnText {
     Array(Const),
     Sentinel(Place, Name),
@@ -85,7 +85,7 @@ pub enum AnnText {
 }
 
 /// A constant: a number, with whether a `-` stands before it, or a name.
-#[derive(Debug, Drop)]
+#[derive(Drop)]
 pub enum Const {
     Number(Place, bool, u64, Kind),
     Name(Place, Name),
@@ -93,7 +93,7 @@ pub enum Const {
 
 /// An initialiser of a global (C99 6.7.8).
 #[cycle(init)]
-#[derive(Debug, Drop)]
+#[derive(Drop)]
 pub enum Init {
     Const(Const),
     Null(Place),
@@ -105,14 +105,14 @@ pub enum Init {
 
 /// An element of a list in braces, perhaps with the field that it is for.
 #[cycle(init)]
-#[derive(Debug, Drop)]
+#[derive(Drop)]
 pub struct Elem {
     pub field: Option<FieldName>,
     pub init: Init,
 }
 
 /// A field's name after a `.`, and its place.
-#[derive(Debug, Drop)]
+#[derive(Drop)]
 pub struct FieldName {
     pub place: Place,
     pub name: Name,
@@ -120,7 +120,7 @@ pub struct FieldName {
 
 /// A statement. Its place is that of its first token.
 #[cycle(node)]
-#[derive(Debug, Drop)]
+#[derive(Drop)]
 pub struct Node {
     pub place: Place,
     pub what: NodeWhat,
@@ -128,7 +128,7 @@ pub struct Node {
 
 /// What a statement is. Each body is a `Block`.
 #[cycle(node)]
-#[derive(Debug, Drop)]
+#[derive(Drop)]
 pub enum NodeWhat {
     Empty,
     Block(Items<Node>),
@@ -151,14 +151,14 @@ pub enum NodeWhat {
 
 /// A part of a `switch`: its labels, and what follows them.
 #[cycle(node)]
-#[derive(Debug, Drop)]
+#[derive(Drop)]
 pub struct Clause {
     pub labels: Items<Label>,
     pub body: Items<Node>,
 }
 
 /// A label and the place of its word; one without a constant is `default`.
-#[derive(Debug, Drop)]
+#[derive(Drop)]
 pub struct Label {
     pub place: Place,
     pub value: Option<Const>,
@@ -166,7 +166,7 @@ pub struct Label {
 
 /// An expression. The place of an operator form is its operator's, that of any other form its first token's.
 #[cycle(form)]
-#[derive(Debug, Drop)]
+#[derive(Drop)]
 pub struct Form {
     pub place: Place,
     pub what: FormWhat,
@@ -174,7 +174,7 @@ pub struct Form {
 
 /// What an expression is. Operators are named by their punctuation.
 #[cycle(form)]
-#[derive(Debug, Drop)]
+#[derive(Drop)]
 pub enum FormWhat {
     Number(u64, Kind),
     Null,

@@ -1,3 +1,4 @@
+-- for proofs
 -- The texts of halves, read and joined.
 use Rattle.std.specs.Prelude.{◌≡◌, List, Ok}
 use Rattle.mdr_syntax.specs.declared.tree.Item.{Item}

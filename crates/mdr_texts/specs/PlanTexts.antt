@@ -1,3 +1,4 @@
+-- for proofs
 -- The text of a plan.
 use Rattle.std.specs.Prelude.{◌≡◌, ℕ, List, map}
 use Rattle.mdr_core.specs.declared.plan.Plan.{Plan}

@@ -14,7 +14,7 @@ use Rattle.mdr_runner.specs.declared.manner.Manner.{Manner}
 use Rattle.mdr_runner.specs.Runs.{status_of}
 use Rattle.mdr_runner.specs.Scripts.{HasScript}
 use Rattle.mdr_runner.proofs.Stages.{outcome_own}
-use Rattle.mdr_script.specs.declared.bound.Bound.{Bound}
+use Rattle.mdr_bound.specs.declared.bound.Bound.{Bound}
 use Rattle.mdr_slicer.specs.Slicing.{HasSource}
 use Rattle.mdr_source.specs.declared.outcome.Source.{Source}
 use Rattle.mdr_split_runner.specs.Ends.{EndsWith, FailedLast}

@@ -12,7 +12,7 @@ use Rattle.mdr_outside.specs.Sides.{FarSide}
 use Rattle.mdr_due.specs.declared.status.Status.{Status}
 use Rattle.mdr_due.specs.Reads.{Files, longest_source, longest_script}
 use Rattle.mdr_slicer.specs.Slicing.{NoSourceOf}
-use Rattle.mdr_script.specs.declared.bound.Bound.{Bound}
+use Rattle.mdr_bound.specs.declared.bound.Bound.{Bound}
 use Rattle.mdr_runner.specs.Scripts.{NoScriptOf}
 use Rattle.mdr_runner.specs.Runs.{status_of}
 use Rattle.mdr_split_runner.specs.Ends.{EndsWith}

@@ -14,7 +14,7 @@ use Rattle.mdr_outside.specs.Shelf.{ReadsFrom}
 use Rattle.mdr_runner.specs.declared.manner.Manner.{Manner}
 use Rattle.mdr_runner.specs.Runs.{IsRun}
 use Rattle.mdr_runner.specs.Scripts.{HasScript, NoScript}
-use Rattle.mdr_script.specs.declared.bound.Bound.{Bound}
+use Rattle.mdr_bound.specs.declared.bound.Bound.{Bound}
 use Rattle.mdr_slicer.specs.Slicing.{HasSource, NoSource}
 use Rattle.mdr_source.specs.declared.outcome.Source.{Source}
 use Rattle.mdr_split_runner.specs.Cuts.{IsCutInto}

@@ -16,7 +16,7 @@ use Rattle.mdr_outside.specs.Shelf.{ReadsFrom}
 use Rattle.mdr_runner.specs.declared.manner.Manner.{Manner}
 use Rattle.mdr_runner.specs.Runs.{EndsWith}
 use Rattle.mdr_runner.specs.Scripts.{script_for}
-use Rattle.mdr_script.specs.declared.bound.Bound.{Bound}
+use Rattle.mdr_bound.specs.declared.bound.Bound.{Bound}
 use Rattle.mdr_script.specs.declared.script_error.ScriptKind.{ScriptKind}
 use Rattle.mdr_slicer.specs.Slicing.{HasSource}
 use Rattle.mdr_source.specs.declared.outcome.Source.{Source}

@@ -7,7 +7,7 @@ use crate::ticks::ticks_of;
 use mdr_runner::Manner;
 
 /// What is asked of a source that is cut.
-#[derive(Clone, Copy, Debug, PartialEq, Eq)]
+#[derive(Clone, Copy)]
 pub enum Cutting {
     /// Its texts, in files.
     Split,

@@ -1,9 +1,9 @@
 -- What a legal reply does.
 use Rattle.std.proofs.Common.{◌≡◌, List, sym, ◌∙◌, ap, subst}
 use Rattle.mdr_core.specs.declared.value.Value.{Value}
-use Rattle.mdr_exec.specs.declared.event.Asked.{Asked as Question}
-use Rattle.mdr_exec.specs.Events.{asked_as}
-use Rattle.mdr_exec.specs.Holding.{wires_of}
+use Rattle.mdr_events.specs.declared.event.Asked.{Asked as Question}
+use Rattle.mdr_events.specs.Events.{asked_as}
+use Rattle.mdr_events.specs.Values.{wires_of}
 use Rattle.mdr_meaning.specs.declared.wire.Wire.{Wire}
 use Rattle.mdr_meaning.specs.Lives.{asked_for}
 use Rattle.mdr_meaning.specs.Values.{wire_of}

@@ -1,3 +1,4 @@
+-- protocol
 -- What the steps of the code come to.
 use Rattle.std.specs.Prelude.{◌≡◌, List, drop}
 use Rattle.mdr_model.specs.declared.command.Command.{Command}

@@ -1,3 +1,4 @@
+-- protocol
 -- What the states of the code mean.
 use Rattle.std.specs.Prelude.{◌≡◌, ℕ, suc, List, []}
 use Rattle.mdr_core.specs.declared.program.Program.{Program}

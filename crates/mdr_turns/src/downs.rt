@@ -2,7 +2,7 @@
 
 ghost use Rattle.std.specs.Prelude.{◌≡◌, List, drop, IfOk};
 ghost use Rattle.mdr_core.specs.Sound.{IsSound};
-ghost use Rattle.mdr_exec.specs.Holding.{wires_of};
+ghost use Rattle.mdr_events.specs.Values.{wires_of};
 ghost use Rattle.mdr_model.specs.declared.command.Command.{Command as AnyCommand};
 ghost use Rattle.mdr_split.specs.Kernel.{downcalled};
 ghost use Rattle.mdr_split.specs.State.{Noted};
@@ -16,7 +16,7 @@ use crate::replies::given;
 use crate::sending::back_told;
 use crate::state::{Active, Pending};
 use mdr_core::{At, OutOfMemory};
-use mdr_exec::Crossing;
+use mdr_events::Crossing;
 use mdr_model::{End, Wire};
 use mdr_watch::{Upcall, Watch, downcall};
 use mdr_whole::Gave;

@@ -2,7 +2,7 @@
 
 ghost use Rattle.std.specs.Prelude.{◌≡◌, ◌==◌, find, unwrap_or, IfOk};
 ghost use Rattle.mdr_core.specs.declared.stop.StopKind.TheVariants as stop;
-ghost use Rattle.mdr_exec.specs.Holding.{wires_of};
+ghost use Rattle.mdr_events.specs.Values.{wires_of};
 ghost use Rattle.mdr_model.specs.ReplyFaults.{reply_of, stop_number, user_stop};
 
 use mdr_core::{Items, OutOfMemory, StopKind, Value};

@@ -1,7 +1,7 @@
 // The messages that the kernel half sends.
 
 ghost use Rattle.std.specs.Prelude.{◌≡◌, [], ◌∷◌, List, drop, IfOk};
-ghost use Rattle.mdr_exec.specs.Holding.{wires_of};
+ghost use Rattle.mdr_events.specs.Values.{wires_of};
 ghost use Rattle.mdr_meaning.specs.Values.{wire_of};
 ghost use Rattle.mdr_model.specs.declared.command.Command.{Command as AnyCommand};
 ghost use Rattle.mdr_model.specs.declared.message.Message.TheVariants as message;
@@ -17,7 +17,7 @@ ghost use Rattle.mdr_turns.specs.States.{IsActive, StandsFor, begins, kernel_wit
 use crate::seeing::seen;
 use crate::state::{Active, Ledger, Open, Pending, Seen, Waiting};
 use mdr_copy::{tells, wire_of};
-use mdr_core::{Items, OutOfMemory, Program, Value};
+use mdr_core::{Items, Limit, OutOfMemory, Program, Value};
 use mdr_kernel_memory::wires_of;
 use mdr_model::{Cell, MemoryBlock, Message, Told, Wire};
 use mdr_watch::{Guarded, Watch};
@@ -35,7 +35,7 @@ fn tell(
     ensures told { IfOk result (λ t. t ≡ tells program.now view.now values.now ledger.old.agreed memory.now) }
     ensures kept { IfOk result (λ t. ledger.new ≡ sent_with program.now t ledger.old) }
 {
-    let more = ledger.exchanges.checked_add(1).ok_or(OutOfMemory)?;
+    let more = ledger.exchanges.checked_add(1).ok_or(Limit::Messages.past())?;
     let agreed = std::mem::replace(&mut ledger.agreed, Items::new(alloc));
     let (told, left) = tells(alloc, program, view, values, agreed, memory)?;
     ledger.agreed = left;

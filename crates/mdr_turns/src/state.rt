@@ -9,7 +9,7 @@ use mdr_watch::Guarded;
 use mdr_world::World;
 
 /// The ticks that were counted, those that the budget leaves, and how many commands called a function.
-#[derive(Clone, Copy, Debug)]
+#[derive(Clone, Copy)]
 pub(crate) struct Tally {
     pub(crate) ticks: u64,
     pub(crate) rest: u64,
@@ -28,7 +28,7 @@ pub(crate) struct Seen<'a> {
 
 /// What the kernel half keeps beside the state of the run: the agreed copy, the messages sent, and the functions whose
 /// addresses the program takes.
-#[derive(Debug, Drop)]
+#[derive(Drop)]
 pub(crate) struct Ledger {
     pub(crate) agreed: Items<MemoryBlock>,
     pub(crate) exchanges: u64,
@@ -37,7 +37,7 @@ pub(crate) struct Ledger {
 
 /// The upcall that is open: its function, the objects of locals that were born in it and live, and how many commands of
 /// the script have begun.
-#[derive(Debug, Drop)]
+#[derive(Drop)]
 pub(crate) struct Open {
     pub(crate) func: u32,
     pub(crate) entered: Items<u64>,

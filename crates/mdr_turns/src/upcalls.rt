@@ -1,7 +1,7 @@
 // A function of the user half is called.
 
 ghost use Rattle.std.specs.Prelude.{◌≡◌, [], List, drop, IfOk};
-ghost use Rattle.mdr_exec.specs.Holding.{wires_of};
+ghost use Rattle.mdr_events.specs.Values.{wires_of};
 ghost use Rattle.mdr_model.specs.declared.command.Command.{Command as AnyCommand};
 ghost use Rattle.mdr_plain.specs.World.{World as AnyWorld, done};
 ghost use Rattle.mdr_slice.specs.Calls.{names_of};
@@ -16,7 +16,7 @@ ghost use Rattle.mdr_turns.specs.States.{IsBetween, kernel_with};
 use crate::sending::call_told;
 use crate::state::{Between, Ledger, Pending};
 use mdr_cells::CellSet;
-use mdr_core::{At, OutOfMemory, StopKind, Value};
+use mdr_core::{At, Limit, OutOfMemory, StopKind, Value};
 use mdr_model::End;
 use mdr_watch::{Guarded, Upcall, Watch, first_set};
 use mdr_world::World;
@@ -62,7 +62,7 @@ pub(crate) fn calls<'a>(
 {
     if between.world.is_in_user() {
         drop(between);
-        return Err(OutOfMemory);
+        return Err(Limit::Unmet.past());
     }
     match first_set(alloc, Upcall { watch, func }, args, &between.world) {
         Ok(Ok(set)) => {

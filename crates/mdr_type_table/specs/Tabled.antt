@@ -1,3 +1,4 @@
+-- for proofs
 -- What the type table of a program has.
 use Rattle.std.specs.Prelude.{◌≤◌, length, IsTrue}
 use Rattle.mdr_core.specs.declared.program.Program.{Program}

@@ -1,3 +1,4 @@
+-- protocol
 -- What the texts of types tell apart.
 use Rattle.std.specs.Prelude.{◌≡◌, ℕ, ◌^◌, ◌≤◌, List, length, map, Some, slice_get, IsTrue}
 use Rattle.std.specs.List.{list_all}

@@ -1,3 +1,4 @@
+-- protocol
 -- Texts of types where a struct's name begins another's, and types that aren't told apart.
 use Rattle.std.specs.Prelude.{◌≡◌, ℕ, List, [], ◌∷◌, codes}
 use Rattle.mdr_core.specs.declared.types.Ty.{Ty}

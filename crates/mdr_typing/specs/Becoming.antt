@@ -1,3 +1,4 @@
+-- believed
 -- Which types' values become values of which others (C99 6.5.16.1, 6.3).
 use Rattle.std.specs.Prelude.{◌≡◌, ◌↔◌, Bool, true, false, ◌&&◌, ◌||◌}
 use Rattle.mdr_core.specs.declared.types.Ty.{Ty, out-Ty}

@@ -1,3 +1,4 @@
+-- believed
 -- Calls, in a scope and among the locals so far (C99 6.5.2.2).
 use Rattle.std.specs.Prelude.{List}
 use Rattle.mdr_core.specs.declared.place.Place.{Place}

@@ -1,3 +1,4 @@
+-- believed
 -- The rules of the profile for the expressions, assignments and calls in a body (C99 6.5, 6.7.8, 6.8.3, 6.8.6.4).
 use Rattle.std.specs.Prelude.{ℕ, List, None}
 use Rattle.mdr_core.specs.declared.code.Lval.{Lval}

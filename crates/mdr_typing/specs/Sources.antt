@@ -1,3 +1,4 @@
+-- believed
 -- What stands behind `=` and `return`: a value, or a call whose value goes there (C99 6.5.16, 6.7.8, 6.8.6.4).
 use Rattle.std.specs.Prelude.{List, Option, Some, None}
 use Rattle.mdr_core.specs.declared.code.CallForm.{CallForm}

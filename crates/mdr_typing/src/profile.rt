@@ -100,7 +100,7 @@ fn returned(
 // ---- the rules
 
 /// The rules of the C that drivers are written in. It holds nothing.
-#[derive(Clone, Copy, Debug, PartialEq, Eq)]
+#[derive(Clone, Copy)]
 pub struct ProfileRules;
 
 impl Typing for ProfileRules {

@@ -2,8 +2,8 @@
 use Rattle.std.proofs.Common.{◌≡◌, ℕ, suc, ◌+◌, ◌≤◌, List, [], ◌∷◌, ◌++◌, Ok, Err, refl, sym, ◌∙◌, ap, subst, le_trans, arith}
 use Rattle.mdr_core.specs.declared.plan.Plan.{Plan}
 use Rattle.mdr_core.specs.declared.program.Program.{Program}
-use Rattle.mdr_exec.specs.Held.{bare}
-use Rattle.mdr_exec.specs.Steps.{child}
+use Rattle.mdr_events.specs.Held.{bare}
+use Rattle.mdr_events.specs.Steps.{child}
 use Rattle.mdr_meaning.specs.Bodies.{known_of, user_side}
 use Rattle.mdr_model.specs.declared.message.Fault.{Fault}
 use Rattle.mdr_model.specs.declared.message.Message.{Message}

@@ -1,8 +1,8 @@
 -- What the code opens is what the definition opens.
 use Rattle.std.proofs.Common.{◌≡◌, ℕ, suc, ◌+◌, ◌≤◌, Bool, true, false, List, [], ◌∷◌, Option, Some, None, Ok, refl, sym, ◌∙◌, ap, arith}
 use Rattle.std.specs.Prelude.{◌&&◌, nat_le}
-use Rattle.mdr_exec.specs.Held.{bare}
-use Rattle.mdr_exec.specs.Steps.{child}
+use Rattle.mdr_events.specs.Held.{bare}
+use Rattle.mdr_events.specs.Steps.{child}
 use Rattle.mdr_meaning.specs.declared.wire.Wire.{Wire}
 use Rattle.mdr_meaning.specs.Tree.{Tree}
 use Rattle.mdr_model.specs.declared.memory.Cell.{Cell}

@@ -2,15 +2,15 @@
 use Rattle.std.proofs.Common.{◌≡◌, ℕ, suc, ◌+◌, ◌≤◌, true, List, [], ◌∷◌, Some, slice_get, sym, ◌∙◌, ap, subst, arith}
 use Rattle.mdr_core.specs.declared.plan.Plan.{Plan}
 use Rattle.mdr_core.specs.declared.program.Program.{Program}
-use Rattle.mdr_exec.specs.declared.event.Event.{Event}
+use Rattle.mdr_events.specs.declared.event.Event.{Event}
 use Rattle.mdr_core.specs.declared.plan.Half.{Half}
+use Rattle.mdr_events.specs.Going.{RanTo}
+use Rattle.mdr_events.specs.Held.{bare, tree}
+use Rattle.mdr_events.specs.Steps.{child}
 use Rattle.mdr_exec.specs.declared.frame.Machine.{Machine}
 use Rattle.mdr_exec.specs.declared.frame.Side.TheVariants as which
-use Rattle.mdr_exec.specs.Going.{RanTo}
 use Rattle.mdr_exec.specs.Halves.{side_in}
-use Rattle.mdr_exec.specs.Held.{bare, tree}
 use Rattle.mdr_exec.specs.Holding.{held_of}
-use Rattle.mdr_exec.specs.Steps.{child}
 use Rattle.mdr_meaning.specs.declared.wire.Wire.{Wire}
 use Rattle.mdr_core.specs.declared.code.Stmt.{Stmt}
 use Rattle.mdr_core.specs.declared.program.Func.{Func}

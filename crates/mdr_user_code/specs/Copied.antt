@@ -1,3 +1,4 @@
+-- protocol
 -- The user half's copy of memory, beside the cells that its code may touch.
 use Rattle.std.specs.Prelude.{List, [], Result, Ok, Err}
 use Rattle.mdr_core.specs.declared.stop.StopKind.{StopKind}

@@ -1,3 +1,4 @@
+-- protocol
 -- Keys of cells, where a block may be a global.
 use Rattle.std.specs.Prelude.{Bool, false, List, Option, Some, None}
 use Rattle.mdr_access.specs.KeyOrder.{keys}

@@ -1,10 +1,11 @@
+-- protocol
 -- What a message opens, as the code has it.
 use Rattle.std.specs.Prelude.{ℕ, suc, Bool, true, false, ◌&&◌, List, [], ◌∷◌, is_none, nat_le, Option, Some, None, slice_get}
 use Rattle.mdr_core.specs.declared.plan.Plan.{Plan}
 use Rattle.mdr_core.specs.declared.program.Program.{Program}
 use Rattle.mdr_core.specs.Layout.{chosen}
-use Rattle.mdr_exec.specs.Held.{bare}
-use Rattle.mdr_exec.specs.Steps.{child}
+use Rattle.mdr_events.specs.Held.{bare}
+use Rattle.mdr_events.specs.Steps.{child}
 use Rattle.mdr_meaning.specs.declared.wire.Wire.{Wire}
 use Rattle.mdr_meaning.specs.Bodies.{started}
 use Rattle.mdr_meaning.specs.Tree.{Tree}

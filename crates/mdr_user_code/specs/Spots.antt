@@ -1,3 +1,4 @@
+-- protocol
 -- Cells that the code names by an index without a bound.
 use Rattle.std.specs.Prelude.{ℕ, map, List, Bool, true, false, Result, Ok, Err}
 use Rattle.std.specs.List.{list_all}

@@ -1,10 +1,11 @@
+-- protocol
 -- What the state of the code stands for, and what it tells of the messages so far.
 use Rattle.std.specs.Prelude.{◌≡◌, ℕ, suc, ◌+◌, ◌≤◌, List, [], ◌∷◌, length}
 use Rattle.mdr_core.specs.declared.plan.Plan.{Plan}
 use Rattle.mdr_core.specs.declared.program.Program.{Program}
-use Rattle.mdr_exec.specs.Held.{Held, bare}
+use Rattle.mdr_events.specs.Held.{Held, bare}
+use Rattle.mdr_events.specs.Steps.{child}
 use Rattle.mdr_exec.specs.Holding.{held_of}
-use Rattle.mdr_exec.specs.Steps.{child}
 use Rattle.mdr_meaning.specs.declared.wire.Wire.{Wire}
 use Rattle.mdr_meaning.specs.Cut.{cut}
 use Rattle.mdr_meaning.specs.Tree.{Asked, Tree}

@@ -1,7 +1,7 @@
 // What the user half's code does to cells that it may touch.
 
 ghost use Rattle.std.specs.Prelude.{◌≡◌, nat_lt, slice_get, OnErr};
-ghost use Rattle.mdr_exec.specs.Outcomes.{when_made, wired};
+ghost use Rattle.mdr_events.specs.Outcomes.{when_made, wired};
 ghost use Rattle.mdr_meaning.specs.declared.wire.Wire.TheVariants as wire;
 ghost use Rattle.mdr_meaning.specs.Values.{wire_of, wire_view};
 ghost use Rattle.mdr_model.specs.Memory.{cell_at, cell_of, is_live, loaded, loaded_cell, loaded_value, normal, put, reached, reached_by, stored};

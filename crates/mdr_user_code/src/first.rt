@@ -6,7 +6,7 @@ ghost use Rattle.mdr_meaning.specs.Numbers.{is_same_type, number_in};
 ghost use Rattle.mdr_plain.specs.Storage.{first_memory, global_block, global_blocks};
 
 use crate::values::wires_of;
-use mdr_core::{GlobalDef, Items, OutOfMemory, Program, Ty, same_type};
+use mdr_core::{GlobalDef, Items, Limit, OutOfMemory, Program, Ty, same_type};
 use mdr_model::{BirthKind, MemoryBlock, New};
 use std::alloc::Global;
 
@@ -34,7 +34,7 @@ fn number_fits(number: usize) -> Result<u32, OutOfMemory>
 {
     match u32::try_from(number) {
         Ok(n) => Ok(n),
-        Err(_) => Err(OutOfMemory),
+        Err(_) => Err(Limit::Unmet.past()),
     }
 }
 

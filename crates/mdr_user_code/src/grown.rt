@@ -11,7 +11,7 @@ ghost use Rattle.mdr_split.specs.User.{cells_of_news};
 
 use crate::keys::is_touched;
 use mdr_copy::is_live;
-use mdr_core::{Items, Key, OutOfMemory, Program, cells_of};
+use mdr_core::{Items, Key, Limit, OutOfMemory, Program, cells_of};
 use mdr_model::{Cell, MemoryBlock, New};
 use std::alloc::Global;
 
@@ -83,7 +83,7 @@ fn put_own(
 {
     match size_of(program, block) {
         Some(size) => put_all_touched(out, program, touched, block, size),
-        None => Err(OutOfMemory),
+        None => Err(Limit::Unmet.past()),
     }
 }
 

@@ -6,7 +6,7 @@ ghost use Rattle.mdr_user_code.specs.Copied.{copied};
 use crate::access::{fresh, loaded, stored};
 use crate::bytes::read;
 use mdr_core::{Items, StopKind, Value};
-use mdr_exec::{Integer, Memory};
+use mdr_events::{Integer, Memory};
 use mdr_meaning::Shape64;
 use mdr_model::{Cell, MemoryBlock};
 use std::alloc::{AllocError, Global};

@@ -18,7 +18,7 @@ use mdr_model::{MemoryBlock, Message, New, Told, Wire};
 use std::alloc::Global;
 
 /// User code that goes on: its ticks, the blocks that came in an answer to service 13 and live, and what it sees.
-#[derive(Debug, Drop)]
+#[derive(Drop)]
 pub struct Turn {
     pub rest: u64,
     pub entered: Items<u64>,
@@ -26,7 +26,7 @@ pub struct Turn {
 }
 
 /// A message is refused, for a reason, or user code goes on.
-#[derive(Debug, Drop)]
+#[derive(Drop)]
 pub enum Opening {
     Refuses(u32),
     Goes(Turn),

@@ -1,7 +1,7 @@
 // The machine is made ready for a message: a function is started in it, or it goes on with answers.
 
 ghost use Rattle.std.specs.Prelude.{◌≡◌, [], ◌∷◌, Some, IfOk, IsTrue, OnOk, option_copied, slice_get};
-ghost use Rattle.mdr_exec.specs.Holding.{wires_of};
+ghost use Rattle.mdr_events.specs.Values.{wires_of};
 ghost use Rattle.mdr_meaning.specs.Bodies.{body_of};
 ghost use Rattle.mdr_meaning.specs.Sides.{Body};
 ghost use Rattle.mdr_user_code.specs.Replying.{IsResumed, IsStarted, Prepared, Resumed, is_ready};
@@ -11,7 +11,7 @@ use crate::scene::Scene;
 use crate::sight::is_user;
 use crate::state::State;
 use crate::values::values_of;
-use mdr_core::{Func, OutOfMemory, Program, Value};
+use mdr_core::{Func, Limit, OutOfMemory, Program, Value};
 use mdr_exec::{Front, Machine, Side};
 use mdr_model::{Message, Wire};
 use std::alloc::Global;
@@ -48,13 +48,13 @@ fn started(
     ensures { IfOk result (λ m. IsStarted (driver_in scene.entry) func args.now depth m) }
 {
     if !is_user(scene.plan, func) {
-        return Err(OutOfMemory);
+        return Err(Limit::Unmet.past());
     }
     if !has_body(scene.program, func) {
-        return Err(OutOfMemory);
+        return Err(Limit::Unmet.past());
     }
     if depth > 255 {
-        return Err(OutOfMemory);
+        return Err(Limit::Unmet.past());
     }
     let values = values_of(alloc, args)?;
     let mut machine = Machine::new(alloc, Side::User);
@@ -103,7 +103,7 @@ fn resume(machine: &mut Machine, results: &[Value]) -> Result<(), OutOfMemory>
     ensures { OnOk result (IsResumed (wires_of results.now) machine.old machine.new) }
 {
     if !is_ready(&machine.front, results) {
-        return Err(OutOfMemory);
+        return Err(Limit::Unmet.past());
     }
     machine.resume(results);
     Ok(())
@@ -143,10 +143,10 @@ pub(crate) fn prepare(
         } => start(alloc, scene, state, *func, args.as_slice(), *depth),
         Message::Back { result, .. } => give_back(alloc, state, *result),
         Message::Answer { results, .. } => answer(alloc, state, results.as_slice()),
-        Message::Return { .. } => Err(OutOfMemory),
-        Message::Down { .. } => Err(OutOfMemory),
-        Message::Ask { .. } => Err(OutOfMemory),
-        Message::Stop { .. } => Err(OutOfMemory),
-        Message::Refuse { .. } => Err(OutOfMemory),
+        Message::Return { .. } => Err(Limit::Unmet.past()),
+        Message::Down { .. } => Err(Limit::Unmet.past()),
+        Message::Ask { .. } => Err(Limit::Unmet.past()),
+        Message::Stop { .. } => Err(Limit::Unmet.past()),
+        Message::Refuse { .. } => Err(Limit::Unmet.past()),
     }
 }

@@ -1,7 +1,7 @@
 // The reply of an event, and what is open behind it.
 
 ghost use Rattle.std.specs.Prelude.{◌≡◌, ◌≤◌, ◌-◌, map, IfOk, OnOk};
-ghost use Rattle.mdr_exec.specs.Holding.{wires_of};
+ghost use Rattle.mdr_events.specs.Values.{wires_of};
 ghost use Rattle.mdr_meaning.specs.Values.{wire_of};
 ghost use Rattle.mdr_model.specs.declared.message.Message.TheVariants as message;
 ghost use Rattle.mdr_model.specs.Copies.{changes, put_runs};
@@ -15,7 +15,7 @@ use crate::state::{Awaits, Question, State};
 use crate::values::wires_of;
 use mdr_copy::{changes, normal, normals, wire_of};
 use mdr_core::{Items, OutOfMemory, StopKind, Value};
-use mdr_exec::{Asked, Crossing, Event};
+use mdr_events::{Asked, Crossing, Event};
 use mdr_model::{MemoryBlock, Message, Run, Wire};
 use std::alloc::Global;
 

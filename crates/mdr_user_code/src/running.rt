@@ -2,7 +2,7 @@
 
 ghost use Rattle.std.specs.Prelude.{◌≡◌, ◌≤◌, ◌-◌, IfOk, OnOk};
 ghost use Rattle.mdr_core.specs.Sound.{IsSound};
-ghost use Rattle.mdr_exec.specs.Going.{RanTo};
+ghost use Rattle.mdr_events.specs.Going.{RanTo};
 ghost use Rattle.mdr_exec.specs.Holding.{held_of};
 ghost use Rattle.mdr_user_code.specs.Copied.{copy_accesses};
 ghost use Rattle.mdr_user_code.specs.Replying.{RunReplies};
@@ -15,7 +15,8 @@ use crate::sight::Sight;
 use crate::state::State;
 use mdr_copy::copied;
 use mdr_core::OutOfMemory;
-use mdr_exec::{Event, Machine, Side};
+use mdr_events::Event;
+use mdr_exec::{Machine, Side};
 use mdr_model::Message;
 use std::alloc::Global;
 
@@ -36,7 +37,7 @@ fn go(
     let halves = scene.plan.halves.as_slice();
     match machine.go(alloc, scene.program, halves, memory, ticks) {
         Ok(event) => Ok(event),
-        Err(_) => Err(OutOfMemory),
+        Err(error) => Err(error.into()),
     }
 }
 

@@ -21,7 +21,7 @@ use mdr_model::{Cell, MemoryBlock, New, Run, Told, Wire};
 use std::alloc::Global;
 
 /// The cells that user code may touch from now on, and the agreed copy.
-#[derive(Debug, Drop)]
+#[derive(Drop)]
 pub struct Sight {
     pub view: Items<Cell>,
     pub copy: Items<MemoryBlock>,

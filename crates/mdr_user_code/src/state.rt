@@ -6,7 +6,7 @@ use mdr_meaning::Shape64;
 use mdr_model::{Cell, MemoryBlock, Wire};
 
 /// A service that was asked for.
-#[derive(Debug, Drop)]
+#[derive(Drop)]
 pub struct Question {
     pub service: u32,
     pub at: At,
@@ -16,7 +16,7 @@ pub struct Question {
 }
 
 /// What is open.
-#[derive(Debug, Drop)]
+#[derive(Drop)]
 pub enum Awaits {
     Nothing,
     /// A downcall of a function.
@@ -27,7 +27,7 @@ pub enum Awaits {
 
 /// What the user half keeps between messages: the agreed copy, the code that waits, the function that the open upcall called,
 /// the blocks that came in an answer to service 13 and live, the visible cells, and what is awaited.
-#[derive(Debug, Drop)]
+#[derive(Drop)]
 pub struct State {
     pub(crate) agreed: Items<MemoryBlock>,
     pub(crate) machine: Machine,

@@ -1,3 +1,4 @@
+-- protocol
 -- What code does where a set is in the world of a run, and where it is kept beside it.
 use Rattle.std.specs.Prelude.{◌≡◌, ℕ, Bool, List, [], ◌++◌, Ok}
 use Rattle.mdr_core.specs.declared.place.At.{At}

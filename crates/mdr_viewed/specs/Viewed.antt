@@ -1,3 +1,4 @@
+-- protocol
 -- A set of cells beside the world of a run in which an upcall is open, and the world with the set in it.
 use Rattle.std.specs.Prelude.{◌≡◌, ◌<◌, true, false, Bool, List, [], ◌∷◌, Result, Ok, Err}
 use Rattle.mdr_core.specs.declared.stop.StopKind.{StopKind}

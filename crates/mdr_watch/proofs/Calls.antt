@@ -6,9 +6,9 @@ use Rattle.mdr_core.specs.declared.plan.Key.{Key}
 use Rattle.mdr_core.specs.declared.program.Program.{Program}
 use Rattle.mdr_core.specs.declared.stop.StopKind.{StopKind}
 use Rattle.mdr_core.specs.declared.value.Value.{Value}
-use Rattle.mdr_exec.specs.declared.event.Asked.{Asked as Question}
-use Rattle.mdr_exec.specs.declared.event.Crossing.{Crossing as Call}
-use Rattle.mdr_exec.specs.Events.{asked_as}
+use Rattle.mdr_events.specs.declared.event.Asked.{Asked as Question}
+use Rattle.mdr_events.specs.declared.event.Crossing.{Crossing as Call}
+use Rattle.mdr_events.specs.Events.{asked_as}
 use Rattle.mdr_extents.specs.CellOrder.{cells}
 use Rattle.mdr_extents.specs.Reaching.{Roots, visible}
 use Rattle.mdr_mem.specs.Contents.{births_in}
@@ -27,7 +27,7 @@ use Rattle.mdr_reach.specs.Answers.{answered}
 use Rattle.mdr_services.specs.declared.answer.Served.{Served}
 use Rattle.mdr_services.specs.declared.answer.Served.TheVariants as served_is
 use Rattle.mdr_services.specs.Serving.{served_as}
-use Rattle.mdr_exec.specs.Holding.{wires_of}
+use Rattle.mdr_events.specs.Values.{wires_of}
 use Rattle.mdr_viewed.specs.Laws.{asks, goes_down, returns}
 use Rattle.mdr_viewed.specs.Viewed.{IsOlder, IsOrdered, after_beside, viewed}
 use Rattle.mdr_viewed.proofs.KernelCode.{kernel_code_is_viewed}

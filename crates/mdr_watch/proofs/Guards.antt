@@ -6,9 +6,9 @@ use Rattle.mdr_core.specs.declared.program.Program.{Program}
 use Rattle.mdr_core.specs.declared.stop.StopKind.{StopKind}
 use Rattle.mdr_core.specs.declared.stop.StopKind.TheVariants as stop
 use Rattle.mdr_extents.specs.CellOrder.{cells}
-use Rattle.mdr_exec.specs.declared.integer.Integer.{Integer}
-use Rattle.mdr_exec.specs.Integers.{FirstBecomes, FirstIs, IsFirst, integer_wire}
-use Rattle.mdr_exec.specs.Outcomes.{when_made}
+use Rattle.mdr_events.specs.declared.integer.Integer.{Integer}
+use Rattle.mdr_events.specs.Integers.{FirstBecomes, FirstIs, IsFirst, integer_wire}
+use Rattle.mdr_events.specs.Outcomes.{when_made}
 use Rattle.mdr_meaning.specs.declared.wire.Wire.{Wire}
 use Rattle.mdr_meaning.specs.declared.wire.Wire.TheVariants as wire
 use Rattle.mdr_meaning.specs.declared.wire.WireView.{WireView}

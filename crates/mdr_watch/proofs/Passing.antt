@@ -3,7 +3,7 @@ use Rattle.std.proofs.Common.{◌≡◌, ℕ, ◌+◌, ◌<◌, ◌≤◌, List,
 use Rattle.std.proofs.lemmas.List.{at_drop_all, at_drop_more}
 use Rattle.mdr_core.specs.declared.program.Param.{Param}
 use Rattle.mdr_core.specs.declared.value.Value.{Value}
-use Rattle.mdr_exec.specs.Holding.{wires_of}
+use Rattle.mdr_events.specs.Values.{wires_of}
 use Rattle.mdr_extents.specs.Reaching as reaching
 use Rattle.mdr_reach.specs.declared.roots.Root.{Root}
 use Rattle.mdr_reach.specs.Answers.{root_of}

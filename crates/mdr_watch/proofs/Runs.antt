@@ -18,7 +18,7 @@ use Rattle.mdr_plain.specs.Plain.{does as plainly_does}
 use Rattle.mdr_plain.specs.Running.{KernelCode, interrupts, nothing}
 use Rattle.mdr_plain.specs.declared.outcome.Outcome.{Outcome}
 use Rattle.mdr_plain.specs.Scripts.{Finish, and_then, begin, begun, commands, finish, first_world, returned}
-use Rattle.mdr_script.specs.declared.bound.Bound.{Bound}
+use Rattle.mdr_bound.specs.declared.bound.Bound.{Bound}
 use Rattle.mdr_meaning.specs.Bodies.{kernel_side, known_of}
 use Rattle.mdr_plain.specs.World.{World, Ran, Ended, Stopped, Work}
 use Rattle.mdr_runs.proofs.Standing.{call_is_started}

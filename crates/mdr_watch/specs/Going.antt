@@ -1,11 +1,12 @@
+-- protocol
 -- A machine that runs user code up to its next event.
 use Rattle.std.specs.Prelude.{◌≡◌, ◌+◌, ◌≤◌, ℕ, List}
 use Rattle.mdr_core.specs.declared.place.At.{At}
 use Rattle.mdr_core.specs.declared.program.Program.{Program}
-use Rattle.mdr_exec.specs.declared.event.Event.{Event}
-use Rattle.mdr_exec.specs.declared.event.Event.TheVariants as event
+use Rattle.mdr_events.specs.declared.event.Event.{Event}
+use Rattle.mdr_events.specs.declared.event.Event.TheVariants as event
+use Rattle.mdr_events.specs.Held.{Held, tree}
 use Rattle.mdr_exec.specs.declared.frame.Machine.{Machine}
-use Rattle.mdr_exec.specs.Held.{Held, tree}
 use Rattle.mdr_exec.specs.Holding.{held_of}
 use Rattle.mdr_meaning.specs.declared.wire.Wire.{Wire}
 use Rattle.mdr_meaning.specs.Bodies.{started}

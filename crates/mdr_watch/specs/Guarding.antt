@@ -1,3 +1,4 @@
+-- protocol
 -- Memory that is held to a set of cells.
 use Rattle.std.specs.Prelude.{ℕ, ◌+◌, Bool, false, not, ◌&&◌, List, nat_le, nat_lt}
 use Rattle.std.specs.List.{list_all}

@@ -1,3 +1,4 @@
+-- protocol
 -- What work in a watched run comes to. Where it stopped a set may be left in the world, of which nothing is shown.
 use Rattle.std.specs.Prelude.{◌≡◌, List}
 use Rattle.mdr_meaning.specs.declared.wire.Wire.{Wire}

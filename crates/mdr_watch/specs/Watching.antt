@@ -1,3 +1,4 @@
+-- protocol
 -- The driver that is watched.
 use Rattle.std.specs.Prelude.{◌≡◌, false, length}
 use Rattle.mdr_core.specs.declared.plan.Plan.{Plan}

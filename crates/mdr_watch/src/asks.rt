@@ -2,7 +2,7 @@
 
 ghost use Rattle.std.specs.Prelude.{◌≡◌, ◌≤◌, ◌++◌, IfOk, OnOk};
 ghost use Rattle.mdr_core.specs.Sound.{IsSound};
-ghost use Rattle.mdr_exec.specs.Events.{asked_as};
+ghost use Rattle.mdr_events.specs.Events.{asked_as};
 ghost use Rattle.mdr_mem.specs.Contents.{births_in};
 ghost use Rattle.mdr_reach.specs.Answers.{IsOlder};
 ghost use Rattle.mdr_services.specs.Serving.{served_as};
@@ -17,7 +17,7 @@ use crate::guarded::{Guarded, forget};
 use crate::watch::{Upcall, touched};
 use mdr_cells::CellSet;
 use mdr_core::OutOfMemory;
-use mdr_exec::Asked;
+use mdr_events::Asked;
 use mdr_mem::Blocks;
 use mdr_reach::gained;
 use mdr_services::{Served, serve};

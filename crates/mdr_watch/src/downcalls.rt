@@ -2,7 +2,7 @@
 
 ghost use Rattle.std.specs.Prelude.{◌≡◌, IfOk, OnOk, map};
 ghost use Rattle.mdr_core.specs.Sound.{IsSound};
-ghost use Rattle.mdr_exec.specs.Holding.{wires_of};
+ghost use Rattle.mdr_events.specs.Values.{wires_of};
 ghost use Rattle.mdr_meaning.specs.Values.{wire_of};
 ghost use Rattle.mdr_model.specs.Memory.{normal};
 ghost use Rattle.mdr_watch.specs.Guarding.{IsGuarded};
@@ -17,7 +17,7 @@ use crate::roots::result_root;
 use crate::watch::{Upcall, kernel_code, touched};
 use mdr_cells::CellSet;
 use mdr_core::{Items, OutOfMemory, StopKind, Value};
-use mdr_exec::Crossing;
+use mdr_events::Crossing;
 use mdr_reach::visible;
 use mdr_whole::{Gave, Nothing, call};
 use mdr_world::World;

@@ -12,7 +12,7 @@ ghost use Rattle.mdr_watch.specs.Guarding.{IsGuarded};
 use crate::kept_out::{are_kept_out, is_kept_out};
 use mdr_cells::CellSet;
 use mdr_core::{Items, StopKind, Value};
-use mdr_exec::{Integer, Memory};
+use mdr_events::{Integer, Memory};
 use mdr_meaning::Shape64;
 use mdr_world::World;
 use std::alloc::{AllocError, Global};

@@ -2,7 +2,7 @@
 
 ghost use Rattle.std.specs.Prelude.{◌≡◌, ◌++◌, List, map, IfOk, OnOk};
 ghost use Rattle.mdr_core.specs.declared.value.Value.{Value as AnyValue};
-ghost use Rattle.mdr_exec.specs.Holding.{wires_of};
+ghost use Rattle.mdr_events.specs.Values.{wires_of};
 ghost use Rattle.mdr_meaning.specs.Values.{wire_of};
 ghost use Rattle.mdr_reach.specs.Answers.{root_of, roots_of};
 ghost use Rattle.mdr_watched.specs.Driver.{entry_roots, param_roots, result_roots};

@@ -2,9 +2,10 @@
 
 ghost use Rattle.std.specs.Prelude.{◌≡◌, ◌-◌, IfOk, OnOk};
 ghost use Rattle.mdr_core.specs.Sound.{IsSound};
-ghost use Rattle.mdr_exec.specs.declared.event.Event.TheVariants as event;
-ghost use Rattle.mdr_exec.specs.Going.{RanTo};
-ghost use Rattle.mdr_exec.specs.Holding.{held_of, wires_of};
+ghost use Rattle.mdr_events.specs.declared.event.Event.TheVariants as event;
+ghost use Rattle.mdr_events.specs.Going.{RanTo};
+ghost use Rattle.mdr_events.specs.Values.{wires_of};
+ghost use Rattle.mdr_exec.specs.Holding.{held_of};
 ghost use Rattle.mdr_whole.specs.Ending.{fits, gave_as};
 ghost use Rattle.mdr_watch.specs.Going.{Began, GoesOn, GoesOnWith, Passed, user_does};
 ghost use Rattle.mdr_watch.specs.Guarding.{guarded_accesses};
@@ -14,8 +15,9 @@ use crate::asks::ask;
 use crate::downcalls::downcall;
 use crate::guarded::Guarded;
 use crate::watch::Upcall;
-use mdr_core::{At, OutOfMemory, StopKind, Value};
-use mdr_exec::{Asked, Crossing, Event, Front, Machine, Side};
+use mdr_core::{At, Limit, OutOfMemory, StopKind, Value};
+use mdr_events::{Asked, Crossing, Event};
+use mdr_exec::{Front, Machine, Side};
 use mdr_services::Served;
 use mdr_whole::{Gave, Next};
 use std::alloc::Global;
@@ -36,7 +38,7 @@ fn go(
     let halves = upcall.watch.plan.halves.as_slice();
     match machine.go(alloc, upcall.watch.program, halves, guarded, ticks) {
         Ok(event) => Ok(event),
-        Err(_) => Err(OutOfMemory),
+        Err(error) => Err(error.into()),
     }
 }
 
@@ -124,7 +126,7 @@ fn resume(
     ensures { IfOk result (λ n. GoesOnWith upcall.entry (wires_of results.now) machine.old guarded.old machine.new n guarded.new) }
 {
     if !fits(&machine.front, results) {
-        return Err(OutOfMemory);
+        return Err(Limit::Unmet.past());
     }
     machine.resume(results);
     let event = begin(machine, alloc, upcall, guarded)?;
@@ -233,5 +235,5 @@ pub(crate) fn run(
         }
     }
     drop(event);
-    Err(OutOfMemory)
+    Err(Limit::Turns.past())
 }

@@ -2,7 +2,7 @@
 
 ghost use Rattle.std.specs.Prelude.{◌≡◌, [], Some, IfOk, IsTrue, slice_get};
 ghost use Rattle.mdr_core.specs.Sound.{IsSound};
-ghost use Rattle.mdr_exec.specs.Holding.{wires_of};
+ghost use Rattle.mdr_events.specs.Values.{wires_of};
 ghost use Rattle.mdr_extents.specs.Reaching.{visible};
 ghost use Rattle.mdr_meaning.specs.Bodies.{body_of};
 ghost use Rattle.mdr_meaning.specs.Sides.{Body};
@@ -21,7 +21,7 @@ use crate::roots::entry_roots;
 use crate::turn::run;
 use crate::watch::{Upcall, func_at, is_user, touched};
 use mdr_cells::CellSet;
-use mdr_core::{At, OutOfMemory, Program, StopKind, Value};
+use mdr_core::{At, Limit, OutOfMemory, Program, StopKind, Value};
 use mdr_exec::{Machine, Side};
 use mdr_reach::{Failing, visible};
 use mdr_whole::Gave;
@@ -48,10 +48,10 @@ fn started(alloc: Global, upcall: Upcall, args: &[Value]) -> Result<Machine, Out
     ensures { IfOk result (λ m. IsStarted upcall.entry (wires_of args.now) m) }
 {
     if !is_user(upcall.watch.plan, upcall.func) {
-        return Err(OutOfMemory);
+        return Err(Limit::Unmet.past());
     }
     if !has_body(upcall.watch.program, upcall.func) {
-        return Err(OutOfMemory);
+        return Err(Limit::Unmet.past());
     }
     let mut machine = Machine::new(alloc, Side::User);
     machine.start(alloc, upcall.watch.program, upcall.func, args, 0)?;
@@ -152,7 +152,7 @@ pub(crate) fn call_user<'a>(
 {
     if world.is_in_user() {
         drop(world);
-        return Err(OutOfMemory);
+        return Err(Limit::Unmet.past());
     }
     match first_set(alloc, upcall, args, &world) {
         Ok(Ok(set)) => enter(alloc, upcall, args, set, world),

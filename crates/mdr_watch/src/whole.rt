@@ -9,10 +9,10 @@ ghost use Rattle.mdr_whole.specs.Ending.{end_of};
 
 use crate::commands::{Did, do_commands};
 use crate::watch::{Watch, is_fit};
-use mdr_core::{OutOfMemory, Plan, Program};
+use mdr_bound::Bound;
+use mdr_core::{Limit, OutOfMemory, Plan, Program};
 use mdr_model::End;
 use mdr_plain::Outcome;
-use mdr_script::Bound;
 use mdr_shown::outcome;
 use mdr_whole::Worked;
 use mdr_world::World;
@@ -53,7 +53,7 @@ pub fn run_watched(
 {
     let watch = Watch { program, plan };
     if !is_fit(watch) {
-        return Err(OutOfMemory);
+        return Err(Limit::Unmet.past());
     }
     let world = World::new(alloc, program, script, ticks)?;
     let did = do_commands(alloc, watch, world, script.commands.as_slice())?;

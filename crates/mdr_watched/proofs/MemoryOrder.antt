@@ -32,7 +32,7 @@ use Rattle.mdr_paths.proofs.ReachLaws.{path_counts}
 use Rattle.mdr_plain.specs.Scripts.{first_world}
 use Rattle.mdr_plain.specs.Storage.{birth_of, born, died, first_memory, global_block, global_blocks, new_of, next_serial, with_memory, without}
 use Rattle.mdr_plain.specs.World.{World}
-use Rattle.mdr_script.specs.declared.bound.Bound.{Bound}
+use Rattle.mdr_bound.specs.declared.bound.Bound.{Bound}
 use Rattle.mdr_watched.specs.Order.{AllAreLive, AreLive, IsInOrder}
 use Rattle.mdr_watched.specs.Views.{below, new_cells, top}
 use Rattle.mdr_watched.proofs.KeepLaws.{IsKept, IsKeptAround, IsKeptInside}

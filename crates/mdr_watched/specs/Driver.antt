@@ -1,3 +1,4 @@
+-- believed
 -- A driver in two halves, and what a call passes to it.
 use Rattle.std.specs.Prelude.{ℕ, Bool, true, false, not, List, [], ◌∷◌, Option, Some, None, slice_get, unwrap_or}
 use Rattle.mdr_core.specs.declared.plan.Half.{Half}

@@ -1,3 +1,4 @@
+-- for proofs
 -- Where annotations are kept and no interrupt meets user code.
 use Rattle.std.specs.Prelude.{◌≡◌, ℕ, [], Option, Some, None}
 use Rattle.mdr_core.specs.declared.plan.Plan.{Plan}
@@ -9,7 +10,7 @@ use Rattle.mdr_plain.specs.Gate.{are_none, due}
 use Rattle.mdr_plain.specs.Running.{Before, KernelCode, interrupts}
 use Rattle.mdr_plain.specs.Scripts.{Finish, commands, first_world}
 use Rattle.mdr_plain.specs.World.{World, Stopped, Work, done}
-use Rattle.mdr_script.specs.declared.bound.Bound.{Bound}
+use Rattle.mdr_bound.specs.declared.bound.Bound.{Bound}
 use Rattle.mdr_watched.specs.Driver.{Driver, driver_of}
 use Rattle.mdr_watched.specs.Watched.{Tries, does, kernel_of}
 

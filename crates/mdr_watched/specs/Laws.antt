@@ -1,3 +1,4 @@
+-- for proofs
 -- Laws of watched runs.
 use Rattle.std.specs.Prelude.{◌≡◌, ◌↔◌, ◌<◌, ℕ, true, false, List, [], ◌∷◌, length, None, Err}
 use Rattle.mdr_access.specs.Keys.{AreKeys, HasEach, IsPlan}
@@ -14,7 +15,7 @@ use Rattle.mdr_model.specs.Memory.{cell_of, is_live, reached}
 use Rattle.mdr_plain.specs.Gate.{due}
 use Rattle.mdr_plain.specs.Storage.{died}
 use Rattle.mdr_plain.specs.World.{World, Ended}
-use Rattle.mdr_script.specs.declared.bound.Bound.{Bound}
+use Rattle.mdr_bound.specs.declared.bound.Bound.{Bound}
 use Rattle.mdr_watched.specs.Driver.{Driver, is_user, touched_by}
 use Rattle.mdr_watched.specs.Kept.{KeptOf, followed_of}
 use Rattle.mdr_watched.specs.Views.{may_touch}

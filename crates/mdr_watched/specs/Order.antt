@@ -1,3 +1,4 @@
+-- believed
 -- What holds of a run's state at any time: serials rise, and visible cells are live.
 use Rattle.std.specs.Prelude.{◌≡◌, ℕ, true, List, [], ◌∷◌}
 use Rattle.mdr_core.specs.declared.place.At.{At}
@@ -13,7 +14,7 @@ use Rattle.mdr_plain.specs.Running.{call, interrupts}
 use Rattle.mdr_plain.specs.Scripts.{first_world}
 use Rattle.mdr_plain.specs.Storage.{next_serial}
 use Rattle.mdr_plain.specs.World.{World, left}
-use Rattle.mdr_script.specs.declared.bound.Bound.{Bound}
+use Rattle.mdr_bound.specs.declared.bound.Bound.{Bound}
 use Rattle.mdr_watched.specs.Driver.{Driver}
 use Rattle.mdr_watched.specs.Watched.{downcall, held, kernel_of, serves, upcall, watched_of}
 

@@ -1,3 +1,4 @@
+-- believed
 -- The visible sets of open upcalls, in a run's state.
 use Rattle.std.specs.Prelude.{ℕ, nat_lt, Bool, List, [], ◌∷◌, ◌++◌, filter, Some, Result, Ok, Err}
 use Rattle.mdr_core.specs.declared.place.At.{At}

@@ -1,3 +1,4 @@
+-- believed
 -- The watched meaning of a driver and a script: on one memory, while user code is held to the cells that its annotations let it touch.
 use Rattle.std.specs.Prelude.{ℕ, suc, List, [], map}
 use Rattle.mdr_core.specs.declared.place.At.{At}
@@ -11,7 +12,7 @@ use Rattle.mdr_meaning.specs.Tree.{Asked, Tree}
 use Rattle.mdr_model.specs.declared.command.Command.{Command}
 use Rattle.mdr_model.specs.declared.memory.Cell.{Cell}
 use Rattle.mdr_model.specs.Memory.{normal}
-use Rattle.mdr_script.specs.declared.bound.Bound.{Bound}
+use Rattle.mdr_bound.specs.declared.bound.Bound.{Bound}
 use Rattle.mdr_plain.specs.Plain.{never}
 use Rattle.mdr_plain.specs.Running.{Before, KernelCode, Setting, call, in_kernel, interrupts, nothing, run}
 use Rattle.mdr_plain.specs.Scripts.{Finish, begin, commands, first_world, in_place}

@@ -1,3 +1,4 @@
+-- for proofs
 -- Small drivers in two halves, worked out: what their watched runs show.
 use Rattle.std.specs.Prelude.{◌≡◌, ℕ, Bool, true, false, List, [], ◌∷◌, map, get_or, codes, pos, Some, None, slice_get}
 use Rattle.mdr_core.specs.declared.kind.Kind.TheVariants.{U32, U64, S8}
@@ -32,7 +33,7 @@ use Rattle.mdr_model.specs.declared.outcome.End.TheVariants as ends
 use Rattle.mdr_model.specs.declared.outcome.Object.{Object}
 use Rattle.mdr_model.specs.declared.outcome.Seen.{Seen}
 use Rattle.mdr_model.specs.declared.outcome.Seen.TheVariants as seen
-use Rattle.mdr_script.specs.declared.bound.Bound.{Bound}
+use Rattle.mdr_bound.specs.declared.bound.Bound.{Bound}
 use Rattle.mdr_plain.specs.declared.outcome.Happened.{Happened}
 use Rattle.mdr_plain.specs.declared.outcome.Happened.TheVariants as happened
 use Rattle.mdr_plain.specs.declared.outcome.Outcome.{Outcome}

@@ -13,7 +13,7 @@ use Rattle.mdr_plain.specs.Outcome.{outcome_of}
 use Rattle.mdr_plain.specs.Plain.{does, plain, plain_of, whole}
 use Rattle.mdr_plain.specs.Running.{KernelCode, interrupts}
 use Rattle.mdr_plain.specs.Scripts.{commands, finish, first_world, idle}
-use Rattle.mdr_script.specs.declared.bound.Bound.{Bound}
+use Rattle.mdr_bound.specs.declared.bound.Bound.{Bound}
 use Rattle.mdr_plain.specs.World.{Stopped, Work, done}
 use Rattle.mdr_runs.specs.Scripts.{idle_tick}
 use Rattle.mdr_runs.proofs.Commands.{idle_begins, idle_ends, idle_passes, idle_stops}

@@ -8,17 +8,18 @@ use Rattle.mdr_core.specs.declared.program.Program.{Program}
 use Rattle.mdr_core.specs.declared.stop.StopKind.{StopKind}
 use Rattle.mdr_core.specs.declared.stop.StopKind.TheVariants as stop
 use Rattle.mdr_core.specs.declared.value.Value.{Value}
-use Rattle.mdr_exec.specs.declared.event.Asked.{Asked as Question}
-use Rattle.mdr_exec.specs.declared.event.Event.{Event}
-use Rattle.mdr_exec.specs.declared.event.Event.TheVariants as event
+use Rattle.mdr_events.specs.declared.event.Asked.{Asked as Question}
+use Rattle.mdr_events.specs.declared.event.Event.{Event}
+use Rattle.mdr_events.specs.declared.event.Event.TheVariants as event
+use Rattle.mdr_events.specs.Events.{asked_as}
+use Rattle.mdr_events.specs.Going.{RanTo}
+use Rattle.mdr_events.specs.Held.{tree}
+use Rattle.mdr_events.specs.Steps.{child}
+use Rattle.mdr_events.specs.Values.{wires_of}
 use Rattle.mdr_exec.specs.declared.frame.Front.{Front}
 use Rattle.mdr_exec.specs.declared.frame.Front.TheVariants as front
 use Rattle.mdr_exec.specs.declared.frame.Machine.{Machine}
-use Rattle.mdr_exec.specs.Events.{asked_as}
-use Rattle.mdr_exec.specs.Going.{RanTo}
-use Rattle.mdr_exec.specs.Held.{tree}
-use Rattle.mdr_exec.specs.Holding.{FitQuestion, held_of, waits, wires_of}
-use Rattle.mdr_exec.specs.Steps.{child}
+use Rattle.mdr_exec.specs.Holding.{FitQuestion, held_of, waits}
 use Rattle.mdr_meaning.specs.declared.wire.Wire.{Wire}
 use Rattle.mdr_meaning.specs.Bodies.{body_by, body_from, body_of, started}
 use Rattle.mdr_meaning.specs.Cut.{cut}

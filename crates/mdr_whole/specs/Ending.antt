@@ -1,3 +1,4 @@
+-- protocol
 -- What work in a run comes to, as definitions have it.
 use Rattle.std.specs.Prelude.{Bool, List, ◌==◌, length}
 use Rattle.mdr_core.specs.declared.value.Value.{Value}

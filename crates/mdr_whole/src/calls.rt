@@ -2,8 +2,8 @@
 
 ghost use Rattle.std.specs.Prelude.{◌≡◌, Some, IfOk, OnOk, IsTrue, option_copied, slice_get};
 ghost use Rattle.mdr_core.specs.Sound.{IsSound};
+ghost use Rattle.mdr_events.specs.Values.{wires_of};
 ghost use Rattle.mdr_exec.specs.Halves.{is_kernel, is_own};
-ghost use Rattle.mdr_exec.specs.Holding.{wires_of};
 ghost use Rattle.mdr_meaning.specs.Bodies.{body_of};
 ghost use Rattle.mdr_meaning.specs.Sides.{Body};
 ghost use Rattle.mdr_plain.specs.Running.{call};
@@ -15,7 +15,7 @@ use crate::before::Before;
 use crate::code::Code;
 use crate::ending::Gave;
 use crate::turn::run;
-use mdr_core::{Func, Half, OutOfMemory, Program, Value};
+use mdr_core::{Func, Half, Limit, OutOfMemory, Program, Value};
 use mdr_exec::{Machine, Side};
 use mdr_world::World;
 use std::alloc::Global;
@@ -78,13 +78,13 @@ fn started(
     ensures { IfOk result (λ m. IsStarted code.entry.program.now (side_of code.entry) func (wires_of args.now) depth m) }
 {
     if !is_among(code, func) {
-        return Err(OutOfMemory);
+        return Err(Limit::Unmet.past());
     }
     if !has_body(code.program, func) {
-        return Err(OutOfMemory);
+        return Err(Limit::Unmet.past());
     }
     if depth == u32::MAX {
-        return Err(OutOfMemory);
+        return Err(Limit::Unmet.past());
     }
     let mut machine = Machine::new(alloc, code.side);
     machine.start(alloc, code.program, func, args, depth)?;

@@ -1,7 +1,7 @@
 // What follows an event of running code.
 
 use crate::ending::Gave;
-use mdr_exec::Event;
+use mdr_events::Event;
 
 /// The next event, or what the call gives.
 #[derive(Drop)]

@@ -2,9 +2,10 @@
 
 ghost use Rattle.std.specs.Prelude.{◌≡◌, ◌≤◌, ◌-◌, true, IfOk, OnOk, IsTrue};
 ghost use Rattle.mdr_core.specs.Sound.{IsSound};
-ghost use Rattle.mdr_exec.specs.declared.event.Event.TheVariants as event;
-ghost use Rattle.mdr_exec.specs.Going.{RanTo};
-ghost use Rattle.mdr_exec.specs.Holding.{FitQuestion, held_of, waits, wires_of};
+ghost use Rattle.mdr_events.specs.declared.event.Event.TheVariants as event;
+ghost use Rattle.mdr_events.specs.Going.{RanTo};
+ghost use Rattle.mdr_events.specs.Values.{wires_of};
+ghost use Rattle.mdr_exec.specs.Holding.{FitQuestion, held_of, waits};
 ghost use Rattle.mdr_plain.specs.Laws.{GivesNoTicks};
 ghost use Rattle.mdr_plain.specs.Running.{Before as AnyBefore};
 ghost use Rattle.mdr_runs.specs.Following.{tried_by};
@@ -16,8 +17,9 @@ use crate::before::Before;
 use crate::code::Code;
 use crate::ending::{Gave, Worked};
 use crate::next::Next;
-use mdr_core::{At, Items, OutOfMemory, StopKind, Value};
-use mdr_exec::{Asked, Event, Front, Machine};
+use mdr_core::{At, Items, Limit, OutOfMemory, StopKind, Value};
+use mdr_events::{Asked, Event};
+use mdr_exec::{Front, Machine};
 use mdr_services::{Served, serve};
 use mdr_world::World;
 use std::alloc::Global;
@@ -38,7 +40,7 @@ fn go(
     machine.side = code.side;
     match machine.go(alloc, code.program, code.halves, world, ticks) {
         Ok(event) => Ok(event),
-        Err(_) => Err(OutOfMemory),
+        Err(error) => Err(error.into()),
     }
 }
 
@@ -173,7 +175,7 @@ fn resume(
     ensures { IfOk result (λ e. GoesOnWith code.entry.program.now (side_of code.entry) (wires_of results.now) machine.old world.old machine.new e world.new) }
 {
     if !fits(&machine.front, results) {
-        return Err(OutOfMemory);
+        return Err(Limit::Unmet.past());
     }
     machine.resume(results);
     let event = begin(machine, alloc, code, world)?;
@@ -219,7 +221,7 @@ fn follow<B: Before>(
         Event::Stop(kind, at) => Ok(Next::Gave(Gave::Stopped(*kind, Some(*at)))),
         Event::Service(asked) => answer(machine, alloc, code, world, asked),
         Event::TicksOut(at) => tick::<B>(machine, alloc, code, world, *at),
-        Event::Cross(_) => Err(OutOfMemory),
+        Event::Cross(_) => Err(Limit::Unmet.past()),
     }
 }
 
@@ -261,5 +263,5 @@ pub(crate) fn run<B: Before>(
         }
     }
     drop(event);
-    Err(OutOfMemory)
+    Err(Limit::Turns.past())
 }

@@ -5,8 +5,8 @@ use Rattle.std.proofs.lemmas.Bool.{lt-ltb}
 use Rattle.mdr_core.specs.declared.value.Block.{Block}
 use Rattle.mdr_core.specs.declared.value.Value.{Value}
 use Rattle.mdr_core.specs.declared.value.Value.TheVariants as value
-use Rattle.mdr_exec.specs.declared.integer.Integer.{Integer}
-use Rattle.mdr_exec.specs.Integers.{FirstBecomes, FirstIs, IsFirst, integer_wire}
+use Rattle.mdr_events.specs.declared.integer.Integer.{Integer}
+use Rattle.mdr_events.specs.Integers.{FirstBecomes, FirstIs, IsFirst, integer_wire}
 use Rattle.mdr_mem.specs.Contents.{Contents, IsInOrder, cell_in, current, is_handle, wire_in}
 use Rattle.mdr_meaning.specs.declared.wire.Wire.TheVariants as wire
 use Rattle.mdr_meaning.specs.declared.wire.WireView.{WireView}

@@ -5,6 +5,7 @@ pub mod HandleLaws
 pub mod LockLaws
 pub mod ReachLaws
 pub mod RunLaws
+pub mod SpinLaws
 pub mod StorageLaws
 pub mod WalkLaws
 pub mod ZeroLaws

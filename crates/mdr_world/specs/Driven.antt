@@ -1,3 +1,4 @@
+-- protocol
 -- A driver that runs: what its code does to it.
 use Rattle.std.specs.Prelude.{◌≡◌, ℕ, suc, ◌+◌, Bool, true, false, ◌||◌, List, [], ◌∷◌, Option, Some, None, Result, Ok, Err}
 use Rattle.mdr_core.specs.declared.program.Program.{Program}

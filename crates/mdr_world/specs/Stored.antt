@@ -1,3 +1,4 @@
+-- protocol
 -- A memory beside all births and deaths in it.
 use Rattle.std.specs.Prelude.{◌≡◌, ◌+◌, ◌<◌, ◌^◌, ℕ}
 use Rattle.mdr_core.specs.declared.program.Program.{Program}

@@ -2,8 +2,8 @@
 
 ghost use Rattle.std.specs.Prelude.{◌≡◌, ◌+◌, ◌≤◌, false, IfOk, IfSome, IsTrue, Ok, OnErr, Some, map, nat_le, option_map, slice_get, true};
 ghost use Rattle.mdr_core.specs.declared.value.Value.TheVariants as value;
-ghost use Rattle.mdr_exec.specs.Integers.{IsFirst, integer_wire};
-ghost use Rattle.mdr_exec.specs.Outcomes.{when_made, wired};
+ghost use Rattle.mdr_events.specs.Integers.{IsFirst, integer_wire};
+ghost use Rattle.mdr_events.specs.Outcomes.{when_made, wired};
 ghost use Rattle.mdr_mem.specs.Contents.{cell_in, is_handle};
 ghost use Rattle.mdr_meaning.specs.Values.{natural_of, wire_of, wire_view};
 ghost use Rattle.mdr_model.specs.Memory.{cell_at, cell_of, everywhere, loaded, loaded_cell, loaded_value, normal, put, reached_by, stored};
@@ -16,7 +16,7 @@ ghost use Rattle.mdr_meaning.specs.declared.wire.WireView.{WireView};
 use crate::handles::{handle, held_now, value_now};
 use crate::reach::{Target, reached};
 use mdr_core::{Block, Items, StopKind, Value, View};
-use mdr_exec::Integer;
+use mdr_events::Integer;
 use mdr_mem::{Blocks, Cells};
 use std::alloc::{AllocError, Global};
 

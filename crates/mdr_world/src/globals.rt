@@ -12,7 +12,7 @@ ghost use Rattle.std.specs.Prelude.{◌++◌, ◌∷◌, [], OnOk};
 
 use crate::handles::handle;
 use crate::storage::Storage;
-use mdr_core::{GlobalDef, Items, OutOfMemory, Program, Shape, Ty, Value, View, same_type};
+use mdr_core::{GlobalDef, Items, Limit, OutOfMemory, Program, Shape, Ty, Value, View, same_type};
 use mdr_mem::{Blocks, Cells};
 use mdr_model::BirthKind;
 use std::alloc::Global;
@@ -41,7 +41,7 @@ fn number_fits(number: usize) -> Result<u32, OutOfMemory>
 {
     match u32::try_from(number) {
         Ok(n) => Ok(n),
-        Err(_) => Err(OutOfMemory),
+        Err(_) => Err(Limit::Unmet.past()),
     }
 }
 
@@ -58,7 +58,7 @@ fn placed_view(blocks: &Blocks, p: View) -> Result<Value, OutOfMemory>
             count: p.count,
             index: p.index,
         })),
-        None => Err(OutOfMemory),
+        None => Err(Limit::Unmet.past()),
     }
 }
 

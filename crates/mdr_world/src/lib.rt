@@ -11,6 +11,7 @@ mod lives;
 mod locks;
 mod memory;
 mod reach;
+mod spinning;
 mod storage;
 mod world;
 

@@ -2,7 +2,7 @@
 
 ghost use Rattle.std.specs.Prelude.{◌≡◌, IsTrue, OnErr, option_map, slice_get};
 ghost use Rattle.std.specs.List.{list_any};
-ghost use Rattle.mdr_exec.specs.Outcomes.{when_made};
+ghost use Rattle.mdr_events.specs.Outcomes.{when_made};
 ghost use Rattle.mdr_mem.specs.Contents.{cell_in, is_handle};
 ghost use Rattle.mdr_meaning.specs.Values.{wire_of};
 ghost use Rattle.mdr_meaning.specs.declared.wire.Wire.TheVariants as wire;

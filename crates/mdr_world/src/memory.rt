@@ -3,7 +3,7 @@
 use crate::access;
 use crate::world::World;
 use mdr_core::{Items, StopKind, Value};
-use mdr_exec::{Integer, Memory};
+use mdr_events::{Integer, Memory};
 use mdr_meaning::Shape64;
 use mdr_mem::Cells;
 use mdr_model::BirthKind;

@@ -4,14 +4,15 @@ ghost use Rattle.std.specs.Prelude.{◌≡◌, ◌+◌, ◌==◌, [], ℕ, false
 ghost use Rattle.std.specs.List.{list_any};
 ghost use Rattle.mdr_core.specs.Sound.{IsSound};
 ghost use Rattle.mdr_device.specs.Machines.{Machine, read, written};
-ghost use Rattle.mdr_exec.specs.Holding.{wires_of};
-ghost use Rattle.mdr_exec.specs.Integers.{FirstBecomes};
-ghost use Rattle.mdr_exec.specs.Outcomes.{when_made};
+ghost use Rattle.mdr_events.specs.Integers.{FirstBecomes};
+ghost use Rattle.mdr_events.specs.Outcomes.{when_made};
+ghost use Rattle.mdr_events.specs.Values.{wires_of};
 ghost use Rattle.mdr_meaning.specs.Bodies.{known_of};
 ghost use Rattle.mdr_meaning.specs.Values.{wire_of};
 ghost use Rattle.mdr_mem.specs.Contents.{births_in};
 ghost use Rattle.mdr_model.specs.Agreement.{IsBelow, SerialsRise};
 ghost use Rattle.mdr_model.specs.Memory.{born_at, is_live, normal};
+ghost use Rattle.mdr_plain.specs.Atomic.{is_atomic};
 ghost use Rattle.mdr_plain.specs.Gate.{due, is_open};
 ghost use Rattle.mdr_plain.specs.Locks.{acquire, is_locked, release};
 ghost use Rattle.mdr_plain.specs.Running.{handling, interrupted};
@@ -24,15 +25,16 @@ ghost use Rattle.mdr_world.specs.Driven.{NoneIsDue, Ticks, counted_call, driven_
 use crate::births::{shape_of, zeros};
 use crate::globals::first_storage;
 use crate::handles::{born_now, is_live_now, value_now, values_of};
+use crate::spinning::is_any_spinning;
 use crate::storage::Storage;
 use crate::{access, locks};
-use mdr_core::{Block, Items, OutOfMemory, Program, StopKind, Value, View};
+use mdr_bound::Bound;
+use mdr_core::{Block, Items, Limit, OutOfMemory, Program, StopKind, Value, View};
 use mdr_device::Device;
-use mdr_exec::Integer;
+use mdr_events::Integer;
 use mdr_mem::{Blocks, Cells};
 use mdr_model::{BirthKind, New, Shape64};
 use mdr_plain::Happened;
-use mdr_script::Bound;
 use std::alloc::{AllocError, Global};
 use std::marker::Model;
 
@@ -144,7 +146,7 @@ impl<'a> World<'a> {
         ensures as_before { OnErr result (self.new ≡ self.old) }
     {
         if self.calls == u64::MAX {
-            return Err(OutOfMemory);
+            return Err(Limit::Calls.past());
         }
         self.events.push(event)?;
         self.calls += 1;
@@ -193,7 +195,7 @@ impl<'a> World<'a> {
         ensures as_before { OnErr result (self.new ≡ self.old) }
     {
         if ticks > self.rest {
-            return Err(OutOfMemory);
+            return Err(Limit::Unmet.past());
         }
         self.rest -= ticks;
         self.ticks += ticks;
@@ -235,6 +237,15 @@ impl<'a> World<'a> {
     {
         let low = self.device.stays_low();
         none_comes(self.handler, self.in_handler, low)
+    }
+
+    /// Whether what runs now may not sleep: a handler, or code with a lock that spins. The time is that of a look at
+    /// each cell.
+    #[tactic(auto, unfolding(mdr_plain::specs::Atomic::is_atomic))]
+    pub fn atomic(&self) -> bool
+        ensures { result ≡ is_atomic self.now.world }
+    {
+        self.in_handler || is_any_spinning(&self.storage.blocks)
     }
 
     /// An interrupt is taken.
@@ -292,7 +303,7 @@ impl<'a> World<'a> {
         ensures as_before { OnErr result (self.new ≡ self.old) }
     {
         if self.allocations == u64::MAX {
-            return Err(OutOfMemory);
+            return Err(Limit::Allocations.past());
         }
         self.allocations += 1;
         Ok(())

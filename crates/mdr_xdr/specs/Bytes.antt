@@ -1,3 +1,4 @@
+-- for proofs
 -- Which numbers are bytes.
 use Rattle.std.specs.Prelude.{ℕ, ◌<◌, List, get_or}
 

@@ -1,3 +1,4 @@
+-- protocol
 -- What a reader of items answers, and where it leaves the cursor.
 use Rattle.std.specs.Prelude.{◌≡◌, ℕ, List, drop, Result, Ok, Err}
 use Rattle.mdr_core.specs.declared.refusal.RefuseKind.TheVariants as refusal

@@ -3,7 +3,7 @@
 use thiserror::Error;
 
 /// The offset of the next item. It may lie behind the last byte, and then every item there is short.
-#[derive(Clone, Copy, Debug, PartialEq, Eq)]
+#[derive(Clone, Copy)]
 pub struct Cursor {
     pub at: u64,
 }

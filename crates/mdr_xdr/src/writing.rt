@@ -13,7 +13,7 @@ fn append(bytes: &[u8], out: &mut Vec<u8>) -> Result<(), OutOfMemory>
 {
     match out.extend_from_slice(bytes) {
         Ok(()) => Ok(()),
-        Err(_) => Err(OutOfMemory),
+        Err(error) => Err(error.into()),
     }
 }
 

@@ -14,4 +14,4 @@ loop-i-preserved g c = record {
 
 pub returns-clause-grown : goal.returns-clause-grown
 unfolding known_behind
-returns-clause-grown g c = sym (at_drop_all (known_behind c.args.items.now c.loop-i.known) c.args.items.now c.loop-i.i c.loop-i-test.false) ∙ c.loop-i.invariant.grown
+returns-clause-grown g c = sym (at_drop_all (known_behind c.loop-i.known) c.args.items.now c.loop-i.i c.loop-i-test.false) ∙ c.loop-i.invariant.grown

@@ -5,6 +5,6 @@ use Rattle.mdr_check.proofs.file.pieces_behind.Given as goal
 
 abbrev pub invariant-loop-i : goal.invariant-loop-i
 invariant-loop-i g l = record {
-  told : followed l.all (told (pieces_behind (g.B.Bodies.rule l.bodies) l.items l.known (take l.i l.items) (drop l.i l.items))) ≡ told (pieces_behind (g.B.Bodies.rule l.bodies) l.items l.initial.known [] l.items);
-  grown : known_behind l.items l.known (drop l.i l.items) ≡ known_behind l.items l.initial.known l.items;
+  told : followed l.all (told (pieces_behind (g.B.Bodies.rule l.bodies) l.known (take l.i l.items) (drop l.i l.items))) ≡ told (pieces_behind (g.B.Bodies.rule l.bodies) l.initial.known [] l.items);
+  grown : known_behind l.known (drop l.i l.items) ≡ known_behind l.initial.known l.items;
 }

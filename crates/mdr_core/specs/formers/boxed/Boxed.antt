@@ -1,3 +1,4 @@
+-- for proofs
 -- `Boxed` as a type that may hold the type that holds it.
 use mathlib.Core.Path.{refl}
 use mathlib.Core.Former.{Former, this, const, pair, via}

@@ -1,3 +1,4 @@
+-- for proofs
 -- `Items` as a type that may hold the type that holds it.
 use mathlib.Core.Path.{◌≡◌, refl, sym}
 use mathlib.Core.List.{List, []}

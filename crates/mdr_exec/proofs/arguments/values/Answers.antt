@@ -1,6 +1,6 @@
 use Rattle.std.proofs.Common.{◌∙◌, ap}
 use Rattle.mdr_meaning.specs.Bodies.{known_of}
-use Rattle.mdr_exec.specs.Holding.{wires_of}
+use Rattle.mdr_events.specs.Values.{wires_of}
 use Rattle.mdr_exec.proofs.ArgumentLaws.{and_then, rest_from, value_first, value_stops_here, values_begin, values_end}
 use Rattle.mdr_exec.proofs.arguments.values.Goals as goal
 

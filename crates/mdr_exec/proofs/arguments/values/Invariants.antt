@@ -1,6 +1,6 @@
 use Rattle.std.proofs.Common.{◌≡◌}
 use Rattle.mdr_meaning.specs.Bodies.{known_of}
-use Rattle.mdr_exec.specs.Holding.{wires_of}
+use Rattle.mdr_events.specs.Values.{wires_of}
 use Rattle.mdr_exec.proofs.ArgumentLaws.{all_of, and_then, rest_from}
 use Rattle.mdr_exec.proofs.arguments.values.Given as goal
 

@@ -1,6 +1,6 @@
 use Rattle.std.proofs.Common.{Ok, ◌∙◌, ap, sym}
+use Rattle.mdr_events.specs.Values.{wires_of}
 use Rattle.mdr_exec.specs.Halves.{calling_as}
-use Rattle.mdr_exec.specs.Holding.{wires_of}
 use Rattle.mdr_exec.specs.Leaving.{here_in}
 use Rattle.mdr_exec.specs.StatementSteps.{call_came}
 use Rattle.mdr_exec.proofs.MakingLaws.{crossing_told}

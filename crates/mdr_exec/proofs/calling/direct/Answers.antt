@@ -1,5 +1,5 @@
+use Rattle.mdr_events.specs.Values.{wires_of}
 use Rattle.mdr_exec.specs.Halves.{side_at}
-use Rattle.mdr_exec.specs.Holding.{wires_of}
 use Rattle.mdr_exec.proofs.MakingLaws.{direct_goes, direct_stops}
 use Rattle.mdr_exec.proofs.calling.direct.Goals as goal
 

@@ -1,5 +1,5 @@
+use Rattle.mdr_events.specs.Values.{wires_of}
 use Rattle.mdr_exec.specs.Halves.{body_in}
-use Rattle.mdr_exec.specs.Holding.{wires_of}
 use Rattle.mdr_exec.proofs.MakingLaws.{crossing_is, entering_is}
 use Rattle.mdr_exec.proofs.calling.goes_to.Goals as goal
 

@@ -1,6 +1,6 @@
 use Rattle.std.proofs.Common.{◌+◌, ap, refl}
+use Rattle.mdr_events.specs.Steps.{Asks}
 use Rattle.mdr_exec.specs.declared.event.Outcome.TheVariants as outcome
-use Rattle.mdr_exec.specs.Steps.{Asks}
 use Rattle.mdr_exec.proofs.DeclaringLaws.{object_asked}
 use Rattle.mdr_exec.proofs.declare.ask_object.Goals as goal
 

@@ -1,5 +1,5 @@
-use Rattle.mdr_exec.specs.Holding.{wires_of}
-use Rattle.mdr_exec.specs.Outcomes.{wired}
+use Rattle.mdr_events.specs.Outcomes.{wired}
+use Rattle.mdr_events.specs.Values.{wires_of}
 use Rattle.mdr_exec.proofs.OperandLaws.{bin_comes, rel_comes, move_comes, index_comes}
 use Rattle.mdr_exec.proofs.evaluate.+evaluate.Goals as goal
 

@@ -1,6 +1,6 @@
 use Rattle.std.proofs.Common.{◌∙◌, ap}
 use Rattle.mdr_meaning.specs.Values.{wire_of}
-use Rattle.mdr_exec.specs.Held.{Comes}
+use Rattle.mdr_events.specs.Held.{Comes}
 use Rattle.mdr_exec.specs.Receiving.{goal_as}
 use Rattle.mdr_exec.proofs.keep.keep_as.Goals as goal
 

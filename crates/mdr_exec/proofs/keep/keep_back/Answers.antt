@@ -1,7 +1,7 @@
 use Rattle.std.proofs.Common.{◌∙◌, ap, sym}
 use Rattle.mdr_meaning.specs.Values.{wire_of}
+use Rattle.mdr_events.specs.Outcomes.{wired}
 use Rattle.mdr_exec.specs.Holding.{held_of}
-use Rattle.mdr_exec.specs.Outcomes.{wired}
 use Rattle.mdr_exec.proofs.KeepingLaws.{back_goes, back_stops}
 use Rattle.mdr_exec.proofs.keep.keep_back.Goals as goal
 

@@ -1,7 +1,7 @@
 use Rattle.std.proofs.Common.{◌∙◌, ap, refl, sym}
+use Rattle.mdr_events.specs.Values.{wires_of}
 use Rattle.mdr_exec.specs.declared.event.Outcome.TheVariants as outcome
 use Rattle.mdr_exec.specs.Effects.{fills_of}
-use Rattle.mdr_exec.specs.Holding.{wires_of}
 use Rattle.mdr_exec.specs.Storing.{with_slots}
 use Rattle.mdr_exec.proofs.ParamLaws.{params_filled, params_stopped}
 use Rattle.mdr_exec.proofs.params.fill.Goals as goal

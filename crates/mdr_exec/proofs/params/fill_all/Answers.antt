@@ -1,6 +1,6 @@
 use Rattle.std.proofs.Common.{◌∙◌, refl, sym}
+use Rattle.mdr_events.specs.Values.{wires_of}
 use Rattle.mdr_exec.specs.Effects.{fills_of}
-use Rattle.mdr_exec.specs.Holding.{wires_of}
 use Rattle.mdr_exec.specs.Storing.{with_slots}
 use Rattle.mdr_exec.proofs.ParamLaws.{all_params_filled, fill_ends_here, fill_goes, no_pointer}
 use Rattle.mdr_exec.proofs.params.fill_all.Goals as goal

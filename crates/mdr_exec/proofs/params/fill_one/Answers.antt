@@ -1,6 +1,6 @@
 use Rattle.std.proofs.Common.{◌∙◌, ap}
 use Rattle.mdr_meaning.specs.Expressions.{slot_of}
-use Rattle.mdr_exec.specs.Holding.{wires_of}
+use Rattle.mdr_events.specs.Values.{wires_of}
 use Rattle.mdr_exec.proofs.ParamLaws.{fill_stopped, filled_one}
 use Rattle.mdr_exec.proofs.params.fill_one.Goals as goal
 

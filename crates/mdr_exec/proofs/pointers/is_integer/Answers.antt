@@ -1,5 +1,5 @@
 use Rattle.mdr_core.specs.declared.types.Ty.TheVariants as ty
-use Rattle.mdr_exec.proofs.PointerLaws.{same_tested}
+use Rattle.mdr_events.proofs.TypeLaws.{same_tested}
 use Rattle.mdr_exec.proofs.pointers.is_integer.Goals as goal
 
 pub returns : goal.returns

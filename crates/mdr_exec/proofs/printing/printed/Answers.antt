@@ -1,7 +1,7 @@
 use Rattle.std.proofs.Common.{refl}
 use Rattle.mdr_core.specs.Services.{Plain}
 use Rattle.mdr_meaning.specs.Printed.{printed}
-use Rattle.mdr_exec.specs.Holding.{wires_of}
+use Rattle.mdr_events.specs.Values.{wires_of}
 use Rattle.mdr_exec.specs.Printing.{reading_as}
 use Rattle.mdr_exec.proofs.PrintLaws.{byte_read, text_read}
 use Rattle.mdr_exec.proofs.printing.printed.Goals as goal

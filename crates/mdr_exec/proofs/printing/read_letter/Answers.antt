@@ -3,7 +3,7 @@ use Rattle.std.specs.Int.{w128}
 use Rattle.std.proofs.lemmas.Int.{to_z-of_z}
 use Rattle.mdr_meaning.specs.Printed.{shown}
 use Rattle.mdr_meaning.specs.Values.{integer}
-use Rattle.mdr_exec.specs.Holding.{wires_of}
+use Rattle.mdr_events.specs.Values.{wires_of}
 use Rattle.mdr_exec.proofs.PrintLaws.{letter_put}
 use Rattle.mdr_exec.proofs.printing.read_letter.Goals as goal
 

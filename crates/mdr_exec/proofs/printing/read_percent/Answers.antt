@@ -1,6 +1,6 @@
 use Rattle.std.proofs.Common.{◌++◌}
 use Rattle.mdr_meaning.specs.Printed.{printed}
-use Rattle.mdr_exec.specs.Holding.{wires_of}
+use Rattle.mdr_events.specs.Values.{wires_of}
 use Rattle.mdr_exec.specs.Printing.{reading_as}
 use Rattle.mdr_exec.proofs.PrintLaws.{long_begins, percent_letter, percent_put}
 use Rattle.mdr_exec.proofs.printing.read_percent.Goals as goal

@@ -1,4 +1,4 @@
-use Rattle.mdr_exec.specs.Holding.{wires_of}
+use Rattle.mdr_events.specs.Values.{wires_of}
 use Rattle.mdr_exec.proofs.PrintLaws.{percent_begins, plain_put}
 use Rattle.mdr_exec.proofs.printing.read_plain.Goals as goal
 

@@ -2,7 +2,7 @@ use Rattle.std.proofs.Common.{◌∙◌, ap, sym}
 use Rattle.std.specs.Option.{option_copied}
 use Rattle.mdr_meaning.specs.Bodies.{known_of}
 use Rattle.mdr_meaning.specs.Values.{wire_of}
-use Rattle.mdr_exec.specs.Outcomes.{wired}
+use Rattle.mdr_events.specs.Outcomes.{wired}
 use Rattle.mdr_exec.proofs.ReceivingLaws.{any_received, none_received, some_received}
 use Rattle.mdr_exec.proofs.receive.received.Goals as goal
 

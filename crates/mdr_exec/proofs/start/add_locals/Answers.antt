@@ -1,6 +1,6 @@
 use Rattle.std.proofs.Common.{refl, map}
 use Rattle.mdr_core.specs.Typing.{slot_of_local}
-use Rattle.mdr_exec.specs.Holding.{wires_of}
+use Rattle.mdr_events.specs.Values.{wires_of}
 use Rattle.mdr_exec.proofs.StartLaws.{one_slot}
 use Rattle.mdr_exec.proofs.start.add_locals.Goals as goal
 

@@ -1,6 +1,6 @@
 use Rattle.std.proofs.Common.{refl, map, ◌++◌, arith}
 use Rattle.mdr_core.specs.Typing.{slot_of_param}
-use Rattle.mdr_exec.specs.Holding.{wires_of}
+use Rattle.mdr_events.specs.Values.{wires_of}
 use Rattle.mdr_exec.proofs.StartLaws.{one_slot, slots_done}
 use Rattle.mdr_exec.proofs.start.add_params.Goals as goal
 

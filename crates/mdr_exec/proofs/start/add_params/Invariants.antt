@@ -1,6 +1,6 @@
 use Rattle.std.proofs.Common.{List, ◌++◌, map, drop}
 use Rattle.mdr_core.specs.Typing.{Slot, slot_of_param}
-use Rattle.mdr_exec.specs.Holding.{wires_of}
+use Rattle.mdr_events.specs.Values.{wires_of}
 use Rattle.mdr_exec.specs.Starting.{IsFilled}
 use Rattle.mdr_exec.proofs.start.add_params.Given as goal
 

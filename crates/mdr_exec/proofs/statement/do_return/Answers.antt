@@ -2,9 +2,9 @@ use Rattle.std.proofs.Common.{Some, ◌∙◌, ap, sym, subst}
 use Rattle.std.specs.Option.{option_map}
 use Rattle.mdr_core.specs.Code.{Code}
 use Rattle.mdr_core.specs.Folds.{term_of}
+use Rattle.mdr_events.specs.Steps.{Ticks}
 use Rattle.mdr_exec.specs.Beginning.{came_of}
 use Rattle.mdr_exec.specs.Holding.{held_of}
-use Rattle.mdr_exec.specs.Steps.{Ticks}
 use Rattle.mdr_exec.proofs.statement.do_return.Goals as goal
 
 pub returns-in_ok-came-in-Some : goal.returns-in_ok-came-in-Some

@@ -1,8 +1,8 @@
 use Rattle.mdr_exec.specs.Holding.{held_of}
 use Rattle.std.proofs.Common.{◌∙◌, ap, sym, subst}
+use Rattle.mdr_events.specs.Steps.{Steps}
 use Rattle.mdr_exec.specs.Entering.{filling}
 use Rattle.mdr_exec.specs.Events.{came_as}
-use Rattle.mdr_exec.specs.Steps.{Steps}
 use Rattle.mdr_exec.proofs.TurnLaws.{filling_is, step_told}
 use Rattle.mdr_exec.proofs.turn.step_fills.Goals as goal
 

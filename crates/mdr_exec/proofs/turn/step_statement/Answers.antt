@@ -2,8 +2,8 @@ use Rattle.mdr_exec.specs.Halves.{side_in}
 use Rattle.mdr_exec.specs.Holding.{held_of}
 use Rattle.std.proofs.Common.{◌-◌, ◌∙◌, refl, sym}
 use Rattle.mdr_core.specs.Folds.{code_of}
-use Rattle.mdr_exec.specs.Running.{RunsTo}
-use Rattle.mdr_exec.specs.Steps.{Goes}
+use Rattle.mdr_events.specs.Running.{RunsTo}
+use Rattle.mdr_events.specs.Steps.{Goes}
 use Rattle.mdr_exec.proofs.DoneLaws.{at_next}
 use Rattle.mdr_exec.proofs.TurnLaws.{block_steps, same_runs, tick_told, tick_wanted}
 use Rattle.mdr_exec.proofs.turn.step_statement.Goals as goal

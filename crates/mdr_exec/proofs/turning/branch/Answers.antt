@@ -3,8 +3,8 @@ use Rattle.std.specs.Int.{w128}
 use Rattle.std.proofs.lemmas.Int.{to_z-of_z}
 use Rattle.mdr_core.specs.Folds.{term_of}
 use Rattle.mdr_meaning.specs.Bodies.{known_of}
+use Rattle.mdr_events.specs.Integers.{integer_wire}
 use Rattle.mdr_exec.specs.Holding.{held_of}
-use Rattle.mdr_exec.specs.Integers.{integer_wire}
 use Rattle.mdr_exec.proofs.BeginningLaws.{branch_goes}
 use Rattle.mdr_exec.proofs.TurningLaws.{holding, integer_given, not_holding}
 use Rattle.mdr_exec.proofs.turning.branch.Goals as goal

@@ -4,8 +4,8 @@ use Rattle.std.proofs.lemmas.Int.{to_z-of_z}
 use Rattle.mdr_core.specs.Folds.{term_of}
 use Rattle.mdr_meaning.specs.Bodies.{known_of}
 use Rattle.mdr_meaning.specs.Sides.{Ends}
+use Rattle.mdr_events.specs.Integers.{integer_wire}
 use Rattle.mdr_exec.specs.Holding.{held_of}
-use Rattle.mdr_exec.specs.Integers.{integer_wire}
 use Rattle.mdr_exec.proofs.BeginningLaws.{turn_goes, turn_ends}
 use Rattle.mdr_exec.proofs.LeavingLaws.{held_behind, still_running}
 use Rattle.mdr_exec.proofs.TurningLaws.{holding, integer_given, not_holding}

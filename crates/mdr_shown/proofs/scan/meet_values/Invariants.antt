@@ -1,5 +1,5 @@
 use Rattle.std.proofs.Common.{◌≡◌, drop}
-use Rattle.mdr_exec.specs.Holding.{wires_of}
+use Rattle.mdr_events.specs.Values.{wires_of}
 use Rattle.mdr_plain.specs.Outcome.{met_in}
 use Rattle.mdr_shown.specs.Met.{AreNumbered}
 use Rattle.mdr_shown.proofs.scan.meet_values.Given as goal

@@ -1,5 +1,5 @@
 use Rattle.std.proofs.Common.{◌≡◌, ◌++◌, drop, map}
-use Rattle.mdr_exec.specs.Holding.{wires_of}
+use Rattle.mdr_events.specs.Values.{wires_of}
 use Rattle.mdr_plain.specs.Outcome.{seen_of}
 use Rattle.mdr_shown.proofs.seen.seen_cells.Given as goal
 

@@ -1,5 +1,5 @@
 use Rattle.std.specs.Prelude.{drop}
-use Rattle.mdr_exec.specs.Holding.{wires_of}
+use Rattle.mdr_events.specs.Values.{wires_of}
 use Rattle.mdr_watch.specs.Watching.{driver_in}
 use Rattle.mdr_turns.specs.States.{upcall_of}
 use Rattle.mdr_turns.proofs.Sending.{call_is}

@@ -1,6 +1,6 @@
 use Rattle.std.proofs.Common.{drop, subst}
 use Rattle.std.proofs.lemmas.Result.{IfOk-weaker}
-use Rattle.mdr_exec.specs.Holding.{wires_of}
+use Rattle.mdr_events.specs.Values.{wires_of}
 use Rattle.mdr_plain.specs.World.{done}
 use Rattle.mdr_split.specs.Kernel.{called}
 use Rattle.mdr_watch.specs.Watching.{driver_in}

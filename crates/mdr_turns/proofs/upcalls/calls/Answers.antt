@@ -1,6 +1,6 @@
 use Rattle.std.proofs.Common.{drop, subst, sym, ap, ◌∙◌}
 use Rattle.std.proofs.lemmas.Result.{IfOk-weaker}
-use Rattle.mdr_exec.specs.Holding.{wires_of}
+use Rattle.mdr_events.specs.Values.{wires_of}
 use Rattle.mdr_reach.specs.Answers.{answered}
 use Rattle.mdr_watch.specs.Watching.{driver_in}
 use Rattle.mdr_turns.specs.Coming.{ComesTo}

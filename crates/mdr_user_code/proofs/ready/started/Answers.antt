@@ -1,5 +1,5 @@
 use Rattle.std.proofs.Common.{◌∙◌, ap, sym}
-use Rattle.mdr_exec.specs.Holding.{wires_of}
+use Rattle.mdr_events.specs.Values.{wires_of}
 use Rattle.mdr_user_code.proofs.ReadyLaws.{started_is}
 use Rattle.mdr_user_code.proofs.ready.started.Goals as goal
 

@@ -1,5 +1,5 @@
 use Rattle.std.proofs.Common.{◌≡◌, ◌++◌, drop}
-use Rattle.mdr_exec.specs.Holding.{wires_of}
+use Rattle.mdr_events.specs.Values.{wires_of}
 use Rattle.mdr_user_code.proofs.values.values_of.Given as goal
 
 abbrev pub invariant-loop-wire : goal.invariant-loop-wire

@@ -1,5 +1,5 @@
 use Rattle.std.proofs.Common.{◌∙◌, ap}
-use Rattle.mdr_exec.specs.Events.{asked_as}
+use Rattle.mdr_events.specs.Events.{asked_as}
 use Rattle.mdr_watched.specs.Watched.{held, serves}
 use Rattle.mdr_world.specs.Driven.{Driven}
 use Rattle.mdr_watch.specs.Watching.{driver_in}

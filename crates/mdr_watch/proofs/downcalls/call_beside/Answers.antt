@@ -1,6 +1,6 @@
 use Rattle.std.proofs.Common.{map, refl, ◌∙◌, ap}
 use Rattle.std.proofs.lemmas.Result.{IfOk-weaker}
-use Rattle.mdr_exec.specs.Holding.{wires_of}
+use Rattle.mdr_events.specs.Values.{wires_of}
 use Rattle.mdr_model.specs.Memory.{normal}
 use Rattle.mdr_viewed.specs.Viewed.{viewed}
 use Rattle.mdr_whole.specs.Ending.{gave_as}

@@ -1,5 +1,5 @@
 use Rattle.std.proofs.Common.{◌∙◌, ap}
-use Rattle.mdr_exec.specs.Holding.{wires_of}
+use Rattle.mdr_events.specs.Values.{wires_of}
 use Rattle.mdr_watched.specs.Watched.{downcall, held}
 use Rattle.mdr_world.specs.Driven.{Driven}
 use Rattle.mdr_watch.specs.Watching.{driver_in}

@@ -1,7 +1,7 @@
 use Rattle.std.proofs.Common.{List, subst}
 use Rattle.std.proofs.lemmas.Result.{IfOk-weaker}
 use Rattle.mdr_core.specs.declared.value.Value.{Value}
-use Rattle.mdr_exec.specs.Holding.{wires_of}
+use Rattle.mdr_events.specs.Values.{wires_of}
 use Rattle.mdr_watch.specs.Going.{GoesOnWith}
 use Rattle.mdr_watch.proofs.Turns.{served_on}
 use Rattle.mdr_watch.proofs.turn.answer.Goals as goal

@@ -1,4 +1,4 @@
-use Rattle.mdr_exec.specs.Holding.{wires_of}
+use Rattle.mdr_events.specs.Values.{wires_of}
 use Rattle.mdr_watch.specs.Going.{program_in}
 use Rattle.mdr_watch.specs.Watching.{user_side}
 use Rattle.mdr_watch.proofs.Turns.{resumed}

@@ -1,5 +1,5 @@
 use Rattle.std.proofs.lemmas.Result.{IfOk-weaker}
-use Rattle.mdr_exec.specs.Holding.{wires_of}
+use Rattle.mdr_events.specs.Values.{wires_of}
 use Rattle.mdr_watch.proofs.Runs.{ran_entered}
 use Rattle.mdr_watch.proofs.upcall.enter.Goals as goal
 

@@ -1,4 +1,4 @@
-use Rattle.mdr_exec.specs.Holding.{wires_of}
+use Rattle.mdr_events.specs.Values.{wires_of}
 use Rattle.mdr_whole.specs.Going.{side_of}
 use Rattle.mdr_whole.proofs.Turns.{is_started}
 use Rattle.mdr_whole.proofs.calls.started.Goals as goal

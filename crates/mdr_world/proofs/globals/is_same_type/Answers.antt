@@ -1,4 +1,4 @@
-use Rattle.mdr_exec.proofs.PointerLaws.{same_tested}
+use Rattle.mdr_events.proofs.TypeLaws.{same_tested}
 use Rattle.mdr_world.proofs.globals.is_same_type.Goals as goal
 
 pub returns : goal.returns

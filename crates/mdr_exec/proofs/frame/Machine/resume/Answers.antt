@@ -1,4 +1,4 @@
-use Rattle.mdr_exec.specs.Holding.{wires_of}
+use Rattle.mdr_events.specs.Values.{wires_of}
 use Rattle.mdr_exec.proofs.MachineLaws.{resumed}
 use Rattle.mdr_exec.proofs.frame.Machine.resume.Goals as goal
 

@@ -1,5 +1,5 @@
 use Rattle.std.proofs.Common.{◌+◌, refl}
-use Rattle.mdr_exec.specs.Holding.{wires_of}
+use Rattle.mdr_events.specs.Values.{wires_of}
 use Rattle.mdr_exec.proofs.StartedLaws.{starts_so}
 use Rattle.mdr_exec.proofs.frame.Machine.start.Goals as goal
 

@@ -1,5 +1,5 @@
 use Rattle.std.proofs.Common.{subst, sym}
-use Rattle.mdr_exec.specs.Holding.{wires_of}
+use Rattle.mdr_events.specs.Values.{wires_of}
 use Rattle.mdr_world.specs.Driven.{Driven}
 use Rattle.mdr_watch.specs.Guarding.{IsGuarded}
 use Rattle.mdr_watch.proofs.Guards.{death_goes, death_guarded}

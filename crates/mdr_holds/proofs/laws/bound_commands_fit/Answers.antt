@@ -1,5 +1,0 @@
-use Rattle.mdr_holds.proofs.Bindings.{bound_commands_fit}
-use Rattle.mdr_holds.proofs.laws.bound_commands_fit.Goals as goal
-
-pub returns : goal.returns
-returns c = bound_commands_fit
