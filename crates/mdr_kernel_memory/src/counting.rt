@@ -2,32 +2,26 @@
 
 ghost use Rattle.std.specs.Prelude.{◌≡◌};
 
-use mdr_watch::{Guarded, Parts};
+use mdr_watch::Guarded;
 
 /// The ticks that were counted, those that the budget leaves, and how many commands called a function.
-#[derive(Drop)]
-pub struct Counts<'a> {
-    pub guarded: Guarded<'a>,
+#[derive(Clone, Copy)]
+pub struct Counts {
     pub ticks: u64,
     pub rest: u64,
     pub calls: u64,
 }
 
-/// The counts, with the run as it was.
-pub fn counts_of<'a>(guarded: Guarded<'a>) -> Counts<'a>
-    ensures same { result.guarded ≡ guarded.entry }
-    ensures ticks { result.ticks ≡ guarded.entry.world.clock.ticks }
-    ensures rest { result.rest ≡ guarded.entry.world.clock.rest }
-    ensures calls { result.calls ≡ guarded.entry.world.kept.calls }
+/// The counts of a run in which an upcall is open.
+pub fn counts_of(guarded: &Guarded) -> Counts
+    ensures ticks { result.ticks ≡ guarded.now.world.clock.ticks }
+    ensures rest { result.rest ≡ guarded.now.world.clock.rest }
+    ensures calls { result.calls ≡ guarded.now.world.kept.calls }
 {
-    let Parts { world, set } = guarded.parts();
-    let ticks = world.ticks();
-    let rest = world.rest();
-    let calls = world.calls();
+    let world = guarded.world();
     Counts {
-        guarded: Guarded::beside(world, set),
-        ticks,
-        rest,
-        calls,
+        ticks: world.ticks(),
+        rest: world.rest(),
+        calls: world.calls(),
     }
 }

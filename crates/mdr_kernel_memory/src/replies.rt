@@ -18,7 +18,11 @@ pub fn store_runs<'a>(guarded: Guarded<'a>, runs: &[Run]) -> Result<Guarded<'a>,
     let mut world = world;
     match put_runs(&mut world, runs) {
         Ok(()) => Ok(Guarded::beside(world, set)),
-        Err(e) => Err(e),
+        Err(error) => {
+            drop(world);
+            drop(set);
+            Err(error)
+        }
     }
 }
 
@@ -30,7 +34,11 @@ pub fn spend<'a>(guarded: Guarded<'a>, ticks: u64) -> Result<Guarded<'a>, OutOfM
     let mut world = world;
     match world.count(ticks) {
         Ok(()) => Ok(Guarded::beside(world, set)),
-        Err(e) => Err(e),
+        Err(error) => {
+            drop(world);
+            drop(set);
+            Err(error)
+        }
     }
 }
 

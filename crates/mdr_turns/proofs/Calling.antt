@@ -1,23 +1,17 @@
 -- An upcall begins, and a command.
-use Rattle.std.proofs.Common.{◌≡◌, ℕ, true, List, [], Result, Ok, refl, sym, ◌∙◌, ap, subst}
+use Rattle.std.proofs.Common.{◌≡◌, ℕ, true, List, [], Ok, refl, sym, ◌∙◌, ap, subst}
 use Rattle.std.specs.Prelude.{drop, map}
-use Rattle.mdr_core.specs.declared.plan.Key.{Key}
-use Rattle.mdr_core.specs.declared.program.Program.{Program}
 use Rattle.mdr_core.specs.declared.value.Value.{Value}
-use Rattle.mdr_extents.specs.Reaching.{Roots, visible}
+use Rattle.mdr_extents.specs.Reaching.{visible}
 use Rattle.mdr_meaning.specs.declared.wire.Wire.{Wire}
 use Rattle.mdr_meaning.specs.Values.{wire_of}
 use Rattle.mdr_model.specs.declared.command.Command.{Command}
 use Rattle.mdr_model.specs.declared.command.Command.TheVariants as command
 use Rattle.mdr_model.specs.declared.memory.Cell.{Cell}
-use Rattle.mdr_model.specs.Memory.{Memory}
 use Rattle.mdr_plain.specs.Plain.{does as plainly_does}
 use Rattle.mdr_plain.specs.Scripts.{begin, begun}
 use Rattle.mdr_plain.specs.Running.{KernelCode}
 use Rattle.mdr_plain.specs.World.{World, done}
-use Rattle.mdr_reach.specs.declared.roots.Root.{Root}
-use Rattle.mdr_reach.specs.declared.failing.Failing.{Failing}
-use Rattle.mdr_reach.specs.Answers.{answered, roots_of}
 use Rattle.mdr_split.specs.Kernel.{called, calls, split_by, then_split}
 use Rattle.mdr_split.specs.State.{Kernel, Pending}
 use Rattle.mdr_turns.specs.declared.state.Commanded.{Commanded}
@@ -25,11 +19,8 @@ use Rattle.mdr_turns.specs.declared.state.Ledger.{Ledger}
 use Rattle.mdr_turns.specs.declared.state.Pending.{Pending as CodePending}
 use Rattle.mdr_turns.specs.Coming.{ComesTo, CommandedTo}
 use Rattle.mdr_turns.specs.States.{kernel_with}
-use Rattle.mdr_viewed.proofs.Sets.{sets_are_viewed}
-use Rattle.mdr_viewed.specs.Viewed.{IsOrdered}
 use Rattle.mdr_watch.specs.Watching.{IsKernel}
 use Rattle.mdr_watched.specs.Driver.{Driver, entry_roots, is_user, touched_by}
-use Rattle.mdr_watched.specs.Order.{AreLive}
 use Rattle.mdr_watched.specs.Views.{opened, taken}
 use Rattle.mdr_watched.specs.Watched.{kernel_of}
 use Rattle.mdr_whole.specs.declared.ending.Worked.{Worked}
@@ -37,11 +28,6 @@ use Rattle.mdr_whole.specs.Ending.{worked_as}
 use Rattle.mdr_world.specs.Driven.{Driven, driver}
 
 -- ---- a set that was taken
-
--- what is taken is of what lives
-pub live_now : (program : Program) (keys : List Key) (m : Memory) (known set : List Cell) (r : Roots) (x : Result (List Cell) Failing) (w : World) → IsOrdered w → m ≡ w.memory → answered x ≡ visible program keys m known r → x ≡ Ok set → AreLive w.memory set
-live_now program keys m known set r x w o e is same =
-    sets_are_viewed.taken program keys known r set w o (sym (sym (ap answered same) ∙ is ∙ ap (λ z. visible program keys z known r) e))
 
 module _ (d : Driver) (f : ℕ) (args : List Wire) (w : World) (k : Kernel) (script : List Command) where
   -- an upcall has its set
@@ -63,12 +49,6 @@ module _ (d : Driver) (w : World) (k : Kernel) (script : List Command) (go : Ker
   kernel_begins (command.Call f args) e = rw e refl
   kernel_begins (command.Idle n) e = refl
   kernel_begins (command.Show g) e = refl
-
--- a search for the same set
-pub taken_same : (program : Program) (keys keys' : List Key) (m m' : Memory) (known : List Cell) (rs rs' : List Root) (passed : List Value) (r : Roots) (x : Result (List Cell) Failing) (set : List Cell)
-    → answered x ≡ visible program keys m known (roots_of rs' passed) → keys ≡ keys' → m ≡ m' → known ≡ [] → rs' ≡ rs → roots_of rs passed ≡ r → x ≡ Ok set → Ok set ≡ visible program keys' m' [] r
-taken_same program keys keys' m m' known rs rs' passed r x set is k e none same roots taken =
-    sym (ap answered taken) ∙ is ∙ (λ i. visible program (k i) (e i) (none i) ((ap (λ y. roots_of y passed) same ∙ roots) i))
 
 -- a command of the user half was done
 pub user_commanded : (d : Driver) (f : ℕ) (args : List Value) (begun_at : ℕ) (l : Ledger) (w w1 : Driven) (script : List Command) (go : Kernel → Pending) (p : CodePending) → is_user d.plan f ≡ true → w.program ≡ d.program → w1 ≡ driver w.program (begun w.program f args w.world)

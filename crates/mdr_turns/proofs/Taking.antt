@@ -14,9 +14,9 @@ use Rattle.mdr_plain.specs.World.{World, Ran, Ended}
 use Rattle.mdr_services.specs.declared.answer.Served.{Served}
 use Rattle.mdr_services.specs.declared.answer.Served.TheVariants as served
 use Rattle.mdr_services.specs.Serving.{served_as}
-use Rattle.mdr_split.specs.Kernel.{answers, continued, serviced, split_commands, then_split}
+use Rattle.mdr_split.specs.Kernel.{answers, ended, serviced}
 use Rattle.mdr_split.specs.Services.{counted}
-use Rattle.mdr_split.specs.State.{Kernel, Open, Noted}
+use Rattle.mdr_split.specs.State.{Open, Noted}
 use Rattle.mdr_turns.specs.declared.state.Pending.{Pending as CodePending}
 use Rattle.mdr_turns.specs.declared.state.Ledger.{Ledger}
 use Rattle.mdr_turns.specs.Coming.{ComesTo}
@@ -28,11 +28,9 @@ use Rattle.mdr_whole.specs.declared.ending.Worked.{Worked}
 use Rattle.mdr_whole.specs.Ending.{worked_as}
 
 -- the result of the upcall is noted, and then the interrupt rule is tried
-pub continued_is : (d : Driver) (v : Wire) (k : Kernel) (s : List Command) (code : KernelCode) (value : Value) (e : Worked) (w w1 : World) → code ≡ kernel_of d → wire_of value ≡ v → w ≡ closed k.world
-    → worked_as e w1 ≡ returned (interrupts code) (Ended (wire_of value) w)
-    → then_split (worked_as e w1) k (λ k'. split_commands d s k') ≡ continued d v k Noted s
-continued_is d v k s code value e w w1 is val there so =
-    ap (λ x. then_split x k (λ k'. split_commands d s k')) (so ∙ ap (λ c. returned (interrupts c) (Ended (wire_of value) w)) is ∙ (λ i. returned (interrupts (kernel_of d)) (Ended (val i) (there i))))
+pub ended_is : (d : Driver) (v : Wire) (closes : World) (code : KernelCode) (value : Value) (e : Worked) (w w1 : World) → code ≡ kernel_of d → wire_of value ≡ v → w ≡ closed closes
+    → worked_as e w1 ≡ returned (interrupts code) (Ended (wire_of value) w) → worked_as e w1 ≡ ended d v closes
+ended_is d v closes code value e w w1 is val there so = so ∙ ap (λ c. returned (interrupts c) (Ended (wire_of value) w)) is ∙ (λ i. returned (interrupts (kernel_of d)) (Ended (val i) (there i)))
 
 -- a service gave results, and they are told
 pub service_told : (d : Driver) (l : Ledger) (w w1 : World) (upcall : Open) (s script : List Command) (q : Question) (args : List Wire) (rs rs' : List Value) (g : Served) (r : Ran (List Wire)) (p : CodePending) → wires_of q.args ≡ args → rs' ≡ rs → g ≡ served.Done rs

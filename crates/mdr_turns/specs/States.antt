@@ -1,9 +1,10 @@
 -- protocol
 -- What the states of the code mean.
-use Rattle.std.specs.Prelude.{◌≡◌, ℕ, suc, List}
+use Rattle.std.specs.Prelude.{◌≡◌, ℕ, suc, List, []}
 use Rattle.mdr_core.specs.declared.program.Program.{Program}
+use Rattle.mdr_meaning.specs.declared.wire.Wire.{Wire}
 use Rattle.mdr_model.specs.declared.message.Told.{Told}
-use Rattle.mdr_model.specs.Copies.{agreed_after, put_runs}
+use Rattle.mdr_model.specs.Copies.{agreed_after, put_runs, tells}
 use Rattle.mdr_model.specs.declared.message.Run.{Run}
 use Rattle.mdr_model.specs.Legal.{IsContained}
 use Rattle.mdr_plain.specs.World.{World}
@@ -78,6 +79,17 @@ abbrev pub ChangesVisible : Driver → (before after : Kernel) → Type 0
 ChangesVisible d before after = IsContained d.program before.world.memory after.world.memory (top before.world.views)
 
 -- ---- what is kept
+
+-- what a message with these values tells of what is seen, and what it tells without the cells that user code may touch
+abbrev pub told_by : Program → Seen → (values : List Wire) → Ledger → Told
+told_by program s values l = tells program s.view values l.agreed s.memory
+
+abbrev pub told_unseen : Program → Seen → (values : List Wire) → Ledger → Told
+told_unseen program s values l = tells program [] values l.agreed s.memory
+
+-- an upcall begins, in which no object was born
+abbrev pub begins : (func : ℕ) → Open
+begins func = record { func = func; entered = [] }
 
 -- a message was sent that told this
 abbrev pub sent_with : Program → Told → Ledger → Ledger

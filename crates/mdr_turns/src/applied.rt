@@ -49,11 +49,16 @@ pub(crate) fn applied<'a>(
         ledger,
         open,
     } = active;
-    let left = apply(guarded, ticks, runs)?;
-    let ledger = agreed_applied(ledger, runs);
-    Ok(Active {
-        guarded: left,
-        ledger,
-        open,
-    })
+    match apply(guarded, ticks, runs) {
+        Ok(left) => Ok(Active {
+            guarded: left,
+            ledger: agreed_applied(ledger, runs),
+            open,
+        }),
+        Err(error) => {
+            drop(ledger);
+            drop(open);
+            Err(error)
+        }
+    }
 }

@@ -17,8 +17,8 @@ ghost use Rattle.mdr_watch.specs.Watching.{driver_in};
 ghost use Rattle.mdr_turns.specs.Coming.{ComesTo, KeptFor};
 ghost use Rattle.mdr_turns.specs.States.{IsActive, kernel_in, kernel_with, upcall_of};
 
-use crate::ending::over;
-use crate::replies::{WithValues, given};
+use crate::ending::over_in;
+use crate::replies::given;
 use crate::sending::answer_told;
 use crate::state::{Active, Open, Pending};
 use mdr_core::{At, Items, OutOfMemory, Value};
@@ -27,10 +27,28 @@ use mdr_fits::entered_after;
 use mdr_kernel_memory::wires_of;
 use mdr_model::{End, Shape64, Wire};
 use mdr_services::Served;
-use mdr_watch::{Answer, Upcall, Watch, ask};
+use mdr_watch::{Upcall, Watch, ask};
 use std::alloc::Global;
 
-/// What a service gave is told, and the objects of locals that were born and those that died are counted.
+/// The wires of a service's results. The objects of locals that were born and those that died are counted.
+fn results_of(
+    alloc: Global,
+    service: u32,
+    args: &[Wire],
+    results: &[Value],
+    open: &mut Open,
+) -> Result<Items<Wire>, OutOfMemory>
+    ensures wires { IfOk result (λ ws. ws ≡ wires_of results.now) }
+    ensures counted { IfOk result (λ _. (at : AnyPlace) (shapes : List AnyShape) (bytes : List ℕ) → upcall_of open.new ≡ counted (asked_for service at args.now shapes bytes) (wires_of results.now) (upcall_of open.old)) }
+    ensures done { IfOk result (λ _. open.new.done ≡ open.old.done) }
+{
+    let wires = wires_of(alloc, results)?;
+    let now = entered_after(alloc, service, args, wires.as_slice(), open.entered.as_slice())?;
+    open.entered = now;
+    Ok(wires)
+}
+
+/// What a service gave is told.
 fn answered<'a>(
     alloc: Global,
     watch: Watch<'a>,
@@ -43,29 +61,14 @@ fn answered<'a>(
     ensures kept { IfOk result (KeptFor watch.entry) }
     ensures comes { IfOk result (λ p. (script : List AnyCommand) (before : AnyWorld) (at : AnyPlace) (shapes : List AnyShape) (bytes : List ℕ) → ComesTo p script (answers (driver_in watch.entry) (wires_of results.now) active.entry.guarded.world (kernel_with active.entry.ledger before) (counted (asked_for service at args.now shapes bytes) (wires_of results.now) (upcall_of active.entry.open)) Noted (drop active.entry.open.done script))) }
 {
-    let Active {
-        guarded,
-        ledger,
-        open,
-    } = active;
-    let Open {
-        func,
-        entered,
-        done,
-    } = open;
-    let results = wires_of(alloc, results)?;
-    let now = entered_after(alloc, service, args, results.as_slice(), entered.as_slice())?;
-    let open = Open {
-        func,
-        entered: now,
-        done,
-    };
-    let active = Active {
-        guarded,
-        ledger,
-        open,
-    };
-    answer_told(alloc, watch, results, active)
+    let mut active = active;
+    match results_of(alloc, service, args, results, &mut active.open) {
+        Ok(wires) => answer_told(alloc, watch, wires, active),
+        Err(error) => {
+            drop(active);
+            Err(error)
+        }
+    }
 }
 
 /// A service is done, and what it gave is told.
@@ -82,36 +85,25 @@ fn served<'a>(
     ensures kept { IfOk result (KeptFor watch.entry) }
     ensures comes { IfOk result (λ p. (script : List AnyCommand) → ComesTo p script (serviced (driver_in watch.entry) (asked_as asked.now) (serves (driver_in watch.entry) (held (driver_in watch.entry)) active.entry.open.func (asked_as asked.now) active.entry.guarded.world) (kernel_in active.entry) (upcall_of active.entry.open) Noted (drop active.entry.open.done script))) }
 {
-    let Active {
-        guarded,
-        ledger,
-        open,
-    } = active;
+    let mut active = active;
     let upcall = Upcall {
         watch,
-        func: open.func,
+        func: active.open.func,
     };
-    let Answer {
-        served,
-        guarded: left,
-    } = ask(alloc, upcall, guarded, asked)?;
-    match served {
-        Served::Done(results) => {
-            let active = Active {
-                guarded: left,
-                ledger,
-                open,
-            };
-            answered(
-                alloc,
-                watch,
-                asked.service,
-                args,
-                results.as_slice(),
-                active,
-            )
+    match ask(alloc, upcall, &mut active.guarded, asked) {
+        Ok(Served::Done(results)) => answered(
+            alloc,
+            watch,
+            asked.service,
+            args,
+            results.as_slice(),
+            active,
+        ),
+        Ok(Served::Stop(kind)) => Ok(over_in(End::Stop(kind, Some(asked.at)), active)),
+        Err(error) => {
+            drop(active);
+            Err(error)
         }
-        Served::Stop(kind) => Ok(over(End::Stop(kind, Some(asked.at)), left)),
     }
 }
 
@@ -131,26 +123,22 @@ pub(crate) fn asks<'a>(
     ensures kept { IfOk result (KeptFor watch.entry) }
     ensures comes { IfOk result (λ p. (script : List AnyCommand) → ComesTo p script (serviced (driver_in watch.entry) (asked_for service at args.now shapes bytes) (serves (driver_in watch.entry) (held (driver_in watch.entry)) active.entry.open.func (asked_for service at args.now shapes bytes) active.entry.guarded.world) (kernel_in active.entry) (upcall_of active.entry.open) Noted (drop active.entry.open.done script))) }
 {
-    let Active {
-        guarded,
-        ledger,
-        open,
-    } = active;
-    let WithValues {
-        guarded: same,
-        values,
-    } = given(alloc, guarded, args)?;
-    let asked = Asked {
-        service,
-        at,
-        args: values,
-        shapes,
-        bytes,
-    };
-    let active = Active {
-        guarded: same,
-        ledger,
-        open,
-    };
-    served(alloc, watch, args, &asked, active)
+    match given(alloc, &active.guarded, args) {
+        Ok(values) => {
+            let asked = Asked {
+                service,
+                at,
+                args: values,
+                shapes,
+                bytes,
+            };
+            let pending = served(alloc, watch, args, &asked, active);
+            drop(asked);
+            pending
+        }
+        Err(error) => {
+            drop(active);
+            Err(error)
+        }
+    }
 }

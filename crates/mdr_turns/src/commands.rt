@@ -39,12 +39,17 @@ fn upcall_command<'a>(
     ensures kept { IfOk result (CommandedFor watch.entry) }
     ensures comes { IfOk result (λ c. (script : List AnyCommand) (go : AnyKernel → AnyPending) → CommandedTo c script go (split_by (begin (kernel_code_of (driver_in watch.entry)) (is_user_in watch.entry.plan.now) (command.Call func args.now) between.entry.world.world) (driver_in watch.entry) (drop begun script) (kernel_at between.entry) go)) }
 {
-    let Between { world, ledger } = between;
-    let mut world = world;
-    note_call(alloc, &mut world, func, args)?;
-    let noted = Between { world, ledger };
-    let pending = calls(alloc, watch, func, args, noted, begun)?;
-    Ok(Commanded::Rests(pending))
+    let mut between = between;
+    match note_call(alloc, &mut between.world, func, args) {
+        Ok(()) => {
+            let pending = calls(alloc, watch, func, args, between, begun)?;
+            Ok(Commanded::Rests(pending))
+        }
+        Err(error) => {
+            drop(between);
+            Err(error)
+        }
+    }
 }
 
 /// What follows work that the kernel half did.
@@ -76,10 +81,14 @@ fn kernel_command<'a>(
     ensures kept { IfOk result (CommandedFor watch.entry) }
     ensures comes { IfOk result (λ c. (script left : List AnyCommand) (go : AnyKernel → AnyPending) → CommandedTo c script go (split_by (begin (kernel_code_of (driver_in watch.entry)) (is_user_in watch.entry.plan.now) command.now between.entry.world.world) (driver_in watch.entry) left (kernel_at between.entry) go)) }
 {
-    let Between { world, ledger } = between;
-    let mut world = world;
-    let worked = do_command(alloc, kernel_code(watch), &mut world, command)?;
-    Ok(behind(worked, Between { world, ledger }))
+    let mut between = between;
+    match do_command(alloc, kernel_code(watch), &mut between.world, command) {
+        Ok(worked) => Ok(behind(worked, between)),
+        Err(error) => {
+            drop(between);
+            Err(error)
+        }
+    }
 }
 
 /// A command, which is the one before `begun` commands have begun.

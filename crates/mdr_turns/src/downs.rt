@@ -11,14 +11,14 @@ ghost use Rattle.mdr_watch.specs.Watching.{IsFit, driver_in};
 ghost use Rattle.mdr_turns.specs.Coming.{ComesTo, KeptFor};
 ghost use Rattle.mdr_turns.specs.States.{IsActive, kernel_in, upcall_of};
 
-use crate::ending::over;
-use crate::replies::{WithValues, given};
+use crate::ending::over_in;
+use crate::replies::given;
 use crate::sending::back_told;
 use crate::state::{Active, Pending};
 use mdr_core::{At, OutOfMemory};
 use mdr_events::Crossing;
 use mdr_model::{End, Wire};
-use mdr_watch::{Ended, Upcall, Watch, downcall};
+use mdr_watch::{Upcall, Watch, downcall};
 use mdr_whole::Gave;
 use std::alloc::Global;
 
@@ -35,29 +35,18 @@ fn crossed<'a>(
     ensures kept { IfOk result (KeptFor watch.entry) }
     ensures comes { IfOk result (λ p. (script : List AnyCommand) → ComesTo p script (downcalled (driver_in watch.entry) (downcall (driver_in watch.entry) (held (driver_in watch.entry)) active.entry.open.func crossing.now.at crossing.now.func (wires_of crossing.now.args) crossing.now.depth active.entry.guarded.world) (kernel_in active.entry) (upcall_of active.entry.open) Noted (drop active.entry.open.done script))) }
 {
-    let Active {
-        guarded,
-        ledger,
-        open,
-    } = active;
+    let mut active = active;
     let upcall = Upcall {
         watch,
-        func: open.func,
+        func: active.open.func,
     };
-    let Ended {
-        gave,
-        guarded: left,
-    } = downcall(alloc, upcall, guarded, crossing)?;
-    match gave {
-        Gave::Value(value) => {
-            let active = Active {
-                guarded: left,
-                ledger,
-                open,
-            };
-            back_told(alloc, watch, value, active)
+    match downcall(alloc, upcall, &mut active.guarded, crossing) {
+        Ok(Gave::Value(value)) => back_told(alloc, watch, value, active),
+        Ok(Gave::Stopped(kind, at)) => Ok(over_in(End::Stop(kind, at), active)),
+        Err(error) => {
+            drop(active);
+            Err(error)
         }
-        Gave::Stopped(kind, at) => Ok(over(End::Stop(kind, at), left)),
     }
 }
 
@@ -77,25 +66,21 @@ pub(crate) fn goes_down<'a>(
     ensures kept { IfOk result (KeptFor watch.entry) }
     ensures comes { IfOk result (λ p. (script : List AnyCommand) → ComesTo p script (downcalled (driver_in watch.entry) (downcall (driver_in watch.entry) (held (driver_in watch.entry)) active.entry.open.func at func args.now depth active.entry.guarded.world) (kernel_in active.entry) (upcall_of active.entry.open) Noted (drop active.entry.open.done script))) }
 {
-    let Active {
-        guarded,
-        ledger,
-        open,
-    } = active;
-    let WithValues {
-        guarded: same,
-        values,
-    } = given(alloc, guarded, args)?;
-    let crossing = Crossing {
-        at,
-        func,
-        args: values,
-        depth,
-    };
-    let active = Active {
-        guarded: same,
-        ledger,
-        open,
-    };
-    crossed(alloc, watch, &crossing, active)
+    match given(alloc, &active.guarded, args) {
+        Ok(values) => {
+            let crossing = Crossing {
+                at,
+                func,
+                args: values,
+                depth,
+            };
+            let pending = crossed(alloc, watch, &crossing, active);
+            drop(crossing);
+            pending
+        }
+        Err(error) => {
+            drop(active);
+            Err(error)
+        }
+    }
 }

@@ -8,7 +8,7 @@ ghost use Rattle.mdr_turns.specs.declared.state.Ledger.{Ledger as AnyLedger};
 ghost use Rattle.mdr_turns.specs.Coming.{ComesTo, IsLeft, KeptFor};
 ghost use Rattle.mdr_turns.specs.States.{kernel_with};
 
-use crate::state::Pending;
+use crate::state::{Active, Pending};
 use mdr_model::End;
 use mdr_watch::{Guarded, Parts};
 use mdr_world::World;
@@ -29,4 +29,19 @@ pub(crate) fn over<'a>(end: End, guarded: Guarded<'a>) -> Pending<'a>
     ensures comes { (script : List AnyCommand) (ledger : AnyLedger) → ComesTo result script (Over end (kernel_with ledger guarded.entry.world)) }
 {
     Pending::Over(end, left(guarded))
+}
+
+/// The run is over, and what was kept beside its state is let go of.
+pub(crate) fn over_in<'a>(end: End, active: Active<'a>) -> Pending<'a>
+    ensures kept { (watch : AnyWatch) → active.entry.guarded.program ≡ watch.program.now → KeptFor watch result }
+    ensures comes { (script : List AnyCommand) (ledger : AnyLedger) → ComesTo result script (Over end (kernel_with ledger active.entry.guarded.world)) }
+{
+    let Active {
+        guarded,
+        ledger,
+        open,
+    } = active;
+    drop(ledger);
+    drop(open);
+    over(end, guarded)
 }

@@ -11,7 +11,7 @@ ghost use Rattle.mdr_watch.specs.Watching.{IsFit, driver_in};
 ghost use Rattle.mdr_turns.specs.Coming.{ComesTo, KeptFor};
 ghost use Rattle.mdr_turns.specs.States.{IsActive, StandsFor, kernel_in, kernel_of, open_of};
 
-use crate::ending::over;
+use crate::ending::over_in;
 use crate::state::{Active, Pending, Seen, Waiting};
 use crate::taken::taken;
 use mdr_core::{OutOfMemory, RefuseKind};
@@ -71,14 +71,8 @@ pub(crate) fn refused<'a>(fault: Fault, waiting: Waiting<'a>) -> Pending<'a>
     ensures comes { (script : List AnyCommand) → ComesTo result script (refused fault (kernel_of waiting.entry)) }
 {
     let exchange = waiting.ledger.exchanges;
-    let Active {
-        guarded,
-        ledger,
-        open,
-    } = active_in(waiting);
-    drop(ledger);
-    drop(open);
-    over(End::Refused(exchange, fault.kind, fault.number), guarded)
+    let end = End::Refused(exchange, fault.kind, fault.number);
+    over_in(end, active_in(waiting))
 }
 
 /// A reply is judged: one with a fault is refused, and any other does what it says.
@@ -96,7 +90,10 @@ fn judged<'a>(
     ensures comes { IfOk result (λ p. ComesTo p script.now (judged (driver_in watch.entry) (fault_of (driver_in watch.entry) (kernel_of waiting.entry) (open_of waiting.entry) Noted reply) reply (kernel_of waiting.entry) (open_of waiting.entry) Noted (drop waiting.entry.open.done script.now))) }
 {
     match fault_in(watch, &waiting, &reply) {
-        Some(fault) => Ok(refused(fault, waiting)),
+        Some(fault) => {
+            drop(reply);
+            Ok(refused(fault, waiting))
+        }
         None => taken(alloc, watch, script, active_in(waiting), reply),
     }
 }

@@ -8,7 +8,7 @@ ghost use Rattle.mdr_model.specs.ReplyFaults.{reply_of, stop_number, user_stop};
 use mdr_core::{Items, OutOfMemory, StopKind, Value};
 use mdr_kernel_memory::values_of;
 use mdr_model::{Message, Reply, Wire};
-use mdr_watch::{Guarded, Parts};
+use mdr_watch::Guarded;
 use std::alloc::Global;
 
 /// The reply that a message is, if its kind is awaited.
@@ -143,28 +143,13 @@ pub(crate) fn stop_of(number: u32) -> StopKind
     }
 }
 
-/// The state while an upcall is open, with values.
-#[derive(Drop)]
-pub(crate) struct WithValues<'a> {
-    pub(crate) guarded: Guarded<'a>,
-    pub(crate) values: Items<Value>,
-}
-
 /// The values that a reply names by these wires.
-pub(crate) fn given<'a>(
+pub(crate) fn given(
     alloc: Global,
-    guarded: Guarded<'a>,
+    guarded: &Guarded,
     wires: &[Wire],
-) -> Result<WithValues<'a>, OutOfMemory>
-    ensures same { IfOk result (λ g. g.guarded ≡ guarded.entry) }
-    ensures values { IfOk result (λ g. wires_of g.values ≡ wires.now) }
+) -> Result<Items<Value>, OutOfMemory>
+    ensures { IfOk result (λ vs. wires_of vs ≡ wires.now) }
 {
-    let Parts { world, set } = guarded.parts();
-    match values_of(alloc, &world, wires) {
-        Ok(values) => Ok(WithValues {
-            guarded: Guarded::beside(world, set),
-            values,
-        }),
-        Err(e) => Err(e),
-    }
+    values_of(alloc, guarded.world(), wires)
 }

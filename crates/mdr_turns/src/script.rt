@@ -81,7 +81,11 @@ pub fn begun<'a>(
     ensures kept { IfOk result (KeptFor watch.entry) }
     ensures comes { IfOk result (λ r. ComesTo r script.now (split_commands (driver_in watch.entry) script.now (beginning world.entry.world))) }
 {
-    let ledger = first_ledger(alloc, watch, &world)?;
-    let pending = do_commands(alloc, watch, script, 0, Between { world, ledger })?;
-    Ok(pending)
+    match first_ledger(alloc, watch, &world) {
+        Ok(ledger) => do_commands(alloc, watch, script, 0, Between { world, ledger }),
+        Err(error) => {
+            drop(world);
+            Err(error)
+        }
+    }
 }

@@ -1,34 +1,52 @@
 // What messages tell of the state of the run.
 
 ghost use Rattle.std.specs.Prelude.{◌≡◌, IfOk};
-ghost use Rattle.mdr_turns.specs.States.{IsSeen};
+ghost use Rattle.mdr_watched.specs.Views.{top};
+ghost use Rattle.mdr_watch.specs.declared.watch.Watch.{Watch as AnyWatch};
+ghost use Rattle.mdr_turns.specs.States.{IsActive, IsSeen, StandsFor};
 
-use crate::state::{Seen, Tally};
+use crate::state::{Active, Seen, Tally, Waiting};
 use mdr_core::OutOfMemory;
 use mdr_kernel_memory::{Counts, Moment, counts_of, moment_of};
-use mdr_watch::Guarded;
 use std::alloc::Global;
 
-/// Takes what messages tell of the state.
-pub(crate) fn seen<'a>(alloc: Global, guarded: Guarded<'a>) -> Result<Seen<'a>, OutOfMemory>
-    ensures kept { IfOk result (λ s. s.guarded ≡ guarded.entry) }
-    ensures seen { IfOk result IsSeen }
+/// What messages tell of the state stands beside it.
+fn beside<'a>(active: Active<'a>, moment: Moment) -> Waiting<'a>
+    requires memory { moment.memory ≡ active.guarded.world.memory }
+    requires view { moment.view ≡ top active.guarded.world.views }
+    ensures same { result.seen.guarded ≡ active.entry.guarded }
+    ensures ledger { result.ledger ≡ active.entry.ledger }
+    ensures open { result.open ≡ active.entry.open }
+    ensures seen { IsSeen result.seen }
 {
-    let Counts {
-        guarded: counted,
-        ticks,
-        rest,
-        calls,
-    } = counts_of(guarded);
-    let Moment {
-        guarded: same,
-        memory,
-        view,
-    } = moment_of(alloc, counted)?;
-    Ok(Seen {
-        guarded: same,
+    let Active {
+        guarded,
+        ledger,
+        open,
+    } = active;
+    let Moment { memory, view } = moment;
+    let Counts { ticks, rest, calls } = counts_of(&guarded);
+    let seen = Seen {
+        guarded,
         memory,
         view,
         tally: Tally { ticks, rest, calls },
-    })
+    };
+    Waiting { seen, ledger, open }
+}
+
+/// Takes what messages tell of the state.
+pub(crate) fn seen<'a>(alloc: Global, active: Active<'a>) -> Result<Waiting<'a>, OutOfMemory>
+    ensures same { IfOk result (λ w. w.seen.guarded ≡ active.entry.guarded) }
+    ensures ledger { IfOk result (λ w. w.ledger ≡ active.entry.ledger) }
+    ensures open { IfOk result (λ w. w.open ≡ active.entry.open) }
+    ensures stands { IfOk result (λ w. (watch : AnyWatch) → IsActive watch active.entry → StandsFor watch w) }
+{
+    match moment_of(alloc, &active.guarded) {
+        Ok(moment) => Ok(beside(active, moment)),
+        Err(error) => {
+            drop(active);
+            Err(error)
+        }
+    }
 }

@@ -4,6 +4,7 @@ ghost use Rattle.std.specs.Prelude.{◌≡◌, [], ◌∷◌, List, drop, IfOk};
 ghost use Rattle.mdr_events.specs.Values.{wires_of};
 ghost use Rattle.mdr_meaning.specs.Values.{wire_of};
 ghost use Rattle.mdr_model.specs.declared.command.Command.{Command as AnyCommand};
+ghost use Rattle.mdr_model.specs.declared.message.Message.TheVariants as message;
 ghost use Rattle.mdr_model.specs.Copies.{tells};
 ghost use Rattle.mdr_plain.specs.World.{World as AnyWorld, done};
 ghost use Rattle.mdr_slice.specs.Calls.{names_of};
@@ -11,7 +12,7 @@ ghost use Rattle.mdr_split.specs.Kernel.{answers, called, comes_back};
 ghost use Rattle.mdr_split.specs.State.{Noted};
 ghost use Rattle.mdr_watch.specs.Watching.{driver_in};
 ghost use Rattle.mdr_turns.specs.Coming.{ComesTo, KeptFor};
-ghost use Rattle.mdr_turns.specs.States.{IsActive, kernel_with, sent_with, upcall_of};
+ghost use Rattle.mdr_turns.specs.States.{IsActive, StandsFor, begins, kernel_with, sent_with, told_by, told_unseen, upcall_of};
 
 use crate::seeing::seen;
 use crate::state::{Active, Ledger, Open, Pending, Seen, Waiting};
@@ -22,38 +23,75 @@ use mdr_model::{Cell, MemoryBlock, Message, Told, Wire};
 use mdr_watch::{Guarded, Watch};
 use std::alloc::Global;
 
-/// What a message tells, and what is kept behind it.
-#[derive(Drop)]
-struct Telling {
-    told: Told,
-    ledger: Ledger,
-}
-
-/// A message with these values is told.
+/// A message with these values is told, and counted.
 fn tell(
     alloc: Global,
     program: &Program,
     view: &[Cell],
     memory: &[MemoryBlock],
     values: &[Wire],
-    ledger: Ledger,
-) -> Result<Telling, OutOfMemory>
-    ensures told { IfOk result (λ t. t.told ≡ tells program.now view.now values.now ledger.agreed memory.now) }
-    ensures kept { IfOk result (λ t. t.ledger ≡ sent_with program.now t.told ledger) }
+    ledger: &mut Ledger,
+) -> Result<Told, OutOfMemory>
+    ensures told { IfOk result (λ t. t ≡ tells program.now view.now values.now ledger.old.agreed memory.now) }
+    ensures kept { IfOk result (λ t. ledger.new ≡ sent_with program.now t ledger.old) }
 {
-    let Ledger {
-        agreed,
-        exchanges,
-        passes,
-    } = ledger;
-    let more = exchanges.checked_add(1).ok_or(Limit::Messages.past())?;
+    let more = ledger.exchanges.checked_add(1).ok_or(Limit::Messages.past())?;
+    let agreed = std::mem::replace(&mut ledger.agreed, Items::new(alloc));
     let (told, left) = tells(alloc, program, view, values, agreed, memory)?;
-    let ledger = Ledger {
-        agreed: left,
-        exchanges: more,
-        passes,
-    };
-    Ok(Telling { told, ledger })
+    ledger.agreed = left;
+    ledger.exchanges = more;
+    Ok(told)
+}
+
+// ---- an upcall
+
+/// The message of an upcall with these arguments.
+fn call_message(
+    alloc: Global,
+    program: &Program,
+    func: u32,
+    args: &[Value],
+    seen: &Seen,
+    ledger: &mut Ledger,
+) -> Result<Message, OutOfMemory>
+    ensures is { IfOk result (λ m. m ≡ message.Call func 0 seen.now.tally.rest (wires_of args.now) (told_by program.now seen.now (wires_of args.now) ledger.old)) }
+    ensures kept { IfOk result (λ m. ledger.new ≡ sent_with program.now (told_by program.now seen.now (wires_of args.now) ledger.old) ledger.old) }
+{
+    let args = wires_of(alloc, args)?;
+    let view = seen.view.as_slice();
+    let memory = seen.memory.as_slice();
+    let told = tell(alloc, program, view, memory, args.as_slice(), ledger)?;
+    Ok(Message::Call {
+        func,
+        depth: 0,
+        rest: seen.tally.rest,
+        args,
+        told,
+    })
+}
+
+/// It is sent.
+fn call_sent<'a>(
+    alloc: Global,
+    watch: Watch<'a>,
+    func: u32,
+    args: &[Value],
+    waiting: Waiting<'a>,
+) -> Result<Pending<'a>, OutOfMemory>
+    requires stands { StandsFor watch waiting }
+    requires begins { upcall_of waiting.open ≡ begins func }
+    ensures kept { IfOk result (KeptFor watch.entry) }
+    ensures comes { IfOk result (λ p. (script : List AnyCommand) (before : AnyWorld) → ComesTo p script (called (driver_in watch.entry) func (wires_of args.now) (done waiting.entry.seen.guarded.world) (kernel_with waiting.entry.ledger before) (drop waiting.entry.open.done script))) }
+{
+    let mut waiting = waiting;
+    let seen = &waiting.seen;
+    match call_message(alloc, watch.program, func, args, seen, &mut waiting.ledger) {
+        Ok(message) => Ok(Pending::Waits(message, waiting)),
+        Err(error) => {
+            drop(waiting);
+            Err(error)
+        }
+    }
 }
 
 /// An upcall with these arguments is told, whose set was taken.
@@ -71,40 +109,66 @@ pub(crate) fn call_told<'a>(
     ensures kept { IfOk result (KeptFor watch.entry) }
     ensures comes { IfOk result (λ p. (script : List AnyCommand) (before : AnyWorld) → ComesTo p script (called (driver_in watch.entry) func (wires_of args.now) (done guarded.entry.world) (kernel_with ledger before) (drop begun script))) }
 {
-    let seen = seen(alloc, guarded)?;
-    let args = wires_of(alloc, args)?;
-    let view = seen.view.as_slice();
-    let memory = seen.memory.as_slice();
-    let Telling { told, ledger: left } = tell(
-        alloc,
-        watch.program,
-        view,
-        memory,
-        args.as_slice(),
-        ledger,
-    )?;
-    let message = Message::Call {
-        func,
-        depth: 0,
-        rest: seen.tally.rest,
-        args,
-        told,
-    };
     let open = Open {
         func,
         entered: Items::new(alloc),
         done: begun,
     };
-    let waiting = Waiting {
-        seen,
-        ledger: left,
+    let active = Active {
+        guarded,
+        ledger,
         open,
     };
-    Ok(Pending::Waits(message, waiting))
+    let waiting = seen(alloc, active)?;
+    call_sent(alloc, watch, func, args, waiting)
+}
+
+// ---- the result of a downcall
+
+/// The message with the result of a downcall.
+fn back_message(
+    alloc: Global,
+    program: &Program,
+    value: Wire,
+    seen: &Seen,
+    ledger: &mut Ledger,
+) -> Result<Message, OutOfMemory>
+    ensures is { IfOk result (λ m. m ≡ message.Back seen.now.tally.rest value (told_by program.now seen.now (value ∷ []) ledger.old)) }
+    ensures kept { IfOk result (λ m. ledger.new ≡ sent_with program.now (told_by program.now seen.now (value ∷ []) ledger.old) ledger.old) }
+{
+    let view = seen.view.as_slice();
+    let memory = seen.memory.as_slice();
+    let told = tell(alloc, program, view, memory, &[value], ledger)?;
+    Ok(Message::Back {
+        rest: seen.tally.rest,
+        result: value,
+        told,
+    })
+}
+
+/// It is sent.
+fn back_sent<'a>(
+    alloc: Global,
+    watch: Watch<'a>,
+    value: Wire,
+    waiting: Waiting<'a>,
+) -> Result<Pending<'a>, OutOfMemory>
+    requires stands { StandsFor watch waiting }
+    ensures kept { IfOk result (KeptFor watch.entry) }
+    ensures comes { IfOk result (λ p. (script : List AnyCommand) (before : AnyWorld) → ComesTo p script (comes_back (driver_in watch.entry) value waiting.entry.seen.guarded.world (kernel_with waiting.entry.ledger before) (upcall_of waiting.entry.open) Noted (drop waiting.entry.open.done script))) }
+{
+    let mut waiting = waiting;
+    let seen = &waiting.seen;
+    match back_message(alloc, watch.program, value, seen, &mut waiting.ledger) {
+        Ok(message) => Ok(Pending::Waits(message, waiting)),
+        Err(error) => {
+            drop(waiting);
+            Err(error)
+        }
+    }
 }
 
 /// The result of a downcall is told, behind which the set was taken anew.
-#[tactic(auto, unfolding(mdr_split::specs::Kernel::comes_back))]
 pub(crate) fn back_told<'a>(
     alloc: Global,
     watch: Watch<'a>,
@@ -115,38 +179,55 @@ pub(crate) fn back_told<'a>(
     ensures kept { IfOk result (KeptFor watch.entry) }
     ensures comes { IfOk result (λ p. (script : List AnyCommand) (before : AnyWorld) → ComesTo p script (comes_back (driver_in watch.entry) (wire_of value) active.entry.guarded.world (kernel_with active.entry.ledger before) (upcall_of active.entry.open) Noted (drop active.entry.open.done script))) }
 {
-    let Active {
-        guarded,
-        ledger,
-        open,
-    } = active;
-    let seen = seen(alloc, guarded)?;
-    let result = wire_of(value);
-    let view = seen.view.as_slice();
+    let waiting = seen(alloc, active)?;
+    back_sent(alloc, watch, wire_of(value), waiting)
+}
+
+// ---- the results of a service
+
+/// The message with the results of a service, which tells of no cells.
+fn answer_message(
+    alloc: Global,
+    program: &Program,
+    results: Items<Wire>,
+    seen: &Seen,
+    ledger: &mut Ledger,
+) -> Result<Message, OutOfMemory>
+    ensures is { IfOk result (λ m. m ≡ message.Answer results (told_unseen program.now seen.now results ledger.old).deaths (told_unseen program.now seen.now results ledger.old).news) }
+    ensures kept { IfOk result (λ m. ledger.new ≡ sent_with program.now (told_unseen program.now seen.now results ledger.old) ledger.old) }
+{
     let memory = seen.memory.as_slice();
-    let Telling { told, ledger: left } = tell(
-        alloc,
-        watch.program,
-        view,
-        memory,
-        &[result],
-        ledger,
-    )?;
-    let message = Message::Back {
-        rest: seen.tally.rest,
-        result,
-        told,
-    };
-    let waiting = Waiting {
-        seen,
-        ledger: left,
-        open,
-    };
-    Ok(Pending::Waits(message, waiting))
+    let told = tell(alloc, program, &[], memory, results.as_slice(), ledger)?;
+    Ok(Message::Answer {
+        results,
+        deaths: told.deaths,
+        news: told.news,
+    })
+}
+
+/// It is sent.
+fn answer_sent<'a>(
+    alloc: Global,
+    watch: Watch<'a>,
+    results: Items<Wire>,
+    waiting: Waiting<'a>,
+) -> Result<Pending<'a>, OutOfMemory>
+    requires stands { StandsFor watch waiting }
+    ensures kept { IfOk result (KeptFor watch.entry) }
+    ensures comes { IfOk result (λ p. (script : List AnyCommand) (before : AnyWorld) → ComesTo p script (answers (driver_in watch.entry) results waiting.entry.seen.guarded.world (kernel_with waiting.entry.ledger before) (upcall_of waiting.entry.open) Noted (drop waiting.entry.open.done script))) }
+{
+    let mut waiting = waiting;
+    let seen = &waiting.seen;
+    match answer_message(alloc, watch.program, results, seen, &mut waiting.ledger) {
+        Ok(message) => Ok(Pending::Waits(message, waiting)),
+        Err(error) => {
+            drop(waiting);
+            Err(error)
+        }
+    }
 }
 
 /// The results of a service are told, and no cells.
-#[tactic(auto, unfolding(mdr_split::specs::Kernel::answers))]
 pub(crate) fn answer_told<'a>(
     alloc: Global,
     watch: Watch<'a>,
@@ -157,30 +238,8 @@ pub(crate) fn answer_told<'a>(
     ensures kept { IfOk result (KeptFor watch.entry) }
     ensures comes { IfOk result (λ p. (script : List AnyCommand) (before : AnyWorld) → ComesTo p script (answers (driver_in watch.entry) results active.entry.guarded.world (kernel_with active.entry.ledger before) (upcall_of active.entry.open) Noted (drop active.entry.open.done script))) }
 {
-    let Active {
-        guarded,
-        ledger,
-        open,
-    } = active;
-    let seen = seen(alloc, guarded)?;
-    let memory = seen.memory.as_slice();
-    let Telling { told, ledger: left } = tell(
-        alloc,
-        watch.program,
-        &[],
-        memory,
-        results.as_slice(),
-        ledger,
-    )?;
-    let message = Message::Answer {
-        results,
-        deaths: told.deaths,
-        news: told.news,
-    };
-    let waiting = Waiting {
-        seen,
-        ledger: left,
-        open,
-    };
-    Ok(Pending::Waits(message, waiting))
+    match seen(alloc, active) {
+        Ok(waiting) => answer_sent(alloc, watch, results, waiting),
+        Err(error) => Err(error),
+    }
 }

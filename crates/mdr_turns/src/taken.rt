@@ -1,27 +1,57 @@
 // What a legal reply does.
 
-ghost use Rattle.std.specs.Prelude.{◌≡◌, drop, IfOk};
+ghost use Rattle.std.specs.Prelude.{◌≡◌, List, drop, IfOk};
 ghost use Rattle.mdr_core.specs.Sound.{IsSound};
-ghost use Rattle.mdr_split.specs.Kernel.{continued, taken};
-ghost use Rattle.mdr_split.specs.State.{Noted};
+ghost use Rattle.mdr_model.specs.declared.command.Command.{Command as AnyCommand};
+ghost use Rattle.mdr_plain.specs.World.{World as AnyWorld};
+ghost use Rattle.mdr_slice.specs.Calls.{names_of};
+ghost use Rattle.mdr_split.specs.Kernel.{continued, ended, taken, then_split};
+ghost use Rattle.mdr_split.specs.State.{Kernel as AnyKernel, Noted, Pending as AnyPending};
 ghost use Rattle.mdr_watch.specs.Watching.{IsFit, driver_in};
-ghost use Rattle.mdr_turns.specs.Coming.{ComesTo, KeptFor};
-ghost use Rattle.mdr_turns.specs.States.{IsActive, kernel_in, upcall_of};
+ghost use Rattle.mdr_turns.specs.Coming.{CommandedFor, CommandedTo, ComesTo, KeptFor};
+ghost use Rattle.mdr_turns.specs.States.{IsActive, kernel_in, kernel_with, upcall_of};
 
 use crate::applied::applied;
 use crate::asks::asks;
 use crate::commands::behind;
 use crate::downs::goes_down;
-use crate::ending::over;
+use crate::ending::over_in;
 use crate::replies::stop_of;
 use crate::script::do_commands;
-use crate::state::{Active, Between, Commanded, Pending};
+use crate::state::{Active, Between, Commanded, Ledger, Pending};
 use mdr_core::OutOfMemory;
 use mdr_kernel_memory::value_of;
 use mdr_model::{Command, End, Reply, Wire};
-use mdr_watch::{Watch, kernel_code};
+use mdr_watch::{Guarded, Watch, kernel_code};
 use mdr_whole::{Gave, returned};
 use std::alloc::Global;
+
+/// The upcall is over: its result is noted, and then the interrupt rule is tried.
+fn ended<'a>(
+    alloc: Global,
+    watch: Watch<'a>,
+    wire: Wire,
+    guarded: Guarded<'a>,
+    ledger: Ledger,
+) -> Result<Commanded<'a>, OutOfMemory>
+    requires sound { IsSound watch.program.now }
+    requires fit { IsFit watch }
+    requires same { guarded.program ≡ watch.program.now }
+    requires passes { ledger.passes ≡ names_of watch.program.now }
+    ensures kept { IfOk result (CommandedFor watch.entry) }
+    ensures comes { IfOk result (λ c. (script : List AnyCommand) (before : AnyWorld) (go : AnyKernel → AnyPending) → CommandedTo c script go (then_split (ended (driver_in watch.entry) wire guarded.entry.world) (kernel_with ledger before) go)) }
+{
+    let mut world = guarded.close();
+    let gave = Gave::Value(value_of(&world, wire));
+    match returned(alloc, kernel_code(watch), &mut world, gave) {
+        Ok(worked) => Ok(behind(worked, Between { world, ledger })),
+        Err(error) => {
+            drop(world);
+            drop(ledger);
+            Err(error)
+        }
+    }
+}
 
 /// The upcall returned, and the script goes on.
 fn continued<'a>(
@@ -42,11 +72,10 @@ fn continued<'a>(
         ledger,
         open,
     } = active;
-    let mut world = guarded.close();
-    let gave = Gave::Value(value_of(&world, wire));
-    let worked = returned(alloc, kernel_code(watch), &mut world, gave)?;
-    match behind(worked, Between { world, ledger }) {
-        Commanded::Goes(between) => do_commands(alloc, watch, script, open.done, between),
+    let begun = open.done;
+    drop(open);
+    match ended(alloc, watch, wire, guarded, ledger)? {
+        Commanded::Goes(between) => do_commands(alloc, watch, script, begun, between),
         Commanded::Rests(pending) => Ok(pending),
     }
 }
@@ -114,14 +143,7 @@ pub(crate) fn taken<'a>(
             runs,
         } => {
             let active = applied(active, ticks, runs.as_slice())?;
-            let Active {
-                guarded,
-                ledger,
-                open,
-            } = active;
-            drop(ledger);
-            drop(open);
-            Ok(over(End::Stop(stop_of(stop), Some(at)), guarded))
+            Ok(over_in(End::Stop(stop_of(stop), Some(at)), active))
         }
     }
 }

@@ -18,8 +18,7 @@ use crate::state::{Between, Ledger, Pending};
 use mdr_cells::CellSet;
 use mdr_core::{At, Limit, OutOfMemory, StopKind, Value};
 use mdr_model::End;
-use mdr_reach::visible;
-use mdr_watch::{Guarded, Watch, entry_roots, touched};
+use mdr_watch::{Guarded, Upcall, Watch, first_set};
 use mdr_world::World;
 use std::alloc::Global;
 
@@ -61,29 +60,24 @@ pub(crate) fn calls<'a>(
     ensures kept { IfOk result (KeptFor watch.entry) }
     ensures comes { IfOk result (λ p. (script : List AnyCommand) (before : AnyWorld) → ComesTo p script (calls (driver_in watch.entry) func (wires_of args.now) between.entry.world.world (kernel_with between.entry.ledger before) (drop begun script))) }
 {
-    let Between { world, ledger } = between;
-    if world.is_in_user() {
+    if between.world.is_in_user() {
+        drop(between);
         return Err(Limit::Unmet.past());
     }
-    let _in_order = world.births();
-    let keys = touched(watch.plan, func);
-    let roots = entry_roots(alloc, watch.program, func, args)?;
-    let none = CellSet::new(alloc);
-    let memory = world.blocks();
-    let taken = visible(
-        alloc,
-        watch.program,
-        keys,
-        memory,
-        &none,
-        roots.as_slice(),
-        args,
-    )?;
-    match taken {
-        Ok(set) => call_opened(alloc, watch, func, args, set, world, ledger, begun),
-        Err(_) => Ok(Pending::Over(
-            End::Stop(StopKind::Annotation, Some(At { func, stmt: 0 })),
-            world,
-        )),
+    match first_set(alloc, Upcall { watch, func }, args, &between.world) {
+        Ok(Ok(set)) => {
+            let Between { world, ledger } = between;
+            call_opened(alloc, watch, func, args, set, world, ledger, begun)
+        }
+        Ok(Err(_)) => {
+            let Between { world, ledger } = between;
+            drop(ledger);
+            let end = End::Stop(StopKind::Annotation, Some(At { func, stmt: 0 }));
+            Ok(Pending::Over(end, world))
+        }
+        Err(error) => {
+            drop(between);
+            Err(error)
+        }
     }
 }

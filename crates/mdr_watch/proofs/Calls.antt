@@ -1,5 +1,5 @@
 -- What user code asks for and calls, with its set beside the world.
-use Rattle.std.proofs.Common.{◌≡◌, ℕ, ◌<◌, ◌≤◌, true, List, ◌++◌, length, Option, Some, Result, Ok, refl, sym, ◌∙◌, ap, subst, arith, le_refl}
+use Rattle.std.proofs.Common.{◌≡◌, ℕ, ◌<◌, ◌≤◌, true, List, ◌++◌, length, Option, Some, Result, Ok, Err, IfOk, refl, sym, ◌∙◌, ap, subst, arith, le_refl}
 use Rattle.std.specs.Prelude.{map}
 use Rattle.mdr_core.specs.declared.place.At.{At}
 use Rattle.mdr_core.specs.declared.plan.Key.{Key}
@@ -194,3 +194,7 @@ module _ (u : Upcall) (w : Driven) (set : List Cell) (gd : Driven) (is : driver 
 -- the cells of a set that was taken are of blocks that live
 pub live_now : (program : Program) (keys : List Key) (m : Memory) (known set : List Cell) (r : Roots) (x : Result (List Cell) Failing) (w : World) → IsOrdered w → m ≡ w.memory → answered x ≡ visible program keys m known r → x ≡ Ok set → AreLive w.memory set
 live_now program keys m known set r x w o e is same = sets_are_viewed.taken program keys known r set w o (sym (sym (ap answered same) ∙ is ∙ ap (λ z. visible program keys z known r) e))
+
+pub live_if : (program : Program) (keys : List Key) (m : Memory) (known : List Cell) (r : Roots) (x : Result (List Cell) Failing) (w : World) → IsOrdered w → m ≡ w.memory → answered x ≡ visible program keys m known r → IfOk x (λ set. AreLive w.memory set)
+live_if program keys m known r (Ok set) w o e is = live_now program keys m known set r (Ok set) w o e is refl
+live_if program keys m known r (Err failing) w o e is = tt

@@ -13,7 +13,6 @@ use Rattle.mdr_meaning.specs.Values.{wire_of}
 use Rattle.mdr_model.specs.declared.command.Command.{Command}
 use Rattle.mdr_model.specs.declared.command.Command.TheVariants as command
 use Rattle.mdr_model.specs.declared.memory.Cell.{Cell}
-use Rattle.mdr_model.specs.declared.outcome.End.{End}
 use Rattle.mdr_plain.specs.Outcome.{outcome_of}
 use Rattle.mdr_plain.specs.Plain.{does as plainly_does}
 use Rattle.mdr_plain.specs.Running.{KernelCode, interrupts, nothing}
@@ -45,18 +44,17 @@ pub gave_closed : (g : Gave) (w : World) (r : Ran Wire) → gave_as g w ≡ r �
 gave_closed (gave.Value v) w r e = ap closing e
 gave_closed (gave.Stopped kind at) w r e = (w.views, ap closing e)
 
--- the function runs with its set, and its set is gone where it ended
-pub ran_entered : (u : Upcall) (args : List Wire) (set : List Cell) (m : Machine) (g : Gave) (w w1 : World) → IsStarted u args m
-    → gave_as g w1 ≡ user_does u (opened set w).clock.rest m (opened set w)
-    → GaveFor g (closed w1) (entered (driver_in u.watch) (held (driver_in u.watch)) u.func args set w)
-ran_entered u args set m g w w1 s is =
-    gave_closed g w1 _ (is ∙ call_is_started (around_user u) nothing (user_code_keeps_ticks (driver_in u.watch) u.func) nothing_gives (user_side u) u.func args 0 (held_in u m) (opened set w) s.by)
+-- what a machine holds ran, and its set is gone where it ended
+pub ran_closed : (u : Upcall) (m : Machine) (g : Gave) (gd gd1 w1 : Driven) → gave_as g gd1.world ≡ user_does u gd.world.clock.rest m gd.world → w1 ≡ driver gd1.program (closed gd1.world)
+    → GaveFor g w1.world (closing (user_does u gd.world.clock.rest m gd.world))
+ran_closed u m g gd gd1 w1 ran gone = subst (λ (d : Driven). GaveFor g d.world (closing (user_does u gd.world.clock.rest m gd.world))) (sym gone) (gave_closed g gd1.world _ ran)
 
-pub ran_closed : (u : Upcall) (args : List Wire) (set : List Cell) (m : Machine) (g : Gave) (program : Program) (w : World) (gd gd1 w1 : Driven) → IsStarted u args m → gd ≡ driver program (opened set w)
-    → gave_as g gd1.world ≡ user_does u gd.world.clock.rest m gd.world → w1 ≡ driver gd1.program (closed gd1.world) → GaveFor g w1.world (entered (driver_in u.watch) (held (driver_in u.watch)) u.func args set w)
-ran_closed u args set m g program w gd gd1 w1 s is ran gone =
-    subst (λ (d : Driven). GaveFor g d.world (entered (driver_in u.watch) (held (driver_in u.watch)) u.func args set w)) (sym gone)
-    (ran_entered u args set m g w gd1.world s (ran ∙ ap (λ (d : Driven). user_does u d.world.clock.rest m d.world) is))
+-- the function was started in it, with its set
+pub ran_entered : (u : Upcall) (args : List Wire) (set : List Cell) (m : Machine) (g : Gave) (program : Program) (w : World) (gd w1 : Driven) → IsStarted u args m → gd ≡ driver program (opened set w)
+    → GaveFor g w1.world (closing (user_does u gd.world.clock.rest m gd.world)) → GaveFor g w1.world (entered (driver_in u.watch) (held (driver_in u.watch)) u.func args set w)
+ran_entered u args set m g program w gd w1 s is h =
+    subst (λ r. GaveFor g w1.world (closing r))
+    (ap (λ (d : Driven). user_does u d.world.clock.rest m d.world) is ∙ call_is_started (around_user u) nothing (user_code_keeps_ticks (driver_in u.watch) u.func) nothing_gives (user_side u) u.func args 0 (held_in u m) (opened set w) s.by) h
 
 -- ---- commands
 
@@ -128,14 +126,13 @@ pub ends_at : (d : Driver) (script : List Command) (i : ℕ) (w w0 : World) → 
 ends_at d script i w w0 past rest = subst (λ f. EndsFor worked.Done w f) (sym (at_drop_all (λ cs. commands (does d (held d)) cs w) script i past) ∙ rest) (ends_for d w)
 
 -- the commands were done from the first state on
-pub ran_watched : (program : Program) (plan : Plan) (script : Bound) (ticks : ℕ) (d d' : Driven) (cs : List Command) (e : Worked) (end : End) (o : Outcome)
+pub ran_watched : (program : Program) (plan : Plan) (script : Bound) (ticks : ℕ) (d d' : Driven) (cs : List Command) (e : Worked) (o : Outcome)
     → d ≡ driver program (first_world (known_of program) script ticks) → cs ≡ script.commands → d'.program ≡ program
     → EndsFor e d'.world (commands (does (driver_of program plan) (held (driver_of program plan))) cs d.world)
-    → end ≡ end_of e → o ≡ outcome_of d'.program (finish end d'.world) → o ≡ outcome_of program (watched program plan script ticks)
+    → o ≡ outcome_of d'.program (finish (end_of e) d'.world) → o ≡ outcome_of program (watched program plan script ticks)
 unfolding watched_of kernel_side
-ran_watched program plan script ticks d d' cs e end o first are kept ran ends shown =
+ran_watched program plan script ticks d d' cs e o first are kept ran shown =
     shown
-    ∙ ap (λ p. outcome_of p (finish end d'.world)) kept
-    ∙ ap (λ x. outcome_of program (finish x d'.world)) ends
+    ∙ ap (λ p. outcome_of p (finish (end_of e) d'.world)) kept
     ∙ shown_so program e d'.world _ ran
     ∙ ap (outcome_of program) (ap (λ x. commands (does (driver_of program plan) (held (driver_of program plan))) x d.world) are ∙ ap (λ (x : Driven). commands (does (driver_of program plan) (held (driver_of program plan))) script.commands x.world) first)

@@ -3,9 +3,12 @@
 ghost use Rattle.std.specs.Prelude.{◌≡◌, IfOk, true};
 ghost use Rattle.mdr_core.specs.Sound.{IsSound};
 ghost use Rattle.mdr_model.specs.declared.command.Command.TheVariants as command;
-ghost use Rattle.mdr_plain.specs.Scripts.{commands};
+ghost use Rattle.mdr_plain.specs.Running.{interrupts};
+ghost use Rattle.mdr_plain.specs.Scripts.{begun, commands, returned};
 ghost use Rattle.mdr_watched.specs.Driver.{is_user as is_user_in};
-ghost use Rattle.mdr_watched.specs.Watched.{does, held};
+ghost use Rattle.mdr_watched.specs.Watched.{does, held, kernel_of};
+ghost use Rattle.mdr_whole.specs.Ending.{gave_as, worked_as};
+ghost use Rattle.mdr_world.specs.Driven.{driver};
 ghost use Rattle.mdr_watch.specs.Leaving.{EndsFor, WorkedFor};
 ghost use Rattle.mdr_watch.specs.Watching.{IsFit, IsKernel, driver_in};
 
@@ -26,6 +29,44 @@ pub struct Did<'a> {
     pub world: World<'a>,
 }
 
+/// The call of a function is noted.
+fn noted<'a>(
+    alloc: Global,
+    world: World<'a>,
+    func: u32,
+    args: &[Value],
+) -> Result<World<'a>, OutOfMemory>
+    ensures { IfOk result (λ w. w ≡ driver world.entry.program (begun world.entry.program func args.now world.entry.world)) }
+{
+    let mut world = world;
+    match note_call(alloc, &mut world, func, args) {
+        Ok(()) => Ok(world),
+        Err(error) => {
+            drop(world);
+            Err(error)
+        }
+    }
+}
+
+/// What an upcall gave is noted, and then the interrupt rule is tried once more.
+fn come_back<'a>(alloc: Global, watch: Watch, closed: Closed<'a>) -> Result<Did<'a>, OutOfMemory>
+    requires sound { IsSound watch.program.now }
+    requires fit { IsFit watch }
+    requires same { closed.world.program ≡ watch.program.now }
+    ensures kept { IfOk result (λ r. r.world.program ≡ watch.entry.program.now) }
+    ensures worked { IfOk result (λ r. worked_as r.worked r.world.world ≡ returned (interrupts (kernel_of (driver_in watch.entry))) (gave_as closed.entry.gave closed.entry.world.world)) }
+{
+    let Closed { gave, world } = closed;
+    let mut world = world;
+    match returned(alloc, kernel_code(watch), &mut world, gave) {
+        Ok(worked) => Ok(Did { worked, world }),
+        Err(error) => {
+            drop(world);
+            Err(error)
+        }
+    }
+}
+
 /// A function of the user half is called.
 fn upcall_command<'a>(
     alloc: Global,
@@ -41,12 +82,10 @@ fn upcall_command<'a>(
     ensures kept { IfOk result (λ r. r.world.program ≡ watch.entry.program.now) }
     ensures worked { IfOk result (λ r. WorkedFor r.worked r.world.world (does (driver_in watch.entry) (held (driver_in watch.entry)) (command.Call func args.now) world.entry.world)) }
 {
-    let mut world = world;
-    note_call(alloc, &mut world, func, args)?;
-    let Closed { gave, world: left } = call_user(alloc, Upcall { watch, func }, args, world)?;
-    let mut world = left;
-    let worked = returned(alloc, kernel_code(watch), &mut world, gave)?;
-    Ok(Did { worked, world })
+    let noted = noted(alloc, world, func, args)?;
+    let closed = call_user(alloc, Upcall { watch, func }, args, noted)?;
+    let did = come_back(alloc, watch, closed)?;
+    Ok(did)
 }
 
 /// A command in which no function of the user half is called.
@@ -64,8 +103,13 @@ fn kernel_command<'a>(
     ensures worked { IfOk result (λ r. WorkedFor r.worked r.world.world (does (driver_in watch.entry) (held (driver_in watch.entry)) command.now world.entry.world)) }
 {
     let mut world = world;
-    let worked = do_command(alloc, kernel_code(watch), &mut world, command)?;
-    Ok(Did { worked, world })
+    match do_command(alloc, kernel_code(watch), &mut world, command) {
+        Ok(worked) => Ok(Did { worked, world }),
+        Err(error) => {
+            drop(world);
+            Err(error)
+        }
+    }
 }
 
 /// A command is done.

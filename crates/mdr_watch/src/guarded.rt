@@ -5,7 +5,7 @@ ghost use Rattle.mdr_meaning.specs.Values.{wire_of};
 ghost use Rattle.mdr_model.specs.Memory.{normal};
 ghost use Rattle.mdr_viewed.specs.Viewed.{IsOlder, viewed};
 ghost use Rattle.mdr_watched.specs.Order.{AreLive};
-ghost use Rattle.mdr_watched.specs.Views.{closed, opened};
+ghost use Rattle.mdr_watched.specs.Views.{closed, living, opened, top};
 ghost use Rattle.mdr_world.specs.Driven.{Ticks, driver};
 ghost use Rattle.mdr_watch.specs.Guarding.{IsGuarded};
 
@@ -22,8 +22,8 @@ use std::marker::Model;
 /// cells of the set those whose blocks live.
 #[derive(Drop)]
 pub struct Guarded<'a> {
-    world: World<'a>,
-    set: CellSet,
+    pub(crate) world: World<'a>,
+    pub(crate) set: CellSet,
 }
 
 impl<'a> Model for Guarded<'a> {
@@ -50,6 +50,14 @@ pub struct Parts<'a> {
     pub set: CellSet,
 }
 
+/// The set is emptied, and an upcall is open: so a world stands beside it, whatever was left where memory was wanting.
+pub(crate) fn forget(alloc: Global, world: &mut World, set: &mut CellSet)
+    ensures { IsGuarded set.new world.new.world }
+{
+    *set = CellSet::new(alloc);
+    world.enter_user();
+}
+
 impl<'a> Guarded<'a> {
     /// A world with a set beside it.
     pub fn beside(world: World<'a>, set: CellSet) -> Guarded<'a>
@@ -66,6 +74,23 @@ impl<'a> Guarded<'a> {
     {
         let Guarded { world, set } = self;
         Parts { world, set }
+    }
+
+    /// Lends the world, in which the set isn't.
+    pub fn world(&self) -> &World<'a>
+        ensures memory { result.now.world.memory ≡ self.now.world.memory }
+        ensures clock { result.now.world.clock ≡ self.now.world.clock }
+        ensures kept { result.now.world.kept ≡ self.now.world.kept }
+        ensures program { result.now.program ≡ self.now.program }
+    {
+        &self.world
+    }
+
+    /// Lends the set, in which there may be cells of dead blocks.
+    pub fn set(&self) -> &CellSet
+        ensures { living self.now.world.memory result.now ≡ top self.now.world.views }
+    {
+        &self.set
     }
 
     /// An upcall opens with a set.

@@ -21,7 +21,7 @@ mod whole;
 pub use asks::ask;
 pub use downcalls::downcall;
 pub use guarded::{Guarded, Parts};
-pub use next::{Answer, Ended};
 pub use roots::entry_roots;
+pub use upcall::first_set;
 pub use watch::{Upcall, Watch, is_fit, is_user, kernel_code, touched};
 pub use whole::run_watched;

@@ -1,6 +1,6 @@
 // User code runs from event to event.
 
-ghost use Rattle.std.specs.Prelude.{◌≡◌, ◌-◌, IfOk};
+ghost use Rattle.std.specs.Prelude.{◌≡◌, ◌-◌, IfOk, OnOk};
 ghost use Rattle.mdr_core.specs.Sound.{IsSound};
 ghost use Rattle.mdr_events.specs.declared.event.Event.TheVariants as event;
 ghost use Rattle.mdr_events.specs.Going.{RanTo};
@@ -14,7 +14,6 @@ ghost use Rattle.mdr_watch.specs.Watching.{IsFit, driver_in};
 use crate::asks::ask;
 use crate::downcalls::downcall;
 use crate::guarded::Guarded;
-use crate::next::{Answer, Ended, Turn};
 use crate::watch::Upcall;
 use mdr_core::{At, Limit, OutOfMemory, StopKind, Value};
 use mdr_events::{Asked, Crossing, Event};
@@ -76,30 +75,23 @@ fn go_on(
 }
 
 /// A tick is wanted: it is counted, if one is left, and user code goes on. Nothing is tried before it.
-fn tick<'a>(
+fn tick(
     machine: &mut Machine,
     alloc: Global,
     upcall: Upcall,
-    guarded: Guarded<'a>,
+    guarded: &mut Guarded,
     at: At,
-) -> Result<Turn<'a>, OutOfMemory>
+) -> Result<Next, OutOfMemory>
     requires sound { IsSound upcall.watch.program.now }
     requires fit { IsFit upcall.watch }
-    requires same { guarded.program ≡ upcall.watch.program.now }
-    ensures { IfOk result (λ r. GoesOn upcall.entry machine.old (event.TicksOut at) guarded.entry machine.new r.next r.guarded) }
+    requires same { guarded.old.program ≡ upcall.watch.program.now }
+    ensures { IfOk result (λ n. GoesOn upcall.entry machine.old (event.TicksOut at) guarded.old machine.new n guarded.new) }
 {
-    let mut guarded = guarded;
     if guarded.tick() {
-        let event = go_on(machine, alloc, upcall, &mut guarded)?;
-        return Ok(Turn {
-            next: Next::Came(event),
-            guarded,
-        });
+        let event = go_on(machine, alloc, upcall, guarded)?;
+        return Ok(Next::Came(event));
     }
-    Ok(Turn {
-        next: Next::Gave(Gave::Stopped(StopKind::Ticks, Some(at))),
-        guarded,
-    })
+    Ok(Next::Gave(Gave::Stopped(StopKind::Ticks, Some(at))))
 }
 
 /// Whether a machine waits for so many answers.
@@ -121,138 +113,127 @@ fn fits(front: &Front, results: &[Value]) -> bool
 }
 
 /// Goes on with the answers of the question that is open.
-fn resume<'a>(
+fn resume(
     machine: &mut Machine,
     alloc: Global,
     upcall: Upcall,
-    guarded: Guarded<'a>,
+    guarded: &mut Guarded,
     results: &[Value],
-) -> Result<Turn<'a>, OutOfMemory>
+) -> Result<Next, OutOfMemory>
     requires sound { IsSound upcall.watch.program.now }
     requires fit { IsFit upcall.watch }
-    requires same { guarded.program ≡ upcall.watch.program.now }
-    ensures { IfOk result (λ r. GoesOnWith upcall.entry (wires_of results.now) machine.old guarded.entry machine.new r.next r.guarded) }
+    requires same { guarded.old.program ≡ upcall.watch.program.now }
+    ensures { IfOk result (λ n. GoesOnWith upcall.entry (wires_of results.now) machine.old guarded.old machine.new n guarded.new) }
 {
     if !fits(&machine.front, results) {
         return Err(Limit::Unmet.past());
     }
     machine.resume(results);
-    let mut guarded = guarded;
-    let event = begin(machine, alloc, upcall, &mut guarded)?;
-    Ok(Turn {
-        next: Next::Came(event),
-        guarded,
-    })
+    let event = begin(machine, alloc, upcall, guarded)?;
+    Ok(Next::Came(event))
 }
 
 /// A service is asked for.
-fn answer<'a>(
+fn answer(
     machine: &mut Machine,
     alloc: Global,
     upcall: Upcall,
-    guarded: Guarded<'a>,
+    guarded: &mut Guarded,
     asked: &Asked,
-) -> Result<Turn<'a>, OutOfMemory>
+) -> Result<Next, OutOfMemory>
     requires sound { IsSound upcall.watch.program.now }
     requires fit { IsFit upcall.watch }
-    requires same { guarded.program ≡ upcall.watch.program.now }
-    ensures { IfOk result (λ r. GoesOn upcall.entry machine.old (event.Service asked.now) guarded.entry machine.new r.next r.guarded) }
+    requires same { guarded.old.program ≡ upcall.watch.program.now }
+    ensures { IfOk result (λ n. GoesOn upcall.entry machine.old (event.Service asked.now) guarded.old machine.new n guarded.new) }
 {
-    let Answer {
-        served,
-        guarded: left,
-    } = ask(alloc, upcall, guarded, asked)?;
+    let served = ask(alloc, upcall, guarded, asked)?;
     match served {
-        Served::Done(results) => resume(machine, alloc, upcall, left, results.as_slice()),
-        Served::Stop(kind) => Ok(Turn {
-            next: Next::Gave(Gave::Stopped(kind, Some(asked.at))),
-            guarded: left,
-        }),
+        Served::Done(results) => resume(machine, alloc, upcall, guarded, results.as_slice()),
+        Served::Stop(kind) => Ok(Next::Gave(Gave::Stopped(kind, Some(asked.at)))),
     }
 }
 
 /// A function of the kernel half is called.
-fn cross<'a>(
+fn cross(
     machine: &mut Machine,
     alloc: Global,
     upcall: Upcall,
-    guarded: Guarded<'a>,
+    guarded: &mut Guarded,
     crossing: &Crossing,
-) -> Result<Turn<'a>, OutOfMemory>
+) -> Result<Next, OutOfMemory>
     requires sound { IsSound upcall.watch.program.now }
     requires fit { IsFit upcall.watch }
-    requires same { guarded.program ≡ upcall.watch.program.now }
-    ensures { IfOk result (λ r. GoesOn upcall.entry machine.old (event.Cross crossing.now) guarded.entry machine.new r.next r.guarded) }
+    requires same { guarded.old.program ≡ upcall.watch.program.now }
+    ensures { IfOk result (λ n. GoesOn upcall.entry machine.old (event.Cross crossing.now) guarded.old machine.new n guarded.new) }
 {
-    let Ended {
-        gave,
-        guarded: left,
-    } = downcall(alloc, upcall, guarded, crossing)?;
+    let gave = downcall(alloc, upcall, guarded, crossing)?;
     match gave {
-        Gave::Value(value) => resume(machine, alloc, upcall, left, &[value]),
-        Gave::Stopped(kind, at) => Ok(Turn {
-            next: Next::Gave(Gave::Stopped(kind, at)),
-            guarded: left,
-        }),
+        Gave::Value(value) => resume(machine, alloc, upcall, guarded, &[value]),
+        Gave::Stopped(kind, at) => Ok(Next::Gave(Gave::Stopped(kind, at))),
     }
 }
 
 /// What follows an event.
-fn follow<'a>(
+fn follow(
     machine: &mut Machine,
     alloc: Global,
     upcall: Upcall,
-    guarded: Guarded<'a>,
+    guarded: &mut Guarded,
     event: &Event,
-) -> Result<Turn<'a>, OutOfMemory>
+) -> Result<Next, OutOfMemory>
     requires sound { IsSound upcall.watch.program.now }
     requires fit { IsFit upcall.watch }
-    requires same { guarded.program ≡ upcall.watch.program.now }
-    ensures { IfOk result (λ r. GoesOn upcall.entry machine.old event.now guarded.entry machine.new r.next r.guarded) }
+    requires same { guarded.old.program ≡ upcall.watch.program.now }
+    ensures { IfOk result (λ n. GoesOn upcall.entry machine.old event.now guarded.old machine.new n guarded.new) }
 {
     match event {
-        Event::Done(value) => {
-            let now = guarded.now(*value);
-            Ok(Turn {
-                next: Next::Gave(Gave::Value(now)),
-                guarded,
-            })
-        }
-        Event::Stop(kind, at) => Ok(Turn {
-            next: Next::Gave(Gave::Stopped(*kind, Some(*at))),
-            guarded,
-        }),
+        Event::Done(value) => Ok(Next::Gave(Gave::Value(guarded.now(*value)))),
+        Event::Stop(kind, at) => Ok(Next::Gave(Gave::Stopped(*kind, Some(*at)))),
         Event::Service(asked) => answer(machine, alloc, upcall, guarded, asked),
         Event::TicksOut(at) => tick(machine, alloc, upcall, guarded, *at),
         Event::Cross(crossing) => cross(machine, alloc, upcall, guarded, crossing),
     }
 }
 
-/// Runs a machine until the function that was started in it ends.
-pub(crate) fn run<'a>(
+/// What follows an event, which is let go of then.
+fn follow_up(
     machine: &mut Machine,
     alloc: Global,
     upcall: Upcall,
-    guarded: Guarded<'a>,
-) -> Result<Ended<'a>, OutOfMemory>
+    guarded: &mut Guarded,
+    event: Event,
+) -> Result<Next, OutOfMemory>
     requires sound { IsSound upcall.watch.program.now }
     requires fit { IsFit upcall.watch }
-    requires same { guarded.program ≡ upcall.watch.program.now }
-    ensures kept { IfOk result (λ r. r.guarded.program ≡ upcall.entry.watch.program.now) }
-    ensures gave { IfOk result (λ r. gave_as r.gave r.guarded.world ≡ user_does upcall.entry guarded.entry.world.clock.rest machine.old guarded.entry.world) }
+    requires same { guarded.old.program ≡ upcall.watch.program.now }
+    ensures { IfOk result (λ n. GoesOn upcall.entry machine.old event guarded.old machine.new n guarded.new) }
 {
-    let mut guarded = guarded;
-    let mut event = begin(machine, alloc, upcall, &mut guarded)?;
+    let next = follow(machine, alloc, upcall, guarded, &event);
+    drop(event);
+    next
+}
+
+/// Runs a machine until the function that was started in it ends.
+pub(crate) fn run(
+    machine: &mut Machine,
+    alloc: Global,
+    upcall: Upcall,
+    guarded: &mut Guarded,
+) -> Result<Gave, OutOfMemory>
+    requires sound { IsSound upcall.watch.program.now }
+    requires fit { IsFit upcall.watch }
+    requires same { guarded.old.program ≡ upcall.watch.program.now }
+    ensures kept { OnOk result (guarded.new.program ≡ upcall.entry.watch.program.now) }
+    ensures gave { IfOk result (λ g. gave_as g guarded.new.world ≡ user_does upcall.entry guarded.old.world.clock.rest machine.old guarded.old.world) }
+{
+    let mut event = begin(machine, alloc, upcall, guarded)?;
     for _turn in 0..u64::MAX {
-        let Turn {
-            next,
-            guarded: left,
-        } = follow(machine, alloc, upcall, guarded, &event)?;
-        guarded = left;
+        let next = follow_up(machine, alloc, upcall, guarded, event)?;
         match next {
             Next::Came(other) => event = other,
-            Next::Gave(gave) => return Ok(Ended { gave, guarded }),
+            Next::Gave(gave) => return Ok(gave),
         }
     }
+    drop(event);
     Err(Limit::Turns.past())
 }

@@ -3,25 +3,27 @@
 ghost use Rattle.std.specs.Prelude.{◌≡◌, [], Some, IfOk, IsTrue, slice_get};
 ghost use Rattle.mdr_core.specs.Sound.{IsSound};
 ghost use Rattle.mdr_events.specs.Values.{wires_of};
+ghost use Rattle.mdr_extents.specs.Reaching.{visible};
 ghost use Rattle.mdr_meaning.specs.Bodies.{body_of};
 ghost use Rattle.mdr_meaning.specs.Sides.{Body};
+ghost use Rattle.mdr_reach.specs.Answers.{answered};
 ghost use Rattle.mdr_viewed.specs.Viewed.{IsOlder};
-ghost use Rattle.mdr_watched.specs.Driver.{is_user};
+ghost use Rattle.mdr_watched.specs.Driver.{entry_roots, is_user, touched_by};
 ghost use Rattle.mdr_watched.specs.Order.{AreLive};
-ghost use Rattle.mdr_watched.specs.Watched.{entered, held, upcall as up};
-ghost use Rattle.mdr_watch.specs.Going.{IsStarted};
+ghost use Rattle.mdr_watched.specs.Watched.{closing, entered, held, upcall as up};
+ghost use Rattle.mdr_watch.specs.Going.{IsStarted, user_does};
 ghost use Rattle.mdr_watch.specs.Leaving.{GaveFor};
 ghost use Rattle.mdr_watch.specs.Watching.{IsFit, driver_in};
 
 use crate::guarded::Guarded;
-use crate::next::{Closed, Ended};
+use crate::next::Closed;
 use crate::roots::entry_roots;
 use crate::turn::run;
 use crate::watch::{Upcall, func_at, is_user, touched};
 use mdr_cells::CellSet;
 use mdr_core::{At, Limit, OutOfMemory, Program, StopKind, Value};
 use mdr_exec::{Machine, Side};
-use mdr_reach::visible;
+use mdr_reach::{Failing, visible};
 use mdr_whole::Gave;
 use mdr_world::World;
 use std::alloc::Global;
@@ -56,6 +58,35 @@ fn started(alloc: Global, upcall: Upcall, args: &[Value]) -> Result<Machine, Out
     Ok(machine)
 }
 
+/// What a machine holds runs to its end, and the set is gone.
+fn run_out<'a>(
+    alloc: Global,
+    upcall: Upcall,
+    machine: Machine,
+    guarded: Guarded<'a>,
+) -> Result<Closed<'a>, OutOfMemory>
+    requires sound { IsSound upcall.watch.program.now }
+    requires fit { IsFit upcall.watch }
+    requires same { guarded.program ≡ upcall.watch.program.now }
+    ensures kept { IfOk result (λ r. r.world.program ≡ upcall.entry.watch.program.now) }
+    ensures gave { IfOk result (λ r. GaveFor r.gave r.world.world (closing (user_does upcall.entry guarded.entry.world.clock.rest machine guarded.entry.world))) }
+{
+    let mut machine = machine;
+    let mut guarded = guarded;
+    let ran = run(&mut machine, alloc, upcall, &mut guarded);
+    drop(machine);
+    match ran {
+        Ok(gave) => {
+            let world = guarded.close();
+            Ok(Closed { gave, world })
+        }
+        Err(error) => {
+            drop(guarded);
+            Err(error)
+        }
+    }
+}
+
 /// It runs, with the set that it begins with.
 fn enter<'a>(
     alloc: Global,
@@ -73,14 +104,35 @@ fn enter<'a>(
     ensures kept { IfOk result (λ r. r.world.program ≡ upcall.entry.watch.program.now) }
     ensures gave { IfOk result (λ r. GaveFor r.gave r.world.world (entered (driver_in upcall.entry.watch) (held (driver_in upcall.entry.watch)) upcall.entry.func (wires_of args.now) set world.entry.world)) }
 {
-    let mut machine = started(alloc, upcall, args)?;
     let guarded = Guarded::new(world, set);
-    let Ended {
-        gave,
-        guarded: left,
-    } = run(&mut machine, alloc, upcall, guarded)?;
-    let world = left.close();
-    Ok(Closed { gave, world })
+    match started(alloc, upcall, args) {
+        Ok(machine) => run_out(alloc, upcall, machine, guarded),
+        Err(error) => {
+            drop(guarded);
+            Err(error)
+        }
+    }
+}
+
+/// The set with which an upcall begins, from its arguments and the globals, or the pointer that fails.
+pub fn first_set(
+    alloc: Global,
+    upcall: Upcall,
+    args: &[Value],
+    world: &World,
+) -> Result<Result<CellSet, Failing>, OutOfMemory>
+    ensures exact { IfOk result (λ r. answered r ≡ visible upcall.entry.watch.program.now (touched_by upcall.entry.watch.plan.now upcall.entry.func) world.now.world.memory [] (entry_roots upcall.entry.watch.program.now upcall.entry.func (wires_of args.now))) }
+    ensures live { IfOk result (λ r. IfOk r (λ set. AreLive world.now.world.memory set)) }
+    ensures older { IfOk result (λ r. IfOk r (λ set. IsOlder set world.now.world)) }
+{
+    let _in_order = world.births();
+    let program = upcall.watch.program;
+    let keys = touched(upcall.watch.plan, upcall.func);
+    let roots = entry_roots(alloc, program, upcall.func, args)?;
+    let none = CellSet::new(alloc);
+    let memory = world.blocks();
+    let taken = visible(alloc, program, keys, memory, &none, roots.as_slice(), args)?;
+    Ok(taken)
 }
 
 /// It is called: its set is taken, from its arguments and the globals. A function without a body answers want of memory,
@@ -99,26 +151,24 @@ pub(crate) fn call_user<'a>(
     ensures gave { IfOk result (λ r. GaveFor r.gave r.world.world (up (driver_in upcall.entry.watch) (held (driver_in upcall.entry.watch)) upcall.entry.func (wires_of args.now) world.entry.world)) }
 {
     if world.is_in_user() {
+        drop(world);
         return Err(Limit::Unmet.past());
     }
-    let _in_order = world.births();
-    let program = upcall.watch.program;
-    let keys = touched(upcall.watch.plan, upcall.func);
-    let roots = entry_roots(alloc, program, upcall.func, args)?;
-    let none = CellSet::new(alloc);
-    let memory = world.blocks();
-    let taken = visible(alloc, program, keys, memory, &none, roots.as_slice(), args)?;
-    match taken {
-        Ok(set) => enter(alloc, upcall, args, set, world),
-        Err(_) => Ok(Closed {
-            gave: Gave::Stopped(
-                StopKind::Annotation,
-                Some(At {
-                    func: upcall.func,
-                    stmt: 0,
-                }),
-            ),
-            world,
-        }),
+    match first_set(alloc, upcall, args, &world) {
+        Ok(Ok(set)) => enter(alloc, upcall, args, set, world),
+        Ok(Err(_)) => {
+            let at = At {
+                func: upcall.func,
+                stmt: 0,
+            };
+            Ok(Closed {
+                gave: Gave::Stopped(StopKind::Annotation, Some(at)),
+                world,
+            })
+        }
+        Err(error) => {
+            drop(world);
+            Err(error)
+        }
     }
 }

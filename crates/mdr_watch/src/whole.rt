@@ -3,6 +3,7 @@
 ghost use Rattle.std.specs.Prelude.{◌≡◌, IfOk};
 ghost use Rattle.mdr_core.specs.Sound.{IsSound};
 ghost use Rattle.mdr_plain.specs.Outcome.{outcome_of};
+ghost use Rattle.mdr_plain.specs.Scripts.{finish};
 ghost use Rattle.mdr_watched.specs.Watched.{watched};
 ghost use Rattle.mdr_whole.specs.Ending.{end_of};
 
@@ -26,6 +27,17 @@ fn end_of(worked: Worked) -> End
     }
 }
 
+/// What a run shows that ended so.
+fn shown_of(alloc: Global, did: Did) -> Result<Outcome, OutOfMemory>
+    ensures { IfOk result (λ o. o ≡ outcome_of did.entry.world.program (finish (end_of did.entry.worked) did.entry.world.world)) }
+{
+    let Did { worked, world } = did;
+    let mut world = world;
+    let shown = outcome(alloc, &mut world, end_of(worked));
+    drop(world);
+    shown
+}
+
 /// Runs a script for a driver on one memory, with so many ticks, while its user half is held to what the plan lets it touch,
 /// and gives what the run shows. A plan that hasn't a half for each function answers want of memory.
 #[tactic(auto, unfolding(mdr_watched::specs::Watched::watched_of))]
@@ -44,11 +56,7 @@ pub fn run_watched(
         return Err(Limit::Unmet.past());
     }
     let world = World::new(alloc, program, script, ticks)?;
-    let Did {
-        worked,
-        world: left,
-    } = do_commands(alloc, watch, world, script.commands.as_slice())?;
-    let mut world = left;
-    let shown = outcome(alloc, &mut world, end_of(worked))?;
+    let did = do_commands(alloc, watch, world, script.commands.as_slice())?;
+    let shown = shown_of(alloc, did)?;
     Ok(shown)
 }

@@ -45,14 +45,22 @@ module _ (code : KernelCode) (program : Program) (all : ℕ) (d0 : Driven) where
   pub idles_end : (i : ℕ) (d : Driven) → all ≤ i → Idles code program all d0 i d → done d.world ≡ idle (interrupts code) all d0.world
   idles_end i d past s = sym (idle_ends (interrupts code) all i d.world past) ∙ s.rest
 
--- the commands were done from the first state on, with the code of all functions
-pub ran_whole : (program : Program) (script : Bound) (ticks : ℕ) (d d' : Driven) (cs : List Command) (e : Worked) (end : End) (o : Outcome)
-    → d ≡ driver program (first_world (known_of program) script ticks) → cs ≡ script.commands → d'.program ≡ program
-    → finished e d'.world ≡ commands (does (whole program (side_in which.Whole [] program))) cs d.world
-    → end ≡ end_of e → o ≡ outcome_of d'.program (finish end d'.world) → o ≡ outcome_of program (plain program script ticks)
-unfolding plain_of whole_side
-ran_whole program script ticks d d' cs e end o first are kept ran ends shown =
+-- the commands were done from a state on, with the code of all functions, and their end is shown
+pub shown_by : (program : Program) (d d' : Driven) (cs : List Command) (e : Worked) (end : End) (o : Outcome)
+    → d'.program ≡ program → finished e d'.world ≡ commands (does (whole program (side_in which.Whole [] program))) cs d.world
+    → end ≡ end_of e → o ≡ outcome_of d'.program (finish end d'.world) → o ≡ outcome_of program (commands (does (whole program (whole_side program))) cs d.world)
+unfolding whole_side
+shown_by program d d' cs e end o kept ran ends shown =
     shown
     ∙ ap (λ p. outcome_of p (finish end d'.world)) kept
     ∙ ap (λ x. outcome_of program (finish x d'.world)) ends
-    ∙ ap (outcome_of program) (ran ∙ ap (λ x. commands (does (whole program (side_in which.Whole [] program))) x d.world) are ∙ ap (λ (x : Driven). commands (does (whole program (side_in which.Whole [] program))) script.commands x.world) first)
+    ∙ ap (outcome_of program) ran
+
+-- they were done from the first state on
+pub ran_whole : (program : Program) (script : Bound) (ticks : ℕ) (d : Driven) (cs : List Command) (o : Outcome)
+    → d ≡ driver program (first_world (known_of program) script ticks) → cs ≡ script.commands
+    → o ≡ outcome_of program (commands (does (whole program (whole_side program))) cs d.world) → o ≡ outcome_of program (plain program script ticks)
+unfolding plain_of whole_side
+ran_whole program script ticks d cs o first are shown =
+    shown
+    ∙ ap (outcome_of program) (ap (λ x. commands (does (whole program (whole_side program))) x d.world) are ∙ ap (λ (x : Driven). commands (does (whole program (whole_side program))) script.commands x.world) first)

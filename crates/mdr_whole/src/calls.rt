@@ -9,7 +9,7 @@ ghost use Rattle.mdr_meaning.specs.Sides.{Body};
 ghost use Rattle.mdr_plain.specs.Running.{call};
 ghost use Rattle.mdr_runs.specs.Following.{tried_by};
 ghost use Rattle.mdr_whole.specs.Ending.{gave_as};
-ghost use Rattle.mdr_whole.specs.Going.{IsStarted, driver_code, side_of};
+ghost use Rattle.mdr_whole.specs.Going.{IsStarted, driver_code, machine_does, side_of};
 
 use crate::before::Before;
 use crate::code::Code;
@@ -91,6 +91,24 @@ fn started(
     Ok(machine)
 }
 
+/// Runs a machine to its end, and lets go of it.
+fn run_out<B: Before>(
+    alloc: Global,
+    code: Code,
+    world: &mut World,
+    machine: Machine,
+) -> Result<Gave, OutOfMemory>
+    requires sound { IsSound code.program.now }
+    requires same { world.old.program ≡ code.program.now }
+    ensures kept { OnOk result (world.new.program ≡ code.entry.program.now) }
+    ensures gave { IfOk result (λ g. gave_as g world.new.world ≡ machine_does code.entry.program.now (side_of code.entry) (tried_by B.tries code.entry.program.now (side_of code.entry)) world.old.world.clock.rest machine world.old.world) }
+{
+    let mut machine = machine;
+    let gave = run::<B>(&mut machine, alloc, code, world);
+    drop(machine);
+    gave
+}
+
 /// Calls a function, with so many active before it. A function that isn't one of those that run, or that has no body,
 /// answers want of memory, and so does a call of one that isn't.
 #[tactic(auto, unfolding(mdr_plain::specs::Running::call))]
@@ -107,7 +125,7 @@ pub fn call<B: Before>(
     ensures kept { OnOk result (world.new.program ≡ code.entry.program.now) }
     ensures gave { IfOk result (λ g. gave_as g world.new.world ≡ call (driver_code code.entry) (tried_by B.tries code.entry.program.now (side_of code.entry)) func (wires_of args.now) depth world.old.world) }
 {
-    let mut machine = started(alloc, code, func, args, depth)?;
-    let gave = run::<B>(&mut machine, alloc, code, world)?;
+    let machine = started(alloc, code, func, args, depth)?;
+    let gave = run_out::<B>(alloc, code, world, machine)?;
     Ok(gave)
 }

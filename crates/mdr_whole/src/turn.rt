@@ -225,6 +225,23 @@ fn follow<B: Before>(
     }
 }
 
+/// What follows an event, which is let go of then.
+fn follow_up<B: Before>(
+    machine: &mut Machine,
+    alloc: Global,
+    code: Code,
+    world: &mut World,
+    event: Event,
+) -> Result<Next, OutOfMemory>
+    requires sound { IsSound code.program.now }
+    requires same { world.old.program ≡ code.program.now }
+    ensures { IfOk result (λ n. GoesOn code.entry.program.now (side_of code.entry) (tried_by B.tries code.entry.program.now (side_of code.entry)) machine.old event world.old machine.new n world.new) }
+{
+    let next = follow::<B>(machine, alloc, code, world, &event);
+    drop(event);
+    next
+}
+
 /// Runs a machine until the function that was started in it ends.
 pub(crate) fn run<B: Before>(
     machine: &mut Machine,
@@ -239,11 +256,12 @@ pub(crate) fn run<B: Before>(
 {
     let mut event = begin(machine, alloc, code, world)?;
     for _turn in 0..u64::MAX {
-        let next = follow::<B>(machine, alloc, code, world, &event)?;
+        let next = follow_up::<B>(machine, alloc, code, world, event)?;
         match next {
             Next::Came(other) => event = other,
             Next::Gave(gave) => return Ok(gave),
         }
     }
+    drop(event);
     Err(Limit::Turns.past())
 }

@@ -9,7 +9,7 @@ use Rattle.mdr_watch.proofs.turn.answer.Goals as goal
 pub returns-in-Done : goal.returns-in-Done
 returns-in-Done c =
     IfOk-weaker c.resume.result _ _
-    (λ r h.
-    served_on c.args.upcall c.args.machine.now c.args.guarded c.args.asked.now c.in_ok-served.field-0.served c.in-Done.results c.in_ok-served.field-0.guarded r.guarded c.resume.new.machine r.next c.in-Done.is c.in_ok-served.ensures.served
-    (subst (λ (rs : List Value). GoesOnWith c.args.upcall (wires_of rs) c.args.machine.now c.in_ok-served.field-0.guarded c.resume.new.machine r.next r.guarded) c.as_slice.ensures h))
+    (λ n h.
+    served_on c.args.upcall c.args.machine.now c.args.guarded.now c.args.asked.now c.in_ok-served.served c.in-Done.results c.ask.new.guarded c.resume.new.guarded c.resume.new.machine n c.in-Done.is c.in_ok-served.ensures.served
+    (subst (λ (rs : List Value). GoesOnWith c.args.upcall (wires_of rs) c.args.machine.now c.ask.new.guarded c.resume.new.machine n c.resume.new.guarded) c.as_slice.ensures h))
     c.resume.ensures

@@ -6,5 +6,5 @@ use Rattle.mdr_watch.proofs.turn.resume.Goals as goal
 
 pub returns : goal.returns
 returns c =
-    resumed c.args.upcall (wires_of c.args.results.now) c.args.machine.now c.resume.new.self c.begin.new.machine c.args.guarded c.begin.new.guarded c.in_ok-event.event
+    resumed c.args.upcall (wires_of c.args.results.now) c.args.machine.now c.resume.new.self c.begin.new.machine c.args.guarded.now c.begin.new.guarded c.in_ok-event.event
     (λ f r. c.resume.ensures (program_in c.args.upcall) (user_side c.args.upcall) f r) c.in_ok-event.ensures

@@ -1,8 +1,10 @@
+use Rattle.std.proofs.lemmas.Result.{IfOk-weaker}
 use Rattle.mdr_events.specs.Values.{wires_of}
-use Rattle.mdr_watch.proofs.Runs.{ran_closed}
+use Rattle.mdr_watch.proofs.Runs.{ran_entered}
 use Rattle.mdr_watch.proofs.upcall.enter.Goals as goal
 
-pub returns-clause-gave : goal.returns-clause-gave
-returns-clause-gave c =
-    ran_closed c.args.upcall (wires_of c.args.args.now) c.args.set c.in_ok-machine.machine c.in_ok-gave.field-0.gave c.args.world.program c.args.world.world c.new-guarded.result c.in_ok-gave.field-0.guarded c.close-world.result
-    c.in_ok-machine.ensures c.new-guarded.ensures c.in_ok-gave.ensures.gave c.close-world.ensures
+pub returns-in-Ok-clause-gave : goal.returns-in-Ok-clause-gave
+returns-in-Ok-clause-gave c =
+    IfOk-weaker c.run_out.result _ _
+    (λ r h. ran_entered c.args.upcall (wires_of c.args.args.now) c.args.set c.in-Ok.machine r.gave c.args.world.program c.args.world.world c.new-guarded.result r.world c.in-Ok.ensures c.new-guarded.ensures h)
+    c.run_out.ensures.gave

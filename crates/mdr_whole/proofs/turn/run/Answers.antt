@@ -5,20 +5,20 @@ use Rattle.mdr_whole.proofs.turn.run.Goals as goal
 pub loop-turn-init : goal.loop-turn-init
 loop-turn-init g c = way_begins g.B.Before.tries c.args.code.program.now (side_of c.args.code) c.args.machine.now c.args.world.now c.begin.new.machine c.in_ok-event.event c.begin.new.world c.in_ok-event.ensures
 
-pub follow-requires-clause-same : goal.follow-requires-clause-same
-follow-requires-clause-same g c = c.loop-turn.invariant.at.same
+pub follow_up-requires-clause-same : goal.follow_up-requires-clause-same
+follow_up-requires-clause-same g c = c.loop-turn.invariant.at.same
 
 pub loop-turn-preserved : goal.loop-turn-preserved
 loop-turn-preserved g c =
-    way_goes g.B.Before.tries c.args.code.program.now (side_of c.args.code) c.args.machine.now c.args.world.now c.loop-turn.machine c.follow.new.machine c.loop-turn.event c.in-Came.other c.loop-turn.world c.follow.new.world c.in_ok-next.next
+    way_goes g.B.Before.tries c.args.code.program.now (side_of c.args.code) c.args.machine.now c.args.world.now c.loop-turn.machine c.follow_up.new.machine c.loop-turn.event c.in-Came.other c.loop-turn.world c.follow_up.new.world c.in_ok-next.next
     c.in-Came.is c.loop-turn.invariant c.in_ok-next.ensures
 
 pub returns-in-Gave-clause-kept : goal.returns-in-Gave-clause-kept
 returns-in-Gave-clause-kept g c =
-    way_keeps g.B.Before.tries c.args.code.program.now (side_of c.args.code) c.args.machine.now c.args.world.now c.loop-turn.machine c.follow.new.machine c.loop-turn.event c.loop-turn.world c.follow.new.world c.in_ok-next.next
+    way_keeps g.B.Before.tries c.args.code.program.now (side_of c.args.code) c.args.machine.now c.args.world.now c.loop-turn.machine c.follow_up.new.machine c.loop-turn.event c.loop-turn.world c.follow_up.new.world c.in_ok-next.next
     c.in-Gave.gave c.in-Gave.is c.loop-turn.invariant c.in_ok-next.ensures
 
 pub returns-in-Gave-clause-gave : goal.returns-in-Gave-clause-gave
 returns-in-Gave-clause-gave g c =
-    way_gives g.B.Before.tries c.args.code.program.now (side_of c.args.code) c.args.machine.now c.args.world.now c.loop-turn.machine c.follow.new.machine c.loop-turn.event c.loop-turn.world c.follow.new.world c.in_ok-next.next
+    way_gives g.B.Before.tries c.args.code.program.now (side_of c.args.code) c.args.machine.now c.args.world.now c.loop-turn.machine c.follow_up.new.machine c.loop-turn.event c.loop-turn.world c.follow_up.new.world c.in_ok-next.next
     c.in-Gave.gave c.in-Gave.is c.loop-turn.invariant c.in_ok-next.ensures

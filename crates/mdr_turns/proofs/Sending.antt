@@ -1,0 +1,47 @@
+-- The messages that are sent.
+use Rattle.std.proofs.Common.{◌≡◌, ℕ, List, [], ◌∷◌, ◌∙◌, ap}
+use Rattle.mdr_meaning.specs.declared.wire.Wire.{Wire}
+use Rattle.mdr_model.specs.declared.command.Command.{Command}
+use Rattle.mdr_model.specs.declared.message.Message.{Message}
+use Rattle.mdr_model.specs.declared.message.Message.TheVariants as message
+use Rattle.mdr_model.specs.declared.message.Told.{Told}
+use Rattle.mdr_model.specs.Copies.{tells}
+use Rattle.mdr_plain.specs.World.{World, done}
+use Rattle.mdr_split.specs.Kernel.{answers, called, comes_back}
+use Rattle.mdr_split.specs.State.{Noted, Open, Pending, Waits}
+use Rattle.mdr_turns.specs.declared.state.Ledger.{Ledger}
+use Rattle.mdr_turns.specs.declared.state.Seen.{Seen}
+use Rattle.mdr_turns.specs.States.{IsSeen, begins, kernel_with, sent_with, told_by, told_unseen}
+use Rattle.mdr_watched.specs.Driver.{Driver}
+use Rattle.mdr_watched.specs.Views.{top}
+
+module _ (d : Driver) (s : Seen) (is : IsSeen s) (l l' : Ledger) (o : Open) (left : List Command) (before : World) (m : Message) where
+  abbrev w : World
+  w = s.guarded.world
+
+  -- what is seen is told of the state
+  told_so : (values : List Wire) → told_by d.program s values l ≡ tells d.program (top w.views) values l.agreed w.memory
+  told_so values = λ i. tells d.program (is.view i) values l.agreed (is.memory i)
+
+  unseen_so : (values : List Wire) → told_unseen d.program s values l ≡ tells d.program [] values l.agreed w.memory
+  unseen_so values = λ i. tells d.program [] values l.agreed (is.memory i)
+
+  pub call_is : (f : ℕ) (args : List Wire) → o ≡ begins f → m ≡ message.Call f 0 s.tally.rest args (told_by d.program s args l) → l' ≡ sent_with d.program (told_by d.program s args l) l
+      → Waits m (kernel_with l' w) o Noted left ≡ called d f args (done w) (kernel_with l before) left
+  call_is f args opens says keeps =
+      (λ i. Waits (says i) (kernel_with (keeps i) w) (opens i) Noted left)
+      ∙ (λ i. Waits (message.Call f 0 (is.rest i) args (told_so args i)) (kernel_with (sent_with d.program (told_so args i) l) w) (begins f) Noted left)
+
+  pub back_is : (v : Wire) → m ≡ message.Back s.tally.rest v (told_by d.program s (v ∷ []) l) → l' ≡ sent_with d.program (told_by d.program s (v ∷ []) l) l
+      → Waits m (kernel_with l' w) o Noted left ≡ comes_back d v w (kernel_with l before) o Noted left
+  unfolding comes_back
+  back_is v says keeps =
+      (λ i. Waits (says i) (kernel_with (keeps i) w) o Noted left)
+      ∙ (λ i. Waits (message.Back (is.rest i) v (told_so (v ∷ []) i)) (kernel_with (sent_with d.program (told_so (v ∷ []) i) l) w) o Noted left)
+
+  pub answer_is : (vs : List Wire) → m ≡ message.Answer vs (told_unseen d.program s vs l).deaths (told_unseen d.program s vs l).news → l' ≡ sent_with d.program (told_unseen d.program s vs l) l
+      → Waits m (kernel_with l' w) o Noted left ≡ answers d vs w (kernel_with l before) o Noted left
+  unfolding answers
+  answer_is vs says keeps =
+      (λ i. Waits (says i) (kernel_with (keeps i) w) o Noted left)
+      ∙ ap (λ (t : Told). Waits (message.Answer vs t.deaths t.news) (kernel_with (sent_with d.program t l) w) o Noted left) (unseen_so vs)

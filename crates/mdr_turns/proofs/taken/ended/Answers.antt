@@ -1,0 +1,16 @@
+use Rattle.std.proofs.Common.{ap, subst}
+use Rattle.mdr_split.specs.Kernel.{then_split}
+use Rattle.mdr_watch.specs.Watching.{driver_in}
+use Rattle.mdr_whole.specs.Going.{driver_code}
+use Rattle.mdr_world.specs.Driven.{Driven}
+use Rattle.mdr_turns.specs.Coming.{CommandedTo}
+use Rattle.mdr_turns.specs.States.{kernel_with}
+use Rattle.mdr_turns.proofs.Taking.{ended_is}
+use Rattle.mdr_turns.proofs.taken.ended.Goals as goal
+
+pub returns-in-Ok-clause-comes : goal.returns-in-Ok-clause-comes
+returns-in-Ok-clause-comes c = λ script before go.
+    subst (λ x. CommandedTo c.behind.result script go (then_split x (kernel_with c.args.ledger before) go))
+    (ended_is (driver_in c.args.watch) c.args.wire c.args.guarded.world (driver_code c.kernel_code.result) c.value_of.result c.in-Ok.worked c.close-world.result.world c.returned.new.world.world c.kernel_code.ensures.code c.value_of.ensures
+    (ap (λ (x : Driven). x.world) c.close-world.ensures) c.in-Ok.ensures.worked)
+    (c.behind.ensures.comes script before go)
