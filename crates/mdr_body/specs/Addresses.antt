@@ -1,6 +1,6 @@
 -- believed
 -- Where a block takes the address of something that was declared before it (C99 6.2.1, 6.5.3.2).
-use Rattle.std.specs.Prelude.{ℕ, ◌&&◌, ◌||◌, not, Bool, true, false, List, [], ◌∷◌, Option, Some, None, codes}
+use Rattle.std.specs.Prelude.{ℕ, ◌&&◌, ◌||◌, not, Bool, false, List, Option, Some, None, codes}
 use Rattle.std.specs.Str.{bytes_eq}
 use Rattle.mdr_core.specs.declared.place.Place.{Place}
 use Rattle.mdr_syntax.specs.declared.tree.Decl.{Decl, out-Decl}

@@ -2,7 +2,6 @@
 
 ghost use Rattle.std.specs.Prelude.{◌≡◌, ◌&&◌, ◌||◌, not, false, map, Some};
 ghost use Rattle.std.specs.Option.{option_map};
-ghost use Rattle.std.specs.Str.{bytes_eq};
 ghost use Rattle.mdr_operand.specs.Written.{written_of, written_what, written_list, line_of, lines_of, perhaps};
 ghost use Rattle.mdr_body.specs.Addresses.{is_address, is_name, takes_in, takes_among, perhaps_takes, is_declared_by, hides, takes_at, takes_along, line_what};
 
