@@ -1,4 +1,4 @@
-use Rattle.std.proofs.Common.{◌≡◌, OnOk, subst}
+use Rattle.std.proofs.Common.{OnOk, subst}
 use Rattle.mdr_syntax.specs.declared.tree.ItemWhat.{ItemWhat}
 use Rattle.mdr_print.specs.Marks.{Appends, newline, ◌▸◌}
 use Rattle.mdr_print.specs.Items.{item_words}
