@@ -43,7 +43,13 @@ fn results_of(
     ensures done { IfOk result (λ _. open.new.done ≡ open.old.done) }
 {
     let wires = wires_of(alloc, results)?;
-    let now = entered_after(alloc, service, args, wires.as_slice(), open.entered.as_slice())?;
+    let now = entered_after(
+        alloc,
+        service,
+        args,
+        wires.as_slice(),
+        open.entered.as_slice(),
+    )?;
     open.entered = now;
     Ok(wires)
 }

@@ -35,7 +35,10 @@ fn tell(
     ensures told { IfOk result (λ t. t ≡ tells program.now view.now values.now ledger.old.agreed memory.now) }
     ensures kept { IfOk result (λ t. ledger.new ≡ sent_with program.now t ledger.old) }
 {
-    let more = ledger.exchanges.checked_add(1).ok_or(Limit::Messages.past())?;
+    let more = ledger
+        .exchanges
+        .checked_add(1)
+        .ok_or(Limit::Messages.past())?;
     let agreed = std::mem::replace(&mut ledger.agreed, Items::new(alloc));
     let (told, left) = tells(alloc, program, view, values, agreed, memory)?;
     ledger.agreed = left;

@@ -103,7 +103,13 @@ pub fn downcall(
     ensures kept { OnOk result (guarded.new.program ≡ upcall.entry.watch.program.now) }
     ensures gave { IfOk result (λ g. gave_as g guarded.new.world ≡ downcall (driver_in upcall.entry.watch) (held (driver_in upcall.entry.watch)) upcall.entry.func crossing.now.at crossing.now.func (wires_of crossing.now.args) crossing.now.depth guarded.old.world) }
 {
-    match call_beside(alloc, upcall, &mut guarded.world, &mut guarded.set, crossing) {
+    match call_beside(
+        alloc,
+        upcall,
+        &mut guarded.world,
+        &mut guarded.set,
+        crossing,
+    ) {
         Ok(gave) => Ok(gave),
         Err(error) => {
             forget(alloc, &mut guarded.world, &mut guarded.set);
