@@ -1,5 +1,5 @@
 -- The messages that are sent.
-use Rattle.std.proofs.Common.{◌≡◌, ℕ, List, [], ◌∷◌, ◌∙◌, ap}
+use Rattle.std.proofs.Common.{◌≡◌, ℕ, List, [], ◌∷◌, ◌∙◌, ap, drop, subst}
 use Rattle.mdr_meaning.specs.declared.wire.Wire.{Wire}
 use Rattle.mdr_model.specs.declared.command.Command.{Command}
 use Rattle.mdr_model.specs.declared.message.Message.{Message}
@@ -10,10 +10,14 @@ use Rattle.mdr_plain.specs.World.{World, done}
 use Rattle.mdr_split.specs.Kernel.{answers, called, comes_back}
 use Rattle.mdr_split.specs.State.{Noted, Open, Pending, Waits}
 use Rattle.mdr_turns.specs.declared.state.Ledger.{Ledger}
+use Rattle.mdr_turns.specs.declared.state.Open.{Open as CodeOpen}
+use Rattle.mdr_turns.specs.declared.state.Pending.{Pending as CodePending}
 use Rattle.mdr_turns.specs.declared.state.Seen.{Seen}
-use Rattle.mdr_turns.specs.States.{IsSeen, begins, kernel_with, sent_with, told_by, told_unseen}
+use Rattle.mdr_turns.specs.Coming.{ComesTo}
+use Rattle.mdr_turns.specs.States.{IsSeen, begins, kernel_with, sent_with, told_by, told_unseen, upcall_of}
 use Rattle.mdr_watched.specs.Driver.{Driver}
 use Rattle.mdr_watched.specs.Views.{top}
+use Rattle.mdr_world.specs.Driven.{Driven}
 
 module _ (d : Driver) (s : Seen) (is : IsSeen s) (l l' : Ledger) (o : Open) (left : List Command) (before : World) (m : Message) where
   abbrev w : World
@@ -45,3 +49,22 @@ module _ (d : Driver) (s : Seen) (is : IsSeen s) (l l' : Ledger) (o : Open) (lef
   answer_is vs says keeps =
       (λ i. Waits (says i) (kernel_with (keeps i) w) o Noted left)
       ∙ ap (λ (t : Told). Waits (message.Answer vs t.deaths t.news) (kernel_with (sent_with d.program t l) w) o Noted left) (unseen_so vs)
+
+-- ---- from what was seen
+
+module _ (d : Driver) (before : World) (script : List Command) (p : CodePending) (g g' : Driven) (l l' : Ledger) (o o' : CodeOpen) (same : g ≡ g') (ledgers : l ≡ l') (opens : o ≡ o') where
+  pub call_from : (f : ℕ) (args : List Wire) → ComesTo p script (called d f args (done g.world) (kernel_with l before) (drop o.done script)) → ComesTo p script (called d f args (done g'.world) (kernel_with l' before) (drop o'.done script))
+  call_from f args there = subst (λ x. ComesTo p script x) (λ i. called d f args (done (same i).world) (kernel_with (ledgers i) before) (drop (opens i).done script)) there
+
+  pub back_from : (v v' : Wire) → v ≡ v' → ComesTo p script (comes_back d v g.world (kernel_with l before) (upcall_of o) Noted (drop o.done script))
+      → ComesTo p script (comes_back d v' g'.world (kernel_with l' before) (upcall_of o') Noted (drop o'.done script))
+  back_from v v' is there = subst (λ x. ComesTo p script x) (λ i. comes_back d (is i) (same i).world (kernel_with (ledgers i) before) (upcall_of (opens i)) Noted (drop (opens i).done script)) there
+
+  pub answer_from : (vs : List Wire) → ComesTo p script (answers d vs g.world (kernel_with l before) (upcall_of o) Noted (drop o.done script))
+      → ComesTo p script (answers d vs g'.world (kernel_with l' before) (upcall_of o') Noted (drop o'.done script))
+  answer_from vs there = subst (λ x. ComesTo p script x) (λ i. answers d vs (same i).world (kernel_with (ledgers i) before) (upcall_of (opens i)) Noted (drop (opens i).done script)) there
+
+-- the objects were counted
+pub counted_from : (d : Driver) (before w : World) (script : List Command) (p : CodePending) (l : Ledger) (vs vs' : List Wire) (o o' : Open) (n n' : ℕ) → vs ≡ vs' → o ≡ o' → n ≡ n'
+    → ComesTo p script (answers d vs w (kernel_with l before) o Noted (drop n script)) → ComesTo p script (answers d vs' w (kernel_with l before) o' Noted (drop n' script))
+counted_from d before w script p l vs vs' o o' n n' are opens begun there = subst (λ x. ComesTo p script x) (λ i. answers d (are i) w (kernel_with l before) (opens i) Noted (drop (begun i) script)) there

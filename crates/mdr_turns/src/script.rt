@@ -82,7 +82,10 @@ pub fn begun<'a>(
     ensures comes { IfOk result (λ r. ComesTo r script.now (split_commands (driver_in watch.entry) script.now (beginning world.entry.world))) }
 {
     match first_ledger(alloc, watch, &world) {
-        Ok(ledger) => do_commands(alloc, watch, script, 0, Between { world, ledger }),
+        Ok(ledger) => {
+            let pending = do_commands(alloc, watch, script, 0, Between { world, ledger })?;
+            Ok(pending)
+        }
         Err(error) => {
             drop(world);
             Err(error)

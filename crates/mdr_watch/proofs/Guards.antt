@@ -16,6 +16,8 @@ use Rattle.mdr_model.specs.declared.memory.Cell.{Cell}
 use Rattle.mdr_model.specs.Memory.{Memory, cell_of, everywhere, is_live, loaded, loaded_from, reached, reached_by, stored, stored_into}
 use Rattle.mdr_model.specs.Sets.{cells_from}
 use Rattle.mdr_paths.specs.Paths.{is_in}
+use Rattle.mdr_paths.proofs.NodeLists.{none_in}
+use Rattle.mdr_plain.specs.Gate.{are_none}
 use Rattle.mdr_plain.specs.Storage.{bytes_from, cells_read, deaths, read, remembers, with_memory}
 use Rattle.mdr_plain.specs.World.{World}
 use Rattle.mdr_viewed.specs.Viewed.{in_set, viewed, viewed_if}
@@ -198,6 +200,13 @@ tick_goes set false d d' t = (t.0, ap (λ (x : Driven). driver x.program (viewed
 pub tick_guarded : (set : List Cell) (t : Bool) (d d' : Driven) → Ticks t d d' → IsGuarded set d.world → IsGuarded set d'.world
 tick_guarded set true d d' t g = subst (λ (x : Driven). IsGuarded set x.world) (sym t.2) (record { upcall = g.upcall; older = g.older })
 tick_guarded set false d d' t g = subst (λ (x : Driven). IsGuarded set x.world) (sym t.1) g
+
+-- an empty set stands beside any world in which an upcall is open
+pub forgotten : (set : List Cell) (d d' : Driven) → set ≡ [] → d' ≡ driver d.program (record d.world { views = open_views true }) → IsGuarded set d'.world
+forgotten set d d' none is = record {
+  upcall = ap (λ (x : Driven). are_none x.world.views) is;
+  older = λ c h. absurd (none_in cells c (sym (ap (λ s. is_in cells s c) none) ∙ h));
+}
 
 -- an upcall opens with a set
 pub open_goes : (program : Program) (set : List Cell) (w : World) → w.views ≡ [] → AreLive w.memory set → (d' : Driven) → d' ≡ driver program (record w { views = open_views true }) → driver d'.program (viewed set d'.world) ≡ driver program (opened set w)

@@ -8,25 +8,25 @@ pub gain-requires-clause-counted : goal.gain-requires-clause-counted
 gain-requires-clause-counted c =
     ask_counts c.args.upcall c.args.world.now c.args.set.now (driver c.args.world.now.program (viewed c.args.set.now c.args.world.now.world)) refl c.requires.same c.requires.guarded
     (record { rises = c.births-next.ensures.rises; below = c.births-next.ensures.below }) c.args.asked.now c.in_ok-served.served c.serve.new.world c.in_ok-served.ensures.served
-    _ _ c.births-next.ensures.value c.blocks.ensures.counted
+    _ _ c.births-next.ensures.value c.blocks-in-Done.ensures.counted
 
-pub returns-in_ok-gain-clause-guarded : goal.returns-in_ok-gain-clause-guarded
-returns-in_ok-gain-clause-guarded c =
+pub returns-in_ok-gain-in-Done-clause-guarded : goal.returns-in_ok-gain-in-Done-clause-guarded
+returns-in_ok-gain-in-Done-clause-guarded c =
     ask_gains c.args.upcall c.args.world.now c.args.set.now (driver c.args.world.now.program (viewed c.args.set.now c.args.world.now.world)) refl c.requires.same c.requires.guarded
     (record { rises = c.births-next.ensures.rises; below = c.births-next.ensures.below }) c.args.asked.now c.in_ok-served.served c.serve.new.world c.in_ok-served.ensures.served
-    c.gain.new.set _ c.in_ok-gain.ensures.older c.blocks.ensures.counted
+    c.gain.new.set _ c.in_ok-gain-in-Done.ensures.older c.blocks-in-Done.ensures.counted
 
 pub returns-in-Stop-clause-guarded : goal.returns-in-Stop-clause-guarded
 returns-in-Stop-clause-guarded c =
     ask_stays c.args.upcall c.args.world.now c.args.set.now (driver c.args.world.now.program (viewed c.args.set.now c.args.world.now.world)) refl c.requires.same c.requires.guarded
     (record { rises = c.births-next.ensures.rises; below = c.births-next.ensures.below }) c.args.asked.now c.in_ok-served.served c.serve.new.world c.in_ok-served.ensures.served
 
-pub returns-in_ok-gain-clause-served : goal.returns-in_ok-gain-clause-served
-returns-in_ok-gain-clause-served c =
+pub returns-in_ok-gain-in-Done-clause-served : goal.returns-in_ok-gain-in-Done-clause-served
+returns-in_ok-gain-in-Done-clause-served c =
     ask_on c.args.upcall c.args.world.now c.args.set.now (driver c.args.world.now.program (viewed c.args.set.now c.args.world.now.world)) refl c.requires.same c.requires.guarded
     (record { rises = c.births-next.ensures.rises; below = c.births-next.ensures.below }) c.args.asked.now c.in_ok-served.served c.serve.new.world c.in_ok-served.ensures.served
-    c.in-Done.results c.gain.new.set c.births-next.result _ c.blocks.result.now.memory (driver c.serve.new.world.program (viewed c.gain.new.set c.serve.new.world.world))
-    c.in-Done.is c.births-next.ensures.value refl c.blocks.ensures.memory c.in_ok-gain.ensures.gains refl
+    c.in-Done.results c.gain.new.set c.births-next.result _ c.blocks-in-Done.result.now.memory (driver c.serve.new.world.program (viewed c.gain.new.set c.serve.new.world.world))
+    c.in-Done.is c.births-next.ensures.value refl c.blocks-in-Done.ensures.memory c.in_ok-gain-in-Done.ensures.gains refl
 
 pub returns-in-Stop-clause-served : goal.returns-in-Stop-clause-served
 returns-in-Stop-clause-served c =

@@ -23,14 +23,14 @@ returns-in-Value-clause-gave c =
     (ap wires_of c.as_slice-values.ensures ∙ c.in_ok-args.ensures ∙ ap (λ xs. map (normal c.args.world.now.world.memory) (wires_of xs)) c.as_slice-old.ensures) c.in_ok-gave.ensures.gave c.in-Value.value (gave_as g (viewed c.come_back.new.set c.call.new.world.world)) c.in-Value.is h)
     c.come_back.ensures.gave
 
-pub returns-in-Stopped-clause-guarded : goal.returns-in-Stopped-clause-guarded
-returns-in-Stopped-clause-guarded c =
+pub returns-clause-guarded : goal.returns-clause-guarded
+returns-clause-guarded c =
     down_stays c.args.upcall c.args.world.now c.args.set.now (driver c.args.world.now.program (viewed c.args.set.now c.args.world.now.world)) refl c.requires.same c.requires.guarded
     (record { rises = c.births-in_order.ensures.rises; below = c.births-in_order.ensures.below }) c.args.crossing.now (driver_code c.kernel_code-code.result) c.as_slice-values.result.now c.in_ok-gave.gave c.call.new.world c.kernel_code-code.ensures.code
     (ap wires_of c.as_slice-values.ensures ∙ c.in_ok-args.ensures ∙ ap (λ xs. map (normal c.args.world.now.world.memory) (wires_of xs)) c.as_slice-old.ensures) c.in_ok-gave.ensures.gave
 
-pub returns-in-Stopped-clause-gave : goal.returns-in-Stopped-clause-gave
-returns-in-Stopped-clause-gave c =
+pub returns-clause-gave : goal.returns-clause-gave
+returns-clause-gave c =
     down_stops c.args.upcall c.args.world.now c.args.set.now (driver c.args.world.now.program (viewed c.args.set.now c.args.world.now.world)) refl c.requires.same c.requires.guarded
     (record { rises = c.births-in_order.ensures.rises; below = c.births-in_order.ensures.below }) c.args.crossing.now (driver_code c.kernel_code-code.result) c.as_slice-values.result.now c.in_ok-gave.gave c.call.new.world c.kernel_code-code.ensures.code
     (ap wires_of c.as_slice-values.ensures ∙ c.in_ok-args.ensures ∙ ap (λ xs. map (normal c.args.world.now.world.memory) (wires_of xs)) c.as_slice-old.ensures) c.in_ok-gave.ensures.gave

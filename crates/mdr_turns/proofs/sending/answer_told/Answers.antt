@@ -1,0 +1,15 @@
+use Rattle.std.proofs.lemmas.Result.{IfOk-weaker}
+use Rattle.mdr_watch.specs.Watching.{driver_in}
+use Rattle.mdr_turns.proofs.Sending.{answer_from}
+use Rattle.mdr_turns.proofs.sending.answer_told.Goals as goal
+
+pub answer_sent-requires-clause-stands : goal.answer_sent-requires-clause-stands
+answer_sent-requires-clause-stands c = c.in-Ok.ensures.stands c.args.watch c.requires.active
+
+pub returns-in-Ok-clause-comes : goal.returns-in-Ok-clause-comes
+returns-in-Ok-clause-comes c =
+    IfOk-weaker c.answer_sent.result _ _
+    (λ p h. λ script before.
+    answer_from (driver_in c.args.watch) before script p c.in-Ok.waiting.seen.guarded c.args.active.guarded c.in-Ok.waiting.ledger c.args.active.ledger c.in-Ok.waiting.open c.args.active.open
+    c.in-Ok.ensures.same c.in-Ok.ensures.ledger c.in-Ok.ensures.open c.args.results (h script before))
+    c.answer_sent.ensures.comes
