@@ -2,4 +2,4 @@ mod Calling
 mod Stepping
 mod Ends
 mod Taking
-mod Sending
+mod Messages

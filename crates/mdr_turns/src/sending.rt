@@ -87,8 +87,8 @@ fn call_sent<'a>(
     ensures comes { IfOk result (λ p. (script : List AnyCommand) (before : AnyWorld) → ComesTo p script (called (driver_in watch.entry) func (wires_of args.now) (done waiting.entry.seen.guarded.world) (kernel_with waiting.entry.ledger before) (drop waiting.entry.open.done script))) }
 {
     let mut waiting = waiting;
-    let seen = &waiting.seen;
-    match call_message(alloc, watch.program, func, args, seen, &mut waiting.ledger) {
+    let lent = &mut waiting;
+    match call_message(alloc, watch.program, func, args, &lent.seen, &mut lent.ledger) {
         Ok(message) => Ok(Pending::Waits(message, waiting)),
         Err(error) => {
             drop(waiting);
@@ -161,8 +161,8 @@ fn back_sent<'a>(
     ensures comes { IfOk result (λ p. (script : List AnyCommand) (before : AnyWorld) → ComesTo p script (comes_back (driver_in watch.entry) value waiting.entry.seen.guarded.world (kernel_with waiting.entry.ledger before) (upcall_of waiting.entry.open) Noted (drop waiting.entry.open.done script))) }
 {
     let mut waiting = waiting;
-    let seen = &waiting.seen;
-    match back_message(alloc, watch.program, value, seen, &mut waiting.ledger) {
+    let lent = &mut waiting;
+    match back_message(alloc, watch.program, value, &lent.seen, &mut lent.ledger) {
         Ok(message) => Ok(Pending::Waits(message, waiting)),
         Err(error) => {
             drop(waiting);
@@ -220,8 +220,8 @@ fn answer_sent<'a>(
     ensures comes { IfOk result (λ p. (script : List AnyCommand) (before : AnyWorld) → ComesTo p script (answers (driver_in watch.entry) results waiting.entry.seen.guarded.world (kernel_with waiting.entry.ledger before) (upcall_of waiting.entry.open) Noted (drop waiting.entry.open.done script))) }
 {
     let mut waiting = waiting;
-    let seen = &waiting.seen;
-    match answer_message(alloc, watch.program, results, seen, &mut waiting.ledger) {
+    let lent = &mut waiting;
+    match answer_message(alloc, watch.program, results, &lent.seen, &mut lent.ledger) {
         Ok(message) => Ok(Pending::Waits(message, waiting)),
         Err(error) => {
             drop(waiting);

@@ -1,6 +1,6 @@
 use Rattle.std.proofs.lemmas.Result.{IfOk-weaker}
 use Rattle.mdr_watch.specs.Watching.{driver_in}
-use Rattle.mdr_turns.proofs.Sending.{counted_from}
+use Rattle.mdr_turns.proofs.Messages.{counted_from}
 use Rattle.mdr_turns.proofs.asks.answered.Goals as goal
 
 pub returns-in-Ok-clause-comes : goal.returns-in-Ok-clause-comes

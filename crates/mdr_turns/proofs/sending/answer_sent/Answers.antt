@@ -1,7 +1,7 @@
 use Rattle.std.specs.Prelude.{drop}
 use Rattle.mdr_watch.specs.Watching.{driver_in}
 use Rattle.mdr_turns.specs.States.{upcall_of}
-use Rattle.mdr_turns.proofs.Sending.{answer_is}
+use Rattle.mdr_turns.proofs.Messages.{answer_is}
 use Rattle.mdr_turns.proofs.sending.answer_sent.Goals as goal
 
 pub returns-in-Ok-clause-comes : goal.returns-in-Ok-clause-comes

@@ -1,6 +1,6 @@
 use Rattle.std.proofs.lemmas.Result.{IfOk-weaker}
 use Rattle.mdr_watch.specs.Watching.{driver_in}
-use Rattle.mdr_turns.proofs.Sending.{answer_from}
+use Rattle.mdr_turns.proofs.Messages.{answer_from}
 use Rattle.mdr_turns.proofs.sending.answer_told.Goals as goal
 
 pub answer_sent-requires-clause-stands : goal.answer_sent-requires-clause-stands

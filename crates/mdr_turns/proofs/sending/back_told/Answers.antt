@@ -1,7 +1,7 @@
 use Rattle.std.proofs.lemmas.Result.{IfOk-weaker}
 use Rattle.mdr_meaning.specs.Values.{wire_of}
 use Rattle.mdr_watch.specs.Watching.{driver_in}
-use Rattle.mdr_turns.proofs.Sending.{back_from}
+use Rattle.mdr_turns.proofs.Messages.{back_from}
 use Rattle.mdr_turns.proofs.sending.back_told.Goals as goal
 
 pub back_sent-requires-clause-stands : goal.back_sent-requires-clause-stands

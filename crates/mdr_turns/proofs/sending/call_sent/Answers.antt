@@ -2,7 +2,7 @@ use Rattle.std.specs.Prelude.{drop}
 use Rattle.mdr_events.specs.Values.{wires_of}
 use Rattle.mdr_watch.specs.Watching.{driver_in}
 use Rattle.mdr_turns.specs.States.{upcall_of}
-use Rattle.mdr_turns.proofs.Sending.{call_is}
+use Rattle.mdr_turns.proofs.Messages.{call_is}
 use Rattle.mdr_turns.proofs.sending.call_sent.Goals as goal
 
 pub returns-in-Ok-clause-comes : goal.returns-in-Ok-clause-comes

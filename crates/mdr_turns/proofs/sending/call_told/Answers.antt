@@ -1,7 +1,7 @@
 use Rattle.std.proofs.lemmas.Result.{IfOk-weaker}
 use Rattle.mdr_events.specs.Values.{wires_of}
 use Rattle.mdr_watch.specs.Watching.{driver_in}
-use Rattle.mdr_turns.proofs.Sending.{call_from}
+use Rattle.mdr_turns.proofs.Messages.{call_from}
 use Rattle.mdr_turns.proofs.sending.call_told.Goals as goal
 
 pub call_sent-requires-clause-stands : goal.call_sent-requires-clause-stands
