@@ -5,6 +5,7 @@ pub mod Tabled
 pub mod Together
 pub mod UsedForms
 pub mod UsedLines
+pub mod UsedFiles
 pub mod Sourced
 pub mod Agreeing
 pub mod Headed

@@ -1,5 +1,6 @@
 pub mod Defined
 pub mod Usable
+pub mod UsedFunctions
 pub mod Sourced
 pub mod SameTypes
 pub mod HalfTypes

@@ -7,6 +7,7 @@ ghost use Rattle.mdr_half_whole.specs.Replies.{TheUserTextRepliesAsTheWhole};
 ghost use Rattle.mdr_half_whole.specs.SameTypes.{FunctionsKeepTheirTypes};
 ghost use Rattle.mdr_half_whole.specs.Sourced.{SourcesHaveBodies};
 ghost use Rattle.mdr_half_whole.specs.Usable.{BodiesUseWhatIsDeclared};
+ghost use Rattle.mdr_half_whole.specs.UsedFunctions.{BodiesUseWhatIsDefined, DeclaredFunctionsAreDefined};
 ghost use Rattle.mdr_half_whole.specs.Whole.{TheUserTextGivesItsPart};
 
 /// Where each function of a source's program has a body among the items, it has it in the program.
@@ -39,6 +40,16 @@ pub fn the_user_text_gives_its_part()
 /// A body without faults uses nothing that isn't declared, and nothing that is wrongly declared.
 pub fn bodies_use_what_is_declared()
     ensures { BodiesUseWhatIsDeclared }
+{}
+
+/// Each function that a file without faults declares is defined in it, used or not.
+pub fn declared_functions_are_defined()
+    ensures { DeclaredFunctionsAreDefined }
+{}
+
+/// So a function of such a file uses none that the file doesn't define, either.
+pub fn bodies_use_what_is_defined()
+    ensures { BodiesUseWhatIsDefined }
 {}
 
 /// Each function of the program of a source without faults has its body.

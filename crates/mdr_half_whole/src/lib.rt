@@ -3,7 +3,8 @@
 //!
 //! Proved: the functions of a source without faults have the same types in the text of each half, so each type that
 //! occurs there is in the type table of the source's plan; a body without faults uses nothing that isn't
-//! declared; each function of a source's program has its body; and the text that is printed of the user half, read with
+//! declared; each function that a file without faults declares is defined in it, so its bodies use none that isn't, and
+//! each function of a source's program has its body; and the text that is printed of the user half, read with
 //! the source's plan, comes to the user half's part of the source's program. Each function has in the text of each half
 //! the annotations, too, that it has in the whole source (names of parameters may differ, since they are those of a
 //! function's body, or else of its first declaration); and the program that the printed text comes to replies to any
@@ -13,8 +14,8 @@
 mod laws;
 
 pub use laws::{
-    bodies_use_what_is_declared, defined_functions_have_bodies, functions_keep_their_headings,
-    functions_keep_their_types, plans_have_the_types, sources_have_bodies,
-    the_user_text_gives_its_part, the_user_text_keeps_the_headings,
-    the_user_text_replies_as_the_whole, types_of_halves_occur,
+    bodies_use_what_is_declared, bodies_use_what_is_defined, declared_functions_are_defined,
+    defined_functions_have_bodies, functions_keep_their_headings, functions_keep_their_types,
+    plans_have_the_types, sources_have_bodies, the_user_text_gives_its_part,
+    the_user_text_keeps_the_headings, the_user_text_replies_as_the_whole, types_of_halves_occur,
 };
