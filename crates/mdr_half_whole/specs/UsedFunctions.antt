@@ -1,3 +1,4 @@
+-- for proofs
 -- In a file without faults each function that it declares is defined, used or not (C99 6.9, paragraphs 3 and 5).
 use Rattle.std.specs.Prelude.{◌≡◌, ℕ, Bool, true, false, List, ◌∷◌, ◌++◌, Option, Some, None, Result, Ok, Err, slice_get}
 use Rattle.mdr_core.specs.declared.place.Place.{Place}
