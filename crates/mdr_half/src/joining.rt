@@ -13,7 +13,7 @@ use mdr_syntax::{Item, ItemWhat, Tree};
 use std::alloc::{AllocError, Global};
 
 /// What an item is to a half: a function that is here, one that is in the other half, or an item of both.
-#[derive(Clone, Copy)]
+#[derive(Clone, Copy, Debug, PartialEq, Eq)]
 pub enum Part {
     Here,
     There,
@@ -21,7 +21,7 @@ pub enum Part {
 }
 
 /// Which of two items is the whole one.
-#[derive(Clone, Copy)]
+#[derive(Clone, Copy, Debug, PartialEq, Eq)]
 pub enum Whole {
     First,
     Second,
@@ -99,9 +99,8 @@ fn whole_of(alloc: Global, a: &ItemWhat, b: &ItemWhat) -> Result<Whole, OutOfMem
     Ok(whole_by(part_of(a), part_of(b), is_alike))
 }
 
-/// The whole one of two items, or the line at which they differ.
-fn whole_item(kernel: Item, user: Item, whole: Whole) -> Result<Item, u32>
-    ensures { result ≡ whole_item kernel user whole }
+fn whole_item(kernel: Item, user: Item, whole: Whole) -> Result<Item, JoinError>
+    ensures { JoinsItem result (whole_item kernel user whole) }
 {
     match whole {
         Whole::First => {
@@ -116,7 +115,7 @@ fn whole_item(kernel: Item, user: Item, whole: Whole) -> Result<Item, u32>
             let line = user.place.line;
             drop(kernel);
             drop(user);
-            Err(line)
+            Err(JoinError::Differ(line))
         }
     }
 }
@@ -125,14 +124,11 @@ fn joined_item(alloc: Global, kernel: Item, user: Item) -> Result<Item, JoinErro
     ensures { JoinsItem result (joined_item kernel user) }
 {
     match whole_of(alloc, &kernel.what, &user.what) {
-        Ok(whole) => match whole_item(kernel, user, whole) {
-            Ok(item) => Ok(item),
-            Err(line) => Err(JoinError::Differ(line)),
-        },
-        Err(error) => {
+        Ok(whole) => whole_item(kernel, user, whole),
+        Err(_) => {
             drop(kernel);
             drop(user);
-            Err(error.into())
+            Err(JoinError::OutOfMemory)
         }
     }
 }
