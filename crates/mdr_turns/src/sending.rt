@@ -88,7 +88,14 @@ fn call_sent<'a>(
 {
     let mut waiting = waiting;
     let lent = &mut waiting;
-    match call_message(alloc, watch.program, func, args, &lent.seen, &mut lent.ledger) {
+    match call_message(
+        alloc,
+        watch.program,
+        func,
+        args,
+        &lent.seen,
+        &mut lent.ledger,
+    ) {
         Ok(message) => Ok(Pending::Waits(message, waiting)),
         Err(error) => {
             drop(waiting);
