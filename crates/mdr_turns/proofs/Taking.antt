@@ -14,13 +14,16 @@ use Rattle.mdr_plain.specs.World.{World, Ran, Ended}
 use Rattle.mdr_services.specs.declared.answer.Served.{Served}
 use Rattle.mdr_services.specs.declared.answer.Served.TheVariants as served
 use Rattle.mdr_services.specs.Serving.{served_as}
-use Rattle.mdr_split.specs.Kernel.{answers, ended, serviced}
+use Rattle.mdr_split.specs.Kernel.{answers, continued, ended, serviced, split_commands, then_split}
 use Rattle.mdr_split.specs.Services.{counted}
 use Rattle.mdr_split.specs.State.{Open, Noted}
+use Rattle.mdr_turns.specs.declared.state.Between.{Between}
+use Rattle.mdr_turns.specs.declared.state.Commanded.{Commanded}
+use Rattle.mdr_turns.specs.declared.state.Commanded.TheVariants as commanded
 use Rattle.mdr_turns.specs.declared.state.Pending.{Pending as CodePending}
 use Rattle.mdr_turns.specs.declared.state.Ledger.{Ledger}
-use Rattle.mdr_turns.specs.Coming.{ComesTo}
-use Rattle.mdr_turns.specs.States.{kernel_with}
+use Rattle.mdr_turns.specs.Coming.{CommandedTo, ComesTo}
+use Rattle.mdr_turns.specs.States.{kernel_at, kernel_with}
 use Rattle.mdr_watched.specs.Driver.{Driver}
 use Rattle.mdr_watched.specs.Views.{closed}
 use Rattle.mdr_watched.specs.Watched.{kernel_of}
@@ -31,6 +34,16 @@ use Rattle.mdr_whole.specs.Ending.{worked_as}
 pub ended_is : (d : Driver) (v : Wire) (closes : World) (code : KernelCode) (value : Value) (e : Worked) (w w1 : World) → code ≡ kernel_of d → wire_of value ≡ v → w ≡ closed closes
     → worked_as e w1 ≡ returned (interrupts code) (Ended (wire_of value) w) → worked_as e w1 ≡ ended d v closes
 ended_is d v closes code value e w w1 is val there so = so ∙ ap (λ c. returned (interrupts c) (Ended (wire_of value) w)) is ∙ (λ i. returned (interrupts (kernel_of d)) (Ended (val i) (there i)))
+
+-- and the script goes on, or the run rests
+module _ (d : Driver) (v : Wire) (l : Ledger) (w : World) (s script : List Command) (m : Commanded) (there : CommandedTo m script (λ k. split_commands d s k) (then_split (ended d v w) (kernel_with l w) (λ k. split_commands d s k))) where
+  pub goes_so : (b : Between) (p : CodePending) → m ≡ commanded.Goes b → ComesTo p script (split_commands d s (kernel_at b)) → ComesTo p script (continued d v (kernel_with l w) Noted s)
+  goes_so b p is h =
+      subst (λ x. ComesTo p script x)
+      (sym (subst (λ y. CommandedTo y script (λ k. split_commands d s k) (then_split (ended d v w) (kernel_with l w) (λ k. split_commands d s k))) is there)) h
+
+  pub rests_so : (p : CodePending) → m ≡ commanded.Rests p → ComesTo p script (continued d v (kernel_with l w) Noted s)
+  rests_so p is = subst (λ y. CommandedTo y script (λ k. split_commands d s k) (then_split (ended d v w) (kernel_with l w) (λ k. split_commands d s k))) is there
 
 -- a service gave results, and they are told
 pub service_told : (d : Driver) (l : Ledger) (w w1 : World) (upcall : Open) (s script : List Command) (q : Question) (args : List Wire) (rs rs' : List Value) (g : Served) (r : Ran (List Wire)) (p : CodePending) → wires_of q.args ≡ args → rs' ≡ rs → g ≡ served.Done rs

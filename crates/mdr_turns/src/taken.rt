@@ -74,7 +74,8 @@ fn continued<'a>(
     } = active;
     let begun = open.done;
     drop(open);
-    match ended(alloc, watch, wire, guarded, ledger)? {
+    let commanded = ended(alloc, watch, wire, guarded, ledger)?;
+    match commanded {
         Commanded::Goes(between) => do_commands(alloc, watch, script, begun, between),
         Commanded::Rests(pending) => Ok(pending),
     }

@@ -3,8 +3,8 @@ use Rattle.mdr_watch.specs.Watching.{driver_in}
 use Rattle.mdr_turns.proofs.Messages.{answer_from}
 use Rattle.mdr_turns.proofs.sending.answer_told.Goals as goal
 
-pub answer_sent-requires-clause-stands : goal.answer_sent-requires-clause-stands
-answer_sent-requires-clause-stands c = c.in-Ok.ensures.stands c.args.watch c.requires.active
+pub answer_sent-requires : goal.answer_sent-requires
+answer_sent-requires c = record { stands = c.in-Ok.ensures.stands c.args.watch c.requires.active }
 
 pub returns-in-Ok-clause-comes : goal.returns-in-Ok-clause-comes
 returns-in-Ok-clause-comes c =

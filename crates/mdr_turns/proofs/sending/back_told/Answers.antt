@@ -4,8 +4,8 @@ use Rattle.mdr_watch.specs.Watching.{driver_in}
 use Rattle.mdr_turns.proofs.Messages.{back_from}
 use Rattle.mdr_turns.proofs.sending.back_told.Goals as goal
 
-pub back_sent-requires-clause-stands : goal.back_sent-requires-clause-stands
-back_sent-requires-clause-stands c = c.in_ok-waiting.ensures.stands c.args.watch c.requires.active
+pub back_sent-requires : goal.back_sent-requires
+back_sent-requires c = record { stands = c.in_ok-waiting.ensures.stands c.args.watch c.requires.active }
 
 pub returns-clause-comes : goal.returns-clause-comes
 returns-clause-comes c =
