@@ -1,6 +1,6 @@
 -- protocol
 -- What a transcript is: the report of a split run, then a line for each message, then how many they are. And the first line with which no transcript goes on.
-use Rattle.std.specs.Prelude.{◌≡◌, ◌⊎◌, ℕ, ◌+◌, not, ◌==◌, nat_lt, List, [], ◌∷◌, ◌++◌, length, Result, Ok, Err, IsTrue, codes, decimal}
+use Rattle.std.specs.Prelude.{◌≡◌, ◌⊎◌, ℕ, ◌+◌, Bool, not, ◌==◌, nat_lt, List, [], ◌∷◌, ◌++◌, length, Result, Ok, Err, IsTrue, codes, decimal}
 use Rattle.std.specs.List.{list_all, prefix_len}
 use Rattle.mdr_plain.specs.Report.{hex}
 use Rattle.mdr_verify.specs.declared.transcript.Transcript.{Transcript}
