@@ -167,44 +167,48 @@ run_count n is_sent report sent got total e =
     on true same = ap (λ t. cond t (Some (reader_at stage.Done report sent got)) None) same
     on false same = ap (λ t. cond t (Some (reader_at stage.Done report sent got)) None) same
 
+two_taken : (n : ℕ) (report : List ℕ) (old held : List (List ℕ)) (m a rest : List ℕ) → AreBytes m → AreBytes a → (r : Reader) → after r (sent_text m) ≡ Some (reader_at stage.Sent report (old ++ m ∷ []) held)
+    → run n r [] (sent_text m ++ 10 ∷ (got_text a ++ 10 ∷ rest)) ≡ run (n + 1 + 1) (reader_at stage.Got report (old ++ m ∷ []) (held ++ a ∷ [])) [] rest
+two_taken n report old held m a rest h k r first =
+    took n r (reader_at stage.Sent report (old ++ m ∷ []) held) (sent_text m) (got_text a ++ 10 ∷ rest) (sent_plain m h) first
+    ∙ took (n + 1) (reader_at stage.Sent report (old ++ m ∷ []) held) (reader_at stage.Got report (old ++ m ∷ []) (held ++ a ∷ [])) (got_text a) rest (got_plain a k) (got_taken report (old ++ m ∷ []) held a k)
+
 later : (m a : List ℕ) (sent got : List (List ℕ)) → AreInTurn (m ∷ sent) (a ∷ got) → AreInTurn sent got
 later m a sent got (inl turn) = inl (omega (arith, turn))
 later m a sent got (inr turn) = inr (omega (arith, turn))
 
-mutual
-  -- in turn, from an answer on
-  run_turns : (n : ℕ) (report : List ℕ) (old held sent got : List (List ℕ)) (total : ℕ) → AreMessages sent → AreMessages got → AreInTurn sent got → total ≡ length (old ++ sent) + length (held ++ got)
-      → run n (reader_at stage.Got report old held) [] (message_lines sent got (count_text total ++ 10 ∷ [])) ≡ Read (transcript report (old ++ sent) (held ++ got))
-  run_turns n report old held [] [] total hs hg turns e =
-      let a = append-nil old in let b = append-nil held in
-      run_count n false report old held total (e ∙ ap (λ xs. length xs + length (held ++ [])) a ∙ ap (λ xs. length old + length xs) b)
-      ∙ ap (λ xs. Read (transcript report xs held)) (sym a) ∙ ap (λ xs. Read (transcript report (old ++ []) xs)) (sym b)
-  run_turns n report old held [] (a ∷ got) total hs hg (inl turn) e = absurd (omega (arith, turn))
-  run_turns n report old held [] (a ∷ got) total hs hg (inr turn) e = absurd (omega (arith, turn))
-  run_turns n report old held (m ∷ sent) got total hs hg turns e =
-      let p = both (list_all is_byte m) (list_all (λ message. list_all is_byte message) sent) hs in
-      run_answers n report old held sent got m total p.0 p.1 hg turns e (reader_at stage.Got report old held) (sent_taken report old held m p.0)
+none_left : (a : List ℕ) (got : List (List ℕ)) → AreInTurn [] (a ∷ got) → ⊥
+none_left a got (inl turn) = omega (arith, turn)
+none_left a got (inr turn) = omega (arith, turn)
 
-  -- from a message on, which may stand there
-  run_answers : (n : ℕ) (report : List ℕ) (old held sent got : List (List ℕ)) (m : List ℕ) (total : ℕ) → AreBytes m → AreMessages sent → AreMessages got → AreInTurn (m ∷ sent) got → total ≡ length (old ++ m ∷ sent) + length (held ++ got)
-      → (r : Reader) → after r (sent_text m) ≡ Some (reader_at stage.Sent report (old ++ m ∷ []) held)
-      → run n r [] (message_lines (m ∷ sent) got (count_text total ++ 10 ∷ [])) ≡ Read (transcript report (old ++ m ∷ sent) (held ++ got))
-  run_answers n report old held [] [] m total h hs hg turns e r first =
-      let b = append-nil held in
-      took n r (reader_at stage.Sent report (old ++ m ∷ []) held) (sent_text m) (count_text total ++ 10 ∷ []) (sent_plain m h) first
-      ∙ run_count (n + 1) true report (old ++ m ∷ []) held total (e ∙ ap (λ xs. length (old ++ m ∷ []) + length xs) b)
-      ∙ ap (λ xs. Read (transcript report (old ++ m ∷ []) xs)) (sym b)
-  run_answers n report old held (x ∷ sent) [] m total h hs hg (inl turn) e r first = absurd (omega (arith, turn))
-  run_answers n report old held (x ∷ sent) [] m total h hs hg (inr turn) e r first = absurd (omega (arith, turn))
-  run_answers n report old held sent (a ∷ got) m total h hs hg turns e r first =
-      let rest = message_lines sent got (count_text total ++ 10 ∷ []) in
-      let p = both (list_all is_byte a) (list_all (λ message. list_all is_byte message) got) hg in
-      let s : (old ++ m ∷ []) ++ sent ≡ old ++ m ∷ sent = append_assoc old (m ∷ []) sent in
-      let g : (held ++ a ∷ []) ++ got ≡ held ++ a ∷ got = append_assoc held (a ∷ []) got in
-      took n r (reader_at stage.Sent report (old ++ m ∷ []) held) (sent_text m) (got_text a ++ 10 ∷ rest) (sent_plain m h) first
-      ∙ took (n + 1) (reader_at stage.Sent report (old ++ m ∷ []) held) (reader_at stage.Got report (old ++ m ∷ []) (held ++ a ∷ [])) (got_text a) rest (got_plain a p.0) (got_taken report (old ++ m ∷ []) held a p.0)
-      ∙ run_turns (n + 1 + 1) report (old ++ m ∷ []) (held ++ a ∷ []) sent got total hs p.1 (later m a sent got turns) (e ∙ ap (λ xs. length xs + length (held ++ a ∷ got)) (sym s) ∙ ap (λ xs. length ((old ++ m ∷ []) ++ sent) + length xs) (sym g))
-      ∙ ap (λ xs. Read (transcript report xs ((held ++ a ∷ []) ++ got))) s ∙ ap (λ xs. Read (transcript report (old ++ m ∷ sent) xs)) g
+one_left : (m x : List ℕ) (sent : List (List ℕ)) → AreInTurn (m ∷ x ∷ sent) [] → ⊥
+one_left m x sent (inl turn) = omega (arith, turn)
+one_left m x sent (inr turn) = omega (arith, turn)
+
+-- in turn, from a message on, which may stand there
+run_turns : (n : ℕ) (report : List ℕ) (old held sent got : List (List ℕ)) (m : List ℕ) (total : ℕ) → AreBytes m → AreMessages sent → AreMessages got → AreInTurn (m ∷ sent) got → total ≡ length (old ++ m ∷ sent) + length (held ++ got)
+    → (r : Reader) → after r (sent_text m) ≡ Some (reader_at stage.Sent report (old ++ m ∷ []) held)
+    → run n r [] (message_lines (m ∷ sent) got (count_text total ++ 10 ∷ [])) ≡ Read (transcript report (old ++ m ∷ sent) (held ++ got))
+run_turns n report old held [] [] m total h hs hg turns e r first =
+    let b = append-nil held in
+    took n r (reader_at stage.Sent report (old ++ m ∷ []) held) (sent_text m) (count_text total ++ 10 ∷ []) (sent_plain m h) first
+    ∙ run_count (n + 1) true report (old ++ m ∷ []) held total (e ∙ ap (λ xs. length (old ++ m ∷ []) + length xs) b)
+    ∙ ap (λ xs. Read (transcript report (old ++ m ∷ []) xs)) (sym b)
+run_turns n report old held (x ∷ sent) [] m total h hs hg turns e r first = absurd (one_left m x sent turns)
+run_turns n report old held [] (a ∷ []) m total h hs hg turns e r first =
+    let p = both (list_all is_byte a) (list_all (λ message. list_all is_byte message) []) hg in
+    two_taken n report old held m a (count_text total ++ 10 ∷ []) h p.0 r first ∙ run_count (n + 1 + 1) false report (old ++ m ∷ []) (held ++ a ∷ []) total e
+run_turns n report old held [] (a ∷ b ∷ got) m total h hs hg turns e r first = absurd (none_left b got (later m a [] (b ∷ got) turns))
+run_turns n report old held (x ∷ sent) (a ∷ got) m total h hs hg turns e r first =
+    let p = both (list_all is_byte a) (list_all (λ message. list_all is_byte message) got) hg in
+    let q = both (list_all is_byte x) (list_all (λ message. list_all is_byte message) sent) hs in
+    let s : (old ++ m ∷ []) ++ x ∷ sent ≡ old ++ m ∷ x ∷ sent = append_assoc old (m ∷ []) (x ∷ sent) in
+    let g : (held ++ a ∷ []) ++ got ≡ held ++ a ∷ got = append_assoc held (a ∷ []) got in
+    let total_is : total ≡ length ((old ++ m ∷ []) ++ x ∷ sent) + length ((held ++ a ∷ []) ++ got) =
+      e ∙ ap (λ xs. length xs + length (held ++ a ∷ got)) (sym s) ∙ ap (λ xs. length ((old ++ m ∷ []) ++ x ∷ sent) + length xs) (sym g) in
+    two_taken n report old held m a (message_lines (x ∷ sent) got (count_text total ++ 10 ∷ [])) h p.0 r first
+    ∙ run_turns (n + 1 + 1) report (old ++ m ∷ []) (held ++ a ∷ []) sent got x total q.0 q.1 p.1 (later m a (x ∷ sent) got turns) total_is (reader_at stage.Got report (old ++ m ∷ []) (held ++ a ∷ [])) (sent_taken report (old ++ m ∷ []) (held ++ a ∷ []) x q.0)
+    ∙ ap (λ xs. Read (transcript report xs ((held ++ a ∷ []) ++ got))) s ∙ ap (λ xs. Read (transcript report (old ++ m ∷ x ∷ sent) xs)) g
 
 -- ---- all of it
 
@@ -217,11 +221,10 @@ run_rest : (n : ℕ) (z : Bool) (held : List ℕ) (sent got : List (List ℕ)) �
     → run n (open_reader z held) [] (message_lines sent got (count_text (length sent + length got) ++ 10 ∷ [])) ≡ Read (transcript (open_text z held) sent got)
 run_rest n z held [] [] hs hg turns =
     took n (open_reader z held) (reader_at stage.Zero (open_text z held) [] []) (count_text 0) [] (count_plain 0) (ap (λ bs. after (open_reader z held) bs) zero_text ∙ zero_taken z held)
-run_rest n z held [] (a ∷ got) hs hg (inl turn) = absurd (omega (arith, turn))
-run_rest n z held [] (a ∷ got) hs hg (inr turn) = absurd (omega (arith, turn))
+run_rest n z held [] (a ∷ got) hs hg turns = absurd (none_left a got turns)
 run_rest n z held (m ∷ sent) got hs hg turns =
     let p = both (list_all is_byte m) (list_all (λ message. list_all is_byte message) sent) hs in
-    run_answers n (open_text z held) [] [] sent got m (length (m ∷ sent) + length got) p.0 p.1 hg turns refl (open_reader z held) (first_taken z held m p.0)
+    run_turns n (open_text z held) [] [] sent got m (length (m ∷ sent) + length got) p.0 p.1 hg turns refl (open_reader z held) (first_taken z held m p.0)
 
 pub run_transcript : (bytes : List ℕ) (t : Transcript) → IsTranscript bytes t → run 1 start [] bytes ≡ Read t
 run_transcript bytes t h =
