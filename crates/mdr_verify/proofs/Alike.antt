@@ -1,11 +1,22 @@
 -- Two texts that are the same up to a line.
-use Rattle.std.proofs.Common.{◌≡◌, ℕ, zero, suc, Bool, true, false, ◌+◌, ◌≤◌, List, [], ◌∷◌, ◌++◌, length, take, nat_lt, refl, sym, ap, ◌∙◌, arith, ltb-false}
+use Rattle.std.proofs.Common.{◌≡◌, ℕ, zero, suc, Bool, true, false, not, bytes_eq, ◌+◌, ◌≤◌, List, [], ◌∷◌, ◌++◌, length, take, nat_lt, refl, sym, ap, ◌∙◌, arith, ltb-false}
 use Rattle.std.specs.List.{prefix_len}
 use Rattle.std.proofs.lemmas.Bool.{lt-ltb, le-ltb}
+use Rattle.std.proofs.lemmas.Slice.Eq.{bytes_eq-Decides}
 use Rattle.mdr_verify.specs.Transcripts.{in_line, IsOneLine, AreLines}
 use Rattle.mdr_verify.specs.Transcripts.AreLines.{NoLine, Then}
 use Rattle.mdr_verify.specs.Verdicts.{first_line, IsOtherLine}
 use Rattle.mdr_verify.proofs.Splits.{IsCut, split_of, behind}
+
+pub bytes_same : (xs ys : List ℕ) (b : Bool) → b ≡ not (bytes_eq xs ys) → b ≡ false → xs ≡ ys
+bytes_same xs ys b e f = on (bytes_eq xs ys) refl (sym f ∙ e)
+  where
+    on : (t : Bool) → bytes_eq xs ys ≡ t → false ≡ not t → xs ≡ ys
+    on true q g = (bytes_eq-Decides xs ys).0 q
+    on false q g = let n : false ≡ true = g in absurd (Prim.cc)
+
+pub bytes_differ : (xs ys : List ℕ) (b : Bool) → b ≡ bytes_eq xs ys → b ≡ false → xs ≡ ys → ⊥
+bytes_differ xs ys b e f same = let n : false ≡ true = sym f ∙ e ∙ (bytes_eq-Decides xs ys).1 same in absurd (Prim.cc)
 
 -- so many lines, less one, were the same in both texts
 pub record AreAlike (said due said_rest due_rest : List ℕ) (number : ℕ) : Type 0 where
