@@ -1,11 +1,7 @@
 -- Lines that are put one by one.
-use Rattle.std.proofs.Common.{◌≡◌, ℕ, zero, suc, ◌+◌, ◌*◌, ◌-◌, ◌%◌, ◌^◌, ◌<◌, List, ◌++◌, sym, ap, ◌∙◌, append_assoc, arith}
+use Rattle.std.proofs.Common.{◌≡◌, ℕ, zero, suc, ◌+◌, ◌<◌, List, ◌++◌, sym, ap, ◌∙◌, append_assoc, arith}
 use Rattle.std.proofs.lemmas.List.{append-nil}
-use Rattle.std.proofs.Math.Nat.{mod-add-mod}
 use Rattle.mdr_gen.specs.Generator.{next, line_of, lines_from}
-
-pub next_is : (x : ℕ) → ((x * 6364136223846793005) % 2 ^ 64 + 1442695040888963407) % 2 ^ 64 ≡ next x
-next_is x = mod-add-mod (x * 6364136223846793005) (2 ^ 64) 1442695040888963407
 
 -- nothing is left
 pub none : (x n : ℕ) (out whole : List ℕ) → (0 < n → ⊥) → out ++ lines_from x n ≡ whole → out ≡ whole
@@ -13,12 +9,12 @@ unfolding lines_from
 none x zero out whole h e = sym (append-nil out) ∙ e
 none x (suc n) out whole h e = absurd (h (omega arith))
 
+first : (x n m : ℕ) → n ≡ m + 1 → lines_from x n ≡ line_of (next x) ++ lines_from (next x) m
+unfolding lines_from
+first x zero m s = absurd (omega (arith, s))
+first x (suc n) m s = let q : n ≡ m = omega (arith, s) in ap (λ k. line_of (next x) ++ lines_from (next x) k) q
+
 -- one line more
 pub more : (x n m : ℕ) (out new whole : List ℕ) → n ≡ m + 1 → new ≡ out ++ line_of (next x) → out ++ lines_from x n ≡ whole → new ++ lines_from (next x) m ≡ whole
 more x n m out new whole s p e =
     ap (λ bs. bs ++ lines_from (next x) m) p ∙ append_assoc out (line_of (next x)) (lines_from (next x) m) ∙ sym (ap (λ ls. out ++ ls) (first x n m s)) ∙ e
-  where
-    first : (x n m : ℕ) → n ≡ m + 1 → lines_from x n ≡ line_of (next x) ++ lines_from (next x) m
-    unfolding lines_from
-    first x zero m s = absurd (omega (arith, s))
-    first x (suc n) m s = let q : n ≡ m = omega (arith, s) in ap (λ k. line_of (next x) ++ lines_from (next x) k) q

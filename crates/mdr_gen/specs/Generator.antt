@@ -4,22 +4,22 @@ use Rattle.std.specs.Prelude.{ℕ, zero, suc, ◌+◌, ◌*◌, ◌/◌, ◌%◌
 
 -- ---- the driver: a list of nodes, which user code makes, sums up and takes apart
 
-abbrev pub list_text : List ℕ
+unfoldable pub list_text : List ℕ
 list_text = codes "struct node { u32 v; struct node *next; };\nstruct node *head;\n"
 
-abbrev pub count_text : List ℕ
+unfoldable pub count_text : List ℕ
 count_text = codes "u32 count;\nu32 sum;\n"
 
-abbrev pub note_text : List ℕ
+unfoldable pub note_text : List ℕ
 note_text = codes "__critical void note(u32 x) { sum = sum + x; }\n"
 
-abbrev pub add_text : List ℕ
+unfoldable pub add_text : List ℕ
 add_text = codes "void add(u32 v) { struct node *p; p = kzalloc(struct node); if (!p) { return; } p->v = v; p->next = head; head = p; count += 1; }\n"
 
-abbrev pub walk_text : List ℕ
+unfoldable pub walk_text : List ℕ
 walk_text = codes "void walk(void) { struct node *p; u32 s; s = 0; p = head; while (p) { s += p->v; p = p->next; } note(s); }\n"
 
-abbrev pub drop_text : List ℕ
+unfoldable pub drop_text : List ℕ
 drop_text = codes "void drop(void) { struct node *p; p = head; if (!p) { return; } head = p->next; kfree(p); count -= 1; }\n"
 
 unfoldable pub driver_text : List ℕ

@@ -205,7 +205,7 @@ run_turns n report old held (x ∷ sent) (a ∷ got) m total h hs hg turns e r f
     let s : (old ++ m ∷ []) ++ x ∷ sent ≡ old ++ m ∷ x ∷ sent = append_assoc old (m ∷ []) (x ∷ sent) in
     let g : (held ++ a ∷ []) ++ got ≡ held ++ a ∷ got = append_assoc held (a ∷ []) got in
     let total_is : total ≡ length ((old ++ m ∷ []) ++ x ∷ sent) + length ((held ++ a ∷ []) ++ got) =
-      e ∙ ap (λ xs. length xs + length (held ++ a ∷ got)) (sym s) ∙ ap (λ xs. length ((old ++ m ∷ []) ++ x ∷ sent) + length xs) (sym g) in
+    e ∙ ap (λ xs. length xs + length (held ++ a ∷ got)) (sym s) ∙ ap (λ xs. length ((old ++ m ∷ []) ++ x ∷ sent) + length xs) (sym g) in
     two_taken n report old held m a (message_lines (x ∷ sent) got (count_text total ++ 10 ∷ [])) h p.0 r first
     ∙ run_turns (n + 1 + 1) report (old ++ m ∷ []) (held ++ a ∷ []) sent got x total q.0 q.1 p.1 (later m a (x ∷ sent) got turns) total_is (reader_at stage.Got report (old ++ m ∷ []) (held ++ a ∷ [])) (sent_taken report (old ++ m ∷ []) (held ++ a ∷ []) x q.0)
     ∙ ap (λ xs. Read (transcript report xs ((held ++ a ∷ []) ++ got))) s ∙ ap (λ xs. Read (transcript report (old ++ m ∷ x ∷ sent) xs)) g

@@ -8,7 +8,7 @@ use Rattle.mdr_verify.specs.Transcripts.{AreBytes, sent_text, got_text, count_te
 use Rattle.mdr_verify.specs.Transcripts.ShowsMessage.{Sent, Got}
 use Rattle.mdr_verify.specs.Digits.{are_pairs, bytes_of, message_of}
 use Rattle.mdr_verify.specs.Lines.{behind_mark, sent_by, got_by, line_by, line_at}
-use Rattle.mdr_verify.proofs.Pairs.{both, no, shown_again, pairs_again}
+use Rattle.mdr_verify.proofs.Pairs.{both, shown_again, pairs_again}
 
 pub some_same : {A : Type 0} (x y : A) → Some x ≡ Some y → x ≡ y
 some_same x y e = cc
