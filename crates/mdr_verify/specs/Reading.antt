@@ -1,12 +1,17 @@
 -- protocol
 -- How far a text was read.
-use Rattle.std.specs.Prelude.{◌≡◌, ℕ, ◌+◌, true, false, List, [], ◌∷◌, ◌++◌, Some, Result, Ok, Err}
+use Rattle.std.specs.Prelude.{◌≡◌, ℕ, ◌+◌, ◌<◌, true, false, List, [], ◌∷◌, ◌++◌, length, take, drop, Some, Result, Ok, Err}
+use Rattle.std.specs.List.{prefix_len}
 use Rattle.mdr_verify.specs.declared.reader.Reader.{Reader}
 use Rattle.mdr_verify.specs.declared.transcript.Transcript.{Transcript}
 use Rattle.mdr_verify.specs.declared.transcript.TranscriptError.{TranscriptError}
 use Rattle.mdr_verify.specs.declared.transcript.TranscriptError.TheVariants.{Form}
-use Rattle.mdr_verify.specs.Transcripts.{IsOneLine}
+use Rattle.mdr_verify.specs.Transcripts.{in_line, IsOneLine}
 use Rattle.mdr_verify.specs.Steps.{start, after, is_whole, transcript_of}
+
+-- the bytes are this line, a newline, and what stands behind it
+abbrev pub Splits : (bytes line rest : List ℕ) → Type 0
+Splits bytes line rest = (line ≡ take (prefix_len in_line bytes) bytes) × (rest ≡ drop (1 + prefix_len in_line bytes) bytes) × (prefix_len in_line bytes < length bytes)
 
 -- the text is so many lines, each of which may stand behind those before it, and this was read
 pub data Reached : List ℕ → ℕ → Reader → Type 0 where

@@ -4,7 +4,8 @@ ghost use Rattle.std.specs.Prelude.{◌≡◌, ◌+◌, ◌∷◌, ◌++◌, [],
 ghost use Rattle.std.specs.Str.{bytes_eq};
 ghost use Rattle.mdr_verify.specs.Transcripts.{count_text};
 ghost use Rattle.mdr_verify.specs.Lines.{line_at};
-ghost use Rattle.mdr_verify.specs.Steps.{start, no_messages, is_zero, reopened, takes_sent, after_sent, takes_got, after_got, in_report, after_report, takes_count, after_count, after_other, after_by, after, Took};
+ghost use Rattle.mdr_verify.specs.Steps.{start, no_messages, after_report, after_count, after_other, after_by, after, Took};
+ghost use Rattle.mdr_verify.specs.Steps.{is_zero, reopened, takes_sent, after_sent, takes_got, after_got, in_report, takes_count};
 
 use crate::line::{Line, line_of};
 use crate::put::{put_number, put_word};
