@@ -1,0 +1,11 @@
+pub mod Splits
+pub mod Plain
+pub mod Pairs
+pub mod Shows
+pub mod Turns
+pub mod Held
+pub mod Running
+pub mod Going
+pub mod Once
+pub mod Differing
+pub mod Alike
