@@ -7,13 +7,13 @@ use Rattle.mdr_core.specs.Code.{Called, CallOf}
 use Rattle.mdr_core.specs.Layout.{chosen}
 use Rattle.mdr_core.specs.Services.{Service, Kzalloc, Kcalloc, Kfree, Readl, Writel, Printk, RequestIrq, FreeIrq, Deliver, Combolock, Combounlock, Bug, Enter, Leave, service_numbered}
 use Rattle.mdr_meaning.specs.declared.wire.Wire.{Wire}
-use Rattle.mdr_meaning.specs.Asking.{asks, serves, serves_by}
+use Rattle.mdr_meaning.specs.Asking.{asks, counted, serves, serves_by}
 use Rattle.mdr_meaning.specs.Calls.{function_of, goes_to, direct, through, deep, call_by}
 use Rattle.mdr_meaning.specs.Cut.{cut}
 use Rattle.mdr_meaning.specs.Expressions.{given, value, values}
 use Rattle.mdr_meaning.specs.Sides.{Body, Side, Here, Means}
 use Rattle.mdr_meaning.specs.Tree.{Tree}
-use Rattle.mdr_meaning.specs.Values.{first_of, natural, rest_of}
+use Rattle.mdr_meaning.specs.Values.{first_of, rest_of}
 use Rattle.mdr_meaning.specs.Walk.{Accesses, walk}
 use Rattle.mdr_exec.specs.Evaluation.{after_value, value_of, values_of, Evaluates}
 use Rattle.mdr_exec.specs.Calling.{Calling, goes_by, direct_of, through_of, served_by, called_of, calling_tree, ComesToCall}
@@ -54,7 +54,7 @@ module _ {M : Type 0} (a : Accesses M) (side : Side) (low : Means) (here : Here)
   calls_service form n vs (Some RequestIrq) = record { by = λ q r k. refl }
   calls_service form n vs (Some FreeIrq) = record { by = λ q r k. refl }
   calls_service form n vs (Some Deliver) =
-      calls_then (List ℕ) (Tree.Read at (first_of vs) (natural (first_of (rest_of vs)))) (λ bytes k. asks n at [] [] bytes k) (a.read m (first_of vs) (natural (first_of (rest_of vs)))) _
+      calls_then (List ℕ) (Tree.Read at (first_of vs) (counted (first_of (rest_of vs)))) (λ bytes k. asks n at [] [] bytes k) (a.read m (first_of vs) (counted (first_of (rest_of vs)))) _
       (record { by = λ q r k. refl }) (λ bytes. record { by = λ q r k. refl })
   calls_service form n vs (Some Combolock) = record { by = λ q r k. refl }
   calls_service form n vs (Some Combounlock) = record { by = λ q r k. refl }

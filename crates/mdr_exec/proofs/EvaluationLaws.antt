@@ -13,7 +13,7 @@ use Rattle.mdr_meaning.specs.Expressions.{given, gives, loads, read, slot_of, pl
 use Rattle.mdr_meaning.specs.Numbers.{Numbered}
 use Rattle.mdr_meaning.specs.Pointers.{global, moved, steps, member, related, difference, cast}
 use Rattle.mdr_meaning.specs.Tree.{Tree}
-use Rattle.mdr_meaning.specs.Values.{at_kind, integer, is_true, truth, wire_of}
+use Rattle.mdr_meaning.specs.Values.{at_kind, integer, is_true, operand, right_operand, truth, wire_of}
 use Rattle.mdr_meaning.specs.Walk.{Accesses, Walked, on_access, walk}
 use Rattle.mdr_exec.specs.Evaluation.{after_value, fresh_of, loaded_by, value_of, place_of, values_of, Evaluates}
 
@@ -93,12 +93,12 @@ module _ {M : Type 0} (a : Accesses M) (m : M) (at : At) where
       passes_value (Term.Load p) = passes_loads s p (place known at s p) (place_of a m known s p) (passes_place p)
       passes_value (Term.Addr p) = passes_place p
       passes_value (Term.Decay p) = passes_place p
-      passes_value (Term.Neg kind e) = passes_tested (value known at s e) (λ x. at_kind kind (negated kind (integer x))) (value_of a m known s e) (passes_value e)
-      passes_value (Term.Flip kind e) = passes_made Wire Wire (value known at s e) (λ x. wire.Int kind (flipped kind (integer x))) (value_of a m known s e) (passes_value e)
+      passes_value (Term.Neg kind e) = passes_tested (value known at s e) (λ x. at_kind kind (negated kind (operand kind x))) (value_of a m known s e) (passes_value e)
+      passes_value (Term.Flip kind e) = passes_made Wire Wire (value known at s e) (λ x. wire.Int kind (flipped kind (operand kind x))) (value_of a m known s e) (passes_value e)
       passes_value (Term.Not e) = passes_made Wire Wire (value known at s e) (λ x. truth (not (is_true x))) (value_of a m known s e) (passes_value e)
       passes_value (Term.Bin op kind x y) =
-          passes_then Wire Wire (value known at s x) (λ v k. value known at s y (λ w. given at (at_kind kind (operated op kind (integer v) (integer w))) k)) (value_of a m known s x) _ (passes_value x)
-          (λ v. passes_tested (value known at s y) (λ w. at_kind kind (operated op kind (integer v) (integer w))) (value_of a m known s y) (passes_value y))
+          passes_then Wire Wire (value known at s x) (λ v k. value known at s y (λ w. given at (at_kind kind (operated op kind (operand kind v) (right_operand op kind (integer w)))) k)) (value_of a m known s x) _ (passes_value x)
+          (λ v. passes_tested (value known at s y) (λ w. at_kind kind (operated op kind (operand kind v) (right_operand op kind (integer w)))) (value_of a m known s y) (passes_value y))
       passes_value (Term.Rel op x y) =
           passes_then Wire Wire (value known at s x) (λ v k. value known at s y (λ w. given at (related known.program op v w) k)) (value_of a m known s x) _ (passes_value x)
           (λ v. passes_tested (value known at s y) (λ w. related known.program op v w) (value_of a m known s y) (passes_value y))

@@ -1,6 +1,7 @@
 pub mod EvaluationLaws
 pub mod EffectLaws
 pub mod CallingLaws
+pub mod DepthLaws
 pub mod AgainLaws
 pub mod StepLaws
 pub mod UnwindingLaws

@@ -13,10 +13,10 @@ use Rattle.mdr_core.specs.Layout.{chosen}
 use Rattle.mdr_core.specs.Services.{Service, Kzalloc, Kcalloc, Kfree, Readl, Writel, Printk, RequestIrq, FreeIrq, Deliver, Combolock, Combounlock, Bug, Enter, Leave, service_numbered}
 use Rattle.mdr_meaning.specs.declared.wire.Wire.{Wire}
 use Rattle.mdr_meaning.specs.Bodies.{body_by, body_from, body_of, known_of, kernel_side, user_side, whole_side}
-use Rattle.mdr_meaning.specs.Asking.{allocated}
+use Rattle.mdr_meaning.specs.Asking.{allocated, counted}
 use Rattle.mdr_meaning.specs.Printed.{print_text}
 use Rattle.mdr_meaning.specs.Sides.{Body, Here, Side, framed}
-use Rattle.mdr_meaning.specs.Values.{first_of, natural, rest_of}
+use Rattle.mdr_meaning.specs.Values.{first_of, rest_of}
 use Rattle.mdr_meaning.specs.Walk.{Accesses}
 use Rattle.mdr_events.specs.Held.{Held, Runs}
 use Rattle.mdr_events.specs.Steps.{holds, Came, Crosses, Stopped, Ticks}
@@ -183,9 +183,9 @@ module _ {M : Type 0} (a : Accesses M) (side : Side) (here : Here) (m : M) (at :
   -- what is asked for, by what a service takes
   abbrev pub served_as : Taking → Result Calling StopKind
   served_as taking.Object = asking a side here m at form n [] (allocated side.known form.shape 1) []
-  served_as taking.Objects = asking a side here m at form n [] (allocated side.known form.shape (natural (first_of vs))) []
+  served_as taking.Objects = asking a side here m at form n [] (allocated side.known form.shape (counted (first_of vs))) []
   served_as taking.Text = asking a side here m at form n [] [] (print_text (unwrap_or form.format []) vs)
-  served_as taking.Bytes = after_value (a.read m (first_of vs) (natural (first_of (rest_of vs)))) (λ bytes. asking a side here m at form n [] [] bytes)
+  served_as taking.Bytes = after_value (a.read m (first_of vs) (counted (first_of (rest_of vs)))) (λ bytes. asking a side here m at form n [] [] bytes)
   served_as taking.Arguments = asking a side here m at form n vs [] []
 
   served_by_taking : (s : Option Service) → served_by a side here m at form n vs s ≡ served_as (taking_by s)

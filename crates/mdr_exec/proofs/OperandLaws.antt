@@ -15,7 +15,7 @@ use Rattle.mdr_core.proofs.Coded.{bin_is, rel_is, move_is, index_is}
 use Rattle.mdr_meaning.specs.declared.wire.Wire.{Wire}
 use Rattle.mdr_meaning.specs.Bodies.{known_of, without_funcs}
 use Rattle.mdr_meaning.specs.Pointers.{moved, related, steps}
-use Rattle.mdr_meaning.specs.Values.{at_kind, integer}
+use Rattle.mdr_meaning.specs.Values.{at_kind, integer, operand, right_operand}
 use Rattle.mdr_meaning.specs.Walk.{Accesses}
 use Rattle.mdr_exec.specs.Evaluation.{after_value, place_of, value_of}
 
@@ -35,10 +35,10 @@ module _ {M : Type 0} (a : Accesses M) (m : M) (program : Program) (s : List Wir
 
   pub bin_comes : (e ex ey x y : Expr) (op : BinOp) (kind : Kind) (l r out : Result Wire StopKind) → e ≡ expr.Bin op kind x y → ex ≡ x → ey ≡ y
       → l ≡ value_of a m (known_of program) s (term_of ex) → r ≡ value_of a m (known_of program) s (term_of ey)
-      → out ≡ after_value l (λ v. after_value r (λ w. at_kind kind (operated op kind (integer v) (integer w)))) → out ≡ value_of a m (known_of program) s (term_of e)
+      → out ≡ after_value l (λ v. after_value r (λ w. at_kind kind (operated op kind (operand kind v) (right_operand op kind (integer w))))) → out ≡ value_of a m (known_of program) s (term_of e)
   unfolding value_of
   bin_comes e ex ey x y op kind l r out is p q le re oe =
-      oe ∙ both_come l (valued x) r (valued y) (λ v w. at_kind kind (operated op kind (integer v) (integer w))) (le ∙ ap valued p) (re ∙ ap valued q)
+      oe ∙ both_come l (valued x) r (valued y) (λ v w. at_kind kind (operated op kind (operand kind v) (right_operand op kind (integer w)))) (le ∙ ap valued p) (re ∙ ap valued q)
       ∙ sym (ap (value_of a m (known_of program) s) (ap term_of is ∙ bin_is op kind x y))
 
   pub rel_comes : (e ex ey x y : Expr) (op : RelOp) (l r out : Result Wire StopKind) → e ≡ expr.Rel op x y → ex ≡ x → ey ≡ y

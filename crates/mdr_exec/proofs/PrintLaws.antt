@@ -7,7 +7,7 @@ use Rattle.mdr_core.specs.Layout.{chosen}
 use Rattle.mdr_core.specs.Services.{Reading, Plain, Percent, Long}
 use Rattle.mdr_meaning.specs.declared.wire.Wire.{Wire}
 use Rattle.mdr_meaning.specs.Printed.{behind, printed, shown, told}
-use Rattle.mdr_meaning.specs.Values.{first_of, integer, natural_of, rest_of}
+use Rattle.mdr_meaning.specs.Values.{first_of, integer, natural_of, rest_of, saturated_u64}
 
 -- ---- numbers
 
@@ -23,10 +23,10 @@ shown_signed letter n h = rw (is_number letter 100 h) refl
 pub shown_byte : (letter : ℕ) (n : ℤ) → (letter ≡ 100 → ⊥) → letter ≡ 99 → shown letter n ≡ unsigned_abs (int_rem_euclid n (pos 256)) ∷ []
 shown_byte letter n h k = rw (not_number letter 100 h, is_number letter 99 k) refl
 
-pub shown_hex : (letter : ℕ) (n : ℤ) → (letter ≡ 100 → ⊥) → (letter ≡ 99 → ⊥) → letter ≡ 120 → shown letter n ≡ digits 16 false (natural_of n)
+pub shown_hex : (letter : ℕ) (n : ℤ) → (letter ≡ 100 → ⊥) → (letter ≡ 99 → ⊥) → letter ≡ 120 → shown letter n ≡ digits 16 false (saturated_u64 (natural_of n))
 shown_hex letter n h k j = rw (not_number letter 100 h, not_number letter 99 k, is_number letter 120 j) refl
 
-pub shown_decimal : (letter : ℕ) (n : ℤ) → (letter ≡ 100 → ⊥) → (letter ≡ 99 → ⊥) → (letter ≡ 120 → ⊥) → shown letter n ≡ decimal (natural_of n)
+pub shown_decimal : (letter : ℕ) (n : ℤ) → (letter ≡ 100 → ⊥) → (letter ≡ 99 → ⊥) → (letter ≡ 120 → ⊥) → shown letter n ≡ decimal (saturated_u64 (natural_of n))
 shown_decimal letter n h k j = rw (not_number letter 100 h, not_number letter 99 k, not_number letter 120 j) refl
 
 -- ---- one byte

@@ -1,6 +1,6 @@
 -- protocol
 -- What a call comes to before anything of it runs (C99 6.5.2.2): what is called and with which arguments, or a stop.
-use Rattle.std.specs.Prelude.{◌≡◌, ℕ, suc, List, [], Option, Some, None, Result, Ok, Err, ◌==◌, nat_lt, unwrap_or}
+use Rattle.std.specs.Prelude.{◌≡◌, ℕ, suc, ◌<◌, List, [], Option, Some, None, Result, Ok, Err, ◌==◌, nat_lt, unwrap_or}
 use Rattle.mdr_core.specs.declared.place.At.{At}
 use Rattle.mdr_core.specs.declared.stop.StopKind.{StopKind}
 use Rattle.mdr_core.specs.declared.stop.StopKind.TheVariants as stop
@@ -9,14 +9,14 @@ use Rattle.mdr_core.specs.Layout.{chosen}
 use Rattle.mdr_core.specs.Services.{Service, Kzalloc, Kcalloc, Printk, Deliver, service_numbered}
 use Rattle.mdr_meaning.specs.declared.wire.Wire.{Wire}
 use Rattle.mdr_meaning.specs.declared.shape.Shape64.{Shape64}
-use Rattle.mdr_meaning.specs.Asking.{allocated}
+use Rattle.mdr_meaning.specs.Asking.{allocated, counted}
 use Rattle.mdr_meaning.specs.Calls.{enters, function_of}
 use Rattle.mdr_meaning.specs.Cut.{cut}
 use Rattle.mdr_meaning.specs.Lives.{asked_for}
 use Rattle.mdr_meaning.specs.Printed.{print_text}
 use Rattle.mdr_meaning.specs.Sides.{Body, Side, Here, Means}
 use Rattle.mdr_meaning.specs.Tree.{Asked, Tree}
-use Rattle.mdr_meaning.specs.Values.{first_of, natural, rest_of}
+use Rattle.mdr_meaning.specs.Values.{first_of, rest_of}
 use Rattle.mdr_meaning.specs.Walk.{Accesses, on_access, walk}
 use Rattle.mdr_exec.specs.Evaluation.{after_value, value_of, values_of}
 
@@ -50,9 +50,9 @@ module _ {M : Type 0} (a : Accesses M) (side : Side) (here : Here) (m : M) where
 
     abbrev pub served_by : ℕ → List Wire → Option Service → Result Calling StopKind
     served_by n vs (Some Kzalloc) = asking n [] (allocated side.known form.shape 1) []
-    served_by n vs (Some Kcalloc) = asking n [] (allocated side.known form.shape (natural (first_of vs))) []
+    served_by n vs (Some Kcalloc) = asking n [] (allocated side.known form.shape (counted (first_of vs))) []
     served_by n vs (Some Printk) = asking n [] [] (print_text (unwrap_or form.format []) vs)
-    served_by n vs (Some Deliver) = after_value (a.read m (first_of vs) (natural (first_of (rest_of vs)))) (λ bytes. asking n [] [] bytes)
+    served_by n vs (Some Deliver) = after_value (a.read m (first_of vs) (counted (first_of (rest_of vs)))) (λ bytes. asking n [] [] bytes)
     served_by n vs _ = asking n vs [] []
 
     -- the callee is evaluated before the arguments. Service 15 calls what its first argument names
@@ -61,6 +61,13 @@ module _ {M : Type 0} (a : Accesses M) (side : Side) (here : Here) (m : M) where
     called_of slots (Called.Through e) = after_value (value_of a m side.known slots e) (λ v. after_value (values_of a m side.known slots form.args) (λ vs. through_of v vs))
     called_of slots (Called.Service n) =
         after_value (values_of a m side.known slots form.args) (λ vs. chosen (n == 15) (through_of (first_of vs) (rest_of vs)) (served_by n vs (service_numbered n)))
+
+-- a body is entered where fewer than 256 functions are active
+abbrev pub IsShallow : (depth : ℕ) → Result Calling StopKind → Type 0
+IsShallow depth (Ok (Entering f vs body)) = depth < 256
+IsShallow depth (Ok (Crossing f vs)) = Unit {0}
+IsShallow depth (Ok (Asking asked)) = Unit {0}
+IsShallow depth (Err kind) = Unit {0}
 
 -- the tree of what a call came to
 abbrev pub calling_tree : Side → Means → Here → At → Calling → (Wire → Tree) → Tree

@@ -14,7 +14,7 @@ use Rattle.mdr_meaning.specs.Expressions.{slot_of, place, value, values}
 use Rattle.mdr_meaning.specs.Numbers.{Numbered}
 use Rattle.mdr_meaning.specs.Pointers.{global, moved, steps, member, related, difference, cast}
 use Rattle.mdr_meaning.specs.Tree.{Tree}
-use Rattle.mdr_meaning.specs.Values.{at_kind, integer, is_true, truth, wire_of}
+use Rattle.mdr_meaning.specs.Values.{at_kind, integer, is_true, operand, right_operand, truth, wire_of}
 use Rattle.mdr_meaning.specs.Walk.{Accesses, on_access, walk}
 
 -- what comes after a value
@@ -48,11 +48,11 @@ module _ {M : Type 0} (a : Accesses M) (m : M) where
       value_of (Term.Load p) = loaded_by slots p (place_of p)
       value_of (Term.Addr p) = place_of p
       value_of (Term.Decay p) = place_of p
-      value_of (Term.Neg kind e) = after_value (value_of e) (λ x. at_kind kind (negated kind (integer x)))
-      value_of (Term.Flip kind e) = after_value (value_of e) (λ x. Ok (wire.Int kind (flipped kind (integer x))))
+      value_of (Term.Neg kind e) = after_value (value_of e) (λ x. at_kind kind (negated kind (operand kind x)))
+      value_of (Term.Flip kind e) = after_value (value_of e) (λ x. Ok (wire.Int kind (flipped kind (operand kind x))))
       value_of (Term.Not e) = after_value (value_of e) (λ x. Ok (truth (not (is_true x))))
       value_of (Term.Bin op kind x y) =
-          after_value (value_of x) (λ v. after_value (value_of y) (λ w. at_kind kind (operated op kind (integer v) (integer w))))
+          after_value (value_of x) (λ v. after_value (value_of y) (λ w. at_kind kind (operated op kind (operand kind v) (right_operand op kind (integer w)))))
       value_of (Term.Rel op x y) = after_value (value_of x) (λ v. after_value (value_of y) (λ w. related known.program op v w))
       value_of (Term.And x y) = and_of (value_of x) (value_of y)
       value_of (Term.Or x y) = or_of (value_of x) (value_of y)

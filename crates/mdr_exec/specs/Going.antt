@@ -13,6 +13,8 @@ use Rattle.mdr_exec.specs.declared.event.Outcome.{Outcome}
 use Rattle.mdr_exec.specs.declared.event.Outcome.TheVariants as outcome
 use Rattle.mdr_exec.specs.declared.frame.Front.{Front as Before}
 use Rattle.mdr_exec.specs.declared.frame.Front.TheVariants as front
+use Rattle.mdr_exec.specs.declared.go.Ran.{Ran}
+use Rattle.mdr_exec.specs.declared.go.Ran.TheVariants as ran
 use Rattle.mdr_exec.specs.declared.turn.Stepped.{Stepped}
 use Rattle.mdr_exec.specs.declared.turn.Stepped.TheVariants as stepped
 use Rattle.mdr_exec.specs.Events.{came_with}
@@ -23,6 +25,11 @@ use Rattle.mdr_exec.specs.Holding.{waits}
 abbrev pub stepped_with : Option Outcome → (left : ℕ) → Stepped
 stepped_with None left = stepped.Goes left
 stepped_with (Some e) left = stepped.Came e left
+
+-- what steps come to that are taken until the machine waits
+abbrev pub stepped_as : Ran → Stepped
+stepped_as (ran.Came e left) = stepped.Came e left
+stepped_as (ran.Wants at) = stepped.Wants at
 
 -- with so many ticks, a step comes to this
 abbrev pub SteppedTo : {M : Type 0} → Accesses M → Side → Held → M → (ticks : ℕ) → Stepped → Held → M → Type 0

@@ -10,7 +10,6 @@ ghost use Rattle.mdr_events.specs.Values.{wires_of};
 ghost use Rattle.mdr_exec.specs.Evaluation.{values_of};
 
 use crate::evaluate::evaluated;
-use crate::halt::Halt;
 use mdr_core::{Expr, Items, Program, StopKind, Value};
 use mdr_events::Memory;
 use std::alloc::{AllocError, Global};
@@ -22,14 +21,13 @@ pub(crate) fn values<C: Memory>(
     memory: &C,
     slots: &[Value],
     es: &[Expr],
-) -> Result<Result<Items<Value>, StopKind>, Halt>
+) -> Result<Result<Items<Value>, StopKind>, AllocError>
     requires { IsSound program.now }
     ensures { IfOk result (λ r. all_wired r ≡ values_of C.accesses memory.now (known_of program.now) (wires_of slots.now) (map term_of es.now)) }
 {
     let mut done = Items::new(alloc);
     for e in es {
-        let value = evaluated(program, memory, slots, e)?;
-        match value {
+        match evaluated(program, memory, slots, e) {
             Ok(value) => done.push(value)?,
             Err(stop) => return Ok(Err(stop)),
         }

@@ -1,6 +1,6 @@
 // Values are stored.
 
-ghost use Rattle.std.specs.Prelude.{◌≡◌, ◌<◌, ℕ, true, IfOk, List, Ok, Some};
+ghost use Rattle.std.specs.Prelude.{◌≡◌, ◌<◌, ℕ, true, List, Ok, Some};
 ghost use Rattle.mdr_core.specs.Code.{Code, Term};
 ghost use Rattle.mdr_core.specs.Folds.{lvalue_of, term_of};
 ghost use Rattle.mdr_core.specs.Sound.{IsSound};
@@ -21,7 +21,6 @@ ghost use Rattle.mdr_exec.specs.Storing.{slot_named, with_slots};
 
 use crate::evaluate::{evaluated, located};
 use crate::frame::Machine;
-use crate::halt::Halt;
 use crate::leave::go_on;
 use mdr_core::{Expr, Items, Lval, Program, StopKind, Value};
 use mdr_events::Memory;
@@ -47,13 +46,11 @@ fn put_at<C: Memory>(
     slots: &[Value],
     p: &Lval,
     value: Value,
-) -> Result<Result<(), StopKind>, Halt>
+) -> Result<(), StopKind>
     requires { IsSound program.now }
-    ensures { IfOk result (λ r. (l : Locals) → after_result (place_of C.accesses memory.old (known_of program.now) (wires_of slots.now) (lvalue_of p.now)) memory.old (λ q m. stored C.accesses q (wire_of value) l m) ≡ did (when_made r l) memory.new) }
+    ensures { (l : Locals) → after_result (place_of C.accesses memory.old (known_of program.now) (wires_of slots.now) (lvalue_of p.now)) memory.old (λ q m. stored C.accesses q (wire_of value) l m) ≡ did (when_made result l) memory.new }
 {
-    let place = located(program, memory, slots, p)?;
-    let done = stored(memory, place, value);
-    Ok(done)
+    stored(memory, located(program, memory, slots, p), value)
 }
 
 /// The slot that an lvalue is.
@@ -77,19 +74,16 @@ pub(crate) fn put<C: Memory>(
     slots: &mut Items<Value>,
     p: &Lval,
     value: Value,
-) -> Result<Result<(), StopKind>, Halt>
+) -> Result<(), StopKind>
     requires { IsSound program.now }
-    ensures { IfOk result (λ r. (born : List AnyWire) → put_of C.accesses (known_of program.now) (lvalue_of p.now) (wire_of value) (with_slots slots.old born) memory.old ≡ did (when_made r (with_slots slots.new born)) memory.new) }
+    ensures { (born : List AnyWire) → put_of C.accesses (known_of program.now) (lvalue_of p.now) (wire_of value) (with_slots slots.old born) memory.old ≡ did (when_made result (with_slots slots.new born)) memory.new }
 {
     match slot_named(p) {
         Some(i) => {
             slots.set(i as usize, value);
-            Ok(Ok(()))
+            Ok(())
         }
-        None => {
-            let done = put_at(program, memory, slots.as_slice(), p, value)?;
-            Ok(done)
-        }
+        None => put_at(program, memory, slots.as_slice(), p, value),
     }
 }
 
@@ -100,19 +94,19 @@ fn assign<C: Memory>(
     memory: &mut C,
     p: &Lval,
     value: Value,
-) -> Result<Option<StopKind>, Halt>
+) -> Option<StopKind>
     requires program { IsSound program.now }
     requires runs { is_running machine.old.front ≡ true }
     requires next { machine.old.top.next < 18446744073709551615 }
-    ensures { IfOk result (λ r. (side : AnySide) (n : ℕ) (e : Term) → Ok (wire_of value) ≡ value_of C.accesses memory.old (known_of program.now) (wires_of machine.old.top.slots) e → side.known ≡ known_of program.now → code_at (block_of program.now machine.old.top) machine.old.top.next ≡ Some (Code.Assign n (lvalue_of p.now) e) → Ticks C.accesses side (held_of program.now machine.old) memory.old (came_of r (in_here (here_in program.now machine.old) n)) (held_of program.now machine.new) memory.new) }
+    ensures { (side : AnySide) (n : ℕ) (e : Term) → Ok (wire_of value) ≡ value_of C.accesses memory.old (known_of program.now) (wires_of machine.old.top.slots) e → side.known ≡ known_of program.now → code_at (block_of program.now machine.old.top) machine.old.top.next ≡ Some (Code.Assign n (lvalue_of p.now) e) → Ticks C.accesses side (held_of program.now machine.old) memory.old (came_of result (in_here (here_in program.now machine.old) n)) (held_of program.now machine.new) memory.new }
 {
-    let done = put(program, memory, &mut machine.top.slots, p, value)?;
+    let done = put(program, memory, &mut machine.top.slots, p, value);
     match done {
         Ok(()) => {
             go_on(machine, machine.top.next + 1);
-            Ok(None)
+            None
         }
-        Err(stop) => Ok(Some(stop)),
+        Err(stop) => Some(stop),
     }
 }
 
@@ -123,18 +117,15 @@ pub(crate) fn begin_assign<C: Memory>(
     memory: &mut C,
     p: &Lval,
     e: &Expr,
-) -> Result<Option<StopKind>, Halt>
+) -> Option<StopKind>
     requires program { IsSound program.now }
     requires runs { is_running machine.old.front ≡ true }
     requires next { machine.old.top.next < 18446744073709551615 }
-    ensures { IfOk result (λ r. (side : AnySide) (n : ℕ) → side.known ≡ known_of program.now → code_at (block_of program.now machine.old.top) machine.old.top.next ≡ Some (Code.Assign n (lvalue_of p.now) (term_of e.now)) → Ticks C.accesses side (held_of program.now machine.old) memory.old (came_of r (in_here (here_in program.now machine.old) n)) (held_of program.now machine.new) memory.new) }
+    ensures { (side : AnySide) (n : ℕ) → side.known ≡ known_of program.now → code_at (block_of program.now machine.old.top) machine.old.top.next ≡ Some (Code.Assign n (lvalue_of p.now) (term_of e.now)) → Ticks C.accesses side (held_of program.now machine.old) memory.old (came_of result (in_here (here_in program.now machine.old) n)) (held_of program.now machine.new) memory.new }
 {
-    let value = evaluated(program, memory, machine.top.slots.as_slice(), e)?;
+    let value = evaluated(program, memory, machine.top.slots.as_slice(), e);
     match value {
-        Ok(value) => {
-            let came = assign(machine, program, memory, p, value)?;
-            Ok(came)
-        }
-        Err(stop) => Ok(Some(stop)),
+        Ok(value) => assign(machine, program, memory, p, value),
+        Err(stop) => Some(stop),
     }
 }

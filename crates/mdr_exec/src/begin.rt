@@ -16,7 +16,6 @@ ghost use Rattle.mdr_exec.specs.Places.{code_at};
 
 use crate::evaluate::evaluated;
 use crate::frame::{Flow, Machine};
-use crate::halt::Halt;
 use crate::leave::go_past;
 use crate::places::Part;
 use crate::step::enter;
@@ -38,13 +37,13 @@ pub(crate) fn begin_if<C: Memory>(
     program: &Program,
     memory: &C,
     test: &Expr,
-) -> Result<Option<StopKind>, Halt>
+) -> Result<Option<StopKind>, AllocError>
     requires program { IsSound program.now }
     requires runs { is_running machine.old.front ≡ true }
     requires next { machine.old.top.next < 18446744073709551615 }
     ensures { IfOk result (λ r. (side : AnySide) (n : ℕ) (one other : Codes) → side.known ≡ known_of program.now → code_at (block_of program.now machine.old.top) machine.old.top.next ≡ Some (Code.If n (term_of test.now) one other) → Ticks C.accesses side (held_of program.now machine.old) memory.now (came_of r (in_here (here_in program.now machine.old) n)) (held_of program.now machine.new) memory.now) }
 {
-    let value = evaluated(program, memory, machine.top.slots.as_slice(), test)?;
+    let value = evaluated(program, memory, machine.top.slots.as_slice(), test);
     match value {
         Ok(value) => {
             enter(machine, alloc, branch(is_true(value)))?;
@@ -61,13 +60,13 @@ fn begin_turn<C: Memory>(
     program: &Program,
     memory: &C,
     test: &Expr,
-) -> Result<Option<StopKind>, Halt>
+) -> Result<Option<StopKind>, AllocError>
     requires program { IsSound program.now }
     requires runs { is_running machine.old.front ≡ true }
     requires next { machine.old.top.next < 18446744073709551615 }
     ensures { IfOk result (λ r. (side : AnySide) (n : ℕ) (step body : Codes) → side.known ≡ known_of program.now → code_at (block_of program.now machine.old.top) machine.old.top.next ≡ Some (Code.Loop n (term_of test.now) step body) → Ticks C.accesses side (held_of program.now machine.old) memory.now (came_of r (in_here (here_in program.now machine.old) n)) (held_of program.now machine.new) memory.now) }
 {
-    let value = evaluated(program, memory, machine.top.slots.as_slice(), test)?;
+    let value = evaluated(program, memory, machine.top.slots.as_slice(), test);
     match value {
         Ok(value) => {
             if is_true(value) {
@@ -89,7 +88,7 @@ pub(crate) fn begin_loop<C: Memory>(
     program: &Program,
     memory: &C,
     test: Option<&Expr>,
-) -> Result<Option<StopKind>, Halt>
+) -> Result<Option<StopKind>, AllocError>
     requires program { IsSound program.now }
     requires runs { is_running machine.old.front ≡ true }
     requires next { machine.old.top.next < 18446744073709551615 }
@@ -119,19 +118,19 @@ pub(crate) fn begin_return_value<C: Memory>(
     program: &Program,
     memory: &C,
     e: &Expr,
-) -> Result<Option<StopKind>, Halt>
+) -> Option<StopKind>
     requires program { IsSound program.now }
     requires runs { is_running machine.old.front ≡ true }
     requires next { machine.old.top.next < 18446744073709551615 }
-    ensures { IfOk result (λ r. (side : AnySide) (n : ℕ) → side.known ≡ known_of program.now → code_at (block_of program.now machine.old.top) machine.old.top.next ≡ Some (Code.Return n (Some (term_of e.now))) → Ticks C.accesses side (held_of program.now machine.old) memory.now (came_of r (in_here (here_in program.now machine.old) n)) (held_of program.now machine.new) memory.now) }
+    ensures { (side : AnySide) (n : ℕ) → side.known ≡ known_of program.now → code_at (block_of program.now machine.old.top) machine.old.top.next ≡ Some (Code.Return n (Some (term_of e.now))) → Ticks C.accesses side (held_of program.now machine.old) memory.now (came_of result (in_here (here_in program.now machine.old) n)) (held_of program.now machine.new) memory.now }
 {
-    let value = evaluated(program, memory, machine.top.slots.as_slice(), e)?;
+    let value = evaluated(program, memory, machine.top.slots.as_slice(), e);
     match value {
         Ok(value) => {
             go_past(machine, Flow::Returns(value), machine.top.next + 1);
-            Ok(None)
+            None
         }
-        Err(stop) => Ok(Some(stop)),
+        Err(stop) => Some(stop),
     }
 }
 

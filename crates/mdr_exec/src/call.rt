@@ -8,7 +8,7 @@ ghost use Rattle.mdr_core.specs.Sound.{IsSound};
 ghost use Rattle.mdr_events.specs.Steps.{Crosses, Ticks};
 ghost use Rattle.mdr_events.specs.Values.{wires_of};
 ghost use Rattle.mdr_exec.specs.Events.{came_as, came_with};
-ghost use Rattle.mdr_exec.specs.Calling.{Entering};
+ghost use Rattle.mdr_exec.specs.Calling.{Entering, IsShallow};
 ghost use Rattle.mdr_exec.specs.Halves.{HoldsCall, awaits, body_in, calling_as, side_in};
 ghost use Rattle.mdr_exec.specs.Holding.{block_of, held_of, is_running};
 ghost use Rattle.mdr_exec.specs.Leaving.{here_in};
@@ -18,7 +18,6 @@ ghost use Rattle.mdr_exec.specs.StatementSteps.{call_came};
 use crate::calling::{Calling, Calls, called};
 use crate::event::Outcome;
 use crate::frame::{Frame, Front, Machine, Suspended, Until};
-use crate::halt::Halt;
 use crate::run::slots_of;
 use mdr_core::{At, CallForm, Half, Items, Program, StopKind, Value};
 use mdr_events::{Asked, Crossing, Memory};
@@ -32,13 +31,11 @@ fn enter_body(
     program: &Program,
     func: u32,
     args: &[Value],
-) -> Result<(), Halt>
+) -> Result<(), AllocError>
     requires next { machine.old.top.next < 18446744073709551615 }
+    requires shallow { machine.old.top.depth < 256 }
     ensures { OnOk result (HoldsCall program.now machine.old (Entering func (wires_of args.now) (body_in program.now func)) (held_of program.now machine.new)) }
 {
-    if machine.top.depth >= 256 {
-        return Err(Halt::Unfit);
-    }
     let slots = slots_of(alloc, program, func, args)?;
     let top = Frame {
         func,
@@ -85,8 +82,9 @@ fn make_call(
     program: &Program,
     at: At,
     calling: Calling,
-) -> Result<Option<Outcome>, Halt>
+) -> Result<Option<Outcome>, AllocError>
     requires next { machine.old.top.next < 18446744073709551615 }
+    requires shallow { IsShallow machine.old.top.depth (Ok (calling_as program.now calling)) }
     ensures comes { IfOk result (λ e. came_as e ≡ call_came (here_in program.now machine.old) at (Ok (calling_as program.now calling))) }
     ensures holds { OnOk result (HoldsCall program.now machine.old (calling_as program.now calling) (held_of program.now machine.new)) }
 {
@@ -116,7 +114,7 @@ pub(crate) fn begin_call<C: Memory>(
     memory: &C,
     form: &CallForm,
     number: u32,
-) -> Result<Option<Outcome>, Halt>
+) -> Result<Option<Outcome>, AllocError>
     requires program { IsSound program.now }
     requires runs { is_running machine.old.front ≡ true }
     requires next { machine.old.top.next < 18446744073709551615 }

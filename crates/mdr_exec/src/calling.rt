@@ -6,12 +6,12 @@ ghost use Rattle.mdr_core.specs.Folds.{call_of, term_of};
 ghost use Rattle.mdr_core.specs.Layout.{chosen};
 ghost use Rattle.mdr_core.specs.Services.{service_numbered};
 ghost use Rattle.mdr_core.specs.Sound.{IsSound};
-ghost use Rattle.mdr_meaning.specs.Asking.{allocated};
+ghost use Rattle.mdr_meaning.specs.Asking.{allocated, counted};
 ghost use Rattle.mdr_meaning.specs.Bodies.{known_of};
 ghost use Rattle.mdr_meaning.specs.Calls.{function_of};
 ghost use Rattle.mdr_meaning.specs.Lives.{asked_for};
 ghost use Rattle.mdr_meaning.specs.Printed.{print_text};
-ghost use Rattle.mdr_meaning.specs.Values.{first_of, natural, rest_of, wire_of};
+ghost use Rattle.mdr_meaning.specs.Values.{first_of, rest_of, wire_of};
 ghost use Rattle.mdr_events.specs.Outcomes.{all_wired};
 ghost use Rattle.mdr_events.specs.Values.{wires_of};
 ghost use Rattle.mdr_exec.specs.Calling.{Asking, called_of, direct_of, goes_by, served_by, through_of};
@@ -21,15 +21,14 @@ ghost use Rattle.mdr_exec.specs.Halves.{called_as, calling_as, here_at, side_at,
 use crate::arguments::{rest, second, values};
 use crate::evaluate::evaluated;
 use crate::frame::Machine;
-use crate::halt::Halt;
 use crate::halves::is_entered;
-use crate::pointers::{number_fits, number_in};
-use crate::printing::{natural, print_text};
-use crate::values::{first, integer};
+use crate::pointers::type_number;
+use crate::printing::{counted, print_text};
+use crate::values::first;
 use mdr_core::{At, CallForm, Callee, Expr, Half, Items, Name, Program, StopKind, Ty, Value};
 use mdr_events::{Asked, Memory};
 use mdr_meaning::Shape64;
-use std::alloc::Global;
+use std::alloc::{AllocError, Global};
 
 /// What a call comes to.
 #[derive(Drop)]
@@ -143,12 +142,12 @@ fn allocated(
     program: &Program,
     shape: Option<&Ty>,
     count: u64,
-) -> Result<Items<Shape64>, Halt>
+) -> Result<Items<Shape64>, AllocError>
     ensures { IfOk result (λ shapes. shapes ≡ allocated (known_of program.now) (option_copied shape.entry) count) }
 {
     match shape {
         Some(ty) => {
-            let ty = number_fits(number_in(program.types.as_slice(), ty))?;
+            let ty = type_number(program, ty);
             Ok(Items::from_slice(alloc, &[Shape64 { ty, count }])?)
         }
         None => Ok(Items::new(alloc)),
@@ -181,7 +180,7 @@ fn asks_for_objects(
     at: At,
     shape: Option<&Ty>,
     count: u64,
-) -> Result<Calling, Halt>
+) -> Result<Calling, AllocError>
     ensures { IfOk result (λ c. calling_as calls.entry.program.now c ≡ Asking (asked_for service at [] (allocated (known_of calls.entry.program.now) (option_copied shape.entry) count) [])) }
 {
     let shapes = allocated(alloc, calls.program, shape, count)?;
@@ -196,7 +195,7 @@ fn asks_for_objects(
 }
 
 /// The text of a call that prints.
-fn text_of(alloc: Global, format: Option<&Name>, args: &[Value]) -> Result<Items<u8>, Halt>
+fn text_of(alloc: Global, format: Option<&Name>, args: &[Value]) -> Result<Items<u8>, AllocError>
     ensures { IfOk result (λ text. text ≡ print_text (unwrap_or (option_copied format.entry) []) (wires_of args.now)) }
 {
     match format {
@@ -218,7 +217,7 @@ fn asks_to_print(
     at: At,
     format: Option<&Name>,
     args: &[Value],
-) -> Result<Calling, Halt>
+) -> Result<Calling, AllocError>
     ensures { IfOk result (λ c. (program : AnyProgram) → calling_as program c ≡ Asking (asked_for service at [] [] (print_text (unwrap_or (option_copied format.entry) []) (wires_of args.now)))) }
 {
     let bytes = text_of(alloc, format, args)?;
@@ -239,10 +238,10 @@ fn asks_to_deliver<C: Memory>(
     service: u32,
     at: At,
     args: &[Value],
-) -> Result<Result<Calling, StopKind>, Halt>
-    ensures { IfOk result (λ r. (program : AnyProgram) → called_as program r ≡ after_value (C.accesses.read memory.now (first_of (wires_of args.now)) (natural (first_of (rest_of (wires_of args.now))))) (λ bytes. Ok (Asking (asked_for service at [] [] bytes)))) }
+) -> Result<Result<Calling, StopKind>, AllocError>
+    ensures { IfOk result (λ r. (program : AnyProgram) → called_as program r ≡ after_value (C.accesses.read memory.now (first_of (wires_of args.now)) (counted (first_of (rest_of (wires_of args.now))))) (λ bytes. Ok (Asking (asked_for service at [] [] bytes)))) }
 {
-    let count = natural(integer(second(args)))?;
+    let count = counted(second(args));
     let read = memory.read(alloc, first(args), count)?;
     match read {
         Ok(bytes) => Ok(Ok(asking(
@@ -294,7 +293,7 @@ fn served<C: Memory>(
     service: u32,
     at: At,
     args: Items<Value>,
-) -> Result<Result<Calling, StopKind>, Halt>
+) -> Result<Result<Calling, StopKind>, AllocError>
     ensures { IfOk result (λ r. called_as calls.entry.program.now r ≡ served_by C.accesses (side_at calls.entry) (here_at calls.entry) memory.now at (call_of form.now) service (wires_of args) (service_numbered service)) }
 {
     match taken_by(service) {
@@ -303,7 +302,7 @@ fn served<C: Memory>(
             Ok(Ok(c))
         }
         Taking::Objects => {
-            let count = natural(integer(first(args.as_slice())))?;
+            let count = counted(first(args.as_slice()));
             let c = asks_for_objects(calls, alloc, service, at, form.shape.as_ref(), count)?;
             Ok(Ok(c))
         }
@@ -335,7 +334,7 @@ fn service_with<C: Memory>(
     service: u32,
     at: At,
     args: Items<Value>,
-) -> Result<Result<Calling, StopKind>, Halt>
+) -> Result<Result<Calling, StopKind>, AllocError>
     ensures { IfOk result (λ r. called_as calls.entry.program.now r ≡ chosen (service == 15) (through_of C.accesses (side_at calls.entry) (here_at calls.entry) memory.now (first_of (wires_of args)) (rest_of (wires_of args))) (served_by C.accesses (side_at calls.entry) (here_at calls.entry) memory.now at (call_of form.now) service (wires_of args) (service_numbered service))) }
 {
     if service == 15 {
@@ -354,7 +353,7 @@ fn arguments<C: Memory>(
     alloc: Global,
     memory: &C,
     form: &CallForm,
-) -> Result<Result<Items<Value>, StopKind>, Halt>
+) -> Result<Result<Items<Value>, StopKind>, AllocError>
     requires { IsSound calls.program.now }
     ensures { IfOk result (λ r. all_wired r ≡ values_of C.accesses memory.now (known_of calls.entry.program.now) (wires_of calls.entry.machine.now.top.slots) (call_of form.now).args) }
 {
@@ -375,11 +374,11 @@ fn called_through<C: Memory>(
     memory: &C,
     form: &CallForm,
     e: &Expr,
-) -> Result<Result<Calling, StopKind>, Halt>
+) -> Result<Result<Calling, StopKind>, AllocError>
     requires { IsSound calls.program.now }
     ensures { IfOk result (λ r. called_as calls.entry.program.now r ≡ after_value (value_of C.accesses memory.now (known_of calls.entry.program.now) (wires_of calls.entry.machine.now.top.slots) (term_of e.now)) (λ v. after_value (values_of C.accesses memory.now (known_of calls.entry.program.now) (wires_of calls.entry.machine.now.top.slots) (call_of form.now).args) (λ vs. through_of C.accesses (side_at calls.entry) (here_at calls.entry) memory.now v vs))) }
 {
-    let callee = evaluated(calls.program, memory, calls.machine.top.slots.as_slice(), e)?;
+    let callee = evaluated(calls.program, memory, calls.machine.top.slots.as_slice(), e);
     match callee {
         Ok(callee) => {
             let args = arguments(calls, alloc, memory, form)?;
@@ -396,7 +395,7 @@ fn called_service<C: Memory>(
     form: &CallForm,
     service: u32,
     at: At,
-) -> Result<Result<Calling, StopKind>, Halt>
+) -> Result<Result<Calling, StopKind>, AllocError>
     requires { IsSound calls.program.now }
     ensures { IfOk result (λ r. called_as calls.entry.program.now r ≡ after_value (values_of C.accesses memory.now (known_of calls.entry.program.now) (wires_of calls.entry.machine.now.top.slots) (call_of form.now).args) (λ vs. chosen (service == 15) (through_of C.accesses (side_at calls.entry) (here_at calls.entry) memory.now (first_of vs) (rest_of vs)) (served_by C.accesses (side_at calls.entry) (here_at calls.entry) memory.now at (call_of form.now) service vs (service_numbered service)))) }
 {
@@ -417,7 +416,7 @@ pub(crate) fn called<C: Memory>(
     memory: &C,
     form: &CallForm,
     at: At,
-) -> Result<Result<Calling, StopKind>, Halt>
+) -> Result<Result<Calling, StopKind>, AllocError>
     requires { IsSound calls.program.now }
     ensures { IfOk result (λ r. called_as calls.entry.program.now r ≡ called_of C.accesses (side_at calls.entry) (here_at calls.entry) memory.now at (call_of form.now) (wires_of calls.entry.machine.now.top.slots) (call_of form.now).callee) }
 {

@@ -17,7 +17,6 @@ ghost use Rattle.mdr_exec.specs.Places.{code_at};
 
 use crate::event::Outcome;
 use crate::frame::{Flow, Front, Machine};
-use crate::halt::Halt;
 use crate::leave::go_past;
 use crate::slots::{Declared, shape_of, slot_in};
 use crate::start::before_declared;
@@ -143,13 +142,13 @@ fn declare<'a, C: Memory>(
     i: u32,
     declared: Declared<'a>,
     asks: bool,
-) -> Result<Option<Outcome>, Halt>
+) -> Result<Option<Outcome>, AllocError>
     requires runs { is_running machine.old.front ≡ true }
     requires next { machine.old.top.next < 18446744073709551615 }
     ensures { IfOk result (λ e. (side : AnySide) (n : ℕ) → slice_get (slots_by (slice_get program.now.funcs machine.old.top.func)) i ≡ Some (slot_as declared.entry) → side.known ≡ known_of program.now → side.asks ≡ asks → code_at (block_of program.now machine.old.top) machine.old.top.next ≡ Some (Code.Declare n i) → Ticks C.accesses side (held_of program.now machine.old) memory.old (came_as e) (held_of program.now machine.new) memory.new) }
 {
     if declared.object {
-        let shape = shape_of(program, declared)?;
+        let shape = shape_of(program, declared);
         let event = declare_object(machine, alloc, memory, i, shape, asks)?;
         Ok(event)
     } else {
@@ -166,7 +165,7 @@ pub(crate) fn begin_declare<C: Memory>(
     memory: &mut C,
     i: u32,
     asks: bool,
-) -> Result<Option<Outcome>, Halt>
+) -> Result<Option<Outcome>, AllocError>
     requires runs { is_running machine.old.front ≡ true }
     requires next { machine.old.top.next < 18446744073709551615 }
     ensures { IfOk result (λ e. (side : AnySide) (n : ℕ) → side.known ≡ known_of program.now → side.asks ≡ asks → code_at (block_of program.now machine.old.top) machine.old.top.next ≡ Some (Code.Declare n i) → Ticks C.accesses side (held_of program.now machine.old) memory.old (came_as e) (held_of program.now machine.new) memory.new) }

@@ -3,19 +3,18 @@
 ghost use Rattle.std.specs.Prelude.{◌≡◌, ◌≤◌, ◌-◌, true, IfOk, OnOk};
 ghost use Rattle.mdr_core.specs.Sound.{IsSound};
 ghost use Rattle.mdr_events.specs.Going.{RanTo};
-ghost use Rattle.mdr_exec.specs.Going.{SteppedTo, has_room, is_open, ran_as};
+ghost use Rattle.mdr_exec.specs.Going.{SteppedTo, has_room, is_open, ran_as, stepped_as};
 ghost use Rattle.mdr_exec.specs.Halves.{side_in};
 ghost use Rattle.mdr_exec.specs.Holding.{held_of, waits};
 
 use crate::event::Outcome;
 use crate::frame::{Front, Machine};
-use crate::halt::Halt;
 use crate::turn::{Stepped, step};
-use mdr_core::{Half, Program};
+use mdr_core::{At, Half, Limit, OutOfMemory, Program};
 use mdr_events::{Asked, Event, Memory};
 use std::alloc::Global;
 
-fn ran(event: Outcome) -> Event
+fn event_of(event: Outcome) -> Event
     ensures { result ≡ ran_as event }
 {
     match event {
@@ -66,6 +65,14 @@ fn has_room(asked: &Asked, front: &Front) -> bool
     }
 }
 
+/// What steps come to that are taken until the machine waits, and the ticks that are left then.
+#[derive(Drop)]
+pub enum Ran {
+    Came(Outcome, u64),
+    /// The statement at a place wants a tick, and none is left.
+    Wants(At),
+}
+
 /// Steps are taken until the machine waits.
 fn run_on<C: Memory>(
     machine: &mut Machine,
@@ -74,9 +81,9 @@ fn run_on<C: Memory>(
     halves: &[Half],
     memory: &mut C,
     ticks: u64,
-) -> Result<Stepped, Halt>
+) -> Result<Ran, OutOfMemory>
     requires { IsSound program.now }
-    ensures ran { IfOk result (λ r. SteppedTo C.accesses (side_in machine.old.side halves.now program.now) (held_of program.now machine.old) memory.old ticks r (held_of program.now machine.new) memory.new) }
+    ensures ran { IfOk result (λ r. SteppedTo C.accesses (side_in machine.old.side halves.now program.now) (held_of program.now machine.old) memory.old ticks (stepped_as r) (held_of program.now machine.new) memory.new) }
     ensures side { OnOk result (machine.new.side ≡ machine.old.side) }
 {
     let side = machine.side;
@@ -86,27 +93,26 @@ fn run_on<C: Memory>(
         machine.side = side;
         match stepped {
             Stepped::Goes(rest) => left = rest,
-            Stepped::Came(event, rest) => return Ok(Stepped::Came(event, rest)),
-            Stepped::Wants(at) => return Ok(Stepped::Wants(at)),
+            Stepped::Came(event, rest) => return Ok(Ran::Came(event, rest)),
+            Stepped::Wants(at) => return Ok(Ran::Wants(at)),
         }
     }
-    Err(Halt::Unfit)
+    Err(Limit::Turns.past())
 }
 
 /// Whether a question that is asked is open.
-fn when_open(machine: &Machine, ran: Event) -> Result<Event, Halt>
+fn when_open(machine: &Machine, ran: Event) -> Result<Event, OutOfMemory>
     ensures { IfOk result (λ r. (r ≡ ran) × (is_open r machine.now.front ≡ true)) }
 {
     if is_open(&ran, &machine.front) {
         Ok(ran)
     } else {
-        Err(Halt::Unfit)
+        Err(Limit::Unmet.past())
     }
 }
 
 impl Machine {
-    /// Runs for at most so many ticks, up to the next event. Where memory is wanting, or a value doesn't fit what is
-    /// done with it, nothing is promised of the machine.
+    /// Runs for at most so many ticks, up to the next event. Where memory is wanting, nothing is promised of the machine.
     pub fn go<C: Memory>(
         &mut self,
         alloc: Global,
@@ -114,25 +120,24 @@ impl Machine {
         halves: &[Half],
         memory: &mut C,
         ticks: u64,
-    ) -> Result<Event, Halt>
+    ) -> Result<Event, OutOfMemory>
         requires { IsSound program.now }
         ensures ran { IfOk result (λ e. RanTo C.accesses (side_in self.old.side halves.now program.now) (held_of program.now self.old) memory.old ticks e (held_of program.now self.new) memory.new (ticks - self.new.used)) }
         ensures used { OnOk result (self.new.used ≤ ticks) }
         ensures open { IfOk result (λ e. is_open e self.new.front ≡ true) }
         ensures side { OnOk result (self.new.side ≡ self.old.side) }
     {
-        let stepped = run_on(self, alloc, program, halves, memory, ticks)?;
-        match stepped {
-            Stepped::Came(event, left) => {
+        let ran = run_on(self, alloc, program, halves, memory, ticks)?;
+        match ran {
+            Ran::Came(event, left) => {
                 self.used = ticks - left;
-                let answer = when_open(self, ran(event))?;
+                let answer = when_open(self, event_of(event))?;
                 Ok(answer)
             }
-            Stepped::Wants(at) => {
+            Ran::Wants(at) => {
                 self.used = ticks;
                 Ok(Event::TicksOut(at))
             }
-            Stepped::Goes(_) => Err(Halt::Unfit),
         }
     }
 

@@ -1,18 +1,20 @@
 // Integers in hand.
 
-ghost use Rattle.std.specs.Prelude.{◌≡◌, IfSome, Ok, not};
+ghost use Rattle.std.specs.Prelude.{◌≡◌, IfSome, Ok, not, true};
 ghost use Rattle.mdr_core.specs.declared.program.Program.{Program as AnyProgram};
 ghost use Rattle.mdr_core.specs.declared.kind.Kind.{Kind as AnyKind};
+ghost use Rattle.mdr_core.specs.Conversions.{converted};
+ghost use Rattle.mdr_core.specs.Kinds.{is_in_range};
 ghost use Rattle.mdr_core.specs.Operators.{flipped, is_right_operand, negated, operated};
 ghost use Rattle.mdr_meaning.specs.declared.wire.Wire.TheVariants as wire;
 ghost use Rattle.mdr_meaning.specs.Expressions.{slot_of};
 ghost use Rattle.mdr_meaning.specs.Pointers.{related};
-ghost use Rattle.mdr_meaning.specs.Values.{at_kind, is_true, truth, wire_of};
+ghost use Rattle.mdr_meaning.specs.Values.{at_kind, is_true, right_operand, truth, wire_of};
 ghost use Rattle.mdr_events.specs.Integers.{integer_wire};
 ghost use Rattle.mdr_events.specs.Values.{wires_of};
 
-use mdr_arith::{bin, flip, neg};
-use mdr_core::{BinOp, Kind, RelOp, Value};
+use mdr_arith::{bin, conv, flip, neg};
+use mdr_core::{BinOp, Kind, RelOp, Undefined, Value};
 use mdr_events::Integer;
 
 /// The `int` 1 or 0.
@@ -52,36 +54,62 @@ pub(crate) fn slot_integer(slots: &[Value], i: u32) -> Option<Integer>
     }
 }
 
-/// Whether a number may stand to the right of an operator at a kind.
-#[tactic(auto, unfolding(mdr_core::specs::Operators::is_right_operand))]
-pub(crate) fn may_stand_right(op: BinOp, kind: Kind, number: i128) -> bool
-    ensures { result ≡ is_right_operand op kind number }
+/// A number as an operator has it at a kind.
+fn operand(kind: Kind, number: i128) -> i128
+    ensures value { result ≡ converted kind number }
+    ensures fits { is_in_range kind result ≡ true }
 {
-    match op {
-        BinOp::Shl => true,
-        BinOp::Shr => true,
-        BinOp::Add => kind.contains(number),
-        BinOp::Sub => kind.contains(number),
-        BinOp::Mul => kind.contains(number),
-        BinOp::Div => kind.contains(number),
-        BinOp::Rem => kind.contains(number),
-        BinOp::BitAnd => kind.contains(number),
-        BinOp::BitOr => kind.contains(number),
-        BinOp::BitXor => kind.contains(number),
+    if kind.contains(number) {
+        number
+    } else {
+        conv(kind, number)
     }
 }
 
-/// What a binary operator comes to at a kind, where its operands fit and it doesn't stop.
-pub(crate) fn operated(op: BinOp, kind: Kind, a: i128, b: i128) -> Option<Integer>
-    ensures { IfSome result (λ n. Ok (integer_wire n) ≡ at_kind kind (operated op kind a b)) }
+/// The same of the number to its right: the count of a shift has a kind of its own.
+fn right_operand(op: BinOp, kind: Kind, number: i128) -> i128
+    ensures { result ≡ right_operand op kind number }
 {
-    if !kind.contains(a) {
-        return None;
+    match op {
+        BinOp::Shl => number,
+        BinOp::Shr => number,
+        BinOp::Add => operand(kind, number),
+        BinOp::Sub => operand(kind, number),
+        BinOp::Mul => operand(kind, number),
+        BinOp::Div => operand(kind, number),
+        BinOp::Rem => operand(kind, number),
+        BinOp::BitAnd => operand(kind, number),
+        BinOp::BitOr => operand(kind, number),
+        BinOp::BitXor => operand(kind, number),
     }
-    if !may_stand_right(op, kind, b) {
-        return None;
-    }
-    match bin(op, kind, a, b) {
+}
+
+/// What a binary operator comes to at a kind.
+pub(crate) fn computed(op: BinOp, kind: Kind, a: i128, b: i128) -> Result<i128, Undefined>
+    ensures { result ≡ operated op kind (converted kind a) (right_operand op kind b) }
+{
+    bin(op, kind, operand(kind, a), right_operand(op, kind, b))
+}
+
+/// The sign changed at a kind.
+pub(crate) fn opposite(kind: Kind, a: i128) -> Result<i128, Undefined>
+    ensures { result ≡ negated kind (converted kind a) }
+{
+    neg(kind, operand(kind, a))
+}
+
+/// Each bit turned at a kind.
+pub(crate) fn complement(kind: Kind, a: i128) -> i128
+    ensures { result ≡ flipped kind (converted kind a) }
+{
+    flip(kind, operand(kind, a))
+}
+
+/// What a binary operator comes to at a kind, where it doesn't stop.
+pub(crate) fn operated(op: BinOp, kind: Kind, a: i128, b: i128) -> Option<Integer>
+    ensures { IfSome result (λ n. Ok (integer_wire n) ≡ at_kind kind (operated op kind (converted kind a) (right_operand op kind b))) }
+{
+    match computed(op, kind, a, b) {
         Ok(number) => Some(Integer { number, kind }),
         Err(_) => None,
     }
@@ -108,30 +136,23 @@ pub(crate) fn compared(op: RelOp, left: Integer, right: Integer) -> Integer
     truth_of(holds(op, left.number, right.number))
 }
 
-/// The sign changed, where the operand fits and that doesn't stop.
+/// The sign changed, where that doesn't stop.
 pub(crate) fn negated(kind: Kind, a: i128) -> Option<Integer>
-    ensures { IfSome result (λ n. Ok (integer_wire n) ≡ at_kind kind (negated kind a)) }
+    ensures { IfSome result (λ n. Ok (integer_wire n) ≡ at_kind kind (negated kind (converted kind a))) }
 {
-    if !kind.contains(a) {
-        return None;
-    }
-    match neg(kind, a) {
+    match opposite(kind, a) {
         Ok(number) => Some(Integer { number, kind }),
         Err(_) => None,
     }
 }
 
-/// Each bit turned, where the operand fits.
-pub(crate) fn flipped(kind: Kind, a: i128) -> Option<Integer>
-    ensures { IfSome result (λ n. integer_wire n ≡ wire.Int kind (flipped kind a)) }
+/// Each bit turned.
+pub(crate) fn flipped(kind: Kind, a: i128) -> Integer
+    ensures { integer_wire result ≡ wire.Int kind (flipped kind (converted kind a)) }
 {
-    if kind.contains(a) {
-        Some(Integer {
-            number: flip(kind, a),
-            kind,
-        })
-    } else {
-        None
+    Integer {
+        number: complement(kind, a),
+        kind,
     }
 }
 

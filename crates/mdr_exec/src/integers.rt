@@ -173,7 +173,7 @@ fn complement<C: Memory>(
     match e {
         Expr::Flip(kind, x) => {
             let x = operand(program, memory, slots, x.get())?;
-            flipped(*kind, x.number)
+            Some(flipped(*kind, x.number))
         }
         _ => None,
     }

@@ -1,6 +1,6 @@
 // The value of a call goes where its statement says.
 
-ghost use Rattle.std.specs.Prelude.{◌≡◌, ℕ, IfOk, Ok};
+ghost use Rattle.std.specs.Prelude.{◌≡◌, ℕ, Ok};
 ghost use Rattle.std.specs.Option.{option_map};
 ghost use Rattle.mdr_core.specs.declared.program.Program.{Program as AnyProgram};
 ghost use Rattle.mdr_core.specs.Code.{Goal};
@@ -25,7 +25,6 @@ ghost use Rattle.mdr_exec.specs.declared.frame.Front.TheVariants as front;
 use crate::assign::put;
 use crate::event::{Outcome, stopped};
 use crate::frame::{Flow, Front, Machine};
-use crate::halt::Halt;
 use crate::named::named_type;
 use crate::places::{Standing, block_at, body_of, standing_at};
 use crate::receive::received;
@@ -134,17 +133,14 @@ fn keep_into<C: Memory>(
     memory: &mut C,
     p: &Lval,
     value: Value,
-) -> Result<Option<StopKind>, Halt>
+) -> Option<StopKind>
     requires { IsSound program.now }
-    ensures { IfOk result (λ r. (side : AnySide) (n : ℕ) → side.known ≡ known_of program.now → front_in program.now machine.old.top machine.old.front ≡ Comes n (Goal.Into (lvalue_of p.now)) (wire_of value) → Steps C.accesses side (held_of program.now machine.old) memory.old (came_of r (in_here (here_in program.now machine.old) n)) (held_of program.now machine.new) memory.new) }
+    ensures { (side : AnySide) (n : ℕ) → side.known ≡ known_of program.now → front_in program.now machine.old.top machine.old.front ≡ Comes n (Goal.Into (lvalue_of p.now)) (wire_of value) → Steps C.accesses side (held_of program.now machine.old) memory.old (came_of result (in_here (here_in program.now machine.old) n)) (held_of program.now machine.new) memory.new }
 {
     let kept = received(program, named_type(program, machine.top.func, p), value);
     match kept {
-        Ok(value) => {
-            let came = put_kept(machine, program, memory, p, value)?;
-            Ok(came)
-        }
-        Err(stop) => Ok(Some(stop)),
+        Ok(value) => put_kept(machine, program, memory, p, value),
+        Err(stop) => Some(stop),
     }
 }
 
@@ -155,17 +151,17 @@ fn put_kept<C: Memory>(
     memory: &mut C,
     p: &Lval,
     value: Value,
-) -> Result<Option<StopKind>, Halt>
+) -> Option<StopKind>
     requires { IsSound program.now }
-    ensures { IfOk result (λ r. (side : AnySide) (n : ℕ) (v : AnyWire) → side.known ≡ known_of program.now → received_as program.now machine.old.top (lvalue_of p.now) v ≡ Ok (wire_of value) → front_in program.now machine.old.top machine.old.front ≡ Comes n (Goal.Into (lvalue_of p.now)) v → Steps C.accesses side (held_of program.now machine.old) memory.old (came_of r (in_here (here_in program.now machine.old) n)) (held_of program.now machine.new) memory.new) }
+    ensures { (side : AnySide) (n : ℕ) (v : AnyWire) → side.known ≡ known_of program.now → received_as program.now machine.old.top (lvalue_of p.now) v ≡ Ok (wire_of value) → front_in program.now machine.old.top machine.old.front ≡ Comes n (Goal.Into (lvalue_of p.now)) v → Steps C.accesses side (held_of program.now machine.old) memory.old (came_of result (in_here (here_in program.now machine.old) n)) (held_of program.now machine.new) memory.new }
 {
-    let done = put(program, memory, &mut machine.top.slots, p, value)?;
+    let done = put(program, memory, &mut machine.top.slots, p, value);
     match done {
         Ok(()) => {
             machine.front = Front::Runs;
-            Ok(None)
+            None
         }
-        Err(stop) => Ok(Some(stop)),
+        Err(stop) => Some(stop),
     }
 }
 
@@ -210,20 +206,17 @@ fn keep_as<C: Memory>(
     memory: &mut C,
     goal: Kept,
     value: Value,
-) -> Result<Option<StopKind>, Halt>
+) -> Option<StopKind>
     requires { IsSound program.now }
-    ensures { IfOk result (λ r. (side : AnySide) (n : ℕ) → side.known ≡ known_of program.now → front_in program.now machine.old.top machine.old.front ≡ Comes n (goal_as goal.entry) (wire_of value) → Steps C.accesses side (held_of program.now machine.old) memory.old (came_of r (in_here (here_in program.now machine.old) n)) (held_of program.now machine.new) memory.new) }
+    ensures { (side : AnySide) (n : ℕ) → side.known ≡ known_of program.now → front_in program.now machine.old.top machine.old.front ≡ Comes n (goal_as goal.entry) (wire_of value) → Steps C.accesses side (held_of program.now machine.old) memory.old (came_of result (in_here (here_in program.now machine.old) n)) (held_of program.now machine.new) memory.new }
 {
     match goal {
         Kept::Nowhere => {
             keep_nothing(machine, memory, value);
-            Ok(None)
+            None
         }
-        Kept::Into(p) => {
-            let came = keep_into(machine, program, memory, p, value)?;
-            Ok(came)
-        }
-        Kept::Back => Ok(keep_back(machine, program, memory, value)),
+        Kept::Into(p) => keep_into(machine, program, memory, p, value),
+        Kept::Back => keep_back(machine, program, memory, value),
     }
 }
 
@@ -233,16 +226,15 @@ pub(crate) fn keep<C: Memory>(
     program: &Program,
     memory: &mut C,
     value: Value,
-) -> Result<Option<Outcome>, Halt>
+) -> Option<Outcome>
     requires program { IsSound program.now }
     requires comes { machine.old.front ≡ front.Comes value }
-    ensures { IfOk result (λ e. (side : AnySide) → side.known ≡ known_of program.now → Steps C.accesses side (held_of program.now machine.old) memory.old (came_as e) (held_of program.now machine.new) memory.new) }
+    ensures { (side : AnySide) → side.known ≡ known_of program.now → Steps C.accesses side (held_of program.now machine.old) memory.old (came_as result) (held_of program.now machine.new) memory.new }
 {
     let at = At {
         func: machine.top.func,
         stmt: number_behind(machine, program),
     };
     let goal = goal_behind(machine, program);
-    let came = keep_as(machine, program, memory, goal, value)?;
-    Ok(stopped(came, at))
+    stopped(keep_as(machine, program, memory, goal, value), at)
 }

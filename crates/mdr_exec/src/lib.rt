@@ -16,7 +16,7 @@
 //! way (`integers`, `quick`, `turning`, `behind`), one after another, with the same equations: what it meets that is no
 //! integer it leaves to the other.
 //!
-//! Where memory is wanting, or a value doesn't fit what is done with it (`Halt`), nothing is promised of the machine.
+//! Where memory is wanting, nothing is promised of the machine.
 #![tactic(auto)]
 
 mod arguments;
@@ -31,7 +31,6 @@ mod evaluate;
 mod event;
 mod frame;
 mod go;
-mod halt;
 mod halves;
 mod integer;
 mod integers;
@@ -62,7 +61,6 @@ mod values;
 
 pub use event::Outcome;
 pub use frame::{Flow, Frame, Front, Machine, Side, Suspended, Until};
-pub use halt::Halt;
 pub use laws::{
     each_run_is_made, each_statement_steps, evaluation_is_walked, functions_are_started,
     held_work_goes_on, questions_are_answered, sides_are_halves, statements_want_ticks,

@@ -1,18 +1,17 @@
 // Members of structs (C99 6.5.2.3).
 
-ghost use Rattle.std.specs.Prelude.{◌≡◌, ◌+◌, IfOk, Some, option_copied, slice_get};
+ghost use Rattle.std.specs.Prelude.{◌≡◌, ◌+◌, Some, option_copied, slice_get};
 ghost use Rattle.mdr_core.specs.Layout.{field_start, fields_of};
 ghost use Rattle.mdr_core.specs.Sound.{IsSound};
 ghost use Rattle.mdr_meaning.specs.Bodies.{known_of, without_funcs};
 ghost use Rattle.mdr_meaning.specs.declared.wire.Wire.TheVariants as wire;
-ghost use Rattle.mdr_meaning.specs.Pointers.{field_by, field_in, field_view, member, position, struct_numbered};
+ghost use Rattle.mdr_meaning.specs.Pointers.{field_by, field_in, member, position, struct_numbered};
 ghost use Rattle.mdr_meaning.specs.Values.{wire_of, wire_view};
 ghost use Rattle.mdr_events.specs.Outcomes.{wired};
 ghost use Rattle.mdr_exec.specs.Evaluation.{after_value};
 
-use crate::halt::Halt;
 use crate::layout::{field_start, fields, struct_named};
-use crate::pointers::{cell_fits, number_fits, number_in, position};
+use crate::pointers::{position, type_number};
 use mdr_core::{Block, Field, Program, StopKind, StructDef, Value, View};
 
 /// A pointer to the first of all elements of a field that begins at a cell.
@@ -29,14 +28,11 @@ fn pointer_to(block: Block, first: u32, ty: u32, count: u32) -> Value
 }
 
 /// The cell at which a field of a struct begins, which a pointer points to.
-fn field_cell(program: &Program, view: View, s: u32, f: u32) -> Result<u32, Halt>
+fn field_cell(program: &Program, view: View, s: u32, f: u32) -> u128
     requires { IsSound program.now }
-    ensures { IfOk result (λ cell. cell ≡ position (without_funcs program.now) (wire_view view) + field_start program.now.structs s f) }
+    ensures { result ≡ position (without_funcs program.now) (wire_view view) + field_start program.now.structs s f }
 {
-    let first = cell_fits(position(program, view))?;
-    let start = field_start(program.structs.as_slice(), s, f);
-    let cell = cell_fits(first as u64 + start as u64)?;
-    Ok(cell)
+    position(program, view) as u128 + field_start(program.structs.as_slice(), s, f) as u128
 }
 
 /// A pointer to the first of all elements of a field of a struct, which a pointer points to.
@@ -46,13 +42,17 @@ fn field_pointer(
     s: u32,
     f: u32,
     field: &Field,
-) -> Result<Value, Halt>
+) -> Result<Value, StopKind>
     requires { IsSound program.now }
-    ensures { IfOk result (λ v. wire_of v ≡ field_view (known_of program.now) (wire_view view) s f field.now) }
+    ensures { wired result ≡ field_by (known_of program.now) (wire_view view) s f (Some field.now) }
 {
-    let first = field_cell(program, view, s, f)?;
-    let ty = number_fits(number_in(program.types.as_slice(), &field.ty))?;
-    Ok(pointer_to(view.block, first, ty, field.count))
+    let first = field_cell(program, view, s, f);
+    if first < 4294967296 {
+        let ty = type_number(program, &field.ty);
+        Ok(pointer_to(view.block, first as u32, ty, field.count))
+    } else {
+        Err(StopKind::Bounds)
+    }
 }
 
 /// A field of a struct.
@@ -63,16 +63,13 @@ fn field_numbered(structs: &[StructDef], s: u32, f: u32) -> Option<&Field>
 }
 
 /// A pointer to a field of a struct, if it has such a field.
-fn field_of(program: &Program, view: View, s: u32, f: u32) -> Result<Result<Value, StopKind>, Halt>
+fn field_of(program: &Program, view: View, s: u32, f: u32) -> Result<Value, StopKind>
     requires { IsSound program.now }
-    ensures { IfOk result (λ r. wired r ≡ field_by (known_of program.now) (wire_view view) s f (slice_get (fields_of program.now.structs s) f)) }
+    ensures { wired result ≡ field_by (known_of program.now) (wire_view view) s f (slice_get (fields_of program.now.structs s) f) }
 {
     match field_numbered(program.structs.as_slice(), s, f) {
-        Some(field) => {
-            let pointer = field_pointer(program, view, s, f, field)?;
-            Ok(Ok(pointer))
-        }
-        None => Ok(Err(StopKind::Bounds)),
+        Some(field) => field_pointer(program, view, s, f, field),
+        None => Err(StopKind::Bounds),
     }
 }
 
@@ -87,51 +84,39 @@ fn struct_numbered(program: &Program, ty: u32) -> Option<u32>
 }
 
 /// A pointer to a field of what a pointer points to, if that is a struct.
-fn field_in(
-    program: &Program,
-    view: View,
-    s: Option<u32>,
-    f: u32,
-) -> Result<Result<Value, StopKind>, Halt>
+fn field_in(program: &Program, view: View, s: Option<u32>, f: u32) -> Result<Value, StopKind>
     requires { IsSound program.now }
-    ensures { IfOk result (λ r. wired r ≡ field_in (known_of program.now) (wire_view view) s f) }
+    ensures { wired result ≡ field_in (known_of program.now) (wire_view view) s f }
 {
     match s {
-        Some(s) => {
-            let pointer = field_of(program, view, s, f)?;
-            Ok(pointer)
-        }
-        None => Ok(Err(StopKind::Bounds)),
+        Some(s) => field_of(program, view, s, f),
+        None => Err(StopKind::Bounds),
     }
 }
 
-fn member_view(program: &Program, view: View, f: u32) -> Result<Result<Value, StopKind>, Halt>
+fn member_view(program: &Program, view: View, f: u32) -> Result<Value, StopKind>
     requires { IsSound program.now }
-    ensures { IfOk result (λ r. wired r ≡ member (known_of program.now) (wire.Ptr (wire_view view)) f) }
+    ensures { wired result ≡ member (known_of program.now) (wire.Ptr (wire_view view)) f }
 {
     if view.index < view.count {
-        let pointer = field_in(program, view, struct_numbered(program, view.ty), f)?;
-        Ok(pointer)
+        field_in(program, view, struct_numbered(program, view.ty), f)
     } else {
-        Ok(Err(StopKind::Bounds))
+        Err(StopKind::Bounds)
     }
 }
 
-fn member_value(program: &Program, value: Value, f: u32) -> Result<Result<Value, StopKind>, Halt>
+fn member_value(program: &Program, value: Value, f: u32) -> Result<Value, StopKind>
     requires { IsSound program.now }
-    ensures { IfOk result (λ r. wired r ≡ member (known_of program.now) (wire_of value) f) }
+    ensures { wired result ≡ member (known_of program.now) (wire_of value) f }
 {
     match value {
-        Value::Ptr(view) => {
-            let pointer = member_view(program, view, f)?;
-            Ok(pointer)
-        }
-        Value::Dead => Ok(Err(StopKind::Dead)),
-        Value::Int(_, _) => Ok(Err(StopKind::Null)),
-        Value::Null => Ok(Err(StopKind::Null)),
-        Value::Fn(_) => Ok(Err(StopKind::Null)),
-        Value::Lock(_) => Ok(Err(StopKind::Null)),
-        Value::NoValue => Ok(Err(StopKind::Null)),
+        Value::Ptr(view) => member_view(program, view, f),
+        Value::Dead => Err(StopKind::Dead),
+        Value::Int(_, _) => Err(StopKind::Null),
+        Value::Null => Err(StopKind::Null),
+        Value::Fn(_) => Err(StopKind::Null),
+        Value::Lock(_) => Err(StopKind::Null),
+        Value::NoValue => Err(StopKind::Null),
     }
 }
 
@@ -140,15 +125,12 @@ pub(crate) fn member(
     program: &Program,
     pointer: Result<Value, StopKind>,
     f: u32,
-) -> Result<Result<Value, StopKind>, Halt>
+) -> Result<Value, StopKind>
     requires { IsSound program.now }
-    ensures { IfOk result (λ r. wired r ≡ after_value (wired pointer) (λ x. member (known_of program.now) x f)) }
+    ensures { wired result ≡ after_value (wired pointer) (λ x. member (known_of program.now) x f) }
 {
     match pointer {
-        Ok(value) => {
-            let result = member_value(program, value, f)?;
-            Ok(result)
-        }
-        Err(stop) => Ok(Err(stop)),
+        Ok(value) => member_value(program, value, f),
+        Err(stop) => Err(stop),
     }
 }

@@ -1,6 +1,6 @@
 // What comes next.
 
-ghost use Rattle.std.specs.Prelude.{◌≡◌, true, OnOk, None};
+ghost use Rattle.std.specs.Prelude.{◌≡◌, ◌<◌, true, IfSome, OnOk, None};
 ghost use Rattle.std.specs.Option.{option_map};
 ghost use Rattle.mdr_core.specs.declared.program.Program.{Program as AnyProgram};
 ghost use Rattle.mdr_meaning.specs.Sides.{Side as AnySide};
@@ -17,7 +17,8 @@ use std::alloc::AllocError;
 
 /// The statement that comes next, or the loop of a `for`.
 pub(crate) fn stands_next<'a>(machine: &Machine, program: &'a Program) -> Option<Standing<'a>>
-    ensures { option_map code_in result ≡ code_at (block_of program.now machine.now.top) machine.now.top.next }
+    ensures code { option_map code_in result ≡ code_at (block_of program.now machine.now.top) machine.now.top.next }
+    ensures inside { IfSome result (λ s. machine.now.top.next < 18446744073709551615) }
 {
     let body = statements_of(program, machine.top.func);
     match inside(body, machine.top.path.as_slice()) {
@@ -28,7 +29,8 @@ pub(crate) fn stands_next<'a>(machine: &Machine, program: &'a Program) -> Option
 
 /// The same, on any path.
 fn stands_behind<'a>(machine: &Machine, program: &'a Program) -> Option<Standing<'a>>
-    ensures { option_map code_in result ≡ code_at (block_of program.now machine.now.top) machine.now.top.next }
+    ensures code { option_map code_in result ≡ code_at (block_of program.now machine.now.top) machine.now.top.next }
+    ensures inside { IfSome result (λ s. machine.now.top.next < 18446744073709551615) }
 {
     let block = block_at(
         body_of(program, machine.top.func),

@@ -23,10 +23,8 @@ ghost use Rattle.mdr_exec.specs.declared.frame.Front.TheVariants as front;
 use crate::assign::stored;
 use crate::event::Outcome;
 use crate::frame::{Front, Machine};
-use crate::halt::Halt;
-use crate::pointers::number_fits;
 use crate::slots::{of_param, shape_of};
-use crate::values::slot_at;
+use crate::values::slot_value;
 use mdr_core::{At, Items, Param, Program, StopKind, Value};
 use mdr_events::{Asked, Memory};
 use mdr_meaning::Shape64;
@@ -34,11 +32,15 @@ use std::alloc::{AllocError, Global};
 
 // ---- which parameters are objects
 
-fn add_shape(shapes: &mut Items<Shape64>, program: &Program, param: &Param) -> Result<(), Halt>
+fn add_shape(
+    shapes: &mut Items<Shape64>,
+    program: &Program,
+    param: &Param,
+) -> Result<(), AllocError>
     ensures { OnOk result (shapes.new ≡ shapes.old ++ param_shapes (known_of program.now) (slot_of_param param.now ∷ [])) }
 {
     if param.object {
-        let shape = shape_of(program, of_param(param))?;
+        let shape = shape_of(program, of_param(param));
         shapes.push(shape)?;
         Ok(())
     } else {
@@ -47,7 +49,11 @@ fn add_shape(shapes: &mut Items<Shape64>, program: &Program, param: &Param) -> R
 }
 
 /// What the parameters that are objects are born as.
-fn shapes_of(alloc: Global, program: &Program, params: &[Param]) -> Result<Items<Shape64>, Halt>
+fn shapes_of(
+    alloc: Global,
+    program: &Program,
+    params: &[Param],
+) -> Result<Items<Shape64>, AllocError>
     ensures { IfOk result (λ shapes. shapes ≡ param_shapes (known_of program.now) (map slot_of_param params.now)) }
 {
     let mut shapes = Items::new(alloc);
@@ -57,7 +63,7 @@ fn shapes_of(alloc: Global, program: &Program, params: &[Param]) -> Result<Items
     Ok(shapes)
 }
 
-fn add_number(numbers: &mut Items<u32>, i: u32, param: &Param) -> Result<(), AllocError>
+fn add_number(numbers: &mut Items<usize>, i: usize, param: &Param) -> Result<(), AllocError>
     ensures { OnOk result (numbers.new ≡ numbers.old ++ object_params i (slot_of_param param.now ∷ [])) }
 {
     if param.object {
@@ -69,13 +75,12 @@ fn add_number(numbers: &mut Items<u32>, i: u32, param: &Param) -> Result<(), All
 }
 
 /// The slots of the parameters that are objects.
-fn numbers_of(alloc: Global, params: &[Param]) -> Result<Items<u32>, Halt>
+fn numbers_of(alloc: Global, params: &[Param]) -> Result<Items<usize>, AllocError>
     ensures { IfOk result (λ numbers. numbers ≡ object_params 0 (map slot_of_param params.now)) }
 {
     let mut numbers = Items::new(alloc);
     for i in 0..params.len() {
-        let number = number_fits(i)?;
-        add_number(&mut numbers, number, &params[i])?;
+        add_number(&mut numbers, i, &params[i])?;
     }
     Ok(numbers)
 }
@@ -159,7 +164,7 @@ pub(crate) fn enter_function<C: Memory>(
     program: &Program,
     memory: &mut C,
     asks: bool,
-) -> Result<Option<Outcome>, Halt>
+) -> Result<Option<Outcome>, AllocError>
     requires { machine.old.front ≡ front.Enters }
     ensures { IfOk result (λ e. (side : AnySide) → side.known ≡ known_of program.now → side.asks ≡ asks → Steps C.accesses side (held_of program.now machine.old) memory.old (came_as e) (held_of program.now machine.new) memory.new) }
 {
@@ -184,16 +189,16 @@ fn fill_one<C: Memory>(
     memory: &mut C,
     slots: &mut Items<Value>,
     born: &mut Items<Value>,
-    i: u32,
+    i: usize,
     pointer: Value,
 ) -> Result<Result<(), StopKind>, AllocError>
     ensures { IfOk result (λ r. stored C.accesses (wire_of pointer) (slot_of (wires_of slots.old) i) (with_object i (wire_of pointer) (with_slots slots.old (wires_of born.old))) memory.old ≡ did (when_made r (with_slots slots.new (wires_of born.new))) memory.new) }
 {
-    let value = slot_at(slots.as_slice(), i);
+    let value = slot_value(slots.as_slice(), i);
     let done = stored(memory, Ok(pointer), value);
     match done {
         Ok(()) => {
-            slots.set(i as usize, pointer);
+            slots.set(i, pointer);
             born.push(pointer)?;
             Ok(Ok(()))
         }
@@ -215,7 +220,7 @@ fn fill_all<C: Memory>(
     memory: &mut C,
     slots: &mut Items<Value>,
     born: &mut Items<Value>,
-    params: &[u32],
+    params: &[usize],
     pointers: &[Value],
 ) -> Result<Result<(), StopKind>, AllocError>
     ensures { IfOk result (λ r. fills_of C.accesses params.now (wires_of pointers.now) (with_slots slots.old (wires_of born.old)) memory.old ≡ did (when_made r (with_slots slots.new (wires_of born.new))) memory.new) }
@@ -242,7 +247,7 @@ pub(crate) fn fill<C: Memory>(
     program: &Program,
     memory: &mut C,
     pointers: &[Value],
-) -> Result<Option<Outcome>, Halt>
+) -> Result<Option<Outcome>, AllocError>
     ensures { IfOk result (λ e. (side : AnySide) → Steps C.accesses side (filling program.now machine.old pointers.now) memory.old (came_as e) (held_of program.now machine.new) memory.new) }
 {
     let params = numbers_of(alloc, params_in(program, machine.top.func))?;

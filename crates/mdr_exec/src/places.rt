@@ -1,6 +1,6 @@
 // Places in a function's body, by numbers, and the code that stands there.
 
-ghost use Rattle.std.specs.Prelude.{◌≡◌, IfSome, slice_get, option_copied};
+ghost use Rattle.std.specs.Prelude.{◌≡◌, ◌<◌, IfSome, slice_get, option_copied, true};
 ghost use Rattle.std.specs.Option.{option_map};
 ghost use Rattle.mdr_core.specs.Folds.{code_of, codes_of};
 ghost use Rattle.mdr_exec.specs.Places.{code_at, inner, list_of, part_of, code_before};
@@ -123,7 +123,8 @@ pub(crate) fn statement_at<'a>(statements: &'a [Stmt], i: usize) -> Option<&'a S
 
 /// What stands at an index of a block.
 pub(crate) fn standing_at<'a>(found: Found<'a>, i: usize) -> Option<Standing<'a>>
-    ensures { option_map code_in result ≡ code_at (codes_in found.entry) i }
+    ensures code { option_map code_in result ≡ code_at (codes_in found.entry) i }
+    ensures inside { IfSome result (λ s. i < 18446744073709551615) }
 {
     match statement_at(found.statements, i) {
         Some(statement) => Some(Standing::Statement(statement)),
@@ -132,7 +133,8 @@ pub(crate) fn standing_at<'a>(found: Found<'a>, i: usize) -> Option<Standing<'a>
 }
 
 fn turn_at<'a>(turn: Option<Turn<'a>>, is_next: bool) -> Option<Standing<'a>>
-    ensures { option_map code_in result ≡ option_map turn_code (next_turn is_next turn.entry) }
+    ensures code { option_map code_in result ≡ option_map turn_code (next_turn is_next turn.entry) }
+    ensures next { IfSome result (λ s. is_next ≡ true) }
 {
     match turn {
         Some(turn) => {
@@ -246,7 +248,8 @@ pub(crate) fn body_of<'a>(program: &'a Program, func: u32) -> Found<'a>
 
 /// What stands at an index of a list.
 pub(crate) fn listed_at<'a>(statements: &'a [Stmt], i: usize) -> Option<Standing<'a>>
-    ensures { option_map code_in result ≡ code_at (codes_of statements.now) i }
+    ensures code { option_map code_in result ≡ code_at (codes_of statements.now) i }
+    ensures inside { IfSome result (λ s. i < 18446744073709551615) }
 {
     standing_at(only(statements), i)
 }

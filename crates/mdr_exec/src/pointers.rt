@@ -1,17 +1,16 @@
 // What is done with pointers in hand.
 
-ghost use Rattle.std.specs.Prelude.{◌≡◌, ◌↔◌, ◌+ℤ◌, ◌-ℤ◌, IfOk, IsTrue, Some, option_copied, pos, slice_get};
+ghost use Rattle.std.specs.Prelude.{◌≡◌, ◌↔◌, ◌+ℤ◌, ◌-ℤ◌, IsTrue, Some, option_copied, pos, slice_get};
 ghost use Rattle.mdr_core.specs.declared.types.Ty.TheVariants as type_is;
 ghost use Rattle.mdr_core.specs.Sound.{IsSound};
 ghost use Rattle.mdr_meaning.specs.Bodies.{known_of, without_funcs};
 ghost use Rattle.mdr_meaning.specs.declared.wire.Wire.TheVariants as wire;
-ghost use Rattle.mdr_meaning.specs.Numbers.{is_same_type, number_in};
+ghost use Rattle.mdr_meaning.specs.Numbers.{is_same_type, number_in, type_number};
 ghost use Rattle.mdr_meaning.specs.Pointers.{at_index, by_order, cast, difference, global, indexed, is_equal, is_one_array, moved, ordered, position, related, size, steps};
-ghost use Rattle.mdr_meaning.specs.Values.{integer, wire_of, wire_view};
+ghost use Rattle.mdr_meaning.specs.Values.{integer, saturated_u32, wire_of, wire_view};
 ghost use Rattle.mdr_events.specs.Outcomes.{wired};
 ghost use Rattle.mdr_exec.specs.Evaluation.{after_value};
 
-use crate::halt::Halt;
 use crate::values::{integer, truth};
 use mdr_core::{
     Block, GlobalDef, Kind, Program, RelOp, StopKind, Ty, Value, View, cells_of, same_type,
@@ -230,40 +229,34 @@ pub(crate) fn cast(
 
 // ---- globals
 
-pub(crate) fn number_fits(number: usize) -> Result<u32, Halt>
-    ensures { IfOk result (λ n. n ≡ number) }
+/// A number as one of 32 bits.
+pub(crate) fn saturated(n: u128) -> u32
+    ensures { result ≡ saturated_u32 n }
 {
-    if number > 4294967295 {
-        return Err(Halt::Unfit);
-    }
-    Ok(number as u32)
+    if n > 4294967295 { 4294967295 } else { n as u32 }
 }
 
-/// A cell of a block: each has a number of 32 bits.
-pub(crate) fn cell_fits(cell: u64) -> Result<u32, Halt>
-    ensures { IfOk result (λ n. n ≡ cell) }
+/// The number by which pointers and objects name a type.
+pub(crate) fn type_number(program: &Program, ty: &Ty) -> u32
+    ensures { result ≡ type_number (known_of program.now) ty.now }
 {
-    if cell > 4294967295 {
-        return Err(Halt::Unfit);
-    }
-    Ok(cell as u32)
+    saturated(number_in(program.types.as_slice(), ty) as u128)
 }
 
-fn global_pointer(program: &Program, slot: u32, number: u32, def: &GlobalDef) -> Result<Value, Halt>
+fn global_pointer(program: &Program, slot: u32, number: u32, def: &GlobalDef) -> Value
     requires { slice_get program.now.globals number ≡ Some def.now }
-    ensures { IfOk result (λ v. wire_of v ≡ global (known_of program.now) number) }
+    ensures { wire_of result ≡ global (known_of program.now) number }
 {
-    let ty = number_fits(number_in(program.types.as_slice(), &def.ty))?;
-    Ok(Value::Ptr(View {
+    Value::Ptr(View {
         block: Block {
             slot,
             serial: number as u64,
         },
         first: 0,
-        ty,
+        ty: type_number(program, &def.ty),
         count: def.count,
         index: 0,
-    }))
+    })
 }
 
 pub(crate) fn global_at(program: &Program, number: u32) -> Option<&GlobalDef>
@@ -273,12 +266,12 @@ pub(crate) fn global_at(program: &Program, number: u32) -> Option<&GlobalDef>
 }
 
 /// A pointer to a global.
-pub(crate) fn global<C: Memory>(program: &Program, memory: &C, number: u32) -> Result<Value, Halt>
-    ensures { IfOk result (λ v. wire_of v ≡ global (known_of program.now) number) }
+pub(crate) fn global<C: Memory>(program: &Program, memory: &C, number: u32) -> Value
+    ensures { wire_of result ≡ global (known_of program.now) number }
 {
     match global_at(program, number) {
         Some(def) => global_pointer(program, memory.slot(number as u64), number, def),
-        None => Ok(Value::Null),
+        None => Value::Null,
     }
 }
 

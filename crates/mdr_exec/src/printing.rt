@@ -4,15 +4,15 @@ ghost use Rattle.std.specs.Prelude.{◌≡◌, ◌++◌, ◌∷◌, [], List, �
 ghost use Rattle.std.specs.Fmt.{digits, decimal, signed_decimal};
 ghost use Rattle.std.specs.Int.{int_rem_euclid};
 ghost use Rattle.mdr_core.specs.Services.{Percent, Plain};
+ghost use Rattle.mdr_meaning.specs.Asking.{counted};
 ghost use Rattle.mdr_meaning.specs.Printed.{print_text, printed, shown, told};
-ghost use Rattle.mdr_meaning.specs.Values.{integer, natural_of, rest_of};
+ghost use Rattle.mdr_meaning.specs.Values.{integer, natural_of, rest_of, saturated_u64, wire_of};
 ghost use Rattle.mdr_events.specs.Values.{wires_of};
 ghost use Rattle.mdr_exec.specs.Printing.{reading_as};
 
-use crate::halt::Halt;
 use crate::values::{first, integer};
 use mdr_core::{Items, Value};
-use std::alloc::Global;
+use std::alloc::{AllocError, Global};
 
 /// Where a text is read: in plain bytes, behind a `%`, behind a `%l`.
 #[derive(Clone, Copy)]
@@ -22,67 +22,61 @@ pub enum Reading {
     Long,
 }
 
-/// A number where it isn't negative, else 0.
-pub(crate) fn natural(n: i128) -> Result<u64, Halt>
-    ensures { IfOk result (λ k. k ≡ natural_of n) }
+/// A number as one of 64 bits: 0 where it is negative.
+fn unsigned(n: i128) -> u64
+    ensures { result ≡ saturated_u64 (natural_of n) }
 {
     if n < 0 {
-        return Ok(0);
+        return 0;
     }
     if n > 18446744073709551615 {
-        return Err(Halt::Unfit);
+        return 18446744073709551615;
     }
-    Ok(n as u64)
+    n as u64
 }
 
-fn signed(n: i128) -> Result<i64, Halt>
-    ensures { IfOk result (λ k. k ≡ n) }
+/// How many a call asks for.
+pub(crate) fn counted(value: Value) -> u64
+    ensures { result ≡ counted (wire_of value) }
 {
-    if n < -9223372036854775808 {
-        return Err(Halt::Unfit);
-    }
-    if n > 9223372036854775807 {
-        return Err(Halt::Unfit);
-    }
-    Ok(n as i64)
+    unsigned(integer(value))
 }
 
-fn put_signed(alloc: Global, out: &mut Vec<u8>, n: i128) -> Result<(), Halt>
+fn put_signed(alloc: Global, out: &mut Vec<u8>, n: i128) -> Result<(), AllocError>
     ensures { OnOk result (out.new.items ≡ out.old.items ++ signed_decimal n) }
 {
-    let n = signed(n)?;
     let text = n.to_string(alloc)?;
     out.extend_from_slice(text.as_str().as_bytes())?;
     Ok(())
 }
 
-fn put_byte_of(out: &mut Vec<u8>, n: i128) -> Result<(), Halt>
+fn put_byte_of(out: &mut Vec<u8>, n: i128) -> Result<(), AllocError>
     ensures { OnOk result (out.new.items ≡ out.old.items ++ unsigned_abs (int_rem_euclid n (pos 256)) ∷ []) }
 {
     out.push(n.rem_euclid(256) as u8)?;
     Ok(())
 }
 
-fn put_hex(alloc: Global, out: &mut Vec<u8>, n: i128) -> Result<(), Halt>
-    ensures { OnOk result (out.new.items ≡ out.old.items ++ digits 16 false (natural_of n)) }
+fn put_hex(alloc: Global, out: &mut Vec<u8>, n: i128) -> Result<(), AllocError>
+    ensures { OnOk result (out.new.items ≡ out.old.items ++ digits 16 false (saturated_u64 (natural_of n))) }
 {
-    let n = natural(n)?;
+    let n = unsigned(n);
     let text = format!(in alloc; "{n:x}")?;
     out.extend_from_slice(text.as_str().as_bytes())?;
     Ok(())
 }
 
-fn put_decimal(alloc: Global, out: &mut Vec<u8>, n: i128) -> Result<(), Halt>
-    ensures { OnOk result (out.new.items ≡ out.old.items ++ decimal (natural_of n)) }
+fn put_decimal(alloc: Global, out: &mut Vec<u8>, n: i128) -> Result<(), AllocError>
+    ensures { OnOk result (out.new.items ≡ out.old.items ++ decimal (saturated_u64 (natural_of n))) }
 {
-    let n = natural(n)?;
+    let n = unsigned(n);
     let text = n.to_string(alloc)?;
     out.extend_from_slice(text.as_str().as_bytes())?;
     Ok(())
 }
 
 /// A number by its directive's letter.
-fn put_shown(alloc: Global, out: &mut Vec<u8>, letter: u8, n: i128) -> Result<(), Halt>
+fn put_shown(alloc: Global, out: &mut Vec<u8>, letter: u8, n: i128) -> Result<(), AllocError>
     ensures { OnOk result (out.new.items ≡ out.old.items ++ shown letter n) }
 {
     if letter == 100 {
@@ -116,7 +110,7 @@ struct Read<'a> {
     args: &'a [Value],
 }
 
-fn read_plain<'a>(out: &mut Vec<u8>, byte: u8, args: &'a [Value]) -> Result<Read<'a>, Halt>
+fn read_plain<'a>(out: &mut Vec<u8>, byte: u8, args: &'a [Value]) -> Result<Read<'a>, AllocError>
     ensures { IfOk result (λ r. (bs : List ℕ) → out.new.items ++ printed (reading_as r.reading) bs (wires_of r.args.now) ≡ out.old.items ++ printed Plain (byte ∷ bs) (wires_of args.now)) }
 {
     if byte == 37 {
@@ -138,7 +132,7 @@ fn read_letter<'a>(
     out: &mut Vec<u8>,
     letter: u8,
     args: &'a [Value],
-) -> Result<Read<'a>, Halt>
+) -> Result<Read<'a>, AllocError>
     ensures { IfOk result (λ r. (bs : List ℕ) → out.new.items ++ printed (reading_as r.reading) bs (wires_of r.args.now) ≡ out.old.items ++ told (printed Plain bs) letter (wires_of args.now)) }
 {
     put_shown(alloc, out, letter, integer(first(args)))?;
@@ -153,7 +147,7 @@ fn read_percent<'a>(
     out: &mut Vec<u8>,
     byte: u8,
     args: &'a [Value],
-) -> Result<Read<'a>, Halt>
+) -> Result<Read<'a>, AllocError>
     ensures { IfOk result (λ r. (bs : List ℕ) → out.new.items ++ printed (reading_as r.reading) bs (wires_of r.args.now) ≡ out.old.items ++ printed Percent (byte ∷ bs) (wires_of args.now)) }
 {
     if byte == 37 {
@@ -179,7 +173,7 @@ fn read_byte<'a>(
     reading: Reading,
     byte: u8,
     args: &'a [Value],
-) -> Result<Read<'a>, Halt>
+) -> Result<Read<'a>, AllocError>
     ensures { IfOk result (λ r. (bs : List ℕ) → out.new.items ++ printed (reading_as r.reading) bs (wires_of r.args.now) ≡ out.old.items ++ printed (reading_as reading) (byte ∷ bs) (wires_of args.now)) }
 {
     match reading {
@@ -199,7 +193,7 @@ fn read_byte<'a>(
 }
 
 /// The bytes of a text, with each directive's number in its place.
-fn printed(alloc: Global, format: &[u8], args: &[Value]) -> Result<Vec<u8>, Halt>
+fn printed(alloc: Global, format: &[u8], args: &[Value]) -> Result<Vec<u8>, AllocError>
     ensures { IfOk result (λ out. out.items ≡ printed Plain format.now (wires_of args.now)) }
 {
     let mut out = Vec::new(alloc);
@@ -214,7 +208,11 @@ fn printed(alloc: Global, format: &[u8], args: &[Value]) -> Result<Vec<u8>, Halt
 }
 
 /// The text of a `printk`: what is longer than 4,096 bytes is cut there.
-pub(crate) fn print_text(alloc: Global, format: &[u8], args: &[Value]) -> Result<Items<u8>, Halt>
+pub(crate) fn print_text(
+    alloc: Global,
+    format: &[u8],
+    args: &[Value],
+) -> Result<Items<u8>, AllocError>
     ensures { IfOk result (λ text. text ≡ print_text format.now (wires_of args.now)) }
 {
     let mut text = printed(alloc, format, args)?;

@@ -1,6 +1,6 @@
 // Parameters and locals, by their slots.
 
-ghost use Rattle.std.specs.Prelude.{◌≡◌, ◌-◌, IfOk, option_copied, slice_get};
+ghost use Rattle.std.specs.Prelude.{◌≡◌, ◌-◌, option_copied, slice_get};
 ghost use Rattle.std.specs.Option.{option_map};
 ghost use Rattle.mdr_core.specs.Typing.{slot_of_local, slot_of_param, slots_of};
 ghost use Rattle.mdr_meaning.specs.Bodies.{known_of};
@@ -8,8 +8,7 @@ ghost use Rattle.mdr_meaning.specs.Lives.{shape_of};
 ghost use Rattle.mdr_exec.specs.Declaring.{slot_as};
 ghost use Rattle.mdr_exec.specs.Holding.{slots_by};
 
-use crate::halt::Halt;
-use crate::pointers::{number_fits, number_in};
+use crate::pointers::type_number;
 use mdr_core::{Func, Local, Param, Program, Ty};
 use mdr_meaning::Shape64;
 
@@ -86,12 +85,11 @@ pub(crate) fn slot_in<'a>(program: &'a Program, func: u32, i: u32) -> Option<Dec
 }
 
 /// What an object is born as.
-pub(crate) fn shape_of<'a>(program: &Program, declared: Declared<'a>) -> Result<Shape64, Halt>
-    ensures { IfOk result (λ shape. shape ≡ shape_of (known_of program.now) (slot_as declared.entry)) }
+pub(crate) fn shape_of<'a>(program: &Program, declared: Declared<'a>) -> Shape64
+    ensures { result ≡ shape_of (known_of program.now) (slot_as declared.entry) }
 {
-    let ty = number_fits(number_in(program.types.as_slice(), declared.ty))?;
-    Ok(Shape64 {
-        ty,
+    Shape64 {
+        ty: type_number(program, declared.ty),
         count: declared.count as u64,
-    })
+    }
 }

@@ -1,12 +1,13 @@
 // A statement that comes next is done in its tick.
 
-ghost use Rattle.std.specs.Prelude.{◌≡◌, ◌<◌, ℕ, true, IfOk, Some};
+ghost use Rattle.std.specs.Prelude.{◌≡◌, ◌<◌, ℕ, true, false, IfOk, Some};
 ghost use Rattle.std.specs.Option.{option_map};
 ghost use Rattle.mdr_core.specs.Code.{Code};
 ghost use Rattle.mdr_core.specs.Folds.{code_of, term_of};
 ghost use Rattle.mdr_core.specs.Sound.{IsSound};
 ghost use Rattle.mdr_meaning.specs.Bodies.{known_of};
 ghost use Rattle.mdr_meaning.specs.Sides.{Side as AnySide, in_here};
+ghost use Rattle.mdr_events.specs.Running.{is_block};
 ghost use Rattle.mdr_events.specs.Steps.{Ticks};
 ghost use Rattle.mdr_exec.specs.Events.{came_as};
 ghost use Rattle.mdr_exec.specs.Found.{turn_code};
@@ -22,12 +23,11 @@ use crate::close::asks_on;
 use crate::declare::begin_declare;
 use crate::event::{Outcome, stopped};
 use crate::frame::{Flow, Machine};
-use crate::halt::Halt;
 use crate::places::Turn;
 use crate::text::begin_text;
 use mdr_core::{At, Expr, Half, Program, Step, Stmt};
 use mdr_events::Memory;
-use std::alloc::Global;
+use std::alloc::{AllocError, Global};
 
 /// A `return`.
 fn do_return<C: Memory>(
@@ -36,20 +36,17 @@ fn do_return<C: Memory>(
     memory: &C,
     e: &Option<Expr>,
     at: At,
-) -> Result<Option<Outcome>, Halt>
+) -> Option<Outcome>
     requires program { IsSound program.now }
     requires runs { is_running machine.old.front ≡ true }
     requires next { machine.old.top.next < 18446744073709551615 }
-    ensures { IfOk result (λ r. (side : AnySide) (n : ℕ) → at ≡ in_here (here_in program.now machine.old) n → side.known ≡ known_of program.now → code_at (block_of program.now machine.old.top) machine.old.top.next ≡ Some (Code.Return n (option_map term_of e.now)) → Ticks C.accesses side (held_of program.now machine.old) memory.now (came_as r) (held_of program.now machine.new) memory.now) }
+    ensures { (side : AnySide) (n : ℕ) → at ≡ in_here (here_in program.now machine.old) n → side.known ≡ known_of program.now → code_at (block_of program.now machine.old.top) machine.old.top.next ≡ Some (Code.Return n (option_map term_of e.now)) → Ticks C.accesses side (held_of program.now machine.old) memory.now (came_as result) (held_of program.now machine.new) memory.now }
 {
     match e {
-        Some(e) => {
-            let came = begin_return_value(machine, program, memory, e)?;
-            Ok(stopped(came, at))
-        }
+        Some(e) => stopped(begin_return_value(machine, program, memory, e), at),
         None => {
             begin_return(machine, memory);
-            Ok(None)
+            None
         }
     }
 }
@@ -62,11 +59,12 @@ pub(crate) fn do_statement<C: Memory>(
     halves: &[Half],
     memory: &mut C,
     statement: &Stmt,
-) -> Result<Option<Outcome>, Halt>
+) -> Result<Option<Outcome>, AllocError>
     requires program { IsSound program.now }
     requires runs { is_running machine.old.front ≡ true }
     requires next { machine.old.top.next < 18446744073709551615 }
     requires stands { code_at (block_of program.now machine.old.top) machine.old.top.next ≡ Some (code_of statement.now) }
+    requires ticks { is_block (code_of statement.now) ≡ false }
     ensures { IfOk result (λ e. Ticks C.accesses (side_in machine.old.side halves.now program.now) (held_of program.now machine.old) memory.old (came_as e) (held_of program.now machine.new) memory.new) }
 {
     let at = At {
@@ -80,11 +78,11 @@ pub(crate) fn do_statement<C: Memory>(
             Ok(event)
         }
         Step::Text(i, text) => {
-            let came = begin_text(machine, program, memory, *i, text.as_slice())?;
+            let came = begin_text(machine, program, memory, *i, text.as_slice());
             Ok(stopped(came, at))
         }
         Step::Assign(p, e) => {
-            let came = begin_assign(machine, program, memory, p, e)?;
+            let came = begin_assign(machine, program, memory, p, e);
             Ok(stopped(came, at))
         }
         Step::Call(_, form) => {
@@ -120,7 +118,7 @@ pub(crate) fn do_statement<C: Memory>(
             Ok(stopped(came, at))
         }
         Step::Return(e) => {
-            let event = do_return(machine, program, memory, e, at)?;
+            let event = do_return(machine, program, memory, e, at);
             Ok(event)
         }
         Step::Break => {
@@ -135,8 +133,8 @@ pub(crate) fn do_statement<C: Memory>(
             begin_jump(machine, memory, Flow::Ends);
             Ok(None)
         }
-        Step::Block(_) => Err(Halt::Unfit),
-        Step::For(_, _, _, _) => Err(Halt::Unfit),
+        Step::Block(_) => unreachable!(),
+        Step::For(_, _, _, _) => unreachable!(),
     }
 }
 
@@ -147,7 +145,7 @@ pub(crate) fn do_turn<'a, C: Memory>(
     program: &Program,
     memory: &C,
     turn: Turn<'a>,
-) -> Result<Option<Outcome>, Halt>
+) -> Result<Option<Outcome>, AllocError>
     requires program { IsSound program.now }
     requires runs { is_running machine.old.front ≡ true }
     requires next { machine.old.top.next < 18446744073709551615 }

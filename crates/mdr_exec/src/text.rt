@@ -1,6 +1,6 @@
 // A declared array of characters is given a text (C99 6.7.8, paragraph 14).
 
-ghost use Rattle.std.specs.Prelude.{◌≡◌, ◌<◌, ℕ, true, IfOk, Some, pos, slice_get};
+ghost use Rattle.std.specs.Prelude.{◌≡◌, ◌<◌, ℕ, true, Some, pos, slice_get};
 ghost use Rattle.std.specs.Option.{option_map};
 ghost use Rattle.mdr_core.specs.Code.{Code};
 ghost use Rattle.mdr_core.specs.Conversions.{converted};
@@ -20,9 +20,8 @@ ghost use Rattle.mdr_exec.specs.Places.{code_at};
 
 use crate::assign::stored;
 use crate::frame::{Flow, Machine};
-use crate::halt::Halt;
 use crate::leave::go_past;
-use crate::pointers::{at_index, cell_fits};
+use crate::pointers::{at_index, saturated};
 use crate::slots::{Declared, slot_in};
 use crate::values::slot_at;
 use mdr_arith::conv;
@@ -50,18 +49,12 @@ fn characters<'a>(declared: Option<Declared<'a>>) -> Kind
 }
 
 /// Element i of an array.
-fn element(pointer: Value, i: usize) -> Result<Value, Halt>
-    ensures { IfOk result (λ v. wire_of v ≡ element (wire_of pointer) i) }
+fn element(pointer: Value, i: usize) -> Value
+    ensures { wire_of result ≡ element (wire_of pointer) i }
 {
-    if i > 4294967295 {
-        return Err(Halt::Unfit);
-    }
     match pointer {
-        Value::Ptr(view) => {
-            let index = cell_fits(view.index as u64 + i as u64)?;
-            Ok(at_index(view, index))
-        }
-        _ => Ok(pointer),
+        Value::Ptr(view) => at_index(view, saturated(view.index as u128 + i as u128)),
+        _ => pointer,
     }
 }
 
@@ -72,16 +65,11 @@ fn put_byte<C: Memory>(
     pointer: Value,
     i: usize,
     byte: u8,
-) -> Result<Result<(), StopKind>, Halt>
-    ensures { IfOk result (λ r. (l : Locals) → stored C.accesses (element (wire_of pointer) i) (wire.Int kind (converted kind (pos byte))) l memory.old ≡ did (when_made r l) memory.new) }
+) -> Result<(), StopKind>
+    ensures { (l : Locals) → stored C.accesses (element (wire_of pointer) i) (wire.Int kind (converted kind (pos byte))) l memory.old ≡ did (when_made result l) memory.new }
 {
-    let place = element(pointer, i)?;
-    let done = stored(
-        memory,
-        Ok(place),
-        Value::Int(kind, conv(kind, byte as i128)),
-    );
-    Ok(done)
+    let value = Value::Int(kind, conv(kind, byte as i128));
+    stored(memory, Ok(element(pointer, i)), value)
 }
 
 /// The bytes of a text are stored in the elements from the first on, up to the first stop.
@@ -90,17 +78,17 @@ fn put_text<C: Memory>(
     kind: Kind,
     pointer: Value,
     bytes: &[u8],
-) -> Result<Result<(), StopKind>, Halt>
-    ensures { IfOk result (λ r. (l : Locals) → texts_of C.accesses kind (wire_of pointer) 0 bytes.now l memory.old ≡ did (when_made r (record { flow = Ends; locals = l })) memory.new) }
+) -> Result<(), StopKind>
+    ensures { (l : Locals) → texts_of C.accesses kind (wire_of pointer) 0 bytes.now l memory.old ≡ did (when_made result (record { flow = Ends; locals = l })) memory.new }
 {
     for i in 0..bytes.len() {
-        let done = put_byte(memory, kind, pointer, i, bytes[i])?;
+        let done = put_byte(memory, kind, pointer, i, bytes[i]);
         match done {
             Ok(()) => {}
-            Err(stop) => return Ok(Err(stop)),
+            Err(stop) => return Err(stop),
         }
     }
-    Ok(Ok(()))
+    Ok(())
 }
 
 /// A text: its bytes are stored, or the first stop comes.
@@ -110,10 +98,10 @@ pub(crate) fn begin_text<C: Memory>(
     memory: &mut C,
     i: u32,
     bytes: &[u8],
-) -> Result<Option<StopKind>, Halt>
+) -> Option<StopKind>
     requires runs { is_running machine.old.front ≡ true }
     requires next { machine.old.top.next < 18446744073709551615 }
-    ensures { IfOk result (λ r. (side : AnySide) (n : ℕ) → code_at (block_of program.now machine.old.top) machine.old.top.next ≡ Some (Code.Text n i bytes.now) → Ticks C.accesses side (held_of program.now machine.old) memory.old (came_of r (in_here (here_in program.now machine.old) n)) (held_of program.now machine.new) memory.new) }
+    ensures { (side : AnySide) (n : ℕ) → code_at (block_of program.now machine.old.top) machine.old.top.next ≡ Some (Code.Text n i bytes.now) → Ticks C.accesses side (held_of program.now machine.old) memory.old (came_of result (in_here (here_in program.now machine.old) n)) (held_of program.now machine.new) memory.new }
 {
     let kind = characters(slot_in(program, machine.top.func, i));
     let done = put_text(
@@ -121,12 +109,12 @@ pub(crate) fn begin_text<C: Memory>(
         kind,
         slot_at(machine.top.slots.as_slice(), i),
         bytes,
-    )?;
+    );
     match done {
         Ok(()) => {
             go_past(machine, Flow::Ends, machine.top.next + 1);
-            Ok(None)
+            None
         }
-        Err(stop) => Ok(Some(stop)),
+        Err(stop) => Some(stop),
     }
 }

@@ -24,7 +24,6 @@ use crate::begin::begin_block;
 use crate::close::asks_on;
 use crate::event::Outcome;
 use crate::frame::{Flow, Front, Machine};
-use crate::halt::Halt;
 use crate::keep::{keep, number_in};
 use crate::next::{run_out, stands_next, take_object};
 use crate::params::{enter_function, fill};
@@ -32,7 +31,7 @@ use crate::places::{Standing, Turn};
 use crate::statement::{do_statement, do_turn};
 use crate::turning::run_integers;
 use crate::unwind::{Left, unwind};
-use mdr_core::{At, Half, Items, Program, Step, Stmt, Value};
+use mdr_core::{At, Half, Items, Limit, OutOfMemory, Program, Step, Stmt, Value};
 use mdr_events::{Asked, Memory};
 use std::alloc::Global;
 use std::mem;
@@ -88,7 +87,7 @@ fn step_statement<C: Memory>(
     memory: &mut C,
     statement: &Stmt,
     left: u64,
-) -> Result<Stepped, Halt>
+) -> Result<Stepped, OutOfMemory>
     requires program { IsSound program.now }
     requires runs { is_running machine.old.front ≡ true }
     requires next { machine.old.top.next < 18446744073709551615 }
@@ -117,7 +116,7 @@ fn step_turn<'a, C: Memory>(
     memory: &C,
     turn: Turn<'a>,
     left: u64,
-) -> Result<Stepped, Halt>
+) -> Result<Stepped, OutOfMemory>
     requires program { IsSound program.now }
     requires runs { is_running machine.old.front ≡ true }
     requires next { machine.old.top.next < 18446744073709551615 }
@@ -142,14 +141,11 @@ fn step_next<C: Memory>(
     halves: &[Half],
     memory: &mut C,
     left: u64,
-) -> Result<Stepped, Halt>
+) -> Result<Stepped, OutOfMemory>
     requires program { IsSound program.now }
     requires runs { is_running machine.old.front ≡ true }
     ensures { IfOk result (λ r. SteppedTo C.accesses (side_in machine.old.side halves.now program.now) (held_of program.now machine.old) memory.old left r (held_of program.now machine.new) memory.new) }
 {
-    if machine.top.next == usize::MAX {
-        return Err(Halt::Unfit);
-    }
     match stands_next(machine, program) {
         Some(Standing::Statement(statement)) => {
             let stepped = step_statement(machine, alloc, program, halves, memory, statement, left)?;
@@ -198,12 +194,12 @@ fn step_back<C: Memory>(
     memory: &mut C,
     flow: Flow,
     left: u64,
-) -> Result<Stepped, Halt>
+) -> Result<Stepped, OutOfMemory>
     requires { machine.old.front ≡ front.Unwinds flow }
     ensures { IfOk result (λ r. (side : AnySide) → side.asks ≡ asks_on machine.old.side → SteppedTo C.accesses side (held_of program.now machine.old) memory.old left r (held_of program.now machine.new) memory.new) }
 {
     if machine.below.is_empty() {
-        return Err(Halt::Unfit);
+        return Err(Limit::Unmet.past());
     }
     let at = At {
         func: machine.top.func,
@@ -220,13 +216,12 @@ fn step_comes<C: Memory>(
     memory: &mut C,
     value: Value,
     left: u64,
-) -> Result<Stepped, Halt>
+) -> Stepped
     requires program { IsSound program.now }
     requires comes { machine.old.front ≡ front.Comes value }
-    ensures { IfOk result (λ r. (side : AnySide) → side.known ≡ known_of program.now → SteppedTo C.accesses side (held_of program.now machine.old) memory.old left r (held_of program.now machine.new) memory.new) }
+    ensures { (side : AnySide) → side.known ≡ known_of program.now → SteppedTo C.accesses side (held_of program.now machine.old) memory.old left result (held_of program.now machine.new) memory.new }
 {
-    let event = keep(machine, program, memory, value)?;
-    Ok(with_event(event, left))
+    with_event(keep(machine, program, memory, value), left)
 }
 
 /// A function begins.
@@ -236,7 +231,7 @@ fn step_enters<C: Memory>(
     program: &Program,
     memory: &mut C,
     left: u64,
-) -> Result<Stepped, Halt>
+) -> Result<Stepped, OutOfMemory>
     requires { machine.old.front ≡ front.Enters }
     ensures { IfOk result (λ r. (side : AnySide) → side.known ≡ known_of program.now → side.asks ≡ asks_on machine.old.side → SteppedTo C.accesses side (held_of program.now machine.old) memory.old left r (held_of program.now machine.new) memory.new) }
 {
@@ -252,7 +247,7 @@ fn step_fills<C: Memory>(
     program: &Program,
     memory: &mut C,
     left: u64,
-) -> Result<Stepped, Halt>
+) -> Result<Stepped, OutOfMemory>
     ensures { IfOk result (λ r. (side : AnySide) → SteppedTo C.accesses side (held_of program.now machine.old) memory.old left r (held_of program.now machine.new) memory.new) }
 {
     let front = mem::replace(&mut machine.front, Front::Runs);
@@ -261,7 +256,10 @@ fn step_fills<C: Memory>(
             let event = fill(machine, alloc, program, memory, pointers.as_slice())?;
             Ok(with_event(event, left))
         }
-        _ => Err(Halt::Unfit),
+        other => {
+            machine.front = other;
+            Ok(Stepped::Goes(left))
+        }
     }
 }
 
@@ -272,7 +270,7 @@ fn step_born<C: Memory>(
     slot: u32,
     pointer: Value,
     left: u64,
-) -> Result<Stepped, Halt>
+) -> Result<Stepped, OutOfMemory>
     requires { machine.old.front ≡ front.Born slot pointer }
     ensures { IfOk result (λ r. (program : AnyProgram) (side : AnySide) → SteppedTo C.accesses side (held_of program machine.old) memory.now left r (held_of program machine.new) memory.now) }
 {
@@ -288,7 +286,7 @@ pub(crate) fn step<C: Memory>(
     halves: &[Half],
     memory: &mut C,
     left: u64,
-) -> Result<Stepped, Halt>
+) -> Result<Stepped, OutOfMemory>
     requires { IsSound program.now }
     ensures { IfOk result (λ r. SteppedTo C.accesses (side_in machine.old.side halves.now program.now) (held_of program.now machine.old) memory.old left r (held_of program.now machine.new) memory.new) }
 {
@@ -305,8 +303,7 @@ pub(crate) fn step<C: Memory>(
         }
         Front::Comes(value) => {
             let value = *value;
-            let stepped = step_comes(machine, program, memory, value, left)?;
-            Ok(stepped)
+            Ok(step_comes(machine, program, memory, value, left))
         }
         Front::Enters => {
             let stepped = step_enters(machine, alloc, program, memory, left)?;
@@ -322,9 +319,7 @@ pub(crate) fn step<C: Memory>(
             let stepped = step_born(machine, memory, slot, pointer, left)?;
             Ok(stepped)
         }
-        Front::WaitsValue => Err(Halt::Unfit),
-        Front::WaitsParams(_) => Err(Halt::Unfit),
-        Front::WaitsObject(_) => Err(Halt::Unfit),
-        Front::WaitsDeath(_) => Err(Halt::Unfit),
+        Front::WaitsValue | Front::WaitsParams(_) | Front::WaitsObject(_) | Front::WaitsDeath(_) =>
+            Err(Limit::Unmet.past()),
     }
 }

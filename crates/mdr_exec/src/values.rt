@@ -66,13 +66,20 @@ pub(crate) fn at_kind(kind: Kind, computed: Result<i128, Undefined>) -> Result<V
 
 /// What a slot holds.
 #[tactic(auto, unfolding(mdr_meaning::specs::Expressions::slot_of))]
-pub(crate) fn slot_at(slots: &[Value], i: u32) -> Value
+pub(crate) fn slot_value(slots: &[Value], i: usize) -> Value
     ensures { wire_of result ≡ slot_of (wires_of slots.now) i }
 {
-    match slots.get(i as usize) {
+    match slots.get(i) {
         Some(value) => *value,
         None => Value::NoValue,
     }
+}
+
+/// The same, where code names the slot.
+pub(crate) fn slot_at(slots: &[Value], i: u32) -> Value
+    ensures { wire_of result ≡ slot_of (wires_of slots.now) i }
+{
+    slot_value(slots, i as usize)
 }
 
 /// The first result; a call that has none has no value.

@@ -18,12 +18,13 @@ use Rattle.mdr_meaning.specs.declared.wire.Wire.TheVariants as wire
 use Rattle.mdr_meaning.specs.Calls.{received}
 use Rattle.mdr_meaning.specs.Expressions.{slot_of}
 use Rattle.mdr_meaning.specs.Lives.{after_deaths, is_into, returned}
+use Rattle.mdr_meaning.specs.Asking.{counted}
 use Rattle.mdr_meaning.specs.Numbers.{Numbered}
 use Rattle.mdr_meaning.specs.Pointers.{become_by, cast, difference, is_equal, member, moved, ordered, related}
 use Rattle.mdr_meaning.specs.Printed.{behind, printed, shown, told}
 use Rattle.mdr_meaning.specs.Sides.{Flow, Returns, framed, undeclared}
 use Rattle.mdr_meaning.specs.Statements.{element}
-use Rattle.mdr_meaning.specs.Values.{first_of, integer, is_true, natural, rest_of, truth}
+use Rattle.mdr_meaning.specs.Values.{first_of, integer, is_true, rest_of, truth}
 use Rattle.std.specs.Prelude.{Option, Some, None}
 use Rattle.mdr_kept.specs.Alike.{spun, spun_lock}
 
@@ -125,9 +126,9 @@ pub integer_like : (v w : Wire) → Like v w → integer v ≡ integer w
 integer_like _ _ (Same v) = refl
 integer_like _ _ (Locks s t e) = refl
 
-pub natural_like : (v w : Wire) → Like v w → natural v ≡ natural w
-natural_like _ _ (Same v) = refl
-natural_like _ _ (Locks s t e) = refl
+pub counted_like : (v w : Wire) → Like v w → counted v ≡ counted w
+counted_like _ _ (Same v) = refl
+counted_like _ _ (Locks s t e) = refl
 
 pub true_like : (v w : Wire) → Like v w → is_true v ≡ is_true w
 true_like _ _ (Same v) = refl

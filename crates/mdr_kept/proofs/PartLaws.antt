@@ -14,7 +14,7 @@ use Rattle.mdr_core.specs.Typing.{Slot}
 use Rattle.mdr_meaning.specs.declared.shape.Shape64.{Shape64}
 use Rattle.mdr_meaning.specs.declared.wire.Wire.{Wire}
 use Rattle.mdr_meaning.specs.declared.wire.Wire.TheVariants as wire
-use Rattle.mdr_meaning.specs.Asking.{allocated, asks, serves, serves_by}
+use Rattle.mdr_meaning.specs.Asking.{allocated, asks, counted, serves, serves_by}
 use Rattle.mdr_meaning.specs.Bodies.{means, started}
 use Rattle.mdr_meaning.specs.Calls.{enters, put, stores, keep, function_of, goes_to, deep, direct, through, call_by}
 use Rattle.mdr_meaning.specs.Expressions.{given, gives, loads, place, read, slot_of, value, values}
@@ -25,9 +25,9 @@ use Rattle.mdr_meaning.specs.Pointers.{global, moved, steps}
 use Rattle.mdr_meaning.specs.Sides.{Body, Side, Here, Locals, Flow, Ends, Breaks, Continues, Returns, Next, Go, Means, flow_of, framed, in_here}
 use Rattle.mdr_meaning.specs.Statements.{around, characters, declared, declared_by, element, leaves, on_ends, returns, stmt, stmts, texts, turn}
 use Rattle.mdr_meaning.specs.Tree.{Tree}
-use Rattle.mdr_meaning.specs.Values.{at_kind, first_of, integer, is_true, natural, rest_of, truth, wire_of}
+use Rattle.mdr_meaning.specs.Values.{at_kind, first_of, integer, is_true, rest_of, right_operand, truth, wire_of}
 use Rattle.std.specs.Prelude.{take, unwrap_or}
-use Rattle.mdr_kept.proofs.LikeLaws.{AreLike, Empty, Gives, Gives_back, Go_on, Like, LikeFlow, LikeResult, Locks, More, Same, Stops, after_deaths_like, appended, by_integer, by_integers, cast_like, difference_like, element_like, first_like, framed_like, integer_like, member_like, moved_like, natural_like, printed_like, received_like, related_like, rest_like, returned_like, set_like, slot_like, true_like}
+use Rattle.mdr_kept.proofs.LikeLaws.{AreLike, Empty, Gives, Gives_back, Go_on, Like, LikeFlow, LikeResult, Locks, More, Same, Stops, after_deaths_like, appended, by_integer, by_integers, cast_like, counted_like, difference_like, element_like, first_like, framed_like, integer_like, member_like, moved_like, printed_like, received_like, related_like, rest_like, returned_like, set_like, slot_like, true_like}
 
 -- a half enters a body of the whole, or none
 pub data IsPart : Option Body → Option Body → Type 0 where
@@ -141,15 +141,15 @@ module _ (R : ℕ → Tree → Tree → Type 0) (asked : Bool) (known : Numbered
       keeps_value (Term.Addr p) = keeps_place p
       keeps_value (Term.Decay p) = keeps_place p
       keeps_value (Term.Neg kind e) = record {
-        by = λ k l h. (keeps_value e).by _ _ (record { at = λ x y a. (keeps_given r at _ _ (by_integer (λ n. at_kind kind (negated kind n)) x y a)).by k l h });
+        by = λ k l h. (keeps_value e).by _ _ (record { at = λ x y a. (keeps_given r at _ _ (by_integer (λ n. at_kind kind (negated kind (converted kind n))) x y a)).by k l h });
       }
-      keeps_value (Term.Flip kind e) = record { by = λ k l h. (keeps_value e).by _ _ (record { at = λ x y a. h.at _ _ (same_made (λ n. wire.Int kind (flipped kind n)) x y a) }) }
+      keeps_value (Term.Flip kind e) = record { by = λ k l h. (keeps_value e).by _ _ (record { at = λ x y a. h.at _ _ (same_made (λ n. wire.Int kind (flipped kind (converted kind n))) x y a) }) }
       keeps_value (Term.Not e) = record { by = λ k l h. (keeps_value e).by _ _ (record { at = λ x y a. h.at _ _ (same_truth not x y a) }) }
       keeps_value (Term.Bin op kind a b) = record {
         by = λ k l h.
             (keeps_value a).by _ _ (record {
               at = λ x x' i.
-                  (keeps_value b).by _ _ (record { at = λ y y' j. (keeps_given r at _ _ (by_integers (λ m n. at_kind kind (operated op kind m n)) x x' y y' i j)).by k l h });
+                  (keeps_value b).by _ _ (record { at = λ y y' j. (keeps_given r at _ _ (by_integers (λ m n. at_kind kind (operated op kind (converted kind m) (right_operand op kind n))) x x' y y' i j)).by k l h });
             });
       }
       keeps_value (Term.Rel op a b) = record {
@@ -247,7 +247,7 @@ module _ (R : ℕ → Tree → Tree → Type 0) (asked : Bool) (known : Numbered
   keeps_serves : (r n : ℕ) (at : At) (form : CallOf) (vs ws : List Wire) → AreLike vs ws → (s : Option Service) → Keep r (serves_by known n at form vs s) (serves_by known n at form ws s)
   keeps_serves r n at form vs ws h None = keeps_asks r n at vs ws [] [] h
   keeps_serves r n at form vs ws h (Some Kzalloc) = keeps_asks r n at [] [] (allocated known form.shape 1) [] Empty
-  keeps_serves r n at form vs ws h (Some Kcalloc) = keeps_shaped r n at _ _ (ap (allocated known form.shape) (natural_like _ _ (first_like vs ws h)))
+  keeps_serves r n at form vs ws h (Some Kcalloc) = keeps_shaped r n at _ _ (ap (allocated known form.shape) (counted_like _ _ (first_like vs ws h)))
   keeps_serves r n at form vs ws h (Some Kfree) = keeps_asks r n at vs ws [] [] h
   keeps_serves r n at form vs ws h (Some Readl) = keeps_asks r n at vs ws [] [] h
   keeps_serves r n at form vs ws h (Some Writel) = keeps_asks r n at vs ws [] [] h
@@ -256,8 +256,8 @@ module _ (R : ℕ → Tree → Tree → Type 0) (asked : Bool) (known : Numbered
   keeps_serves r n at form vs ws h (Some FreeIrq) = keeps_asks r n at vs ws [] [] h
   keeps_serves r n at form vs ws h (Some Deliver) = record {
     by = λ k l a.
-        subst (λ m. R r (serves_by known n at form vs (Some Deliver) k) (Tree.Read at (first_of ws) m (λ bytes. asks n at [] [] bytes l))) (natural_like _ _ (first_like _ _ (rest_like vs ws h)))
-        (c.read r at (first_of vs) (first_of ws) (natural (first_of (rest_of vs))) _ _ (first_like vs ws h) (λ bytes. (keeps_asks r n at [] [] [] bytes Empty).by k l a));
+        subst (λ m. R r (serves_by known n at form vs (Some Deliver) k) (Tree.Read at (first_of ws) m (λ bytes. asks n at [] [] bytes l))) (counted_like _ _ (first_like _ _ (rest_like vs ws h)))
+        (c.read r at (first_of vs) (first_of ws) (counted (first_of (rest_of vs))) _ _ (first_like vs ws h) (λ bytes. (keeps_asks r n at [] [] [] bytes Empty).by k l a));
   }
   keeps_serves r n at form vs ws h (Some Combolock) = keeps_asks r n at vs ws [] [] h
   keeps_serves r n at form vs ws h (Some Combounlock) = keeps_asks r n at vs ws [] [] h

@@ -15,7 +15,7 @@ use Rattle.mdr_meaning.specs.declared.shape.Shape64.{Shape64}
 use Rattle.mdr_meaning.specs.declared.wire.Wire.{Wire}
 use Rattle.mdr_meaning.specs.declared.wire.Wire.TheVariants as wire
 use Rattle.mdr_meaning.specs.Alike.{IsCongruence}
-use Rattle.mdr_meaning.specs.Asking.{allocated, asks, serves, serves_by}
+use Rattle.mdr_meaning.specs.Asking.{allocated, asks, counted, serves, serves_by}
 use Rattle.mdr_meaning.specs.Bodies.{means, started}
 use Rattle.mdr_meaning.specs.Calls.{put, stores, received, keep, function_of, goes_to, deep, direct, through, call_by}
 use Rattle.mdr_meaning.specs.Expressions.{given, gives, loads, place, read, slot_of, value, values}
@@ -26,7 +26,7 @@ use Rattle.mdr_meaning.specs.Pointers.{cast, difference, global, member, moved, 
 use Rattle.mdr_meaning.specs.Sides.{Body, Side, Here, Locals, Flow, Ends, Breaks, Continues, Returns, Next, Go, Means, flow_of, framed, in_here}
 use Rattle.mdr_meaning.specs.Statements.{around, characters, declared, declared_by, element, leaves, on_ends, returns, stmt, stmts, texts, turn}
 use Rattle.mdr_meaning.specs.Tree.{Tree}
-use Rattle.mdr_meaning.specs.Values.{at_kind, first_of, integer, is_true, natural, rest_of, truth, wire_of}
+use Rattle.mdr_meaning.specs.Values.{at_kind, first_of, integer, is_true, operand, rest_of, right_operand, truth, wire_of}
 
 module _ (R : ℕ → Tree → Tree → Type 0) (c : IsCongruence R) where
   -- continuations that are alike at r ticks
@@ -87,12 +87,12 @@ module _ (R : ℕ → Tree → Tree → Type 0) (c : IsCongruence R) where
       keeps_value r at s (Term.Load p) = keeps_loads r at s p (place known at s p) (keeps_place r at s p)
       keeps_value r at s (Term.Addr p) = keeps_place r at s p
       keeps_value r at s (Term.Decay p) = keeps_place r at s p
-      keeps_value r at s (Term.Neg kind e) = keeps_tested r at (value known at s e) (λ x. at_kind kind (negated kind (integer x))) (keeps_value r at s e)
-      keeps_value r at s (Term.Flip kind e) = keeps_made r (value known at s e) (λ x. wire.Int kind (flipped kind (integer x))) (keeps_value r at s e)
+      keeps_value r at s (Term.Neg kind e) = keeps_tested r at (value known at s e) (λ x. at_kind kind (negated kind (operand kind x))) (keeps_value r at s e)
+      keeps_value r at s (Term.Flip kind e) = keeps_made r (value known at s e) (λ x. wire.Int kind (flipped kind (operand kind x))) (keeps_value r at s e)
       keeps_value r at s (Term.Not e) = keeps_made r (value known at s e) (λ x. truth (not (is_true x))) (keeps_value r at s e)
       keeps_value r at s (Term.Bin op kind a b) =
-          keeps_then r Wire Wire (value known at s a) (λ x k. value known at s b (λ y. given at (at_kind kind (operated op kind (integer x) (integer y))) k)) (keeps_value r at s a)
-          (λ x. keeps_tested r at (value known at s b) (λ y. at_kind kind (operated op kind (integer x) (integer y))) (keeps_value r at s b))
+          keeps_then r Wire Wire (value known at s a) (λ x k. value known at s b (λ y. given at (at_kind kind (operated op kind (operand kind x) (right_operand op kind (integer y)))) k)) (keeps_value r at s a)
+          (λ x. keeps_tested r at (value known at s b) (λ y. at_kind kind (operated op kind (operand kind x) (right_operand op kind (integer y)))) (keeps_value r at s b))
       keeps_value r at s (Term.Rel op a b) =
           keeps_then r Wire Wire (value known at s a) (λ x k. value known at s b (λ y. given at (related known.program op x y) k)) (keeps_value r at s a)
           (λ x. keeps_tested r at (value known at s b) (λ y. related known.program op x y) (keeps_value r at s b))
@@ -150,7 +150,7 @@ module _ (R : ℕ → Tree → Tree → Type 0) (c : IsCongruence R) where
     keeps_serves : (r n : ℕ) (at : At) (form : CallOf) (vs : List Wire) (s : Option Service) → Keeps r Wire (serves_by known n at form vs s)
     keeps_serves r n at form vs None = keeps_asks r n at vs [] []
     keeps_serves r n at form vs (Some Kzalloc) = keeps_asks r n at [] (allocated known form.shape 1) []
-    keeps_serves r n at form vs (Some Kcalloc) = keeps_asks r n at [] (allocated known form.shape (natural (first_of vs))) []
+    keeps_serves r n at form vs (Some Kcalloc) = keeps_asks r n at [] (allocated known form.shape (counted (first_of vs))) []
     keeps_serves r n at form vs (Some Kfree) = keeps_asks r n at vs [] []
     keeps_serves r n at form vs (Some Readl) = keeps_asks r n at vs [] []
     keeps_serves r n at form vs (Some Writel) = keeps_asks r n at vs [] []
@@ -158,7 +158,7 @@ module _ (R : ℕ → Tree → Tree → Type 0) (c : IsCongruence R) where
     keeps_serves r n at form vs (Some RequestIrq) = keeps_asks r n at vs [] []
     keeps_serves r n at form vs (Some FreeIrq) = keeps_asks r n at vs [] []
     keeps_serves r n at form vs (Some Deliver) = record {
-      by = λ k l h. c.read r at (first_of vs) (natural (first_of (rest_of vs))) _ _ (λ bytes. (keeps_asks r n at [] [] bytes).by k l h);
+      by = λ k l h. c.read r at (first_of vs) (counted (first_of (rest_of vs))) _ _ (λ bytes. (keeps_asks r n at [] [] bytes).by k l h);
     }
     keeps_serves r n at form vs (Some Combolock) = keeps_asks r n at vs [] []
     keeps_serves r n at form vs (Some Combounlock) = keeps_asks r n at vs [] []

@@ -20,22 +20,21 @@ use Rattle.mdr_core.specs.Sound.{IsSound}
 use Rattle.mdr_core.specs.Types.{HasNumber, is_scalar}
 use Rattle.mdr_core.specs.Typing.{Slot, Extent, One, Many, extent, Has, Designates, RightOperand}
 use Rattle.mdr_core.proofs.Conversions.{converted-in_range}
-use Rattle.mdr_core.proofs.Operators.{fitted-in_range, result-in_range, right_operand_in_range}
+use Rattle.mdr_core.proofs.Operators.{fitted-in_range, result-in_range}
 use Rattle.mdr_meaning.specs.declared.wire.Wire.{Wire}
 use Rattle.mdr_meaning.specs.declared.wire.Wire.TheVariants as wire
 use Rattle.mdr_meaning.specs.Bodies.{known_of}
 use Rattle.mdr_meaning.specs.Expressions.{given, gives, loads, place, read, slot_of, value}
 use Rattle.mdr_meaning.specs.Fair.{FairTo, IsPlace, LoadsScalar}
 use Rattle.mdr_meaning.specs.FairExpressions.{ExpressionsAreFair, LvaluesAreFair}
-use Rattle.mdr_meaning.specs.Fit.{Knowledge, KnowsGlobals, IsInteger, PointsTo, Fits}
+use Rattle.mdr_meaning.specs.Fit.{Knowledge, KnowsGlobals, PointsTo, Fits}
 use Rattle.mdr_meaning.specs.Pointers.{cast, difference, global, member, moved, related, steps}
 use Rattle.mdr_meaning.specs.Sides.{Side}
 use Rattle.mdr_meaning.specs.Slots.{slot_fits, SlotsFit, elements}
 use Rattle.mdr_meaning.specs.Tree.{Tree}
-use Rattle.mdr_meaning.specs.Values.{at_kind, integer, is_true, truth, wire_of}
+use Rattle.mdr_meaning.specs.Values.{at_kind, integer, is_true, operand, right_operand, truth, wire_of}
 use Rattle.mdr_meaning.specs.Within.{LvalueWithin, TermWithin}
-use Rattle.mdr_meaning.proofs.FitLaws.{to_integer, of_integer, to_pointer, of_pointer, to_address, of_address, pointer_address, pointer_known, literal_fits, truth_fits, result_fits, related_fits, difference_fits, cast_fits}
-use Rattle.mdr_meaning.proofs.NumberLaws.{numbered_in}
+use Rattle.mdr_meaning.proofs.FitLaws.{of_integer, to_pointer, of_pointer, to_address, of_address, pointer_address, pointer_known, literal_fits, truth_fits, result_fits, related_fits, difference_fits, cast_fits}
 use Rattle.mdr_meaning.proofs.PointerLaws.{Yields, global_fits, member_fits, moved_fits}
 
 -- ---- numbers in the range of their kind
@@ -48,14 +47,19 @@ flipped_in_range : (k : Kind) (n : ℤ) → is_in_range k (flipped k n) ≡ true
 unfolding flipped
 flipped_in_range k n = converted-in_range k _
 
-in_kind : (k : Kind) (v : Wire) → IsInteger k v → is_in_range k (integer v) ≡ true
-in_kind k (wire.Int l n) h = h.1
-in_kind k wire.Null h = elim h [ ]
-in_kind k (wire.Ptr p) h = elim h [ ]
-in_kind k wire.Dead h = elim h [ ]
-in_kind k (wire.Fn f) h = elim h [ ]
-in_kind k (wire.Lock s) h = elim h [ ]
-in_kind k wire.NoValue h = elim h [ ]
+-- what stands to the right of an operator may stand there
+pub right_fits : (op : BinOp) (k : Kind) (n : ℤ) → is_right_operand op k (right_operand op k n) ≡ true
+unfolding is_right_operand
+right_fits Add k n = converted-in_range k n
+right_fits Sub k n = converted-in_range k n
+right_fits Mul k n = converted-in_range k n
+right_fits Div k n = converted-in_range k n
+right_fits Rem k n = converted-in_range k n
+right_fits Shl k n = refl
+right_fits Shr k n = refl
+right_fits BitAnd k n = converted-in_range k n
+right_fits BitOr k n = converted-in_range k n
+right_fits BitXor k n = converted-in_range k n
 
 field_numbered : (program : Program) → IsSound program → (s f : ℕ) (x : Field) → slice_get (fields_of program.structs s) f ≡ Some x → HasNumber program x.ty
 field_numbered program sound s f x e = by_struct (slice_get program.structs s) refl e where
@@ -128,23 +132,23 @@ module _ (most : ℕ) (program : Program) (sound : IsSound program) (side : Side
   bool_fits : (b : Bool) → Fits program K (ty.Int S32) (truth b)
   bool_fits b = of_integer program K S32 (truth b) (truth_fits program K b)
 
-  right_fits : (op : BinOp) (k : Kind) (f : (Wire → Tree) → Tree) (P : Ty → Type 0) → ((t : Ty) → P t → Gives (Fits program K t) f) → RightOperand op k P → Gives (λ v. is_right_operand op k (integer v) ≡ true) f
-  unfolding is_right_operand
-  right_fits op k f P each h = by_operator op h where
-    same : (op : BinOp) → P (ty.Int k) → Gives (λ v. is_right_operand op k (integer v) ≡ true) f
-    same op h = weaker (Fits program K (ty.Int k)) (λ v. is_right_operand op k (integer v) ≡ true) f (λ v p. right_operand_in_range op k (integer v) (in_kind k v (to_integer program K k v p))) (each (ty.Int k) h)
+  -- the right operand is given, of whatever kind
+  right_given : (op : BinOp) (k : Kind) (f : (Wire → Tree) → Tree) (P : Ty → Type 0) → ((t : Ty) → P t → Gives (Fits program K t) f) → RightOperand op k P → Gives (λ v. Unit {0}) f
+  right_given op k f P each h = by_operator op h where
+    any : (t : Ty) → P t → Gives (λ v. Unit {0}) f
+    any t h = weaker (Fits program K t) (λ v. Unit {0}) f (λ v p. tt) (each t h)
 
-    by_operator : (op : BinOp) → RightOperand op k P → Gives (λ v. is_right_operand op k (integer v) ≡ true) f
-    by_operator Shl h = weaker (Fits program K (ty.Int h.0)) (λ v. is_right_operand Shl k (integer v) ≡ true) f (λ v p. refl) (each (ty.Int h.0) h.1)
-    by_operator Shr h = weaker (Fits program K (ty.Int h.0)) (λ v. is_right_operand Shr k (integer v) ≡ true) f (λ v p. refl) (each (ty.Int h.0) h.1)
-    by_operator Add h = same Add h
-    by_operator Sub h = same Sub h
-    by_operator Mul h = same Mul h
-    by_operator Div h = same Div h
-    by_operator Rem h = same Rem h
-    by_operator BitAnd h = same BitAnd h
-    by_operator BitOr h = same BitOr h
-    by_operator BitXor h = same BitXor h
+    by_operator : (op : BinOp) → RightOperand op k P → Gives (λ v. Unit {0}) f
+    by_operator Shl h = any (ty.Int h.0) h.1
+    by_operator Shr h = any (ty.Int h.0) h.1
+    by_operator Add h = any (ty.Int k) h
+    by_operator Sub h = any (ty.Int k) h
+    by_operator Mul h = any (ty.Int k) h
+    by_operator Div h = any (ty.Int k) h
+    by_operator Rem h = any (ty.Int k) h
+    by_operator BitAnd h = any (ty.Int k) h
+    by_operator BitOr h = any (ty.Int k) h
+    by_operator BitXor h = any (ty.Int k) h
 
   module _ (slots : List Slot) (held : List Wire) (fit : SlotsFit program K slots held) where
     at_type : (t u : Ty) (f : (Wire → Tree) → Tree) → u ≡ t → Gives (Fits program K t) f → Gives (Fits program K u) f
@@ -179,19 +183,19 @@ module _ (most : ℕ) (program : Program) (sound : IsSound program) (side : Side
       value_fair (Term.Decay p) t h w = at_type _ t _ h.is (weaker _ _ _ (λ v q. of_pointer program K h.type v q) (place_fair p (Many h.type h.count) h.array w))
       value_fair (Term.Neg k e) t h w =
           at_type _ t _ h.is (weaker _ _ _ (of_integer program K k)
-          (tested _ _ (value (known_of program) at held e) (λ x. at_kind k (negated k (integer x))) (λ v q. result_fits program K k (negated k (integer v)) (λ z r. negated_in_range k (integer v) z r)) (value_fair e (ty.Int k) h.operand w)))
+          (tested _ _ (value (known_of program) at held e) (λ x. at_kind k (negated k (operand k x))) (λ v q. result_fits program K k (negated k (operand k v)) (λ z r. negated_in_range k (operand k v) z r)) (value_fair e (ty.Int k) h.operand w)))
       value_fair (Term.Flip k e) t h w =
-          at_type _ t _ h.is (made _ _ (value (known_of program) at held e) (λ x. wire.Int k (flipped k (integer x))) (λ v q. of_integer program K k _ (refl, flipped_in_range k (integer v))) (value_fair e (ty.Int k) h.operand w))
+          at_type _ t _ h.is (made _ _ (value (known_of program) at held e) (λ x. wire.Int k (flipped k (operand k x))) (λ v q. of_integer program K k _ (refl, flipped_in_range k (operand k v))) (value_fair e (ty.Int k) h.operand w))
       value_fair (Term.Not e) t h w =
           at_type _ t _ h.is (made _ _ (value (known_of program) at held e) (λ x. truth (not (is_true x))) (λ v q. bool_fits (not (is_true v))) (value_fair e h.operand.type h.operand.operand w))
       value_fair (Term.Bin op k a b) t h w =
           at_type _ t _ h.is
-          (and_then (Fits program K (ty.Int k)) (Fits program K (ty.Int k)) (value (known_of program) at held a) (λ x k'. value (known_of program) at held b (λ y. given at (at_kind k (operated op k (integer x) (integer y))) k'))
+          (and_then (Fits program K (ty.Int k)) (Fits program K (ty.Int k)) (value (known_of program) at held a) (λ x k'. value (known_of program) at held b (λ y. given at (at_kind k (operated op k (operand k x) (right_operand op k (integer y)))) k'))
           (value_fair a (ty.Int k) h.left w.0)
           (λ x left. weaker _ _ _ (of_integer program K k)
-          (tested _ _ (value (known_of program) at held b) (λ y. at_kind k (operated op k (integer x) (integer y)))
-          (λ y right. result_fits program K k (operated op k (integer x) (integer y)) (λ z r. result-in_range op k (integer x) (integer y) z (in_kind k x (to_integer program K k x left)) right r))
-          (right_fits op k (value (known_of program) at held b) (Has program slots b) (λ u c. value_fair b u c w.1) h.right))))
+          (tested _ _ (value (known_of program) at held b) (λ y. at_kind k (operated op k (operand k x) (right_operand op k (integer y))))
+          (λ y right. result_fits program K k (operated op k (operand k x) (right_operand op k (integer y))) (λ z r. result-in_range op k (operand k x) (right_operand op k (integer y)) z (converted-in_range k (integer x)) (right_fits op k (integer y)) r))
+          (right_given op k (value (known_of program) at held b) (Has program slots b) (λ u c. value_fair b u c w.1) h.right))))
       value_fair (Term.Rel op a b) t h w =
           at_type _ t _ h.is
           (and_then (Fits program K h.type) (Fits program K (ty.Int S32)) (value (known_of program) at held a) (λ x k'. value (known_of program) at held b (λ y. given at (related (known_of program).program op x y) k'))
@@ -236,7 +240,7 @@ module _ (most : ℕ) (program : Program) (sound : IsSound program) (side : Side
           let table = (sound.globals g h.def h.names).in_table in
           let same : h.def.ty ≡ elements x = sym (ap elements h.is ∙ elements_extent h.def.array h.def.ty h.def.count) in
           gives_fair (PointsTo program K (elements x)) (global (known_of program) g)
-          (subst (λ t. PointsTo program K t (global (known_of program) g)) same (global_fits program sound K globals g h.def h.names (numbered_in program.types h.def.ty table.number table.names)))
+          (subst (λ t. PointsTo program K t (global (known_of program) g)) same (global_fits program sound K globals g h.def h.names table))
       place_fair (Lvalue.Deref e) x h w =
           subst (λ y. Gives (PointsTo program K (elements y)) (value (known_of program) at held e)) (sym h.is) (weaker _ _ _ (λ v q. to_pointer program K h.type v q) (value_fair e (ty.Ptr h.type) h.pointer w))
       place_fair (Lvalue.Member p f) x h w =
@@ -244,7 +248,7 @@ module _ (most : ℕ) (program : Program) (sound : IsSound program) (side : Side
           let same : h.field.ty ≡ elements x = sym (ap elements h.is ∙ elements_extent h.field.array h.field.ty h.field.count) in
           tested (PointsTo program K (ty.Struct h.struct)) (PointsTo program K (elements x)) (place (known_of program) at held p) (λ a. member (known_of program) a f)
           (λ v q. subst (λ t. Yields (PointsTo program K t) (member (known_of program) v f)) same
-          (member_fits program sound K v h.struct f h.field h.names (numbered_in program.types h.field.ty table.number table.names) q)) (place_fair p (One (ty.Struct h.struct)) h.whole w)
+          (member_fits program sound K v h.struct f h.field h.names table q)) (place_fair p (One (ty.Struct h.struct)) h.whole w)
       place_fair (Lvalue.Index p e) x h w =
           subst (λ y. Gives (PointsTo program K (elements y)) (place (known_of program) at held (Lvalue.Index p e))) (sym h.is)
           (and_then (PointsTo program K h.type) (PointsTo program K h.type) (place (known_of program) at held p) (λ a k'. value (known_of program) at held e (λ n. given at (moved a (integer n)) k'))

@@ -31,7 +31,7 @@ use Rattle.mdr_core.proofs.Viewed.{some_same}
 use Rattle.mdr_meaning.specs.declared.shape.Shape64.{Shape64}
 use Rattle.mdr_meaning.specs.declared.wire.Wire.{Wire}
 use Rattle.mdr_meaning.specs.declared.wire.Wire.TheVariants as wire
-use Rattle.mdr_meaning.specs.Asking.{allocated, asks, serves, serves_by}
+use Rattle.mdr_meaning.specs.Asking.{allocated, asks, counted, serves, serves_by}
 use Rattle.mdr_meaning.specs.Bodies.{body_by, body_from, body_of, kernel_side, known_of, means, started, user_side, whole_side, without_funcs}
 use Rattle.mdr_meaning.specs.Calls.{call, call_by, deep, direct, enters, goes_to, keep, put, received, through}
 use Rattle.mdr_meaning.specs.Expressions.{given, place, slot_of, value, values}
@@ -44,12 +44,13 @@ use Rattle.mdr_meaning.specs.Sides.{Body, Side, Here, Locals, Flow, Ends, Breaks
 use Rattle.mdr_meaning.specs.Slots.{SlotsFit}
 use Rattle.mdr_meaning.specs.Statements.{around, characters, declared, declared_by, element, kind_by, leaves, on_ends, returns, stmt, stmts, texts, turn}
 use Rattle.mdr_meaning.specs.Tree.{Tree}
-use Rattle.mdr_meaning.specs.Values.{first_of, is_true, natural, natural_of, rest_of, wire_of}
+use Rattle.mdr_meaning.specs.Numbers.{type_number}
+use Rattle.mdr_meaning.specs.Values.{first_of, is_true, natural, natural_of, rest_of, saturated_u32, wire_of}
 use Rattle.mdr_meaning.specs.Within.{CalleeWithin, CodeWithin, CodesWithin, FormWithin, GoalWithin, LvalueWithin, OptionWithin, TermWithin, TermsWithin, Uses, called_type}
 use Rattle.mdr_meaning.proofs.ExpressionLaws.{Gives, given_fair, named_slot, place_fair, value_fair}
 use Rattle.mdr_meaning.proofs.FitLaws.{literal_fits, of_integer, of_pointer, to_integer, to_pointer}
 use Rattle.mdr_meaning.proofs.GrowthLaws.{all_grow, are_grow, data_known, fits_result, globals_grow, grows_on, grows_same, known_append, result_grows, result_outlives}
-use Rattle.mdr_meaning.proofs.NumberLaws.{left_of, numbered_in}
+use Rattle.mdr_meaning.proofs.NumberLaws.{left_of, numbered_short}
 use Rattle.mdr_meaning.proofs.PlacedLaws.{Inside, InsideCode, first_inside, only_inside, own_first, rest_inside}
 use Rattle.mdr_meaning.proofs.PointerLaws.{at_index_fits}
 use Rattle.mdr_meaning.proofs.SlotLaws.{AreSoundSlots, Filling, Holds, born_points, filling_begins, filling_ends, filling_fills, filling_names, filling_passes, filling_value, framed_holds, holds_grows, object_held, object_holds, params_are_births, plain_holds, set_keeps, sound_slots, zero_fits}
@@ -187,11 +188,11 @@ module _ (most : ℕ) (wide : 256 ≤ most) (program : Program) (sound : IsSound
 
   -- the object of a slot is born, and the slot holds its address
   object_stands : (K : Knowledge) (slots : List Slot) (live base : List Wire) (l : Locals) (i : ℕ) (s : Slot) (p : Wire) → slice_get slots i ≡ Some s → s.object ≡ true → HasNumber program s.ty
-      → IsDataPointer program K (λ n. n ≡ (known_of program).number s.ty) p → Begins s.count p → Stands K slots live base l → Stands K slots (live ++ (p ∷ [])) base (with_object i p l)
+      → IsDataPointer program K (λ n. n ≡ type_number (known_of program) s.ty) p → Begins s.count p → Stands K slots live base l → Stands K slots (live ++ (p ∷ [])) base (with_object i p l)
   object_stands K slots live base l i s p names is table points first h =
       let set = with_slot K slots live base l i s p names (object_holds program K s p is (born_points program K s.ty p table points) first) h in
       with_born K slots live base (live ++ (p ∷ [])) base (record { slots = slice_set l.slots i p; born = l.born }) (l.born ++ (p ∷ [])) set
-      (known_append program K l.born (p ∷ []) h.born (data_known program K (λ n. n ≡ (known_of program).number s.ty) p points, tt)) (ap (λ xs. xs ++ (p ∷ [])) h.lives ∙ append_assoc base l.born (p ∷ []))
+      (known_append program K l.born (p ∷ []) h.born (data_known program K (λ n. n ≡ type_number (known_of program) s.ty) p points, tt)) (ap (λ xs. xs ++ (p ∷ [])) h.lives ∙ append_assoc base l.born (p ∷ []))
 
   -- object parameters take their arguments
   fills_fair : (at : At) → IsPlace side at → (K : Knowledge) (slots : List Slot) → AreSoundSlots program slots → Knows K → (live base : List Wire) (i : ℕ) (rest : List Slot) (ps : List Wire) (l : Locals) → Filling program K slots i rest l.slots
@@ -216,7 +217,7 @@ module _ (most : ℕ) (wide : 256 ≤ most) (program : Program) (sound : IsSound
             w,
             (s.ty, points, filling_value program K slots i s ss l.slots q f),
             more ps (with_object i p l) (filling_fills program K slots i s ss l.slots p q f (object_holds program K s p is points a.1))
-                (known_append program K l.born (p ∷ []) born (data_known program K (λ n. n ≡ (known_of program).number s.ty) p a.0, tt)) (e ∙ ap (λ xs. base ++ xs) (sym (append_assoc l.born (p ∷ []) ps))) a.2,
+                (known_append program K l.born (p ∷ []) born (data_known program K (λ n. n ≡ type_number (known_of program) s.ty) p a.0, tt)) (e ∙ ap (λ xs. base ++ xs) (sym (append_assoc l.born (p ∷ []) ps))) a.2,
           )
 
   -- ---- what comes next
@@ -340,7 +341,7 @@ module _ (most : ℕ) (wide : 256 ≤ most) (program : Program) (sound : IsSound
   text_fits K t n (inr e) = character_fits K t S8 n e
 
   element_fits : (K : Knowledge) (t : Ty) (p : Wire) (count i : ℕ) → PointsTo program K t p → Begins count p → i ≤ count → PointsTo program K t (element p i)
-  element_fits K t (wire.Ptr v) count i h first inside = at_index_fits program sound K t v (v.index + i) h.0 h.1 (omega (arith, first.0, first.1, inside))
+  element_fits K t (wire.Ptr v) count i h first inside = at_index_fits program sound K t v (saturated_u32 (v.index + i)) h.0 h.1 (omega (arith, first.0, first.1, inside))
   element_fits K t p count i h first inside = h
 
   texts_fair : (at : At) → IsPlace side at → (K : Knowledge) (live : List Wire) (kind : Kind) (t : Ty) (p : Wire) (count : ℕ) → ((n : ℤ) → Fits program K t (wire.Int kind (converted kind n))) → PointsTo program K t p → Begins count p
@@ -404,9 +405,9 @@ module _ (most : ℕ) (wide : 256 ≤ most) (program : Program) (sound : IsSound
 
   takes_shape : (at : At) (m count : ℕ) (t : Ty) (Counts : ℕ → Type 0) → HasNumber program t → Counts count → TakesShape program (asked_for m at [] (allocated (known_of program) (Some t) count) []) Counts
   takes_shape at m count t Counts table h = record {
-    shape = record { ty = (known_of program).number t; count = count };
+    shape = record { ty = type_number (known_of program) t; count = count };
     ty = t;
-    names = numbered_in program.types t table.number table.names;
+    names = numbered_short program t table;
     is = refl;
     counts = h;
     no_args = refl;
@@ -425,8 +426,8 @@ module _ (most : ℕ) (wide : 256 ≤ most) (program : Program) (sound : IsSound
       asks_fair at w K live m Kzalloc [] (allocated (known_of program) (Some t) 1) [] k names (takes_shape at m 1 t (λ n. n ≡ 1) o.in_table refl) refl (λ rs. refl) (object_served K live t 1 k o.in_table (gives_type K live _ signature k e n))
   serves_fair at w K live m callee args shape format vs Kzalloc signature names e o a h k n = absurd cc
   serves_fair at w K live m callee args (Some t) None vs Kcalloc signature names e o a h k n =
-      asks_fair at w K live m Kcalloc [] (allocated (known_of program) (Some t) (natural (first_of vs))) [] k names (takes_shape at m (natural (first_of vs)) t (λ n. Unit {0}) o.in_table tt) refl (λ rs. refl)
-      (object_served K live t (natural (first_of vs)) k o.in_table (gives_type K live _ signature k e n))
+      asks_fair at w K live m Kcalloc [] (allocated (known_of program) (Some t) (counted (first_of vs))) [] k names (takes_shape at m (counted (first_of vs)) t (λ n. Unit {0}) o.in_table tt) refl (λ rs. refl)
+      (object_served K live t (counted (first_of vs)) k o.in_table (gives_type K live _ signature k e n))
   serves_fair at w K live m callee args shape format vs Kcalloc signature names e o a h k n = absurd cc
   serves_fair at w K live m callee args None None vs Kfree signature names e o a h k n = plain_fair at w K live m Kfree vs [] signature.result k names (takes_args K at m vs _ signature e a) refl (λ rs. refl) (λ K' rs h. h) n
   serves_fair at w K live m callee args shape format vs Kfree signature names e o a h k n = absurd cc

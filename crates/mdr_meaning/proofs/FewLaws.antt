@@ -14,7 +14,7 @@ use Rattle.mdr_core.specs.Typing.{Slot}
 use Rattle.mdr_meaning.specs.declared.shape.Shape64.{Shape64}
 use Rattle.mdr_meaning.specs.declared.wire.Wire.{Wire}
 use Rattle.mdr_meaning.specs.declared.wire.Wire.TheVariants as wire
-use Rattle.mdr_meaning.specs.Asking.{allocated, asks, serves, serves_by}
+use Rattle.mdr_meaning.specs.Asking.{allocated, asks, counted, serves, serves_by}
 use Rattle.mdr_meaning.specs.Bodies.{means, started}
 use Rattle.mdr_meaning.specs.Calls.{put, stores, received, keep, function_of, enters, goes_to, deep, direct, through, call_by}
 use Rattle.mdr_meaning.specs.Expressions.{given, gives, loads, place, read, slot_of, value, values}
@@ -26,7 +26,7 @@ use Rattle.mdr_meaning.specs.Pointers.{cast, difference, global, member, moved, 
 use Rattle.mdr_meaning.specs.Sides.{Body, Side, Here, Locals, Flow, Ends, Breaks, Continues, Returns, Next, Go, Means, flow_of, framed, in_here}
 use Rattle.mdr_meaning.specs.Statements.{around, characters, declared, declared_by, element, leaves, on_ends, returns, stmt, stmts, texts, turn}
 use Rattle.mdr_meaning.specs.Tree.{Tree}
-use Rattle.mdr_meaning.specs.Values.{at_kind, first_of, integer, is_true, natural, rest_of, truth, wire_of}
+use Rattle.mdr_meaning.specs.Values.{at_kind, first_of, integer, is_true, operand, rest_of, right_operand, truth, wire_of}
 
 -- ---- evaluations ask nothing
 
@@ -81,12 +81,12 @@ module _ (known : Numbered) where
     keeps_value c at s (Term.Load p) = keeps_loads c at s p (place known at s p) (keeps_place c at s p)
     keeps_value c at s (Term.Addr p) = keeps_place c at s p
     keeps_value c at s (Term.Decay p) = keeps_place c at s p
-    keeps_value c at s (Term.Neg kind e) = keeps_tested c at (value known at s e) (λ x. at_kind kind (negated kind (integer x))) (keeps_value c at s e)
-    keeps_value c at s (Term.Flip kind e) = keeps_made c (value known at s e) (λ x. wire.Int kind (flipped kind (integer x))) (keeps_value c at s e)
+    keeps_value c at s (Term.Neg kind e) = keeps_tested c at (value known at s e) (λ x. at_kind kind (negated kind (operand kind x))) (keeps_value c at s e)
+    keeps_value c at s (Term.Flip kind e) = keeps_made c (value known at s e) (λ x. wire.Int kind (flipped kind (operand kind x))) (keeps_value c at s e)
     keeps_value c at s (Term.Not e) = keeps_made c (value known at s e) (λ x. truth (not (is_true x))) (keeps_value c at s e)
     keeps_value c at s (Term.Bin op kind a b) =
-        keeps_then c Wire Wire (value known at s a) (λ x k. value known at s b (λ y. given at (at_kind kind (operated op kind (integer x) (integer y))) k)) (keeps_value c at s a)
-        (λ x. keeps_tested c at (value known at s b) (λ y. at_kind kind (operated op kind (integer x) (integer y))) (keeps_value c at s b))
+        keeps_then c Wire Wire (value known at s a) (λ x k. value known at s b (λ y. given at (at_kind kind (operated op kind (operand kind x) (right_operand op kind (integer y)))) k)) (keeps_value c at s a)
+        (λ x. keeps_tested c at (value known at s b) (λ y. at_kind kind (operated op kind (operand kind x) (right_operand op kind (integer y)))) (keeps_value c at s b))
     keeps_value c at s (Term.Rel op a b) =
         keeps_then c Wire Wire (value known at s a) (λ x k. value known at s b (λ y. given at (related known.program op x y) k)) (keeps_value c at s a)
         (λ x. keeps_tested c at (value known at s b) (λ y. related known.program op x y) (keeps_value c at s b))
@@ -206,14 +206,14 @@ asks_few d c n at vs shapes bytes k m h = few_ask c d (omega (arith, m)) (asked_
 serves_few : (known : Numbered) (d c n : ℕ) (at : At) (form : CallOf) (vs : List Wire) (s : Option Service) (k : Wire → Tree) → d + 1 ≤ c → AfterFew d k → Few c (serves_by known n at form vs s k)
 serves_few known d c n at form vs None k m h = asks_few d c n at vs [] [] k m h
 serves_few known d c n at form vs (Some Kzalloc) k m h = asks_few d c n at [] (allocated known form.shape 1) [] k m h
-serves_few known d c n at form vs (Some Kcalloc) k m h = asks_few d c n at [] (allocated known form.shape (natural (first_of vs))) [] k m h
+serves_few known d c n at form vs (Some Kcalloc) k m h = asks_few d c n at [] (allocated known form.shape (counted (first_of vs))) [] k m h
 serves_few known d c n at form vs (Some Kfree) k m h = asks_few d c n at vs [] [] k m h
 serves_few known d c n at form vs (Some Readl) k m h = asks_few d c n at vs [] [] k m h
 serves_few known d c n at form vs (Some Writel) k m h = asks_few d c n at vs [] [] k m h
 serves_few known d c n at form vs (Some Printk) k m h = asks_few d c n at [] [] _ k m h
 serves_few known d c n at form vs (Some RequestIrq) k m h = asks_few d c n at vs [] [] k m h
 serves_few known d c n at form vs (Some FreeIrq) k m h = asks_few d c n at vs [] [] k m h
-serves_few known d c n at form vs (Some Deliver) k m h = few_read c at (first_of vs) (natural (first_of (rest_of vs))) _ (λ bytes. asks_few d c n at [] [] bytes k m h)
+serves_few known d c n at form vs (Some Deliver) k m h = few_read c at (first_of vs) (counted (first_of (rest_of vs))) _ (λ bytes. asks_few d c n at [] [] bytes k m h)
 serves_few known d c n at form vs (Some Combolock) k m h = asks_few d c n at vs [] [] k m h
 serves_few known d c n at form vs (Some Combounlock) k m h = asks_few d c n at vs [] [] k m h
 serves_few known d c n at form vs (Some Bug) k m h = asks_few d c n at vs [] [] k m h

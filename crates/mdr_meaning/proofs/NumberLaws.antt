@@ -1,5 +1,5 @@
 -- Types are compared exactly, and each type of the table has its number.
-use Rattle.std.proofs.Common.{◌≡◌, ℕ, zero, suc, Bool, true, false, ◌&&◌, List, [], ◌∷◌, map, Some, slice_get, refl, sym, ap, ◌∙◌, subst, eqb-true, eq-eqb}
+use Rattle.std.proofs.Common.{◌≡◌, ℕ, zero, suc, ◌≤◌, Bool, true, false, ◌&&◌, List, [], ◌∷◌, map, Some, slice_get, refl, sym, ap, ◌∙◌, subst, eqb-true, eq-eqb, arith}
 use Rattle.mdr_core.specs.declared.kind.Kind.{Kind}
 use Rattle.mdr_core.specs.declared.kind.Kind.TheVariants.{U8, U16, U32, U64, S8, S16, S32, S64}
 use Rattle.mdr_core.specs.declared.types.Ty.{Ty, out-Ty, roll-Ty, out-roll-Ty, roll-out-Ty}
@@ -7,7 +7,10 @@ use Rattle.mdr_core.specs.declared.types.Ty.TheOpen.{Ty-F}
 use Rattle.mdr_core.specs.declared.types.Ty.TheFolds.{ind-Ty, map-Ty, fold-roll-Ty}
 use Rattle.mdr_core.specs.Kinds.{is_same_kind}
 use Rattle.mdr_core.specs.Layout.{chosen}
+use Rattle.mdr_core.specs.Types.{HasNumber}
+use Rattle.mdr_core.specs.declared.program.Program.{Program}
 use Rattle.mdr_meaning.specs.Numbers.{all_same, same_layers, is_same_type, number_in, ProgramsAreNumbered}
+use Rattle.mdr_meaning.specs.Values.{saturated_u32}
 
 pub left_of : (x y : Bool) → (x && y) ≡ true → x ≡ true
 left_of true y h = refl
@@ -135,6 +138,24 @@ unfolding number_in
 numbered_in [] ty i e = absurd cc
 numbered_in (t ∷ ts) ty i e = number_step (is_same_type t ty) t ty ts refl (λ q. let there = other_place t ty ts i e q in numbered_in ts ty there.0 there.1)
 
+-- which is the first such place
+first_step : (b : Bool) (t ty : Ty) (ts : List Ty) (i : ℕ) → is_same_type t ty ≡ b → slice_get (t ∷ ts) i ≡ Some ty → ((j : ℕ) → slice_get ts j ≡ Some ty → number_in ts ty ≤ j) → chosen b 0 (suc (number_in ts ty)) ≤ i
+first_step true t ty ts i q e h = omega arith
+first_step false t ty ts zero q e h = absurd (not_both (subst (λ (u : Ty). is_same_type t u ≡ true) (some_same e) (type_same t)) q)
+first_step false t ty ts (suc i) q e h = let low = h i e in omega (arith, low)
+
+number_low : (ts : List Ty) (ty : Ty) (i : ℕ) → slice_get ts i ≡ Some ty → number_in ts ty ≤ i
+unfolding number_in
+number_low [] ty i e = absurd cc
+number_low (t ∷ ts) ty i e = first_step (is_same_type t ty) t ty ts i refl e (number_low ts ty)
+
+-- a type that has a number has one of 32 bits
+pub short_number : (program : Program) (ty : Ty) → HasNumber program ty → saturated_u32 (number_in program.types ty) ≡ number_in program.types ty
+short_number program ty h = let low = number_low program.types ty h.number h.names in let fits = h.fits in omega (arith, low, fits)
+
+pub numbered_short : (program : Program) (ty : Ty) → HasNumber program ty → slice_get program.types (saturated_u32 (number_in program.types ty)) ≡ Some ty
+numbered_short program ty h = ap (slice_get program.types) (short_number program ty h) ∙ numbered_in program.types ty h.number h.names
+
 -- and no other type has it
 back_step : (b : Bool) (t ty u : Ty) (ts : List Ty) → is_same_type t ty ≡ b → (slice_get ts (number_in ts ty) ≡ Some u → u ≡ ty) → slice_get (t ∷ ts) (chosen b 0 (suc (number_in ts ty))) ≡ Some u → u ≡ ty
 back_step true t ty u ts q h e = sym (some_same e) ∙ types_exact t ty q
@@ -148,5 +169,6 @@ numbered_back (t ∷ ts) ty u e = back_step (is_same_type t ty) t ty u ts refl (
 pub programs_are_numbered : ProgramsAreNumbered
 programs_are_numbered program = record {
   names = λ ty h. numbered_in program.types ty h.number h.names;
+  short = short_number program;
   back = λ ty u e. numbered_back program.types ty u e;
 }

@@ -28,7 +28,7 @@ use Rattle.mdr_meaning.specs.Pointers.{cast, difference, global, member, moved, 
 use Rattle.mdr_meaning.specs.Sides.{Body, Side, Here, Locals, Flow, Ends, Breaks, Continues, Returns, Next, Go, Means, flow_of, framed, in_here}
 use Rattle.mdr_meaning.specs.Statements.{around, characters, declared, declared_by, leaves, on_ends, returns, stmt, stmts, texts, turn}
 use Rattle.mdr_meaning.specs.Tree.{Tree}
-use Rattle.mdr_meaning.specs.Values.{at_kind, first_of, integer, is_true, rest_of, truth, wire_of}
+use Rattle.mdr_meaning.specs.Values.{at_kind, first_of, integer, is_true, operand, rest_of, right_operand, truth, wire_of}
 use Rattle.mdr_core.specs.declared.types.Ty.{Ty, out-Ty}
 use Rattle.mdr_core.specs.declared.types.Ty.TheOpen.{Ty-F}
 use Rattle.mdr_core.specs.declared.undefined.Undefined.{Undefined}
@@ -88,7 +88,7 @@ moved_goes v n = refl
 
 field_by_goes : (known : Numbered) (v : WireView) (s f : ℕ) (x : Option Field) → Goes (field_by known v s f x)
 field_by_goes known v s f None = refl
-field_by_goes known v s f (Some x) = tt
+field_by_goes known v s f (Some x) = checked_goes _ stop.Bounds _ refl
 
 field_goes : (known : Numbered) (v : WireView) (s : Option ℕ) (f : ℕ) → Goes (field_in known v s f)
 field_goes known v None f = refl
@@ -178,12 +178,12 @@ module _ (side : Side) where
         keeps_value s (Term.Load p) = keeps_loads s p (place known at s p) (keeps_place s p)
         keeps_value s (Term.Addr p) = keeps_place s p
         keeps_value s (Term.Decay p) = keeps_place s p
-        keeps_value s (Term.Neg kind e) = keeps_tested (value known at s e) (λ x. at_kind kind (negated kind (integer x))) (λ x. kind_goes kind (negated kind (integer x))) (keeps_value s e)
-        keeps_value s (Term.Flip kind e) = keeps_made (value known at s e) (λ x. wire.Int kind (flipped kind (integer x))) (keeps_value s e)
+        keeps_value s (Term.Neg kind e) = keeps_tested (value known at s e) (λ x. at_kind kind (negated kind (operand kind x))) (λ x. kind_goes kind (negated kind (operand kind x))) (keeps_value s e)
+        keeps_value s (Term.Flip kind e) = keeps_made (value known at s e) (λ x. wire.Int kind (flipped kind (operand kind x))) (keeps_value s e)
         keeps_value s (Term.Not e) = keeps_made (value known at s e) (λ x. truth (not (is_true x))) (keeps_value s e)
         keeps_value s (Term.Bin op kind a b) =
-            keeps_then Wire Wire (value known at s a) (λ x k. value known at s b (λ y. given at (at_kind kind (operated op kind (integer x) (integer y))) k)) (keeps_value s a)
-            (λ x. keeps_tested (value known at s b) (λ y. at_kind kind (operated op kind (integer x) (integer y))) (λ y. kind_goes kind (operated op kind (integer x) (integer y))) (keeps_value s b))
+            keeps_then Wire Wire (value known at s a) (λ x k. value known at s b (λ y. given at (at_kind kind (operated op kind (operand kind x) (right_operand op kind (integer y)))) k)) (keeps_value s a)
+            (λ x. keeps_tested (value known at s b) (λ y. at_kind kind (operated op kind (operand kind x) (right_operand op kind (integer y)))) (λ y. kind_goes kind (operated op kind (operand kind x) (right_operand op kind (integer y)))) (keeps_value s b))
         keeps_value s (Term.Rel op a b) =
             keeps_then Wire Wire (value known at s a) (λ x k. value known at s b (λ y. given at (related known.program op x y) k)) (keeps_value s a)
             (λ x. keeps_tested (value known at s b) (λ y. related known.program op x y) (λ y. related_goes known.program op x y) (keeps_value s b))

@@ -12,6 +12,7 @@ use Rattle.mdr_core.specs.declared.program.Field.{Field}
 use Rattle.mdr_core.specs.declared.program.GlobalDef.{GlobalDef}
 use Rattle.mdr_core.specs.Layout.{chosen, Alone, cells, cells_at, cells_or, fields_of, field_start, leaves, leaves_below, repeated, struct_by, struct_cells, struct_of}
 use Rattle.mdr_core.specs.Sound.{IsSound}
+use Rattle.mdr_core.specs.Types.{HasNumber}
 use Rattle.mdr_core.specs.Views.{IsIn, Whole, Element, Inside}
 use Rattle.mdr_core.proofs.Laid.{laid_out, type_has_cells}
 use Rattle.mdr_core.proofs.Lying.{cells_of_struct, length-repeated}
@@ -23,8 +24,9 @@ use Rattle.mdr_meaning.specs.Bodies.{known_of, without_funcs}
 use Rattle.mdr_meaning.specs.Fair.{is_code_stop}
 use Rattle.mdr_meaning.specs.Fit.{Knowledge, KnowsGlobals, IsKnownView, PointsTo, view_of}
 use Rattle.mdr_meaning.specs.Numbers.{number_in}
-use Rattle.mdr_meaning.specs.Pointers.{at_index, global, global_by, field_in, field_view, indexed, member, moved, size, struct_numbered, struct_by as struct_named}
+use Rattle.mdr_meaning.specs.Pointers.{at_index, global, global_by, field_in, field_view, indexed, member, moved, position, size, struct_numbered, struct_by as struct_named}
 use Rattle.mdr_meaning.specs.Values.{checked}
+use Rattle.mdr_meaning.proofs.NumberLaws.{numbered_in, numbered_short}
 
 -- ---- parts of a block
 
@@ -123,9 +125,9 @@ module _ (program : Program) (sound : IsSound program) where
   struct_size n s e = size_known n ∙ ap length (cells_of_struct program n s (ty.Struct s) e (ap struct_by (outs-Struct s)))
 
   known_field : (K : Knowledge) (p : WireView) (s f : ℕ) (x : Field) → slice_get program.types p.ty ≡ Some (ty.Struct s) → slice_get (fields_of program.structs s) f ≡ Some x
-      → slice_get program.types (number_in program.types x.ty) ≡ Some x.ty → p.index < p.count → IsKnownView program K p → PointsTo program K x.ty (field_view (known_of program) p s f x)
-  known_field K p s f x e field number inside h = (
-    number,
+      → HasNumber program x.ty → p.index < p.count → IsKnownView program K p → PointsTo program K x.ty (field_view (known_of program) p s f x)
+  known_field K p s f x e field table inside h = (
+    numbered_short program x.ty table,
     record {
       shape = h.shape;
       known = h.known;
@@ -140,7 +142,7 @@ module _ (program : Program) (sound : IsSound program) where
               among = inside;
               field = field;
               begins = ap (λ n. p.first + p.index * n + field_start program.structs s f) (struct_size p.ty s e);
-              viewed = number;
+              viewed = numbered_short program x.ty table;
               many = refl;
             }) h.view.part;
         inside = omega arith;
@@ -150,21 +152,25 @@ module _ (program : Program) (sound : IsSound program) where
   )
 
   -- 6.5.2.3
-  pub member_fits : (K : Knowledge) (v : Wire) (s f : ℕ) (x : Field) → slice_get (fields_of program.structs s) f ≡ Some x → slice_get program.types (number_in program.types x.ty) ≡ Some x.ty
+  pub member_fits : (K : Knowledge) (v : Wire) (s f : ℕ) (x : Field) → slice_get (fields_of program.structs s) f ≡ Some x → HasNumber program x.ty
       → PointsTo program K (ty.Struct s) v → Yields (PointsTo program K x.ty) (member (known_of program) v f)
-  member_fits K wire.Null s f x field number h = refl
-  member_fits K wire.Dead s f x field number h = refl
-  member_fits K (wire.Ptr p) s f x field number h = by_range (nat_lt p.index p.count) refl where
+  member_fits K wire.Null s f x field table h = refl
+  member_fits K wire.Dead s f x field table h = refl
+  member_fits K (wire.Ptr p) s f x field table h = by_range (nat_lt p.index p.count) refl where
     named : struct_numbered program p.ty ≡ Some s
     named = ap struct_named h.0 ∙ ap struct_by (outs-Struct s)
 
+    by_cell : (b : Bool) → nat_lt p.index p.count ≡ true → Yields (PointsTo program K x.ty) (checked b stop.Bounds (field_view (known_of program) p s f x))
+    by_cell true q = known_field K p s f x h.0 field table (ltb-true _ _ q) h.1
+    by_cell false q = refl
+
     by_range : (b : Bool) → nat_lt p.index p.count ≡ b → Yields (PointsTo program K x.ty) (chosen b (field_in (known_of program) p (struct_numbered program p.ty) f) (Err stop.Bounds))
-    by_range true q = rw (named, field) (known_field K p s f x h.0 field number (ltb-true _ _ q) h.1)
+    by_range true q = rw (named, field) (by_cell (nat_lt (position (without_funcs program) p + field_start program.structs s f) 4294967296) q)
     by_range false q = refl
-  member_fits K (wire.Int _ _) s f x field number h = elim h [ ]
-  member_fits K (wire.Fn _) s f x field number h = elim h [ ]
-  member_fits K (wire.Lock _) s f x field number h = elim h [ ]
-  member_fits K wire.NoValue s f x field number h = elim h [ ]
+  member_fits K (wire.Int _ _) s f x field table h = elim h [ ]
+  member_fits K (wire.Fn _) s f x field table h = elim h [ ]
+  member_fits K (wire.Lock _) s f x field table h = elim h [ ]
+  member_fits K wire.NoValue s f x field table h = elim h [ ]
 
   -- another element of what is viewed, or the place behind it
   pub at_index_fits : (K : Knowledge) (t : Ty) (p : WireView) (i : ℕ) → slice_get program.types p.ty ≡ Some t → IsKnownView program K p → i ≤ p.count → PointsTo program K t (wire.Ptr (at_index p i))
@@ -204,14 +210,19 @@ module _ (program : Program) (sound : IsSound program) where
   moved_fits K t wire.NoValue n h = elim h [ ]
 
   -- 6.5.1
-  pub global_fits : (K : Knowledge) → KnowsGlobals program K → (g : ℕ) (def : GlobalDef) → slice_get program.globals g ≡ Some def → slice_get program.types (number_in program.types def.ty) ≡ Some def.ty
+  pub global_fits : (K : Knowledge) → KnowsGlobals program K → (g : ℕ) (def : GlobalDef) → slice_get program.globals g ≡ Some def → HasNumber program def.ty
       → PointsTo program K def.ty (global (known_of program) g)
-  global_fits K knows g def e number = subst (λ o. PointsTo program K def.ty (global_by (known_of program) g o)) (sym e) (
-    number,
+  global_fits K knows g def e table = subst (λ o. PointsTo program K def.ty (global_by (known_of program) g o)) (sym e) (
+    numbered_short program def.ty table,
     record {
       shape = record { ty = number_in program.types def.ty; count = def.count };
       known = knows.knows g def e;
-      view = record { ty = def.ty; names = number; part = Whole 0 def.ty def.count refl number refl; inside = omega arith };
+      view = record {
+        ty = def.ty;
+        names = numbered_in program.types def.ty table.number table.names;
+        part = Whole 0 def.ty def.count refl (numbered_short program def.ty table) refl;
+        inside = omega arith;
+      };
       small = global_small program sound g def e;
     },
   )

@@ -29,9 +29,10 @@ use Rattle.mdr_meaning.specs.Lives.{param_shapes, shape_of}
 use Rattle.mdr_meaning.specs.Bodies.{known_of}
 use Rattle.mdr_meaning.specs.Sides.{framed, undeclared}
 use Rattle.mdr_meaning.specs.Slots.{slot_fits}
+use Rattle.mdr_meaning.specs.Numbers.{type_number}
 use Rattle.mdr_meaning.specs.Values.{wire_of}
 use Rattle.mdr_meaning.proofs.GrowthLaws.{data_weaker, slot_grows}
-use Rattle.mdr_meaning.proofs.NumberLaws.{left_of, not_both, numbered_in}
+use Rattle.mdr_meaning.proofs.NumberLaws.{left_of, not_both, numbered_short}
 
 -- ---- one slot is set
 
@@ -114,7 +115,7 @@ scalar_small program t h = let many : length (repeated 1 (cells program t)) ≡ 
 
 module _ (program : Program) where
   birth_is : (s : Slot) → HasNumber program s.ty → HasNoLock program s.ty → 1 ≤ s.count → length (all_cells program s.ty s.count) ≤ 65536 → IsBirth program (shape_of (known_of program) s)
-  birth_is s table none some small = record { ty = s.ty; names = numbered_in program.types s.ty table.number table.names; no_lock = none; some = some; small = small }
+  birth_is s table none some small = record { ty = s.ty; names = numbered_short program s.ty table; no_lock = none; some = some; small = small }
 
   param_slot : (siblings : List Sibling) (p : Param) → IsSoundParam program siblings p → IsSoundSlot program (slot_of_param p)
   param_slot siblings p h =
@@ -187,9 +188,9 @@ module _ (program : Program) where
     by_object false q h = absurd cc
 
   -- a pointer to a new object is of the object's type
-  pub born_points : (K : Knowledge) (t : Ty) (p : Wire) → HasNumber program t → IsDataPointer program K (λ n. n ≡ (known_of program).number t) p → PointsTo program K t p
+  pub born_points : (K : Knowledge) (t : Ty) (p : Wire) → HasNumber program t → IsDataPointer program K (λ n. n ≡ type_number (known_of program) t) p → PointsTo program K t p
   born_points K t p table h =
-      data_weaker program K (λ n. n ≡ (known_of program).number t) (λ n. slice_get program.types n ≡ Some t) p (λ n e. ap (slice_get program.types) e ∙ numbered_in program.types t table.number table.names) h
+      data_weaker program K (λ n. n ≡ type_number (known_of program) t) (λ n. slice_get program.types n ≡ Some t) p (λ n e. ap (slice_get program.types) e ∙ numbered_short program t table) h
 
   pub holds_grows : (K K' : Knowledge) → Grows K K' → (s : Slot) (v : Wire) → Holds K s v → Holds K' s v
   holds_grows K K' g s v h = (slot_grows program K K' g s.object s.ty v h.0, h.1)

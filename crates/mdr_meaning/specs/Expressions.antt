@@ -12,7 +12,7 @@ use Rattle.mdr_meaning.specs.declared.wire.Wire.TheVariants as wire
 use Rattle.mdr_meaning.specs.Numbers.{Numbered}
 use Rattle.mdr_meaning.specs.Pointers.{global, moved, steps, member, related, difference, cast}
 use Rattle.mdr_meaning.specs.Tree.{Tree}
-use Rattle.mdr_meaning.specs.Values.{at_kind, integer, is_true, truth, wire_of}
+use Rattle.mdr_meaning.specs.Values.{at_kind, integer, is_true, operand, right_operand, truth, wire_of}
 
 -- what a slot holds; the slot of an object holds its address
 unfoldable pub slot_of : List Wire → ℕ → Wire
@@ -47,11 +47,11 @@ module _ (known : Numbered) (at : At) (slots : List Wire) where
     value (Term.Addr p) k = place p k
     value (Term.Decay p) k = place p k
     -- 6.5.3.3
-    value (Term.Neg kind e) k = value e (λ x. given at (at_kind kind (negated kind (integer x))) k)
-    value (Term.Flip kind e) k = value e (λ x. k (wire.Int kind (flipped kind (integer x))))
+    value (Term.Neg kind e) k = value e (λ x. given at (at_kind kind (negated kind (operand kind x))) k)
+    value (Term.Flip kind e) k = value e (λ x. k (wire.Int kind (flipped kind (operand kind x))))
     value (Term.Not e) k = value e (λ x. k (truth (not (is_true x))))
     -- 6.5.5 to 6.5.7, 6.5.10 to 6.5.12
-    value (Term.Bin op kind a b) k = value a (λ x. value b (λ y. given at (at_kind kind (operated op kind (integer x) (integer y))) k))
+    value (Term.Bin op kind a b) k = value a (λ x. value b (λ y. given at (at_kind kind (operated op kind (operand kind x) (right_operand op kind (integer y)))) k))
     -- 6.5.8, 6.5.9
     value (Term.Rel op a b) k = value a (λ x. value b (λ y. given at (related known.program op x y) k))
     -- the right operand is evaluated only where the left doesn't decide (6.5.13, 6.5.14, paragraph 4)

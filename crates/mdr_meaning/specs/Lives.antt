@@ -9,7 +9,7 @@ use Rattle.mdr_meaning.specs.declared.wire.Wire.{Wire}
 use Rattle.mdr_meaning.specs.declared.wire.Wire.TheVariants as wire
 use Rattle.mdr_meaning.specs.declared.shape.Shape64.{Shape64}
 use Rattle.mdr_meaning.specs.Expressions.{slot_of}
-use Rattle.mdr_meaning.specs.Numbers.{Numbered}
+use Rattle.mdr_meaning.specs.Numbers.{Numbered, type_number}
 use Rattle.mdr_meaning.specs.Sides.{Side, Here, Locals, Flow, Returns, Next, Go, in_here}
 use Rattle.mdr_meaning.specs.Tree.{Asked, Tree}
 
@@ -27,7 +27,7 @@ deaths_by false at ps t = Tree.Death at ps t
 
 -- what a slot's object is born as
 abbrev pub shape_of : Numbered → Slot → Shape64
-shape_of known s = record { ty = known.number s.ty; count = s.count }
+shape_of known s = record { ty = type_number known s.ty; count = s.count }
 
 -- the parameters that are objects
 abbrev pub object_params : ℕ → List Slot → List ℕ

@@ -8,6 +8,7 @@ use Rattle.mdr_core.specs.declared.program.Program.{Program}
 use Rattle.mdr_core.specs.Kinds.{is_same_kind}
 use Rattle.mdr_core.specs.Types.{HasNumber}
 use Rattle.mdr_core.specs.Layout.{chosen}
+use Rattle.mdr_meaning.specs.Values.{saturated_u32}
 
 -- ---- whether two types are one (C99 6.2.7: what the profile has are equal types alone)
 
@@ -45,9 +46,14 @@ pub record Numbered : Type 0 where
 abbrev pub numbered : Program → Numbered
 numbered program = record { program = program; number = number_in program.types }
 
--- each type of the table has its number there, and no other type has that number
+-- the number by which pointers and objects name a type: one of 32 bits
+abbrev pub type_number : Numbered → Ty → ℕ
+type_number known ty = saturated_u32 (known.number ty)
+
+-- each type of the table has its number there, of 32 bits, and no other type has that number
 pub record IsNumbered (known : Numbered) : Type 0 where
   pub names : (ty : Ty) → HasNumber known.program ty → slice_get known.program.types (known.number ty) ≡ Some ty
+  pub short : (ty : Ty) → HasNumber known.program ty → type_number known ty ≡ known.number ty
   pub back : (ty u : Ty) → slice_get known.program.types (known.number ty) ≡ Some u → u ≡ ty
 
 abbrev pub ProgramsAreNumbered : Type 0

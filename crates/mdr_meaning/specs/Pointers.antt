@@ -17,7 +17,7 @@ use Rattle.mdr_core.specs.Layout.{chosen, cells_at, fields_of, field_start, stru
 use Rattle.mdr_meaning.specs.declared.wire.Wire.{Wire}
 use Rattle.mdr_meaning.specs.declared.wire.Wire.TheVariants as wire
 use Rattle.mdr_meaning.specs.declared.wire.WireView.{WireView}
-use Rattle.mdr_meaning.specs.Numbers.{Numbered}
+use Rattle.mdr_meaning.specs.Numbers.{Numbered, type_number}
 use Rattle.mdr_meaning.specs.Values.{checked, truth}
 
 -- ---- where a pointer points
@@ -38,7 +38,7 @@ at_index v i = record { serial = v.serial; first = v.first; ty = v.ty; count = v
 -- to the first of all elements of a global, whose serial is its number
 abbrev pub global_by : Numbered → ℕ → Option GlobalDef → Wire
 global_by known g None = wire.Null
-global_by known g (Some def) = wire.Ptr (record { serial = g; first = 0; ty = known.number def.ty; count = def.count; index = 0 })
+global_by known g (Some def) = wire.Ptr (record { serial = g; first = 0; ty = type_number known def.ty; count = def.count; index = 0 })
 
 abbrev pub global : Numbered → ℕ → Wire
 global known g = global_by known g (slice_get known.program.globals g)
@@ -70,14 +70,15 @@ abbrev pub field_view : Numbered → WireView → (s f : ℕ) → Field → Wire
 field_view known v s f x = wire.Ptr (record {
   serial = v.serial;
   first = position known.program v + field_start known.program.structs s f;
-  ty = known.number x.ty;
+  ty = type_number known x.ty;
   count = x.count;
   index = 0;
 })
 
+-- there is one where its first cell has a number of 32 bits, as each cell of a block has
 abbrev pub field_by : Numbered → WireView → (s f : ℕ) → Option Field → Result Wire StopKind
 field_by known v s f None = Err stop.Bounds
-field_by known v s f (Some x) = Ok (field_view known v s f x)
+field_by known v s f (Some x) = checked (nat_lt (position known.program v + field_start known.program.structs s f) 4294967296) stop.Bounds (field_view known v s f x)
 
 abbrev pub field_in : Numbered → WireView → Option ℕ → (f : ℕ) → Result Wire StopKind
 field_in known v None f = Err stop.Bounds

@@ -6,11 +6,11 @@ use Rattle.std.specs.Int.{int_rem_euclid}
 use Rattle.mdr_core.specs.Services.{Reading, Plain, Percent, Long}
 use Rattle.mdr_core.specs.Layout.{chosen}
 use Rattle.mdr_meaning.specs.declared.wire.Wire.{Wire}
-use Rattle.mdr_meaning.specs.Values.{first_of, integer, natural_of, rest_of}
+use Rattle.mdr_meaning.specs.Values.{first_of, integer, natural_of, rest_of, saturated_u64}
 
--- a number by its directive's letter: `d`, `c` (its low byte), `x`, else `u`
+-- a number by its directive's letter: `d`, `c` (its low byte), `x`, else `u`; these two print one of 64 bits
 abbrev pub shown : (letter : ℕ) → ℤ → List ℕ
-shown letter n = chosen (letter == 100) (signed_decimal n) (chosen (letter == 99) (unsigned_abs (int_rem_euclid n (pos 256)) ∷ []) (chosen (letter == 120) (digits 16 false (natural_of n)) (decimal (natural_of n))))
+shown letter n = chosen (letter == 100) (signed_decimal n) (chosen (letter == 99) (unsigned_abs (int_rem_euclid n (pos 256)) ∷ []) (chosen (letter == 120) (digits 16 false (saturated_u64 (natural_of n))) (decimal (saturated_u64 (natural_of n)))))
 
 -- what follows a text's byte
 abbrev pub behind : (List Wire → List ℕ) → ℕ → List Wire → List ℕ

@@ -18,7 +18,7 @@ use Rattle.mdr_meaning.specs.Lives.{births, in_block, shape_of, with_object}
 use Rattle.mdr_meaning.specs.Pointers.{at_index}
 use Rattle.mdr_meaning.specs.Sides.{Side, Here, Ends, Breaks, Returns, Next, Go, Means, flow_of, in_here}
 use Rattle.mdr_meaning.specs.Tree.{Tree}
-use Rattle.mdr_meaning.specs.Values.{first_of, is_true, wire_of}
+use Rattle.mdr_meaning.specs.Values.{first_of, is_true, saturated_u32, wire_of}
 
 -- ---- ways through statements
 
@@ -49,7 +49,7 @@ characters (Some s) = kind_by (out-Ty s.ty)
 
 -- element i of an array
 abbrev pub element : Wire → ℕ → Wire
-element (wire.Ptr v) i = wire.Ptr (at_index v (v.index + i))
+element (wire.Ptr v) i = wire.Ptr (at_index v (saturated_u32 (v.index + i)))
 element v i = v
 
 -- the bytes of a text are stored in the elements from i on

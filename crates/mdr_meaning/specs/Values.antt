@@ -1,7 +1,9 @@
 -- believed
 -- Values as trees have them.
-use Rattle.std.specs.Prelude.{ℕ, Bool, true, false, not, List, [], ◌∷◌, ℤ, pos, negsuc, Result, Ok, Err}
+use Rattle.std.specs.Prelude.{ℕ, min, Bool, true, false, not, List, [], ◌∷◌, ℤ, pos, negsuc, Result, Ok, Err}
 use Rattle.std.specs.Ordering.{int_eq}
+use Rattle.mdr_core.specs.declared.code.BinOp.{BinOp}
+use Rattle.mdr_core.specs.declared.code.BinOp.TheVariants.{Shl, Shr}
 use Rattle.mdr_core.specs.declared.kind.Kind.{Kind}
 use Rattle.mdr_core.specs.declared.kind.Kind.TheVariants.{S32}
 use Rattle.mdr_core.specs.declared.stop.StopKind.{StopKind}
@@ -11,6 +13,7 @@ use Rattle.mdr_core.specs.declared.undefined.Undefined.TheVariants as undefined
 use Rattle.mdr_core.specs.declared.value.Value.{Value}
 use Rattle.mdr_core.specs.declared.value.Value.TheVariants as value
 use Rattle.mdr_core.specs.declared.value.View.{View}
+use Rattle.mdr_core.specs.Conversions.{converted}
 use Rattle.mdr_meaning.specs.declared.wire.Wire.{Wire}
 use Rattle.mdr_meaning.specs.declared.wire.Wire.TheVariants as wire
 use Rattle.mdr_meaning.specs.declared.wire.WireView.{WireView}
@@ -48,6 +51,25 @@ natural_of (negsuc n) = 0
 -- the same where it isn't negative
 abbrev pub natural : Wire → ℕ
 natural v = natural_of (integer v)
+
+-- a number as one of 32 or of 64 bits: the greatest of these where it is greater, which no number of a sound program is
+abbrev pub saturated_u32 : ℕ → ℕ
+saturated_u32 n = min n 4294967295
+
+abbrev pub saturated_u64 : ℕ → ℕ
+saturated_u64 n = min n 18446744073709551615
+
+-- ---- operators
+
+-- what an operator works on at a kind (6.3.1.8)
+abbrev pub operand : Kind → Wire → ℤ
+operand kind v = converted kind (integer v)
+
+-- the same of the number to its right: the count of a shift has a kind of its own (6.5.7, paragraph 3)
+abbrev pub right_operand : BinOp → Kind → ℤ → ℤ
+right_operand Shl kind n = n
+right_operand Shr kind n = n
+right_operand op kind n = converted kind n
 
 -- what an operator leaves undefined stops (6.5, paragraph 5; 6.5.5, paragraph 5; 6.5.7, paragraph 3)
 abbrev pub stop_of : Undefined → StopKind

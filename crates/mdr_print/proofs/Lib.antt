@@ -1,3 +1,4 @@
 pub mod Folds
 pub mod Reading
+pub mod Rows
 pub mod Steps

@@ -20,7 +20,7 @@ use Rattle.mdr_core.specs.Typing.{AreTyped, CallGives, Designates, GoesTo, IsTyp
 use Rattle.mdr_meaning.specs.declared.shape.Shape64.{Shape64}
 use Rattle.mdr_meaning.specs.declared.wire.Wire.{Wire}
 use Rattle.mdr_meaning.specs.declared.wire.Wire.TheVariants as wire
-use Rattle.mdr_meaning.specs.Asking.{allocated, asks as asks_for, serves, serves_by}
+use Rattle.mdr_meaning.specs.Asking.{allocated, asks as asks_for, counted, serves, serves_by}
 use Rattle.mdr_meaning.specs.Bodies.{body_by, body_from, body_of, known_of, means, started}
 use Rattle.mdr_meaning.specs.Calls.{call, call_by, deep, direct, enters, function_of, goes_to, keep, put, through}
 use Rattle.mdr_meaning.specs.Expressions.{given, place, slot_of}
@@ -32,7 +32,7 @@ use Rattle.mdr_meaning.specs.Printed.{print_text}
 use Rattle.mdr_meaning.specs.Sides.{Body, Side, Here, Locals, Flow, Ends, Breaks, Continues, Returns, Next, Go, Means, flow_of, framed, in_here}
 use Rattle.mdr_meaning.specs.Statements.{around, characters, declared, declared_by, leaves, on_ends, returns, stmt, stmts, texts, turn}
 use Rattle.mdr_meaning.specs.Tree.{Tree}
-use Rattle.mdr_meaning.specs.Values.{first_of, is_true, natural, rest_of, wire_of}
+use Rattle.mdr_meaning.specs.Values.{first_of, is_true, rest_of, wire_of}
 use Rattle.mdr_scoped.specs.Current.{AreCurrent, AsksCurrent, Behind, Current, IsCurrent, KnowsLives, Lives, ScopedTreesAreCurrent, without}
 use Rattle.mdr_scoped.specs.Scopes.{BodyScoped, CalleeScoped, CodeScoped, CodesScoped, GoalScoped, IsScoped, LvalueScoped, OptionScoped, TermsScoped, behind, is_object, is_there}
 use Rattle.mdr_scoped.proofs.LivingLaws.{AreKept, AreObjects, IsAmong, IsFrame, all_current, all_kept, among_right, born_frame, current_after, current_same, fewer_kept, fewer_named, kept_frame, kept_then, living_left, living_right, none_before, one_more, same_rest, set_keeps, set_other, set_same, size_set, slot_apart, still_lives}
@@ -428,7 +428,7 @@ module _ (program : Program) (sound : IsSound program) (scoped : IsScoped progra
 
     serves_current : (form : CallOf) (signature : Signature) (s : Service) → service_numbered n ≡ Some s → offered s form.shape form.format ≡ Some signature → (vs : List Wire) → AreCurrent lives vs → C lives live (serves_by (known_of program) n at form vs (Some s) k)
     serves_current form signature Kzalloc is o vs h = numbered Kzalloc [] (allocated (known_of program) form.shape 1) [] is (asked_current [] tt)
-    serves_current form signature Kcalloc is o vs h = numbered Kcalloc [] (allocated (known_of program) form.shape (natural (first_of vs))) [] is (asked_current [] tt)
+    serves_current form signature Kcalloc is o vs h = numbered Kcalloc [] (allocated (known_of program) form.shape (counted (first_of vs))) [] is (asked_current [] tt)
     serves_current form signature Kfree is o vs h = numbered Kfree vs [] [] is (asked_current vs h)
     serves_current form signature Readl is o vs h = numbered Readl vs [] [] is (asked_current vs h)
     serves_current form signature Writel is o vs h = numbered Writel vs [] [] is (asked_current vs h)

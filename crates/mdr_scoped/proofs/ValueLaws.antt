@@ -29,7 +29,7 @@ use Rattle.mdr_meaning.specs.Expressions.{given, gives, loads, place, read, slot
 use Rattle.mdr_meaning.specs.Numbers.{Numbered}
 use Rattle.mdr_meaning.specs.Pointers.{become_by, cast, difference, field_by, field_in, global, global_by, member, moved, ordered, related, steps, struct_numbered}
 use Rattle.mdr_meaning.specs.Tree.{Tree}
-use Rattle.mdr_meaning.specs.Values.{at_kind, checked, first_of, integer, is_true, rest_of, truth, wire_of}
+use Rattle.mdr_meaning.specs.Values.{at_kind, checked, first_of, integer, is_true, operand, rest_of, right_operand, truth, wire_of}
 use Rattle.mdr_scoped.specs.Current.{AreCurrent, Current, IsCurrent, KnowsLives, Lives}
 use Rattle.mdr_scoped.specs.Scopes.{LvalueScoped, TermScoped, TermsScoped}
 use Rattle.mdr_scoped.proofs.LivingLaws.{IsFrame, living_current}
@@ -63,7 +63,7 @@ moved_current lives wire.NoValue n h = tt
 
 field_current : (lives : Lives) (known : Numbered) (p : WireView) (s f : ℕ) (o : Option Field) → lives p.serial ≡ true → ResultCurrent lives (field_by known p s f o)
 field_current lives known p s f None h = tt
-field_current lives known p s f (Some x) h = h
+field_current lives known p s f (Some x) h = checked_current lives _ _ _ h
 
 fields_current : (lives : Lives) (known : Numbered) (p : WireView) (o : Option ℕ) (f : ℕ) → lives p.serial ≡ true → ResultCurrent lives (field_in known p o f)
 fields_current lives known p None f h = tt
@@ -266,11 +266,11 @@ module _ (program : Program) (lives : Lives) (own : List Wire) (knows : KnowsLiv
       value_current (Term.Load p) t h c = loads_current at s p (place (known_of program) at s p) (place_current p (One t) h.object c)
       value_current (Term.Addr p) t h c = place_current p (One h.type) h.object c
       value_current (Term.Decay p) t h c = place_current p (Many h.type h.count) h.array c
-      value_current (Term.Neg kind e) t h c = record { by = λ k each. (value_current e _ h.operand c).by _ (λ x a. (given_current at _ (kind_current lives kind (negated kind (integer x)))).by k each) }
+      value_current (Term.Neg kind e) t h c = record { by = λ k each. (value_current e _ h.operand c).by _ (λ x a. (given_current at _ (kind_current lives kind (negated kind (operand kind x)))).by k each) }
       value_current (Term.Flip kind e) t h c = record { by = λ k each. (value_current e _ h.operand c).by _ (λ x a. each _ tt) }
       value_current (Term.Not e) t h c = record { by = λ k each. (value_current e _ h.operand.operand c).by _ (λ x a. each _ (truth_current lives (not (is_true x)))) }
       value_current (Term.Bin op kind a b) t h c = record {
-        by = λ k each. (value_current a _ h.left c.0).by _ (λ x i. (right_current op kind (V b) (Has program slots b) (λ u x. value_current b u x c.1) h.right).by _ (λ y j. (given_current at _ (kind_current lives kind (operated op kind (integer x) (integer y)))).by k each));
+        by = λ k each. (value_current a _ h.left c.0).by _ (λ x i. (right_current op kind (V b) (Has program slots b) (λ u x. value_current b u x c.1) h.right).by _ (λ y j. (given_current at _ (kind_current lives kind (operated op kind (operand kind x) (right_operand op kind (integer y))))).by k each));
       }
       value_current (Term.Rel op a b) t h c = record {
         by = λ k each. (value_current a _ h.left c.0).by _ (λ x i. (value_current b _ h.right c.1).by _ (λ y j. (given_current at _ (related_current lives (known_of program).program op x y)).by k each));

@@ -20,11 +20,11 @@ fn global_arg(alloc: Global, bytes: &[u8]) -> Result<ArgText, Unread>
 }
 
 #[tactic(auto, unfolding(crate::specs::Lines::integer_arg))]
-fn integer_arg(any: bool, word: &[u8]) -> Result<ArgText, Unread>
-    ensures { Gives (λ a. a) result (integer_arg any word.now) }
+fn integer_arg(any: bool, word: &[u8]) -> Option<ArgText>
+    ensures { result ≡ integer_arg any word.now }
 {
     let n = integer_of(any, word)?;
-    Ok(ArgText::Int(n))
+    Some(ArgText::Int(n))
 }
 
 /// An argument that isn't `null`.
@@ -34,7 +34,7 @@ fn other_arg(alloc: Global, any: bool, word: &[u8]) -> Result<ArgText, Unread>
     match word {
         [] => Err(Unread::Refused),
         [b'&', name @ ..] => global_arg(alloc, name),
-        _ => integer_arg(any, word),
+        _ => integer_arg(any, word).ok_or(Unread::Refused),
     }
 }
 

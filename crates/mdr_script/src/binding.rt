@@ -1,6 +1,6 @@
 // Binding a script to a program.
 
-ghost use Rattle.std.specs.Prelude.{◌≡◌, [], Ok, slice_get};
+ghost use Rattle.std.specs.Prelude.{◌≡◌, [], slice_get};
 ghost use Rattle.std.specs.List.{position};
 ghost use Rattle.mdr_script.specs.Scripts.{Told};
 ghost use Rattle.mdr_script.specs.Binding.{Binds, LineBinds, func_number, values_bound, called, call_by, call_bound, show_bound, command_bound, commands_behind, bound_of};
@@ -41,15 +41,6 @@ fn bind_values(
     }
 }
 
-fn called(number: usize, values: Items<Value>) -> Result<Command, Unbound>
-    ensures { Binds result (called number (Ok values)) }
-{
-    match small(number) {
-        Ok(number) => Ok(Command::Call(number, values)),
-        Err(_) => Err(Unbound::OutOfMemory),
-    }
-}
-
 /// A call of a function with these parameters.
 fn call_with(
     alloc: Global,
@@ -60,8 +51,9 @@ fn call_with(
 ) -> Result<Command, Unbound>
     ensures { Binds result (called number (values_bound program.now params.now args.now)) }
 {
+    let number = small(number)?;
     match bind_values(alloc, program, params, args) {
-        Ok(values) => called(number, values),
+        Ok(values) => Ok(Command::Call(number, values)),
         Err(e) => Err(e),
     }
 }

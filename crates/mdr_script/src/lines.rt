@@ -14,14 +14,14 @@ use crate::words::{begins_hash, ends, name_of, word_at};
 use std::alloc::Global;
 
 #[tactic(auto, unfolding(crate::specs::Lines::reg_line))]
-fn reg_line(any: bool, bytes: &[u8]) -> Result<Line, Unread>
-    ensures { Gives (λ l. l) result (reg_line any bytes.now) }
+fn reg_line(any: bool, bytes: &[u8]) -> Option<Line>
+    ensures { result ≡ reg_line any bytes.now }
 {
     let ((reg, value), rest) = reg_value(any, bytes)?;
     if ends(rest) {
-        Ok(Line::Word(reg, value))
+        Some(Line::Word(reg, value))
     } else {
-        Err(Unread::Refused)
+        None
     }
 }
 
@@ -34,14 +34,14 @@ fn on_line(alloc: Global, any: bool, bytes: &[u8]) -> Result<Line, Unread>
 }
 
 #[tactic(auto, unfolding(crate::specs::Lines::fail_line))]
-fn fail_line(any: bool, bytes: &[u8]) -> Result<Line, Unread>
-    ensures { Gives (λ l. l) result (fail_line any bytes.now) }
+fn fail_line(any: bool, bytes: &[u8]) -> Option<Line>
+    ensures { result ≡ fail_line any bytes.now }
 {
     let (which, rest) = which_at(any, bytes)?;
     if ends(rest) {
-        Ok(Line::Fail(which))
+        Some(Line::Fail(which))
     } else {
-        Err(Unread::Refused)
+        None
     }
 }
 
@@ -56,14 +56,14 @@ fn call_line(alloc: Global, any: bool, bytes: &[u8]) -> Result<Line, Unread>
 }
 
 #[tactic(auto, unfolding(crate::specs::Lines::idle_line))]
-fn idle_line(any: bool, bytes: &[u8]) -> Result<Line, Unread>
-    ensures { Gives (λ l. l) result (idle_line any bytes.now) }
+fn idle_line(any: bool, bytes: &[u8]) -> Option<Line>
+    ensures { result ≡ idle_line any bytes.now }
 {
     let (ticks, rest) = idle_at(any, bytes)?;
     if ends(rest) {
-        Ok(Line::Command(LineWhat::Idle(ticks)))
+        Some(Line::Command(LineWhat::Idle(ticks)))
     } else {
-        Err(Unread::Refused)
+        None
     }
 }
 
@@ -86,11 +86,11 @@ fn setup_line(alloc: Global, any: bool, word: &[u8], bytes: &[u8]) -> Result<Lin
     ensures { Gives (λ l. l) result (setup_line any word.now bytes.now) }
 {
     if word == b"reg".as_slice() {
-        reg_line(any, bytes)
+        reg_line(any, bytes).ok_or(Unread::Refused)
     } else if word == b"on".as_slice() {
         on_line(alloc, any, bytes)
     } else if word == b"failalloc".as_slice() {
-        fail_line(any, bytes)
+        fail_line(any, bytes).ok_or(Unread::Refused)
     } else {
         Err(Unread::Refused)
     }
@@ -103,7 +103,7 @@ fn line_by(alloc: Global, any: bool, word: &[u8], bytes: &[u8]) -> Result<Line, 
     if word == b"call".as_slice() {
         call_line(alloc, any, bytes)
     } else if word == b"idle".as_slice() {
-        idle_line(any, bytes)
+        idle_line(any, bytes).ok_or(Unread::Refused)
     } else if word == b"show".as_slice() {
         show_line(alloc, bytes)
     } else {

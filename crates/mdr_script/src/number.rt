@@ -1,14 +1,12 @@
 // Numbers, and the ranges in which they lie.
 
-ghost use Rattle.std.specs.Prelude.{◌≡◌, ◌≤◌, ◌<◌, ◌-◌, ◌+◌, ◌*◌, ◌^◌, ◌&&◌, not, min, length, None, IfOk};
+ghost use Rattle.std.specs.Prelude.{◌≡◌, ◌≤◌, ◌<◌, ◌-◌, ◌+◌, ◌*◌, ◌^◌, ◌&&◌, not, min, length, None, IfSome};
 ghost use Rattle.std.specs.List.{list_all};
 ghost use Rattle.std.specs.Option.{option_map};
 ghost use Rattle.mdr_syntax.specs.Numbers.{digit_of, is_digit_of};
-ghost use Rattle.mdr_script.specs.Gives.{Gives};
 ghost use Rattle.mdr_script.specs.Words.{is_empty};
 ghost use Rattle.mdr_script.specs.Numbers.{value_of, hex_digits, is_canonical, hexadecimal_of, decimal_of, number_of, fitted, number_in, reg_at, value_at, count_at, ticks_at, which_at, idle_at, positive, negative, positive_of, negative_of, integer_of};
 
-use crate::unread::Unread;
 use crate::words::piece_at;
 
 /// What a digit is worth; 16 for what is no digit.
@@ -119,135 +117,130 @@ fn number_of(word: &[u8]) -> Option<u128>
 
 /// A number in its range, or the least one of this where any will do.
 #[tactic(auto, unfolding(crate::specs::Numbers::fitted))]
-fn fitted(any: bool, low: u64, high: u64, n: u128) -> Result<u64, Unread>
+fn fitted(any: bool, low: u64, high: u64, n: u128) -> Option<u64>
     requires { low ≤ high }
-    ensures value { Gives (λ m. m) result (fitted any low high n) }
-    ensures most { IfOk result (λ m. m ≤ high) }
+    ensures value { result ≡ fitted any low high n }
+    ensures most { IfSome result (λ m. m ≤ high) }
 {
     if u128::from(low) <= n && n <= u128::from(high) {
-        Ok(n as u64)
+        Some(n as u64)
     } else if any {
-        Ok(low)
+        Some(low)
     } else {
-        Err(Unread::Refused)
+        None
     }
 }
 
 /// A number in its range, and what stands behind it.
 #[tactic(auto, unfolding(crate::specs::Numbers::number_in))]
-fn number_in(any: bool, low: u64, high: u64, bytes: &[u8]) -> Result<(u64, &[u8]), Unread>
+fn number_in(any: bool, low: u64, high: u64, bytes: &[u8]) -> Option<(u64, &[u8])>
     requires { low ≤ high }
-    ensures value { Gives (λ x. (x.0, x.1.now)) result (number_in any low high bytes.now) }
-    ensures most { IfOk result (λ x. x.0 ≤ high) }
+    ensures value { option_map (λ x. (x.0, x.1.now)) result ≡ number_in any low high bytes.now }
+    ensures most { IfSome result (λ x. x.0 ≤ high) }
 {
     let (word, rest) = piece_at(bytes);
-    match number_of(word) {
-        Some(n) => Ok((fitted(any, low, high, n)?, rest)),
-        None => Err(Unread::Refused),
-    }
+    let n = number_of(word)?;
+    let n = fitted(any, low, high, n)?;
+    Some((n, rest))
 }
 
 /// A register.
-pub fn reg_at(any: bool, bytes: &[u8]) -> Result<(u32, &[u8]), Unread>
-    ensures { Gives (λ x. (x.0, x.1.now)) result (reg_at any bytes.now) }
+pub fn reg_at(any: bool, bytes: &[u8]) -> Option<(u32, &[u8])>
+    ensures { option_map (λ x. (x.0, x.1.now)) result ≡ reg_at any bytes.now }
 {
     let (n, rest) = number_in(any, 0, 4095, bytes)?;
-    Ok((n as u32, rest))
+    Some((n as u32, rest))
 }
 
 /// A word of 32 bits.
-pub fn value_at(any: bool, bytes: &[u8]) -> Result<(u32, &[u8]), Unread>
-    ensures { Gives (λ x. (x.0, x.1.now)) result (value_at any bytes.now) }
+pub fn value_at(any: bool, bytes: &[u8]) -> Option<(u32, &[u8])>
+    ensures { option_map (λ x. (x.0, x.1.now)) result ≡ value_at any bytes.now }
 {
     let (n, rest) = number_in(any, 0, 0xffff_ffff, bytes)?;
-    Ok((n as u32, rest))
+    Some((n as u32, rest))
 }
 
 /// A count-down.
-pub fn count_at(any: bool, bytes: &[u8]) -> Result<(u32, &[u8]), Unread>
-    ensures { Gives (λ x. (x.0, x.1.now)) result (count_at any bytes.now) }
+pub fn count_at(any: bool, bytes: &[u8]) -> Option<(u32, &[u8])>
+    ensures { option_map (λ x. (x.0, x.1.now)) result ≡ count_at any bytes.now }
 {
     let (n, rest) = number_in(any, 0, 15, bytes)?;
-    Ok((n as u32, rest))
+    Some((n as u32, rest))
 }
 
 /// How many ticks a count-down has.
-pub fn ticks_at(any: bool, bytes: &[u8]) -> Result<(u32, &[u8]), Unread>
-    ensures { Gives (λ x. (x.0, x.1.now)) result (ticks_at any bytes.now) }
+pub fn ticks_at(any: bool, bytes: &[u8]) -> Option<(u32, &[u8])>
+    ensures { option_map (λ x. (x.0, x.1.now)) result ≡ ticks_at any bytes.now }
 {
     let (n, rest) = number_in(any, 1, 0xffff_ffff, bytes)?;
-    Ok((n as u32, rest))
+    Some((n as u32, rest))
 }
 
 /// Which of all allocations or ticks.
-pub fn which_at(any: bool, bytes: &[u8]) -> Result<(u64, &[u8]), Unread>
-    ensures { Gives (λ x. (x.0, x.1.now)) result (which_at any bytes.now) }
+pub fn which_at(any: bool, bytes: &[u8]) -> Option<(u64, &[u8])>
+    ensures { option_map (λ x. (x.0, x.1.now)) result ≡ which_at any bytes.now }
 {
     number_in(any, 1, u64::MAX, bytes)
 }
 
 /// How many ticks are idle.
-pub fn idle_at(any: bool, bytes: &[u8]) -> Result<(u64, &[u8]), Unread>
-    ensures { Gives (λ x. (x.0, x.1.now)) result (idle_at any bytes.now) }
+pub fn idle_at(any: bool, bytes: &[u8]) -> Option<(u64, &[u8])>
+    ensures { option_map (λ x. (x.0, x.1.now)) result ≡ idle_at any bytes.now }
 {
     number_in(any, 1, 100_000_000, bytes)
 }
 
 /// A number without a sign as an integer.
-fn positive(any: bool, n: u128) -> Result<i128, Unread>
-    ensures { Gives (λ i. i) result (positive any n) }
+fn positive(any: bool, n: u128) -> Option<i128>
+    ensures { result ≡ positive any n }
 {
     if n < 1 << 127 {
-        Ok(n as i128)
+        Some(n as i128)
     } else if any {
-        Ok(0)
+        Some(0)
     } else {
-        Err(Unread::Refused)
+        None
     }
 }
 
 /// A number with a minus as an integer.
-fn negative(any: bool, n: u128) -> Result<i128, Unread>
-    ensures { Gives (λ i. i) result (negative any n) }
+fn negative(any: bool, n: u128) -> Option<i128>
+    ensures { result ≡ negative any n }
 {
     if n == 0 {
-        Ok(0)
+        Some(0)
     } else if n <= 1 << 127 {
-        Ok(-((n - 1) as i128) - 1)
+        Some(-((n - 1) as i128) - 1)
     } else if any {
-        Ok(0)
+        Some(0)
     } else {
-        Err(Unread::Refused)
+        None
     }
 }
 
 #[tactic(auto, unfolding(crate::specs::Numbers::positive_of))]
-fn positive_of(any: bool, word: &[u8]) -> Result<i128, Unread>
-    ensures { Gives (λ i. i) result (positive_of any word.now) }
+fn positive_of(any: bool, word: &[u8]) -> Option<i128>
+    ensures { result ≡ positive_of any word.now }
 {
-    match number_of(word) {
-        Some(n) => positive(any, n),
-        None => Err(Unread::Refused),
-    }
+    let n = number_of(word)?;
+    positive(any, n)
 }
 
 #[tactic(auto, unfolding(crate::specs::Numbers::negative_of))]
-fn negative_of(any: bool, word: &[u8]) -> Result<i128, Unread>
-    ensures { Gives (λ i. i) result (negative_of any word.now) }
+fn negative_of(any: bool, word: &[u8]) -> Option<i128>
+    ensures { result ≡ negative_of any word.now }
 {
-    match number_of(word) {
-        Some(n) => negative(any, n),
-        None => Err(Unread::Refused),
-    }
+    let n = number_of(word)?;
+    negative(any, n)
 }
 
 /// A number with or without a sign.
 #[tactic(auto, unfolding(crate::specs::Numbers::integer_of))]
-pub fn integer_of(any: bool, word: &[u8]) -> Result<i128, Unread>
-    ensures { Gives (λ i. i) result (integer_of any word.now) }
+pub fn integer_of(any: bool, word: &[u8]) -> Option<i128>
+    ensures { result ≡ integer_of any word.now }
 {
     match word {
-        [] => Err(Unread::Refused),
+        [] => None,
         [b'-', digits @ ..] => negative_of(any, digits),
         _ => positive_of(any, word),
     }

@@ -51,31 +51,29 @@ pub fn has_unknown(globals: &[GlobalDef], args: &[ArgText]) -> bool
     args.iter().any(|arg| is_unknown(globals, arg))
 }
 
-fn bind_int(ty: &Ty, n: i128) -> Result<Value, Unbound>
-    ensures { Binds result (int_bound (out-Ty ty.now) n) }
+fn bind_int(ty: &Ty, n: i128) -> Result<Value, ScriptKind>
+    ensures { result ≡ int_bound (out-Ty ty.now) n }
 {
     match ty {
         Ty::Int(kind) => {
             if kind.contains(n) {
                 Ok(Value::Int(*kind, n))
             } else {
-                Err(Unbound::Kind(ScriptKind::Range))
+                Err(ScriptKind::Range)
             }
         }
         Ty::Lock | Ty::Struct(_) | Ty::Ptr(_) | Ty::VoidPtr | Ty::Fun(_) | Ty::Void => {
-            Err(Unbound::Kind(ScriptKind::ArgKind))
+            Err(ScriptKind::ArgKind)
         }
     }
 }
 
-fn bind_null(ty: &Ty) -> Result<Value, Unbound>
-    ensures { Binds result (null_bound (out-Ty ty.now)) }
+fn bind_null(ty: &Ty) -> Result<Value, ScriptKind>
+    ensures { result ≡ null_bound (out-Ty ty.now) }
 {
     match ty {
         Ty::Ptr(_) | Ty::VoidPtr | Ty::Fun(_) => Ok(Value::Null),
-        Ty::Int(_) | Ty::Lock | Ty::Struct(_) | Ty::Void => {
-            Err(Unbound::Kind(ScriptKind::ArgKind))
-        }
+        Ty::Int(_) | Ty::Lock | Ty::Struct(_) | Ty::Void => Err(ScriptKind::ArgKind),
     }
 }
 
@@ -142,8 +140,14 @@ fn bind_arg(program: &Program, ty: &Ty, arg: &ArgText) -> Result<Value, Unbound>
     ensures { Binds result (arg_bound program.now ty.now arg.now) }
 {
     match arg {
-        ArgText::Int(n) => bind_int(ty, *n),
-        ArgText::Null => bind_null(ty),
+        ArgText::Int(n) => match bind_int(ty, *n) {
+            Ok(value) => Ok(value),
+            Err(kind) => Err(Unbound::Kind(kind)),
+        },
+        ArgText::Null => match bind_null(ty) {
+            Ok(value) => Ok(value),
+            Err(kind) => Err(Unbound::Kind(kind)),
+        },
         ArgText::Global(name) => bind_address(program, ty, name.as_slice()),
     }
 }

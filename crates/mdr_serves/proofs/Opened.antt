@@ -27,8 +27,9 @@ use Rattle.mdr_extents.specs.Around.{key_of}
 use Rattle.mdr_extents.specs.Extent.{is_touched}
 use Rattle.mdr_meaning.specs.declared.shape.Shape64.{Shape64}
 use Rattle.mdr_meaning.specs.Bodies.{known_of}
+use Rattle.mdr_meaning.specs.Numbers.{type_number}
 use Rattle.mdr_meaning.specs.Lives.{param_shapes, shape_of}
-use Rattle.mdr_meaning.proofs.NumberLaws.{numbered_in}
+use Rattle.mdr_meaning.proofs.NumberLaws.{numbered_short}
 use Rattle.mdr_model.specs.declared.message.BirthKind.TheVariants.{Auto}
 use Rattle.mdr_model.specs.Memory.{leaves_of}
 use Rattle.mdr_paths.specs.Chains.{Chain}
@@ -111,10 +112,10 @@ param_form (q ∷ ps) forms (suc i) p e object = behind q.object (param_form ps 
 
 module _ (program : Program) (sound : IsSound program) (halves : List Half) where
   -- what a function touches of its own parameters' objects
-  param_touched : (f : ℕ) (func : Func) → slice_get program.funcs f ≡ Some func → (i : ℕ) (p : Param) → slice_get func.params i ≡ Some p → p.object ≡ true → IsTouched program halves f (key.Elem ((known_of program).number p.ty))
+  param_touched : (f : ℕ) (func : Func) → slice_get program.funcs f ≡ Some func → (i : ℕ) (p : Param) → slice_get func.params i ≡ Some p → p.object ≡ true → IsTouched program halves f (key.Elem (type_number (known_of program) p.ty))
   param_touched f func names i p e object =
       let rules = (sound.funcs f func names).params i p e in
-      let numbered : slice_get program.types ((known_of program).number p.ty) ≡ Some p.ty = numbered_in program.types p.ty rules.in_table.number rules.in_table.names in
+      let numbered : slice_get program.types (type_number (known_of program) p.ty) ≡ Some p.ty = numbered_short program p.ty rules.in_table in
       let scalar : IsTrue (is_scalar p.ty) = scalar_is _ p.ty rules.sort in
       record {
         func = f;
@@ -123,8 +124,8 @@ module _ (program : Program) (sound : IsSound program) (halves : List Half) wher
         names = names;
         form = Form.Whole p.ty;
         one = param_form func.params _ i p e object;
-        has = record { number = (known_of program).number p.ty; names = numbered; cell = 0; is = element_key program ((known_of program).number p.ty) p.ty numbered scalar };
-        kept = element_kept program ((known_of program).number p.ty) p.ty numbered scalar;
+        has = record { number = type_number (known_of program) p.ty; names = numbered; cell = 0; is = element_key program (type_number (known_of program) p.ty) p.ty numbered scalar };
+        kept = element_kept program (type_number (known_of program) p.ty) p.ty numbered scalar;
       }
 
   -- code that may touch all that the function may touches those
@@ -135,9 +136,9 @@ module _ (program : Program) (sound : IsSound program) (halves : List Half) wher
     param_open : (i : ℕ) (p : Param) → slice_get func.params i ≡ Some p → p.object ≡ true → IsOpen (shape_of (known_of program) (slot_of_param p))
     param_open i p e object serial later =
         let rules = (sound.funcs f func names).params i p e in
-        let numbered : slice_get program.types ((known_of program).number p.ty) ≡ Some p.ty = numbered_in program.types p.ty rules.in_table.number rules.in_table.names in
-        object_touched program ((known_of program).number p.ty) p.ty numbered (scalar_is _ p.ty rules.sort) touched
-        (all (key.Elem ((known_of program).number p.ty)) ((are.exact (key.Elem ((known_of program).number p.ty))).1 (param_touched f func names i p e object))) serial later
+        let numbered : slice_get program.types (type_number (known_of program) p.ty) ≡ Some p.ty = numbered_short program p.ty rules.in_table in
+        object_touched program (type_number (known_of program) p.ty) p.ty numbered (scalar_is _ p.ty rules.sort) touched
+        (all (key.Elem (type_number (known_of program) p.ty)) ((are.exact (key.Elem (type_number (known_of program) p.ty))).1 (param_touched f func names i p e object))) serial later
 
     one_open : (b : Bool) (shape : Shape64) (shapes : List Shape64) → ((b && true) ≡ true → IsOpen shape) → AllOpen IsOpen shapes → AllOpen IsOpen (chosen (b && true) (shape ∷ shapes) shapes)
     one_open true shape shapes h rest = (h refl, rest)

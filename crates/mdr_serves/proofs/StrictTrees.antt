@@ -26,7 +26,7 @@ use Rattle.mdr_meaning.specs.declared.shape.Shape64.{Shape64}
 use Rattle.mdr_meaning.specs.declared.wire.Wire.{Wire}
 use Rattle.mdr_meaning.specs.declared.wire.Wire.TheVariants as wire
 use Rattle.mdr_meaning.specs.declared.wire.WireView.{WireView}
-use Rattle.mdr_meaning.specs.Asking.{allocated, asks, serves, serves_by}
+use Rattle.mdr_meaning.specs.Asking.{allocated, asks, counted, serves, serves_by}
 use Rattle.mdr_meaning.specs.Bodies.{means, started}
 use Rattle.mdr_meaning.specs.Calls.{put, stores, received, keep, function_of, enters, goes_to, deep, direct, through, call_by}
 use Rattle.mdr_meaning.specs.Expressions.{given, gives, loads, place, read, slot_of, value, values}
@@ -39,7 +39,7 @@ use Rattle.mdr_meaning.specs.Pointers.{become_by, cast, difference, field_by, fi
 use Rattle.mdr_meaning.specs.Sides.{Body, Side, Here, Locals, Flow, Ends, Breaks, Continues, Returns, Next, Go, Means, flow_of, framed, in_here}
 use Rattle.mdr_meaning.specs.Statements.{around, characters, declared, declared_by, element, leaves, on_ends, returns, stmt, stmts, texts, turn}
 use Rattle.mdr_meaning.specs.Tree.{Asked, Tree}
-use Rattle.mdr_meaning.specs.Values.{at_kind, checked, first_of, integer, is_true, natural, rest_of, stop_of, truth, wire_of}
+use Rattle.mdr_meaning.specs.Values.{at_kind, checked, first_of, integer, is_true, operand, rest_of, right_operand, stop_of, truth, wire_of}
 use Rattle.mdr_meaning.specs.Within.{Uses}
 use Rattle.mdr_split.specs.Legal.{has_statement, is_object_service}
 use Rattle.mdr_serves.proofs.Strict.{Birth, IsFresh, IsLoaded, IsStatement, Strict, births_with, fresh_after}
@@ -91,7 +91,7 @@ moved_goes v n = λ e. cc
 
 field_by_goes : (known : Numbered) (v : WireView) (s f : ℕ) (x : Option Field) → Goes (field_by known v s f x)
 field_by_goes known v s f None = λ e. cc
-field_by_goes known v s f (Some x) = tt
+field_by_goes known v s f (Some x) = checked_goes _ stop.Bounds _ (λ e. cc)
 
 field_goes : (known : Numbered) (v : WireView) (s : Option ℕ) (f : ℕ) → Goes (field_in known v s f)
 field_goes known v None f = λ e. cc
@@ -267,12 +267,12 @@ module _ (Opens : Shape64 → Type 0) (program : Program) (known : Numbered) (to
       keeps_value r s (Term.Load p) = keeps_loads r s p (place known at s p) (keeps_place r s p)
       keeps_value r s (Term.Addr p) = keeps_place r s p
       keeps_value r s (Term.Decay p) = keeps_place r s p
-      keeps_value r s (Term.Neg kind e) = keeps_tested r (value known at s e) (λ x. at_kind kind (negated kind (integer x))) (λ x. kind_goes kind (negated kind (integer x))) (keeps_value r s e)
-      keeps_value r s (Term.Flip kind e) = keeps_made r (value known at s e) (λ x. wire.Int kind (flipped kind (integer x))) (keeps_value r s e)
+      keeps_value r s (Term.Neg kind e) = keeps_tested r (value known at s e) (λ x. at_kind kind (negated kind (operand kind x))) (λ x. kind_goes kind (negated kind (operand kind x))) (keeps_value r s e)
+      keeps_value r s (Term.Flip kind e) = keeps_made r (value known at s e) (λ x. wire.Int kind (flipped kind (operand kind x))) (keeps_value r s e)
       keeps_value r s (Term.Not e) = keeps_made r (value known at s e) (λ x. truth (not (is_true x))) (keeps_value r s e)
       keeps_value r s (Term.Bin op kind a b) =
-          keeps_then r Wire Wire (value known at s a) (λ x k. value known at s b (λ y. given at (at_kind kind (operated op kind (integer x) (integer y))) k)) (keeps_value r s a)
-          (λ x. keeps_tested r (value known at s b) (λ y. at_kind kind (operated op kind (integer x) (integer y))) (λ y. kind_goes kind (operated op kind (integer x) (integer y))) (keeps_value r s b))
+          keeps_then r Wire Wire (value known at s a) (λ x k. value known at s b (λ y. given at (at_kind kind (operated op kind (operand kind x) (right_operand op kind (integer y)))) k)) (keeps_value r s a)
+          (λ x. keeps_tested r (value known at s b) (λ y. at_kind kind (operated op kind (operand kind x) (right_operand op kind (integer y)))) (λ y. kind_goes kind (operated op kind (operand kind x) (right_operand op kind (integer y)))) (keeps_value r s b))
       keeps_value r s (Term.Rel op a b) =
           keeps_then r Wire Wire (value known at s a) (λ x k. value known at s b (λ y. given at (related known.program op x y) k)) (keeps_value r s a)
           (λ x. keeps_tested r (value known at s b) (λ y. related known.program op x y) (λ y. related_goes known.program op x y) (keeps_value r s b))
@@ -332,7 +332,7 @@ module _ (Opens : Shape64 → Type 0) (program : Program) (known : Numbered) (to
     keeps_serves : (r n : ℕ) (form : CallOf) (vs : List Wire) (s : Option Service) → Keeps r Wire (serves_by known n at form vs s)
     keeps_serves r n form vs None = keeps_asks r n vs [] []
     keeps_serves r n form vs (Some Kzalloc) = keeps_asks r n [] (allocated known form.shape 1) []
-    keeps_serves r n form vs (Some Kcalloc) = keeps_asks r n [] (allocated known form.shape (natural (first_of vs))) []
+    keeps_serves r n form vs (Some Kcalloc) = keeps_asks r n [] (allocated known form.shape (counted (first_of vs))) []
     keeps_serves r n form vs (Some Kfree) = keeps_asks r n vs [] []
     keeps_serves r n form vs (Some Readl) = keeps_asks r n vs [] []
     keeps_serves r n form vs (Some Writel) = keeps_asks r n vs [] []
@@ -340,7 +340,7 @@ module _ (Opens : Shape64 → Type 0) (program : Program) (known : Numbered) (to
     keeps_serves r n form vs (Some RequestIrq) = keeps_asks r n vs [] []
     keeps_serves r n form vs (Some FreeIrq) = keeps_asks r n vs [] []
     keeps_serves r n form vs (Some Deliver) = record {
-      by = λ k l h. turns_read at here r (first_of vs) (natural (first_of (rest_of vs))) _ _ (λ bytes. (keeps_asks r n [] [] bytes).by k l h);
+      by = λ k l h. turns_read at here r (first_of vs) (counted (first_of (rest_of vs))) _ _ (λ bytes. (keeps_asks r n [] [] bytes).by k l h);
     }
     keeps_serves r n form vs (Some Combolock) = keeps_asks r n vs [] []
     keeps_serves r n form vs (Some Combounlock) = keeps_asks r n vs [] []

@@ -35,10 +35,8 @@ fn go(
 {
     machine.side = Side::User;
     let halves = scene.plan.halves.as_slice();
-    match machine.go(alloc, scene.program, halves, memory, ticks) {
-        Ok(event) => Ok(event),
-        Err(error) => Err(error.into()),
-    }
+    let event = machine.go(alloc, scene.program, halves, memory, ticks)?;
+    Ok(event)
 }
 
 /// Runs what the machine holds, with so many ticks, over what is seen: the reply, and what is open behind it.

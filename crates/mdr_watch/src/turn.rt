@@ -36,10 +36,8 @@ fn go(
 {
     machine.side = Side::User;
     let halves = upcall.watch.plan.halves.as_slice();
-    match machine.go(alloc, upcall.watch.program, halves, guarded, ticks) {
-        Ok(event) => Ok(event),
-        Err(error) => Err(error.into()),
-    }
+    let event = machine.go(alloc, upcall.watch.program, halves, guarded, ticks)?;
+    Ok(event)
 }
 
 /// Runs a machine up to its first event or the first tick that it needs.

@@ -38,10 +38,8 @@ fn go(
     ensures used { OnOk result (machine.new.used ≤ ticks) }
 {
     machine.side = code.side;
-    match machine.go(alloc, code.program, code.halves, world, ticks) {
-        Ok(event) => Ok(event),
-        Err(error) => Err(error.into()),
-    }
+    let event = machine.go(alloc, code.program, code.halves, world, ticks)?;
+    Ok(event)
 }
 
 /// Runs a machine up to its first event or the first tick that it needs.

@@ -11,13 +11,13 @@ loop-e-init g c =
 
 pub loop-e-preserved : goal.loop-e-preserved
 loop-e-preserved g c =
-    value_first g.C.Memory.accesses c.args.memory.now (known_of c.args.program.now) (wires_of c.args.slots.now) c.args.es.now c.loop-e.e-index c.e-item.result _ c.in_ok-value.value c.in-Ok.value c.loop-e.done c.push.new.self
-    c.loop-e-test.true c.e-item.is c.in_ok-value.ensures c.in-Ok.is c.in_ok-push-in-Ok.ensures.ok c.loop-e.invariant
+    value_first g.C.Memory.accesses c.args.memory.now (known_of c.args.program.now) (wires_of c.args.slots.now) c.args.es.now c.loop-e.e-index c.e-item.result _ c.evaluated.result c.in-Ok.value c.loop-e.done c.push.new.self
+    c.loop-e-test.true c.e-item.is c.evaluated.ensures c.in-Ok.is c.in_ok-push-in-Ok.ensures.ok c.loop-e.invariant
 
 pub returns-in-Err : goal.returns-in-Err
 returns-in-Err g c =
-    value_stops_here g.C.Memory.accesses c.args.memory.now (known_of c.args.program.now) (wires_of c.args.slots.now) c.args.es.now c.loop-e.e-index c.e-item.result _ c.in_ok-value.value c.in-Err.stop c.loop-e.done
-    c.loop-e-test.true c.e-item.is c.in_ok-value.ensures c.in-Err.is c.loop-e.invariant
+    value_stops_here g.C.Memory.accesses c.args.memory.now (known_of c.args.program.now) (wires_of c.args.slots.now) c.args.es.now c.loop-e.e-index c.e-item.result _ c.evaluated.result c.in-Err.stop c.loop-e.done
+    c.loop-e-test.true c.e-item.is c.evaluated.ensures c.in-Err.is c.loop-e.invariant
 
 pub returns : goal.returns
 returns g c = values_end g.C.Memory.accesses c.args.memory.now (known_of c.args.program.now) (wires_of c.args.slots.now) c.args.es.now c.loop-e.e-index c.loop-e.done c.loop-e-test.false c.loop-e.invariant

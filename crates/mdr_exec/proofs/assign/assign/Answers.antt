@@ -7,12 +7,12 @@ use Rattle.mdr_exec.proofs.assign.assign.Goals as goal
 
 pub returns-in-Ok : goal.returns-in-Ok
 returns-in-Ok g c =
-    assign_goes g.C.Memory.accesses c.args.program.now c.args.machine.now c.args.memory.now c.requires.runs (lvalue_of c.args.p.now) (wire_of c.args.value) c.in_ok-done.done c.put.new.slots c.put.new.memory
-    (held_of c.args.program.now c.go_on.new.machine) (c.args.machine.now.top.next + 1) c.in_ok-done.ensures c.in-Ok.field-0 c.in-Ok.is refl (c.go_on.ensures c.args.program.now)
+    assign_goes g.C.Memory.accesses c.args.program.now c.args.machine.now c.args.memory.now c.requires.runs (lvalue_of c.args.p.now) (wire_of c.args.value) c.put-done.result c.put-done.new.slots c.put-done.new.memory
+    (held_of c.args.program.now c.go_on.new.machine) (c.args.machine.now.top.next + 1) c.put-done.ensures c.in-Ok.field-0 c.in-Ok.is refl (c.go_on.ensures c.args.program.now)
 
 pub returns-in-Err : goal.returns-in-Err
 returns-in-Err g c =
-    assign_stops g.C.Memory.accesses c.args.program.now c.args.machine.now c.args.memory.now c.requires.runs (lvalue_of c.args.p.now) (wire_of c.args.value) c.in_ok-done.done c.in-Err.stop c.put.new.slots c.put.new.memory
+    assign_stops g.C.Memory.accesses c.args.program.now c.args.machine.now c.args.memory.now c.requires.runs (lvalue_of c.args.p.now) (wire_of c.args.value) c.put-done.result c.in-Err.stop c.put-done.new.slots c.put-done.new.memory
     (held_of c.args.program.now (record {
       side = c.args.machine.now.side;
       front = c.args.machine.now.front;
@@ -21,10 +21,10 @@ returns-in-Err g c =
         depth = c.args.machine.now.top.depth;
         path = c.args.machine.now.top.path;
         next = c.args.machine.now.top.next;
-        slots = c.put.new.slots;
+        slots = c.put-done.new.slots;
         born = c.args.machine.now.top.born;
       };
       below = c.args.machine.now.below;
       used = c.args.machine.now.used;
     }))
-    c.in_ok-done.ensures c.in-Err.is
+    c.put-done.ensures c.in-Err.is

@@ -8,7 +8,7 @@ returns-in-Some g c =
     slot_put g.C.Memory.accesses (known_of c.args.program.now) c.args.memory.now (lvalue_of c.args.p.now) c.slot_named.result c.in-Some.i c.args.value c.args.slots.now c.set.new.self
     c.slot_named.ensures c.in-Some.is c.set.ensures
 
-pub returns-in_ok-done-in-None : goal.returns-in_ok-done-in-None
-returns-in_ok-done-in-None g c =
-    place_put g.C.Memory.accesses (known_of c.args.program.now) c.args.memory.now (lvalue_of c.args.p.now) c.slot_named.result c.args.value c.args.slots.now c.as_slice.result.now c.in_ok-done-in-None.done c.put_at.new.memory
-    c.slot_named.ensures c.in-None.is c.as_slice.ensures c.in_ok-done-in-None.ensures
+pub returns-in-None : goal.returns-in-None
+returns-in-None g c =
+    place_put g.C.Memory.accesses (known_of c.args.program.now) c.args.memory.now (lvalue_of c.args.p.now) c.slot_named.result c.args.value c.args.slots.now c.as_slice.result.now c.put_at.result c.put_at.new.memory
+    c.slot_named.ensures c.in-None.is c.as_slice.ensures c.put_at.ensures

@@ -9,10 +9,10 @@ use Rattle.mdr_exec.proofs.begin.begin_return_value.Goals as goal
 pub returns-in-Ok : goal.returns-in-Ok
 returns-in-Ok g c =
     return_goes c.args.program.now c.args.machine.now g.C.Memory.accesses c.args.memory.now c.requires.runs (term_of c.args.e.now) (wire_of c.in-Ok.value) (held_of c.args.program.now c.go_past.new.machine) (c.args.machine.now.top.next + 1)
-    (value_given g.C.Memory.accesses c.args.memory.now (known_of c.args.program.now) (term_of c.args.e.now) c.in_ok-value.value c.as_slice.result.now c.args.machine.now.top.slots c.in_ok-value.ensures c.as_slice.ensures c.in-Ok.value c.in-Ok.is)
+    (value_given g.C.Memory.accesses c.args.memory.now (known_of c.args.program.now) (term_of c.args.e.now) c.evaluated-value.result c.as_slice.result.now c.args.machine.now.top.slots c.evaluated-value.ensures c.as_slice.ensures c.in-Ok.value c.in-Ok.is)
     refl (c.go_past.ensures c.args.program.now)
 
 pub returns-in-Err : goal.returns-in-Err
 returns-in-Err g c =
     return_stops c.args.program.now c.args.machine.now g.C.Memory.accesses c.args.memory.now c.requires.runs (term_of c.args.e.now) c.in-Err.stop (held_of c.args.program.now c.args.machine.now)
-    (stop_given g.C.Memory.accesses c.args.memory.now (known_of c.args.program.now) (term_of c.args.e.now) c.in_ok-value.value c.as_slice.result.now c.args.machine.now.top.slots c.in_ok-value.ensures c.as_slice.ensures c.in-Err.stop c.in-Err.is)
+    (stop_given g.C.Memory.accesses c.args.memory.now (known_of c.args.program.now) (term_of c.args.e.now) c.evaluated-value.result c.as_slice.result.now c.args.machine.now.top.slots c.evaluated-value.ensures c.as_slice.ensures c.in-Err.stop c.in-Err.is)

@@ -6,9 +6,9 @@ use Rattle.mdr_exec.specs.Holding.{held_of}
 use Rattle.mdr_exec.proofs.KeepingLaws.{into_stops, received_so}
 use Rattle.mdr_exec.proofs.keep.keep_into.Goals as goal
 
-pub returns-in_ok-came-in-Ok : goal.returns-in_ok-came-in-Ok
-returns-in_ok-came-in-Ok g c = λ side n known comes.
-    c.in_ok-came-in-Ok.ensures side n (wire_of c.args.value) known
+pub returns-in-Ok : goal.returns-in-Ok
+returns-in-Ok g c = λ side n known comes.
+    c.put_kept.ensures side n (wire_of c.args.value) known
     (received_so (known_of c.args.program.now) _ _ (wire_of c.args.value) c.received-kept.result (Ok c.in-Ok.value) c.received-kept.ensures c.named_type.ensures c.in-Ok.is) comes
 
 pub returns-in-Err : goal.returns-in-Err

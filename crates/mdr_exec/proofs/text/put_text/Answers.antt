@@ -6,13 +6,13 @@ use Rattle.mdr_exec.proofs.text.put_text.Goals as goal
 
 pub loop-i-preserved : goal.loop-i-preserved
 loop-i-preserved g c =
-    text_goes g.C.Memory.accesses c.args.kind (wire_of c.args.pointer) c.args.bytes.now c.loop-i.i _ _ c.loop-i.memory c.put_byte.new.memory c.in_ok-done.done c.in-Ok.field-0
-    (λ l. texts_of g.C.Memory.accesses c.args.kind (wire_of c.args.pointer) 0 c.args.bytes.now l c.args.memory.now) c.loop-i-test.true refl c.in_ok-done.ensures c.in-Ok.is c.loop-i.invariant
+    text_goes g.C.Memory.accesses c.args.kind (wire_of c.args.pointer) c.args.bytes.now c.loop-i.i _ _ c.loop-i.memory c.put_byte-done.new.memory c.put_byte-done.result c.in-Ok.field-0
+    (λ l. texts_of g.C.Memory.accesses c.args.kind (wire_of c.args.pointer) 0 c.args.bytes.now l c.args.memory.now) c.loop-i-test.true refl c.put_byte-done.ensures c.in-Ok.is c.loop-i.invariant
 
 pub returns-in-Err : goal.returns-in-Err
 returns-in-Err g c =
-    text_stops g.C.Memory.accesses c.args.kind (wire_of c.args.pointer) c.args.bytes.now c.loop-i.i _ _ c.loop-i.memory c.put_byte.new.memory c.in_ok-done.done c.in-Err.stop
-    (λ l. texts_of g.C.Memory.accesses c.args.kind (wire_of c.args.pointer) 0 c.args.bytes.now l c.args.memory.now) c.loop-i-test.true refl c.in_ok-done.ensures c.in-Err.is c.loop-i.invariant
+    text_stops g.C.Memory.accesses c.args.kind (wire_of c.args.pointer) c.args.bytes.now c.loop-i.i _ _ c.loop-i.memory c.put_byte-done.new.memory c.put_byte-done.result c.in-Err.stop
+    (λ l. texts_of g.C.Memory.accesses c.args.kind (wire_of c.args.pointer) 0 c.args.bytes.now l c.args.memory.now) c.loop-i-test.true refl c.put_byte-done.ensures c.in-Err.is c.loop-i.invariant
 
 pub returns : goal.returns
 returns g c =

@@ -11,8 +11,8 @@ returns-in_ok-stepped-in-Runs g c =
 pub returns-in_ok-stepped-in-Unwinds : goal.returns-in_ok-stepped-in-Unwinds
 returns-in_ok-stepped-in-Unwinds g c = c.in_ok-stepped-in-Unwinds.ensures (side_in c.args.machine.now.side c.args.halves.now c.args.program.now) refl
 
-pub returns-in_ok-stepped-in-Comes : goal.returns-in_ok-stepped-in-Comes
-returns-in_ok-stepped-in-Comes g c = c.in_ok-stepped-in-Comes.ensures (side_in c.args.machine.now.side c.args.halves.now c.args.program.now) refl
+pub returns-in-Comes : goal.returns-in-Comes
+returns-in-Comes g c = c.step_comes.ensures (side_in c.args.machine.now.side c.args.halves.now c.args.program.now) refl
 
 pub returns-in_ok-stepped-in-Enters : goal.returns-in_ok-stepped-in-Enters
 returns-in_ok-stepped-in-Enters g c = c.in_ok-stepped-in-Enters.ensures (side_in c.args.machine.now.side c.args.halves.now c.args.program.now) refl refl

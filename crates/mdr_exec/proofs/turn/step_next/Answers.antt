@@ -9,4 +9,4 @@ use Rattle.mdr_exec.proofs.turn.step_next.Goals as goal
 pub returns-in-None : goal.returns-in-None
 returns-in-None g c =
     same_runs g.C.Memory.accesses (side_in c.args.machine.now.side c.args.halves.now c.args.program.now) (held_of c.args.program.now c.args.machine.now) (held_of c.args.program.now c.run_out.new.machine) c.args.memory.now c.args.memory.now c.args.left
-    (c.run_out.ensures c.args.program.now (side_in c.args.machine.now.side c.args.halves.now c.args.program.now) (sym c.stands_next.ensures ∙ ap (option_map code_in) c.in-None.is))
+    (c.run_out.ensures c.args.program.now (side_in c.args.machine.now.side c.args.halves.now c.args.program.now) (sym c.stands_next.ensures.code ∙ ap (option_map code_in) c.in-None.is))
