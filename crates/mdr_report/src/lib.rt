@@ -1,4 +1,4 @@
-//! The printed report of a run.
+//! The printed report of a run, and bytes as its hexadecimal digits.
 #![tactic(auto)]
 
 mod bytes;
@@ -12,4 +12,5 @@ mod whole;
 mod whole_event;
 mod whole_object;
 
+pub use bytes::put_hex;
 pub use whole::report_whole;

@@ -38,6 +38,7 @@ use Rattle.mdr_source.proofs.Whose.{come_source}
 use Rattle.mdr_source.specs.declared.outcome.Source.{Source}
 use Rattle.mdr_split_runner.proofs.Steps.{nothing_end}
 use Rattle.mdr_split_runner.specs.Cuts.{IsCutInto}
+use Rattle.mdr_split_runner.specs.declared.manner.SplitManner.{SplitManner}
 use Rattle.mdr_split_runner.specs.Means.{IsMeaning, SplitMeans, SplitRunsMean, meant, while_watched}
 use Rattle.mdr_split_runner.specs.Reports.{Began, Ran, Reported}
 use Rattle.mdr_split_runner.specs.SplitRuns.{SplitRuns}
@@ -163,37 +164,39 @@ not_early : (s : Status) → IsEarly s → (s ≡ status.Done) ⊎ (s ≡ status
 not_early s early (inl e) = subst IsEarly e early
 not_early s early (inr e) = subst IsEarly e early
 
-module _ (files : Files) (source_name script_name : List ℕ) (ticks : ℕ) (old new : List ShelfCall) (far far' : FarSide) (s : Status) (text : List ℕ) where
+module _ (files : Files) (source_name script_name : List ℕ) (manner : SplitManner) (old new : List ShelfCall) (far far' : FarSide) (s : Status) (text : List ℕ) where
   abbrev MeansIt : Type 0
-  MeansIt = SplitMeans files source_name script_name ticks old new far'.loaded far'.exchanges s text
+  MeansIt = SplitMeans files source_name script_name manner old new far'.loaded far'.exchanges s text
 
   early_means : IsEarly s → MeansIt
   early_means early = record { never = λ e. subst IsEarly e early; means = λ is. absurd (not_early s early is) }
 
-  runs_mean : RunIsMeaning → TextsOfSourcesAreTaken → SplitRuns files source_name script_name ticks old new far far' s text → IsHonest far'.loaded far'.exchanges → MeansIt
+  runs_mean : RunIsMeaning → TextsOfSourcesAreTaken → SplitRuns files source_name script_name manner old new far far' s text → IsHonest far'.loaded far'.exchanges → MeansIt
   runs_mean law taken (SplitRuns.no_source none same) honest = early_means (no_source_early files source_name old new s text none)
   runs_mean law taken (SplitRuns.no_script source between read none same) honest = early_means (no_script_early files source.program script_name between new s text none)
   runs_mean law taken (SplitRuns.ran source script between read given r) honest =
-      of (ran_means law taken read.bytes given.bytes source r.plan r.texts script ticks far'.exchanges read.has given.has r.cut far'.loaded s text honest r.ran)
+      of (ran_means law taken read.bytes given.bytes source r.run.plan r.run.texts script manner.ticks far'.exchanges read.has given.has r.run.cut far'.loaded s r.report honest r.run.ran)
     where
-      of : (s ≡ status.FarFault) ⊎ IsMeantSo law taken read.bytes given.bytes source r.plan r.texts script ticks far'.exchanges read.has given.has r.cut far'.loaded s text → MeansIt
+      of : (s ≡ status.FarFault) ⊎ IsMeantSo law taken read.bytes given.bytes source r.run.plan r.run.texts script manner.ticks far'.exchanges read.has given.has r.run.cut far'.loaded s r.report → MeansIt
       of (inl e) = early_means (subst IsEarly (sym e) tt)
       of (inr m) = record {
-        never = λ e. own_never (meant source.program r.plan script ticks).end m.meaning.own (sym m.meaning.reported.status_is ∙ e);
+        never = λ e. own_never (meant source.program r.run.plan script manner.ticks).end m.meaning.own (sym m.meaning.reported.status_is ∙ e);
         means = λ is. record {
           source = source;
           script = script;
           between = between;
           source_is = read;
           script_is = given;
-          plan = r.plan;
-          texts = r.texts;
-          cut = r.cut;
+          plan = r.run.plan;
+          texts = r.run.texts;
+          cut = r.run.cut;
           held = m.held;
+          report = r.report;
+          shown = r.shown;
           meaning = m.meaning;
-          same = same_report source r.plan r.texts script ticks s text r.cut m.meaning.reported;
+          same = same_report source r.run.plan r.run.texts script manner.ticks s r.report r.run.cut m.meaning.reported;
         };
       }
 
 pub split_runs_mean : RunIsMeaning → TextsOfSourcesAreTaken → SplitRunsMean
-split_runs_mean law taken files source_name script_name ticks old new far far' s text runs honest = runs_mean files source_name script_name ticks old new far far' s text law taken runs honest
+split_runs_mean law taken files source_name script_name manner old new far far' s text runs honest = runs_mean files source_name script_name manner old new far far' s text law taken runs honest

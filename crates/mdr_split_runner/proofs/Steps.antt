@@ -9,6 +9,7 @@ use Rattle.mdr_due.specs.Reads.{Files, WasRead, longest_script}
 use Rattle.mdr_model.specs.declared.outcome.End.{End}
 use Rattle.mdr_model.specs.declared.outcome.End.TheVariants as ends
 use Rattle.mdr_outside.specs.Calls.{ShelfCall}
+use Rattle.mdr_outside.specs.declared.far.Exchange.{Exchange}
 use Rattle.mdr_outside.specs.declared.far.LoadAnswer.{LoadAnswer}
 use Rattle.mdr_outside.specs.declared.far.Loaded.{Loaded}
 use Rattle.mdr_outside.specs.Far.{loaded_with}
@@ -19,8 +20,10 @@ use Rattle.mdr_runner.specs.Scripts.{IsScriptOf, NoScriptOf}
 use Rattle.mdr_bound.specs.declared.bound.Bound.{Bound}
 use Rattle.mdr_slicer.specs.Slicing.{IsSourceOf}
 use Rattle.mdr_source.specs.declared.outcome.Source.{Source}
+use Rattle.mdr_split_runner.specs.declared.manner.SplitManner.{SplitManner}
+use Rattle.mdr_split_runner.specs.Messages.{with_messages}
 use Rattle.mdr_split_runner.specs.Reports.{Reported, nothing_ran}
-use Rattle.mdr_split_runner.specs.SplitRuns.{SplitRuns, SplitRunsOver, SplitRunsOverPart, SplitRunsPart}
+use Rattle.mdr_split_runner.specs.SplitRuns.{IsShownRun, IsSplitRun, SplitRuns, SplitRunsOver, SplitRunsOverPart, SplitRunsPart}
 
 -- ---- a load
 
@@ -40,13 +43,24 @@ pub refused_so : (A : Type 0) (program : Program) (script : Bound) (ticks : ℕ)
 refused_so A program script ticks s text r e =
     let no : status.Marshal ≡ status.FarFault = sym (ap status_of (nothing_end program script ticks (ends.Refused 0 refusal.Load 0))) ∙ sym r.status_is ∙ e in absurd (Prim.cc)
 
+-- ---- messages
+
+-- a run whose messages are shown behind its report where they are asked for; its status is the same
+pub shown_so : (source : Source) (script : Bound) (manner : SplitManner) (far far' : FarSide) (s s' : Status) (report text : List ℕ) (es : List Exchange) → IsSplitRun source script manner.ticks far far' s report → es ≡ far'.exchanges → s' ≡ s → text ≡ with_messages manner.wire es report
+    → IsShownRun source script manner far far' s' text
+shown_so source script manner far far' s s' report text es run same status_is text_is = record {
+  report = report;
+  run = subst (λ (t : Status). IsSplitRun source script manner.ticks far far' t report) (sym status_is) run;
+  shown = text_is ∙ ap (λ (xs : List Exchange). with_messages manner.wire xs report) same;
+}
+
 -- ---- the whole command
 
-module _ (files later : Files) (source_name script_name : List ℕ) (ticks : ℕ) (old between new : List ShelfCall) (far far' : FarSide) (source : Source) (kept : later ≡ files) (read : IsSourceOf files source_name old between source) where
-  pub runs_so : (s : Status) (text : List ℕ) → SplitRunsOver later source script_name ticks between new far far' s text → SplitRuns files source_name script_name ticks old new far far' s text
+module _ (files later : Files) (source_name script_name : List ℕ) (manner : SplitManner) (old between new : List ShelfCall) (far far' : FarSide) (source : Source) (kept : later ≡ files) (read : IsSourceOf files source_name old between source) where
+  pub runs_so : (s : Status) (text : List ℕ) → SplitRunsOver later source script_name manner between new far far' s text → SplitRuns files source_name script_name manner old new far far' s text
   runs_so s text (SplitRunsOver.no_script none same) = SplitRuns.no_script source between read (subst (λ (f : Files). NoScriptOf f source.program script_name between new s text) kept none) same
   runs_so s text (SplitRunsOver.ran script is run) = SplitRuns.ran source script between read (subst (λ (f : Files). IsScriptOf f source.program script_name between new script) kept is) run
 
-  pub runs_part : SplitRunsOverPart later source script_name ticks between new far far' → SplitRunsPart files source_name script_name ticks old new far far'
+  pub runs_part : SplitRunsOverPart later source script_name manner.ticks between new far far' → SplitRunsPart files source_name script_name manner.ticks old new far far'
   runs_part (SplitRunsOverPart.script_read was same) = SplitRunsPart.script_read source between read (subst (λ (f : Files). WasRead f script_name longest_script between new) kept was) same
   runs_part (SplitRunsOverPart.ran_part script is part) = SplitRunsPart.ran_part source script between read (subst (λ (f : Files). IsScriptOf f source.program script_name between new script) kept is) part

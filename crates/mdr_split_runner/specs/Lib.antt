@@ -1,6 +1,9 @@
 pub mod Cuts
 pub mod Reports
 pub mod Loads
+pub mod Messages
+pub mod Sides
 pub mod SplitRuns
+pub mod Gives
 pub mod Means
 pub mod Ends

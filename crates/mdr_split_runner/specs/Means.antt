@@ -24,6 +24,8 @@ use Rattle.mdr_bound.specs.declared.bound.Bound.{Bound}
 use Rattle.mdr_slicer.specs.Slicing.{IsSourceOf}
 use Rattle.mdr_source.specs.declared.outcome.Source.{Source}
 use Rattle.mdr_split_runner.specs.Cuts.{IsCutInto}
+use Rattle.mdr_split_runner.specs.declared.manner.SplitManner.{SplitManner}
+use Rattle.mdr_split_runner.specs.Messages.{with_messages}
 use Rattle.mdr_split_runner.specs.Reports.{Reported}
 use Rattle.mdr_split_runner.specs.SplitRuns.{SplitRuns}
 use Rattle.mdr_watched.specs.Watched.{watched}
@@ -42,8 +44,8 @@ pub record IsMeaning (program : Program) (plan : Plan) (script : Bound) (ticks :
 abbrev pub while_watched : (ticks : ℕ) → Manner
 while_watched ticks = record { ticks = ticks; watched = true }
 
--- these very reads gave the source and the script, the far side holds the texts that the source is cut into, and what is due is what they mean, and what the same run on one memory is reported as
-pub record SplitMeansBy (files : Files) (source_name script_name : List ℕ) (ticks : ℕ) (old new : List ShelfCall) (loaded : Option Loaded) (es : List Exchange) (s : Status) (text : List ℕ) : Type 0 where
+-- these very reads gave the source and the script, the far side holds the texts that the source is cut into, and what is due is what they mean, and what the same run on one memory is reported as; behind it stand the lines of the messages, where they are asked for
+pub record SplitMeansBy (files : Files) (source_name script_name : List ℕ) (manner : SplitManner) (old new : List ShelfCall) (loaded : Option Loaded) (es : List Exchange) (s : Status) (text : List ℕ) : Type 0 where
   pub source : Source
   pub script : Bound
   pub between : List ShelfCall
@@ -53,16 +55,18 @@ pub record SplitMeansBy (files : Files) (source_name script_name : List ℕ) (ti
   pub texts : Texts
   pub cut : IsCutInto source plan texts
   pub held : loaded ≡ Some (loaded_with texts.user texts.plan loads.Ok)
-  pub meaning : IsMeaning source.program plan script ticks es s text
-  pub same : IsRun source.program script (while_watched ticks) s text
+  pub report : List ℕ
+  pub shown : text ≡ with_messages manner.wire es report
+  pub meaning : IsMeaning source.program plan script manner.ticks es s report
+  pub same : IsRun source.program script (while_watched manner.ticks) s report
 
 -- no reply is refused, and a run that is done or that stopped is what its source and its script mean
-pub record SplitMeans (files : Files) (source_name script_name : List ℕ) (ticks : ℕ) (old new : List ShelfCall) (loaded : Option Loaded) (es : List Exchange) (s : Status) (text : List ℕ) : Type 0 where
+pub record SplitMeans (files : Files) (source_name script_name : List ℕ) (manner : SplitManner) (old new : List ShelfCall) (loaded : Option Loaded) (es : List Exchange) (s : Status) (text : List ℕ) : Type 0 where
   pub never : s ≢ status.Marshal
-  pub means : (s ≡ status.Done) ⊎ (s ≡ status.Stopped) → SplitMeansBy files source_name script_name ticks old new loaded es s text
+  pub means : (s ≡ status.Done) ⊎ (s ≡ status.Stopped) → SplitMeansBy files source_name script_name manner old new loaded es s text
 
 -- whatever else the far side does, where it is honest
 abbrev pub SplitRunsMean : Type 0
 SplitRunsMean =
-    (files : Files) (source_name script_name : List ℕ) (ticks : ℕ) (old new : List ShelfCall) (far far' : FarSide) (s : Status) (text : List ℕ)
-    → SplitRuns files source_name script_name ticks old new far far' s text → IsHonest far'.loaded far'.exchanges → SplitMeans files source_name script_name ticks old new far'.loaded far'.exchanges s text
+    (files : Files) (source_name script_name : List ℕ) (manner : SplitManner) (old new : List ShelfCall) (far far' : FarSide) (s : Status) (text : List ℕ)
+    → SplitRuns files source_name script_name manner old new far far' s text → IsHonest far'.loaded far'.exchanges → SplitMeans files source_name script_name manner old new far'.loaded far'.exchanges s text

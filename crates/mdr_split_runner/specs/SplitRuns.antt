@@ -13,7 +13,9 @@ use Rattle.mdr_bound.specs.declared.bound.Bound.{Bound}
 use Rattle.mdr_slicer.specs.Slicing.{IsSourceOf, NoSourceOf}
 use Rattle.mdr_source.specs.declared.outcome.Source.{Source}
 use Rattle.mdr_split_runner.specs.Cuts.{IsCutInto}
+use Rattle.mdr_split_runner.specs.declared.manner.SplitManner.{SplitManner}
 use Rattle.mdr_split_runner.specs.Loads.{LoadedOnce, LoadedPart}
+use Rattle.mdr_split_runner.specs.Messages.{with_messages}
 use Rattle.mdr_split_runner.specs.Reports.{Ran}
 
 -- ---- a source and a script
@@ -26,6 +28,12 @@ pub record IsSplitRun (source : Source) (script : Bound) (ticks : ℕ) (far far'
   pub loads : LoadedOnce texts far.calls far'.calls (sent_of far'.exchanges)
   pub ran : Ran source.program plan texts script ticks far'.loaded far'.exchanges s text
 
+-- so it is, and behind the report stand the lines of the messages, where they are asked for
+pub record IsShownRun (source : Source) (script : Bound) (manner : SplitManner) (far far' : FarSide) (s : Status) (text : List ℕ) : Type 0 where
+  pub report : List ℕ
+  pub run : IsSplitRun source script manner.ticks far far' s report
+  pub shown : text ≡ with_messages manner.wire far'.exchanges report
+
 -- as much of it was done as memory was there for
 pub data IsSplitPart (source : Source) (script : Bound) (ticks : ℕ) (far far' : FarSide) : Type 0 where
   unloaded : far' ≡ far → IsSplitPart source script ticks far far'
@@ -33,9 +41,9 @@ pub data IsSplitPart (source : Source) (script : Bound) (ticks : ℕ) (far far' 
 
 -- ---- a source, and a script that is read
 
-pub data SplitRunsOver (files : Files) (source : Source) (name : List ℕ) (ticks : ℕ) (old new : List ShelfCall) (far far' : FarSide) (s : Status) (text : List ℕ) : Type 0 where
-  no_script : NoScriptOf files source.program name old new s text → far' ≡ far → SplitRunsOver files source name ticks old new far far' s text
-  ran : (script : Bound) → IsScriptOf files source.program name old new script → IsSplitRun source script ticks far far' s text → SplitRunsOver files source name ticks old new far far' s text
+pub data SplitRunsOver (files : Files) (source : Source) (name : List ℕ) (manner : SplitManner) (old new : List ShelfCall) (far far' : FarSide) (s : Status) (text : List ℕ) : Type 0 where
+  no_script : NoScriptOf files source.program name old new s text → far' ≡ far → SplitRunsOver files source name manner old new far far' s text
+  ran : (script : Bound) → IsScriptOf files source.program name old new script → IsShownRun source script manner far far' s text → SplitRunsOver files source name manner old new far far' s text
 
 pub data SplitRunsOverPart (files : Files) (source : Source) (name : List ℕ) (ticks : ℕ) (old new : List ShelfCall) (far far' : FarSide) : Type 0 where
   script_read : WasRead files name longest_script old new → far' ≡ far → SplitRunsOverPart files source name ticks old new far far'
@@ -43,12 +51,12 @@ pub data SplitRunsOverPart (files : Files) (source : Source) (name : List ℕ) (
 
 -- ---- all of it
 
--- the source is read and judged, and then the script, and the report of the run is due where there are both. The far side is left alone where one is wanting
-pub data SplitRuns (files : Files) (source_name script_name : List ℕ) (ticks : ℕ) (old new : List ShelfCall) (far far' : FarSide) (s : Status) (text : List ℕ) : Type 0 where
-  no_source : NoSourceOf files source_name old new s text → far' ≡ far → SplitRuns files source_name script_name ticks old new far far' s text
-  no_script : (source : Source) (between : List ShelfCall) → IsSourceOf files source_name old between source → NoScriptOf files source.program script_name between new s text → far' ≡ far → SplitRuns files source_name script_name ticks old new far far' s text
-  ran : (source : Source) (script : Bound) (between : List ShelfCall) → IsSourceOf files source_name old between source → IsScriptOf files source.program script_name between new script → IsSplitRun source script ticks far far' s text
-      → SplitRuns files source_name script_name ticks old new far far' s text
+-- the source is read and judged, and then the script, and the report of the run is due where there are both, in its manner. The far side is left alone where one is wanting
+pub data SplitRuns (files : Files) (source_name script_name : List ℕ) (manner : SplitManner) (old new : List ShelfCall) (far far' : FarSide) (s : Status) (text : List ℕ) : Type 0 where
+  no_source : NoSourceOf files source_name old new s text → far' ≡ far → SplitRuns files source_name script_name manner old new far far' s text
+  no_script : (source : Source) (between : List ShelfCall) → IsSourceOf files source_name old between source → NoScriptOf files source.program script_name between new s text → far' ≡ far → SplitRuns files source_name script_name manner old new far far' s text
+  ran : (source : Source) (script : Bound) (between : List ShelfCall) → IsSourceOf files source_name old between source → IsScriptOf files source.program script_name between new script → IsShownRun source script manner far far' s text
+      → SplitRuns files source_name script_name manner old new far far' s text
 
 -- as much of it was done as memory was there for
 pub data SplitRunsPart (files : Files) (source_name script_name : List ℕ) (ticks : ℕ) (old new : List ShelfCall) (far far' : FarSide) : Type 0 where

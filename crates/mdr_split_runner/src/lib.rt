@@ -6,8 +6,13 @@
 mod cutting;
 mod laws;
 mod loading;
+mod manner;
+mod messages;
 mod reporting;
 mod running;
+mod seen;
 
 pub use laws::{split_runs_end, split_runs_mean};
+pub use manner::SplitManner;
 pub use running::split_over;
+pub use seen::SidesSeen;

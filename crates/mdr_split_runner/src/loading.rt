@@ -1,6 +1,6 @@
 // A run over a far side, which is loaded first.
 
-ghost use Rattle.std.specs.Prelude.{◌≡◌, ◌++◌, [], IfOk, OnErr};
+ghost use Rattle.std.specs.Prelude.{◌≡◌, ◌++◌, [], IfOk};
 ghost use Rattle.mdr_core.specs.Sound.{IsSound};
 ghost use Rattle.mdr_due.specs.declared.status.Status.TheVariants as status;
 ghost use Rattle.mdr_due.specs.Statuses.{Counts, HasReadCause};
@@ -35,7 +35,7 @@ fn began<F: Far>(
     requires fresh { F.exchanges far.old ≡ [] }
     ensures began { IfOk result (λ due. Began program.now plan.now script.now ticks (F.exchanges far.new) due.status due.text.items) }
     ensures called { IfOk result (λ _. F.calls far.new ≡ F.calls far.old ++ sends (sent_of (F.exchanges far.new))) }
-    ensures part { OnErr result (SentPart program.now plan.now script.now ticks (F.calls far.old) (F.calls far.new) (F.exchanges far.new)) }
+    ensures part { SentPart program.now plan.now script.now ticks (F.calls far.old) (F.calls far.new) (F.exchanges far.new) }
     ensures loaded { IfOk result (λ _. F.loaded far.new ≡ F.loaded far.old) }
     ensures failed { IfOk result (λ due. due.status ≡ status.FarFault → Rose (F.faults far.old) (F.faults far.new)) }
     ensures read { IfOk result (λ due. (before after : Counts) → HasReadCause before after due.status) }
@@ -59,7 +59,7 @@ pub(crate) fn ran<F: Far>(
     requires { IsSound program.now }
     ensures ran { IfOk result (λ due. Ran program.now cut.now.plan cut.now.texts script.now ticks (F.loaded far.new) (F.exchanges far.new) due.status due.text.items) }
     ensures called { IfOk result (λ _. LoadedOnce cut.now.texts (F.calls far.old) (F.calls far.new) (sent_of (F.exchanges far.new))) }
-    ensures part { OnErr result (LoadedPart program.now cut.now.plan cut.now.texts script.now ticks (F.calls far.old) (F.calls far.new) (F.exchanges far.new)) }
+    ensures part { LoadedPart program.now cut.now.plan cut.now.texts script.now ticks (F.calls far.old) (F.calls far.new) (F.exchanges far.new) }
     ensures failed { IfOk result (λ due. due.status ≡ status.FarFault → Rose (F.faults far.old) (F.faults far.new)) }
     ensures read { IfOk result (λ due. (before after : Counts) → HasReadCause before after due.status) }
 {

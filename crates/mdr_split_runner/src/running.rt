@@ -5,10 +5,14 @@ ghost use Rattle.mdr_core.specs.Sound.{IsSound};
 ghost use Rattle.mdr_due.specs.declared.status.Status.TheVariants as status;
 ghost use Rattle.mdr_due.specs.Statuses.{Counts, HasReadCause};
 ghost use Rattle.mdr_outside.specs.Count.{Rose};
-ghost use Rattle.mdr_split_runner.specs.SplitRuns.{IsSplitPart, IsSplitRun, SplitRuns, SplitRunsOver, SplitRunsOverPart, SplitRunsPart};
+ghost use Rattle.mdr_split_runner.specs.Gives.{OverBy, OverPartBy, ReadCauseBy, SplitPartBy, SplitRunsBy};
+ghost use Rattle.mdr_split_runner.specs.SplitRuns.{IsShownRun, IsSplitPart, IsSplitRun};
 
 use crate::cutting::cut_of;
 use crate::loading::ran;
+use crate::manner::SplitManner;
+use crate::messages::shown;
+use crate::seen::SidesSeen;
 use mdr_bound::Bound;
 use mdr_core::OutOfMemory;
 use mdr_due::{Due, Stage};
@@ -28,7 +32,7 @@ fn run_split<F: Far>(
 ) -> Result<Due, OutOfMemory>
     requires { IsSound source.now.program }
     ensures done { IfOk result (λ due. IsSplitRun source.now script.now ticks (⟦<F as FarSeen>⟧.side far.old) (⟦<F as FarSeen>⟧.side far.new) due.status due.text.items) }
-    ensures part { OnErr result (IsSplitPart source.now script.now ticks (⟦<F as FarSeen>⟧.side far.old) (⟦<F as FarSeen>⟧.side far.new)) }
+    ensures part { IsSplitPart source.now script.now ticks (⟦<F as FarSeen>⟧.side far.old) (⟦<F as FarSeen>⟧.side far.new) }
     ensures failed { IfOk result (λ due. due.status ≡ status.FarFault → Rose (F.faults far.old) (F.faults far.new)) }
     ensures read { IfOk result (λ due. (before after : Counts) → HasReadCause before after due.status) }
 {
@@ -41,6 +45,25 @@ fn run_split<F: Far>(
     due
 }
 
+/// Cuts a source, runs a script over its halves, and shows the messages behind the report where they are asked for.
+fn run_shown<F: Far>(
+    alloc: Global,
+    source: &Source,
+    script: &Bound,
+    manner: SplitManner,
+    far: &mut F,
+) -> Result<Due, OutOfMemory>
+    requires { IsSound source.now.program }
+    ensures done { IfOk result (λ due. IsShownRun source.now script.now manner (⟦<F as FarSeen>⟧.side far.old) (⟦<F as FarSeen>⟧.side far.new) due.status due.text.items) }
+    ensures part { OnErr result (IsSplitPart source.now script.now manner.ticks (⟦<F as FarSeen>⟧.side far.old) (⟦<F as FarSeen>⟧.side far.new)) }
+    ensures failed { IfOk result (λ due. due.status ≡ status.FarFault → Rose (F.faults far.old) (F.faults far.new)) }
+    ensures read { IfOk result (λ due. (before after : Counts) → HasReadCause before after due.status) }
+{
+    let due = run_split(alloc, source, script, manner.ticks, far)?;
+    let all = shown(alloc, due, manner.wire, far.exchanges())?;
+    Ok(all)
+}
+
 /// Reads a script, and runs it over the halves of a source.
 fn split_run_over<S: Shelf, F: Far>(
     alloc: Global,
@@ -48,13 +71,13 @@ fn split_run_over<S: Shelf, F: Far>(
     far: &mut F,
     source: &Source,
     name: &str,
-    ticks: u64,
+    manner: SplitManner,
 ) -> Result<Due, OutOfMemory>
     requires { IsSound source.now.program }
-    ensures done { IfOk result (λ due. SplitRunsOver (S.files shelf.old) source.now name.now ticks (S.calls shelf.old) (S.calls shelf.new) (⟦<F as FarSeen>⟧.side far.old) (⟦<F as FarSeen>⟧.side far.new) due.status due.text.items) }
-    ensures part { OnErr result (SplitRunsOverPart (S.files shelf.old) source.now name.now ticks (S.calls shelf.old) (S.calls shelf.new) (⟦<F as FarSeen>⟧.side far.old) (⟦<F as FarSeen>⟧.side far.new)) }
+    ensures done { IfOk result (OverBy source.now name.now manner (⟦<(S, F) as SidesSeen>⟧.change (shelf.old, far.old) (shelf.new, far.new))) }
+    ensures part { OnErr result (OverPartBy source.now name.now manner.ticks (⟦<(S, F) as SidesSeen>⟧.change (shelf.old, far.old) (shelf.new, far.new))) }
     ensures kept { S.files shelf.new ≡ S.files shelf.old }
-    ensures read { IfOk result (λ due. HasReadCause (record { faults = S.faults shelf.old; absent = S.absent shelf.old; long = S.long shelf.old }) (record { faults = S.faults shelf.new; absent = S.absent shelf.new; long = S.long shelf.new }) due.status) }
+    ensures read { IfOk result (ReadCauseBy (⟦<(S, F) as SidesSeen>⟧.change (shelf.old, far.old) (shelf.new, far.new))) }
     ensures failed { IfOk result (λ due. due.status ≡ status.FarFault → Rose (F.faults far.old) (F.faults far.new)) }
 {
     let script = match script_of(alloc, shelf, &source.program, name) {
@@ -62,26 +85,27 @@ fn split_run_over<S: Shelf, F: Far>(
         Ok(Stage::Ends(due)) => return Ok(due),
         Err(error) => return Err(error),
     };
-    let due = run_split(alloc, source, &script, ticks, far);
+    let due = run_shown(alloc, source, &script, manner, far);
     drop(script);
     due
 }
 
 /// Reads a source and then a script, cuts the source in two halves, and runs the script over them: the kernel half here, and
 /// the user half in the far side, which is loaded with its text and the plan's. Tells what happened, how the run ended and
-/// what the memory holds. A source that is refused is told before the script is read, and neither changes the far side.
+/// what the memory holds, and behind that which messages there were, where that is asked for. A source that is refused is
+/// told before the script is read, and neither changes the far side.
 pub fn split_over<S: Shelf, F: Far>(
     alloc: Global,
     shelf: &mut S,
     far: &mut F,
     source_name: &str,
     script_name: &str,
-    ticks: u64,
+    manner: SplitManner,
 ) -> Result<Due, OutOfMemory>
-    ensures done { IfOk result (λ due. SplitRuns (S.files shelf.old) source_name.now script_name.now ticks (S.calls shelf.old) (S.calls shelf.new) (⟦<F as FarSeen>⟧.side far.old) (⟦<F as FarSeen>⟧.side far.new) due.status due.text.items) }
-    ensures part { OnErr result (SplitRunsPart (S.files shelf.old) source_name.now script_name.now ticks (S.calls shelf.old) (S.calls shelf.new) (⟦<F as FarSeen>⟧.side far.old) (⟦<F as FarSeen>⟧.side far.new)) }
+    ensures done { IfOk result (SplitRunsBy source_name.now script_name.now manner (⟦<(S, F) as SidesSeen>⟧.change (shelf.old, far.old) (shelf.new, far.new))) }
+    ensures part { OnErr result (SplitPartBy source_name.now script_name.now manner.ticks (⟦<(S, F) as SidesSeen>⟧.change (shelf.old, far.old) (shelf.new, far.new))) }
     ensures kept { S.files shelf.new ≡ S.files shelf.old }
-    ensures read { IfOk result (λ due. HasReadCause (record { faults = S.faults shelf.old; absent = S.absent shelf.old; long = S.long shelf.old }) (record { faults = S.faults shelf.new; absent = S.absent shelf.new; long = S.long shelf.new }) due.status) }
+    ensures read { IfOk result (ReadCauseBy (⟦<(S, F) as SidesSeen>⟧.change (shelf.old, far.old) (shelf.new, far.new))) }
     ensures failed { IfOk result (λ due. due.status ≡ status.FarFault → Rose (F.faults far.old) (F.faults far.new)) }
 {
     let source = match source_of(alloc, shelf, source_name) {
@@ -89,7 +113,7 @@ pub fn split_over<S: Shelf, F: Far>(
         Ok(Stage::Ends(due)) => return Ok(due),
         Err(error) => return Err(error),
     };
-    let due = split_run_over(alloc, shelf, far, &source, script_name, ticks);
+    let due = split_run_over(alloc, shelf, far, &source, script_name, manner);
     drop(source);
     due
 }

@@ -5,6 +5,7 @@ mod cuts;
 mod files;
 mod output;
 mod sent;
+mod wires;
 
 use crate::outside::shelf;
 use mdr_far::LocalFar;

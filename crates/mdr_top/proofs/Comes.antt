@@ -15,17 +15,19 @@ use Rattle.mdr_runner.specs.Runs.{status_of}
 use Rattle.mdr_runner.specs.Scripts.{HasScript}
 use Rattle.mdr_runner.proofs.Stages.{outcome_own}
 use Rattle.mdr_bound.specs.declared.bound.Bound.{Bound}
-use Rattle.mdr_slicer.specs.Slicing.{HasSource}
 use Rattle.mdr_source.specs.declared.outcome.Source.{Source}
+use Rattle.mdr_split_runner.specs.declared.manner.SplitManner.{SplitManner}
 use Rattle.mdr_split_runner.specs.Ends.{EndsWith, FailedLast}
 use Rattle.mdr_split_runner.proofs.Endings.{fails_last, split_runs_end}
-use Rattle.mdr_top.specs.Answers.{Unread, CutAnswered, ScriptAnswered, WholeDue, SplitDue, Answered, Prints}
+use Rattle.mdr_top.specs.Answers.{Unread, Untaken, IsTaken, CutAnswered, ScriptAnswered, FileAnswered, WholeDue, SplitDue, WayDue, RunAnswered, Answered, Prints}
 use Rattle.mdr_top.specs.Comes.{AreNamed, IsWanted, IsRunSource, IsRefused, IsNoScript, WasCut, IsWholeEnd, IsSplitEnd, IsDone, IsStopped, Comes}
 use Rattle.mdr_top.specs.Cuts.{IsSplit, IsCut}
 use Rattle.mdr_top.specs.declared.words.Cutting.{Cutting}
 use Rattle.mdr_top.specs.declared.words.Cutting.TheVariants as cutting
+use Rattle.mdr_top.specs.declared.words.Way.{Way}
+use Rattle.mdr_top.specs.declared.words.Way.TheVariants as way
 use Rattle.mdr_top.specs.Outside.{Outside}
-use Rattle.mdr_top.specs.Words.{Cut, Whole, Run, command_of}
+use Rattle.mdr_top.specs.Words.{Inputs, OfFiles, Cut, Run, command_of}
 
 -- a read that failed says nothing
 failed_reads : (files : Files) (name : List ℕ) (limit : ℕ) → ReadsFrom files name limit reads.Failed
@@ -41,13 +43,13 @@ module _ (words : List (List ℕ)) (files : Files) (loaded : Option Loaded) (es 
   unread_comes name limit s text w (Unread.failed e t) = subst (Comes words files loaded es) (sym e) (record { name = name; limit = limit; wanted = w; answers = failed_reads files name limit })
 
   cut_comes : (how : Cutting) (name : List ℕ) (s : Status) (text : List ℕ) → command_of words ≡ Some (Cut how name) → CutAnswered how files name s text → Comes words files loaded es s
-  cut_comes how name s text e (CutAnswered.unread u) = unread_comes name longest_source s text (IsWanted.as_cut how e refl) u
-  cut_comes how name s text e (CutAnswered.refused bytes r n) =
+  cut_comes how name s text e (CutAnswered.untaken (Untaken.unread u)) = unread_comes name longest_source s text (IsWanted.as_cut how e refl) u
+  cut_comes how name s text e (CutAnswered.untaken (Untaken.refused bytes r n)) =
       subst (Comes words files loaded es) (sym n.status_is) (IsRefused.no_cut (record { bytes = bytes; named = record { how = how; name = name; command = e; read = r }; refusal = n.refusal; refused = n.comes }))
-  cut_comes how name s text e (CutAnswered.accepted bytes source r h c) = of how c
+  cut_comes how name s text e (CutAnswered.accepted source h c) = of how c
     where
       was : WasCut words files
-      was = record { bytes = bytes; named = record { how = how; name = name; command = e; read = r }; source = source; has = h }
+      was = record { bytes = h.bytes; named = record { how = how; name = name; command = e; read = h.read }; source = source; has = h.has }
 
       of : (k : Cutting) → IsCut k name source s text → Comes words files loaded es s
       of cutting.Split (IsSplit.whole texts are is t) = subst (Comes words files loaded es) (sym is) (IsDone.cut was)
@@ -56,17 +58,17 @@ module _ (words : List (List ℕ)) (files : Files) (loaded : Option Loaded) (es 
 
   -- a source and a script that are named: where one of them isn't taken, or the run that is due of them
   script_comes : (name script_name : List ℕ) (Due : Source → Bound → Type 0) (s : Status) (text : List ℕ) → AreNamed words name script_name
-      → ((bytes : List ℕ) (source : Source) (lines : List ℕ) (script : Bound) → ReadsFrom files name longest_source (reads.Ok bytes) → HasSource bytes source → ReadsFrom files script_name longest_script (reads.Ok lines) → HasScript source.program lines script → Due source script → Comes words files loaded es s)
-      → ScriptAnswered files name script_name Due s text → Comes words files loaded es s
-  script_comes name script_name Due s text named ends (ScriptAnswered.source_unread u) = unread_comes name longest_source s text (IsWanted.as_source script_name named refl) u
-  script_comes name script_name Due s text named ends (ScriptAnswered.source_refused bytes r n) =
+      → ((source : Source) (lines : List ℕ) (script : Bound) → IsTaken files name source → ReadsFrom files script_name longest_script (reads.Ok lines) → HasScript source.program lines script → Due source script → Comes words files loaded es s)
+      → FileAnswered files name script_name Due s text → Comes words files loaded es s
+  script_comes name script_name Due s text named ends (ScriptAnswered.no_source (Untaken.unread u)) = unread_comes name longest_source s text (IsWanted.as_source script_name named refl) u
+  script_comes name script_name Due s text named ends (ScriptAnswered.no_source (Untaken.refused bytes r n)) =
       subst (Comes words files loaded es) (sym n.status_is) (IsRefused.no_run (record { bytes = bytes; named = record { name = name; script_name = script_name; named = named; read = r }; refusal = n.refusal; refused = n.comes }))
-  script_comes name script_name Due s text named ends (ScriptAnswered.script_unread bytes source r h u) = unread_comes script_name longest_script s text (IsWanted.as_script name bytes source named r h refl) u
-  script_comes name script_name Due s text named ends (ScriptAnswered.script_refused bytes source lines r h r' n) =
-      let named' : IsRunSource words files bytes = record { name = name; script_name = script_name; named = named; read = r } in
-      let none : IsNoScript words files = record { bytes = bytes; named = named'; source = source; has = h; lines = lines; read = r'; line = n.line; kind = n.kind; refused = n.refused } in
+  script_comes name script_name Due s text named ends (ScriptAnswered.script_unread source h u) = unread_comes script_name longest_script s text (IsWanted.as_script name h.bytes source named h.read h.has refl) u
+  script_comes name script_name Due s text named ends (ScriptAnswered.script_refused source lines h r n) =
+      let named' : IsRunSource words files h.bytes = record { name = name; script_name = script_name; named = named; read = h.read } in
+      let none : IsNoScript words files = record { bytes = h.bytes; named = named'; source = source; has = h.has; lines = lines; read = r; line = n.line; kind = n.kind; refused = n.refused } in
       subst (Comes words files loaded es) (sym n.status_is) none
-  script_comes name script_name Due s text named ends (ScriptAnswered.ran bytes source lines script r h r' b due) = ends bytes source lines script r h r' b due
+  script_comes name script_name Due s text named ends (ScriptAnswered.ran source lines script h r b due) = ends source lines script h r b due
 
   own_comes : (end : End) → IsOwn end → IsWholeEnd words files (status_of end) → Comes words files loaded es (status_of end)
   own_comes ends.Ok own h = IsDone.whole h
@@ -74,15 +76,15 @@ module _ (words : List (List ℕ)) (files : Files) (loaded : Option Loaded) (es 
   own_comes (ends.Refused exchange cause number) own h = absurd own
   own_comes (ends.FarFault exchange) own h = absurd own
 
-  whole_comes : (name script_name : List ℕ) (manner : Manner) (s : Status) (text : List ℕ) → command_of words ≡ Some (Whole name script_name manner) → ScriptAnswered files name script_name (WholeDue manner s text) s text → Comes words files loaded es s
+  whole_comes : (name script_name : List ℕ) (manner : Manner) (s : Status) (text : List ℕ) → command_of words ≡ Some (Run (OfFiles name script_name) (way.Whole manner)) → FileAnswered files name script_name (WholeDue manner s text) s text → Comes words files loaded es s
   whole_comes name script_name manner s text e answered =
-      script_comes name script_name (WholeDue manner s text) s text (AreNamed.whole manner e)
-      (λ bytes source lines script r h r' b run. subst (Comes words files loaded es) (sym run.status_is) (own_comes run.outcome.end (outcome_own source.program script manner run.outcome run.is_outcome) (record {
+      script_comes name script_name (WholeDue manner s text) s text (record { in_way = way.Whole manner; command = e })
+      (λ source lines script h r b run. subst (Comes words files loaded es) (sym run.status_is) (own_comes run.outcome.end (outcome_own source.program script manner run.outcome run.is_outcome) (record {
         source = source;
         script = script;
         manner = manner;
-        accepted = record { source_name = name; script_name = script_name; command = e; bytes = bytes; source_read = r; compiled = h.comes; lines = lines; script_read = r'; bound = b };
-        sound = h.sound;
+        accepted = record { source_name = name; script_name = script_name; command = e; bytes = h.bytes; source_read = h.read; compiled = h.has.comes; lines = lines; script_read = r; bound = b };
+        sound = h.has.sound;
         ends = record { outcome = run.outcome; is_outcome = run.is_outcome; status_is = refl };
       })))
       answered
@@ -93,30 +95,32 @@ module _ (words : List (List ℕ)) (files : Files) (loaded : Option Loaded) (es 
   end_comes (ends.Refused exchange cause number) h = h
   end_comes (ends.FarFault exchange) h = h
 
-  split_comes : (name script_name : List ℕ) (ticks : ℕ) (s : Status) (text : List ℕ) → command_of words ≡ Some (Run name script_name ticks) → ScriptAnswered files name script_name (SplitDue ticks loaded es s text) s text → Comes words files loaded es s
-  split_comes name script_name ticks s text e answered = script_comes name script_name (SplitDue ticks loaded es s text) s text (AreNamed.split ticks e) ran answered
+  split_comes : (name script_name : List ℕ) (manner : SplitManner) (s : Status) (text : List ℕ) → command_of words ≡ Some (Run (OfFiles name script_name) (way.Split manner)) → FileAnswered files name script_name (SplitDue manner loaded es s text) s text → Comes words files loaded es s
+  split_comes name script_name manner s text e answered = script_comes name script_name (SplitDue manner loaded es s text) s text (record { in_way = way.Split manner; command = e }) ran answered
     where
-      ran : (bytes : List ℕ) (source : Source) (lines : List ℕ) (script : Bound) → ReadsFrom files name longest_source (reads.Ok bytes) → HasSource bytes source → ReadsFrom files script_name longest_script (reads.Ok lines) → HasScript source.program lines script
-          → SplitDue ticks loaded es s text source script → Comes words files loaded es s
-      ran bytes source lines script r h r' b due =
-          let ended : EndsWith source.program due.plan due.texts script ticks loaded es s = split_runs_end source.program due.plan due.texts script ticks loaded es s text due.ran in
+      ran : (source : Source) (lines : List ℕ) (script : Bound) → IsTaken files name source → ReadsFrom files script_name longest_script (reads.Ok lines) → HasScript source.program lines script → SplitDue manner loaded es s text source script → Comes words files loaded es s
+      ran source lines script h r b due =
+          let ended : EndsWith source.program due.plan due.texts script manner.ticks loaded es s = split_runs_end source.program due.plan due.texts script manner.ticks loaded es s due.report due.ran in
           subst (Comes words files loaded es) (sym ended.status_is) (end_comes ended.end (record {
             source = source;
             script = script;
-            ticks = ticks;
-            accepted = record { source_name = name; script_name = script_name; command = e; bytes = bytes; source_read = r; compiled = h.comes; lines = lines; script_read = r'; bound = b };
-            sound = h.sound;
+            manner = manner;
+            accepted = record { source_name = name; script_name = script_name; command = e; bytes = h.bytes; source_read = h.read; compiled = h.has.comes; lines = lines; script_read = r; bound = b };
+            sound = h.has.sound;
             plan = due.plan;
             texts = due.texts;
             cut = due.cut;
             ends = record { end = ended.end; ends = ended.ends; status_is = refl };
           }))
 
+  run_comes : (inputs : Inputs) (in_way : Way) (s : Status) (text : List ℕ) → command_of words ≡ Some (Run inputs in_way) → RunAnswered inputs files (WayDue in_way loaded es s text) s text → Comes words files loaded es s
+  run_comes (OfFiles name script_name) (way.Whole manner) s text e c = whole_comes name script_name manner s text e c
+  run_comes (OfFiles name script_name) (way.Split manner) s text e c = split_comes name script_name manner s text e c
+
   answered_comes : (s : Status) (text : List ℕ) → Answered words files loaded es s text → Comes words files loaded es s
   answered_comes s text (Answered.usage e is t) = subst (Comes words files loaded es) (sym is) e
   answered_comes s text (Answered.cut how name e c) = cut_comes how name s text e c
-  answered_comes s text (Answered.whole name script_name manner e c) = whole_comes name script_name manner s text e c
-  answered_comes s text (Answered.split name script_name ticks e c) = split_comes name script_name ticks s text e c
+  answered_comes s text (Answered.ran inputs in_way e c) = run_comes inputs in_way s text e c
 
 pub prints_comes : (words : List (List ℕ)) (before after : Outside) (s : Status) → Prints words before after s → Comes words before.sides.shelf.files after.sides.far.loaded after.sides.far.exchanges s
 prints_comes words before after s (Prints.whole text a w) = answered_comes words before.sides.shelf.files after.sides.far.loaded after.sides.far.exchanges s text a
@@ -127,4 +131,4 @@ prints_comes words before after s (Prints.nothing is same) = subst (Comes words 
 pub comes_last : (words : List (List ℕ)) (files : Files) (loaded : Option Loaded) (es : List Exchange) (s : Status) → Comes words files loaded es s → s ≡ status.FarFault → FailedLast loaded es
 comes_last words files loaded es s comes is =
     let e : IsSplitEnd words files loaded es status.FarFault = subst (Comes words files loaded es) is comes in
-    fails_last e.source.program e.plan e.texts e.script e.ticks loaded es status.FarFault e.ends refl
+    fails_last e.source.program e.plan e.texts e.script e.manner.ticks loaded es status.FarFault e.ends refl

@@ -13,14 +13,17 @@ use Rattle.mdr_source.specs.declared.outcome.Source.{Source}
 use Rattle.mdr_source.specs.declared.refusal.Refusal.{Refusal}
 use Rattle.mdr_source.specs.Sources.{Comes}
 use Rattle.mdr_source.proofs.OneThing.{one_thing}
+use Rattle.mdr_split_runner.specs.declared.manner.SplitManner.{SplitManner}
 use Rattle.mdr_split_runner.specs.Means.{while_watched}
-use Rattle.mdr_top.specs.Comes.{IsBoundDue, IsSizedDue, IsScriptDue, IsRunDue, IsDueFor, IsDueOrFault, IsExact}
+use Rattle.mdr_top.specs.Comes.{IsUntakenDue, IsBoundDue, IsSizedDue, IsScriptDue, IsRunDue, IsFileDue, IsDueFor, IsDueOrFault, IsExact}
 use Rattle.mdr_top.specs.Cuts.{WroteCause, WriteCause, ReadCause}
 use Rattle.mdr_top.specs.Accepted.{AreAccepted, over_two_halves}
 use Rattle.mdr_top.specs.Headline.{MeansBy, Means, MeansWhereHonest, Rests, RestsHere, EndsAsMeant, EndsWhereAccepted, Completes}
 use Rattle.mdr_top.specs.Outside.{Outside}
 use Rattle.mdr_top.specs.Splits.{IsOfRun}
-use Rattle.mdr_top.specs.Words.{Task, Cut, Whole, Run, command_of}
+use Rattle.mdr_top.specs.declared.words.Way.{Way}
+use Rattle.mdr_top.specs.declared.words.Way.TheVariants as way
+use Rattle.mdr_top.specs.Words.{Inputs, OfFiles, Task, Cut, Run, command_of}
 
 -- ---- answers exclude each other
 
@@ -50,24 +53,21 @@ too_long : (limit : ℕ) (bytes other : List ℕ) → other ≡ bytes → length
 too_long limit bytes other same le long = let long' : limit < length bytes = subst (λ (bs : List ℕ). limit < length bs) same long in omega (arith, le, long')
 
 -- the names in a task, and its budget
-abbrev source_in : Task → List ℕ
-source_in (Cut how name) = name
-source_in (Whole source_name script_name manner) = source_name
-source_in (Run source_name script_name ticks) = source_name
+abbrev names_in : Task → List ℕ × List ℕ
+names_in (Cut how name) = (name, name)
+names_in (Run (OfFiles source_name script_name) in_way) = (source_name, script_name)
 
-abbrev script_in : Task → List ℕ
-script_in (Cut how name) = name
-script_in (Whole source_name script_name manner) = script_name
-script_in (Run source_name script_name ticks) = script_name
+abbrev budget_in : Way → ℕ
+budget_in (way.Whole manner) = manner.ticks
+budget_in (way.Split manner) = manner.ticks
 
 abbrev ticks_in : Task → ℕ
 ticks_in (Cut how name) = 0
-ticks_in (Whole source_name script_name manner) = manner.ticks
-ticks_in (Run source_name script_name ticks) = ticks
+ticks_in (Run inputs in_way) = budget_in in_way
 
--- of a run over two halves, a write fault is the output's
-of_output : (words : List (List ℕ)) (before after : Outside) (s : Status) (source_name script_name : List ℕ) (ticks : ℕ) → command_of words ≡ Some (Run source_name script_name ticks) → WriteCause words before after s → s ≡ status.WriteFault → Rose before.out.faults after.out.faults
-of_output words before after s source_name script_name ticks e cause is = of (subst (λ (c : Option Task). Rose before.out.faults after.out.faults ⊎ WroteCause c before.sides.shelf.unwritten after.sides.shelf.unwritten) e (cause is))
+-- of a run, a write fault is the output's
+of_output : (words : List (List ℕ)) (before after : Outside) (s : Status) (inputs : Inputs) (in_way : Way) → command_of words ≡ Some (Run inputs in_way) → WriteCause words before after s → s ≡ status.WriteFault → Rose before.out.faults after.out.faults
+of_output words before after s inputs in_way e cause is = of (subst (λ (c : Option Task). Rose before.out.faults after.out.faults ⊎ WroteCause c before.sides.shelf.unwritten after.sides.shelf.unwritten) e (cause is))
   where
     of : Rose before.out.faults after.out.faults ⊎ ⊥ → Rose before.out.faults after.out.faults
     of (inl r) = r
@@ -80,20 +80,20 @@ record AreSame (source other : Source) (script script' : Bound) (ticks ticks' : 
   scripts : script' ≡ script
   budgets : ticks' ≡ ticks
 
-module _ (words : List (List ℕ)) (f : List ℕ → Option (List ℕ)) (source other : Source) (script script' : Bound) (ticks ticks' : ℕ) (a : AreAccepted words (Some f) (over_two_halves ticks) source script) (b : AreAccepted words (Some f) (over_two_halves ticks') other script') where
-  same_task : Run b.source_name b.script_name ticks' ≡ Run a.source_name a.script_name ticks
-  same_task = some_same (command_of words) (Run b.source_name b.script_name ticks') (Run a.source_name a.script_name ticks) b.command a.command
+module _ (words : List (List ℕ)) (f : List ℕ → Option (List ℕ)) (source other : Source) (script script' : Bound) (manner manner' : SplitManner) (a : AreAccepted words (Some f) (over_two_halves manner) source script) (b : AreAccepted words (Some f) (over_two_halves manner') other script') where
+  same_task : over_two_halves manner' b.source_name b.script_name ≡ over_two_halves manner a.source_name a.script_name
+  same_task = some_same (command_of words) (over_two_halves manner' b.source_name b.script_name) (over_two_halves manner a.source_name a.script_name) b.command a.command
 
   same_bytes : b.bytes ≡ a.bytes
-  same_bytes = some_same (f a.source_name) b.bytes a.bytes (sym (ap (λ (t : Task). f (source_in t)) same_task) ∙ b.source_read.0) a.source_read.0
+  same_bytes = some_same (f a.source_name) b.bytes a.bytes (sym (ap (λ (t : Task). f (names_in t).0) same_task) ∙ b.source_read.0) a.source_read.0
 
   same_lines : b.lines ≡ a.lines
-  same_lines = some_same (f a.script_name) b.lines a.lines (sym (ap (λ (t : Task). f (script_in t)) same_task) ∙ b.script_read.0) a.script_read.0
+  same_lines = some_same (f a.script_name) b.lines a.lines (sym (ap (λ (t : Task). f (names_in t).1) same_task) ∙ b.script_read.0) a.script_read.0
 
   same_source : other ≡ source
   same_source = one_source a.bytes b.bytes source other same_bytes a.compiled b.compiled
 
-  are_same : AreSame source other script script' ticks ticks'
+  are_same : AreSame source other script script' manner.ticks manner'.ticks
   are_same = record {
     sources = same_source;
     scripts = ok_same (script_for source.program a.lines) script' script (sym (λ i. script_for (same_source i).program (same_lines i)) ∙ b.bound) a.bound;
@@ -122,7 +122,7 @@ ended status.OutOfMemory h = absurd h
 ended status.Missing h = absurd h
 ended status.TooLarge h = absurd h
 
-module _ (words : List (List ℕ)) (f : List ℕ → Option (List ℕ)) (s : Status) (source : Source) (script : Bound) (ticks : ℕ) (a : AreAccepted words (Some f) (over_two_halves ticks) source script) where
+module _ (words : List (List ℕ)) (f : List ℕ → Option (List ℕ)) (s : Status) (source : Source) (script : Bound) (manner : SplitManner) (a : AreAccepted words (Some f) (over_two_halves manner) source script) where
   script_runs : (other : Source) → other ≡ source → IsScriptDue other.program (λ bound. IsOfRun s) (f a.script_name) s → IsOfRun s
   script_runs other same due =
       subst (λ (given : Result Bound (ℕ × ScriptKind)). IsBoundDue (λ bound. IsOfRun s) given s) a.bound
@@ -130,44 +130,47 @@ module _ (words : List (List ℕ)) (f : List ℕ → Option (List ℕ)) (s : Sta
       (subst (λ (o : Option (List ℕ)). IsScriptDue source.program (λ bound. IsOfRun s) o s) a.script_read.0
       (subst (λ (x : Source). IsScriptDue x.program (λ bound. IsOfRun s) (f a.script_name) s) same due)))
 
-  source_runs : IsRunDue (λ program bound. IsOfRun s) (f a.source_name) (f a.script_name) s → IsOfRun s
-  source_runs (IsRunDue.missing e is) = absurd (not_some (f a.source_name) a.bytes a.source_read.0 e)
-  source_runs (IsRunDue.long bytes e long is) = absurd (too_long longest_source a.bytes bytes (some_same (f a.source_name) bytes a.bytes e a.source_read.0) a.source_read.1 long)
-  source_runs (IsRunDue.refused bytes refusal e le comes is) = absurd (no_refusal a.bytes bytes source refusal (some_same (f a.source_name) bytes a.bytes e a.source_read.0) a.compiled comes)
-  source_runs (IsRunDue.accepted bytes other e le comes due) = script_runs other (one_source a.bytes bytes source other (some_same (f a.source_name) bytes a.bytes e a.source_read.0) a.compiled comes) due
+  none_untaken : IsUntakenDue (f a.source_name) s → ⊥
+  none_untaken (IsUntakenDue.missing e is) = not_some (f a.source_name) a.bytes a.source_read.0 e
+  none_untaken (IsUntakenDue.long bytes e long is) = too_long longest_source a.bytes bytes (some_same (f a.source_name) bytes a.bytes e a.source_read.0) a.source_read.1 long
+  none_untaken (IsUntakenDue.refused bytes refusal e le comes is) = no_refusal a.bytes bytes source refusal (some_same (f a.source_name) bytes a.bytes e a.source_read.0) a.compiled comes
+
+  source_runs : IsFileDue (λ program bound. IsOfRun s) (f a.source_name) (f a.script_name) s → IsOfRun s
+  source_runs (IsRunDue.no_source u) = absurd (none_untaken u)
+  source_runs (IsRunDue.accepted other h due) = script_runs other (one_source a.bytes h.bytes source other (some_same (f a.source_name) h.bytes a.bytes h.holds a.source_read.0) a.compiled h.comes) due
 
   -- and ends as is meant
-  ends_as_meant : (before after : Outside) → before.sides.shelf.files ≡ Some f → MeansBy words before after s → EndsAsMeant source.program script ticks s
+  ends_as_meant : (before after : Outside) → before.sides.shelf.files ≡ Some f → MeansBy words before after s → EndsAsMeant source.program script manner.ticks s
   ends_as_meant before after told m =
-      let accepted : AreAccepted words (Some f) (over_two_halves m.ticks) m.source m.script = subst (λ (files : Files). AreAccepted words files (over_two_halves m.ticks) m.source m.script) told m.accepted in
-      let same = are_same words f source m.source script m.script ticks m.ticks a accepted in
-      let ends : EndsAsMeant m.source.program m.script m.ticks s = record {
+      let accepted : AreAccepted words (Some f) (over_two_halves m.manner) m.source m.script = subst (λ (files : Files). AreAccepted words files (over_two_halves m.manner) m.source m.script) told m.accepted in
+      let same = are_same words f source m.source script m.script manner m.manner a accepted in
+      let ends : EndsAsMeant m.source.program m.script m.manner.ticks s = record {
         ends = record { outcome = m.same.outcome; is_outcome = m.same.is_outcome; status_is = m.same.status_is };
-        own = outcome_own m.source.program m.script (while_watched m.ticks) m.same.outcome m.same.is_outcome;
+        own = outcome_own m.source.program m.script (while_watched m.manner.ticks) m.same.outcome m.same.is_outcome;
       } in
       subst (λ (n : ℕ). EndsAsMeant source.program script n s) same.budgets
-      (subst (λ (b : Bound). EndsAsMeant source.program b m.ticks s) same.scripts
-      (subst (λ (x : Source). EndsAsMeant x.program m.script m.ticks s) same.sources ends))
+      (subst (λ (b : Bound). EndsAsMeant source.program b m.manner.ticks s) same.scripts
+      (subst (λ (x : Source). EndsAsMeant x.program m.script m.manner.ticks s) same.sources ends))
 
 module _ (words : List (List ℕ)) (before after : Outside) (s : Status) (means : Means words before after s) (cause : ReadCause before.sides.shelf after.sides.shelf s) (wrote : WriteCause words before after s) (fails : s ≡ status.FarFault → Rose before.sides.far.faults after.sides.far.faults) (rests : RestsHere before after) (far_rest : Rests before.sides.far.faults after.sides.far.faults) where
-  ends_told : (f : List ℕ → Option (List ℕ)) → before.sides.shelf.files ≡ Some f → (source : Source) (script : Bound) (ticks : ℕ) → AreAccepted words (Some f) (over_two_halves ticks) source script → IsDueOrFault (IsDueFor (command_of words) f s) s
-      → (s ≡ status.OutOfMemory) ⊎ EndsAsMeant source.program script ticks s
-  ends_told f told source script ticks a exact = of exact
+  ends_told : (f : List ℕ → Option (List ℕ)) → before.sides.shelf.files ≡ Some f → (source : Source) (script : Bound) (manner : SplitManner) → AreAccepted words (Some f) (over_two_halves manner) source script → IsDueOrFault (IsDueFor (command_of words) f s) s
+      → (s ≡ status.OutOfMemory) ⊎ EndsAsMeant source.program script manner.ticks s
+  ends_told f told source script manner a exact = of exact
     where
-      by_status : Ended s → (s ≡ status.OutOfMemory) ⊎ EndsAsMeant source.program script ticks s
-      by_status (Ended.itself is) = inr (ends_as_meant words f s source script ticks a before after told (means.means a.source_name a.script_name ticks a.command is))
+      by_status : Ended s → (s ≡ status.OutOfMemory) ⊎ EndsAsMeant source.program script manner.ticks s
+      by_status (Ended.itself is) = inr (ends_as_meant words f s source script manner a before after told (means.means a.source_name a.script_name manner a.command is))
       by_status (Ended.refused is) = absurd (means.never is)
       by_status (Ended.failed is) = absurd (far_rest (fails is))
 
-      of : IsDueOrFault (IsDueFor (command_of words) f s) s → (s ≡ status.OutOfMemory) ⊎ EndsAsMeant source.program script ticks s
+      of : IsDueOrFault (IsDueFor (command_of words) f s) s → (s ≡ status.OutOfMemory) ⊎ EndsAsMeant source.program script manner.ticks s
       of (inl is) = absurd (rests.reads (subst (ReadCause before.sides.shelf after.sides.shelf) is cause))
-      of (inr (inl is)) = absurd (rests.writes (of_output words before after s a.source_name a.script_name ticks a.command wrote is))
+      of (inr (inl is)) = absurd (rests.writes (of_output words before after s (OfFiles a.source_name a.script_name) (way.Split manner) a.command wrote is))
       of (inr (inr (inl is))) = inl is
-      of (inr (inr (inr due))) = by_status (ended s (source_runs words f s source script ticks a (subst (λ (c : Option Task). IsDueFor c f s) a.command due)))
+      of (inr (inr (inr due))) = by_status (ended s (source_runs words f s source script manner a (subst (λ (c : Option Task). IsDueFor c f s) a.command due)))
 
   ends_so : (files : Files) → before.sides.shelf.files ≡ files → IsExact words files s → EndsWhereAccepted words files s
-  ends_so None told exact source script ticks are a = elim are [ ]
-  ends_so (Some f) told exact source script ticks are a = ends_told f told source script ticks a exact
+  ends_so None told exact source script manner are a = elim are [ ]
+  ends_so (Some f) told exact source script manner are a = ends_told f told source script manner a exact
 
 pub completes : (words : List (List ℕ)) (before after : Outside) (s : Status) → IsExact words before.sides.shelf.files s → MeansWhereHonest words before after s → ReadCause before.sides.shelf after.sides.shelf s → WriteCause words before after s
     → (s ≡ status.FarFault → Rose before.sides.far.faults after.sides.far.faults) → Completes words before after s

@@ -14,29 +14,29 @@ use Rattle.mdr_slicer.specs.Writes.{Writes}
 use Rattle.mdr_slicer.specs.Slicing.{NoSourceOf, Splits, Reports}
 use Rattle.mdr_source.specs.declared.outcome.Source.{Source}
 use Rattle.mdr_runner.specs.declared.manner.Manner.{Manner}
+use Rattle.mdr_split_runner.specs.declared.manner.SplitManner.{SplitManner}
 use Rattle.mdr_top.specs.declared.words.Cutting.{Cutting}
 use Rattle.mdr_top.specs.declared.words.Cutting.TheVariants as cutting
-use Rattle.mdr_top.specs.Words.{Task, Cut, Whole, Run, cut_of, whole_of, run_of, command_by, command_of}
+use Rattle.mdr_top.specs.declared.words.Way.{Way}
+use Rattle.mdr_top.specs.declared.words.Way.TheVariants as way
+use Rattle.mdr_top.specs.Words.{Inputs, OfFiles, Task, Cut, Run, cut_of, run_of, command_by, command_of}
 use Rattle.mdr_top.specs.Cuts.{CutDone, IsSplit, IsCut, IsOfCut}
-use Rattle.mdr_top.specs.Answers.{Unread, CutAnswered}
+use Rattle.mdr_top.specs.Answers.{Unread, Untaken, CutAnswered}
 use Rattle.mdr_top.proofs.Statuses.{cut_answered_status}
 
 -- ---- words
 
 pub cut_command : (words : List (List ℕ)) (how : Cutting) (name : List ℕ) → Some (how, name) ≡ cut_of words → command_of words ≡ Some (Cut how name)
-cut_command words how name e = ap (λ (c : Option (Cutting × List ℕ)). command_by c (whole_of words) (run_of words)) (sym e)
+cut_command words how name e = ap (λ (c : Option (Cutting × List ℕ)). command_by c (run_of words)) (sym e)
 
-pub whole_command : (words : List (List ℕ)) (source_name script_name : List ℕ) (manner : Manner) → None ≡ cut_of words → Some (source_name, script_name, manner) ≡ whole_of words → command_of words ≡ Some (Whole source_name script_name manner)
-whole_command words source_name script_name manner none e = λ i. command_by (sym none i) (sym e i) (run_of words)
+pub run_command : (words : List (List ℕ)) (source_name script_name : List ℕ) (in_way : Way) → None ≡ cut_of words → Some (source_name, script_name, in_way) ≡ run_of words → command_of words ≡ Some (Run (OfFiles source_name script_name) in_way)
+run_command words source_name script_name in_way none e = λ i. command_by (sym none i) (sym e i)
 
-pub run_command : (words : List (List ℕ)) (source_name script_name : List ℕ) (ticks : ℕ) → None ≡ cut_of words → None ≡ whole_of words → Some (source_name, script_name, ticks) ≡ run_of words → command_of words ≡ Some (Run source_name script_name ticks)
-run_command words source_name script_name ticks none neither e = λ i. command_by (sym none i) (sym neither i) (sym e i)
+pub cut_no_run : (command : Option Task) (how : Cutting) (name : List ℕ) (inputs : Inputs) (in_way : Way) → command ≡ Some (Cut how name) → command ≡ Some (Run inputs in_way) → ⊥
+cut_no_run command how name inputs in_way e f = Prim.cc
 
-pub cut_no_run : (command : Option Task) (how : Cutting) (name source_name script_name : List ℕ) (ticks : ℕ) → command ≡ Some (Cut how name) → command ≡ Some (Run source_name script_name ticks) → ⊥
-cut_no_run command how name source_name script_name ticks e f = Prim.cc
-
-pub whole_no_run : (command : Option Task) (source script : List ℕ) (manner : Manner) (source_name script_name : List ℕ) (ticks : ℕ) → command ≡ Some (Whole source script manner) → command ≡ Some (Run source_name script_name ticks) → ⊥
-whole_no_run command source script manner source_name script_name ticks e f = Prim.cc
+pub whole_no_split : (command : Option Task) (inputs other : Inputs) (manner : Manner) (manner' : SplitManner) → command ≡ Some (Run inputs (way.Whole manner)) → command ≡ Some (Run other (way.Split manner')) → ⊥
+whole_no_split command inputs other manner manner' e f = Prim.cc
 
 -- ---- files
 
@@ -64,22 +64,22 @@ writes_end lines _ files files' old new s text (Writes.next file rest later betw
 
 -- ---- what is due
 
-source_so : (how : Cutting) (files : Files) (name : List ℕ) (old new : List ShelfCall) (s : Status) (text : List ℕ) → NoSourceOf files name old new s text → CutAnswered how files name s text
-source_so how files name old new s text (NoSourceOf.unread u) = CutAnswered.unread (unread_so files name longest_source old new s text u)
-source_so how files name old new s text (NoSourceOf.refused bytes read none) = CutAnswered.refused bytes read.told none
+pub untaken_so : (files : Files) (name : List ℕ) (old new : List ShelfCall) (s : Status) (text : List ℕ) → NoSourceOf files name old new s text → Untaken files name s text
+untaken_so files name old new s text (NoSourceOf.unread u) = Untaken.unread (unread_so files name longest_source old new s text u)
+untaken_so files name old new s text (NoSourceOf.refused bytes read none) = Untaken.refused bytes read.told none
 
 split_so : (files files' : Files) (name : List ℕ) (old new : List ShelfCall) (s : Status) (text : List ℕ) → Splits files files' name old new s text → CutAnswered cutting.Split files name s text
-split_so files files' name old new s text (Splits.no_source kept n) = source_so cutting.Split files name old new s text n
+split_so files files' name old new s text (Splits.no_source kept n) = CutAnswered.untaken (untaken_so files name old new s text n)
 split_so files files' name old new s text (Splits.written source texts between read are w) =
-    CutAnswered.accepted read.bytes source read.read.told read.has (of (writes_end (length_lines (outputs name texts)) (outputs name texts) files files' between new s text w))
+    CutAnswered.accepted source (record { bytes = read.bytes; read = read.read.told; has = read.has }) (of (writes_end (length_lines (outputs name texts)) (outputs name texts) files files' between new s text w))
   where
     of : WritesEnd (length_lines (outputs name texts)) (outputs name texts) s text → IsSplit name source s text
     of (WritesEnd.whole e t) = IsSplit.whole texts are e t
     of (WritesEnd.failed i f at e t) = IsSplit.failed texts i f are at e t
 
 report_so : (files : Files) (name : List ℕ) (old new : List ShelfCall) (s : Status) (text : List ℕ) → Reports files name old new s text → CutAnswered cutting.Report files name s text
-report_so files name old new s text (Reports.no_source n) = source_so cutting.Report files name old new s text n
-report_so files name old new s text (Reports.reported source read r) = CutAnswered.accepted read.bytes source read.read.told read.has r
+report_so files name old new s text (Reports.no_source n) = CutAnswered.untaken (untaken_so files name old new s text n)
+report_so files name old new s text (Reports.reported source read r) = CutAnswered.accepted source (record { bytes = read.bytes; read = read.read.told; has = read.has }) r
 
 pub cut_so : (how : Cutting) (files files' : Files) (name : List ℕ) (old new : List ShelfCall) (s : Status) (text : List ℕ) → CutDone how files files' name old new s text → CutAnswered how files name s text
 cut_so cutting.Split files files' name old new s text d = split_so files files' name old new s text d

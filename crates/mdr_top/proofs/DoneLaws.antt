@@ -12,19 +12,23 @@ use Rattle.mdr_runner.specs.declared.manner.Manner.{Manner}
 use Rattle.mdr_runner.specs.Scripts.{NoScriptOf}
 use Rattle.mdr_runner.specs.Runs.{RunsOver, Runs}
 use Rattle.mdr_slicer.specs.Slicing.{NoSourceOf}
+use Rattle.mdr_split_runner.specs.declared.manner.SplitManner.{SplitManner}
 use Rattle.mdr_split_runner.specs.Means.{SplitMeans, SplitMeansBy}
 use Rattle.mdr_split_runner.specs.SplitRuns.{SplitRuns}
 use Rattle.mdr_split_runner.proofs.Honest.{runs_mean}
-use Rattle.mdr_top.specs.Answers.{Answered, Prints}
+use Rattle.mdr_top.specs.Answers.{WayDue, RunAnswered, Answered, Prints}
 use Rattle.mdr_top.specs.Cuts.{IsOfCut}
-use Rattle.mdr_top.specs.Done.{Done, DonePart, Does}
+use Rattle.mdr_top.specs.Done.{RunDone, Done, DonePart, Does}
 use Rattle.mdr_top.specs.Headline.{MeansBy, Means}
 use Rattle.mdr_top.specs.declared.words.Cutting.{Cutting}
-use Rattle.mdr_top.specs.Outside.{Sides, Outside}
+use Rattle.mdr_top.specs.declared.words.Way.{Way}
+use Rattle.mdr_top.specs.declared.words.Way.TheVariants as way
+use Rattle.mdr_split_runner.specs.Sides.{Sides}
+use Rattle.mdr_top.specs.Outside.{Outside}
 use Rattle.mdr_top.specs.Wholes.{WholeMeansBy, IsOfWhole}
-use Rattle.mdr_top.specs.Words.{Task, Cut, Whole, Run, command_of}
+use Rattle.mdr_top.specs.Words.{Inputs, OfFiles, Task, Cut, Run, command_of}
 use Rattle.mdr_top.specs.Writing.{IsWritten, IsCutOff, TellsFailure}
-use Rattle.mdr_top.proofs.CutLaws.{cut_no_run, whole_no_run, unread_so, cut_so, cut_status}
+use Rattle.mdr_top.proofs.CutLaws.{cut_no_run, whole_no_split, unread_so, cut_so, cut_status}
 use Rattle.mdr_top.proofs.Headline.{IsEarly, early_sourceless, not_early}
 use Rattle.mdr_top.proofs.Pieces.{offers_last, offers_whole}
 use Rattle.mdr_top.proofs.SplitLaws.{split_so}
@@ -45,11 +49,14 @@ does_part seen words before after same d out = Does.nothing refl (subst (λ (ws 
 
 -- ---- what is printed
 
+ran_so : (inputs : Inputs) (in_way : Way) (before after : Sides) (s : Status) (text : List ℕ) → RunDone inputs in_way before after s text → RunAnswered inputs before.shelf.files (WayDue in_way after.far.loaded after.far.exchanges s text) s text
+ran_so (OfFiles name script_name) (way.Whole manner) before after s text d = whole_so before.shelf.files name script_name manner before.shelf.calls after.shelf.calls s text d.runs
+ran_so (OfFiles name script_name) (way.Split manner) before after s text d = split_so before.shelf.files name script_name manner before.shelf.calls after.shelf.calls before.far after.far s text d
+
 answered_so : (words : List (List ℕ)) (before after : Sides) (s : Status) (text : List ℕ) → Done words before after s text → Answered words before.shelf.files after.far.loaded after.far.exchanges s text
 answered_so words before after s text (Done.usage e same is t) = Answered.usage e is t
 answered_so words before after s text (Done.cut how name e d f) = Answered.cut how name e (cut_so how before.shelf.files after.shelf.files name before.shelf.calls after.shelf.calls s text d)
-answered_so words before after s text (Done.whole name script_name manner e kept runs f) = Answered.whole name script_name manner e (whole_so before.shelf.files name script_name manner before.shelf.calls after.shelf.calls s text runs)
-answered_so words before after s text (Done.split name script_name ticks e kept runs) = Answered.split name script_name ticks e (split_so before.shelf.files name script_name ticks before.shelf.calls after.shelf.calls before.far after.far s text runs)
+answered_so words before after s text (Done.ran inputs in_way e kept runs) = Answered.ran inputs in_way e (ran_so inputs in_way before after s text runs)
 
 pub prints_so : (words : List (List ℕ)) (before after : Outside) (s : Status) → Does words before after s → Prints words before after s
 prints_so words before after s (Does.whole text d w) = Prints.whole text (answered_so words before.sides after.sides s text d) w
@@ -70,21 +77,21 @@ module _ (words : List (List ℕ)) (before after : Outside) (s : Status) where
   MeansIt = Means words before after s
 
   early_means : IsEarly s → MeansIt
-  early_means early = record { never = λ e. subst IsEarly e early; means = λ source_name script_name ticks named is. absurd (not_early s early is) }
+  early_means early = record { never = λ e. subst IsEarly e early; means = λ source_name script_name manner named is. absurd (not_early s early is) }
 
   cut_means : (how : Cutting) (name : List ℕ) → command_of words ≡ Some (Cut how name) → IsOfCut s → MeansIt
-  cut_means how name e own = record { never = λ is. subst IsOfCut is own; means = λ source_name script_name ticks named is. absurd (cut_no_run (command_of words) how name source_name script_name ticks e named) }
+  cut_means how name e own = record { never = λ is. subst IsOfCut is own; means = λ source_name script_name manner named is. absurd (cut_no_run (command_of words) how name (OfFiles source_name script_name) (way.Split manner) e named) }
 
-  whole_means : (source script : List ℕ) (manner : Manner) → command_of words ≡ Some (Whole source script manner) → IsOfWhole s → MeansIt
-  whole_means source script manner e own = record { never = λ is. subst IsOfWhole is own; means = λ source_name script_name ticks named is. absurd (whole_no_run (command_of words) source script manner source_name script_name ticks e named) }
+  whole_means : (inputs : Inputs) (manner : Manner) → command_of words ≡ Some (Run inputs (way.Whole manner)) → IsOfWhole s → MeansIt
+  whole_means inputs manner e own = record { never = λ is. subst IsOfWhole is own; means = λ source_name script_name manner' named is. absurd (whole_no_split (command_of words) inputs (OfFiles source_name script_name) manner manner' e named) }
 
   -- what a run over an honest far side means is printed
-  split_means_by : (text : List ℕ) → IsWritten before.out after.out text → (name script_name : List ℕ) (ticks : ℕ) → command_of words ≡ Some (Run name script_name ticks) → SplitMeansBy before.sides.shelf.files name script_name ticks before.sides.shelf.calls after.sides.shelf.calls after.sides.far.loaded after.sides.far.exchanges s text
+  split_means_by : (text : List ℕ) → IsWritten before.out after.out text → (name script_name : List ℕ) (manner : SplitManner) → command_of words ≡ Some (Run (OfFiles name script_name) (way.Split manner)) → SplitMeansBy before.sides.shelf.files name script_name manner before.sides.shelf.calls after.sides.shelf.calls after.sides.far.loaded after.sides.far.exchanges s text
       → MeansBy words before after s
-  split_means_by text adds name script_name ticks e m = record {
+  split_means_by text adds name script_name manner e m = record {
     source = m.source;
     script = m.script;
-    ticks = ticks;
+    manner = manner;
     accepted = record {
       source_name = name;
       script_name = script_name;
@@ -102,35 +109,36 @@ module _ (words : List (List ℕ)) (before after : Outside) (s : Status) where
     texts = m.texts;
     cut = m.cut;
     held = m.held;
-    text = text;
-    printed = adds;
+    text = m.report;
+    printed = subst (IsWritten before.out after.out) m.shown adds;
     meaning = m.meaning;
     same = m.same;
   }
 
-  split_means : (text : List ℕ) → IsWritten before.out after.out text → (name script_name : List ℕ) (ticks : ℕ) → command_of words ≡ Some (Run name script_name ticks) → SplitRuns before.sides.shelf.files name script_name ticks before.sides.shelf.calls after.sides.shelf.calls before.sides.far after.sides.far s text → IsHonest after.sides.far.loaded after.sides.far.exchanges → MeansIt
-  split_means text adds name script_name ticks e runs honest =
-      let m : SplitMeans before.sides.shelf.files name script_name ticks before.sides.shelf.calls after.sides.shelf.calls after.sides.far.loaded after.sides.far.exchanges s text =
-      runs_mean before.sides.shelf.files name script_name ticks before.sides.shelf.calls after.sides.shelf.calls before.sides.far after.sides.far s text runs honest in
-      record { never = m.never; means = λ source_name other_name other_ticks named is. split_means_by text adds name script_name ticks e (m.means is) }
+  split_means : (text : List ℕ) → IsWritten before.out after.out text → (name script_name : List ℕ) (manner : SplitManner) → command_of words ≡ Some (Run (OfFiles name script_name) (way.Split manner)) → SplitRuns before.sides.shelf.files name script_name manner before.sides.shelf.calls after.sides.shelf.calls before.sides.far after.sides.far s text → IsHonest after.sides.far.loaded after.sides.far.exchanges → MeansIt
+  split_means text adds name script_name manner e runs honest =
+      let m : SplitMeans before.sides.shelf.files name script_name manner before.sides.shelf.calls after.sides.shelf.calls after.sides.far.loaded after.sides.far.exchanges s text =
+      runs_mean before.sides.shelf.files name script_name manner before.sides.shelf.calls after.sides.shelf.calls before.sides.far after.sides.far s text runs honest in
+      record { never = m.never; means = λ source_name other_name other_manner named is. split_means_by text adds name script_name manner e (m.means is) }
+
+  ran_means : (text : List ℕ) → IsWritten before.out after.out text → (inputs : Inputs) (in_way : Way) → command_of words ≡ Some (Run inputs in_way) → RunDone inputs in_way before.sides after.sides s text → IsHonest after.sides.far.loaded after.sides.far.exchanges → MeansIt
+  ran_means text adds (OfFiles name script_name) (way.Whole manner) e runs honest =
+      whole_means (OfFiles name script_name) manner e (whole_status before.sides.shelf.files name script_name manner before.sides.shelf.calls after.sides.shelf.calls s text runs.runs)
+  ran_means text adds (OfFiles name script_name) (way.Split manner) e runs honest = split_means text adds name script_name manner e runs honest
 
   pub does_mean : Does words before after s → IsHonest after.sides.far.loaded after.sides.far.exchanges → MeansIt
   does_mean (Does.cut due text e d c) honest = early_means (subst IsEarly (sym e) tt)
   does_mean (Does.nothing e d same) honest = early_means (subst IsEarly (sym e) tt)
   does_mean (Does.whole text (Done.usage e same is t) w) honest = early_means (subst IsEarly (sym is) tt)
   does_mean (Does.whole text (Done.cut how name e d f) w) honest = cut_means how name e (cut_status how before.sides.shelf.files after.sides.shelf.files name before.sides.shelf.calls after.sides.shelf.calls s text d)
-  does_mean (Does.whole text (Done.whole name script_name manner e kept runs f) w) honest = whole_means name script_name manner e (whole_status before.sides.shelf.files name script_name manner before.sides.shelf.calls after.sides.shelf.calls s text runs)
-  does_mean (Does.whole text (Done.split name script_name ticks e kept runs) w) honest = split_means text w name script_name ticks e runs honest
+  does_mean (Does.whole text (Done.ran inputs in_way e kept runs) w) honest = ran_means text w inputs in_way e runs honest
 
 -- ---- what is meant on one memory
 
-no_whole : (command : Option Task) (source_name script_name : List ℕ) (manner : Manner) → command ≡ Some (Whole source_name script_name manner) → command ≡ None → ⊥
-no_whole command source_name script_name manner e f = Prim.cc
+no_whole : (command : Option Task) (inputs : Inputs) (in_way : Way) → command ≡ Some (Run inputs in_way) → command ≡ None → ⊥
+no_whole command inputs in_way e f = Prim.cc
 
-cut_no_whole : (command : Option Task) (how : Cutting) (name source_name script_name : List ℕ) (manner : Manner) → command ≡ Some (Cut how name) → command ≡ Some (Whole source_name script_name manner) → ⊥
-cut_no_whole command how name source_name script_name manner e f = Prim.cc
-
-module _ (words : List (List ℕ)) (before after : Outside) (s : Status) (text : List ℕ) (adds : IsWritten before.out after.out text) (name script_name : List ℕ) (manner : Manner) (e : command_of words ≡ Some (Whole name script_name manner)) where
+module _ (words : List (List ℕ)) (before after : Outside) (s : Status) (text : List ℕ) (adds : IsWritten before.out after.out text) (name script_name : List ℕ) (manner : Manner) (e : command_of words ≡ Some (Run (OfFiles name script_name) (way.Whole manner))) where
   -- what ran is what is meant
   runs_mean_whole : Runs before.sides.shelf.files name script_name manner before.sides.shelf.calls after.sides.shelf.calls s text → (s ≡ status.Done) ⊎ (s ≡ status.Stopped) → WholeMeansBy words before after s
   runs_mean_whole (Runs.no_source (NoSourceOf.unread u)) is = absurd (not_early s (unread_status IsEarly early_sourceless before.sides.shelf.files s text name longest_source (unread_so before.sides.shelf.files name longest_source before.sides.shelf.calls after.sides.shelf.calls s text u)) is)
@@ -149,12 +157,15 @@ module _ (words : List (List ℕ)) (before after : Outside) (s : Status) (text :
     meaning = run';
   }
 
-module _ (words : List (List ℕ)) (before after : Outside) (s : Status) (source_name script_name : List ℕ) (manner : Manner) (named : command_of words ≡ Some (Whole source_name script_name manner)) where
+module _ (words : List (List ℕ)) (before after : Outside) (s : Status) (source_name script_name : List ℕ) (manner : Manner) (named : command_of words ≡ Some (Run (OfFiles source_name script_name) (way.Whole manner))) where
+  ran_on_one : (text : List ℕ) → IsWritten before.out after.out text → (s ≡ status.Done) ⊎ (s ≡ status.Stopped) → (inputs : Inputs) (in_way : Way) → command_of words ≡ Some (Run inputs in_way) → RunDone inputs in_way before.sides after.sides s text → WholeMeansBy words before after s
+  ran_on_one text adds is (OfFiles name other) (way.Whole other_manner) e runs = runs_mean_whole words before after s text adds name other other_manner e runs.runs is
+  ran_on_one text adds is (OfFiles name other) (way.Split other_manner) e runs = absurd (whole_no_split (command_of words) (OfFiles source_name script_name) (OfFiles name other) manner other_manner named e)
+
   done_means : (text : List ℕ) → IsWritten before.out after.out text → (s ≡ status.Done) ⊎ (s ≡ status.Stopped) → Done words before.sides after.sides s text → WholeMeansBy words before after s
-  done_means text adds is (Done.usage e same st t) = absurd (no_whole (command_of words) source_name script_name manner named e)
-  done_means text adds is (Done.cut how name e d f) = absurd (cut_no_whole (command_of words) how name source_name script_name manner e named)
-  done_means text adds is (Done.whole name other other_manner e kept runs f) = runs_mean_whole words before after s text adds name other other_manner e runs is
-  done_means text adds is (Done.split name other ticks e kept runs) = absurd (whole_no_run (command_of words) source_name script_name manner name other ticks named e)
+  done_means text adds is (Done.usage e same st t) = absurd (no_whole (command_of words) (OfFiles source_name script_name) (way.Whole manner) named e)
+  done_means text adds is (Done.cut how name e d f) = absurd (cut_no_run (command_of words) how name (OfFiles source_name script_name) (way.Whole manner) e named)
+  done_means text adds is (Done.ran inputs in_way e kept runs) = ran_on_one text adds is inputs in_way e runs
 
   pub does_run : Does words before after s → (s ≡ status.Done) ⊎ (s ≡ status.Stopped) → WholeMeansBy words before after s
   does_run (Does.whole text d w) is = done_means text w is d

@@ -17,33 +17,47 @@ use Rattle.mdr_runner.specs.Scripts.{script_for}
 use Rattle.mdr_bound.specs.declared.bound.Bound.{Bound}
 use Rattle.mdr_script.specs.declared.script_error.ScriptKind.{ScriptKind}
 use Rattle.mdr_source.specs.declared.outcome.Source.{Source}
-use Rattle.mdr_top.specs.Answers.{Unread, CutAnswered, ScriptAnswered, WholeDue, SplitDue, Answered, Prints}
-use Rattle.mdr_top.specs.Comes.{IsCutDue, IsBoundDue, IsSizedDue, IsScriptDue, IsRunDue, IsWholeDue, IsDueFor, IsDueOrFault, IsExact, CutCompletes, WholeCompletes}
+use Rattle.mdr_top.specs.Answers.{Unread, Untaken, IsTaken, CutAnswered, ScriptAnswered, FileAnswered, WholeDue, SplitDue, WayDue, RunAnswered, Answered, Prints}
+use Rattle.mdr_top.specs.Comes.{IsUntakenDue, IsTakenDue, IsCutDue, IsBoundDue, IsSizedDue, IsScriptDue, IsRunDue, IsFileDue, IsWholeDue, WayEnds, IsDueOf, IsDueFor, IsDueOrFault, IsExact, CutCompletes, WholeCompletes}
 use Rattle.mdr_top.specs.Cuts.{IsSplit, IsCut, CutCause, WroteCause, WriteCause, ReadCause}
 use Rattle.mdr_top.specs.declared.words.Cutting.{Cutting}
 use Rattle.mdr_top.specs.declared.words.Cutting.TheVariants as cutting
+use Rattle.mdr_top.specs.declared.words.Way.{Way}
+use Rattle.mdr_top.specs.declared.words.Way.TheVariants as way
 use Rattle.mdr_top.specs.Headline.{Rests, RestsHere}
 use Rattle.mdr_top.specs.Outside.{Outside}
 use Rattle.mdr_top.specs.Splits.{IsOfRun}
-use Rattle.mdr_top.specs.Words.{Task, Cut, Whole, command_of}
+use Rattle.mdr_top.specs.Words.{Inputs, OfFiles, Task, Cut, Run, command_of}
 use Rattle.mdr_top.proofs.SplitLaws.{run_status}
 
 module _ (words : List (List ℕ)) (f : List ℕ → Option (List ℕ)) (loaded : Option Loaded) (es : List Exchange) (s : Status) (text : List ℕ) where
-  cut_due : (how : Cutting) (name : List ℕ) → CutAnswered how (Some f) name s text → IsDueOrFault (IsCutDue (f name) s) s
-  cut_due how name (CutAnswered.unread (Unread.missing r e t)) = inr (inr (inr (IsCutDue.missing r e)))
-  cut_due how name (CutAnswered.unread (Unread.long r e t)) = inr (inr (inr (of (f name) refl r)))
+  -- a source that isn't taken, or whose file couldn't be read
+  untaken_due : (name : List ℕ) → Untaken (Some f) name s text → (s ≡ status.ReadFault) ⊎ IsUntakenDue (f name) s
+  untaken_due name (Untaken.unread (Unread.missing r e t)) = inr (IsUntakenDue.missing r e)
+  untaken_due name (Untaken.unread (Unread.long r e t)) = inr (of (f name) refl r)
     where
-      of : (o : Option (List ℕ)) → f name ≡ o → IsSomeAnd o (λ bytes. longest_source < length bytes) → IsCutDue (f name) s
+      of : (o : Option (List ℕ)) → f name ≡ o → IsSomeAnd o (λ bytes. longest_source < length bytes) → IsUntakenDue (f name) s
       of None is h = elim h [ ]
-      of (Some bytes) is h = IsCutDue.long bytes is h e
-  cut_due how name (CutAnswered.unread (Unread.failed e t)) = inl e
-  cut_due how name (CutAnswered.refused bytes r n) = inr (inr (inr (IsCutDue.refused bytes n.refusal r.0 r.1 n.comes n.status_is)))
-  cut_due how name (CutAnswered.accepted bytes source r h c) = of how c
+      of (Some bytes) is h = IsUntakenDue.long bytes is h e
+  untaken_due name (Untaken.unread (Unread.failed e t)) = inl e
+  untaken_due name (Untaken.refused bytes r n) = inr (IsUntakenDue.refused bytes n.refusal r.0 r.1 n.comes n.status_is)
+
+  taken_due : (name : List ℕ) (source : Source) → IsTaken (Some f) name source → IsTakenDue (f name) source
+  taken_due name source h = record { bytes = h.bytes; holds = h.read.0; fits = h.read.1; comes = h.has.comes }
+
+  -- what is due, but that a read may have failed
+  or_fault : (Known Due : Type 0) → (Known → Due) → (s ≡ status.ReadFault) ⊎ Known → IsDueOrFault Due s
+  or_fault Known Due go (inl is) = inl is
+  or_fault Known Due go (inr known) = inr (inr (inr (go known)))
+
+  cut_due : (how : Cutting) (name : List ℕ) → CutAnswered how (Some f) name s text → IsDueOrFault (IsCutDue (f name) s) s
+  cut_due how name (CutAnswered.untaken u) = or_fault (IsUntakenDue (f name) s) (IsCutDue (f name) s) (λ none. IsCutDue.untaken none) (untaken_due name u)
+  cut_due how name (CutAnswered.accepted source h c) = of how c
     where
       of : (k : Cutting) → IsCut k name source s text → IsDueOrFault (IsCutDue (f name) s) s
-      of cutting.Split (IsSplit.whole texts are is t) = inr (inr (inr (IsCutDue.accepted bytes source r.0 r.1 h.comes is)))
+      of cutting.Split (IsSplit.whole texts are is t) = inr (inr (inr (IsCutDue.accepted source (taken_due name source h) is)))
       of cutting.Split (IsSplit.failed texts i file are at is t) = inr (inl is)
-      of cutting.Report reported = inr (inr (inr (IsCutDue.accepted bytes source r.0 r.1 h.comes reported.status_is)))
+      of cutting.Report reported = inr (inr (inr (IsCutDue.accepted source (taken_due name source h) reported.status_is)))
 
   -- the script's file is there and fits
   script_fits : (script_name lines : List ℕ) (program : Program) (Ends : Bound → Type 0) (given : Result Bound (ℕ × ScriptKind)) → ReadsFrom (Some f) script_name longest_script (reads.Ok lines) → script_for program lines ≡ given → IsBoundDue Ends given s
@@ -64,34 +78,25 @@ module _ (words : List (List ℕ)) (f : List ℕ → Option (List ℕ)) (loaded 
 
   -- what a source and a script give, where it is told what a run of them gives
   run_due : (Ends : Program → Bound → Type 0) (Due : Source → Bound → Type 0) (name script_name : List ℕ) → ((source : Source) (script : Bound) → Due source script → Ends source.program script)
-      → ScriptAnswered (Some f) name script_name Due s text → IsDueOrFault (IsRunDue Ends (f name) (f script_name) s) s
-  run_due Ends Due name script_name ends (ScriptAnswered.source_unread (Unread.missing r e t)) = inr (inr (inr (IsRunDue.missing r e)))
-  run_due Ends Due name script_name ends (ScriptAnswered.source_unread (Unread.long r e t)) = inr (inr (inr (of (f name) refl r)))
-    where
-      of : (o : Option (List ℕ)) → f name ≡ o → IsSomeAnd o (λ bytes. longest_source < length bytes) → IsRunDue Ends (f name) (f script_name) s
-      of None is h = elim h [ ]
-      of (Some bytes) is h = IsRunDue.long bytes is h e
-  run_due Ends Due name script_name ends (ScriptAnswered.source_unread (Unread.failed e t)) = inl e
-  run_due Ends Due name script_name ends (ScriptAnswered.source_refused bytes r n) = inr (inr (inr (IsRunDue.refused bytes n.refusal r.0 r.1 n.comes n.status_is)))
-  run_due Ends Due name script_name ends (ScriptAnswered.script_unread bytes source r h u) = of (script_unfit script_name source.program (Ends source.program) u)
-    where
-      of : (s ≡ status.ReadFault) ⊎ IsScriptDue source.program (Ends source.program) (f script_name) s → IsDueOrFault (IsRunDue Ends (f name) (f script_name) s) s
-      of (inl is) = inl is
-      of (inr due) = inr (inr (inr (IsRunDue.accepted bytes source r.0 r.1 h.comes due)))
-  run_due Ends Due name script_name ends (ScriptAnswered.script_refused bytes source lines r h r' n) =
-      inr (inr (inr (IsRunDue.accepted bytes source r.0 r.1 h.comes (script_fits script_name lines source.program (Ends source.program) (Err (n.line, n.kind)) r' n.refused n.status_is))))
-  run_due Ends Due name script_name ends (ScriptAnswered.ran bytes source lines script r h r' b due) =
-      inr (inr (inr (IsRunDue.accepted bytes source r.0 r.1 h.comes (script_fits script_name lines source.program (Ends source.program) (Ok script) r' b (ends source script due)))))
+      → FileAnswered (Some f) name script_name Due s text → IsDueOrFault (IsFileDue Ends (f name) (f script_name) s) s
+  run_due Ends Due name script_name ends (ScriptAnswered.no_source u) = or_fault (IsUntakenDue (f name) s) (IsFileDue Ends (f name) (f script_name) s) (λ none. IsRunDue.no_source none) (untaken_due name u)
+  run_due Ends Due name script_name ends (ScriptAnswered.script_unread source h u) =
+      or_fault (IsScriptDue source.program (Ends source.program) (f script_name) s) (IsFileDue Ends (f name) (f script_name) s) (λ due. IsRunDue.accepted source (taken_due name source h) due) (script_unfit script_name source.program (Ends source.program) u)
+  run_due Ends Due name script_name ends (ScriptAnswered.script_refused source lines h r n) =
+      inr (inr (inr (IsRunDue.accepted source (taken_due name source h) (script_fits script_name lines source.program (Ends source.program) (Err (n.line, n.kind)) r n.refused n.status_is))))
+  run_due Ends Due name script_name ends (ScriptAnswered.ran source lines script h r b due) =
+      inr (inr (inr (IsRunDue.accepted source (taken_due name source h) (script_fits script_name lines source.program (Ends source.program) (Ok script) r b (ends source script due)))))
+
+  ran_due : (inputs : Inputs) (in_way : Way) → RunAnswered inputs (Some f) (WayDue in_way loaded es s text) s text → IsDueOrFault (IsDueOf inputs f (WayEnds in_way s) s) s
+  ran_due (OfFiles name script_name) (way.Whole manner) c =
+      run_due (λ program bound. EndsWith program bound manner s) (WholeDue manner s text) name script_name (λ source script run. record { outcome = run.outcome; is_outcome = run.is_outcome; status_is = run.status_is }) c
+  ran_due (OfFiles name script_name) (way.Split manner) c =
+      run_due (λ program bound. IsOfRun s) (SplitDue manner loaded es s text) name script_name (λ source script due. run_status source.program due.plan due.texts script manner.ticks loaded es s due.report due.ran) c
 
   answered_due : Answered words (Some f) loaded es s text → IsDueOrFault (IsDueFor (command_of words) f s) s
   answered_due (Answered.usage e is t) = inr (inr (inr (subst (λ (c : Option Task). IsDueFor c f s) (sym e) is)))
   answered_due (Answered.cut how name e c) = subst (λ (d : Option Task). IsDueOrFault (IsDueFor d f s) s) (sym e) (cut_due how name c)
-  answered_due (Answered.whole name script_name manner e c) =
-      subst (λ (d : Option Task). IsDueOrFault (IsDueFor d f s) s) (sym e)
-      (run_due (λ program bound. EndsWith program bound manner s) (WholeDue manner s text) name script_name (λ source script run. record { outcome = run.outcome; is_outcome = run.is_outcome; status_is = run.status_is }) c)
-  answered_due (Answered.split name script_name ticks e c) =
-      subst (λ (d : Option Task). IsDueOrFault (IsDueFor d f s) s) (sym e)
-      (run_due (λ program bound. IsOfRun s) (SplitDue ticks loaded es s text) name script_name (λ source script due. run_status source.program due.plan due.texts script ticks loaded es s text due.ran) c)
+  answered_due (Answered.ran inputs in_way e c) = subst (λ (d : Option Task). IsDueOrFault (IsDueFor d f s) s) (sym e) (ran_due inputs in_way c)
 
 pub prints_exactly : (words : List (List ℕ)) (before after : Outside) (s : Status) → Prints words before after s → IsExact words before.sides.shelf.files s
 prints_exactly words before after s p = of before.sides.shelf.files (exactly p)
@@ -112,8 +117,7 @@ usage_comes words before after s (Prints.whole text a w) none = of a
     of : Answered words before.sides.shelf.files after.sides.far.loaded after.sides.far.exchanges s text → (s ≡ status.Usage) ⊎ ((s ≡ status.WriteFault) ⊎ (s ≡ status.OutOfMemory))
     of (Answered.usage e is t) = inl is
     of (Answered.cut how name e c) = absurd (Prim.cc)
-    of (Answered.whole name script_name manner e c) = absurd (Prim.cc)
-    of (Answered.split name script_name ticks e c) = absurd (Prim.cc)
+    of (Answered.ran inputs in_way e c) = absurd (Prim.cc)
 usage_comes words before after s (Prints.cut due text is a c) none = inr (inl is)
 usage_comes words before after s (Prints.nothing is same) none = inr (inr is)
 
@@ -137,7 +141,7 @@ module _ (words : List (List ℕ)) (before after : Outside) (s : Status) (cause 
       of (inr (inr (inl is))) = inl is
       of (inr (inr (inr due))) = inr (subst (λ (c : Option Task). IsDueFor c f s) e due)
 
-  whole_ends : (f : List ℕ → Option (List ℕ)) (source_name script_name : List ℕ) (manner : Manner) → command_of words ≡ Some (Whole source_name script_name manner) → IsDueOrFault (IsDueFor (command_of words) f s) s
+  whole_ends : (f : List ℕ → Option (List ℕ)) (source_name script_name : List ℕ) (manner : Manner) → command_of words ≡ Some (Run (OfFiles source_name script_name) (way.Whole manner)) → IsDueOrFault (IsDueFor (command_of words) f s) s
       → (s ≡ status.OutOfMemory) ⊎ IsWholeDue manner (f source_name) (f script_name) s
   whole_ends f source_name script_name manner e exact = of exact
     where

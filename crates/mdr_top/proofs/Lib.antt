@@ -2,6 +2,7 @@ pub mod Statuses
 pub mod CutLaws
 pub mod WholeLaws
 pub mod SplitLaws
+pub mod RunLaws
 pub mod Headline
 pub mod Complete
 pub mod Comes

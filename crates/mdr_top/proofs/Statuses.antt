@@ -5,7 +5,7 @@ use Rattle.mdr_due.specs.declared.status.Status.TheVariants as status
 use Rattle.mdr_due.specs.Reads.{Files, longest_source, longest_script}
 use Rattle.mdr_bound.specs.declared.bound.Bound.{Bound}
 use Rattle.mdr_source.specs.declared.outcome.Source.{Source}
-use Rattle.mdr_top.specs.Answers.{Unread, CutAnswered, ScriptAnswered}
+use Rattle.mdr_top.specs.Answers.{Unread, Untaken, CutAnswered, ScriptAnswered}
 use Rattle.mdr_top.specs.declared.words.Cutting.{Cutting}
 use Rattle.mdr_top.specs.Cuts.{IsCut}
 
@@ -26,16 +26,19 @@ module _ (P : Status → Type 0) (holds : HoldsSourceless P) (files : Files) (s 
   unread_status name limit (Unread.long r e t) = of_status status.TooLarge e holds.long
   unread_status name limit (Unread.failed e t) = of_status status.ReadFault e holds.failed
 
+  -- where a source isn't taken
+  pub untaken_status : (name : List ℕ) → Untaken files name s text → P s
+  untaken_status name (Untaken.unread u) = unread_status name longest_source u
+  untaken_status name (Untaken.refused bytes r n) = of_status status.SourceRefused n.status_is holds.refused
+
   -- where a source is cut, if it does of a source that is accepted
   pub cut_answered_status : (how : Cutting) (name : List ℕ) → ((source : Source) → IsCut how name source s text → P s) → CutAnswered how files name s text → P s
-  cut_answered_status how name accepted (CutAnswered.unread u) = unread_status name longest_source u
-  cut_answered_status how name accepted (CutAnswered.refused bytes r n) = of_status status.SourceRefused n.status_is holds.refused
-  cut_answered_status how name accepted (CutAnswered.accepted bytes source r h c) = accepted source c
+  cut_answered_status how name accepted (CutAnswered.untaken u) = untaken_status name u
+  cut_answered_status how name accepted (CutAnswered.accepted source h c) = accepted source c
 
-  -- and where a script is run over a source, if it does of a script that is refused and of a run
-  pub answered_status : (source_name script_name : List ℕ) (Due : Source → Bound → Type 0) → P status.ScriptRefused → ((source : Source) (script : Bound) → Due source script → P s) → ScriptAnswered files source_name script_name Due s text → P s
-  answered_status source_name script_name Due refused ran (ScriptAnswered.source_unread u) = unread_status source_name longest_source u
-  answered_status source_name script_name Due refused ran (ScriptAnswered.source_refused bytes r n) = of_status status.SourceRefused n.status_is holds.refused
-  answered_status source_name script_name Due refused ran (ScriptAnswered.script_unread bytes source r h u) = unread_status script_name longest_script u
-  answered_status source_name script_name Due refused ran (ScriptAnswered.script_refused bytes source lines r h given n) = of_status status.ScriptRefused n.status_is refused
-  answered_status source_name script_name Due refused ran (ScriptAnswered.ran bytes source lines script r h given b due) = ran source script due
+  -- and where a script is run over a source, if it does where there is no source, of a script that is refused and of a run
+  pub answered_status : (No : Status → List ℕ → Type 0) (Has : Source → Type 0) (script_name : List ℕ) (Due : Source → Bound → Type 0) → (No s text → P s) → P status.ScriptRefused → ((source : Source) (script : Bound) → Due source script → P s) → ScriptAnswered files No Has script_name Due s text → P s
+  answered_status No Has script_name Due none refused ran (ScriptAnswered.no_source n) = none n
+  answered_status No Has script_name Due none refused ran (ScriptAnswered.script_unread source h u) = unread_status script_name longest_script u
+  answered_status No Has script_name Due none refused ran (ScriptAnswered.script_refused source lines h given n) = of_status status.ScriptRefused n.status_is refused
+  answered_status No Has script_name Due none refused ran (ScriptAnswered.ran source lines script h given b due) = ran source script due

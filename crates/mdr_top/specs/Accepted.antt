@@ -9,15 +9,17 @@ use Rattle.mdr_runner.specs.Scripts.{HasScript}
 use Rattle.mdr_bound.specs.declared.bound.Bound.{Bound}
 use Rattle.mdr_source.specs.declared.outcome.Source.{Source}
 use Rattle.mdr_source.specs.Sources.{Comes}
-use Rattle.mdr_top.specs.Words.{Task, Whole, Run, command_of}
+use Rattle.mdr_split_runner.specs.declared.manner.SplitManner.{SplitManner}
+use Rattle.mdr_top.specs.declared.words.Way.TheVariants as way
+use Rattle.mdr_top.specs.Words.{Task, Run, OfFiles, command_of}
 
 -- a run on one memory in this manner, by the names of its source and its script
 abbrev pub on_one_memory : Manner → (source_name script_name : List ℕ) → Task
-on_one_memory manner source_name script_name = Whole source_name script_name manner
+on_one_memory manner source_name script_name = Run (OfFiles source_name script_name) (way.Whole manner)
 
--- a run over two halves under this budget
-abbrev pub over_two_halves : (ticks : ℕ) → (source_name script_name : List ℕ) → Task
-over_two_halves ticks source_name script_name = Run source_name script_name ticks
+-- a run over two halves in this manner
+abbrev pub over_two_halves : SplitManner → (source_name script_name : List ℕ) → Task
+over_two_halves manner source_name script_name = Run (OfFiles source_name script_name) (way.Split manner)
 
 -- the words come to this task with the names of a source and of a script; both are read, and are a source and a script for its program
 pub record AreAccepted (words : List (List ℕ)) (files : Files) (task : (source_name script_name : List ℕ) → Task) (source : Source) (script : Bound) : Type 0 where

@@ -18,13 +18,17 @@ use Rattle.mdr_bound.specs.declared.bound.Bound.{Bound}
 use Rattle.mdr_slicer.specs.Slicing.{HasSource, NoSource}
 use Rattle.mdr_source.specs.declared.outcome.Source.{Source}
 use Rattle.mdr_split_runner.specs.Cuts.{IsCutInto}
+use Rattle.mdr_split_runner.specs.declared.manner.SplitManner.{SplitManner}
+use Rattle.mdr_split_runner.specs.Messages.{with_messages}
 use Rattle.mdr_split_runner.specs.Reports.{Ran}
 use Rattle.mdr_top.specs.declared.words.Cutting.{Cutting}
+use Rattle.mdr_top.specs.declared.words.Way.{Way}
+use Rattle.mdr_top.specs.declared.words.Way.TheVariants as way
 use Rattle.mdr_top.specs.Cuts.{IsCut}
 use Rattle.mdr_top.specs.Lines.{usage_line}
 use Rattle.mdr_top.specs.Outside.{Outside}
 use Rattle.mdr_top.specs.Writing.{IsWritten, IsCutOff}
-use Rattle.mdr_top.specs.Words.{Cut, Whole, Run, command_of}
+use Rattle.mdr_top.specs.Words.{Inputs, OfFiles, Cut, Run, command_of}
 
 -- a file that isn't there to be read
 pub data Unread (files : Files) (name : List ℕ) (limit : ℕ) (s : Status) (text : List ℕ) : Type 0 where
@@ -34,34 +38,56 @@ pub data Unread (files : Files) (name : List ℕ) (limit : ℕ) (s : Status) (te
 
 -- ---- a source
 
+-- a source that isn't taken: its file isn't read, or its bytes are refused
+pub data Untaken (files : Files) (name : List ℕ) (s : Status) (text : List ℕ) : Type 0 where
+  unread : Unread files name longest_source s text → Untaken files name s text
+  refused : (bytes : List ℕ) → ReadsFrom files name longest_source (reads.Ok bytes) → NoSource bytes s text → Untaken files name s text
+
+-- a source that is taken
+pub record IsTaken (files : Files) (name : List ℕ) (source : Source) : Type 0 where
+  pub bytes : List ℕ
+  pub read : ReadsFrom files name longest_source (reads.Ok bytes)
+  pub has : HasSource bytes source
+
 -- a source that is cut
 pub data CutAnswered (how : Cutting) (files : Files) (name : List ℕ) (s : Status) (text : List ℕ) : Type 0 where
-  unread : Unread files name longest_source s text → CutAnswered how files name s text
-  refused : (bytes : List ℕ) → ReadsFrom files name longest_source (reads.Ok bytes) → NoSource bytes s text → CutAnswered how files name s text
-  accepted : (bytes : List ℕ) (source : Source) → ReadsFrom files name longest_source (reads.Ok bytes) → HasSource bytes source → IsCut how name source s text → CutAnswered how files name s text
+  untaken : Untaken files name s text → CutAnswered how files name s text
+  accepted : (source : Source) → IsTaken files name source → IsCut how name source s text → CutAnswered how files name s text
 
 -- ---- a source and a script
 
--- a script that is run over a source: the source is judged before the script is read. What is due where there are both is given
-pub data ScriptAnswered (files : Files) (source_name script_name : List ℕ) (Due : Source → Bound → Type 0) (s : Status) (text : List ℕ) : Type 0 where
-  source_unread : Unread files source_name longest_source s text → ScriptAnswered files source_name script_name Due s text
-  source_refused : (bytes : List ℕ) → ReadsFrom files source_name longest_source (reads.Ok bytes) → NoSource bytes s text → ScriptAnswered files source_name script_name Due s text
-  script_unread : (bytes : List ℕ) (source : Source) → ReadsFrom files source_name longest_source (reads.Ok bytes) → HasSource bytes source → Unread files script_name longest_script s text → ScriptAnswered files source_name script_name Due s text
-  script_refused : (bytes : List ℕ) (source : Source) (lines : List ℕ) → ReadsFrom files source_name longest_source (reads.Ok bytes) → HasSource bytes source → ReadsFrom files script_name longest_script (reads.Ok lines)
-      → NoScript source.program lines s text → ScriptAnswered files source_name script_name Due s text
-  ran : (bytes : List ℕ) (source : Source) (lines : List ℕ) (script : Bound) → ReadsFrom files source_name longest_source (reads.Ok bytes) → HasSource bytes source → ReadsFrom files script_name longest_script (reads.Ok lines)
-      → HasScript source.program lines script → Due source script → ScriptAnswered files source_name script_name Due s text
+-- a script that is run over a source: the source is judged before the script is read. Given is what is due where there is no source, what is known of one that there is, and what is due of both
+pub data ScriptAnswered (files : Files) (No : Status → List ℕ → Type 0) (Has : Source → Type 0) (script_name : List ℕ) (Due : Source → Bound → Type 0) (s : Status) (text : List ℕ) : Type 0 where
+  no_source : No s text → ScriptAnswered files No Has script_name Due s text
+  script_unread : (source : Source) → Has source → Unread files script_name longest_script s text → ScriptAnswered files No Has script_name Due s text
+  script_refused : (source : Source) (lines : List ℕ) → Has source → ReadsFrom files script_name longest_script (reads.Ok lines) → NoScript source.program lines s text → ScriptAnswered files No Has script_name Due s text
+  ran : (source : Source) (lines : List ℕ) (script : Bound) → Has source → ReadsFrom files script_name longest_script (reads.Ok lines) → HasScript source.program lines script → Due source script → ScriptAnswered files No Has script_name Due s text
+
+-- the source is a file's
+abbrev pub FileAnswered : (files : Files) (source_name script_name : List ℕ) (Due : Source → Bound → Type 0) → Status → List ℕ → Type 0
+FileAnswered files source_name script_name Due s text = ScriptAnswered files (Untaken files source_name) (IsTaken files source_name) script_name Due s text
 
 -- on one memory: the report of the run in its manner
 abbrev pub WholeDue : Manner → Status → List ℕ → Source → Bound → Type 0
 WholeDue manner s text source script = IsRun source.program script manner s text
 
--- over its two halves: the far side is loaded with the texts that the source is cut into, and the report of the run over what it answered is due
-pub record SplitDue (ticks : ℕ) (loaded : Option Loaded) (es : List Exchange) (s : Status) (text : List ℕ) (source : Source) (script : Bound) : Type 0 where
+-- over its two halves: the far side is loaded with the texts that the source is cut into, and the report of the run over what it answered is due, and behind it the lines of the messages, where they are asked for
+pub record SplitDue (manner : SplitManner) (loaded : Option Loaded) (es : List Exchange) (s : Status) (text : List ℕ) (source : Source) (script : Bound) : Type 0 where
   pub plan : Plan
   pub texts : Texts
   pub cut : IsCutInto source plan texts
-  pub ran : Ran source.program plan texts script ticks loaded es s text
+  pub report : List ℕ
+  pub ran : Ran source.program plan texts script manner.ticks loaded es s report
+  pub shown : text ≡ with_messages manner.wire es report
+
+-- what is due of a source and a script that are both there, by the way in which the script is run
+abbrev pub WayDue : Way → Option Loaded → List Exchange → Status → List ℕ → Source → Bound → Type 0
+WayDue (way.Whole manner) loaded es s text = WholeDue manner s text
+WayDue (way.Split manner) loaded es s text = SplitDue manner loaded es s text
+
+-- what is due of a run, by what it is of
+abbrev pub RunAnswered : Inputs → (files : Files) → (Due : Source → Bound → Type 0) → Status → List ℕ → Type 0
+RunAnswered (OfFiles source_name script_name) files Due s text = FileAnswered files source_name script_name Due s text
 
 -- ---- the words
 
@@ -69,8 +95,7 @@ pub record SplitDue (ticks : ℕ) (loaded : Option Loaded) (es : List Exchange) 
 pub data Answered (words : List (List ℕ)) (files : Files) (loaded : Option Loaded) (es : List Exchange) (s : Status) (text : List ℕ) : Type 0 where
   usage : command_of words ≡ None → s ≡ status.Usage → text ≡ usage_line → Answered words files loaded es s text
   cut : (how : Cutting) (name : List ℕ) → command_of words ≡ Some (Cut how name) → CutAnswered how files name s text → Answered words files loaded es s text
-  whole : (source script : List ℕ) (manner : Manner) → command_of words ≡ Some (Whole source script manner) → ScriptAnswered files source script (WholeDue manner s text) s text → Answered words files loaded es s text
-  split : (source script : List ℕ) (ticks : ℕ) → command_of words ≡ Some (Run source script ticks) → ScriptAnswered files source script (SplitDue ticks loaded es s text) s text → Answered words files loaded es s text
+  ran : (inputs : Inputs) (in_way : Way) → command_of words ≡ Some (Run inputs in_way) → RunAnswered inputs files (WayDue in_way loaded es s text) s text → Answered words files loaded es s text
 
 -- ---- what is printed
 

@@ -23,20 +23,23 @@ use Rattle.mdr_source.specs.declared.outcome.Source.{Source}
 use Rattle.mdr_source.specs.declared.refusal.Refusal.{Refusal}
 use Rattle.mdr_source.specs.Sources.{Comes as ComesTo}
 use Rattle.mdr_split_runner.specs.Cuts.{IsCutInto}
+use Rattle.mdr_split_runner.specs.declared.manner.SplitManner.{SplitManner}
 use Rattle.mdr_split_runner.specs.Ends.{EndsWith as SplitEndsWith}
 use Rattle.mdr_top.specs.Accepted.{AreAccepted, on_one_memory, over_two_halves}
 use Rattle.mdr_top.specs.declared.words.Cutting.{Cutting}
+use Rattle.mdr_top.specs.declared.words.Way.{Way}
+use Rattle.mdr_top.specs.declared.words.Way.TheVariants as way
 use Rattle.mdr_top.specs.Headline.{Rests, RestsHere}
 use Rattle.mdr_top.specs.Outside.{Outside}
 use Rattle.mdr_top.specs.Splits.{IsOfRun}
-use Rattle.mdr_top.specs.Words.{Task, Cut, Whole, Run, command_of}
+use Rattle.mdr_top.specs.Words.{Inputs, OfFiles, Task, Cut, Run, command_of}
 
 -- ---- what the words name
 
--- a source, and a script that is run over it, on one memory or over its two halves
-pub data AreNamed (words : List (List ℕ)) (source_name script_name : List ℕ) : Type 0 where
-  whole : (manner : Manner) → command_of words ≡ Some (Whole source_name script_name manner) → AreNamed words source_name script_name
-  split : (ticks : ℕ) → command_of words ≡ Some (Run source_name script_name ticks) → AreNamed words source_name script_name
+-- a source, and a script that is run over it in some way
+pub record AreNamed (words : List (List ℕ)) (source_name script_name : List ℕ) : Type 0 where
+  pub in_way : Way
+  pub command : command_of words ≡ Some (Run (OfFiles source_name script_name) in_way)
 
 -- a file that the words name: a source, and the script once its source is accepted
 pub data IsWanted (words : List (List ℕ)) (files : Files) (name : List ℕ) (limit : ℕ) : Type 0 where
@@ -110,13 +113,13 @@ pub record IsNoScript (words : List (List ℕ)) (files : Files) : Type 0 where
 pub record IsSplitEnd (words : List (List ℕ)) (files : Files) (loaded : Option Loaded) (es : List Exchange) (s : Status) : Type 0 where
   pub source : Source
   pub script : Bound
-  pub ticks : ℕ
-  pub accepted : AreAccepted words files (over_two_halves ticks) source script
+  pub manner : SplitManner
+  pub accepted : AreAccepted words files (over_two_halves manner) source script
   pub sound : IsSound source.program
   pub plan : Plan
   pub texts : Texts
   pub cut : IsCutInto source plan texts
-  pub ends : SplitEndsWith source.program plan texts script ticks loaded es s
+  pub ends : SplitEndsWith source.program plan texts script manner.ticks loaded es s
 
 -- the words name a source and a script that are run on one memory, and that run ends with this status
 pub record IsWholeEnd (words : List (List ℕ)) (files : Files) (s : Status) : Type 0 where
@@ -157,12 +160,23 @@ Comes words files loaded es status.OutOfMemory = Unit {0}
 
 -- ---- exactly where
 
+-- a source's file gives none: it isn't there, it is too long, or its bytes are refused
+pub data IsUntakenDue (file : Option (List ℕ)) (s : Status) : Type 0 where
+  missing : file ≡ None → s ≡ status.Missing → IsUntakenDue file s
+  long : (bytes : List ℕ) → file ≡ Some bytes → longest_source < length bytes → s ≡ status.TooLarge → IsUntakenDue file s
+  refused : (bytes : List ℕ) (refusal : Refusal) → file ≡ Some bytes → length bytes ≤ longest_source → ComesTo bytes (Err refusal) → s ≡ status.SourceRefused → IsUntakenDue file s
+
+-- it gives this source
+pub record IsTakenDue (file : Option (List ℕ)) (source : Source) : Type 0 where
+  pub bytes : List ℕ
+  pub holds : file ≡ Some bytes
+  pub fits : length bytes ≤ longest_source
+  pub comes : ComesTo bytes (Ok source)
+
 -- what the bytes of a source that is cut give
 pub data IsCutDue (file : Option (List ℕ)) (s : Status) : Type 0 where
-  missing : file ≡ None → s ≡ status.Missing → IsCutDue file s
-  long : (bytes : List ℕ) → file ≡ Some bytes → longest_source < length bytes → s ≡ status.TooLarge → IsCutDue file s
-  refused : (bytes : List ℕ) (refusal : Refusal) → file ≡ Some bytes → length bytes ≤ longest_source → ComesTo bytes (Err refusal) → s ≡ status.SourceRefused → IsCutDue file s
-  accepted : (bytes : List ℕ) (source : Source) → file ≡ Some bytes → length bytes ≤ longest_source → ComesTo bytes (Ok source) → s ≡ status.Done → IsCutDue file s
+  untaken : IsUntakenDue file s → IsCutDue file s
+  accepted : (source : Source) → IsTakenDue file source → s ≡ status.Done → IsCutDue file s
 
 -- what the lines of a script give, where it is given what a script does that suits the program
 abbrev pub IsBoundDue : (Ends : Bound → Type 0) → Result Bound (ℕ × ScriptKind) → Status → Type 0
@@ -177,27 +191,33 @@ abbrev pub IsScriptDue : Program → (Ends : Bound → Type 0) → Option (List 
 IsScriptDue program Ends None s = s ≡ status.Missing
 IsScriptDue program Ends (Some lines) s = IsSizedDue (nat_lt longest_script (length lines)) (IsBoundDue Ends (script_for program lines) s) s
 
--- what the bytes of a source and of a script give that is run over it, where it is given what a run does
-pub data IsRunDue (Ends : Program → Bound → Type 0) (file script : Option (List ℕ)) (s : Status) : Type 0 where
-  missing : file ≡ None → s ≡ status.Missing → IsRunDue Ends file script s
-  long : (bytes : List ℕ) → file ≡ Some bytes → longest_source < length bytes → s ≡ status.TooLarge → IsRunDue Ends file script s
-  refused : (bytes : List ℕ) (refusal : Refusal) → file ≡ Some bytes → length bytes ≤ longest_source → ComesTo bytes (Err refusal) → s ≡ status.SourceRefused → IsRunDue Ends file script s
-  accepted : (bytes : List ℕ) (source : Source) → file ≡ Some bytes → length bytes ≤ longest_source → ComesTo bytes (Ok source) → IsScriptDue source.program (Ends source.program) script s → IsRunDue Ends file script s
+-- what a source and the bytes of a script give that is run over it. Given is what is due where there is no source, what is known of one that there is, and what a run does
+pub data IsRunDue (No : Status → Type 0) (Has : Source → Type 0) (Ends : Program → Bound → Type 0) (script : Option (List ℕ)) (s : Status) : Type 0 where
+  no_source : No s → IsRunDue No Has Ends script s
+  accepted : (source : Source) → Has source → IsScriptDue source.program (Ends source.program) script s → IsRunDue No Has Ends script s
+
+-- the source is a file's
+abbrev pub IsFileDue : (Ends : Program → Bound → Type 0) → (file script : Option (List ℕ)) → Status → Type 0
+IsFileDue Ends file script s = IsRunDue (IsUntakenDue file) (IsTakenDue file) Ends script s
 
 -- on one memory it ends as it does in its manner
 abbrev pub IsWholeDue : Manner → (file script : Option (List ℕ)) → Status → Type 0
-IsWholeDue manner file script s = IsRunDue (λ program bound. EndsWith program bound manner s) file script s
+IsWholeDue manner file script s = IsFileDue (λ program bound. EndsWith program bound manner s) file script s
 
--- over the two halves it ends with one of its statuses
-abbrev pub IsSplitDue : (file script : Option (List ℕ)) → Status → Type 0
-IsSplitDue file script s = IsRunDue (λ program bound. IsOfRun s) file script s
+-- how a run ends, by its way: over the two halves with one of its statuses
+abbrev pub WayEnds : Way → Status → Program → Bound → Type 0
+WayEnds (way.Whole manner) s = λ program bound. EndsWith program bound manner s
+WayEnds (way.Split manner) s = λ program bound. IsOfRun s
+
+-- what is due of a run, by what it is of
+abbrev pub IsDueOf : Inputs → (List ℕ → Option (List ℕ)) → (Ends : Program → Bound → Type 0) → Status → Type 0
+IsDueOf (OfFiles source_name script_name) f Ends s = IsFileDue Ends (f source_name) (f script_name) s
 
 -- what words and files give where nothing fails
 abbrev pub IsDueFor : Option Task → (List ℕ → Option (List ℕ)) → Status → Type 0
 IsDueFor None f s = s ≡ status.Usage
 IsDueFor (Some (Cut how name)) f s = IsCutDue (f name) s
-IsDueFor (Some (Whole source_name script_name manner)) f s = IsWholeDue manner (f source_name) (f script_name) s
-IsDueFor (Some (Run source_name script_name ticks)) f s = IsSplitDue (f source_name) (f script_name) s
+IsDueFor (Some (Run inputs in_way)) f s = IsDueOf inputs f (WayEnds in_way s) s
 
 -- the status is what words and files give, but a read or a write may fail, and memory may be wanting
 abbrev pub IsDueOrFault : (Due : Type 0) → Status → Type 0
@@ -216,5 +236,5 @@ CutCompletes words before after s =
 -- where a script is run on one memory, over files that are told, the status is what the two files give, or memory was wanting, where no read fails and no write of the output
 abbrev pub WholeCompletes : List (List ℕ) → (before after : Outside) → Status → Type 0
 WholeCompletes words before after s =
-    RestsHere before after → (source_name script_name : List ℕ) (manner : Manner) → command_of words ≡ Some (Whole source_name script_name manner)
+    RestsHere before after → (source_name script_name : List ℕ) (manner : Manner) → command_of words ≡ Some (Run (OfFiles source_name script_name) (way.Whole manner))
     → IfSome before.sides.shelf.files (λ f. (s ≡ status.OutOfMemory) ⊎ IsWholeDue manner (f source_name) (f script_name) s)

@@ -19,18 +19,21 @@ use Rattle.mdr_runner.specs.Runs.{EndsWith, IsRun}
 use Rattle.mdr_bound.specs.declared.bound.Bound.{Bound}
 use Rattle.mdr_source.specs.declared.outcome.Source.{Source}
 use Rattle.mdr_split_runner.specs.Cuts.{IsCutInto}
+use Rattle.mdr_split_runner.specs.declared.manner.SplitManner.{SplitManner}
 use Rattle.mdr_split_runner.specs.Means.{IsMeaning, while_watched}
+use Rattle.mdr_split_runner.specs.Messages.{with_messages}
 use Rattle.mdr_top.specs.Accepted.{AreAccepted, over_two_halves}
+use Rattle.mdr_top.specs.declared.words.Way.TheVariants as way
 use Rattle.mdr_top.specs.Outside.{Outside}
-use Rattle.mdr_top.specs.Words.{Run, command_of}
+use Rattle.mdr_top.specs.Words.{OfFiles, Run, command_of}
 use Rattle.mdr_top.specs.Writing.{IsWritten}
 
--- the words are accepted for what these very reads gave, the far side holds the texts that the source is cut into, and what was written is the report of what they mean, which is that of the same run on one memory
+-- the words are accepted for what these very reads gave, the far side holds the texts that the source is cut into, and what was written is the report of what they mean, which is that of the same run on one memory; behind it, where they are asked for, the lines of the messages that the far side got and of its answers
 pub record MeansBy (words : List (List ℕ)) (before after : Outside) (s : Status) : Type 0 where
   pub source : Source
   pub script : Bound
-  pub ticks : ℕ
-  pub accepted : AreAccepted words before.sides.shelf.files (over_two_halves ticks) source script
+  pub manner : SplitManner
+  pub accepted : AreAccepted words before.sides.shelf.files (over_two_halves manner) source script
   pub sound : IsSound source.program
   pub read : after.sides.shelf.calls ≡ and_then (and_then before.sides.shelf.calls (Read accepted.source_name longest_source (reads.Ok accepted.bytes))) (Read accepted.script_name longest_script (reads.Ok accepted.lines))
   pub plan : Plan
@@ -38,14 +41,14 @@ pub record MeansBy (words : List (List ℕ)) (before after : Outside) (s : Statu
   pub cut : IsCutInto source plan texts
   pub held : after.sides.far.loaded ≡ Some (loaded_with texts.user texts.plan loads.Ok)
   pub text : List ℕ
-  pub printed : IsWritten before.out after.out text
-  pub meaning : IsMeaning source.program plan script ticks after.sides.far.exchanges s text
-  pub same : IsRun source.program script (while_watched ticks) s text
+  pub printed : IsWritten before.out after.out (with_messages manner.wire after.sides.far.exchanges text)
+  pub meaning : IsMeaning source.program plan script manner.ticks after.sides.far.exchanges s text
+  pub same : IsRun source.program script (while_watched manner.ticks) s text
 
 -- no reply is refused, and where the words name a source and a script a run that ends by itself, or stops, is what its source and its script mean
 pub record Means (words : List (List ℕ)) (before after : Outside) (s : Status) : Type 0 where
   pub never : s ≢ status.Marshal
-  pub means : (source_name script_name : List ℕ) (ticks : ℕ) → command_of words ≡ Some (Run source_name script_name ticks) → (s ≡ status.Done) ⊎ (s ≡ status.Stopped) → MeansBy words before after s
+  pub means : (source_name script_name : List ℕ) (manner : SplitManner) → command_of words ≡ Some (Run (OfFiles source_name script_name) (way.Split manner)) → (s ≡ status.Done) ⊎ (s ≡ status.Stopped) → MeansBy words before after s
 
 -- over an honest far side
 abbrev pub MeansWhereHonest : List (List ℕ) → (before after : Outside) → Status → Type 0
@@ -73,7 +76,7 @@ pub record EndsAsMeant (program : Program) (script : Bound) (ticks : ℕ) (s : S
 -- where the words are accepted over files that are told the run ends as is meant, or memory was wanting
 abbrev pub EndsWhereAccepted : List (List ℕ) → Files → Status → Type 0
 EndsWhereAccepted words files s =
-    (source : Source) (script : Bound) (ticks : ℕ) → AreTold files → AreAccepted words files (over_two_halves ticks) source script → (s ≡ status.OutOfMemory) ⊎ EndsAsMeant source.program script ticks s
+    (source : Source) (script : Bound) (manner : SplitManner) → AreTold files → AreAccepted words files (over_two_halves manner) source script → (s ≡ status.OutOfMemory) ⊎ EndsAsMeant source.program script manner.ticks s
 
 -- so it is where nothing outside fails and the far side is honest
 abbrev pub Completes : List (List ℕ) → (before after : Outside) → Status → Type 0

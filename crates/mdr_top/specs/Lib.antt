@@ -1,3 +1,5 @@
+pub mod Budgets
+pub mod Flags
 pub mod Words
 pub mod Lines
 pub mod Outside

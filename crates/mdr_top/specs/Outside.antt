@@ -1,13 +1,9 @@
 -- believed
 -- What lies outside a run, at one moment.
-use Rattle.mdr_outside.specs.Sides.{ShelfSide, SinkSide, FarSide}
+use Rattle.mdr_outside.specs.Sides.{SinkSide}
+use Rattle.mdr_split_runner.specs.Sides.{Sides}
 
--- the shelf and the far side
-pub record Sides : Type 0 where
-  pub shelf : ShelfSide
-  pub far : FarSide
-
--- and the output
+-- the shelf and the far side, and the output
 pub record Outside : Type 0 where
   pub sides : Sides
   pub out : SinkSide

@@ -12,7 +12,8 @@ use Rattle.mdr_due.specs.Reads.{longest_source, longest_script}
 use Rattle.mdr_runner.specs.declared.manner.Manner.{Manner}
 use Rattle.mdr_runner.specs.Runs.{IsRun}
 use Rattle.mdr_top.specs.Accepted.{AreAccepted, on_one_memory}
-use Rattle.mdr_top.specs.Words.{Whole, command_of}
+use Rattle.mdr_top.specs.declared.words.Way.TheVariants as way
+use Rattle.mdr_top.specs.Words.{OfFiles, Run, command_of}
 use Rattle.mdr_top.specs.Outside.{Outside}
 use Rattle.mdr_top.specs.Writing.{IsWritten}
 
@@ -31,7 +32,7 @@ pub record WholeMeansBy (words : List (List ℕ)) (before after : Outside) (s : 
 -- a run on one memory that ends by itself, or stops, is what its source and its script mean
 abbrev pub WholeMeans : List (List ℕ) → (before after : Outside) → Status → Type 0
 WholeMeans words before after s =
-    (source_name script_name : List ℕ) (manner : Manner) → command_of words ≡ Some (Whole source_name script_name manner) → (s ≡ status.Done) ⊎ (s ≡ status.Stopped) → WholeMeansBy words before after s
+    (source_name script_name : List ℕ) (manner : Manner) → command_of words ≡ Some (Run (OfFiles source_name script_name) (way.Whole manner)) → (s ≡ status.Done) ⊎ (s ≡ status.Stopped) → WholeMeansBy words before after s
 
 -- a status that a run on one memory ends with
 abbrev pub IsOfWhole : Status → Type 0

@@ -3,14 +3,16 @@
 
 mod answer;
 mod cutting;
+mod flags;
 mod lines;
 mod seen;
 mod split;
 mod ticks;
 mod top;
+mod ways;
 mod whole;
 mod words;
 
 pub use mdr_due::Status;
-pub use seen::{Seen, SidesSeen};
+pub use seen::Seen;
 pub use top::run;

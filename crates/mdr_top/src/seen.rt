@@ -2,17 +2,6 @@
 
 use mdr_outside::{Far, FarSeen, Shelf, ShelfSeen, Sink, SinkSeen};
 
-/// A shelf and a far side as contracts see them.
-pub trait SidesSeen {
-    ghost use Rattle.mdr_top.specs.Outside.{Sides};
-
-    ghost sides: { Self → Sides };
-}
-
-impl<S: Shelf, F: Far> SidesSeen for (S, F) {
-    ghost sides = { λ x. record { shelf = ⟦<S as ShelfSeen>⟧.side x.0; far = ⟦<F as FarSeen>⟧.side x.1 } };
-}
-
 /// A shelf, an output and a far side as contracts see them.
 pub trait Seen {
     ghost use Rattle.mdr_top.specs.Outside.{Outside};

@@ -1,31 +1,33 @@
 // The run of a script over the two halves of a source.
 
-ghost use Rattle.std.specs.Prelude.{◌≡◌, IfOk, OnErr};
+ghost use Rattle.std.specs.Prelude.{◌≡◌, ◌≢◌, IfOk, OnErr};
 ghost use Rattle.mdr_due.specs.declared.status.Status.TheVariants as status;
 ghost use Rattle.mdr_outside.specs.Count.{Rose};
-ghost use Rattle.mdr_split_runner.specs.SplitRuns.{SplitRuns, SplitRunsPart};
+ghost use Rattle.mdr_split_runner.specs.Gives.{SplitPartBy, SplitRunsBy};
 ghost use Rattle.mdr_top.specs.Cuts.{ReadCause};
 
 use mdr_core::OutOfMemory;
 use mdr_due::Due;
-use mdr_outside::{Far, FarSeen, Shelf, ShelfSeen};
-use mdr_split_runner::split_over;
+use mdr_outside::{Far, Shelf, ShelfSeen};
+use mdr_split_runner::{SidesSeen, SplitManner, split_over};
 use std::alloc::Global;
 
-/// Runs a script over the two halves of a source, both from the shelf, under a budget: the user half runs in the far side.
+/// Runs a script over the two halves of a source, both from the shelf, in the manner that is asked for: the user half runs
+/// in the far side.
 pub(crate) fn run_split<S: Shelf, F: Far>(
     alloc: Global,
     shelf: &mut S,
     far: &mut F,
     source_name: &str,
     script_name: &str,
-    ticks: u64,
+    manner: SplitManner,
 ) -> Result<Due, OutOfMemory>
-    ensures done { IfOk result (λ due. SplitRuns (S.files shelf.old) source_name.now script_name.now ticks (S.calls shelf.old) (S.calls shelf.new) (⟦<F as FarSeen>⟧.side far.old) (⟦<F as FarSeen>⟧.side far.new) due.status due.text.items) }
-    ensures part { OnErr result (SplitRunsPart (S.files shelf.old) source_name.now script_name.now ticks (S.calls shelf.old) (S.calls shelf.new) (⟦<F as FarSeen>⟧.side far.old) (⟦<F as FarSeen>⟧.side far.new)) }
+    ensures done { IfOk result (SplitRunsBy source_name.now script_name.now manner (⟦<(S, F) as SidesSeen>⟧.change (shelf.old, far.old) (shelf.new, far.new))) }
+    ensures part { OnErr result (SplitPartBy source_name.now script_name.now manner.ticks (⟦<(S, F) as SidesSeen>⟧.change (shelf.old, far.old) (shelf.new, far.new))) }
     ensures kept { S.files shelf.new ≡ S.files shelf.old }
     ensures read { IfOk result (λ due. ReadCause (⟦<S as ShelfSeen>⟧.side shelf.old) (⟦<S as ShelfSeen>⟧.side shelf.new) due.status) }
+    ensures unwritten { IfOk result (λ due. due.status ≢ status.WriteFault) }
     ensures failed { IfOk result (λ due. due.status ≡ status.FarFault → Rose (F.faults far.old) (F.faults far.new)) }
 {
-    split_over(alloc, shelf, far, source_name, script_name, ticks)
+    split_over(alloc, shelf, far, source_name, script_name, manner)
 }

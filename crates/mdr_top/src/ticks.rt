@@ -1,7 +1,7 @@
 // A run's budget, as a word.
 
 ghost use Rattle.std.specs.Prelude.{◌≡◌};
-ghost use Rattle.mdr_top.specs.Words.{begins_number, within, ticks_of};
+ghost use Rattle.mdr_top.specs.Budgets.{begins_number, within, ticks_of};
 
 use std::num::ParseIntError;
 

@@ -1,6 +1,7 @@
 // The run of a script on one memory.
 
-ghost use Rattle.std.specs.Prelude.{◌≡◌, IfOk, OnErr};
+ghost use Rattle.std.specs.Prelude.{◌≡◌, ◌≢◌, IfOk, OnErr};
+ghost use Rattle.mdr_due.specs.declared.status.Status.TheVariants as status;
 ghost use Rattle.mdr_runner.specs.Runs.{Runs, RunsPart};
 ghost use Rattle.mdr_top.specs.Cuts.{ReadCause};
 ghost use Rattle.mdr_top.specs.Wholes.{IsOfWhole};
@@ -23,6 +24,7 @@ pub(crate) fn run_whole<S: Shelf>(
     ensures part { OnErr result (RunsPart (S.files shelf.old) source_name.now script_name.now (S.calls shelf.old) (S.calls shelf.new)) }
     ensures kept { S.files shelf.new ≡ S.files shelf.old }
     ensures read { IfOk result (λ due. ReadCause (⟦<S as ShelfSeen>⟧.side shelf.old) (⟦<S as ShelfSeen>⟧.side shelf.new) due.status) }
+    ensures unwritten { IfOk result (λ due. due.status ≢ status.WriteFault) }
     ensures own { IfOk result (λ due. IsOfWhole due.status) }
 {
     whole(alloc, shelf, source_name, script_name, manner)

@@ -1,10 +1,12 @@
 // The words after the program's name.
 
 ghost use Rattle.std.specs.Prelude.{◌≡◌, map, option_map, string_bytes};
-ghost use Rattle.mdr_top.specs.Words.{cutting_of, cut_of, ticks_by, budget_of, is_watch, manner_with, manner_behind, manner_of, is_run, run_as, whole_of, run_of};
+ghost use Rattle.mdr_top.specs.Budgets.{budget_of};
+ghost use Rattle.mdr_top.specs.Words.{cutting_of, cut_of, whole_way, split_way, way_by, way_of, run_as, run_of};
 
-use crate::ticks::ticks_of;
+use crate::flags::{Flags, flags_of};
 use mdr_runner::Manner;
+use mdr_split_runner::SplitManner;
 
 /// What is asked of a source that is cut.
 #[derive(Clone, Copy)]
@@ -13,6 +15,15 @@ pub enum Cutting {
     Split,
     /// Its calls and its plan.
     Report,
+}
+
+/// The way in which a script is run over a source.
+#[derive(Clone, Copy)]
+pub enum Way {
+    /// On one memory.
+    Whole(Manner),
+    /// Over its two halves.
+    Split(SplitManner),
 }
 
 fn asked(word: &str) -> Option<Cutting>
@@ -43,102 +54,83 @@ pub(crate) fn cut_of(words: &[String]) -> Option<(Cutting, &str)>
 /// The budget where nothing is said of it.
 const TICKS: u64 = 1_000_000;
 
-/// What `--ticks N` says.
-fn ticks_by(flag: &str, ticks: &str) -> Option<u64>
-    ensures { result ≡ ticks_by flag.now ticks.now }
+fn budget_of(ticks: Option<u64>) -> u64
+    ensures { result ≡ budget_of ticks }
 {
-    if flag == "--ticks" {
-        ticks_of(ticks)
+    match ticks {
+        Some(ticks) => ticks,
+        None => TICKS,
+    }
+}
+
+/// A run on one memory, where it has these flags.
+fn whole_way(flags: Flags) -> Option<Way>
+    ensures { result ≡ whole_way flags }
+{
+    if flags.wire {
+        None
+    } else {
+        Some(Way::Whole(Manner {
+            ticks: budget_of(flags.ticks),
+            watched: flags.watch,
+        }))
+    }
+}
+
+/// A run over two halves, where it has these flags.
+fn split_way(flags: Flags) -> Option<Way>
+    ensures { result ≡ split_way flags }
+{
+    if flags.watch {
+        None
+    } else {
+        Some(Way::Split(SplitManner {
+            ticks: budget_of(flags.ticks),
+            wire: flags.wire,
+        }))
+    }
+}
+
+fn way_by(mode: &str, flags: Flags) -> Option<Way>
+    ensures { result ≡ way_by mode.now flags }
+{
+    if mode == "whole" {
+        whole_way(flags)
+    } else if mode == "split" {
+        split_way(flags)
     } else {
         None
     }
 }
 
-/// The budget that the words behind the names say.
-fn budget_of(flags: &[String]) -> Option<u64>
-    ensures { result ≡ budget_of (map string_bytes flags.now) }
+/// The way that the mode and the words behind the names say.
+fn way_of(mode: &str, words: &[String]) -> Option<Way>
+    ensures { result ≡ way_of mode.now (map string_bytes words.now) }
 {
-    match flags {
-        [] => Some(TICKS),
-        [flag, ticks] => ticks_by(flag.as_str(), ticks.as_str()),
-        _ => None,
-    }
-}
-
-fn is_watch(word: &str) -> bool
-    ensures { result ≡ is_watch word.now }
-{
-    word == "--watch"
-}
-
-fn manner_with(watched: bool, budget: Option<u64>) -> Option<Manner>
-    ensures { result ≡ manner_with watched budget }
-{
-    match budget {
-        Some(ticks) => Some(Manner { ticks, watched }),
+    match flags_of(words) {
+        Some(flags) => way_by(mode, flags),
         None => None,
     }
 }
 
-/// The manner that the words behind the names say, where the first of them isn't `--watch`.
-fn manner_behind(flags: &[String]) -> Option<Manner>
-    ensures { result ≡ manner_behind (map string_bytes flags.now) }
-{
-    match flags {
-        [flag, ticks, last] => {
-            if is_watch(last.as_str()) {
-                manner_with(true, ticks_by(flag.as_str(), ticks.as_str()))
-            } else {
-                None
-            }
-        }
-        _ => manner_with(false, budget_of(flags)),
-    }
-}
-
-/// The manner of a run on one memory that the words behind the names say.
-fn manner_of(flags: &[String]) -> Option<Manner>
-    ensures { result ≡ manner_of (map string_bytes flags.now) }
-{
-    match flags {
-        [first, others @ ..] if is_watch(first.as_str()) => manner_with(true, budget_of(others)),
-        _ => manner_behind(flags),
-    }
-}
-
-fn is_run(mode: &str, run: &str, other: &str) -> bool
-    ensures { result ≡ is_run mode.now run.now other.now }
-{
-    run == "run" && other == mode
-}
-
-/// The names of the source and of the script, and the words behind them, where the words are `run MODE FILE SCRIPT`
-/// and perhaps more.
-fn run_as<'a>(mode: &str, words: &'a [String]) -> Option<(&'a str, &'a str, &'a [String])>
-    ensures { option_map (λ x. (x.0.now, x.1.now, map string_bytes x.2.now)) result ≡ run_as mode.now (map string_bytes words.now) }
+/// The mode, the names of the source and of the script, and the words behind them, where the words are
+/// `run MODE FILE SCRIPT` and perhaps more.
+fn run_as(words: &[String]) -> Option<(&str, &str, &str, &[String])>
+    ensures { option_map (λ x. (x.0.now, x.1.now, x.2.now, map string_bytes x.3.now)) result ≡ run_as (map string_bytes words.now) }
 {
     match words {
-        [run, other, file, script, flags @ ..] if is_run(mode, run.as_str(), other.as_str()) => {
-            Some((file.as_str(), script.as_str(), flags))
+        [run, mode, file, script, others @ ..] if run.as_str() == "run" => {
+            Some((mode.as_str(), file.as_str(), script.as_str(), others))
         }
         _ => None,
     }
 }
 
-/// The names and the manner of a run on one memory.
-pub(crate) fn whole_of(words: &[String]) -> Option<(&str, &str, Manner)>
-    ensures { option_map (λ x. (x.0.now, x.1.now, x.2)) result ≡ whole_of (map string_bytes words.now) }
-{
-    let (file, script, flags) = run_as("whole", words)?;
-    let manner = manner_of(flags)?;
-    Some((file, script, manner))
-}
-
-/// The names and the budget of a run over two halves.
-pub(crate) fn run_of(words: &[String]) -> Option<(&str, &str, u64)>
+/// The names and the way of a run.
+pub(crate) fn run_of(words: &[String]) -> Option<(&str, &str, Way)>
     ensures { option_map (λ x. (x.0.now, x.1.now, x.2)) result ≡ run_of (map string_bytes words.now) }
 {
-    let (file, script, flags) = run_as("split", words)?;
-    let ticks = budget_of(flags)?;
-    Some((file, script, ticks))
+    let (mode, file, script, others) = run_as(words)?;
+    let way = way_of(mode, others)?;
+    Some((file, script, way))
 }

@@ -9,7 +9,7 @@ use std::process::Abort;
 use std::test::Fail;
 
 /// In the driver's run the user half first calls a function of the kernel half.
-const FIRST: &[u32] = &[3, 0, 1, 1, 1, 1, 0, 0, 0];
+pub(super) const FIRST: &[u32] = &[3, 0, 1, 1, 1, 1, 0, 0, 0];
 
 /// Then it asks for a register to be written.
 const SECOND: &[u32] = &[5, 0, 1, 1, 2, 5, 2, 2, 1, 2, 4, 0, 0, 0];
@@ -139,7 +139,10 @@ fn bytes_of(alloc: Global, numbers: &[u32]) -> Result<Vec<u8>, AllocError> {
 }
 
 /// These replies as answers.
-fn answers_of(alloc: Global, replies: &[&[u32]]) -> Result<Vec<DeliverAnswer>, AllocError> {
+pub(super) fn answers_of(
+    alloc: Global,
+    replies: &[&[u32]],
+) -> Result<Vec<DeliverAnswer>, AllocError> {
     let mut answers = Vec::new(alloc);
     for reply in replies {
         answers.push(DeliverAnswer::Ok(Items::from_vec(bytes_of(alloc, reply)?)))?;

@@ -1,13 +1,18 @@
 use Rattle.std.proofs.Common.{◌≡◌, map, subst}
-use Rattle.mdr_exchanges.proofs.Stops.{on_err}
 use Rattle.mdr_exchanges.specs.Runs.{run_over, sent_of}
 use Rattle.mdr_model.specs.Text.{text}
 use Rattle.mdr_near.specs.HalfState.{HalfState, driver_held}
 use Rattle.mdr_split_runner.proofs.Sending.{sent_whole}
 use Rattle.mdr_split_runner.proofs.loading.began.Goals as goal
 
+pub returns-clause-part : goal.returns-clause-part
+returns-clause-part g c =
+    sent_whole c.args.program.now c.args.plan.now c.args.script.now c.args.ticks (g.F.Far.calls c.args.far.now) (g.F.Far.calls c.run.new.far) (g.F.Far.exchanges c.run.new.far)
+    (subst (λ (h : HalfState). sent_of (g.F.Far.exchanges c.run.new.far) ≡ map text (run_over (driver_held h) c.args.script.now c.args.ticks (g.F.Far.exchanges c.run.new.far)).sent) c.in_ok-half.ensures c.in_ok-outcome.ensures.run.messages)
+    c.in_ok-outcome.ensures.called
+
 pub returns-in_err-due-clause-part : goal.returns-in_err-due-clause-part
 returns-in_err-due-clause-part g c =
-    on_err _ _ (sent_whole c.args.program.now c.args.plan.now c.args.script.now c.args.ticks (g.F.Far.calls c.args.far.now) (g.F.Far.calls c.run.new.far) (g.F.Far.exchanges c.run.new.far)
+    sent_whole c.args.program.now c.args.plan.now c.args.script.now c.args.ticks (g.F.Far.calls c.args.far.now) (g.F.Far.calls c.run.new.far) (g.F.Far.exchanges c.run.new.far)
     (subst (λ (h : HalfState). sent_of (g.F.Far.exchanges c.run.new.far) ≡ map text (run_over (driver_held h) c.args.script.now c.args.ticks (g.F.Far.exchanges c.run.new.far)).sent) c.in_ok-half.ensures c.in_ok-outcome.ensures.run.messages)
-    c.in_ok-outcome.ensures.called)
+    c.in_ok-outcome.ensures.called

@@ -1,5 +1,6 @@
 use Rattle.std.proofs.lemmas.Result.{IfOk-weaker}
 use Rattle.mdr_outside.specs.declared.far.LoadAnswer.TheVariants as loads
+use Rattle.mdr_split_runner.proofs.Sending.{sent_none}
 use Rattle.mdr_split_runner.proofs.Steps.{held_texts, refused_so}
 use Rattle.mdr_split_runner.specs.Reports.Ran.{refused}
 use Rattle.mdr_split_runner.proofs.loading.ran.Goals as goal
@@ -12,3 +13,7 @@ returns-in-Refused-clause-ran g c =
 
 pub returns-in-Refused-clause-failed : goal.returns-in-Refused-clause-failed
 returns-in-Refused-clause-failed g c = IfOk-weaker c.unstarted.result _ _ (λ due h. refused_so _ c.args.program.now c.args.script.now c.args.ticks due.status due.text.items h) c.unstarted.ensures
+
+pub returns-in-Refused-clause-part : goal.returns-in-Refused-clause-part
+returns-in-Refused-clause-part g c =
+    sent_none c.args.program.now c.args.cut.now.plan c.args.cut.now.texts c.args.script.now c.args.ticks (g.F.Far.calls c.args.far.now) (g.F.Far.calls c.load.new.self) (g.F.Far.exchanges c.load.new.self) c.as_slice-user.result.now c.as_slice-lines.result.now c.as_slice-user.ensures c.as_slice-lines.ensures c.in-Refused.ensures.called

@@ -1,6 +1,5 @@
-use Rattle.mdr_due.proofs.StageSteps.{err_weaker}
 use Rattle.mdr_split_runner.specs.SplitRuns.IsSplitPart.{loaded}
 use Rattle.mdr_split_runner.proofs.running.run_split.Goals as goal
 
 pub returns-clause-part : goal.returns-clause-part
-returns-clause-part g c = err_weaker c.ran-due.result _ _ (λ part. loaded c.in-Ok.cut.plan c.in-Ok.cut.texts c.in-Ok.ensures part) c.ran-due.ensures.part
+returns-clause-part g c = loaded c.in-Ok.cut.plan c.in-Ok.cut.texts c.in-Ok.ensures c.ran-due.ensures.part

@@ -11,8 +11,8 @@ returns-in-Ok-Ends-clause-done g c = no_script (ended _ _ c.in-Ok-Ends.field-0 c
 
 pub returns-clause-done : goal.returns-clause-done
 returns-clause-done g c =
-    IfOk-weaker c.run_split-due.result _ _ (λ due run. ran c.in-Ok-Goes.script (gone _ _ c.in-Ok-Goes.field-0 c.in-Ok-Goes.script c.in-Ok-Goes.field-0-is c.in-Ok-Goes.ensures.read) run) c.run_split-due.ensures.done
+    IfOk-weaker c.run_shown-due.result _ _ (λ due run. ran c.in-Ok-Goes.script (gone _ _ c.in-Ok-Goes.field-0 c.in-Ok-Goes.script c.in-Ok-Goes.field-0-is c.in-Ok-Goes.ensures.read) run) c.run_shown-due.ensures.done
 
 pub returns-clause-part : goal.returns-clause-part
 returns-clause-part g c =
-    err_weaker c.run_split-due.result _ _ (λ part. ran_part c.in-Ok-Goes.script (gone _ _ c.in-Ok-Goes.field-0 c.in-Ok-Goes.script c.in-Ok-Goes.field-0-is c.in-Ok-Goes.ensures.read) part) c.run_split-due.ensures.part
+    err_weaker c.run_shown-due.result _ _ (λ part. ran_part c.in-Ok-Goes.script (gone _ _ c.in-Ok-Goes.field-0 c.in-Ok-Goes.script c.in-Ok-Goes.field-0-is c.in-Ok-Goes.ensures.read) part) c.run_shown-due.ensures.part

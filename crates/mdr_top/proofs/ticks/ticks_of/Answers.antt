@@ -1,5 +1,5 @@
 use Rattle.std.proofs.Common.{sym, ap, ◌∙◌}
-use Rattle.mdr_top.specs.Words.{begins_number}
+use Rattle.mdr_top.specs.Budgets.{begins_number}
 use Rattle.mdr_top.proofs.Budgets.{parsed, unparsed}
 use Rattle.mdr_top.proofs.ticks.ticks_of.Goals as goal
 
