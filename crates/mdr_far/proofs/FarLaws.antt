@@ -12,8 +12,8 @@ use Rattle.mdr_outside.specs.declared.far.LoadAnswer.TheVariants as answers
 use Rattle.mdr_outside.specs.declared.far.Loaded.{Loaded}
 use Rattle.mdr_outside.specs.Far.{loaded_with, LoadsAs}
 use Rattle.mdr_watched.specs.Driver.{driver_of}
-use Rattle.mdr_far.specs.Halves.{HalfState}
-use Rattle.mdr_far.specs.Fars.{exchanges_of, Serves, Answered}
+use Rattle.mdr_far.specs.Halves.{HalfState, IsLoadedFrom}
+use Rattle.mdr_far.specs.Fars.{exchanges_of, Serves, Answered, IsOpened}
 use Rattle.mdr_far.specs.FarView.{IsKeptFar}
 use Rattle.mdr_far.specs.declared.local_far.LocalFar.TheInside.{Inside}
 
@@ -51,6 +51,12 @@ kept_on a b h h' e is is' same alike honest kept =
 
 -- ---- loads
 
+pub answered_ok : (user text : List ℕ) (h : HalfState) (half : Option HalfState) → half ≡ Some h → IsLoadedFrom user text h → Answered user text half answers.Ok
+answered_ok user text h half is l = subst (λ (x : Option HalfState). Answered user text x answers.Ok) (sym is) l
+
+pub answered_none : (user text : List ℕ) (answer : LoadAnswer) (half : Option HalfState) → half ≡ None → Answered user text None answer → Answered user text half answer
+answered_none user text answer half is a = subst (λ (x : Option HalfState). Answered user text x answer) (sym is) a
+
 -- what an answer to two texts says of the half that is there
 record AreAnswered (user text : List ℕ) (half : Option HalfState) (answer : LoadAnswer) : Type 0 where
   pub kept : AreKept (Some (loaded_with user text answer)) half
@@ -79,17 +85,27 @@ answered_with user text (Some h) (answers.Refused cause) a = absurd a
 answered_with user text half answers.Failed a = absurd a
 answered_with user text half answers.OutOfMemory a = absurd a
 
-pub kept_from : (user text : List ℕ) (half : Option HalfState) (answer : LoadAnswer) → Answered user text half answer → (l : Loaded) → l ≡ loaded_with user text answer → (s : Inside) → s.loaded ≡ Some l → s.half ≡ half → IsKeptFar s
-kept_from user text half answer a l is s there same =
-    let both : AreKept s.loaded s.half =
-    subst (λ (x : Option Loaded). AreKept x s.half) (sym (there ∙ ap Some is)) (subst (λ (h : Option HalfState). AreKept (Some (loaded_with user text answer)) h) (sym same) (answered_with user text half answer a).kept) in
+module _ (user text : List ℕ) (half : Option HalfState) (l : Loaded) (o : IsOpened user text half l) where
+  behind : AreAnswered user text half l.answer
+  behind = answered_with user text half l.answer o.answered
+
+  pub kept_from : (s : Inside) → s.loaded ≡ Some l → s.half ≡ half → IsKeptFar s
+  kept_from s there same =
+      let both : AreKept s.loaded s.half =
+      subst (λ (x : Option Loaded). AreKept x s.half) (sym (there ∙ ap Some o.load)) (subst (λ (h : Option HalfState). AreKept (Some (loaded_with user text l.answer)) h) (sym same) behind.kept) in
+      record { honest = both.0; serves = both.1 }
+
+  pub none_yet : exchanges_of half ≡ []
+  none_yet = behind.empty
+
+  pub loads_as : LoadsAs user text l.answer (Some l)
+  loads_as = subst (λ (x : Loaded). LoadsAs user text l.answer (Some x)) (sym o.load) behind.held
+
+  pub never_fails : l.answer ≡ answers.Failed → ⊥
+  never_fails = behind.settled
+
+-- a far side that holds nothing keeps what it must
+pub kept_empty : (s : Inside) → s.loaded ≡ None → s.half ≡ None → IsKeptFar s
+kept_empty s e f =
+    let both : AreKept s.loaded s.half = subst (λ (l : Option Loaded). AreKept l s.half) (sym e) (subst (λ (h : Option HalfState). AreKept None h) (sym f) (refl, tt)) in
     record { honest = both.0; serves = both.1 }
-
-pub none_yet : (user text : List ℕ) (half : Option HalfState) (answer : LoadAnswer) → Answered user text half answer → exchanges_of half ≡ []
-none_yet user text half answer a = (answered_with user text half answer a).empty
-
-pub loads_as : (user text : List ℕ) (half : Option HalfState) (answer : LoadAnswer) → Answered user text half answer → (l : Loaded) → l ≡ loaded_with user text answer → LoadsAs user text answer (Some l)
-loads_as user text half answer a l is = subst (λ (x : Loaded). LoadsAs user text answer (Some x)) (sym is) (answered_with user text half answer a).held
-
-pub never_fails : (user text : List ℕ) (half : Option HalfState) (answer : LoadAnswer) → Answered user text half answer → answer ≡ answers.Failed → ⊥
-never_fails user text half answer a = (answered_with user text half answer a).settled

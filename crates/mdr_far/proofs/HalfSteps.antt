@@ -79,6 +79,10 @@ pub at_some : {A : Type 0} (P : A → Type 0) (o : Option A) (x : A) → o ≡ S
 at_some P None x e h = absurd (Prim.cc)
 at_some P (Some y) x e h = let same : y ≡ x = Prim.cc in subst P same h
 
+pub then_some : {A : Type 0} (P : A → Type 0) (o : Option A) (x : A) → o ≡ Some x → P x → IfSome o P
+then_some P None x e h = absurd (Prim.cc)
+then_some P (Some y) x e h = let same : y ≡ x = Prim.cc in subst P (sym same) h
+
 -- ---- what is ensured of a result that is Ok
 
 pub at_ok : {A E : Type 0} (r : Result A E) (x : A) → r ≡ Ok x → (P : A → Type 0) → IfOk r P → P x

@@ -7,6 +7,7 @@ use Rattle.mdr_outside.specs.declared.far.Loaded.{Loaded}
 use Rattle.mdr_outside.specs.declared.far.Exchange.{Exchange}
 use Rattle.mdr_outside.specs.declared.far.LoadAnswer.{LoadAnswer}
 use Rattle.mdr_outside.specs.declared.far.LoadAnswer.TheVariants as answers
+use Rattle.mdr_outside.specs.Far.{loaded_with}
 use Rattle.mdr_far.specs.Halves.{HalfState, IsLoadedFrom}
 
 -- what a far side holds
@@ -39,3 +40,8 @@ Answered user text None (answers.Refused cause) = AreRefused user text cause
 Answered user text (Some h) (answers.Refused cause) = ⊥
 Answered user text half answers.Failed = ⊥
 Answered user text half answers.OutOfMemory = ⊥
+
+-- a load of two texts, with the half that is there behind it
+pub record IsOpened (user text : List ℕ) (half : Option HalfState) (l : Loaded) : Type 0 where
+  pub answered : Answered user text half l.answer
+  pub load : l ≡ loaded_with user text l.answer

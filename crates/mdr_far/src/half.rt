@@ -1,6 +1,6 @@
 // The user half over bytes.
 
-ghost use Rattle.std.specs.Prelude.{◌≡◌, ℕ, [], ◌∷◌, ◌++◌, false, Some, Ok, Err, IfOk, OnErr};
+ghost use Rattle.std.specs.Prelude.{◌≡◌, ℕ, [], ◌∷◌, ◌++◌, false, Some, Ok, IfOk, OnErr};
 ghost use Rattle.mdr_core.specs.Sound.{IsSound};
 ghost use Rattle.mdr_exchanges.specs.Runs.{sent_of};
 ghost use Rattle.mdr_exchanges.specs.Meanings.{Honest};
@@ -14,6 +14,7 @@ ghost use Rattle.mdr_far.specs.Halves.{new_half, after_reply, lost, driver_in, R
 
 use crate::bytes::reply_to;
 use crate::load_error::LoadError;
+use crate::release::{given_up, put};
 use crate::source::source;
 use mdr_core::{Items, Limit, OutOfMemory, Plan, Program};
 use mdr_half_source::HalfSource;
@@ -74,13 +75,6 @@ fn recorded(
     Ok(reply)
 }
 
-/// Where memory was wanting, what was at work is let go.
-fn given_up<A, T: Drop>(error: OutOfMemory, _at_work: T) -> Result<A, OutOfMemory>
-    ensures { result ≡ Err error }
-{
-    Err(error)
-}
-
 fn half_of(alloc: Global, source: HalfSource, state: State) -> UserHalf
     requires sound { IsSound source.program }
     requires fit { IsFit source.plan source.program }
@@ -132,7 +126,7 @@ impl UserHalf {
         let reply = reply_to(alloc, &self.program, &self.plan, &mut state, bytes);
         match recorded(alloc, &mut self.exchanges, bytes, reply) {
             Ok(reply) => {
-                self.state = Some(state);
+                put(&mut self.state, Some(state));
                 Ok(reply)
             }
             Err(error) => given_up(error, state),

@@ -5,6 +5,7 @@ mod bytes;
 mod half;
 mod load_error;
 mod local_far;
+mod release;
 mod source;
 
 pub use half::UserHalf;

@@ -1,12 +1,13 @@
 // A far side in the same process.
 
-ghost use Rattle.std.specs.Prelude.{◌≡◌, [], None, Some, IfOk};
-ghost use Rattle.mdr_outside.specs.Far.{loaded_with};
+ghost use Rattle.std.specs.Prelude.{◌≡◌, ℕ, List, [], None, IfOk, OnErr};
 ghost use Rattle.mdr_honest.specs.Honest.{IsHonest};
-ghost use Rattle.mdr_far.specs.Fars.{Answered};
+ghost use Rattle.mdr_far.specs.Fars.{Answered, IsOpened};
+ghost use Rattle.mdr_far.specs.Halves.{FailToLoad};
 
 use crate::half::UserHalf;
 use crate::load_error::LoadError;
+use crate::release::put;
 use mdr_core::{Items, OutOfMemory};
 use mdr_outside::{DeliverAnswer, Exchange, Far, FarCalls, LoadAnswer, Loaded};
 use std::alloc::Global;
@@ -52,36 +53,72 @@ impl LocalFar {
     }
 }
 
-/// A load with copies of the texts.
-fn load_of(
+/// The answer to texts that load no half.
+fn answer_to(error: LoadError) -> Result<LoadAnswer, OutOfMemory>
+    ensures { IfOk result (λ a. (user text : List ℕ) → FailToLoad user text error → Answered user text None a) }
+{
+    match error {
+        LoadError::Plan => Ok(LoadAnswer::Refused(1)),
+        LoadError::Source => Ok(LoadAnswer::Refused(2)),
+        LoadError::OutOfMemory => Err(OutOfMemory::passed_on()),
+    }
+}
+
+/// The half that two texts load, if they load one, is put in its place. It gives the answer to them.
+fn load_half(
     alloc: Global,
     user: &[u8],
     plan: &[u8],
-    answer: LoadAnswer,
-) -> Result<Loaded, OutOfMemory>
-    ensures { IfOk result (λ load. load ≡ loaded_with user.now plan.now answer) }
+    half: &mut Option<UserHalf>,
+) -> Result<LoadAnswer, OutOfMemory>
+    ensures answered { IfOk result (Answered user.now plan.now half.new) }
+    ensures left { OnErr result (half.new ≡ half.old) }
 {
+    match UserHalf::load(alloc, user, plan) {
+        Ok(loaded) => {
+            put(half, Some(loaded));
+            Ok(LoadAnswer::Ok)
+        }
+        Err(error) => {
+            let answer = answer_to(error)?;
+            put(half, None);
+            Ok(answer)
+        }
+    }
+}
+
+/// A load with copies of the texts, and with their half in its place, if they load one.
+fn load_with_copies(
+    alloc: Global,
+    user: &[u8],
+    plan: &[u8],
+    half: &mut Option<UserHalf>,
+) -> Result<Loaded, OutOfMemory>
+    ensures opened { IfOk result (IsOpened user.now plan.now half.new) }
+    ensures left { OnErr result (half.new ≡ half.old) }
+{
+    let user_copy = Items::from_slice(alloc, user)?;
+    let plan_copy = Items::from_slice(alloc, plan)?;
+    let answer = load_half(alloc, user, plan, half)?;
     Ok(Loaded {
-        user: Items::from_slice(alloc, user)?,
-        plan: Items::from_slice(alloc, plan)?,
+        user: user_copy,
+        plan: plan_copy,
         answer,
     })
 }
 
-/// The half that two texts load, if they load one, and the answer to them.
-fn opened(
+/// The same, where no half is in its place if memory was wanting.
+fn load_anew(
     alloc: Global,
     user: &[u8],
     plan: &[u8],
-) -> Result<(Option<UserHalf>, LoadAnswer), OutOfMemory>
-    ensures { IfOk result (λ o. Answered user.now plan.now o.0 o.1) }
+    half: &mut Option<UserHalf>,
+) -> Result<Loaded, OutOfMemory>
+    ensures opened { IfOk result (IsOpened user.now plan.now half.new) }
+    ensures empty { OnErr result (half.new ≡ None) }
 {
-    match UserHalf::load(alloc, user, plan) {
-        Ok(half) => Ok((Some(half), LoadAnswer::Ok)),
-        Err(LoadError::Plan) => Ok((None, LoadAnswer::Refused(1))),
-        Err(LoadError::Source) => Ok((None, LoadAnswer::Refused(2))),
-        Err(LoadError::OutOfMemory) => Err(OutOfMemory::passed_on()),
-    }
+    put(half, None);
+    load_with_copies(alloc, user, plan, half)
 }
 
 impl Far for LocalFar {
@@ -96,16 +133,14 @@ impl Far for LocalFar {
     fn load(&mut self, alloc: Global, user: &[u8], plan: &[u8]) -> LoadAnswer {
         self.calls = self.calls.and_load(user, plan);
         self.loaded = None;
-        self.half = None;
-        let Ok((half, answer)) = opened(alloc, user, plan) else {
-            return LoadAnswer::OutOfMemory;
-        };
-        let Ok(loaded) = load_of(alloc, user, plan, answer) else {
-            return LoadAnswer::OutOfMemory;
-        };
-        self.loaded = Some(loaded);
-        self.half = half;
-        answer
+        match load_anew(alloc, user, plan, &mut self.half) {
+            Ok(loaded) => {
+                let answer = loaded.answer;
+                self.loaded = Some(loaded);
+                answer
+            }
+            Err(_) => LoadAnswer::OutOfMemory,
+        }
     }
 
     fn deliver(&mut self, alloc: Global, bytes: &[u8]) -> DeliverAnswer {

@@ -6,7 +6,7 @@ use Rattle.mdr_user_code.specs.declared.state.State.{State}
 use Rattle.mdr_user_code.specs.Standing.{Follows}
 use Rattle.mdr_watched.specs.Driver.{driver_of}
 use Rattle.mdr_far.specs.Halves.{HalfState, driver_in}
-use Rattle.mdr_far.proofs.HalfSteps.{at_some, at_ok, on_ok, follows_next, honest_more, replies_on}
+use Rattle.mdr_far.proofs.HalfSteps.{at_some, then_some, at_ok, on_ok, follows_next, honest_more, replies_on}
 use Rattle.mdr_far.proofs.half.UserHalf.deliver.Goals as goal
 
 pub invariant_of-self-in-Ok : goal.invariant_of-self-in-Ok
@@ -22,8 +22,9 @@ invariant_of-self-in-Ok c =
           (at_ok c.reply_to-reply.result c.in-Ok.reply c.in-Ok.ensures.ok.0 (λ r. (before : List (List ℕ)) → Follows d (readings before) c.in-Some.state → IsHonestReply d before c.args.bytes.now r.items) c.reply_to-reply.ensures.reply (sent_of es) follows)
           c.self.invariant.honest;
       follows =
-          follows_next d es c.recorded.new.exchanges c.reply_to-reply.new.state c.args.bytes.now c.in-Ok.reply.items c.in-Ok.ensures.ok.1
-          (on_ok c.reply_to-reply.result c.in-Ok.reply c.in-Ok.ensures.ok.0 _ c.reply_to-reply.ensures.follows (sent_of es) follows);
+          then_some (λ (s : State). Follows d (readings (sent_of c.recorded.new.exchanges)) s) c.put.new.place c.reply_to-reply.new.state c.put.ensures
+          (follows_next d es c.recorded.new.exchanges c.reply_to-reply.new.state c.args.bytes.now c.in-Ok.reply.items c.in-Ok.ensures.ok.1
+          (on_ok c.reply_to-reply.result c.in-Ok.reply c.in-Ok.ensures.ok.0 _ c.reply_to-reply.ensures.follows (sent_of es) follows));
     }
 
 pub returns-in-Ok-clause-refused : goal.returns-in-Ok-clause-refused
