@@ -1,8 +1,9 @@
 // A far side in the same process.
 
+ghost use Rattle.std.specs.Option.{option_copied};
 ghost use Rattle.std.specs.Prelude.{◌≡◌, ℕ, List, [], None, IfOk, OnErr};
 ghost use Rattle.mdr_honest.specs.Honest.{IsHonest};
-ghost use Rattle.mdr_far.specs.Fars.{Answered, IsOpened};
+ghost use Rattle.mdr_far.specs.Fars.{exchanges_of, Answered, IsOpened, Serves};
 ghost use Rattle.mdr_far.specs.Halves.{FailToLoad};
 
 use crate::half::UserHalf;
@@ -50,6 +51,15 @@ impl LocalFar {
         ensures { IsHonest self.now.loaded self.now.exchanges }
     {
         let _ = &self.loaded;
+    }
+
+    /// Lends the user half that it holds, which is that of the two texts loaded last. There is none before the first load,
+    /// nor after one that wasn't answered `Ok`.
+    pub fn user(&self) -> Option<&UserHalf>
+        ensures there { Serves self.now.loaded (option_copied result) }
+        ensures exchanges { exchanges_of (option_copied result) ≡ self.now.exchanges }
+    {
+        self.half.as_ref()
     }
 }
 
