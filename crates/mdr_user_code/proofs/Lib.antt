@@ -7,3 +7,4 @@ mod FollowLaws
 mod KeyLaws
 mod ByteLaws
 mod GrownLaws
+mod QuickLaws

@@ -10,6 +10,7 @@ mod keys;
 mod memory;
 mod objects;
 mod opening;
+mod quick;
 mod ready;
 mod replying;
 mod running;

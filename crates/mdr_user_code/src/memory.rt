@@ -5,6 +5,7 @@ ghost use Rattle.mdr_user_code.specs.Copied.{copied};
 
 use crate::access::{fresh, loaded, stored};
 use crate::bytes::read;
+use crate::quick::{first_integer, set_first_integer};
 use mdr_core::{Items, StopKind, Value};
 use mdr_events::{Integer, Memory};
 use mdr_meaning::Shape64;
@@ -70,12 +71,12 @@ impl Memory for UserMemory {
         stored(self.view.as_slice(), &mut self.blocks, pointer, value)
     }
 
-    fn first(&self, _serial: u64) -> Option<Integer> {
-        None
+    fn first(&self, serial: u64) -> Option<Integer> {
+        first_integer(self, serial)
     }
 
-    fn set_first(&mut self, _serial: u64, _integer: Integer) -> bool {
-        false
+    fn set_first(&mut self, serial: u64, integer: Integer) -> bool {
+        set_first_integer(self.view.as_slice(), &mut self.blocks, serial, integer)
     }
 
     fn read(
