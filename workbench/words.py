@@ -175,6 +175,8 @@ STATUSES = {
     9: 'Memory was wanting, and nothing was printed. A driver that allocates and never frees, or a very large budget, takes that much.',
     10: 'A file isn\'t there.',
     11: 'A file is too large: a source has at most 1 MiB, a script 256 KiB.',
+    12: 'Three texts aren\'t those that one source is cut into. (The command that tells this isn\'t built yet.)',
+    13: 'A transcript isn\'t that of its run. (The command that tells this isn\'t built yet.)',
     14: 'The words couldn\'t be had from the system (one isn\'t UTF-8), or the program couldn\'t be built.',
 }
 

@@ -18,6 +18,8 @@ number_of status.Stopped = 8
 number_of status.OutOfMemory = 9
 number_of status.Missing = 10
 number_of status.TooLarge = 11
+number_of status.HalvesRefused = 12
+number_of status.NotVerified = 13
 
 -- the shelf's counts of reads that failed, that missed and that were too long, before and after
 pub record Counts : Type 0 where
@@ -39,3 +41,5 @@ HasReadCause before after status.FarFault = Unit {0}
 HasReadCause before after status.Marshal = Unit {0}
 HasReadCause before after status.Stopped = Unit {0}
 HasReadCause before after status.OutOfMemory = Unit {0}
+HasReadCause before after status.HalvesRefused = Unit {0}
+HasReadCause before after status.NotVerified = Unit {0}

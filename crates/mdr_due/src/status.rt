@@ -30,6 +30,10 @@ pub enum Status {
     Missing,
     /// A file is too large.
     TooLarge,
+    /// Three texts aren't those that one source is cut into.
+    HalvesRefused,
+    /// A transcript isn't that of its run.
+    NotVerified,
 }
 
 impl Status {
@@ -50,6 +54,8 @@ impl Status {
             Status::OutOfMemory => 9,
             Status::Missing => 10,
             Status::TooLarge => 11,
+            Status::HalvesRefused => 12,
+            Status::NotVerified => 13,
         }
     }
 }

@@ -60,6 +60,8 @@ since before between after status.FarFault f a l h = tt
 since before between after status.Marshal f a l h = tt
 since before between after status.Stopped f a l h = tt
 since before between after status.OutOfMemory f a l h = tt
+since before between after status.HalvesRefused f a l h = tt
+since before between after status.NotVerified f a l h = tt
 
 -- ---- the whole command
 

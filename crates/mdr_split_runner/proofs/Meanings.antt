@@ -146,6 +146,8 @@ IsEarly status.Stopped = ⊥
 IsEarly status.OutOfMemory = Unit {0}
 IsEarly status.Missing = Unit {0}
 IsEarly status.TooLarge = Unit {0}
+IsEarly status.HalvesRefused = Unit {0}
+IsEarly status.NotVerified = Unit {0}
 
 unread_early : (name : List ℕ) (answer : ReadAnswer) (s : Status) (text : List ℕ) → IsUnread name answer s text → IsEarly s
 unread_early name answer s text (IsUnread.missing a e t) = subst IsEarly (sym e) tt

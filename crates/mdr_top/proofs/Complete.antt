@@ -121,6 +121,8 @@ ended status.Stopped h = Ended.itself (inr refl)
 ended status.OutOfMemory h = absurd h
 ended status.Missing h = absurd h
 ended status.TooLarge h = absurd h
+ended status.HalvesRefused h = absurd h
+ended status.NotVerified h = absurd h
 
 module _ (words : List (List ℕ)) (f : List ℕ → Option (List ℕ)) (s : Status) (source : Source) (script : Bound) (manner : SplitManner) (a : AreAccepted words (Some f) (over_two_halves manner) source script) where
   script_runs : (other : Source) → other ≡ source → IsScriptDue other.program (λ bound. IsOfRun s) (f a.script_name) s → IsOfRun s

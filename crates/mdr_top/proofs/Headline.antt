@@ -18,6 +18,8 @@ IsEarly status.Stopped = ⊥
 IsEarly status.OutOfMemory = Unit {0}
 IsEarly status.Missing = Unit {0}
 IsEarly status.TooLarge = Unit {0}
+IsEarly status.HalvesRefused = Unit {0}
+IsEarly status.NotVerified = Unit {0}
 
 -- so is each with which there is no source
 pub early_sourceless : HoldsSourceless IsEarly

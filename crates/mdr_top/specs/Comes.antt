@@ -157,6 +157,8 @@ Comes words files loaded es status.Marshal = IsSplitEnd words files loaded es st
 Comes words files loaded es status.FarFault = IsSplitEnd words files loaded es status.FarFault
 Comes words files loaded es status.WriteFault = Unit {0}
 Comes words files loaded es status.OutOfMemory = Unit {0}
+Comes words files loaded es status.HalvesRefused = ⊥
+Comes words files loaded es status.NotVerified = ⊥
 
 -- ---- exactly where
 

@@ -56,6 +56,8 @@ IsOfCut status.Stopped = ⊥
 IsOfCut status.OutOfMemory = ⊥
 IsOfCut status.Missing = Unit {0}
 IsOfCut status.TooLarge = Unit {0}
+IsOfCut status.HalvesRefused = ⊥
+IsOfCut status.NotVerified = ⊥
 
 -- ---- why a write fault comes
 

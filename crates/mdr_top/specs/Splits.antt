@@ -17,3 +17,5 @@ IsOfRun status.Stopped = Unit {0}
 IsOfRun status.OutOfMemory = ⊥
 IsOfRun status.Missing = ⊥
 IsOfRun status.TooLarge = ⊥
+IsOfRun status.HalvesRefused = ⊥
+IsOfRun status.NotVerified = ⊥

@@ -48,3 +48,5 @@ IsOfWhole status.Stopped = Unit {0}
 IsOfWhole status.OutOfMemory = ⊥
 IsOfWhole status.Missing = Unit {0}
 IsOfWhole status.TooLarge = Unit {0}
+IsOfWhole status.HalvesRefused = ⊥
+IsOfWhole status.NotVerified = ⊥
