@@ -42,7 +42,7 @@ def report_of(program, source):
 
 def split_run(program, source, script, ticks=DEFAULT_TICKS):
     """The transcript of a split run of a script, which is given as text."""
-    text, status = output(program, ['run', 'split', source, '/dev/stdin', '--wire', '--ticks', str(ticks)], script.encode())
+    text, status = output(program, ['run', 'split', source, '/dev/stdin', '--wire', '--ticks', str(ticks)], script.encode('latin-1'))
     if status not in (0, 8):
         raise Refused(refusal(source, script, status, text))
     return messages.transcript(text)
