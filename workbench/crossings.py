@@ -12,7 +12,6 @@ from dataclasses import dataclass, field
 
 import messages
 from built import DEFAULT_TICKS, TOP, Refused, refusal
-from places import place_of, tokens_of
 
 
 def loaded(*path):
@@ -55,20 +54,26 @@ def end_of(transcript):
 
 # ---- costs
 
+UP, DOWN = ('Call',), ('Down', 'Ask', 'Stop')
+
+
 @dataclass
 class Cost:
-    """What a function, or a whole run, costs across: messages, their bytes, and the ticks of user code that they tell."""
+    """What a function, or a whole run, costs across: messages, their bytes, the ticks of user code that they tell, and how
+    often: upcalls, and of a service or a function of the kernel half how often it was asked for."""
     messages: int = 0
     bytes: int = 0
     ticks: int = 0
-    upcalls: int = 0
+    times: int = 0
     # how often a statement of it asked for a service or called a function of the kernel half, by name, and what that cost
     asked: dict = field(default_factory=dict)
 
-    def take(self, sent):
+    def take(self, sent, kinds):
+        """Counts a message; `kinds` are those that count as once more."""
         self.messages += 1
         self.bytes += sent.size
         self.ticks += sent.message.ticks
+        self.times += sent.message.kind in kinds
 
 
 class Owners:
@@ -104,9 +109,9 @@ def service(number):
 
 def total(transcript):
     """What a run costs across."""
-    cost = Cost(upcalls=sum(it.message.kind == 'Call' for it in transcript.sent))
+    cost = Cost()
     for it in transcript.sent:
-        cost.take(it)
+        cost.take(it, UP)
     return cost
 
 
@@ -116,10 +121,9 @@ def costs(transcript, names):
     for it in transcript.sent:
         function, asked = owners.of(it.message)
         cost = found.setdefault(function, Cost())
-        cost.take(it)
-        cost.upcalls += it.message.kind == 'Call'
+        cost.take(it, UP)
         if asked:
-            cost.asked.setdefault(asked, Cost()).take(it)
+            cost.asked.setdefault(asked, Cost()).take(it, DOWN)
     return found
 
 
@@ -133,8 +137,3 @@ def times(transcript, names):
         elif message.kind == 'Down':
             found[names[message.at_func], names[message.func]] += 1
     return found
-
-
-def line_of(text, token):
-    """The line in which a token of a source stands."""
-    return place_of(text, tokens_of(text)[token].at)[0]

@@ -4,6 +4,7 @@ import tempfile
 import unittest
 
 import tools
+import sources
 from crossings import costs, loaded, times, total
 
 marks = loaded('workbench', 'marks')
@@ -61,7 +62,7 @@ class Marks(unittest.TestCase):
     def test_what_functions_cost_adds_up(self):
         transcript = tools.split('probe.c', 'probe.script')
         whole, parts = total(transcript), costs(transcript, ['probe_irq', 'probe_add', 'probe_fill', 'probe_open'])
-        for what in ('messages', 'bytes', 'ticks', 'upcalls'):
+        for what in ('messages', 'bytes', 'ticks', 'times'):
             self.assertEqual(getattr(whole, what), sum(getattr(it, what) for it in parts.values()))
         self.assertEqual(parts['probe_add'].asked['kzalloc'].messages, 4)
 
@@ -74,7 +75,7 @@ class Marks(unittest.TestCase):
             with open(name, 'w', encoding='utf-8') as file:
                 file.write(WATCHDOG)
             report = tools.crossings.report_of(tools.program(), name)
-        found = dict(marks.reasons(marks.Source(WATCHDOG.encode()), report))
+        found = dict(sources.reasons(sources.Source(WATCHDOG.encode()), report))
         self.assertEqual(found, {
             'bark': ['may be called by dog_irq through a pointer of its type (run)'],
             'pet': ['may be called by dog_irq through a pointer of its type (run)'],
@@ -84,7 +85,7 @@ class Marks(unittest.TestCase):
         })
 
     def test_a_mark_stands_behind_what_stands_before_a_type(self):
-        source = marks.Source(b'u32 x; static inline struct s *f(void) { return 0; }\nvoid g(void) { }\n')
+        source = sources.Source(b'u32 x; static inline struct s *f(void) { return 0; }\nvoid g(void) { }\n')
         self.assertEqual(source.marked('f'), b'u32 x; static inline __critical struct s *f(void) { return 0; }\nvoid g(void) { }\n')
         self.assertEqual(source.marked('g'), b'u32 x; static inline struct s *f(void) { return 0; }\n__critical void g(void) { }\n')
 
