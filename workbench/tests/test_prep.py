@@ -139,7 +139,7 @@ class Prep(unittest.TestCase):
         self.assertEqual(made('void f(void) { if (a) b[i]--; x = y++; }'), ['void f(void) { if (a) b[i] -= 1; x = y++; }'])
 
     def test_constants_are_calculated(self):
-        for text, line in [('stat & WDT_MASK', '\tif (!(stat & 3u))'), ('~WDT_MASK', '\twritel(252u, WDT_CTL);'), ('enum wdt_state {', 'enum { OFF, ON = 2u, BOTH = 3 };'),
+        for text, line in [('WDT_MASK\t', '#define WDT_MASK 3u'), ('CTL_INT\t', '#define CTL_INT 1u'), ('stat & WDT_MASK', '\tif (!(stat & WDT_MASK))'), ('~WDT_MASK', '\twritel(~WDT_MASK & 0xff, WDT_CTL);'), ('enum wdt_state {', 'enum { OFF, ON = 2u, BOTH = 3 };'),
                            ('ring[WDT_CTL * 2]', '\tu8 ring[16];'), ('1 << 3', '\twdt->state = BOTH | 8;'), ('LIMIT', '\t\twdt->ring[i] = 12;')]:
             self.assertEqual(self.line(text), line)
 
@@ -148,6 +148,8 @@ class Prep(unittest.TestCase):
 
     def test_what_a_driver_defines_itself_is_its_own(self):
         self.assertEqual(made('#define EINVAL 5\nenum { EBUSY = 3 };\nint f(void) { return -EINVAL - EBUSY - EIO; }')[2], 'int f(void) { return -EINVAL - EBUSY - 5; }')
+        self.assertEqual(made('#define N 5\n#define M (N + 2)\n#define L M\n#if M > 1\nu32 x;\n#endif\nu8 a[M + L];')[1:], ['', '#define L 7', '', 'u32 x;', '', 'u8 a[14];'])
+        self.assertEqual(made('#define N 5\n#define M (N + 2)\n#define L M\nu8 a[M + L];'), ['#define N 5', '#define M 7', '#define L 7', 'u8 a[14];'])
         self.assertEqual(made('#define N 5\nu8 a[N]; u8 b[N + 1];\nvoid f(void) { u8 c[N * 2]; x = N * 2; }')[1:], ['u8 a[N]; u8 b[6];', 'void f(void) { u8 c[10]; x = N * 2; }'])
         self.assertEqual(made('u32 BIT(u32 n) { return n; }\nvoid f(void) { x = BIT(3); }')[1], 'void f(void) { x = BIT(3); }')
 
