@@ -11,6 +11,8 @@ import sys
 from concurrent.futures import ThreadPoolExecutor
 from dataclasses import dataclass, field
 
+import places
+
 HERE = os.path.dirname(os.path.abspath(__file__))
 TOP = os.path.dirname(HERE)
 PROVED = os.path.join(TOP, 'crates', 'microdriver', 'out', 'microdriver')
@@ -128,6 +130,9 @@ class Driver:
 
     def __init__(self, path, source):
         self.path, self.source = path, source
+        with open(source, 'rb') as file:
+            self.text = file.read()
+        self.lines = self.text.decode('latin-1').splitlines()
 
     def run(self, way, script, ticks=DEFAULT_TICKS):
         """The report of a script in one of the ways, with a budget of ticks, at most the largest that there is."""
@@ -138,6 +143,15 @@ class Driver:
         if done.returncode not in (0, 8):
             raise Refused(refusal(self.source, script, done.returncode, text))
         return read_report(text)
+
+    def place(self, stop):
+        """Where a driver stopped, as compilers write it, with the line of the source; nothing where no code ran."""
+        if not stop or not stop.function:
+            return ''
+        found = places.statement(self.text, stop.function.encode(), stop.number)
+        if not found:
+            return f'{self.source}: {stop.function} {stop.number}'
+        return f'{self.source}:{found[0]}:{found[1]}: {stop.function} {stop.number}: {self.lines[found[0] - 1].strip()}'
 
 
 def refusal(source, script, status, text):
