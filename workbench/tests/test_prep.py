@@ -139,7 +139,8 @@ class Prep(unittest.TestCase):
         self.assertEqual(made('void f(void) { if (a) b[i]--; x = y++; }'), ['void f(void) { if (a) b[i] -= 1; x = y++; }'])
 
     def test_constants_are_calculated(self):
-        for text, line in [('WDT_MASK\t', '#define WDT_MASK 3u'), ('CTL_INT\t', '#define CTL_INT 1u'), ('stat & WDT_MASK', '\tif (!(stat & WDT_MASK))'), ('~WDT_MASK', '\twritel(~WDT_MASK & 0xff, WDT_CTL);'), ('enum wdt_state {', 'enum { OFF, ON = 2u, BOTH = 3 };'),
+        for text, line in [('WDT_MASK\t', '#define WDT_MASK 3u'), ('CTL_INT\t', '#define CTL_INT 1u'), ('stat & WDT_MASK', '\tif (!(stat & WDT_MASK))'),
+                           ('~WDT_MASK', '\twritel(~WDT_MASK & 0xff, WDT_CTL);'), ('enum wdt_state {', 'enum { OFF, ON = 2u, BOTH = 3 };'),
                            ('ring[WDT_CTL * 2]', '\tu8 ring[16];'), ('1 << 3', '\twdt->state = BOTH | 8;'), ('LIMIT', '\t\twdt->ring[i] = 12;')]:
             self.assertEqual(self.line(text), line)
 
