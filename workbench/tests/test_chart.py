@@ -5,6 +5,7 @@ import unittest
 import xml.dom.minidom
 
 import tools
+import crossings
 from crossings import loaded, report_of
 from layout import Type
 from messages import Value, View
@@ -74,6 +75,16 @@ class Charts(unittest.TestCase):
         self.assertIn('|<-- call bump() ---', text)
         self.assertIn('|-- return none ---', text)
         self.assertIn('          bump            2         4       216         2\n', text)
+
+    def test_a_transcript_that_was_kept_is_shown_alike(self):
+        words = ['run', 'split', tools.example('bump.c'), tools.example('open.script'), '--wire']
+        with tempfile.TemporaryDirectory() as folder:
+            name = os.path.join(folder, 'kept')
+            with open(name, 'w', encoding='utf-8') as file:
+                file.write(crossings.output(tools.program(), words)[0])
+            kept, status = tools.said(chart, tools.example('bump.c'), '--wire', name)
+        text, _ = tools.said(chart, tools.example('bump.c'), tools.example('open.script'))
+        self.assertEqual((kept.split('\n')[1:], status), (text.split('\n')[1:], 0))
 
     def test_the_picture_is_well_formed_and_has_each_message(self):
         with tempfile.TemporaryDirectory() as folder:
