@@ -1,4 +1,6 @@
 """Messages: read, written, refused, and docs/messages.x over what rpcgen makes of it."""
+import os
+import re
 import unittest
 
 import tools
@@ -36,6 +38,11 @@ def words(text):
     return b''.join(int(it, 16).to_bytes(4, 'big') for it in text.split())
 
 
+def plain(name):
+    """A name without its case and its marks."""
+    return name.strip().replace('_', '').lower()
+
+
 class Messages(unittest.TestCase):
     def test_the_first_messages_of_a_run_are_read(self):
         sent = tools.split('bump.c', 'open.script').sent
@@ -68,6 +75,19 @@ class Messages(unittest.TestCase):
         for text in ('end ok\n> 0000000800000001\nmessages 2\n', 'messages 0\nend ok\n'):
             with self.assertRaises(ValueError):
                 messages.transcript(text)
+
+    def test_numbers_are_those_of_the_definitions(self):
+        definitions = tools.read(os.path.join(tools.TOP, 'crates', 'mdr_model', 'specs', 'ReplyFaults.antt'))
+        stops = {int(number): name for name, number in re.findall(r'^stop_number stop\.(\w+) = ([0-9]+)$', definitions, re.M)}
+        self.assertEqual(stops, dict(enumerate(messages.STOPS[1:], 1)))
+        definitions = tools.read(os.path.join(tools.TOP, 'crates', 'mdr_core', 'specs', 'Services.antt'))
+        services = re.search(r'^services =\s+(.*?)∷ \[\]', definitions, re.M | re.S)[1].split('∷')
+        self.assertEqual([plain(it) for it in services if it.strip()][:14], [plain(it) for it in messages.SERVICES[1:15]])
+        described = dict(re.findall(r'const (\w+) = ([0-9]+);', tools.read(os.path.join(tools.TOP, 'docs', 'messages.x'))))
+        for name, number in described.items():
+            table = {'SERVICE': messages.SERVICES, 'STOP': messages.STOPS}.get(name.split('_')[0])
+            if table:
+                self.assertEqual(plain(table[int(number)]), plain(name.split('_', 1)[1]))
 
     def test_what_rpcgen_makes_of_the_description_reads_and_writes_them(self):
         tool = loaded('workbench', 'messages-x')
