@@ -231,7 +231,8 @@ class Tests:
         if word == 'case':
             if any(it.name == ' '.join(rest) for it in self.cases):
                 self.refuse('another case has this name')
-            self.at = Case(' '.join(rest), self.number, [*self.setup.device], [*self.setup.steps])
+            steps = [Step(it.line, it.text, it.is_now, [*it.expects]) for it in self.setup.steps]
+            self.at = Case(' '.join(rest), self.number, [*self.setup.device], steps)
             self.cases.append(self.at)
 
     def effects(self, word, rest):
@@ -287,11 +288,7 @@ class Tests:
         if not words or not ways:
             self.refuse('what is expected?')
         head = (self.number, text, ways, always)
-        made = self.made(head, words[0], words[1:])
-        step = self.at.steps[-1]
-        if self.at is not self.setup and step in self.setup.steps:
-            self.refuse('nothing is expected before the first command of the case')
-        step.expects.append(made)
+        self.at.steps[-1].expects.append(self.made(head, words[0], words[1:]))
 
     def made(self, head, word, rest):
         """What a line expects, by its first word."""
@@ -312,8 +309,10 @@ class Tests:
 
     def events(self, head, words):
         times = None
-        if len(words) > 2 and words[-2] == 'times' and words[-1].isdigit():
-            words, times = words[:-2], int(words[-1])
+        if len(words) > 2 and words[-2] == 'times':
+            words, times = words[:-2], self.names.number(words[-1])
+            if times is None:
+                self.refuse(f'{head[1]}: times N')
         chain = [[]]
         for word in words:
             if word == 'then':
