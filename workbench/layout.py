@@ -14,6 +14,10 @@ PATH = re.compile(r'(\w+)((?:\.\w+|->\w+|\[\w+\])*)')
 ANNOTATION = {'__array', '__sentinel', '__nullterm', '__opaque'}
 
 
+class Nowhere(Refused):
+    """A name leads through a pointer to no object."""
+
+
 @dataclass(frozen=True)
 class Type:
     """A type as far as cells go: a struct by its name, a pointer or an array of another type, or one plain cell."""
@@ -209,5 +213,5 @@ def followed(path, value):
     """The object and the cell to which the value of a pointer leads."""
     match = re.fullmatch(r'@([0-9]+)\+([0-9]+)', value)
     if not match:
-        raise Refused(f'{path}: {value} leads nowhere')
+        raise Nowhere(f'{path}: {value} leads nowhere')
     return int(match[1]), int(match[2])

@@ -26,10 +26,11 @@ A case has the lines of a script, with the source's names for numbers, and `now 
 the runs of --sweep and --fail-each, too. A `#` begins a comment."""
 import os
 import re
+from collections.abc import Callable
 from dataclasses import dataclass, field
 
-from built import WAYS, Refused
-from layout import Names
+from built import WAYS, Refused, Report
+from layout import Names, Nowhere
 
 WORD = re.compile(r'"(?:\\.|[^"\\])*"|\S+')
 DEVICE = ('reg', 'on', 'failalloc')
@@ -44,10 +45,11 @@ EVENTS = {'R': 2, 'W': 2, 'irq': 1, 'log': 1, 'deliver': 1}
 
 @dataclass
 class Seen:
-    """What a run shows behind a step: its events, none where it wasn't reached; the whole report, and the objects then."""
-    events: list[str] | None
-    report: object
-    objects: object
+    """What a run shows behind a step: its events, the whole report, what gives the objects then, and whether it is swept."""
+    events: list[str]
+    report: Report
+    objects: Callable[[], dict]
+    is_swept: bool
 
 
 @dataclass
@@ -99,6 +101,9 @@ class Cells(Expect):
     def check(self, seen, names):
         try:
             came = names.cells(self.path, seen.objects())[:len(self.values)]
+        except Nowhere as why:
+            # (of an object that isn't there, since it was refused: nothing holds and nothing is broken)
+            return None if seen.is_swept else str(why)
         except Refused as why:
             return str(why)
         same = len(came) == len(self.values) and all(map(same_cell, self.values, came))

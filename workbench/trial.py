@@ -51,7 +51,8 @@ class Trial:
         """The lines of what is expected that don't hold, each with its step and what came."""
         reached = len(self.report.commands)
         for n, step in enumerate(self.case.steps):
-            seen = Seen(self.report.commands[n].events if n < reached else [], self.report, lambda n=n: self.part(n + 1).objects)
+            events = self.report.commands[n].events if n < reached else []
+            seen = Seen(events, self.report, lambda n=n: self.part(n + 1).objects, only_always)
             for it in step.expects:
                 if self.way in it.ways and (it.always or not only_always) and (n < reached or isinstance(it, Stops)):
                     came = it.check(seen, self.tests.names)
