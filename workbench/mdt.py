@@ -117,10 +117,13 @@ class Stops(Expect):
     function: str | None
     number: int | None
 
+    def is_met(self, stop):
+        """Whether this is the stop that is expected."""
+        return stop.kind == self.kind and self.function in (None, stop.function) and self.number in (None, stop.number)
+
     def check(self, seen, _):
         stop = seen.report.stop
-        same = stop and stop.kind == self.kind and self.function in (None, stop.function) and self.number in (None, stop.number)
-        return None if same else seen.report.end
+        return None if stop and self.is_met(stop) else seen.report.end
 
 
 @dataclass

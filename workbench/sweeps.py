@@ -21,9 +21,9 @@ class End:
 
 
 def end_of(trial):
-    """The end of a swept run."""
+    """The end of a swept run. It is well where the driver doesn't stop, or as it is expected of the case."""
     stop, wanted = trial.report.stop, trial.case.stop(trial.way)
-    as_wanted = not stop if wanted is None else stop and stop.kind == wanted.kind and wanted.function in (None, stop.function)
+    as_wanted = not stop or wanted and wanted.is_met(stop)
     parts = [trial.report.end]
     lost = trial.report.leaked
     if lost:

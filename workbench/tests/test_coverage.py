@@ -1,9 +1,13 @@
 """Tests of workbench/coverage, over the built program."""
+import sys
 import unittest
+from pathlib import Path
 
-from test_mdtest import Run, tool
+sys.dont_write_bytecode = True
+sys.path[:0] = [str(Path(__file__).resolve().parent)]
 
-coverage = tool('coverage')
+from running import Run, coverage
+
 SOURCE = """u32 g;
 static void never(void) { g = 5; }
 void irq(void) { g = 3; writel(0, 1); }
@@ -31,7 +35,7 @@ class TestCoverage(Run):
         status, lines = self.cover('call f 1\n')
         self.assertEqual((status, lines), (0, [
             'd.c:2:13: never: never called, 1 statement', 'd.c:3:6: irq: never called, 2 statements', 'd.c:8:4: f 5: return 7;',
-            'd.c:11:11: f 8: if (sum) g = 1; else g = 2;', 'd.c:14:6: start: never called, 2 statements', 'd.c: 7 of 14 statements were reached, in 13 ticks']))
+            'd.c:11:11: f 8: if (sum) g = 1; else g = 2;', 'd.c:14:6: start: never called, 2 statements', 'd.c: 8 of 15 statements were reached, in 12 ticks']))
 
     def test_a_handler_in_idle_time_is_reached(self):
         _, lines = self.cover('on tick 100 do raise\non write 1 do lower\ncall start\nidle 300\n')

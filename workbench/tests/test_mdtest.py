@@ -1,36 +1,19 @@
 """Tests of workbench/mdtest and of the modules below it, over the built program."""
-import contextlib
-import importlib.machinery
-import importlib.util
-import io
-import pathlib
 import shutil
 import sys
-import tempfile
 import unittest
 import xml.etree.ElementTree as xml
+from pathlib import Path
 
 sys.dont_write_bytecode = True
-HERE = pathlib.Path(__file__).resolve().parent
-WORKBENCH, EXAMPLES = HERE.parent, HERE.parents[1] / 'examples'
-sys.path[:0] = [str(WORKBENCH), str(HERE)]
+sys.path[:0] = [str(Path(__file__).resolve().parent)]
 
-import built
 import planted
+from running import EXAMPLES, Run, mdtest
+from built import Refused
 from layout import Names
 from mdt import Tests
-from built import Refused
 
-
-def tool(name):
-    """A tool of the workbench, as a module."""
-    loader = importlib.machinery.SourceFileLoader(name, str(WORKBENCH / name))
-    module = importlib.util.module_from_spec(importlib.util.spec_from_loader(name, loader))
-    loader.exec_module(module)
-    return module
-
-
-mdtest = tool('mdtest')
 DRIVERS = ('keyboard', 'temperature', 'flash', 'watchdog', 'block')
 SOURCE = b"""#define LOW -3 /* not #define LOW 4 */
 #define MASK 0x10
@@ -43,36 +26,12 @@ struct outer *at __array(2) = &one;
 void (*hook)(u32 n);
 u32 f(struct outer *o __array(3)) { u32 local = 1; return local; }
 """
+COUNTS = """u32 n;
+void up(void) { u32 old = n; n = old + 1; }
+void irq(void) { n += 1; writel(0, 1); }
+void f(void) { s32 e; e = request_irq(irq); up(); }
+"""
 OBJECTS = {1: ('u32', 2, ['1', '2']), 2: ('struct outer', 1, [*map(str, range(12)), '@2+0', '13', '@1+1']), 3: ('struct outer *', 1, ['@2+0'])}
-
-
-class Run(unittest.TestCase):
-    """Runs of the tool in a folder of their own, in this process."""
-    program = None
-
-    @classmethod
-    def setUpClass(cls):
-        with contextlib.redirect_stderr(io.StringIO()):
-            cls.program = cls.program or built.program()
-
-    def setUp(self):
-        room = tempfile.TemporaryDirectory()
-        self.addCleanup(room.cleanup)
-        self.room = pathlib.Path(room.name)
-
-    def run_tool(self, main, *words):
-        """The status and the lines of a run."""
-        out = io.StringIO()
-        with contextlib.redirect_stdout(out), contextlib.redirect_stderr(io.StringIO()):
-            status = main(['--program', self.program, *map(str, words)])
-        return status, out.getvalue().replace(f'{self.room}/', '').splitlines()
-
-    def mdtest(self, text, *words, driver='uart.c'):
-        """A run of tests that are given as a text, for a driver of the examples unless it stands there."""
-        if not (self.room / driver).exists():
-            shutil.copy(EXAMPLES / driver, self.room)
-        (self.room / 'a.mdt').write_text(text)
-        return self.run_tool(mdtest.main, *words, self.room / 'a.mdt')
 
 
 class TestNames(unittest.TestCase):
@@ -80,7 +39,7 @@ class TestNames(unittest.TestCase):
         self.names = Names(SOURCE)
 
     def test_numbers_of_a_source(self):
-        for word, value in (('LOW', -3), ('-LOW', 3), ('MASK', 16), ('FIRST', 0), ('FOURTH', 3), ('MASK|FOURTH', 19), ('0x1f', 31), ('-5', -5), ('none', None), ('&one', None)):
+        for word, value in (('LOW', -3), ('-LOW', 3), ('MASK', 16), ('FIRST', 0), ('FOURTH', 3), ('MASK|FOURTH', 19), ('0x1f', 31), ("'a'", 97), ('-5', -5), ('none', None), ('&one', None)):
             self.assertEqual(self.names.number(word), value, word)
 
     def test_globals_come_in_their_order(self):
@@ -135,11 +94,26 @@ case it opens
         self.assertEqual((status, lines), (1, [
             'TAP version 13', 'not ok 1 - a.mdt: it opens',
             '# a.mdt:4: expected ret -5, came ret 0', '#     uart.c:107:2: uart_open 12: return err;',
-            '# a.mdt:5: expected W SPEED 12 then W DATA 1, came W 3 12; W 2 1; log uart: open at 9600\\n; W 0 0; ret 0', '#     uart.c:89:2: uart_set_speed 5: writel(divisor, SPEED);',
+            '# a.mdt:5: expected W SPEED 12 then W DATA 1, came W 3 12; W 2 1; log uart: open at 9600\\n; W 0 0; ret 0', '#     uart.c:93:2: uart_set_speed 6: writel(divisor, SPEED);',
             '# a.mdt:6: expected port.state CLOSED, came port.state 1', '#     uart.c:103:2: uart_open 8: port.state = OPEN;',
             '1..1', '# 0 passed, 1 failed']))
         suite = xml.parse(self.room / 'j.xml').getroot()[0]
         self.assertEqual((suite.get('tests'), suite.get('failures'), suite[0].get('name'), suite[0][0].tag), ('1', '1', 'it opens', 'failure'))
+
+    def test_what_happens_now_happens_then(self):
+        status, lines = self.mdtest("""driver uart.c
+case now
+    now put DATA 66, set STATUS READY
+    call uart_open
+    expect irq uart_irq times 0
+    now raise
+    expect R STATUS READY then R DATA 'B'
+""", '--ways', 'split')
+        self.assertEqual(status, 0, lines)
+
+    def test_a_case_is_printed_as_a_script(self):
+        status, lines = self.mdtest('driver uart.c\ncase first\ncall uart_open\nnow raise\nshow port\n', '--script')
+        self.assertEqual((status, lines), (0, ['# first', 'on tick 25 do raise', 'call uart_open', 'idle 1', 'show port', '']))
 
     def test_a_stop_that_nobody_expects_is_told(self):
         (self.room / 'd.c').write_text('u32 g[2];\nvoid f(u32 n) { g[n] = 1; }\n')
@@ -173,7 +147,7 @@ class TestSweeps(Run):
         planted.plant(self.room, EXAMPLES, planted.LEAK)
         status, lines = self.mdtest(planted.LEAK_TEST, '--fail-each', '--ways', 'whole', driver='temperature.c')
         self.assertEqual((status, lines[3:6]), (1, [
-            '# end ok, 1 block leaked: 1 of 2 allocations, the first is 2', '#     refused in temperature.c:154:2: lm75_probe 9: s->samples = kcalloc(size, s32);',
+            '# end ok, 1 block leaked: 1 of 2 allocations, the first is 2', '#     refused in temperature.c:150:2: lm75_probe 9: s->samples = kcalloc(size, s32);',
             '# 1 of 2 allocations end as they should']))
 
     def test_each_refused_allocation_finds_none_in_the_driver_as_it_is(self):
@@ -181,10 +155,12 @@ class TestSweeps(Run):
         self.assertEqual((status, lines[3]), (0, '# 2 of 2 allocations end as they should'))
 
     def test_what_is_always_expected_is_asked_at_each_tick(self):
-        (self.room / 'd.c').write_text('u32 n, sum;\nvoid up(void) { u32 old = n; n = old + 1; }\nvoid irq(void) { n += 1; sum += 1; writel(0, 1); }\nvoid f(void) { s32 e; e = request_irq(irq); up(); }\n')
-        _, lines = self.mdtest('driver d.c\nsetup\non write 1 do lower\ncase a count\ncall f\nalways n 1 in split\nalways n 2 in whole\n', '--sweep', '--ways', 'split', driver='d.c')
-        self.assertEqual(lines[1], 'ok 1 - a.mdt: a count')
-        self.assertTrue(lines[3].startswith('# end ok, line 6: always n 1 in split, came n 2: '), lines)
+        (self.room / 'd.c').write_text(COUNTS)
+        _, lines = self.mdtest('driver d.c\nsetup\non write 1 do lower\ncase a count\ncall f\nalways n 1\n', '--sweep', '--ways', 'whole', driver='d.c')
+        # (the interrupt behind the first statement of up is lost)
+        self.assertEqual(lines[1:6], [
+            'ok 1 - a.mdt: a count', 'not ok 2 - a.mdt: a count: each tick', '# end ok, line 6: always n 1, came n 2: 5 of 6 ticks, the first is 1',
+            '#     raised before d.c:4:23: f 2: void f(void) { s32 e; e = request_irq(irq); up(); }', '# 1 of 6 ticks end as they should'])
 
 
 if __name__ == '__main__':
