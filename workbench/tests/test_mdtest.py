@@ -103,27 +103,28 @@ case it opens
     def test_what_happens_now_happens_then(self):
         status, lines = self.mdtest("""driver uart.c
 case now
-    now put DATA 66, set STATUS READY
+    now put SPEED 'B', set STATUS READY
     call uart_open
     expect irq uart_irq times 0
-    now raise
-    expect R STATUS READY then R DATA 'B'
+    now put DATA 'C', raise
+    expect R STATUS READY then R DATA 'C'
 """, '--ways', 'split')
         self.assertEqual(status, 0, lines)
 
     def test_a_case_is_printed_as_a_script(self):
         status, lines = self.mdtest('driver uart.c\ncase first\ncall uart_open\nnow raise\nshow port\n', '--script')
-        self.assertEqual((status, lines), (0, ['# first', 'on tick 25 do raise', 'call uart_open', 'idle 1', 'show port', '']))
+        self.assertEqual((status, lines), (0, ['# first', 'on tick 28 do raise', 'call uart_open', 'idle 1', 'show port', '']))
 
     def test_a_stop_that_nobody_expects_is_told(self):
         (self.room / 'd.c').write_text('u32 g[2];\nvoid f(u32 n) { g[n] = 1; }\n')
         _, lines = self.mdtest('driver d.c\ncase past the end\ncall f 2\ncall f 0\nexpect g[0] 1\n', driver='d.c')
-        self.assertEqual(lines[2:4], ['# a.mdt:2: expected end ok, came stop Bounds at f 1', '#     d.c:2:17: f 1: g[n] = 1;'])
+        self.assertEqual(lines[2:4], ['# a.mdt:2: expected end ok, came stop Bounds at f 1', '#     d.c:2:17: f 1: void f(u32 n) { g[n] = 1; }'])
 
     def test_a_stop_may_be_one_of_user_code_alone(self):
-        (self.room / 'd.c').write_text('u8 g[2];\nu8 f(u8 *p) { return p[1]; }\n')
-        status, _ = self.mdtest('driver d.c\ncase one element\ncall f &g\nexpect ret 0 in whole\nexpect stop Annotation at f 1 in watched and split\n', driver='d.c')
-        self.assertEqual(status, 0)
+        (self.room / 'd.c').write_text('u8 *p;\nvoid make(void) { p = kcalloc(2, u8); }\nu8 f(void) { return p[1]; }\n')
+        tests = 'driver d.c\ncase one element\ncall make\ncall f\nexpect ret 0 in whole\nexpect stop Annotation at f 1 in watched and split\n'
+        status, lines = self.mdtest(tests, driver='d.c')
+        self.assertEqual(status, 0, lines)
 
     def test_a_leak_fails_unless_it_is_expected(self):
         (self.room / 'd.c').write_text('void f(void) { u32 *p = kzalloc(u32); }\n')
