@@ -189,7 +189,12 @@ def each(work, items, what, jobs):
     items = list(items)
     progress, found = Progress(what, len(items)), []
     with ThreadPoolExecutor(max_workers=jobs) as pool:
-        for it in pool.map(work, items):
-            found.append(it)
-            progress.step()
+        try:
+            for it in pool.map(work, items):
+                found.append(it)
+                progress.step()
+        except BaseException:
+            # (a refusal, or Ctrl-C: what hasn't begun needn't begin)
+            pool.shutdown(wait=False, cancel_futures=True)
+            raise
     return found

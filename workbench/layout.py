@@ -64,7 +64,9 @@ class Names:
         return value
 
     def one(self, word):
-        """The value of one number, or of a name of one."""
+        """The value of one number, of a letter such as 'a', or of a name of one."""
+        if re.fullmatch("'[ -~]'", word):
+            return ord(word[1])
         name = word.removeprefix('-')
         value = self.numbers.get(name, number_of(name) if re.fullmatch(r'\w+', name) else None)
         return -value if value is not None and word != name else value
@@ -191,7 +193,7 @@ class Names:
         at = 0
         for field, behind, index in STEP.findall(match[2]):
             if (behind or index) and of.pointer:
-                number, at = followed(path, objects[number][2][at])
+                number, at = followed(path, objects[number][2], at)
                 of = of.pointer
             if index:
                 of, at = self.element(path, of, at, index)
@@ -209,8 +211,9 @@ class Names:
         return of, at + value * self.size(of)
 
 
-def followed(path, value):
-    """The object and the cell to which the value of a pointer leads."""
+def followed(path, cells, at):
+    """The object and the cell to which the pointer in a cell of an object leads."""
+    value = cells[at] if at < len(cells) else 'what is past the end'
     match = re.fullmatch(r'@([0-9]+)\+([0-9]+)', value)
     if not match:
         raise Nowhere(f'{path}: {value} leads nowhere')
