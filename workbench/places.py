@@ -114,8 +114,8 @@ def hint(text, line, column, kind):
     tokens, n = around(text, line, column)
     at = tokens[n].text
     if kind == 'BadByte' and text.split(b'\n')[line - 1].lstrip().startswith(b'#'):
-        return 'A line with a # is "#include ..", which is skipped, or "#define NAME NUMBER", one whole number, with - in front or not. "gcc -E -P" writes ' \
-               'other macros out (take the #include lines away first); an enum { NAME = NUMBER }; gives names to numbers, too.'
+        return 'A line with a # is "#include ..", which is skipped, or "#define NAME NUMBER", one whole number, with - in front or not. workbench/prep ' \
+               'FILE writes other macros out; an enum { NAME = NUMBER }; gives names to numbers, too.'
     if kind == 'Expected':
         return expected(text, tokens, n)
     if kind == 'Mismatch' and at in ASSIGNING:

@@ -5,7 +5,7 @@ SOURCE = {
     'BadByte': (
         'This byte begins no word of the language.',
         'Outside comments a source is printable ASCII. A line with a # is "#include ..", which is skipped, or "#define NAME NUMBER", one whole '
-        'number. "gcc -E -P" writes all other macros out (take the #include lines away first).'),
+        'number. workbench/prep FILE writes all other macros out, and leaves the lines where they are.'),
     'BadNumber': (
         'This is no whole number of at most 64 bits.',
         'A number is decimal, octal or 0x hexadecimal, with a suffix of u, l or ll, and no letter, digit, "_" or "." right behind it.'),
@@ -203,6 +203,17 @@ ANNOTATIONS = {
     '__opaque': 'POINTER __opaque: the user half hands it on and looks at nothing behind it.',
     '__critical': '__critical before a function (behind static) keeps it in the kernel half, with all that it may call.',
     '__remote': '__remote marks, in the texts that split writes, a function that the other half has. A source doesn\'t have it.',
+}
+
+MESSAGES = {
+    'Call': 'To the user half: a function of it is called, with the ticks that are left, its arguments, and what it needs to know of memory.',
+    'Return': 'From the user half: the function that was called returned, with its result and the cells that it changed.',
+    'Down': 'From the user half: a function of the kernel half is called, with the cells that were changed until then.',
+    'Back': 'To the user half: the function of the kernel half returned, with its result and what it needs to know of memory.',
+    'Ask': 'From the user half: a service is asked for (readl, kzalloc, combolock ..), with the cells that were changed until then.',
+    'Answer': 'To the user half: what the service gave, with the blocks that died or were born; it tells no cells.',
+    'Stop': 'From the user half: user code stopped, and why; the run ends.',
+    'Refuse': 'From the user half: the last message was refused. This program\'s own user half refuses none.',
 }
 
 REPLIES = ('Short', 'Range', 'Padding', 'Kind', 'Trailing', 'NotAwaited', 'TooManyTicks', 'BadPlace', 'BadDepth', 'NoStub', 'BadService',
