@@ -1,4 +1,5 @@
 """Charts: what crosses, in names; the table; the picture; the graph."""
+import functools
 import os
 import tempfile
 import unittest
@@ -14,7 +15,9 @@ from naming import Naming
 chart = loaded('workbench', 'chart')
 
 
+@functools.cache
 def naming(source):
+    """The names of a driver of examples/."""
     name = tools.example(source)
     return Naming(tools.read(name).encode(), report_of(tools.program(), name))
 

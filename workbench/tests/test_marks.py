@@ -1,4 +1,5 @@
 """Marks: what each saves in a run, counted by hand, and why functions stay in the kernel half."""
+import functools
 import os
 import tempfile
 import unittest
@@ -34,14 +35,18 @@ static void log_it(void) { printk("dog\\n"); }
 """
 
 
-class Marks(unittest.TestCase):
-    def work(self, source, script):
-        return marks.Marks(tools.program(), tools.example(source), tools.read(tools.example(script)), 1_000_000)
+@functools.cache
+def serial_port():
+    """The marks of the serial port, and what each saves."""
+    work = marks.Marks(tools.program(), tools.example('uart.c'), tools.read(tools.example('uart.script')), 1_000_000)
+    return work, work.all()
 
+
+class Marks(unittest.TestCase):
     def test_the_mark_on_uart_write_saves_what_is_counted_by_hand(self):
-        work = self.work('uart.c', 'uart.script')
+        work, found = serial_port()
         self.assertEqual((work.whole.messages, WITHOUT), (26, 26))
-        found = {it.function: it for it in work.all()}
+        found = {it.function: it for it in found}
         self.assertEqual((found['uart_write'].saved.messages, found['uart_write'].along), (WITHOUT - WITH, []))
         self.assertEqual(WITHOUT - WITH, 12)
 
@@ -53,7 +58,7 @@ class Marks(unittest.TestCase):
         self.assertIn('    keep: called by uart_irq\n', text)
 
     def test_the_largest_comes_first_and_tells_what_goes_along(self):
-        found = self.work('uart.c', 'uart.script').all()
+        _, found = serial_port()
         self.assertEqual(found[0].function, 'uart_open')
         self.assertEqual(found[0].saved.messages, WITHOUT)
         self.assertEqual(set(found[0].along), {'uart_write', 'uart_set_speed', 'divisor_of'})

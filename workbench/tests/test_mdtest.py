@@ -12,7 +12,7 @@ import planted
 from running import EXAMPLES, Run, mdtest
 from built import Refused
 from layout import Names
-from mdt import Tests
+from mdt import WORD, Tests
 
 DRIVERS = ('keyboard', 'temperature', 'flash', 'watchdog', 'block')
 SOURCE = b"""#define LOW -3 /* not #define LOW 4 */
@@ -58,6 +58,12 @@ class TestNames(unittest.TestCase):
 
 
 class TestForm(Run):
+    def read(self, text):
+        """Tests of examples/uart.c that are read and not run."""
+        shutil.copy(EXAMPLES / 'uart.c', self.room)
+        (self.room / 'a.mdt').write_text(text)
+        return Tests(str(self.room / 'a.mdt'))
+
     def test_a_line_that_is_none_is_refused_with_its_number(self):
         for line, why in (('cal f', 'cal begins no line'), ('expect ret 0', 'nothing is expected before the first command'), ('case', 'a case has a name'),
                           ('call uart_open\nexpect W SPEED', 'an event is'), ('call uart_open\nexpect prt.state 1', 'no global prt.state'),
@@ -71,10 +77,16 @@ class TestForm(Run):
         self.assertEqual((status, lines[-1]), (2, 'Bail out! uart.c: script refused, NoFunction: call uart_opn'))
 
     def test_names_become_numbers_and_rules_keep_their_words(self):
-        shutil.copy(EXAMPLES / 'uart.c', self.room)
-        (self.room / 'a.mdt').write_text('driver uart.c # so\ncase first\non write DATA if STATUS READY|BROKEN 0 do put DATA 65, raise\ncall uart_write -OPEN\n')
-        case = Tests(str(self.room / 'a.mdt')).cases[0]
+        tests = self.read('driver uart.c # so\ncase first\non write DATA if STATUS READY|BROKEN 0 do put DATA 65, raise\ncall uart_write -OPEN\n')
+        case = tests.cases[0]
         self.assertEqual(case.script(1, {}), 'on write 0 if 1 3 0 do put 0 65, raise\ncall uart_write -1\n')
+
+    def test_events_are_patterns(self):
+        tests = self.read('driver uart.c\ncase first\ncall uart_open\n')
+        for words, line, is_it in (('W SPEED 12', 'W 3 12', True), ('W SPEED *', 'W 3 1', True), ('W SPEED 1', 'W 3 12', False), ('R * *', 'W 3 1', False),
+                                   ('log "a*z\\n"', 'log a to z\\n', True), ('log "a.z"', 'log abz', False), ('deliver "Az"', 'deliver 417a', True),
+                                   ('deliver 41*', 'deliver 417a', True), ('irq uart_irq', 'irq uart_irq', True)):
+            self.assertEqual(bool(tests.event(WORD.findall(words)).fullmatch(line)), is_it, words)
 
 
 class TestCases(Run):
