@@ -74,6 +74,7 @@ def fits(output, expected):
     return re.fullmatch(form, output) is not None
 
 
+@unittest.skipUnless(shutil.which('gcc'), 'gcc isn\'t there, which prep asks')
 class Page(unittest.TestCase):
     def test_it_says_what_happens(self):
         here = os.getcwd()
