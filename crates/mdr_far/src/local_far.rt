@@ -1,9 +1,10 @@
 // A far side in the same process.
 
+ghost use Rattle.std.specs.Option.{option_copied};
 ghost use Rattle.std.specs.Prelude.{◌≡◌, [], None, Some, IfOk};
 ghost use Rattle.mdr_outside.specs.Far.{loaded_with};
 ghost use Rattle.mdr_honest.specs.Honest.{IsHonest};
-ghost use Rattle.mdr_far.specs.Fars.{Answered};
+ghost use Rattle.mdr_far.specs.Fars.{exchanges_of, Answered, Serves};
 
 use crate::half::UserHalf;
 use crate::load_error::LoadError;
@@ -49,6 +50,15 @@ impl LocalFar {
         ensures { IsHonest self.now.loaded self.now.exchanges }
     {
         let _ = &self.loaded;
+    }
+
+    /// Lends the user half that it holds, which is that of the two texts loaded last. There is none before the first load,
+    /// nor after one that wasn't answered `Ok`.
+    pub fn user(&self) -> Option<&UserHalf>
+        ensures there { Serves self.now.loaded (option_copied result) }
+        ensures exchanges { exchanges_of (option_copied result) ≡ self.now.exchanges }
+    {
+        self.half.as_ref()
     }
 }
 
