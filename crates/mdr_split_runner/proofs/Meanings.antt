@@ -74,7 +74,7 @@ fails (ends.Stop kind at) h = absurd h
 fails (ends.Refused exchange cause number) h = absurd h
 fails (ends.FarFault exchange) h = refl
 
-own_never : (end : End) → IsOwn end → status_of end ≡ status.Marshal → ⊥
+pub own_never : (end : End) → IsOwn end → status_of end ≡ status.Marshal → ⊥
 own_never ends.Ok own e = Prim.cc
 own_never (ends.Stop kind at) own e = Prim.cc
 own_never (ends.Refused exchange cause number) own e = own
@@ -121,7 +121,7 @@ module _ (law : RunIsMeaning) (taken : TextsOfSourcesAreTaken) (bytes lines : Li
   ran_means loaded s text honest (Ran.failed is r) = inl (r.status_is ∙ ap status_of (nothing_end source.program script ticks (ends.FarFault 0)))
 
 -- what is meant is what the run on one memory is reported as
-same_report : (source : Source) (plan : Plan) (texts : Texts) (script : Bound) (ticks : ℕ) (s : Status) (text : List ℕ) → IsCutInto source plan texts → Reported source.program (meant source.program plan script ticks) s text
+pub same_report : (source : Source) (plan : Plan) (texts : Texts) (script : Bound) (ticks : ℕ) (s : Status) (text : List ℕ) → IsCutInto source plan texts → Reported source.program (meant source.program plan script ticks) s text
     → IsRun source.program script (while_watched ticks) s text
 same_report source plan texts script ticks s text c r = record {
   outcome = meant source.program plan script ticks;
@@ -133,7 +133,7 @@ same_report source plan texts script ticks s text c r = record {
 -- ---- what is due
 
 -- a status that tells of no run
-abbrev IsEarly : Status → Type 0
+abbrev pub IsEarly : Status → Type 0
 IsEarly status.Done = ⊥
 IsEarly status.Usage = Unit {0}
 IsEarly status.SourceRefused = Unit {0}
@@ -149,7 +149,7 @@ IsEarly status.TooLarge = Unit {0}
 IsEarly status.HalvesRefused = Unit {0}
 IsEarly status.NotVerified = Unit {0}
 
-unread_early : (name : List ℕ) (answer : ReadAnswer) (s : Status) (text : List ℕ) → IsUnread name answer s text → IsEarly s
+pub unread_early : (name : List ℕ) (answer : ReadAnswer) (s : Status) (text : List ℕ) → IsUnread name answer s text → IsEarly s
 unread_early name answer s text (IsUnread.missing a e t) = subst IsEarly (sym e) tt
 unread_early name answer s text (IsUnread.long a e t) = subst IsEarly (sym e) tt
 unread_early name answer s text (IsUnread.failed a e t) = subst IsEarly (sym e) tt
@@ -158,11 +158,11 @@ no_source_early : (files : Files) (name : List ℕ) (old new : List ShelfCall) (
 no_source_early files name old new s text (NoSourceOf.unread u) = unread_early name u.answer s text u.why
 no_source_early files name old new s text (NoSourceOf.refused bytes read n) = subst IsEarly (sym n.status_is) tt
 
-no_script_early : (files : Files) (program : Program) (name : List ℕ) (old new : List ShelfCall) (s : Status) (text : List ℕ) → NoScriptOf files program name old new s text → IsEarly s
+pub no_script_early : (files : Files) (program : Program) (name : List ℕ) (old new : List ShelfCall) (s : Status) (text : List ℕ) → NoScriptOf files program name old new s text → IsEarly s
 no_script_early files program name old new s text (NoScriptOf.unread u) = unread_early name u.answer s text u.why
 no_script_early files program name old new s text (NoScriptOf.refused bytes read n) = subst IsEarly (sym n.status_is) tt
 
-not_early : (s : Status) → IsEarly s → (s ≡ status.Done) ⊎ (s ≡ status.Stopped) → ⊥
+pub not_early : (s : Status) → IsEarly s → (s ≡ status.Done) ⊎ (s ≡ status.Stopped) → ⊥
 not_early s early (inl e) = subst IsEarly e early
 not_early s early (inr e) = subst IsEarly e early
 

@@ -14,5 +14,5 @@ mod seen;
 
 pub use laws::{split_runs_end, split_runs_mean};
 pub use manner::SplitManner;
-pub use running::split_over;
+pub use running::{split_over, split_run_over};
 pub use seen::SidesSeen;

@@ -64,8 +64,8 @@ fn run_shown<F: Far>(
     Ok(all)
 }
 
-/// Reads a script, and runs it over the halves of a source.
-fn split_run_over<S: Shelf, F: Far>(
+/// Reads a script, and runs it over the halves of a source, as `split_over` does with one that it read.
+pub fn split_run_over<S: Shelf, F: Far>(
     alloc: Global,
     shelf: &mut S,
     far: &mut F,

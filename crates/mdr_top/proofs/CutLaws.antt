@@ -19,7 +19,7 @@ use Rattle.mdr_top.specs.declared.words.Cutting.{Cutting}
 use Rattle.mdr_top.specs.declared.words.Cutting.TheVariants as cutting
 use Rattle.mdr_top.specs.declared.words.Way.{Way}
 use Rattle.mdr_top.specs.declared.words.Way.TheVariants as way
-use Rattle.mdr_top.specs.Words.{Inputs, OfFiles, Task, Cut, Run, cut_of, run_of, command_by, command_of}
+use Rattle.mdr_top.specs.Words.{Inputs, OfFiles, Task, Cut, Run, cut_of, run_of, texts_command, command_by, command_of}
 use Rattle.mdr_top.specs.Cuts.{CutDone, IsSplit, IsCut, IsOfCut}
 use Rattle.mdr_top.specs.Answers.{Unread, Untaken, CutAnswered}
 use Rattle.mdr_top.proofs.Statuses.{cut_answered_status}
@@ -27,10 +27,10 @@ use Rattle.mdr_top.proofs.Statuses.{cut_answered_status}
 -- ---- words
 
 pub cut_command : (words : List (List ℕ)) (how : Cutting) (name : List ℕ) → Some (how, name) ≡ cut_of words → command_of words ≡ Some (Cut how name)
-cut_command words how name e = ap (λ (c : Option (Cutting × List ℕ)). command_by c (run_of words)) (sym e)
+cut_command words how name e = ap (λ (c : Option (Cutting × List ℕ)). command_by c (run_of words) (texts_command words)) (sym e)
 
 pub run_command : (words : List (List ℕ)) (source_name script_name : List ℕ) (in_way : Way) → None ≡ cut_of words → Some (source_name, script_name, in_way) ≡ run_of words → command_of words ≡ Some (Run (OfFiles source_name script_name) in_way)
-run_command words source_name script_name in_way none e = λ i. command_by (sym none i) (sym e i)
+run_command words source_name script_name in_way none e = λ i. command_by (sym none i) (sym e i) (texts_command words)
 
 pub cut_no_run : (command : Option Task) (how : Cutting) (name : List ℕ) (inputs : Inputs) (in_way : Way) → command ≡ Some (Cut how name) → command ≡ Some (Run inputs in_way) → ⊥
 cut_no_run command how name inputs in_way e f = Prim.cc

@@ -26,13 +26,19 @@ use Rattle.mdr_top.specs.declared.words.Way.TheVariants as way
 use Rattle.mdr_split_runner.specs.Sides.{Sides}
 use Rattle.mdr_top.specs.Outside.{Outside}
 use Rattle.mdr_top.specs.Wholes.{WholeMeansBy, IsOfWhole}
-use Rattle.mdr_top.specs.Words.{Inputs, OfFiles, Task, Cut, Run, command_of}
+use Rattle.mdr_halves_runner.specs.Means.{HalvesMean}
+use Rattle.mdr_halves_runner.specs.Reads.{TextNames}
+use Rattle.mdr_halves_runner.specs.Runs.{HalvesRuns}
+use Rattle.mdr_halves_runner.proofs.Honest.{halves_mean}
+use Rattle.mdr_top.specs.Texts.{TextsMeanBy, TextsMean}
+use Rattle.mdr_top.specs.Words.{Inputs, OfFiles, Task, Cut, Run, RunTexts, texts_manner, command_of}
 use Rattle.mdr_top.specs.Writing.{IsWritten, IsCutOff, TellsFailure}
 use Rattle.mdr_top.proofs.CutLaws.{cut_no_run, whole_no_split, unread_so, cut_so, cut_status}
 use Rattle.mdr_top.proofs.Headline.{IsEarly, early_sourceless, not_early}
 use Rattle.mdr_top.proofs.Pieces.{offers_last, offers_whole}
 use Rattle.mdr_top.proofs.SplitLaws.{split_so}
 use Rattle.mdr_top.proofs.Statuses.{unread_status}
+use Rattle.mdr_top.proofs.TextsLaws.{texts_so, texts_no_run, texts_mean_by}
 use Rattle.mdr_top.proofs.WholeLaws.{whole_so, whole_status}
 
 -- ---- what is done
@@ -57,6 +63,7 @@ answered_so : (words : List (List ℕ)) (before after : Sides) (s : Status) (tex
 answered_so words before after s text (Done.usage e same is t) = Answered.usage e is t
 answered_so words before after s text (Done.cut how name e d f) = Answered.cut how name e (cut_so how before.shelf.files after.shelf.files name before.shelf.calls after.shelf.calls s text d)
 answered_so words before after s text (Done.ran inputs in_way e kept runs) = Answered.ran inputs in_way e (ran_so inputs in_way before after s text runs)
+answered_so words before after s text (Done.texts names script_name e kept runs) = Answered.texts names script_name e (texts_so before.shelf.files names script_name before.shelf.calls after.shelf.calls before.far after.far s text runs)
 
 pub prints_so : (words : List (List ℕ)) (before after : Outside) (s : Status) → Does words before after s → Prints words before after s
 prints_so words before after s (Does.whole text d w) = Prints.whole text (answered_so words before.sides after.sides s text d) w
@@ -126,12 +133,20 @@ module _ (words : List (List ℕ)) (before after : Outside) (s : Status) where
       whole_means (OfFiles name script_name) manner e (whole_status before.sides.shelf.files name script_name manner before.sides.shelf.calls after.sides.shelf.calls s text runs.runs)
   ran_means text adds (OfFiles name script_name) (way.Split manner) e runs honest = split_means text adds name script_name manner e runs honest
 
+  -- from texts no reply is refused
+  texts_mean : (text : List ℕ) (names : TextNames) (script_name : List ℕ) → command_of words ≡ Some (RunTexts names script_name) → HalvesRuns before.sides.shelf.files names script_name texts_manner before.sides.shelf.calls after.sides.shelf.calls before.sides.far after.sides.far s text → IsHonest after.sides.far.loaded after.sides.far.exchanges → MeansIt
+  texts_mean text names script_name e runs honest = record {
+    never = (halves_mean before.sides.shelf.files names script_name texts_manner before.sides.shelf.calls after.sides.shelf.calls before.sides.far after.sides.far s text runs honest).never;
+    means = λ source_name other_name manner named is. absurd (texts_no_run (command_of words) names script_name (OfFiles source_name other_name) (way.Split manner) e named);
+  }
+
   pub does_mean : Does words before after s → IsHonest after.sides.far.loaded after.sides.far.exchanges → MeansIt
   does_mean (Does.cut due text e d c) honest = early_means (subst IsEarly (sym e) tt)
   does_mean (Does.nothing e d same) honest = early_means (subst IsEarly (sym e) tt)
   does_mean (Does.whole text (Done.usage e same is t) w) honest = early_means (subst IsEarly (sym is) tt)
   does_mean (Does.whole text (Done.cut how name e d f) w) honest = cut_means how name e (cut_status how before.sides.shelf.files after.sides.shelf.files name before.sides.shelf.calls after.sides.shelf.calls s text d)
   does_mean (Does.whole text (Done.ran inputs in_way e kept runs) w) honest = ran_means text w inputs in_way e runs honest
+  does_mean (Does.whole text (Done.texts names script_name e kept runs) w) honest = texts_mean text names script_name e runs honest
 
 -- ---- what is meant on one memory
 
@@ -166,8 +181,33 @@ module _ (words : List (List ℕ)) (before after : Outside) (s : Status) (source
   done_means text adds is (Done.usage e same st t) = absurd (no_whole (command_of words) (OfFiles source_name script_name) (way.Whole manner) named e)
   done_means text adds is (Done.cut how name e d f) = absurd (cut_no_run (command_of words) how name (OfFiles source_name script_name) (way.Whole manner) e named)
   done_means text adds is (Done.ran inputs in_way e kept runs) = ran_on_one text adds is inputs in_way e runs
+  done_means text adds is (Done.texts names other e kept runs) = absurd (texts_no_run (command_of words) names other (OfFiles source_name script_name) (way.Whole manner) e named)
 
   pub does_run : Does words before after s → (s ≡ status.Done) ⊎ (s ≡ status.Stopped) → WholeMeansBy words before after s
   does_run (Does.whole text d w) is = done_means text w is d
   does_run (Does.cut due text e d c) is = absurd (not_early s (subst IsEarly (sym e) tt) is)
   does_run (Does.nothing e d same) is = absurd (not_early s (subst IsEarly (sym e) tt) is)
+
+-- ---- what is meant from texts
+
+module _ (words : List (List ℕ)) (before after : Outside) (s : Status) (honest : IsHonest after.sides.far.loaded after.sides.far.exchanges) (names : TextNames) (script_name : List ℕ) (named : command_of words ≡ Some (RunTexts names script_name)) where
+  texts_done : (text : List ℕ) → IsWritten before.out after.out text → (s ≡ status.Done) ⊎ (s ≡ status.Stopped) → Done words before.sides after.sides s text → TextsMeanBy words before after s
+  texts_done text adds is (Done.usage e same st t) = absurd (no_texts (command_of words) named e)
+    where
+      no_texts : (command : Option Task) → command ≡ Some (RunTexts names script_name) → command ≡ None → ⊥
+      no_texts command p q = Prim.cc
+  texts_done text adds is (Done.cut how name e d f) = absurd (no_texts (command_of words) named e)
+    where
+      no_texts : (command : Option Task) → command ≡ Some (RunTexts names script_name) → command ≡ Some (Cut how name) → ⊥
+      no_texts command p q = Prim.cc
+  texts_done text adds is (Done.ran inputs in_way e kept runs) = absurd (texts_no_run (command_of words) names script_name inputs in_way named e)
+  texts_done text adds is (Done.texts names' other e kept runs) =
+      texts_mean_by words before after s text names' other e adds ((halves_mean before.sides.shelf.files names' other texts_manner before.sides.shelf.calls after.sides.shelf.calls before.sides.far after.sides.far s text runs honest).means is)
+
+  does_texts : Does words before after s → (s ≡ status.Done) ⊎ (s ≡ status.Stopped) → TextsMeanBy words before after s
+  does_texts (Does.whole text d w) is = texts_done text w is d
+  does_texts (Does.cut due text e d c) is = absurd (not_early s (subst IsEarly (sym e) tt) is)
+  does_texts (Does.nothing e d same) is = absurd (not_early s (subst IsEarly (sym e) tt) is)
+
+pub texts_are_meant : (words : List (List ℕ)) (before after : Outside) (s : Status) → Does words before after s → TextsMean words before after s
+texts_are_meant words before after s does honest names script_name named is = does_texts words before after s honest names script_name named does is

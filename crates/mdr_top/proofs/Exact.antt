@@ -17,8 +17,8 @@ use Rattle.mdr_runner.specs.Scripts.{script_for}
 use Rattle.mdr_bound.specs.declared.bound.Bound.{Bound}
 use Rattle.mdr_script.specs.declared.script_error.ScriptKind.{ScriptKind}
 use Rattle.mdr_source.specs.declared.outcome.Source.{Source}
-use Rattle.mdr_top.specs.Answers.{Unread, Untaken, IsTaken, CutAnswered, ScriptAnswered, FileAnswered, WholeDue, SplitDue, WayDue, RunAnswered, Answered, Prints}
-use Rattle.mdr_top.specs.Comes.{IsUntakenDue, IsTakenDue, IsCutDue, IsBoundDue, IsSizedDue, IsScriptDue, IsRunDue, IsFileDue, IsWholeDue, WayEnds, IsDueOf, IsDueFor, IsDueOrFault, IsExact, CutCompletes, WholeCompletes}
+use Rattle.mdr_top.specs.Answers.{HoldTexts, AreTaken, UntakenTexts, TextsAnswered, Unread, Untaken, IsTaken, CutAnswered, ScriptAnswered, FileAnswered, WholeDue, SplitDue, WayDue, RunAnswered, Answered, Prints}
+use Rattle.mdr_top.specs.Comes.{IsNoTextDue, IsTextDue, AreTextsDue, AreUntakenDue, AreTakenDue, IsTextsDue, IsUntakenDue, IsTakenDue, IsCutDue, IsBoundDue, IsSizedDue, IsScriptDue, IsRunDue, IsFileDue, IsWholeDue, WayEnds, IsDueOf, IsDueFor, IsDueOrFault, IsExact, CutCompletes, WholeCompletes}
 use Rattle.mdr_top.specs.Cuts.{IsSplit, IsCut, CutCause, WroteCause, WriteCause, ReadCause}
 use Rattle.mdr_top.specs.declared.words.Cutting.{Cutting}
 use Rattle.mdr_top.specs.declared.words.Cutting.TheVariants as cutting
@@ -27,7 +27,10 @@ use Rattle.mdr_top.specs.declared.words.Way.TheVariants as way
 use Rattle.mdr_top.specs.Headline.{Rests, RestsHere}
 use Rattle.mdr_top.specs.Outside.{Outside}
 use Rattle.mdr_top.specs.Splits.{IsOfRun}
-use Rattle.mdr_top.specs.Words.{Inputs, OfFiles, Task, Cut, Run, command_of}
+use Rattle.mdr_cut.specs.declared.texts.Texts.{Texts}
+use Rattle.mdr_halves.proofs.Refusing.{refused_are_none}
+use Rattle.mdr_halves_runner.specs.Reads.{TextNames, longest_text}
+use Rattle.mdr_top.specs.Words.{Inputs, OfFiles, Task, Cut, Run, RunTexts, texts_manner, command_of}
 use Rattle.mdr_top.proofs.SplitLaws.{run_status}
 
 module _ (words : List (List ℕ)) (f : List ℕ → Option (List ℕ)) (loaded : Option Loaded) (es : List Exchange) (s : Status) (text : List ℕ) where
@@ -93,10 +96,50 @@ module _ (words : List (List ℕ)) (f : List ℕ → Option (List ℕ)) (loaded 
   ran_due (OfFiles name script_name) (way.Split manner) c =
       run_due (λ program bound. IsOfRun s) (SplitDue manner loaded es s text) name script_name (λ source script due. run_status source.program due.plan due.texts script manner.ticks loaded es s due.report due.ran) c
 
+  -- ---- three texts
+
+  no_text_due : (name : List ℕ) → Unread (Some f) name longest_text s text → (s ≡ status.ReadFault) ⊎ IsNoTextDue (f name) s
+  no_text_due name (Unread.missing r e t) = inr (IsNoTextDue.missing r e)
+  no_text_due name (Unread.long r e t) = inr (of (f name) refl r)
+    where
+      of : (o : Option (List ℕ)) → f name ≡ o → IsSomeAnd o (λ bytes. longest_text < length bytes) → IsNoTextDue (f name) s
+      of None is h = elim h [ ]
+      of (Some bytes) is h = IsNoTextDue.long bytes is h e
+  no_text_due name (Unread.failed e t) = inl e
+
+  text_due : (name bytes : List ℕ) → ReadsFrom (Some f) name longest_text (reads.Ok bytes) → IsTextDue (f name) bytes
+  text_due name bytes r = record { holds = r.0; fits = r.1 }
+
+  texts_due : (names : TextNames) (texts : Texts) → HoldTexts (Some f) names texts → AreTextsDue f names texts
+  texts_due names texts h = record { kernel = text_due names.kernel texts.kernel h.kernel_read; user = text_due names.user texts.user h.user_read; plan = text_due names.plan texts.plan h.plan_read }
+
+  known : (Known Due : Type 0) → (Known → Due) → (s ≡ status.ReadFault) ⊎ Known → (s ≡ status.ReadFault) ⊎ Due
+  known Known Due go (inl is) = inl is
+  known Known Due go (inr k) = inr (go k)
+
+  untaken_texts_due : (names : TextNames) → UntakenTexts (Some f) names s text → (s ≡ status.ReadFault) ⊎ AreUntakenDue f names s
+  untaken_texts_due names (UntakenTexts.no_kernel u) = known (IsNoTextDue (f names.kernel) s) (AreUntakenDue f names s) (λ n. AreUntakenDue.no_kernel n) (no_text_due names.kernel u)
+  untaken_texts_due names (UntakenTexts.no_user kernel r u) = known (IsNoTextDue (f names.user) s) (AreUntakenDue f names s) (λ n. AreUntakenDue.no_user kernel (text_due names.kernel kernel r) n) (no_text_due names.user u)
+  untaken_texts_due names (UntakenTexts.no_plan kernel user r q u) = known (IsNoTextDue (f names.plan) s) (AreUntakenDue f names s) (λ n. AreUntakenDue.no_plan kernel user (text_due names.kernel kernel r) (text_due names.user user q) n) (no_text_due names.plan u)
+  untaken_texts_due names (UntakenTexts.refused texts h n) = inr (AreUntakenDue.refused texts (texts_due names texts h) (λ source are. refused_are_none texts n.mismatch source n.come are) n.status_is)
+
+  taken_texts_due : (names : TextNames) (source : Source) → AreTaken (Some f) names source → AreTakenDue f names source
+  taken_texts_due names source t = record { texts = t.texts; due = texts_due names t.texts t.held; are = t.has.are }
+
+  all_texts_due : (names : TextNames) (script_name : List ℕ) → TextsAnswered names script_name (Some f) loaded es s text → IsDueOrFault (IsTextsDue names script_name f s) s
+  all_texts_due names script_name (ScriptAnswered.no_source u) = or_fault (AreUntakenDue f names s) (IsTextsDue names script_name f s) (λ none. IsRunDue.no_source none) (untaken_texts_due names u)
+  all_texts_due names script_name (ScriptAnswered.script_unread source t u) =
+      or_fault (IsScriptDue source.program (λ bound. IsOfRun s) (f script_name) s) (IsTextsDue names script_name f s) (λ due. IsRunDue.accepted source (taken_texts_due names source t) due) (script_unfit script_name source.program (λ bound. IsOfRun s) u)
+  all_texts_due names script_name (ScriptAnswered.script_refused source lines t r n) =
+      inr (inr (inr (IsRunDue.accepted source (taken_texts_due names source t) (script_fits script_name lines source.program (λ bound. IsOfRun s) (Err (n.line, n.kind)) r n.refused n.status_is))))
+  all_texts_due names script_name (ScriptAnswered.ran source lines script t r b due) =
+      inr (inr (inr (IsRunDue.accepted source (taken_texts_due names source t) (script_fits script_name lines source.program (λ bound. IsOfRun s) (Ok script) r b (run_status source.program due.plan due.texts script texts_manner.ticks loaded es s due.report due.ran)))))
+
   answered_due : Answered words (Some f) loaded es s text → IsDueOrFault (IsDueFor (command_of words) f s) s
   answered_due (Answered.usage e is t) = inr (inr (inr (subst (λ (c : Option Task). IsDueFor c f s) (sym e) is)))
   answered_due (Answered.cut how name e c) = subst (λ (d : Option Task). IsDueOrFault (IsDueFor d f s) s) (sym e) (cut_due how name c)
   answered_due (Answered.ran inputs in_way e c) = subst (λ (d : Option Task). IsDueOrFault (IsDueFor d f s) s) (sym e) (ran_due inputs in_way c)
+  answered_due (Answered.texts names script_name e c) = subst (λ (d : Option Task). IsDueOrFault (IsDueFor d f s) s) (sym e) (all_texts_due names script_name c)
 
 pub prints_exactly : (words : List (List ℕ)) (before after : Outside) (s : Status) → Prints words before after s → IsExact words before.sides.shelf.files s
 prints_exactly words before after s p = of before.sides.shelf.files (exactly p)
@@ -118,6 +161,7 @@ usage_comes words before after s (Prints.whole text a w) none = of a
     of (Answered.usage e is t) = inl is
     of (Answered.cut how name e c) = absurd (Prim.cc)
     of (Answered.ran inputs in_way e c) = absurd (Prim.cc)
+    of (Answered.texts names script_name e c) = absurd (Prim.cc)
 usage_comes words before after s (Prints.cut due text is a c) none = inr (inl is)
 usage_comes words before after s (Prints.nothing is same) none = inr (inr is)
 

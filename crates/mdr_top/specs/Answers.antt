@@ -7,6 +7,8 @@ use Rattle.mdr_due.specs.declared.status.Status.{Status}
 use Rattle.mdr_due.specs.declared.status.Status.TheVariants as status
 use Rattle.mdr_due.specs.Lines.{file_line}
 use Rattle.mdr_due.specs.Reads.{Files, longest_source, longest_script}
+use Rattle.mdr_halves_runner.specs.Reads.{TextNames, longest_text}
+use Rattle.mdr_halves_runner.specs.Sources.{HasHalves, NoHalves}
 use Rattle.mdr_outside.specs.declared.far.Exchange.{Exchange}
 use Rattle.mdr_outside.specs.declared.far.Loaded.{Loaded}
 use Rattle.mdr_outside.specs.declared.shelf.ReadAnswer.TheVariants as reads
@@ -28,7 +30,7 @@ use Rattle.mdr_top.specs.Cuts.{IsCut}
 use Rattle.mdr_top.specs.Lines.{usage_line}
 use Rattle.mdr_top.specs.Outside.{Outside}
 use Rattle.mdr_top.specs.Writing.{IsWritten, IsCutOff}
-use Rattle.mdr_top.specs.Words.{Inputs, OfFiles, Cut, Run, command_of}
+use Rattle.mdr_top.specs.Words.{Inputs, OfFiles, Cut, Run, RunTexts, texts_manner, command_of}
 
 -- a file that isn't there to be read
 pub data Unread (files : Files) (name : List ℕ) (limit : ℕ) (s : Status) (text : List ℕ) : Type 0 where
@@ -89,6 +91,31 @@ WayDue (way.Split manner) loaded es s text = SplitDue manner loaded es s text
 abbrev pub RunAnswered : Inputs → (files : Files) → (Due : Source → Bound → Type 0) → Status → List ℕ → Type 0
 RunAnswered (OfFiles source_name script_name) files Due s text = FileAnswered files source_name script_name Due s text
 
+-- ---- three texts and a script
+
+-- the files hold the texts
+pub record HoldTexts (files : Files) (names : TextNames) (texts : Texts) : Type 0 where
+  pub kernel_read : ReadsFrom files names.kernel longest_text (reads.Ok texts.kernel)
+  pub user_read : ReadsFrom files names.user longest_text (reads.Ok texts.user)
+  pub plan_read : ReadsFrom files names.plan longest_text (reads.Ok texts.plan)
+
+-- texts that aren't taken: the first whose file isn't read, or they are refused
+pub data UntakenTexts (files : Files) (names : TextNames) (s : Status) (text : List ℕ) : Type 0 where
+  no_kernel : Unread files names.kernel longest_text s text → UntakenTexts files names s text
+  no_user : (kernel : List ℕ) → ReadsFrom files names.kernel longest_text (reads.Ok kernel) → Unread files names.user longest_text s text → UntakenTexts files names s text
+  no_plan : (kernel user : List ℕ) → ReadsFrom files names.kernel longest_text (reads.Ok kernel) → ReadsFrom files names.user longest_text (reads.Ok user) → Unread files names.plan longest_text s text → UntakenTexts files names s text
+  refused : (texts : Texts) → HoldTexts files names texts → NoHalves texts s text → UntakenTexts files names s text
+
+-- texts that are taken, those of this source
+pub record AreTaken (files : Files) (names : TextNames) (source : Source) : Type 0 where
+  pub texts : Texts
+  pub held : HoldTexts files names texts
+  pub has : HasHalves texts source
+
+-- what is due of them is what is due of a run over the two halves of their source
+abbrev pub TextsAnswered : TextNames → (script_name : List ℕ) → (files : Files) → Option Loaded → List Exchange → Status → List ℕ → Type 0
+TextsAnswered names script_name files loaded es s text = ScriptAnswered files (UntakenTexts files names) (AreTaken files names) script_name (SplitDue texts_manner loaded es s text) s text
+
 -- ---- the words
 
 -- the status and the text that are due
@@ -96,6 +123,7 @@ pub data Answered (words : List (List ℕ)) (files : Files) (loaded : Option Loa
   usage : command_of words ≡ None → s ≡ status.Usage → text ≡ usage_line → Answered words files loaded es s text
   cut : (how : Cutting) (name : List ℕ) → command_of words ≡ Some (Cut how name) → CutAnswered how files name s text → Answered words files loaded es s text
   ran : (inputs : Inputs) (in_way : Way) → command_of words ≡ Some (Run inputs in_way) → RunAnswered inputs files (WayDue in_way loaded es s text) s text → Answered words files loaded es s text
+  texts : (names : TextNames) (script_name : List ℕ) → command_of words ≡ Some (RunTexts names script_name) → TextsAnswered names script_name files loaded es s text → Answered words files loaded es s text
 
 -- ---- what is printed
 

@@ -19,20 +19,25 @@ use Rattle.mdr_runner.specs.Scripts.{script_for}
 use Rattle.mdr_bound.specs.declared.bound.Bound.{Bound}
 use Rattle.mdr_script.specs.declared.script_error.ScriptKind.{ScriptKind}
 use Rattle.mdr_slicer.specs.Slicing.{HasSource}
+use Rattle.mdr_halves.specs.declared.mismatch.Mismatch.{Mismatch}
+use Rattle.mdr_halves.specs.Joins.{AreTextsOf}
+use Rattle.mdr_halves.specs.Whole.{Come}
+use Rattle.mdr_halves_runner.specs.Reads.{TextNames, longest_text}
 use Rattle.mdr_source.specs.declared.outcome.Source.{Source}
 use Rattle.mdr_source.specs.declared.refusal.Refusal.{Refusal}
 use Rattle.mdr_source.specs.Sources.{Comes as ComesTo}
 use Rattle.mdr_split_runner.specs.Cuts.{IsCutInto}
 use Rattle.mdr_split_runner.specs.declared.manner.SplitManner.{SplitManner}
 use Rattle.mdr_split_runner.specs.Ends.{EndsWith as SplitEndsWith}
-use Rattle.mdr_top.specs.Accepted.{AreAccepted, on_one_memory, over_two_halves}
+use Rattle.mdr_top.specs.Accepted.{AreAccepted, AreTextsAccepted, on_one_memory, over_two_halves}
+use Rattle.mdr_top.specs.Answers.{HoldTexts, AreTaken}
 use Rattle.mdr_top.specs.declared.words.Cutting.{Cutting}
 use Rattle.mdr_top.specs.declared.words.Way.{Way}
 use Rattle.mdr_top.specs.declared.words.Way.TheVariants as way
 use Rattle.mdr_top.specs.Headline.{Rests, RestsHere}
 use Rattle.mdr_top.specs.Outside.{Outside}
 use Rattle.mdr_top.specs.Splits.{IsOfRun}
-use Rattle.mdr_top.specs.Words.{Inputs, OfFiles, Task, Cut, Run, command_of}
+use Rattle.mdr_top.specs.Words.{Inputs, OfFiles, Task, Cut, Run, RunTexts, texts_manner, command_of}
 
 -- ---- what the words name
 
@@ -41,11 +46,19 @@ pub record AreNamed (words : List (List ℕ)) (source_name script_name : List �
   pub in_way : Way
   pub command : command_of words ≡ Some (Run (OfFiles source_name script_name) in_way)
 
--- a file that the words name: a source, and the script once its source is accepted
+-- a text of three over whose halves a script is run: each once those before it are read
+pub data IsText (words : List (List ℕ)) (files : Files) (name : List ℕ) : Type 0 where
+  kernel : (names : TextNames) (script_name : List ℕ) → command_of words ≡ Some (RunTexts names script_name) → name ≡ names.kernel → IsText words files name
+  user : (names : TextNames) (script_name bytes : List ℕ) → command_of words ≡ Some (RunTexts names script_name) → ReadsFrom files names.kernel longest_text (reads.Ok bytes) → name ≡ names.user → IsText words files name
+  plan : (names : TextNames) (script_name bytes more : List ℕ) → command_of words ≡ Some (RunTexts names script_name) → ReadsFrom files names.kernel longest_text (reads.Ok bytes) → ReadsFrom files names.user longest_text (reads.Ok more) → name ≡ names.plan → IsText words files name
+
+-- a file that the words name: a source or a text, and the script once its source is accepted
 pub data IsWanted (words : List (List ℕ)) (files : Files) (name : List ℕ) (limit : ℕ) : Type 0 where
   as_cut : (how : Cutting) → command_of words ≡ Some (Cut how name) → limit ≡ longest_source → IsWanted words files name limit
   as_source : (script_name : List ℕ) → AreNamed words name script_name → limit ≡ longest_source → IsWanted words files name limit
   as_script : (source_name bytes : List ℕ) (source : Source) → AreNamed words source_name name → ReadsFrom files source_name longest_source (reads.Ok bytes) → HasSource bytes source → limit ≡ longest_script → IsWanted words files name limit
+  as_text : IsText words files name → limit ≡ longest_text → IsWanted words files name limit
+  as_script_of_texts : (names : TextNames) (source : Source) → command_of words ≡ Some (RunTexts names name) → AreTaken files names source → limit ≡ longest_script → IsWanted words files name limit
 
 -- a file that the words name is answered so
 pub record IsAnswered (words : List (List ℕ)) (files : Files) (answer : ReadAnswer) : Type 0 where
@@ -109,6 +122,34 @@ pub record IsNoScript (words : List (List ℕ)) (files : Files) : Type 0 where
   pub kind : ScriptKind
   pub refused : script_for source.program lines ≡ Err (line, kind)
 
+-- so it is of the source of three texts
+pub record IsNoTextsScript (words : List (List ℕ)) (files : Files) : Type 0 where
+  pub names : TextNames
+  pub script_name : List ℕ
+  pub command : command_of words ≡ Some (RunTexts names script_name)
+  pub source : Source
+  pub taken : AreTaken files names source
+  pub lines : List ℕ
+  pub read : ReadsFrom files script_name longest_script (reads.Ok lines)
+  pub line : ℕ
+  pub kind : ScriptKind
+  pub refused : script_for source.program lines ≡ Err (line, kind)
+
+pub data IsScriptRefused (words : List (List ℕ)) (files : Files) : Type 0 where
+  of_file : IsNoScript words files → IsScriptRefused words files
+  of_texts : IsNoTextsScript words files → IsScriptRefused words files
+
+-- three texts are those of no source
+pub record AreRefused (words : List (List ℕ)) (files : Files) : Type 0 where
+  pub names : TextNames
+  pub script_name : List ℕ
+  pub command : command_of words ≡ Some (RunTexts names script_name)
+  pub texts : Texts
+  pub held : HoldTexts files names texts
+  pub mismatch : Mismatch
+  pub come : Come texts (Err mismatch)
+  pub none : (source : Source) → AreTextsOf texts source → ⊥
+
 -- the words name a source and a script that are run over its two halves, and that run ends with this status
 pub record IsSplitEnd (words : List (List ℕ)) (files : Files) (loaded : Option Loaded) (es : List Exchange) (s : Status) : Type 0 where
   pub source : Source
@@ -120,6 +161,20 @@ pub record IsSplitEnd (words : List (List ℕ)) (files : Files) (loaded : Option
   pub texts : Texts
   pub cut : IsCutInto source plan texts
   pub ends : SplitEndsWith source.program plan texts script manner.ticks loaded es s
+
+-- the words name three texts and a script that is run over their halves, and that run ends with this status
+pub record IsTextsEnd (words : List (List ℕ)) (files : Files) (loaded : Option Loaded) (es : List Exchange) (s : Status) : Type 0 where
+  pub source : Source
+  pub script : Bound
+  pub accepted : AreTextsAccepted words files source script
+  pub plan : Plan
+  pub cut : IsCutInto source plan accepted.taken.texts
+  pub ends : SplitEndsWith source.program plan accepted.taken.texts script texts_manner.ticks loaded es s
+
+-- a run over two halves ends with this status
+pub data IsHalvesEnd (words : List (List ℕ)) (files : Files) (loaded : Option Loaded) (es : List Exchange) (s : Status) : Type 0 where
+  of_source : IsSplitEnd words files loaded es s → IsHalvesEnd words files loaded es s
+  of_texts : IsTextsEnd words files loaded es s → IsHalvesEnd words files loaded es s
 
 -- the words name a source and a script that are run on one memory, and that run ends with this status
 pub record IsWholeEnd (words : List (List ℕ)) (files : Files) (s : Status) : Type 0 where
@@ -134,13 +189,13 @@ pub record IsWholeEnd (words : List (List ℕ)) (files : Files) (s : Status) : T
 
 -- a run ended by itself, or a source was cut
 pub data IsDone (words : List (List ℕ)) (files : Files) (loaded : Option Loaded) (es : List Exchange) : Type 0 where
-  split : IsSplitEnd words files loaded es status.Done → IsDone words files loaded es
+  split : IsHalvesEnd words files loaded es status.Done → IsDone words files loaded es
   whole : IsWholeEnd words files status.Done → IsDone words files loaded es
   cut : WasCut words files → IsDone words files loaded es
 
 -- the driver stopped
 pub data IsStopped (words : List (List ℕ)) (files : Files) (loaded : Option Loaded) (es : List Exchange) : Type 0 where
-  split : IsSplitEnd words files loaded es status.Stopped → IsStopped words files loaded es
+  split : IsHalvesEnd words files loaded es status.Stopped → IsStopped words files loaded es
   whole : IsWholeEnd words files status.Stopped → IsStopped words files loaded es
 
 -- what holds where a status comes
@@ -150,14 +205,14 @@ Comes words files loaded es status.Missing = IsAnswered words files reads.Missin
 Comes words files loaded es status.TooLarge = IsAnswered words files reads.TooLarge
 Comes words files loaded es status.ReadFault = IsAnswered words files reads.Failed
 Comes words files loaded es status.SourceRefused = IsRefused words files
-Comes words files loaded es status.ScriptRefused = IsNoScript words files
+Comes words files loaded es status.ScriptRefused = IsScriptRefused words files
 Comes words files loaded es status.Done = IsDone words files loaded es
 Comes words files loaded es status.Stopped = IsStopped words files loaded es
-Comes words files loaded es status.Marshal = IsSplitEnd words files loaded es status.Marshal
-Comes words files loaded es status.FarFault = IsSplitEnd words files loaded es status.FarFault
+Comes words files loaded es status.Marshal = IsHalvesEnd words files loaded es status.Marshal
+Comes words files loaded es status.FarFault = IsHalvesEnd words files loaded es status.FarFault
 Comes words files loaded es status.WriteFault = Unit {0}
 Comes words files loaded es status.OutOfMemory = Unit {0}
-Comes words files loaded es status.HalvesRefused = ⊥
+Comes words files loaded es status.HalvesRefused = AreRefused words files
 Comes words files loaded es status.NotVerified = ⊥
 
 -- ---- exactly where
@@ -202,6 +257,39 @@ pub data IsRunDue (No : Status → Type 0) (Has : Source → Type 0) (Ends : Pro
 abbrev pub IsFileDue : (Ends : Program → Bound → Type 0) → (file script : Option (List ℕ)) → Status → Type 0
 IsFileDue Ends file script s = IsRunDue (IsUntakenDue file) (IsTakenDue file) Ends script s
 
+-- a file gives no text: it isn't there, or it is too long
+pub data IsNoTextDue (file : Option (List ℕ)) (s : Status) : Type 0 where
+  missing : file ≡ None → s ≡ status.Missing → IsNoTextDue file s
+  long : (bytes : List ℕ) → file ≡ Some bytes → longest_text < length bytes → s ≡ status.TooLarge → IsNoTextDue file s
+
+-- it gives this text
+pub record IsTextDue (file : Option (List ℕ)) (text : List ℕ) : Type 0 where
+  pub holds : file ≡ Some text
+  pub fits : length text ≤ longest_text
+
+-- the files of three texts give them
+pub record AreTextsDue (f : List ℕ → Option (List ℕ)) (names : TextNames) (texts : Texts) : Type 0 where
+  pub kernel : IsTextDue (f names.kernel) texts.kernel
+  pub user : IsTextDue (f names.user) texts.user
+  pub plan : IsTextDue (f names.plan) texts.plan
+
+-- they give none, the first that doesn't, or the texts are refused
+pub data AreUntakenDue (f : List ℕ → Option (List ℕ)) (names : TextNames) (s : Status) : Type 0 where
+  no_kernel : IsNoTextDue (f names.kernel) s → AreUntakenDue f names s
+  no_user : (kernel : List ℕ) → IsTextDue (f names.kernel) kernel → IsNoTextDue (f names.user) s → AreUntakenDue f names s
+  no_plan : (kernel user : List ℕ) → IsTextDue (f names.kernel) kernel → IsTextDue (f names.user) user → IsNoTextDue (f names.plan) s → AreUntakenDue f names s
+  refused : (texts : Texts) → AreTextsDue f names texts → ((source : Source) → AreTextsOf texts source → ⊥) → s ≡ status.HalvesRefused → AreUntakenDue f names s
+
+-- they give those of this source
+pub record AreTakenDue (f : List ℕ → Option (List ℕ)) (names : TextNames) (source : Source) : Type 0 where
+  pub texts : Texts
+  pub due : AreTextsDue f names texts
+  pub are : AreTextsOf texts source
+
+-- three texts and a script
+abbrev pub IsTextsDue : TextNames → (script_name : List ℕ) → (List ℕ → Option (List ℕ)) → Status → Type 0
+IsTextsDue names script_name f s = IsRunDue (AreUntakenDue f names) (AreTakenDue f names) (λ program bound. IsOfRun s) (f script_name) s
+
 -- on one memory it ends as it does in its manner
 abbrev pub IsWholeDue : Manner → (file script : Option (List ℕ)) → Status → Type 0
 IsWholeDue manner file script s = IsFileDue (λ program bound. EndsWith program bound manner s) file script s
@@ -220,6 +308,7 @@ abbrev pub IsDueFor : Option Task → (List ℕ → Option (List ℕ)) → Statu
 IsDueFor None f s = s ≡ status.Usage
 IsDueFor (Some (Cut how name)) f s = IsCutDue (f name) s
 IsDueFor (Some (Run inputs in_way)) f s = IsDueOf inputs f (WayEnds in_way s) s
+IsDueFor (Some (RunTexts names script_name)) f s = IsTextsDue names script_name f s
 
 -- the status is what words and files give, but a read or a write may fail, and memory may be wanting
 abbrev pub IsDueOrFault : (Due : Type 0) → Status → Type 0

@@ -11,4 +11,5 @@ pub mod Done
 pub mod Headline
 pub mod Wholes
 pub mod Splits
+pub mod Texts
 pub mod Comes

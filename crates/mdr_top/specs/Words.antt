@@ -1,8 +1,10 @@
 -- believed
 -- The words that the program takes.
-use Rattle.std.specs.Prelude.{ℕ, not, List, [], ◌∷◌, codes, Option, Some, None, option_map}
+use Rattle.std.specs.Prelude.{ℕ, false, not, ◌&&◌, List, [], ◌∷◌, codes, Option, Some, None, option_map}
 use Rattle.std.specs.Str.{bytes_eq}
 use Rattle.mdr_core.specs.Layout.{chosen}
+use Rattle.mdr_halves_runner.specs.Reads.{TextNames}
+use Rattle.mdr_split_runner.specs.declared.manner.SplitManner.{SplitManner}
 use Rattle.mdr_top.specs.Budgets.{when, budget_of}
 use Rattle.mdr_top.specs.declared.flags.Flags.{Flags}
 use Rattle.mdr_top.specs.declared.words.Cutting.{Cutting}
@@ -17,10 +19,11 @@ use Rattle.mdr_top.specs.Flags.{flags_of}
 pub data Inputs : Type 0 where
   OfFiles : (source_name script_name : List ℕ) → Inputs
 
--- that a source is cut, or that a script is run over one: on one memory in some manner, or over its two halves
+-- that a source is cut, or that a script is run over one: on one memory in some manner, or over its two halves; or over two halves from their texts
 pub data Task : Type 0 where
   Cut : (how : Cutting) (source_name : List ℕ) → Task
   Run : (inputs : Inputs) (in_way : Way) → Task
+  RunTexts : (names : TextNames) (script_name : List ℕ) → Task
 
 -- ---- a source that is cut
 
@@ -70,12 +73,28 @@ run_by None = None
 abbrev pub run_of : List (List ℕ) → Option (List ℕ × List ℕ × Way)
 run_of words = run_by (run_as words)
 
+-- ---- a run from texts
+
+-- its manner: it has no flags
+abbrev pub texts_manner : SplitManner
+texts_manner = record { ticks = budget_of None; wire = false }
+
+-- `run halves K U PLAN SCRIPT`
+abbrev pub texts_of : List (List ℕ) → Option (TextNames × List ℕ)
+texts_of (run' ∷ mode ∷ kernel ∷ user ∷ plan ∷ script ∷ []) =
+    when (bytes_eq run' (codes "run") && bytes_eq mode (codes "halves")) (record { kernel = kernel; user = user; plan = plan }, script)
+texts_of _ = None
+
+abbrev pub texts_command : List (List ℕ) → Option Task
+texts_command words = option_map (λ t. RunTexts t.0 t.1) (texts_of words)
+
 -- ---- all words
 
-abbrev pub command_by : Option (Cutting × List ℕ) → (run : Option (List ℕ × List ℕ × Way)) → Option Task
-command_by (Some cut) run = Some (Cut cut.0 cut.1)
-command_by None (Some run) = Some (Run (OfFiles run.0 run.1) run.2)
-command_by None None = None
+-- the first of these that there is
+abbrev pub command_by : Option (Cutting × List ℕ) → (run : Option (List ℕ × List ℕ × Way)) → (more : Option Task) → Option Task
+command_by (Some cut) run more = Some (Cut cut.0 cut.1)
+command_by None (Some run) more = Some (Run (OfFiles run.0 run.1) run.2)
+command_by None None more = more
 
 abbrev pub command_of : List (List ℕ) → Option Task
-command_of words = command_by (cut_of words) (run_of words)
+command_of words = command_by (cut_of words) (run_of words) (texts_command words)

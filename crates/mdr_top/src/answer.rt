@@ -8,11 +8,11 @@ ghost use Rattle.mdr_top.specs.Cuts.{ReadCause, WroteCause};
 ghost use Rattle.mdr_top.specs.Done.{DoneBy, PartBy};
 
 use crate::cutting::cut;
-use crate::lines::usage_line;
+use crate::texts::from_texts;
 use crate::ways::ran;
 use crate::words::{cut_of, run_of};
 use mdr_core::OutOfMemory;
-use mdr_due::{Due, Status};
+use mdr_due::Due;
 use mdr_outside::{Far, Shelf, ShelfSeen};
 use mdr_split_runner::SidesSeen;
 use std::alloc::Global;
@@ -34,10 +34,7 @@ pub(crate) fn answered<S: Shelf, F: Far>(
         return cut(alloc, how, shelf, name);
     }
     let Some((source_name, script_name, way)) = run_of(words) else {
-        return Ok(Due {
-            status: Status::Usage,
-            text: usage_line(alloc)?,
-        });
+        return from_texts(alloc, words, shelf, far);
     };
     ran(alloc, shelf, far, source_name, script_name, way)
 }

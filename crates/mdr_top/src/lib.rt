@@ -7,6 +7,7 @@ mod flags;
 mod lines;
 mod seen;
 mod split;
+mod texts;
 mod ticks;
 mod top;
 mod ways;

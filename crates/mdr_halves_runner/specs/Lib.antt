@@ -1,0 +1,4 @@
+pub mod Reads
+pub mod Sources
+pub mod Runs
+pub mod Means
