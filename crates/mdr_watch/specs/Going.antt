@@ -1,10 +1,11 @@
 -- protocol
 -- A machine that runs user code up to its next event.
-use Rattle.std.specs.Prelude.{◌≡◌, ◌+◌, ◌≤◌, ℕ, List}
+use Rattle.std.specs.Prelude.{◌≡◌, ◌+◌, ◌-◌, ◌≤◌, ℕ, List}
 use Rattle.mdr_core.specs.declared.place.At.{At}
 use Rattle.mdr_core.specs.declared.program.Program.{Program}
 use Rattle.mdr_events.specs.declared.event.Event.{Event}
 use Rattle.mdr_events.specs.declared.event.Event.TheVariants as event
+use Rattle.mdr_events.specs.Going.{RanTo}
 use Rattle.mdr_events.specs.Held.{Held, tree}
 use Rattle.mdr_exec.specs.declared.frame.Machine.{Machine}
 use Rattle.mdr_exec.specs.Holding.{held_of}
@@ -21,6 +22,7 @@ use Rattle.mdr_whole.specs.declared.next.Next.TheVariants as next
 use Rattle.mdr_whole.specs.Ending.{gave_as}
 use Rattle.mdr_whole.specs.Going.{Counted}
 use Rattle.mdr_watch.specs.declared.watch.Upcall.{Upcall}
+use Rattle.mdr_watch.specs.Guarding.{guarded_accesses}
 use Rattle.mdr_watch.specs.Watching.{around_user, user_side}
 
 -- the program of an upcall, and the work that a machine holds in it
@@ -33,6 +35,11 @@ held_in u machine = held_of (program_in u) machine
 -- what the user code that a machine holds does in a world, with fuel for so many ticks
 abbrev pub user_does : Upcall → (fuel : ℕ) → Machine → World → Ran Wire
 user_does u fuel machine w = goes_on_in (around_user u) (user_side u) nothing fuel (held_in u machine) w
+
+-- with so many ticks it came to an event
+abbrev pub RanIn : Upcall → Machine → Driven → (ticks : ℕ) → Event → Machine → Driven → Type 0
+RanIn u machine d ticks e machine' d' =
+    RanTo guarded_accesses (user_side u) (held_in u machine) d ticks e (held_in u machine') d' (ticks - machine'.used)
 
 -- the function of the upcall was started in a machine that held nothing
 pub record IsStarted (u : Upcall) (args : List Wire) (machine : Machine) : Type 0 where

@@ -1,13 +1,23 @@
 -- protocol
 -- The driver that is watched.
-use Rattle.std.specs.Prelude.{◌≡◌, false, length}
+use Rattle.std.specs.Prelude.{◌≡◌, false, length, ℕ, List, [], Result}
+use Rattle.mdr_core.specs.declared.plan.Key.{Key}
 use Rattle.mdr_core.specs.declared.plan.Plan.{Plan}
+use Rattle.mdr_events.specs.declared.event.Asked.{Asked as Question}
+use Rattle.mdr_events.specs.declared.event.Crossing.{Crossing}
+use Rattle.mdr_events.specs.Events.{asked_as}
+use Rattle.mdr_events.specs.Values.{wires_of}
+use Rattle.mdr_extents.specs.Reaching.{Failing, visible}
+use Rattle.mdr_meaning.specs.declared.wire.Wire.{Wire}
 use Rattle.mdr_meaning.specs.Sides.{Side}
 use Rattle.mdr_model.specs.declared.command.Command.{Command}
 use Rattle.mdr_model.specs.declared.command.Command.TheVariants as command
+use Rattle.mdr_model.specs.declared.memory.Cell.{Cell}
 use Rattle.mdr_plain.specs.Running.{Setting}
-use Rattle.mdr_watched.specs.Driver.{Driver, driver_of, is_user}
-use Rattle.mdr_watched.specs.Watched.{held, in_user}
+use Rattle.mdr_plain.specs.World.{World, Ran}
+use Rattle.mdr_viewed.specs.Laws.{returns}
+use Rattle.mdr_watched.specs.Driver.{Driver, driver_of, entry_roots, is_user, touched_by}
+use Rattle.mdr_watched.specs.Watched.{downcall, entered, held, in_user, serves}
 use Rattle.mdr_watch.specs.declared.watch.Upcall.{Upcall}
 use Rattle.mdr_watch.specs.declared.watch.Watch.{Watch}
 
@@ -27,6 +37,27 @@ IsKernel plan (command.Show g) = Unit {0}
 -- the bodies of the user half, and what stands around them in an upcall
 abbrev pub user_side : Upcall → Side
 user_side u = (driver_in u.watch).user
+
+-- what the user half may touch in it
+abbrev pub touched_in : Upcall → List Key
+touched_in u = touched_by u.watch.plan.now u.func
+
+-- what its services, its downcalls and their returns do in a world
+abbrev pub serves_in : Upcall → Question → World → Ran (List Wire)
+serves_in u asked w = serves (driver_in u.watch) (held (driver_in u.watch)) u.func (asked_as asked) w
+
+abbrev pub downcalls_in : Upcall → Crossing → World → Ran Wire
+downcalls_in u c w = downcall (driver_in u.watch) (held (driver_in u.watch)) u.func c.at c.func (wires_of c.args) c.depth w
+
+abbrev pub returns_in : Upcall → List Cell → Crossing → (sent : List Wire) → Wire → World → Ran Wire
+returns_in u set c sent v w = returns (driver_in u.watch) u.func set c.at c.func sent v w
+
+-- the set with which it begins, and what it does with a set
+abbrev pub begins_with : Upcall → (args : List Wire) → World → Result (List Cell) Failing
+begins_with u args w = visible u.watch.program.now (touched_in u) w.memory [] (entry_roots u.watch.program.now u.func args)
+
+abbrev pub entered_in : Upcall → (args : List Wire) → List Cell → World → Ran Wire
+entered_in u args set w = entered (driver_in u.watch) (held (driver_in u.watch)) u.func args set w
 
 abbrev pub around_user : Upcall → Setting
 around_user u = in_user (driver_in u.watch) (held (driver_in u.watch)) u.func

@@ -2,7 +2,6 @@
 
 ghost use Rattle.std.specs.Prelude.{◌≡◌, ◌≤◌, ◌++◌, IfOk, OnOk};
 ghost use Rattle.mdr_core.specs.Sound.{IsSound};
-ghost use Rattle.mdr_events.specs.Events.{asked_as};
 ghost use Rattle.mdr_mem.specs.Contents.{births_in};
 ghost use Rattle.mdr_reach.specs.Answers.{IsOlder};
 ghost use Rattle.mdr_services.specs.Serving.{served_as};
@@ -10,8 +9,6 @@ ghost use Rattle.mdr_viewed.specs.Viewed.{viewed};
 ghost use Rattle.mdr_watched.specs.Driver.{touched_by};
 ghost use Rattle.mdr_watched.specs.Views.{new_cells};
 ghost use Rattle.mdr_watch.specs.Guarding.{IsGuarded};
-ghost use Rattle.mdr_watched.specs.Watched.{held, serves};
-ghost use Rattle.mdr_watch.specs.Watching.{driver_in};
 
 use crate::guarded::{Guarded, forget};
 use crate::watch::{Upcall, touched};
@@ -57,7 +54,7 @@ fn serve_beside(
     requires guarded { IsGuarded set.old world.old.world }
     ensures kept { OnOk result (world.new.program ≡ upcall.entry.watch.program.now) }
     ensures guarded { OnOk result (IsGuarded set.new world.new.world) }
-    ensures served { IfOk result (λ s. served_as s asked.now.at (viewed set.new world.new.world) ≡ serves (driver_in upcall.entry.watch) (held (driver_in upcall.entry.watch)) upcall.entry.func (asked_as asked.now) (viewed set.old world.old.world)) }
+    ensures served { IfOk result (λ s. served_as s asked.now.at (viewed set.new world.new.world) ≡ serves_in upcall.entry asked.now (viewed set.old world.old.world)) }
 {
     let next = world.births();
     let served = serve(alloc, world, asked)?;
@@ -80,7 +77,7 @@ pub fn ask(
     requires sound { IsSound upcall.watch.program.now }
     requires same { guarded.old.program ≡ upcall.watch.program.now }
     ensures kept { OnOk result (guarded.new.program ≡ upcall.entry.watch.program.now) }
-    ensures served { IfOk result (λ s. served_as s asked.now.at guarded.new.world ≡ serves (driver_in upcall.entry.watch) (held (driver_in upcall.entry.watch)) upcall.entry.func (asked_as asked.now) guarded.old.world) }
+    ensures served { IfOk result (λ s. served_as s asked.now.at guarded.new.world ≡ serves_in upcall.entry asked.now guarded.old.world) }
 {
     match serve_beside(alloc, upcall, &mut guarded.world, &mut guarded.set, asked) {
         Ok(served) => Ok(served),

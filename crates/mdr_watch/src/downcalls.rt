@@ -6,11 +6,9 @@ ghost use Rattle.mdr_events.specs.Values.{wires_of};
 ghost use Rattle.mdr_meaning.specs.Values.{wire_of};
 ghost use Rattle.mdr_model.specs.Memory.{normal};
 ghost use Rattle.mdr_watch.specs.Guarding.{IsGuarded};
-ghost use Rattle.mdr_viewed.specs.Laws.{returns};
 ghost use Rattle.mdr_viewed.specs.Viewed.{viewed};
-ghost use Rattle.mdr_watched.specs.Watched.{downcall, held};
 ghost use Rattle.mdr_whole.specs.Ending.{gave_as};
-ghost use Rattle.mdr_watch.specs.Watching.{IsFit, driver_in};
+ghost use Rattle.mdr_watch.specs.Watching.{IsFit};
 
 use crate::guarded::{Guarded, forget};
 use crate::roots::result_root;
@@ -47,7 +45,7 @@ fn come_back(
     requires sound { IsSound upcall.watch.program.now }
     requires guarded { IsGuarded set.old world.now.world }
     ensures guarded { OnOk result (IsGuarded set.new world.now.world) }
-    ensures gave { IfOk result (λ g. gave_as g (viewed set.new world.now.world) ≡ returns (driver_in upcall.entry.watch) upcall.entry.func set.old crossing.now.at crossing.now.func (wires_of sent.now) (wire_of value) world.now.world) }
+    ensures gave { IfOk result (λ g. gave_as g (viewed set.new world.now.world) ≡ returns_in upcall.entry set.old crossing.now (wires_of sent.now) (wire_of value) world.now.world) }
 {
     let program = upcall.watch.program;
     let keys = touched(upcall.watch.plan, upcall.func);
@@ -76,7 +74,7 @@ fn call_beside(
     requires guarded { IsGuarded set.old world.old.world }
     ensures kept { OnOk result (world.new.program ≡ upcall.entry.watch.program.now) }
     ensures guarded { OnOk result (IsGuarded set.new world.new.world) }
-    ensures gave { IfOk result (λ g. gave_as g (viewed set.new world.new.world) ≡ downcall (driver_in upcall.entry.watch) (held (driver_in upcall.entry.watch)) upcall.entry.func crossing.now.at crossing.now.func (wires_of crossing.now.args) crossing.now.depth (viewed set.old world.old.world)) }
+    ensures gave { IfOk result (λ g. gave_as g (viewed set.new world.new.world) ≡ downcalls_in upcall.entry crossing.now (viewed set.old world.old.world)) }
 {
     let _in_order = world.births();
     let old = crossing.args.as_slice();
@@ -101,7 +99,7 @@ pub fn downcall(
     requires fit { IsFit upcall.watch }
     requires same { guarded.old.program ≡ upcall.watch.program.now }
     ensures kept { OnOk result (guarded.new.program ≡ upcall.entry.watch.program.now) }
-    ensures gave { IfOk result (λ g. gave_as g guarded.new.world ≡ downcall (driver_in upcall.entry.watch) (held (driver_in upcall.entry.watch)) upcall.entry.func crossing.now.at crossing.now.func (wires_of crossing.now.args) crossing.now.depth guarded.old.world) }
+    ensures gave { IfOk result (λ g. gave_as g guarded.new.world ≡ downcalls_in upcall.entry crossing.now guarded.old.world) }
 {
     match call_beside(
         alloc,

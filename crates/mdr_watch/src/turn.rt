@@ -1,15 +1,12 @@
 // User code runs from event to event.
 
-ghost use Rattle.std.specs.Prelude.{◌≡◌, ◌-◌, IfOk, OnOk};
+ghost use Rattle.std.specs.Prelude.{◌≡◌, IfOk, OnOk};
 ghost use Rattle.mdr_core.specs.Sound.{IsSound};
 ghost use Rattle.mdr_events.specs.declared.event.Event.TheVariants as event;
-ghost use Rattle.mdr_events.specs.Going.{RanTo};
 ghost use Rattle.mdr_events.specs.Values.{wires_of};
-ghost use Rattle.mdr_exec.specs.Holding.{held_of};
 ghost use Rattle.mdr_whole.specs.Ending.{fits, gave_as};
-ghost use Rattle.mdr_watch.specs.Going.{Began, GoesOn, GoesOnWith, Passed, user_does};
-ghost use Rattle.mdr_watch.specs.Guarding.{guarded_accesses};
-ghost use Rattle.mdr_watch.specs.Watching.{IsFit, driver_in};
+ghost use Rattle.mdr_watch.specs.Going.{Began, GoesOn, GoesOnWith, Passed, RanIn, user_does};
+ghost use Rattle.mdr_watch.specs.Watching.{IsFit};
 
 use crate::asks::ask;
 use crate::downcalls::downcall;
@@ -32,7 +29,7 @@ fn go(
 ) -> Result<Event, OutOfMemory>
     requires sound { IsSound upcall.watch.program.now }
     requires fit { IsFit upcall.watch }
-    ensures { IfOk result (λ e. RanTo guarded_accesses (driver_in upcall.entry.watch).user (held_of upcall.entry.watch.program.now machine.old) guarded.old ticks e (held_of upcall.entry.watch.program.now machine.new) guarded.new (ticks - machine.new.used)) }
+    ensures { IfOk result (λ e. RanIn upcall.entry machine.old guarded.old ticks e machine.new guarded.new) }
 {
     machine.side = Side::User;
     let halves = upcall.watch.plan.halves.as_slice();

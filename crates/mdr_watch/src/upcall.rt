@@ -1,16 +1,14 @@
 // A function of the user half is called.
 
-ghost use Rattle.std.specs.Prelude.{◌≡◌, [], Some, IfOk, IsTrue, slice_get};
+ghost use Rattle.std.specs.Prelude.{◌≡◌, [], Some, IfOk, IsTrue};
 ghost use Rattle.mdr_core.specs.Sound.{IsSound};
 ghost use Rattle.mdr_events.specs.Values.{wires_of};
-ghost use Rattle.mdr_extents.specs.Reaching.{visible};
 ghost use Rattle.mdr_meaning.specs.Bodies.{body_of};
 ghost use Rattle.mdr_meaning.specs.Sides.{Body};
 ghost use Rattle.mdr_reach.specs.Answers.{answered};
 ghost use Rattle.mdr_viewed.specs.Viewed.{IsOlder};
-ghost use Rattle.mdr_watched.specs.Driver.{entry_roots, is_user, touched_by};
 ghost use Rattle.mdr_watched.specs.Order.{AreLive};
-ghost use Rattle.mdr_watched.specs.Watched.{closing, entered, held, upcall as up};
+ghost use Rattle.mdr_watched.specs.Watched.{closing, held, upcall as up};
 ghost use Rattle.mdr_watch.specs.Going.{IsStarted, user_does};
 ghost use Rattle.mdr_watch.specs.Leaving.{GaveFor};
 ghost use Rattle.mdr_watch.specs.Watching.{IsFit, driver_in};
@@ -102,7 +100,7 @@ fn enter<'a>(
     requires live { AreLive world.world.memory set }
     requires older { IsOlder set world.world }
     ensures kept { IfOk result (λ r. r.world.program ≡ upcall.entry.watch.program.now) }
-    ensures gave { IfOk result (λ r. GaveFor r.gave r.world.world (entered (driver_in upcall.entry.watch) (held (driver_in upcall.entry.watch)) upcall.entry.func (wires_of args.now) set world.entry.world)) }
+    ensures gave { IfOk result (λ r. GaveFor r.gave r.world.world (entered_in upcall.entry (wires_of args.now) set world.entry.world)) }
 {
     let guarded = Guarded::new(world, set);
     match started(alloc, upcall, args) {
@@ -121,7 +119,7 @@ pub fn first_set(
     args: &[Value],
     world: &World,
 ) -> Result<Result<CellSet, Failing>, OutOfMemory>
-    ensures exact { IfOk result (λ r. answered r ≡ visible upcall.entry.watch.program.now (touched_by upcall.entry.watch.plan.now upcall.entry.func) world.now.world.memory [] (entry_roots upcall.entry.watch.program.now upcall.entry.func (wires_of args.now))) }
+    ensures exact { IfOk result (λ r. answered r ≡ begins_with upcall.entry (wires_of args.now) world.now.world) }
     ensures live { IfOk result (λ r. IfOk r (λ set. AreLive world.now.world.memory set)) }
     ensures older { IfOk result (λ r. IfOk r (λ set. IsOlder set world.now.world)) }
 {

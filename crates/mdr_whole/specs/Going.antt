@@ -1,13 +1,14 @@
 -- protocol
 -- A machine that runs a driver's code up to its next event.
-use Rattle.std.specs.Prelude.{◌≡◌, ◌+◌, ◌≤◌, ℕ, suc, List}
+use Rattle.std.specs.Prelude.{◌≡◌, ◌+◌, ◌-◌, ◌≤◌, ℕ, suc, List, Bool}
 use Rattle.mdr_core.specs.declared.place.At.{At}
 use Rattle.mdr_core.specs.declared.program.Program.{Program}
 use Rattle.mdr_events.specs.declared.event.Asked.{Asked as Question}
 use Rattle.mdr_events.specs.declared.event.Event.{Event}
 use Rattle.mdr_events.specs.declared.event.Event.TheVariants as event
 use Rattle.mdr_events.specs.Events.{asked_as}
-use Rattle.mdr_events.specs.Held.{tree}
+use Rattle.mdr_events.specs.Going.{RanTo}
+use Rattle.mdr_events.specs.Held.{Held, tree}
 use Rattle.mdr_exec.specs.declared.frame.Machine.{Machine}
 use Rattle.mdr_exec.specs.Halves.{side_in}
 use Rattle.mdr_exec.specs.Holding.{held_of}
@@ -21,8 +22,8 @@ use Rattle.mdr_plain.specs.Plain.{whole}
 use Rattle.mdr_plain.specs.Running.{Before, KernelCode}
 use Rattle.mdr_plain.specs.Services.{served}
 use Rattle.mdr_plain.specs.World.{World, Clock, Kept, Ran, Ended, advanced, done}
-use Rattle.mdr_runs.specs.Following.{Stands, goes_on}
-use Rattle.mdr_world.specs.Driven.{Driven}
+use Rattle.mdr_runs.specs.Following.{Stands, goes_on, tried_by}
+use Rattle.mdr_world.specs.Driven.{Driven, driven_accesses}
 use Rattle.mdr_whole.specs.declared.code.Code.{Code}
 use Rattle.mdr_whole.specs.declared.next.Next.{Next}
 use Rattle.mdr_whole.specs.declared.next.Next.TheVariants as next
@@ -39,6 +40,22 @@ driver_code c = whole c.program.now (side_of c)
 -- what the code that a machine holds does in a world, with fuel for so many ticks
 abbrev pub machine_does : Program → Side → Before → (fuel : ℕ) → Machine → World → Ran Wire
 machine_does program side before fuel machine w = goes_on program side before fuel (held_of program machine) w
+
+-- the work that a machine holds on the code that runs, and what is tried before its ticks
+abbrev pub held_in : Code → Machine → Held
+held_in c machine = held_of c.program.now machine
+
+abbrev pub tried_in : (tries : Bool) → Code → Before
+tried_in tries c = tried_by tries c.program.now (side_of c)
+
+-- what it does in a world, with fuel for the ticks that are left
+abbrev pub does_in : (tries : Bool) → Code → Machine → World → Ran Wire
+does_in tries c machine w = machine_does c.program.now (side_of c) (tried_in tries c) w.clock.rest machine w
+
+-- with so many ticks it came to an event
+abbrev pub RanIn : Code → Machine → Driven → (ticks : ℕ) → Event → Machine → Driven → Type 0
+RanIn c machine d ticks e machine' d' =
+    RanTo driven_accesses (side_of c) (held_in c machine) d ticks e (held_in c machine') d' (ticks - machine'.used)
 
 -- a function was started in a machine that held nothing
 pub record IsStarted (program : Program) (side : Side) (func : ℕ) (args : List Wire) (depth : ℕ) (machine : Machine) : Type 0 where
@@ -97,6 +114,15 @@ Follows program side at machine d machine' n d' =
 abbrev pub GoesOn : Program → Side → Before → Machine → Event → Driven → Machine → Next → Driven → Type 0
 GoesOn program side before machine e d machine' n d' =
     (fuel : ℕ) (all : Ran Wire) → StandsAt program side before fuel all machine e d → NextAt program side before fuel all machine' n d'
+
+-- behind an event of the code that runs, with what is tried before its ticks
+abbrev pub GoesOnIn : (tries : Bool) → Code → Machine → Event → Driven → Machine → Next → Driven → Type 0
+GoesOnIn tries c machine e d machine' n d' = GoesOn c.program.now (side_of c) (tried_in tries c) machine e d machine' n d'
+
+-- and whatever is tried before them
+abbrev pub GoesOnAnyhow : Code → Machine → Event → Driven → Machine → Next → Driven → Type 0
+GoesOnAnyhow c machine e d machine' n d' =
+    (before : Before) → GivesNoTicks before → GoesOn c.program.now (side_of c) before machine e d machine' n d'
 
 -- a service gave this, and its question waits for the answers
 pub record Gives (program : Program) (side : Side) (before : Before) (fuel : ℕ) (all : Ran Wire) (machine : Machine) (results : List Wire) (w : World) : Type 0 where

@@ -7,9 +7,8 @@ ghost use Rattle.mdr_exec.specs.Halves.{is_kernel, is_own};
 ghost use Rattle.mdr_meaning.specs.Bodies.{body_of};
 ghost use Rattle.mdr_meaning.specs.Sides.{Body};
 ghost use Rattle.mdr_plain.specs.Running.{call};
-ghost use Rattle.mdr_runs.specs.Following.{tried_by};
 ghost use Rattle.mdr_whole.specs.Ending.{gave_as};
-ghost use Rattle.mdr_whole.specs.Going.{IsStarted, driver_code, machine_does, side_of};
+ghost use Rattle.mdr_whole.specs.Going.{IsStarted, does_in, driver_code, side_of, tried_in};
 
 use crate::before::Before;
 use crate::code::Code;
@@ -101,7 +100,7 @@ fn run_out<B: Before>(
     requires sound { IsSound code.program.now }
     requires same { world.old.program ≡ code.program.now }
     ensures kept { OnOk result (world.new.program ≡ code.entry.program.now) }
-    ensures gave { IfOk result (λ g. gave_as g world.new.world ≡ machine_does code.entry.program.now (side_of code.entry) (tried_by B.tries code.entry.program.now (side_of code.entry)) world.old.world.clock.rest machine world.old.world) }
+    ensures gave { IfOk result (λ g. gave_as g world.new.world ≡ does_in B.tries code.entry machine world.old.world) }
 {
     let mut machine = machine;
     let gave = run::<B>(&mut machine, alloc, code, world);
@@ -123,7 +122,7 @@ pub fn call<B: Before>(
     requires sound { IsSound code.program.now }
     requires same { world.old.program ≡ code.program.now }
     ensures kept { OnOk result (world.new.program ≡ code.entry.program.now) }
-    ensures gave { IfOk result (λ g. gave_as g world.new.world ≡ call (driver_code code.entry) (tried_by B.tries code.entry.program.now (side_of code.entry)) func (wires_of args.now) depth world.old.world) }
+    ensures gave { IfOk result (λ g. gave_as g world.new.world ≡ call (driver_code code.entry) (tried_in B.tries code.entry) func (wires_of args.now) depth world.old.world) }
 {
     let machine = started(alloc, code, func, args, depth)?;
     let gave = run_out::<B>(alloc, code, world, machine)?;

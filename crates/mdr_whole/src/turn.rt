@@ -1,17 +1,12 @@
 // A machine runs from event to event.
 
-ghost use Rattle.std.specs.Prelude.{◌≡◌, ◌≤◌, ◌-◌, true, IfOk, OnOk, IsTrue};
+ghost use Rattle.std.specs.Prelude.{◌≡◌, ◌≤◌, IfOk, OnOk, IsTrue};
 ghost use Rattle.mdr_core.specs.Sound.{IsSound};
 ghost use Rattle.mdr_events.specs.declared.event.Event.TheVariants as event;
-ghost use Rattle.mdr_events.specs.Going.{RanTo};
 ghost use Rattle.mdr_events.specs.Values.{wires_of};
-ghost use Rattle.mdr_exec.specs.Holding.{FitQuestion, held_of, waits};
-ghost use Rattle.mdr_plain.specs.Laws.{GivesNoTicks};
-ghost use Rattle.mdr_plain.specs.Running.{Before as AnyBefore};
-ghost use Rattle.mdr_runs.specs.Following.{tried_by};
-ghost use Rattle.mdr_world.specs.Driven.{NoneIsDue, driven_accesses};
+ghost use Rattle.mdr_world.specs.Driven.{NoneIsDue};
 ghost use Rattle.mdr_whole.specs.Ending.{fits, gave_as};
-ghost use Rattle.mdr_whole.specs.Going.{Began, Follows, GoesOn, GoesOnWith, Passed, RanThrough, machine_does, side_of};
+ghost use Rattle.mdr_whole.specs.Going.{Began, Follows, GoesOnAnyhow, GoesOnIn, GoesOnWith, Passed, RanIn, RanThrough, does_in, side_of};
 
 use crate::before::Before;
 use crate::code::Code;
@@ -34,7 +29,7 @@ fn go(
     ticks: u64,
 ) -> Result<Event, OutOfMemory>
     requires { IsSound code.program.now }
-    ensures ran { IfOk result (λ e. RanTo driven_accesses (side_of code.entry) (held_of code.entry.program.now machine.old) world.old ticks e (held_of code.entry.program.now machine.new) world.new (ticks - machine.new.used)) }
+    ensures ran { IfOk result (λ e. RanIn code.entry machine.old world.old ticks e machine.new world.new) }
     ensures used { OnOk result (machine.new.used ≤ ticks) }
 {
     machine.side = code.side;
@@ -128,7 +123,7 @@ fn tick<B: Before>(
 ) -> Result<Next, OutOfMemory>
     requires sound { IsSound code.program.now }
     requires same { world.old.program ≡ code.program.now }
-    ensures { IfOk result (λ n. GoesOn code.entry.program.now (side_of code.entry) (tried_by B.tries code.entry.program.now (side_of code.entry)) machine.old (event.TicksOut at) world.old machine.new n world.new) }
+    ensures { IfOk result (λ n. GoesOnIn B.tries code.entry machine.old (event.TicksOut at) world.old machine.new n world.new) }
 {
     if is_calm(world) {
         let event = run_through(machine, alloc, code, world)?;
@@ -190,7 +185,7 @@ fn answer(
 ) -> Result<Next, OutOfMemory>
     requires sound { IsSound code.program.now }
     requires same { world.old.program ≡ code.program.now }
-    ensures { IfOk result (λ n. (before : AnyBefore) → GivesNoTicks before → GoesOn code.entry.program.now (side_of code.entry) before machine.old (event.Service asked.now) world.old machine.new n world.new) }
+    ensures { IfOk result (λ n. GoesOnAnyhow code.entry machine.old (event.Service asked.now) world.old machine.new n world.new) }
 {
     let served = serve(alloc, world, asked)?;
     match served {
@@ -212,7 +207,7 @@ fn follow<B: Before>(
 ) -> Result<Next, OutOfMemory>
     requires sound { IsSound code.program.now }
     requires same { world.old.program ≡ code.program.now }
-    ensures { IfOk result (λ n. GoesOn code.entry.program.now (side_of code.entry) (tried_by B.tries code.entry.program.now (side_of code.entry)) machine.old event.now world.old machine.new n world.new) }
+    ensures { IfOk result (λ n. GoesOnIn B.tries code.entry machine.old event.now world.old machine.new n world.new) }
 {
     match event {
         Event::Done(value) => Ok(Next::Gave(Gave::Value(world.now(*value)))),
@@ -233,7 +228,7 @@ fn follow_up<B: Before>(
 ) -> Result<Next, OutOfMemory>
     requires sound { IsSound code.program.now }
     requires same { world.old.program ≡ code.program.now }
-    ensures { IfOk result (λ n. GoesOn code.entry.program.now (side_of code.entry) (tried_by B.tries code.entry.program.now (side_of code.entry)) machine.old event world.old machine.new n world.new) }
+    ensures { IfOk result (λ n. GoesOnIn B.tries code.entry machine.old event world.old machine.new n world.new) }
 {
     let next = follow::<B>(machine, alloc, code, world, &event);
     drop(event);
@@ -250,7 +245,7 @@ pub(crate) fn run<B: Before>(
     requires sound { IsSound code.program.now }
     requires same { world.old.program ≡ code.program.now }
     ensures kept { OnOk result (world.new.program ≡ code.entry.program.now) }
-    ensures gave { IfOk result (λ g. gave_as g world.new.world ≡ machine_does code.entry.program.now (side_of code.entry) (tried_by B.tries code.entry.program.now (side_of code.entry)) world.old.world.clock.rest machine.old world.old.world) }
+    ensures gave { IfOk result (λ g. gave_as g world.new.world ≡ does_in B.tries code.entry machine.old world.old.world) }
 {
     let mut event = begin(machine, alloc, code, world)?;
     for _turn in 0..u64::MAX {
