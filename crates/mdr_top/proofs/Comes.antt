@@ -145,9 +145,9 @@ module _ (words : List (List ℕ)) (files : Files) (loaded : Option Loaded) (es 
   verify_comes : (name script_name transcript_name : List ℕ) (s : Status) (text : List ℕ) → command_of words ≡ Some (Verify name script_name transcript_name) → VerifyAnswered files name script_name transcript_name s text → Comes words files loaded es s
   verify_comes name script_name transcript_name s text e answered = script_comes name script_name (TranscriptDue files transcript_name s text) s text (AreNamed.verify transcript_name e) ran answered
     where
-      of_said : (run : WasJudged words files s) → IsExactly run.transcript run.judged.exchanges run.judged.report s → Comes words files loaded es s
-      of_said run (IsExactly.same is done) = subst (Comes words files loaded es) (sym done) (IsDone.verified (subst (WasJudged words files) done run))
-      of_said run (IsExactly.other not so) = subst (Comes words files loaded es) (sym so) (subst (WasJudged words files) so run)
+      of_said : (was : WasJudged words files s) → IsExactly was.transcript was.exchanges was.report s → Comes words files loaded es s
+      of_said was (IsExactly.same is done) = subst (Comes words files loaded es) (sym done) (IsDone.verified (subst (WasJudged words files) done was))
+      of_said was (IsExactly.other not so) = subst (Comes words files loaded es) (sym so) (subst (WasJudged words files) so was)
 
       ran : (source : Source) (lines : List ℕ) (script : Bound) → IsTaken files name source → ReadsFrom files script_name longest_script (reads.Ok lines) → HasScript source.program lines script → TranscriptDue files transcript_name s text source script → Comes words files loaded es s
       ran source lines script h r b due = of due
@@ -158,7 +158,8 @@ module _ (words : List (List ℕ)) (files : Files) (loaded : Option Loaded) (es 
           of : TranscriptDue files transcript_name s text source script → Comes words files loaded es s
           of (TranscriptDue.unread u) = unread_comes transcript_name longest_transcript s text (IsWanted.as_transcript source script run refl) u
           of (TranscriptDue.judged bytes t j) =
-              of_said (record { name = transcript_name; source = source; script = script; run = run; transcript = bytes; read = t; text = text; judged = j }) (said_exactly bytes j.exchanges j.report s text j.said)
+              let exactly : IsExactly bytes j.exchanges j.report s = said_exactly bytes j.exchanges j.report s text j.said in
+              of_said (record { name = transcript_name; source = source; script = script; run = run; transcript = bytes; read = t; exchanges = j.exchanges; report = j.report; honest = j.run; exactly = exactly }) exactly
 
   answered_comes : (s : Status) (text : List ℕ) → Answered words files loaded es s text → Comes words files loaded es s
   answered_comes s text (Answered.usage e is t) = subst (Comes words files loaded es) (sym is) e

@@ -28,7 +28,6 @@ use Rattle.mdr_source.specs.Sources.{Comes as ComesTo}
 use Rattle.mdr_split_runner.specs.Cuts.{IsCutInto}
 use Rattle.mdr_split_runner.specs.declared.manner.SplitManner.{SplitManner}
 use Rattle.mdr_split_runner.specs.Ends.{EndsWith as SplitEndsWith}
-use Rattle.mdr_verifier.specs.Judged.{IsJudged}
 use Rattle.mdr_verifier.specs.Laws.{IsExactly}
 use Rattle.mdr_verifier.specs.Runs.{IsHonestRun}
 use Rattle.mdr_verifier.specs.Verifies.{longest_transcript}
@@ -153,7 +152,7 @@ pub record IsWholeEnd (words : List (List ℕ)) (files : Files) (s : Status) : T
 
 -- ---- a transcript
 
--- the words name a transcript that is there, and it is judged so
+-- the words name a transcript that is there; it is, or it isn't, what is printed of the one run over an honest far side that never fails
 pub record WasJudged (words : List (List ℕ)) (files : Files) (s : Status) : Type 0 where
   pub name : List ℕ
   pub source : Source
@@ -161,8 +160,10 @@ pub record WasJudged (words : List (List ℕ)) (files : Files) (s : Status) : Ty
   pub run : IsRunFor words files name source script
   pub transcript : List ℕ
   pub read : ReadsFrom files name longest_transcript (reads.Ok transcript)
-  pub text : List ℕ
-  pub judged : IsJudged source script transcript s text
+  pub exchanges : List Exchange
+  pub report : List ℕ
+  pub honest : IsHonestRun source script exchanges report
+  pub exactly : IsExactly transcript exchanges report s
 
 -- ---- a driver and a script that are made
 
