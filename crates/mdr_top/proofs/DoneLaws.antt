@@ -1,5 +1,5 @@
 -- What was done is what is printed, and what is meant.
-use Rattle.std.proofs.Common.{◌≡◌, ◌≢◌, ℕ, ◌⊎◌, inl, inr, true, false, List, [], Option, Some, None, refl, sym, ap, ◌∙◌, subst}
+use Rattle.std.proofs.Common.{◌≡◌, ◌≢◌, ℕ, ◌+◌, ◌*◌, ◌≤◌, length, ◌⊎◌, inl, inr, true, false, List, [], Option, Some, None, refl, sym, ap, ◌∙◌, subst}
 use Rattle.std.proofs.lemmas.List.{append-nil}
 use Rattle.mdr_due.specs.declared.status.Status.{Status}
 use Rattle.mdr_due.specs.declared.status.Status.TheVariants as status
@@ -9,7 +9,7 @@ use Rattle.mdr_exchanges.specs.Runs.{IsFarFault}
 use Rattle.mdr_gen.specs.Generator.{driver_text, lines_from}
 use Rattle.mdr_generated.proofs.Steps.{told_status}
 use Rattle.mdr_generated.specs.declared.recipe.Recipe.{Recipe}
-use Rattle.mdr_generated.specs.Generated.{budget}
+use Rattle.mdr_generated.specs.Generated.{budget, IsTold}
 use Rattle.mdr_generated.specs.Generates.{Generates, GeneratesOver, IsGenerated}
 use Rattle.mdr_honest.specs.Honest.{IsHonest}
 use Rattle.mdr_model.specs.declared.outcome.End.{End}
@@ -17,6 +17,8 @@ use Rattle.mdr_model.specs.declared.outcome.End.TheVariants as ends
 use Rattle.mdr_outside.specs.Calls.{ShelfCall, Read, and_then}
 use Rattle.mdr_outside.specs.declared.shelf.ReadAnswer.TheVariants as reads
 use Rattle.mdr_outside.specs.Sides.{FarSide, SinkSide}
+use Rattle.mdr_plain.specs.declared.outcome.Outcome.{Outcome}
+use Rattle.mdr_watched.specs.Watched.{watched}
 use Rattle.mdr_runner.specs.declared.manner.Manner.{Manner}
 use Rattle.mdr_runner.specs.Scripts.{NoScriptOf}
 use Rattle.mdr_runner.specs.Runs.{RunsOver, Runs, status_of}
@@ -30,6 +32,7 @@ use Rattle.mdr_top.specs.Answers.{WayDue, RunAnswered, MadeAnswered, Answered, P
 use Rattle.mdr_top.specs.Cuts.{IsOfCut}
 use Rattle.mdr_top.specs.Done.{RunDone, Done, DonePart, Does}
 use Rattle.mdr_top.specs.Headline.{MeansBy, Means}
+use Rattle.mdr_top.specs.Made.{MadeMeansBy}
 use Rattle.mdr_top.specs.declared.words.Cutting.{Cutting}
 use Rattle.mdr_top.specs.declared.words.Way.{Way}
 use Rattle.mdr_top.specs.declared.words.Way.TheVariants as way
@@ -223,3 +226,58 @@ module _ (words : List (List ℕ)) (before after : Outside) (s : Status) (source
   does_run (Does.whole text d w) is = done_means text w is d
   does_run (Does.cut due text e d c) is = absurd (not_early s (subst IsEarly (sym e) tt) is)
   does_run (Does.nothing e d same) is = absurd (not_early s (subst IsEarly (sym e) tt) is)
+
+-- ---- what is meant of a seed
+
+other_word : (command : Option Task) (recipe : Recipe) → command ≡ Some (Generate recipe) → command ≡ None → ⊥
+other_word command recipe e f = Prim.cc
+
+other_cut : (command : Option Task) (recipe : Recipe) (how : Cutting) (name : List ℕ) → command ≡ Some (Generate recipe) → command ≡ Some (Cut how name) → ⊥
+other_cut command recipe how name e f = Prim.cc
+
+other_verify : (command : Option Task) (recipe : Recipe) (name script_name transcript_name : List ℕ) → command ≡ Some (Generate recipe) → command ≡ Some (Verify name script_name transcript_name) → ⊥
+other_verify command recipe name script_name transcript_name e f = Prim.cc
+
+failed_never : (end : End) (s : Status) → IsFarFault end → s ≡ status_of end → (s ≡ status.Done) ⊎ (s ≡ status.Stopped) → ⊥
+failed_never ends.Ok s f so is = f
+failed_never (ends.Stop kind at) s f so is = f
+failed_never (ends.Refused exchange cause number) s f so is = f
+failed_never (ends.FarFault exchange) s f so (inl is) = let no : status.FarFault ≡ status.Done = sym so ∙ is in Prim.cc
+failed_never (ends.FarFault exchange) s f so (inr is) = let no : status.FarFault ≡ status.Stopped = sym so ∙ is in Prim.cc
+
+module _ (words : List (List ℕ)) (before after : Outside) (s : Status) (honest : IsHonest after.sides.far.loaded after.sides.far.exchanges) (is : (s ≡ status.Done) ⊎ (s ≡ status.Stopped)) where
+  made_by : (text : List ℕ) → IsWritten before.out after.out text → (recipe : Recipe) → command_of words ≡ Some (Generate recipe) → IsGenerated recipe before.sides.far after.sides.far s text → MadeMeansBy words before after s
+  made_by text adds recipe e (Generates.no_source n same) = absurd (not_early s (subst IsEarly (sym n.status_is) tt) is)
+  made_by text adds recipe e (Generates.over source h (GeneratesOver.no_script n same)) = absurd (not_early s (subst IsEarly (sym n.status_is) tt) is)
+  made_by text adds recipe e (Generates.over source h (GeneratesOver.ran script b run)) =
+      of (outcome_means driver_text (lines_from recipe.seed recipe.size) source run.run.plan run.run.texts script budget after.sides.far.exchanges h b run.run.cut after.sides.far.loaded run.outcome honest run.run.ran)
+    where
+      of : IsFarFault run.outcome.end ⊎ IsMeant source.program run.run.plan script budget after.sides.far.exchanges run.outcome → MadeMeansBy words before after s
+      of (inl f) = absurd (failed_never run.outcome.end s f (told_status recipe source.program after.sides.far.exchanges run.outcome s text run.told) is)
+      of (inr m) = record {
+        recipe = recipe;
+        command = e;
+        source = source;
+        script = script;
+        has = h;
+        bound = b;
+        plan = run.run.plan;
+        texts = run.run.texts;
+        cut = run.run.cut;
+        text = text;
+        printed = adds;
+        told = subst (λ (o : Outcome). IsTold recipe source.program after.sides.far.exchanges o s text) m.outcome run.told;
+        messages = subst (λ (o : Outcome). 2 * length after.sides.far.exchanges ≤ 4 * o.ticks + 6 * (watched source.program run.run.plan script budget).world.kept.calls) m.outcome m.messages;
+      }
+
+  done_made : (text : List ℕ) → IsWritten before.out after.out text → (recipe : Recipe) → command_of words ≡ Some (Generate recipe) → Done words before.sides after.sides s text → MadeMeansBy words before after s
+  done_made text adds recipe named (Done.usage e same st t) = absurd (other_word (command_of words) recipe named e)
+  done_made text adds recipe named (Done.cut how name e d f) = absurd (other_cut (command_of words) recipe how name named e)
+  done_made text adds recipe named (Done.ran inputs in_way e kept runs) = absurd (no_made (command_of words) recipe inputs in_way named e)
+  done_made text adds recipe named (Done.made other e d) = made_by text adds other e d.generates
+  done_made text adds recipe named (Done.verified name script_name transcript_name e same kept v) = absurd (other_verify (command_of words) recipe name script_name transcript_name named e)
+
+  pub does_made : (recipe : Recipe) → command_of words ≡ Some (Generate recipe) → Does words before after s → MadeMeansBy words before after s
+  does_made recipe named (Does.whole text d w) = done_made text w recipe named d
+  does_made recipe named (Does.cut due text e d c) = absurd (not_early s (subst IsEarly (sym e) tt) is)
+  does_made recipe named (Does.nothing e d same) = absurd (not_early s (subst IsEarly (sym e) tt) is)
