@@ -40,16 +40,16 @@ use Rattle.mdr_split_runner.proofs.Steps.{nothing_end}
 use Rattle.mdr_split_runner.specs.Cuts.{IsCutInto}
 use Rattle.mdr_split_runner.specs.declared.manner.SplitManner.{SplitManner}
 use Rattle.mdr_split_runner.specs.Means.{IsMeaning, SplitMeans, SplitRunsMean, meant, while_watched}
-use Rattle.mdr_split_runner.specs.Reports.{Began, Ran, Reported}
+use Rattle.mdr_split_runner.specs.Reports.{Began, Ran, RanTo, Reported}
 use Rattle.mdr_split_runner.specs.SplitRuns.{SplitRuns}
 use Rattle.mdr_watched.specs.Watched.{watched}
 
 -- ---- a source and its texts
 
-is_cut : (bytes : List ℕ) (source : Source) (plan : Plan) (texts : Texts) → HasSource bytes source → IsCutInto source plan texts → IsCut bytes source plan
+pub is_cut : (bytes : List ℕ) (source : Source) (plan : Plan) (texts : Texts) → HasSource bytes source → IsCutInto source plan texts → IsCut bytes source plan
 is_cut bytes source plan texts h c = record { source_is = come_source bytes source h.comes; plan_is = c.plan_is; short = c.short }
 
-has_texts : (source : Source) (plan : Plan) (texts : Texts) (answer : LoadAnswer) → IsCutInto source plan texts → HasTexts source plan (loaded_with texts.user texts.plan answer)
+pub has_texts : (source : Source) (plan : Plan) (texts : Texts) (answer : LoadAnswer) → IsCutInto source plan texts → HasTexts source plan (loaded_with texts.user texts.plan answer)
 has_texts source plan texts answer c =
     let same : c.are_texts.plan ≡ plan = plan_is_determined source.program c.are_texts.plan plan c.are_texts.is_plan c.plan_is in
     record {
@@ -93,6 +93,13 @@ module _ (law : RunIsMeaning) (taken : TextsOfSourcesAreTaken) (bytes lines : Li
       taken bytes source plan answer (is_cut bytes source plan texts h c)
       (subst (λ (u : List ℕ). IsHonestLoad u (plan_text source.program plan) answer) t.user_is
       (subst (λ (p : List ℕ). IsHonestLoad texts.user p answer) t.plan_is since.load))
+
+  -- what a run shows is what is meant, or the far side failed
+  pub outcome_means : (loaded : Option Loaded) (o : Outcome) → IsHonest loaded es → RanTo source.program plan texts script ticks loaded es o → IsFarFault o.end ⊎ IsMeant source.program plan script ticks es o
+  outcome_means loaded o honest (RanTo.began is run) =
+      law bytes lines source plan script ticks (held_with loads.Ok) es o (is_cut bytes source plan texts h c) (is_script source.program lines script b) (has_texts source plan texts loads.Ok c) (subst (λ (l : Option Loaded). IsHonest l es) is honest) run
+  outcome_means loaded o honest (RanTo.refused cause is same) = absurd (texts_taken (loads.Refused cause) (subst (λ (l : Option Loaded). IsHonest l es) is honest))
+  outcome_means loaded o honest (RanTo.failed is same) = inl (subst IsFarFault (sym (ap (λ (x : Outcome). x.end) same ∙ nothing_end source.program script ticks (ends.FarFault 0))) tt)
 
   began_means : (s : Status) (text : List ℕ) → IsHonest (Some (held_with loads.Ok)) es → Began source.program plan script ticks es s text → (s ≡ status.FarFault) ⊎ IsMeaning source.program plan script ticks es s text
   began_means s text honest g =

@@ -3,6 +3,9 @@ use Rattle.std.proofs.Common.{◌≡◌, ℕ, List, Option, Some, None, refl, sy
 use Rattle.mdr_due.specs.declared.status.Status.{Status}
 use Rattle.mdr_due.specs.declared.status.Status.TheVariants as status
 use Rattle.mdr_due.specs.Reads.{Files, longest_source, longest_script}
+use Rattle.mdr_generated.proofs.Steps.{told_status}
+use Rattle.mdr_generated.specs.declared.recipe.Recipe.{Recipe}
+use Rattle.mdr_generated.specs.Generated.{budget}
 use Rattle.mdr_model.specs.declared.outcome.End.{End}
 use Rattle.mdr_model.specs.declared.outcome.End.TheVariants as ends
 use Rattle.mdr_model.specs.Law.{IsOwn}
@@ -19,21 +22,24 @@ use Rattle.mdr_source.specs.declared.outcome.Source.{Source}
 use Rattle.mdr_split_runner.specs.declared.manner.SplitManner.{SplitManner}
 use Rattle.mdr_split_runner.specs.Cuts.{IsCutInto}
 use Rattle.mdr_split_runner.specs.Ends.{EndsWith, FailedLast}
+use Rattle.mdr_split_runner.proofs.Endings.{fails_last, outcome_ends, split_runs_end}
+use Rattle.mdr_top.specs.Answers.{Unread, Untaken, IsTaken, CutAnswered, ScriptAnswered, FileAnswered, WholeDue, SplitDue, WayDue, RunAnswered, MadeAnswered, TranscriptDue, VerifyAnswered, Answered, Prints, HoldTexts, AreTaken, UntakenTexts, TextsAnswered}
+use Rattle.mdr_verifier.proofs.Said.{said_exactly}
+use Rattle.mdr_verifier.specs.Laws.{IsExactly}
+use Rattle.mdr_verifier.specs.Verifies.{longest_transcript}
+use Rattle.mdr_top.specs.Comes.{AreNamed, IsRunFor, WasJudged, IsWanted, IsRunSource, IsRefused, IsNoScript, IsScriptRefused, WasCut, IsWholeEnd, IsSplitEnd, IsEnd, IsDone, IsStopped, Comes, IsText, AreRefused, IsNoTextsScript, IsTextsEnd}
 use Rattle.mdr_split_runner.specs.Reports.{Ran}
-use Rattle.mdr_split_runner.proofs.Endings.{fails_last, split_runs_end}
 use Rattle.mdr_cut.specs.declared.texts.Texts.{Texts}
 use Rattle.mdr_cut.proofs.Determined.{texts_are_determined}
 use Rattle.mdr_halves.proofs.Refusing.{refused_are_none}
 use Rattle.mdr_halves_runner.specs.Reads.{TextNames, longest_text}
-use Rattle.mdr_top.specs.Answers.{HoldTexts, AreTaken, UntakenTexts, TextsAnswered, Unread, Untaken, IsTaken, CutAnswered, ScriptAnswered, FileAnswered, WholeDue, SplitDue, WayDue, RunAnswered, Answered, Prints}
-use Rattle.mdr_top.specs.Comes.{AreNamed, IsText, IsWanted, IsRunSource, IsRefused, AreRefused, IsNoScript, IsNoTextsScript, IsScriptRefused, WasCut, IsWholeEnd, IsSplitEnd, IsTextsEnd, IsHalvesEnd, IsDone, IsStopped, Comes}
 use Rattle.mdr_top.specs.Cuts.{IsSplit, IsCut}
 use Rattle.mdr_top.specs.declared.words.Cutting.{Cutting}
 use Rattle.mdr_top.specs.declared.words.Cutting.TheVariants as cutting
 use Rattle.mdr_top.specs.declared.words.Way.{Way}
 use Rattle.mdr_top.specs.declared.words.Way.TheVariants as way
 use Rattle.mdr_top.specs.Outside.{Outside}
-use Rattle.mdr_top.specs.Words.{Inputs, OfFiles, Cut, Run, RunTexts, texts_manner, command_of}
+use Rattle.mdr_top.specs.Words.{Inputs, OfFiles, Cut, Run, Generate, Verify, command_of, RunTexts, texts_manner}
 
 -- a read that failed says nothing
 failed_reads : (files : Files) (name : List ℕ) (limit : ℕ) → ReadsFrom files name limit reads.Failed
@@ -84,7 +90,7 @@ module _ (words : List (List ℕ)) (files : Files) (loaded : Option Loaded) (es 
 
   whole_comes : (name script_name : List ℕ) (manner : Manner) (s : Status) (text : List ℕ) → command_of words ≡ Some (Run (OfFiles name script_name) (way.Whole manner)) → FileAnswered files name script_name (WholeDue manner s text) s text → Comes words files loaded es s
   whole_comes name script_name manner s text e answered =
-      script_comes name script_name (WholeDue manner s text) s text (record { in_way = way.Whole manner; command = e })
+      script_comes name script_name (WholeDue manner s text) s text (AreNamed.run (way.Whole manner) e)
       (λ source lines script h r b run. subst (Comes words files loaded es) (sym run.status_is) (own_comes run.outcome.end (outcome_own source.program script manner run.outcome run.is_outcome) (record {
         source = source;
         script = script;
@@ -95,19 +101,19 @@ module _ (words : List (List ℕ)) (files : Files) (loaded : Option Loaded) (es 
       })))
       answered
 
-  end_comes : (end : End) → IsHalvesEnd words files loaded es (status_of end) → Comes words files loaded es (status_of end)
-  end_comes ends.Ok h = IsDone.split h
-  end_comes (ends.Stop kind at) h = IsStopped.split h
+  end_comes : (end : End) → IsEnd words files loaded es (status_of end) → Comes words files loaded es (status_of end)
+  end_comes ends.Ok h = IsDone.over_halves h
+  end_comes (ends.Stop kind at) h = IsStopped.over_halves h
   end_comes (ends.Refused exchange cause number) h = h
   end_comes (ends.FarFault exchange) h = h
 
   split_comes : (name script_name : List ℕ) (manner : SplitManner) (s : Status) (text : List ℕ) → command_of words ≡ Some (Run (OfFiles name script_name) (way.Split manner)) → FileAnswered files name script_name (SplitDue manner loaded es s text) s text → Comes words files loaded es s
-  split_comes name script_name manner s text e answered = script_comes name script_name (SplitDue manner loaded es s text) s text (record { in_way = way.Split manner; command = e }) ran answered
+  split_comes name script_name manner s text e answered = script_comes name script_name (SplitDue manner loaded es s text) s text (AreNamed.run (way.Split manner) e) ran answered
     where
       ran : (source : Source) (lines : List ℕ) (script : Bound) → IsTaken files name source → ReadsFrom files script_name longest_script (reads.Ok lines) → HasScript source.program lines script → SplitDue manner loaded es s text source script → Comes words files loaded es s
       ran source lines script h r b due =
           let ended : EndsWith source.program due.plan due.texts script manner.ticks loaded es s = split_runs_end source.program due.plan due.texts script manner.ticks loaded es s due.report due.ran in
-          subst (Comes words files loaded es) (sym ended.status_is) (end_comes ended.end (IsHalvesEnd.of_source (record {
+          subst (Comes words files loaded es) (sym ended.status_is) (end_comes ended.end (IsEnd.split (record {
             source = source;
             script = script;
             manner = manner;
@@ -122,6 +128,44 @@ module _ (words : List (List ℕ)) (files : Files) (loaded : Option Loaded) (es 
   run_comes : (inputs : Inputs) (in_way : Way) (s : Status) (text : List ℕ) → command_of words ≡ Some (Run inputs in_way) → RunAnswered inputs files (WayDue in_way loaded es s text) s text → Comes words files loaded es s
   run_comes (OfFiles name script_name) (way.Whole manner) s text e c = whole_comes name script_name manner s text e c
   run_comes (OfFiles name script_name) (way.Split manner) s text e c = split_comes name script_name manner s text e c
+
+  made_comes : (recipe : Recipe) (s : Status) (text : List ℕ) → command_of words ≡ Some (Generate recipe) → MadeAnswered recipe loaded es s text → Comes words files loaded es s
+  made_comes recipe s text e (MadeAnswered.no_source n) = subst (Comes words files loaded es) (sym n.status_is) (IsRefused.no_made recipe e n.refusal n.comes)
+  made_comes recipe s text e (MadeAnswered.no_script source h n) =
+      subst (Comes words files loaded es) (sym n.status_is) (IsScriptRefused.made (record { recipe = recipe; command = e; source = source; has = h; line = n.line; kind = n.kind; refused = n.refused }))
+  made_comes recipe s text e (MadeAnswered.ran source script h b due) =
+      let ended : EndsWith source.program due.plan due.texts script budget loaded es s = outcome_ends source.program due.plan due.texts script budget loaded es due.outcome s due.ran (told_status recipe source.program es due.outcome s text due.told) in
+      subst (Comes words files loaded es) (sym ended.status_is) (end_comes ended.end (IsEnd.made (record {
+        recipe = recipe;
+        command = e;
+        source = source;
+        script = script;
+        has = h;
+        bound = b;
+        plan = due.plan;
+        texts = due.texts;
+        cut = due.cut;
+        ends = record { end = ended.end; ends = ended.ends; status_is = refl };
+      })))
+
+  verify_comes : (name script_name transcript_name : List ℕ) (s : Status) (text : List ℕ) → command_of words ≡ Some (Verify name script_name transcript_name) → VerifyAnswered files name script_name transcript_name s text → Comes words files loaded es s
+  verify_comes name script_name transcript_name s text e answered = script_comes name script_name (TranscriptDue files transcript_name s text) s text (AreNamed.verify transcript_name e) ran answered
+    where
+      of_said : (was : WasJudged words files s) → IsExactly was.transcript was.exchanges was.report s → Comes words files loaded es s
+      of_said was (IsExactly.same is done) = subst (Comes words files loaded es) (sym done) (IsDone.verified (subst (WasJudged words files) done was))
+      of_said was (IsExactly.other not so) = subst (Comes words files loaded es) (sym so) (subst (WasJudged words files) so was)
+
+      ran : (source : Source) (lines : List ℕ) (script : Bound) → IsTaken files name source → ReadsFrom files script_name longest_script (reads.Ok lines) → HasScript source.program lines script → TranscriptDue files transcript_name s text source script → Comes words files loaded es s
+      ran source lines script h r b due = of due
+        where
+          run : IsRunFor words files transcript_name source script
+          run = record { source_name = name; script_name = script_name; command = e; bytes = h.bytes; source_read = h.read; has = h.has; lines = lines; script_read = r; bound = b }
+
+          of : TranscriptDue files transcript_name s text source script → Comes words files loaded es s
+          of (TranscriptDue.unread u) = unread_comes transcript_name longest_transcript s text (IsWanted.as_transcript source script run refl) u
+          of (TranscriptDue.judged bytes t j) =
+              let exactly : IsExactly bytes j.exchanges j.report s = said_exactly bytes j.exchanges j.report s text j.said in
+              of_said (record { name = transcript_name; source = source; script = script; run = run; transcript = bytes; read = t; exchanges = j.exchanges; report = j.report; honest = j.run; exactly = exactly }) exactly
 
   -- a text of three that isn't read, or texts that are refused
   untaken_comes : (names : TextNames) (script_name : List ℕ) (s : Status) (text : List ℕ) → command_of words ≡ Some (RunTexts names script_name) → UntakenTexts files names s text → Comes words files loaded es s
@@ -143,7 +187,7 @@ module _ (words : List (List ℕ)) (files : Files) (loaded : Option Loaded) (es 
       let cut = subst (λ (x : Texts). IsCutInto source due.plan x) same due.cut in
       let ran = subst (λ (x : Texts). Ran source.program due.plan x script texts_manner.ticks loaded es s due.report) same due.ran in
       let ended : EndsWith source.program due.plan t.texts script texts_manner.ticks loaded es s = split_runs_end source.program due.plan t.texts script texts_manner.ticks loaded es s due.report ran in
-      subst (Comes words files loaded es) (sym ended.status_is) (end_comes ended.end (IsHalvesEnd.of_texts (record {
+      subst (Comes words files loaded es) (sym ended.status_is) (end_comes ended.end (IsEnd.texts (record {
         source = source;
         script = script;
         accepted = record { names = names; script_name = script_name; command = e; taken = t; lines = lines; script_read = r; bound = b };
@@ -156,6 +200,8 @@ module _ (words : List (List ℕ)) (files : Files) (loaded : Option Loaded) (es 
   answered_comes s text (Answered.usage e is t) = subst (Comes words files loaded es) (sym is) e
   answered_comes s text (Answered.cut how name e c) = cut_comes how name s text e c
   answered_comes s text (Answered.ran inputs in_way e c) = run_comes inputs in_way s text e c
+  answered_comes s text (Answered.made recipe e c) = made_comes recipe s text e c
+  answered_comes s text (Answered.verified name script_name transcript_name e c) = verify_comes name script_name transcript_name s text e c
   answered_comes s text (Answered.texts names script_name e c) = texts_come names script_name s text e c
 
 pub prints_comes : (words : List (List ℕ)) (before after : Outside) (s : Status) → Prints words before after s → Comes words before.sides.shelf.files after.sides.far.loaded after.sides.far.exchanges s
@@ -165,9 +211,9 @@ prints_comes words before after s (Prints.nothing is same) = subst (Comes words 
 
 -- where the far side failed
 pub comes_last : (words : List (List ℕ)) (files : Files) (loaded : Option Loaded) (es : List Exchange) (s : Status) → Comes words files loaded es s → s ≡ status.FarFault → FailedLast loaded es
-comes_last words files loaded es s comes is =
-    of (subst (Comes words files loaded es) is comes)
+comes_last words files loaded es s comes is = of (subst (Comes words files loaded es) is comes)
   where
-    of : IsHalvesEnd words files loaded es status.FarFault → FailedLast loaded es
-    of (IsHalvesEnd.of_source e) = fails_last e.source.program e.plan e.texts e.script e.manner.ticks loaded es status.FarFault e.ends refl
-    of (IsHalvesEnd.of_texts e) = fails_last e.source.program e.plan e.accepted.taken.texts e.script texts_manner.ticks loaded es status.FarFault e.ends refl
+    of : IsEnd words files loaded es status.FarFault → FailedLast loaded es
+    of (IsEnd.split e) = fails_last e.source.program e.plan e.texts e.script e.manner.ticks loaded es status.FarFault e.ends refl
+    of (IsEnd.made e) = fails_last e.source.program e.plan e.texts e.script budget loaded es status.FarFault e.ends refl
+    of (IsEnd.texts e) = fails_last e.source.program e.plan e.accepted.taken.texts e.script texts_manner.ticks loaded es status.FarFault e.ends refl

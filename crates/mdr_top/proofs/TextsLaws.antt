@@ -38,7 +38,7 @@ use Rattle.mdr_top.specs.Headline.{AreTold}
 use Rattle.mdr_top.specs.Outside.{Outside}
 use Rattle.mdr_top.specs.Splits.{IsOfRun}
 use Rattle.mdr_top.specs.Texts.{texts_read, TextsMeanBy, AreSplitFrom, split_words, PrintsAsSplit}
-use Rattle.mdr_top.specs.Words.{OfFiles, Inputs, Task, Cut, Run, RunTexts, cut_of, run_of, texts_of, texts_command, command_by, command_of, texts_manner}
+use Rattle.mdr_top.specs.Words.{OfFiles, Inputs, Task, Cut, Run, RunTexts, Generate, Verify, texts_of, texts_command, command_of, texts_manner}
 use Rattle.mdr_top.specs.Writing.{IsWritten}
 use Rattle.mdr_top.proofs.CutLaws.{unread_so}
 use Rattle.mdr_top.proofs.SplitLaws.{run_status}
@@ -53,11 +53,15 @@ texts_named words names script_name e f = e ∙ ap (λ (t : Option (TextNames ×
     texts_task None = None
     texts_task (Some t) = Some (RunTexts t.0 t.1)
 
-pub others_named : (words : List (List ℕ)) → None ≡ cut_of words → None ≡ run_of words → command_of words ≡ texts_command words
-others_named words e f = λ i. command_by (sym e i) (sym f i) (texts_command words)
-
 pub texts_no_run : (command : Option Task) (names : TextNames) (script_name : List ℕ) (inputs : Inputs) (in_way : Way) → command ≡ Some (RunTexts names script_name) → command ≡ Some (Run inputs in_way) → ⊥
 texts_no_run command names script_name inputs in_way e f = Prim.cc
+
+pub texts_unnamed : (words : List (List ℕ)) → command_of words ≡ texts_command words → None ≡ texts_of words → command_of words ≡ None
+texts_unnamed words e f = e ∙ ap (λ (t : Option (TextNames × List ℕ)). texts_task t) (sym f)
+  where
+    texts_task : Option (TextNames × List ℕ) → Option Task
+    texts_task None = None
+    texts_task (Some t) = Some (RunTexts t.0 t.1)
 
 -- ---- what is due
 
@@ -218,6 +222,8 @@ module _ (words : List (List ℕ)) (before after : Outside) (s : Status) (names 
   abbrev answered_for : Task → List ℕ → Type 0
   answered_for (Cut how name) text = Unit {0}
   answered_for (Run inputs in_way) text = Unit {0}
+  answered_for (Generate recipe) text = Unit {0}
+  answered_for (Verify name other transcript_name) text = Unit {0}
   answered_for (RunTexts names' script') text = TextsAnswered names' script' (Some f) after.sides.far.loaded after.sides.far.exchanges s text
 
   whole_as_split : (text : List ℕ) → IsWritten before.out after.out text → TextsAnswered names script_name (Some f) after.sides.far.loaded after.sides.far.exchanges s text → AsSplit
@@ -231,6 +237,8 @@ module _ (words : List (List ℕ)) (before after : Outside) (s : Status) (names 
   as_split (Prints.whole text (Answered.usage n is t) w) = absurd (not_some (command_of words) (RunTexts names script_name) e n)
   as_split (Prints.whole text (Answered.cut how name n c) w) = absurd (Prim.cc)
   as_split (Prints.whole text (Answered.ran inputs in_way n c) w) = absurd (texts_no_run (command_of words) names script_name inputs in_way e n)
+  as_split (Prints.whole text (Answered.made recipe n c) w) = absurd (Prim.cc)
+  as_split (Prints.whole text (Answered.verified name other transcript_name n c) w) = absurd (Prim.cc)
   as_split (Prints.whole text (Answered.texts names' script' e' a) w) =
       whole_as_split text w (subst (λ (t : Task). answered_for t text) (same_task names' script' e') (subst (λ (files : Files). TextsAnswered names' script' files after.sides.far.loaded after.sides.far.exchanges s text) told a))
   as_split (Prints.cut due text is a c) = inr (inl is)

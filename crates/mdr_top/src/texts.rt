@@ -31,7 +31,8 @@ fn texts_of(words: &[String]) -> Option<(TextFiles, &str)>
     ensures { option_map (λ x. (names_in x.0, x.1.now)) result ≡ texts_of (map string_bytes words.now) }
 {
     match words {
-        [run, mode, kernel, user, plan, script] if run.as_str() == "run" && mode.as_str() == "halves" => {
+        [run, mode, kernel, user, plan, script]
+            if run.as_str() == "run" && mode.as_str() == "halves" => {
             Some((
                 TextFiles {
                     kernel: kernel.as_str(),
