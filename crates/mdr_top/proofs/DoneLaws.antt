@@ -182,6 +182,7 @@ module _ (words : List (List ℕ)) (before after : Outside) (s : Status) where
   verify_means text name script_name transcript_name e v = record {
     never = verified_unrefused before.sides.shelf.files name script_name transcript_name before.sides.shelf.calls after.sides.shelf.calls s text v;
     means = λ source_name other_name manner named is. absurd (no_verify (command_of words) name script_name transcript_name (OfFiles source_name other_name) (way.Split manner) e named);
+  }
 
   -- from texts no reply is refused
   texts_mean : (text : List ℕ) (names : TextNames) (script_name : List ℕ) → command_of words ≡ Some (RunTexts names script_name) → HalvesRuns before.sides.shelf.files names script_name texts_manner before.sides.shelf.calls after.sides.shelf.calls before.sides.far after.sides.far s text → IsHonest after.sides.far.loaded after.sides.far.exchanges → MeansIt

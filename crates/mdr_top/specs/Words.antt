@@ -1,6 +1,6 @@
 -- believed
 -- The words that the program takes.
-use Rattle.std.specs.Prelude.{ℕ, false, not, ◌&&◌, List, [], ◌∷◌, codes, Option, Some, None, option_map}
+use Rattle.std.specs.Prelude.{ℕ, Bool, false, not, ◌&&◌, List, [], ◌∷◌, codes, Option, Some, None, option_map}
 use Rattle.std.specs.Str.{bytes_eq}
 use Rattle.mdr_core.specs.Layout.{chosen}
 use Rattle.mdr_generated.specs.declared.recipe.Recipe.{Recipe}
@@ -101,10 +101,13 @@ verify_of _ = None
 abbrev pub texts_manner : SplitManner
 texts_manner = record { ticks = budget_of None; wire = false }
 
+abbrev pub is_halves : (run' mode : List ℕ) → Bool
+is_halves run' mode = bytes_eq run' (codes "run") && bytes_eq mode (codes "halves")
+
 -- `run halves K U PLAN SCRIPT`
 abbrev pub texts_of : List (List ℕ) → Option (TextNames × List ℕ)
 texts_of (run' ∷ mode ∷ kernel ∷ user ∷ plan ∷ script ∷ []) =
-    when (bytes_eq run' (codes "run") && bytes_eq mode (codes "halves")) (record { kernel = kernel; user = user; plan = plan }, script)
+    when (is_halves run' mode) (record { kernel = kernel; user = user; plan = plan }, script)
 texts_of _ = None
 
 abbrev pub texts_command : List (List ℕ) → Option Task

@@ -6,7 +6,7 @@ ghost use Rattle.mdr_halves_runner.specs.Reads.{names_in};
 ghost use Rattle.mdr_outside.specs.Count.{Rose};
 ghost use Rattle.mdr_top.specs.Cuts.{ReadCause};
 ghost use Rattle.mdr_top.specs.Done.{DoneBy, PartBy};
-ghost use Rattle.mdr_top.specs.Words.{command_of, texts_command, texts_manner, texts_of};
+ghost use Rattle.mdr_top.specs.Words.{command_of, is_halves, texts_command, texts_manner, texts_of};
 
 use crate::lines::usage_line;
 use mdr_core::OutOfMemory;
@@ -26,13 +26,18 @@ fn texts_manner() -> SplitManner
     }
 }
 
+fn is_halves(run: &str, mode: &str) -> bool
+    ensures { result ≡ is_halves run.now mode.now }
+{
+    run == "run" && mode == "halves"
+}
+
 /// The names of the texts and of the script, where the words are `run halves K U PLAN SCRIPT`.
 fn texts_of(words: &[String]) -> Option<(TextFiles, &str)>
     ensures { option_map (λ x. (names_in x.0, x.1.now)) result ≡ texts_of (map string_bytes words.now) }
 {
     match words {
-        [run, mode, kernel, user, plan, script]
-            if run.as_str() == "run" && mode.as_str() == "halves" => {
+        [run, mode, kernel, user, plan, script] if is_halves(run.as_str(), mode.as_str()) => {
             Some((
                 TextFiles {
                     kernel: kernel.as_str(),
