@@ -9,6 +9,7 @@ ghost use Rattle.mdr_viewed.specs.Viewed.{viewed};
 ghost use Rattle.mdr_watched.specs.Driver.{touched_by};
 ghost use Rattle.mdr_watched.specs.Views.{new_cells};
 ghost use Rattle.mdr_watch.specs.Guarding.{IsGuarded};
+ghost use Rattle.mdr_watch.specs.Watching.{serves_in};
 
 use crate::guarded::{Guarded, forget};
 use crate::watch::{Upcall, touched};

@@ -8,7 +8,7 @@ ghost use Rattle.mdr_model.specs.Memory.{normal};
 ghost use Rattle.mdr_watch.specs.Guarding.{IsGuarded};
 ghost use Rattle.mdr_viewed.specs.Viewed.{viewed};
 ghost use Rattle.mdr_whole.specs.Ending.{gave_as};
-ghost use Rattle.mdr_watch.specs.Watching.{IsFit};
+ghost use Rattle.mdr_watch.specs.Watching.{IsFit, downcalls_in, returns_in};
 
 use crate::guarded::{Guarded, forget};
 use crate::roots::result_root;

@@ -11,7 +11,7 @@ ghost use Rattle.mdr_watched.specs.Order.{AreLive};
 ghost use Rattle.mdr_watched.specs.Watched.{closing, held, upcall as up};
 ghost use Rattle.mdr_watch.specs.Going.{IsStarted, user_does};
 ghost use Rattle.mdr_watch.specs.Leaving.{GaveFor};
-ghost use Rattle.mdr_watch.specs.Watching.{IsFit, driver_in};
+ghost use Rattle.mdr_watch.specs.Watching.{IsFit, begins_with, driver_in, entered_in};
 
 use crate::guarded::Guarded;
 use crate::next::Closed;
