@@ -1,4 +1,4 @@
--- believed
+-- protocol
 -- Two texts that are the halves of one tree, and three that are those of one source.
 use Rattle.std.specs.Prelude.{◌≡◌, ℕ, List, Ok}
 use Rattle.mdr_cut.specs.declared.texts.Texts.{Texts}

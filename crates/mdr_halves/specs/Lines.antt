@@ -1,4 +1,4 @@
--- believed
+-- protocol
 -- The line that tells of three texts that are refused.
 use Rattle.std.specs.Prelude.{ℕ, List, ◌++◌, codes, decimal}
 use Rattle.mdr_halves.specs.declared.mismatch.Mismatch.{Mismatch}

@@ -1,4 +1,4 @@
--- believed
+-- protocol
 -- The text of a half: its tree, or the line on which it stops to be one.
 use Rattle.std.specs.Prelude.{◌≡◌, ℕ, true, List, Option, Some, None, slice_get, Ok, Err}
 use Rattle.mdr_syntax.specs.declared.error.LexError.{LexError}

@@ -1,4 +1,4 @@
--- believed
+-- protocol
 -- What three texts come to that should be those of the two halves of a source and of its plan: the source, or the first of five things for which they are refused.
 use Rattle.std.specs.Prelude.{◌≡◌, ℕ, List, Result, Ok, Err}
 use Rattle.mdr_core.specs.declared.program.Program.{Program}

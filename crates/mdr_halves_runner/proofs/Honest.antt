@@ -21,7 +21,8 @@ use Rattle.mdr_split_runner.specs.SplitRuns.{IsShownRun, SplitRunsOver}
 use Rattle.mdr_split_runner.proofs.Meanings.{IsEarly, IsMeantSo, no_script_early, not_early, own_never, ran_means, same_report, unread_early}
 use Rattle.mdr_runner.specs.Scripts.{IsScriptOf}
 use Rattle.mdr_halves_runner.specs.Means.{HalvesMean, HalvesRunsMean}
-use Rattle.mdr_halves_runner.specs.Reads.{TextNames, NoTexts}
+use Rattle.mdr_halves_runner.specs.Names.{TextNames}
+use Rattle.mdr_halves_runner.specs.Reads.{NoTexts}
 use Rattle.mdr_halves_runner.specs.Runs.{HalvesRuns}
 use Rattle.mdr_halves_runner.specs.Sources.{HasHalves, IsSourceIn, NoSourceIn}
 

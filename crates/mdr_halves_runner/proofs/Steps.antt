@@ -13,7 +13,8 @@ use Rattle.mdr_outside.specs.Sides.{FarSide}
 use Rattle.mdr_source.specs.declared.outcome.Source.{Source}
 use Rattle.mdr_split_runner.specs.declared.manner.SplitManner.{SplitManner}
 use Rattle.mdr_split_runner.specs.SplitRuns.{SplitRunsOver, SplitRunsOverPart}
-use Rattle.mdr_halves_runner.specs.Reads.{TextNames, longest_text, AreRead, NoTexts, TextsPart}
+use Rattle.mdr_halves_runner.specs.Names.{TextNames}
+use Rattle.mdr_halves_runner.specs.Reads.{longest_text, AreRead, NoTexts, TextsPart}
 use Rattle.mdr_halves_runner.specs.Runs.{HalvesRuns, HalvesPart}
 use Rattle.mdr_halves_runner.specs.Sources.{HasHalves, NoHalves, IsSourceIn, NoSourceIn}
 

@@ -1,3 +1,4 @@
+pub mod Names
 pub mod Reads
 pub mod Sources
 pub mod Runs

@@ -1,4 +1,4 @@
--- believed
+-- protocol
 -- What a run from texts over an honest far side is reported as.
 use Rattle.std.specs.Prelude.{◌≡◌, ◌≢◌, ℕ, ◌⊎◌, List, Option, Some}
 use Rattle.mdr_core.specs.declared.plan.Plan.{Plan}
@@ -20,7 +20,7 @@ use Rattle.mdr_split_runner.specs.Cuts.{IsCutInto}
 use Rattle.mdr_split_runner.specs.declared.manner.SplitManner.{SplitManner}
 use Rattle.mdr_split_runner.specs.Means.{IsMeaning, while_watched}
 use Rattle.mdr_split_runner.specs.Messages.{with_messages}
-use Rattle.mdr_halves_runner.specs.Reads.{TextNames}
+use Rattle.mdr_halves_runner.specs.Names.{TextNames}
 use Rattle.mdr_halves_runner.specs.Runs.{HalvesRuns}
 use Rattle.mdr_halves_runner.specs.Sources.{IsSourceIn}
 

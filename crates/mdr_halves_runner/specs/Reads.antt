@@ -1,4 +1,4 @@
--- believed
+-- protocol
 -- The files of three texts, read one after the other.
 use Rattle.std.specs.Prelude.{ℕ, List}
 use Rattle.mdr_cut.specs.declared.texts.Texts.{Texts}
@@ -6,20 +6,11 @@ use Rattle.mdr_due.specs.declared.status.Status.{Status}
 use Rattle.mdr_due.specs.Reads.{Files, IsRead, WasRead, UnreadBy}
 use Rattle.mdr_outside.specs.Calls.{ShelfCall}
 use Rattle.mdr_outside.specs.declared.shelf.ReadAnswer.TheVariants as reads
-use Rattle.mdr_halves_runner.specs.declared.files.TextFiles.{TextFiles}
+use Rattle.mdr_halves_runner.specs.Names.{TextNames}
 
 -- a text of a half or of a plan has at most 64 MiB
 abbrev pub longest_text : ℕ
 longest_text = 67108864
-
--- the names of the files of a kernel half's text, of a user half's and of a plan's
-pub record TextNames : Type 0 where
-  pub kernel : List ℕ
-  pub user : List ℕ
-  pub plan : List ℕ
-
-abbrev pub names_in : TextFiles → TextNames
-names_in files = record { kernel = files.kernel.now; user = files.user.now; plan = files.plan.now }
 
 module _ (files : Files) (names : TextNames) (old new : List ShelfCall) where
   -- these very reads gave the texts

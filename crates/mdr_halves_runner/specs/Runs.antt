@@ -1,4 +1,4 @@
--- believed
+-- protocol
 -- What running a script over two halves does, from their texts, to the shelf and to the far side, and what is due for it.
 use Rattle.std.specs.Prelude.{◌≡◌, ℕ, List}
 use Rattle.mdr_due.specs.declared.due.Due.{Due}
@@ -10,7 +10,8 @@ use Rattle.mdr_source.specs.declared.outcome.Source.{Source}
 use Rattle.mdr_split_runner.specs.declared.manner.SplitManner.{SplitManner}
 use Rattle.mdr_split_runner.specs.Sides.{Change}
 use Rattle.mdr_split_runner.specs.SplitRuns.{SplitRunsOver, SplitRunsOverPart}
-use Rattle.mdr_halves_runner.specs.Reads.{TextNames, TextsPart}
+use Rattle.mdr_halves_runner.specs.Names.{TextNames}
+use Rattle.mdr_halves_runner.specs.Reads.{TextsPart}
 use Rattle.mdr_halves_runner.specs.Sources.{IsSourceIn, NoSourceIn}
 
 module _ (files : Files) (names : TextNames) (script_name : List ℕ) where

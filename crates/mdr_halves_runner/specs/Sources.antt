@@ -1,4 +1,4 @@
--- believed
+-- protocol
 -- The source whose halves and plan have the texts in three files.
 use Rattle.std.specs.Prelude.{◌≡◌, ℕ, List, Err}
 use Rattle.mdr_core.specs.Sound.{IsSound}
@@ -12,7 +12,8 @@ use Rattle.mdr_halves.specs.Lines.{mismatch_line}
 use Rattle.mdr_halves.specs.Whole.{Come}
 use Rattle.mdr_outside.specs.Calls.{ShelfCall}
 use Rattle.mdr_source.specs.declared.outcome.Source.{Source}
-use Rattle.mdr_halves_runner.specs.Reads.{TextNames, AreRead, NoTexts}
+use Rattle.mdr_halves_runner.specs.Names.{TextNames}
+use Rattle.mdr_halves_runner.specs.Reads.{AreRead, NoTexts}
 
 -- texts that are those of a source, whose program is sound
 pub record HasHalves (texts : Texts) (source : Source) : Type 0 where

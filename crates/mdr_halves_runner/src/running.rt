@@ -4,7 +4,7 @@ ghost use Rattle.std.specs.Prelude.{◌≡◌, IfOk, OnErr};
 ghost use Rattle.mdr_due.specs.declared.status.Status.TheVariants as status;
 ghost use Rattle.mdr_outside.specs.Count.{Rose};
 ghost use Rattle.mdr_split_runner.specs.Gives.{ReadCauseBy};
-ghost use Rattle.mdr_halves_runner.specs.Reads.{names_in};
+ghost use Rattle.mdr_halves_runner.specs.Names.{names_in};
 ghost use Rattle.mdr_halves_runner.specs.Runs.{HalvesRunsBy, HalvesPartBy};
 
 use crate::files::TextFiles;

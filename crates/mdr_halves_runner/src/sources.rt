@@ -2,7 +2,8 @@
 
 ghost use Rattle.std.specs.Prelude.{◌≡◌, ◌≤◌, IfOk, OnErr};
 ghost use Rattle.mdr_due.specs.Stages.{StageIs, HasStageCause};
-ghost use Rattle.mdr_halves_runner.specs.Reads.{names_in, TextsPart};
+ghost use Rattle.mdr_halves_runner.specs.Names.{names_in};
+ghost use Rattle.mdr_halves_runner.specs.Reads.{TextsPart};
 ghost use Rattle.mdr_halves_runner.specs.Sources.{HasHalves, NoHalves, IsSourceIn, NoSourceIn};
 
 use crate::files::TextFiles;

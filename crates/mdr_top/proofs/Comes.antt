@@ -32,7 +32,8 @@ use Rattle.mdr_split_runner.specs.Reports.{Ran}
 use Rattle.mdr_cut.specs.declared.texts.Texts.{Texts}
 use Rattle.mdr_cut.proofs.Determined.{texts_are_determined}
 use Rattle.mdr_halves.proofs.Refusing.{refused_are_none}
-use Rattle.mdr_halves_runner.specs.Reads.{TextNames, longest_text}
+use Rattle.mdr_halves_runner.specs.Names.{TextNames}
+use Rattle.mdr_halves_runner.specs.Reads.{longest_text}
 use Rattle.mdr_top.specs.Cuts.{IsSplit, IsCut}
 use Rattle.mdr_top.specs.declared.words.Cutting.{Cutting}
 use Rattle.mdr_top.specs.declared.words.Cutting.TheVariants as cutting

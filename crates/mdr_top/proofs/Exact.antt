@@ -35,7 +35,8 @@ use Rattle.mdr_verifier.specs.Verifies.{longest_transcript}
 use Rattle.mdr_top.proofs.SplitLaws.{end_status, run_status}
 use Rattle.mdr_cut.specs.declared.texts.Texts.{Texts}
 use Rattle.mdr_halves.proofs.Refusing.{refused_are_none}
-use Rattle.mdr_halves_runner.specs.Reads.{TextNames, longest_text}
+use Rattle.mdr_halves_runner.specs.Names.{TextNames}
+use Rattle.mdr_halves_runner.specs.Reads.{longest_text}
 
 module _ (words : List (List ℕ)) (f : List ℕ → Option (List ℕ)) (loaded : Option Loaded) (es : List Exchange) (s : Status) (text : List ℕ) where
   -- a source that isn't taken, or whose file couldn't be read

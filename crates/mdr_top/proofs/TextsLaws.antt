@@ -12,7 +12,8 @@ use Rattle.mdr_halves.specs.Joins.{AreTextsOf}
 use Rattle.mdr_halves.proofs.Placing.{texts_moved}
 use Rattle.mdr_halves.proofs.Refusing.{refused_are_none, texts_of_one}
 use Rattle.mdr_halves_runner.specs.Means.{HalvesMean, HalvesMeanBy}
-use Rattle.mdr_halves_runner.specs.Reads.{TextNames, AreRead, NoTexts, longest_text}
+use Rattle.mdr_halves_runner.specs.Names.{TextNames}
+use Rattle.mdr_halves_runner.specs.Reads.{AreRead, NoTexts, longest_text}
 use Rattle.mdr_halves_runner.specs.Runs.{HalvesRuns}
 use Rattle.mdr_halves_runner.specs.Sources.{HasHalves, IsSourceIn, NoSourceIn, NoHalves}
 use Rattle.mdr_halves_runner.proofs.Honest.{halves_mean}
@@ -29,7 +30,6 @@ use Rattle.mdr_source.specs.declared.outcome.Source.{Source}
 use Rattle.mdr_split_runner.specs.Cuts.{IsCutInto}
 use Rattle.mdr_split_runner.specs.Reports.{Ran}
 use Rattle.mdr_split_runner.specs.SplitRuns.{SplitRunsOver}
-use Rattle.mdr_top.specs.Accepted.{AreTextsAccepted}
 use Rattle.mdr_top.specs.Answers.{Unread, HoldTexts, IsTaken, AreTaken, Untaken, UntakenTexts, ScriptAnswered, SplitDue, TextsAnswered, Answered, Prints}
 use Rattle.mdr_top.specs.declared.words.Way.{Way}
 use Rattle.mdr_top.specs.declared.words.Way.TheVariants as way

@@ -11,9 +11,7 @@ use Rattle.mdr_source.specs.declared.outcome.Source.{Source}
 use Rattle.mdr_source.specs.Sources.{Comes}
 use Rattle.mdr_split_runner.specs.declared.manner.SplitManner.{SplitManner}
 use Rattle.mdr_top.specs.declared.words.Way.TheVariants as way
-use Rattle.mdr_halves_runner.specs.Reads.{TextNames}
-use Rattle.mdr_top.specs.Answers.{AreTaken}
-use Rattle.mdr_top.specs.Words.{Task, Run, RunTexts, OfFiles, command_of}
+use Rattle.mdr_top.specs.Words.{Task, Run, OfFiles, command_of}
 
 -- a run on one memory in this manner, by the names of its source and its script
 abbrev pub on_one_memory : Manner → (source_name script_name : List ℕ) → Task
@@ -31,16 +29,6 @@ pub record AreAccepted (words : List (List ℕ)) (files : Files) (task : (source
   pub bytes : List ℕ
   pub source_read : ReadsFrom files source_name longest_source (reads.Ok bytes)
   pub compiled : Comes bytes (Ok source)
-  pub lines : List ℕ
-  pub script_read : ReadsFrom files script_name longest_script (reads.Ok lines)
-  pub bound : HasScript source.program lines script
-
--- the words come to three texts and a script; all are read, and are those of a source and a script for its program
-pub record AreTextsAccepted (words : List (List ℕ)) (files : Files) (source : Source) (script : Bound) : Type 0 where
-  pub names : TextNames
-  pub script_name : List ℕ
-  pub command : command_of words ≡ Some (RunTexts names script_name)
-  pub taken : AreTaken files names source
   pub lines : List ℕ
   pub script_read : ReadsFrom files script_name longest_script (reads.Ok lines)
   pub bound : HasScript source.program lines script

@@ -10,7 +10,8 @@ use Rattle.mdr_due.specs.Reads.{Files, longest_source, longest_script}
 use Rattle.mdr_gen.specs.Generator.{driver_text, lines_from}
 use Rattle.mdr_generated.specs.declared.recipe.Recipe.{Recipe}
 use Rattle.mdr_generated.specs.Generated.{budget, IsTold}
-use Rattle.mdr_halves_runner.specs.Reads.{TextNames, longest_text}
+use Rattle.mdr_halves_runner.specs.Names.{TextNames}
+use Rattle.mdr_halves_runner.specs.Reads.{longest_text}
 use Rattle.mdr_halves_runner.specs.Sources.{HasHalves, NoHalves}
 use Rattle.mdr_outside.specs.declared.far.Exchange.{Exchange}
 use Rattle.mdr_outside.specs.declared.far.Loaded.{Loaded}

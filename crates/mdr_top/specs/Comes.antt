@@ -25,7 +25,8 @@ use Rattle.mdr_slicer.specs.Slicing.{HasSource}
 use Rattle.mdr_halves.specs.declared.mismatch.Mismatch.{Mismatch}
 use Rattle.mdr_halves.specs.Joins.{AreTextsOf}
 use Rattle.mdr_halves.specs.Whole.{Come}
-use Rattle.mdr_halves_runner.specs.Reads.{TextNames, longest_text}
+use Rattle.mdr_halves_runner.specs.Names.{TextNames}
+use Rattle.mdr_halves_runner.specs.Reads.{longest_text}
 use Rattle.mdr_source.specs.declared.outcome.Source.{Source}
 use Rattle.mdr_source.specs.declared.refusal.Refusal.{Refusal}
 use Rattle.mdr_source.specs.Sources.{Comes as ComesTo}
@@ -35,7 +36,7 @@ use Rattle.mdr_split_runner.specs.Ends.{EndsWith as SplitEndsWith}
 use Rattle.mdr_verifier.specs.Laws.{IsExactly}
 use Rattle.mdr_verifier.specs.Runs.{IsHonestRun}
 use Rattle.mdr_verifier.specs.Verifies.{longest_transcript}
-use Rattle.mdr_top.specs.Accepted.{AreAccepted, on_one_memory, over_two_halves, AreTextsAccepted}
+use Rattle.mdr_top.specs.Accepted.{AreAccepted, on_one_memory, over_two_halves}
 use Rattle.mdr_top.specs.Answers.{HoldTexts, AreTaken}
 use Rattle.mdr_top.specs.declared.words.Cutting.{Cutting}
 use Rattle.mdr_top.specs.declared.words.Way.{Way}
@@ -43,6 +44,7 @@ use Rattle.mdr_top.specs.declared.words.Way.TheVariants as way
 use Rattle.mdr_top.specs.Headline.{Rests, RestsHere}
 use Rattle.mdr_top.specs.Outside.{Outside}
 use Rattle.mdr_top.specs.Splits.{IsOfRun}
+use Rattle.mdr_top.specs.Texts.{AreTextsAccepted}
 use Rattle.mdr_top.specs.Words.{Inputs, OfFiles, Task, Cut, Run, Generate, Verify, command_of, RunTexts, texts_manner}
 
 -- ---- what the words name

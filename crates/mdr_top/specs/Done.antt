@@ -6,7 +6,7 @@ use Rattle.mdr_due.specs.declared.status.Status.{Status}
 use Rattle.mdr_due.specs.declared.status.Status.TheVariants as status
 use Rattle.mdr_generated.specs.declared.recipe.Recipe.{Recipe}
 use Rattle.mdr_generated.specs.Generates.{IsGenerated, IsGeneratedPart}
-use Rattle.mdr_halves_runner.specs.Reads.{TextNames}
+use Rattle.mdr_halves_runner.specs.Names.{TextNames}
 use Rattle.mdr_halves_runner.specs.Runs.{HalvesRuns, HalvesPart}
 use Rattle.mdr_runner.specs.declared.manner.Manner.{Manner}
 use Rattle.mdr_runner.specs.Runs.{Runs, RunsPart}

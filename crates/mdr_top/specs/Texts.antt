@@ -1,4 +1,4 @@
--- believed
+-- protocol
 -- What is printed of a run from texts: over an honest far side, and what it has in common with the run over a source that was cut into them.
 use Rattle.std.specs.Prelude.{◌≡◌, ℕ, ◌⊎◌, List, [], ◌∷◌, codes, Some}
 use Rattle.mdr_core.specs.declared.plan.Plan.{Plan}
@@ -8,7 +8,8 @@ use Rattle.mdr_cut.specs.Cuts.{AreTexts}
 use Rattle.mdr_due.specs.declared.status.Status.{Status}
 use Rattle.mdr_due.specs.declared.status.Status.TheVariants as status
 use Rattle.mdr_due.specs.Reads.{Files, longest_script, longest_source}
-use Rattle.mdr_halves_runner.specs.Reads.{TextNames, longest_text}
+use Rattle.mdr_halves_runner.specs.Names.{TextNames}
+use Rattle.mdr_halves_runner.specs.Reads.{longest_text}
 use Rattle.mdr_honest.specs.Honest.{IsHonest}
 use Rattle.mdr_outside.specs.Calls.{ShelfCall, Read, and_then}
 use Rattle.mdr_outside.specs.declared.far.LoadAnswer.TheVariants as loads
@@ -16,16 +17,26 @@ use Rattle.mdr_outside.specs.declared.shelf.ReadAnswer.TheVariants as reads
 use Rattle.mdr_outside.specs.Far.{loaded_with}
 use Rattle.mdr_outside.specs.Shelf.{ReadsFrom}
 use Rattle.mdr_runner.specs.Runs.{IsRun}
+use Rattle.mdr_runner.specs.Scripts.{HasScript}
 use Rattle.mdr_slicer.specs.Slicing.{HasSource}
 use Rattle.mdr_source.specs.declared.outcome.Source.{Source}
 use Rattle.mdr_split_runner.specs.Cuts.{IsCutInto}
 use Rattle.mdr_split_runner.specs.Means.{IsMeaning, while_watched}
-use Rattle.mdr_top.specs.Accepted.{AreTextsAccepted}
-use Rattle.mdr_top.specs.Answers.{HoldTexts, Prints}
+use Rattle.mdr_top.specs.Answers.{HoldTexts, AreTaken, Prints}
 use Rattle.mdr_top.specs.Headline.{AreTold}
 use Rattle.mdr_top.specs.Outside.{Outside}
 use Rattle.mdr_top.specs.Words.{RunTexts, command_of, texts_manner}
 use Rattle.mdr_top.specs.Writing.{IsWritten}
+
+-- the words come to three texts and a script; all are read, and are those of a source and a script for its program
+pub record AreTextsAccepted (words : List (List ℕ)) (files : Files) (source : Source) (script : Bound) : Type 0 where
+  pub names : TextNames
+  pub script_name : List ℕ
+  pub command : command_of words ≡ Some (RunTexts names script_name)
+  pub taken : AreTaken files names source
+  pub lines : List ℕ
+  pub script_read : ReadsFrom files script_name longest_script (reads.Ok lines)
+  pub bound : HasScript source.program lines script
 
 -- ---- over an honest far side
 

@@ -5,7 +5,7 @@ use Rattle.std.specs.Str.{bytes_eq}
 use Rattle.mdr_core.specs.Layout.{chosen}
 use Rattle.mdr_generated.specs.declared.recipe.Recipe.{Recipe}
 use Rattle.mdr_top.specs.Budgets.{when, budget_of, seed_of, size_of}
-use Rattle.mdr_halves_runner.specs.Reads.{TextNames}
+use Rattle.mdr_halves_runner.specs.Names.{TextNames}
 use Rattle.mdr_split_runner.specs.declared.manner.SplitManner.{SplitManner}
 use Rattle.mdr_top.specs.declared.flags.Flags.{Flags}
 use Rattle.mdr_top.specs.declared.words.Cutting.{Cutting}

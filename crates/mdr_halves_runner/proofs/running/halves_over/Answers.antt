@@ -2,7 +2,7 @@ use Rattle.std.proofs.Common.{refl}
 use Rattle.std.proofs.lemmas.Result.{IfOk-weaker}
 use Rattle.mdr_due.proofs.StageSteps.{err_weaker}
 use Rattle.mdr_slicer.proofs.Steps.{ended, gone}
-use Rattle.mdr_halves_runner.specs.Reads.{names_in}
+use Rattle.mdr_halves_runner.specs.Names.{names_in}
 use Rattle.mdr_halves_runner.specs.Runs.HalvesRuns.{no_source}
 use Rattle.mdr_halves_runner.proofs.Steps.{runs_part, runs_so}
 use Rattle.mdr_halves_runner.proofs.running.halves_over.Goals as goal
