@@ -163,7 +163,7 @@ STOPS = {
 }
 
 STATUSES = {
-    0: 'The script ended by itself, or the source was cut or reported on.',
+    0: 'The script ended by itself, or the source was cut or reported on, or the transcript is that of its run.',
     1: 'The words are no command. ./microdriver --help lists those that there are.',
     2: 'The source is refused: "source refused LINE:COLUMN KIND" says where and why.',
     3: 'The script is refused: "script refused LINE KIND" says where and why.',
@@ -174,9 +174,9 @@ STATUSES = {
     8: 'The driver stopped: "stop KIND at FUNCTION STATEMENT" says where and why.',
     9: 'Memory was wanting, and nothing was printed. A driver that allocates and never frees, or a very large budget, takes that much.',
     10: 'A file isn\'t there.',
-    11: 'A file is too large: a source has at most 1 MiB, a script 256 KiB.',
+    11: 'A file is too large: a source has at most 1 MiB, a script 256 KiB, a transcript 64 MiB.',
     12: 'Three texts aren\'t those that one source is cut into. (The command that tells this isn\'t built yet.)',
-    13: 'A transcript isn\'t that of its run. (The command that tells this isn\'t built yet.)',
+    13: 'The transcript isn\'t what run split FILE SCRIPT --wire prints: "differs .." says from which line, message or answer on.',
     14: 'The words couldn\'t be had from the system (one isn\'t UTF-8), or the program couldn\'t be built.',
 }
 

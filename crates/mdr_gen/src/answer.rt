@@ -11,12 +11,12 @@ use std::alloc::{AllocError, Global};
 #[derive(Clone, Copy)]
 pub struct Counts {
     pub ticks: u64,
-    pub messages: u64,
+    pub messages: u128,
     pub live: u64,
 }
 
 /// A line of a word and a number.
-fn put_count(alloc: Global, out: &mut Vec<u8>, word: &str, n: u64) -> Result<(), AllocError>
+fn put_count(alloc: Global, out: &mut Vec<u8>, word: &str, n: u128) -> Result<(), AllocError>
     ensures { OnOk result (out.new.items ≡ out.old.items ++ count_line word.now n) }
 {
     put_word(out, word)?;
@@ -25,28 +25,28 @@ fn put_count(alloc: Global, out: &mut Vec<u8>, word: &str, n: u64) -> Result<(),
 }
 
 #[tactic(auto, unfolding(crate::specs::Answer::seed_line))]
-fn put_seed(alloc: Global, out: &mut Vec<u8>, seed: u64, size: u32) -> Result<(), AllocError>
+fn put_seed(alloc: Global, out: &mut Vec<u8>, seed: u64, size: u64) -> Result<(), AllocError>
     ensures { OnOk result (out.new.items ≡ out.old.items ++ seed_line seed size) }
 {
     put_word(out, "gen ")?;
-    put_number(alloc, out, seed)?;
-    put_count(alloc, out, " ", u64::from(size))
+    put_number(alloc, out, u128::from(seed))?;
+    put_count(alloc, out, " ", u128::from(size))
 }
 
 #[tactic(auto, unfolding(crate::specs::Answer::count_lines))]
 fn put_counts(alloc: Global, out: &mut Vec<u8>, counts: Counts) -> Result<(), AllocError>
     ensures { OnOk result (out.new.items ≡ out.old.items ++ count_lines counts) }
 {
-    put_count(alloc, out, "ticks ", counts.ticks)?;
+    put_count(alloc, out, "ticks ", u128::from(counts.ticks))?;
     put_count(alloc, out, "messages ", counts.messages)?;
-    put_count(alloc, out, "live ", counts.live)
+    put_count(alloc, out, "live ", u128::from(counts.live))
 }
 
 /// The seed and the number of lines, and a line for each count.
 pub fn answer_text(
     alloc: Global,
     seed: u64,
-    size: u32,
+    size: u64,
     counts: Counts,
 ) -> Result<Vec<u8>, OutOfMemory>
     ensures { IfOk result (λ text. text.items ≡ answer_text seed size counts) }

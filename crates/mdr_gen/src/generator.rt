@@ -9,7 +9,7 @@ use mdr_core::OutOfMemory;
 use std::alloc::Global;
 
 /// The text of a driver, and that of a script of `size` calls of its functions, which the seed chooses.
-pub fn generate(alloc: Global, seed: u64, size: u32) -> Result<(Vec<u8>, Vec<u8>), OutOfMemory>
+pub fn generate(alloc: Global, seed: u64, size: u64) -> Result<(Vec<u8>, Vec<u8>), OutOfMemory>
     ensures driver { IfOk result (λ texts. texts.0.items ≡ driver_text) }
     ensures script { IfOk result (λ texts. texts.1.items ≡ lines_from seed size) }
 {

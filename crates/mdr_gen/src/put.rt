@@ -12,7 +12,7 @@ pub fn put_word(out: &mut Vec<u8>, word: &str) -> Result<(), AllocError>
 }
 
 /// A number in decimal digits.
-pub fn put_number(alloc: Global, out: &mut Vec<u8>, n: u64) -> Result<(), AllocError>
+pub fn put_number(alloc: Global, out: &mut Vec<u8>, n: u128) -> Result<(), AllocError>
     ensures { OnOk result (out.new.items ≡ out.old.items ++ decimal n) }
 {
     let digits = n.to_string(alloc)?;

@@ -18,7 +18,7 @@ fn put_add(alloc: Global, out: &mut Vec<u8>, value: u64) -> Result<(), AllocErro
     ensures { OnOk result (out.new.items ≡ out.old.items ++ (codes "call add " ++ (decimal value ++ codes "\n"))) }
 {
     put_word(out, "call add ")?;
-    put_number(alloc, out, value)?;
+    put_number(alloc, out, u128::from(value))?;
     put_word(out, "\n")
 }
 
@@ -43,7 +43,7 @@ fn put_line(alloc: Global, out: &mut Vec<u8>, x: u64) -> Result<(), AllocError>
     put_by(alloc, out, x / (1 << 33) % 4, x / (1 << 40) % 1000)
 }
 
-fn put_lines(alloc: Global, out: &mut Vec<u8>, seed: u64, size: u32) -> Result<(), AllocError>
+fn put_lines(alloc: Global, out: &mut Vec<u8>, seed: u64, size: u64) -> Result<(), AllocError>
     ensures { OnOk result (out.new.items ≡ out.old.items ++ lines_from seed size) }
 {
     let mut x = seed;
@@ -57,7 +57,7 @@ fn put_lines(alloc: Global, out: &mut Vec<u8>, seed: u64, size: u32) -> Result<(
 }
 
 /// So many lines, of the numbers behind the seed.
-pub fn script_text(alloc: Global, seed: u64, size: u32) -> Result<Vec<u8>, AllocError>
+pub fn script_text(alloc: Global, seed: u64, size: u64) -> Result<Vec<u8>, AllocError>
     ensures { IfOk result (λ text. text.items ≡ lines_from seed size) }
 {
     let mut out = Vec::new(alloc);

@@ -14,7 +14,7 @@ void walk(void) { struct node *p; u32 s; s = 0; p = head; while (p) { s += p->v;
 void drop(void) { struct node *p; p = head; if (!p) { return; } head = p->next; kfree(p); count -= 1; }
 ";
 
-const SCRIPTS: &[(u64, u32, &str)] = &[
+const SCRIPTS: &[(u64, u64, &str)] = &[
     (1, 0, ""),
     (1, 1, "call walk\n"),
     (1, 3, "call walk\ncall add 438\ncall add 665\n"),
@@ -39,7 +39,7 @@ fn are(texts: &(Vec<u8>, Vec<u8>), script: &str) -> bool {
     texts.0.as_slice() == DRIVER.as_bytes() && texts.1.as_slice() == script.as_bytes()
 }
 
-fn makes(alloc: Global, row: &(u64, u32, &str)) -> Result<bool, OutOfMemory> {
+fn makes(alloc: Global, row: &(u64, u64, &str)) -> Result<bool, OutOfMemory> {
     let texts = generate(alloc, row.0, row.1)?;
     let same = are(&texts, row.2);
     drop(texts);

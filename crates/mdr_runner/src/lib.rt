@@ -14,4 +14,4 @@ pub use ending::status_of;
 pub use laws::outcome_is_determined;
 pub use manner::Manner;
 pub use running::whole;
-pub use scripts::script_of;
+pub use scripts::{judged, script_of};

@@ -39,8 +39,8 @@ fn refused(alloc: Global, line: u32, kind: ScriptKind) -> Result<Due, OutOfMemor
     })
 }
 
-/// The script of a text, or what is due where it is refused.
-fn judged(alloc: Global, program: &Program, bytes: &[u8]) -> Result<Stage<Bound>, OutOfMemory>
+/// The script that a text is for a program, or what is due where it is refused.
+pub fn judged(alloc: Global, program: &Program, bytes: &[u8]) -> Result<Stage<Bound>, OutOfMemory>
     ensures { IfOk result (StageIs (HasScript program.now bytes.now) (NoScript program.now bytes.now)) }
 {
     match script_for(alloc, program, bytes) {
@@ -64,6 +64,9 @@ pub fn script_of<S: Shelf>(
     ensures part { OnErr result (WasRead (S.files shelf.old) name.now longest_script (S.calls shelf.old) (S.calls shelf.new)) }
     ensures kept { S.files shelf.new ≡ S.files shelf.old }
     ensures cause { IfOk result (HasStageCause (record { faults = S.faults shelf.old; absent = S.absent shelf.old; long = S.long shelf.old }) (record { faults = S.faults shelf.new; absent = S.absent shelf.new; long = S.long shelf.new })) }
+    ensures faults_later { S.faults shelf.old ≤ S.faults shelf.new }
+    ensures absent_later { S.absent shelf.old ≤ S.absent shelf.new }
+    ensures long_later { S.long shelf.old ≤ S.long shelf.new }
     ensures unwritten_same { S.unwritten shelf.new ≡ S.unwritten shelf.old }
 {
     let bytes = match file(alloc, shelf, name, LONGEST_SCRIPT) {

@@ -9,4 +9,4 @@ mod writing;
 
 pub use cutting::split;
 pub use reporting::report;
-pub use sources::source_of;
+pub use sources::{compiled, source_of};

@@ -15,7 +15,7 @@ use std::alloc::Global;
 const LONGEST_SOURCE: u64 = 1_048_576;
 
 /// The tree and the program of a source's bytes, or what is due where it is refused.
-fn compiled(alloc: Global, bytes: &[u8]) -> Result<Stage<Source>, OutOfMemory>
+pub fn compiled(alloc: Global, bytes: &[u8]) -> Result<Stage<Source>, OutOfMemory>
     ensures { IfOk result (StageIs (HasSource bytes.now) (NoSource bytes.now)) }
 {
     match source(alloc, bytes)? {

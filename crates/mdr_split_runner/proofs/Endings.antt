@@ -16,14 +16,15 @@ use Rattle.mdr_outside.specs.declared.far.LoadAnswer.TheVariants as loads
 use Rattle.mdr_outside.specs.declared.far.Loaded.{Loaded}
 use Rattle.mdr_plain.specs.declared.outcome.Outcome.{Outcome}
 use Rattle.mdr_plain.specs.Outcome.{outcome_of}
+use Rattle.mdr_plain.specs.Report.{report}
 use Rattle.mdr_plain.specs.Scripts.{Finish, finish}
 use Rattle.mdr_runner.specs.Runs.{status_of}
 use Rattle.mdr_bound.specs.declared.bound.Bound.{Bound}
 use Rattle.mdr_split.specs.AnyAnswers.{kernel_in}
 use Rattle.mdr_split.specs.State.{Over, Pending, Waits}
-use Rattle.mdr_split_runner.proofs.Steps.{nothing_end}
+use Rattle.mdr_split_runner.proofs.Steps.{nothing_end, report_so}
 use Rattle.mdr_split_runner.specs.Ends.{Ends, EndsWith, FailedLast, IsDueToFar, SplitRunsEnd}
-use Rattle.mdr_split_runner.specs.Reports.{Ran}
+use Rattle.mdr_split_runner.specs.Reports.{Ran, RanTo}
 use Rattle.mdr_watched.specs.Driver.{Driver, driver_of}
 
 finish_is : (p : Pending) → finish_of p ≡ finish (finish_of p).end (kernel_in p).world
@@ -49,6 +50,11 @@ split_runs_end program plan texts script ticks loaded es s text (Ran.refused cau
     record { end = ends.Refused 0 refusal.Load 0; ends = Ends.refused cause is refl; status_is = r.status_is ∙ ap status_of (nothing_end program script ticks (ends.Refused 0 refusal.Load 0)) }
 split_runs_end program plan texts script ticks loaded es s text (Ran.failed is r) =
     record { end = ends.FarFault 0; ends = Ends.failed is refl; status_is = r.status_is ∙ ap status_of (nothing_end program script ticks (ends.FarFault 0)) }
+
+-- so it is of what a run shows, with the status of its end
+pub outcome_ends : (program : Program) (plan : Plan) (texts : Texts) (script : Bound) (ticks : ℕ) (loaded : Option Loaded) (es : List Exchange) (o : Outcome) (s : Status) → RanTo program plan texts script ticks loaded es o → s ≡ status_of o.end
+    → EndsWith program plan texts script ticks loaded es s
+outcome_ends program plan texts script ticks loaded es o s ran is = split_runs_end program plan texts script ticks loaded es s (report program o) (report_so program plan texts script ticks loaded es o s (report program o) ran (record { status_is = is; text_is = refl }))
 
 -- ---- the far side's fault
 

@@ -40,16 +40,16 @@ use Rattle.mdr_split_runner.proofs.Steps.{nothing_end}
 use Rattle.mdr_split_runner.specs.Cuts.{IsCutInto}
 use Rattle.mdr_split_runner.specs.declared.manner.SplitManner.{SplitManner}
 use Rattle.mdr_split_runner.specs.Means.{IsMeaning, SplitMeans, SplitRunsMean, meant, while_watched}
-use Rattle.mdr_split_runner.specs.Reports.{Began, Ran, Reported}
+use Rattle.mdr_split_runner.specs.Reports.{Began, Ran, RanTo, Reported}
 use Rattle.mdr_split_runner.specs.SplitRuns.{SplitRuns}
 use Rattle.mdr_watched.specs.Watched.{watched}
 
 -- ---- a source and its texts
 
-is_cut : (bytes : List ℕ) (source : Source) (plan : Plan) (texts : Texts) → HasSource bytes source → IsCutInto source plan texts → IsCut bytes source plan
+pub is_cut : (bytes : List ℕ) (source : Source) (plan : Plan) (texts : Texts) → HasSource bytes source → IsCutInto source plan texts → IsCut bytes source plan
 is_cut bytes source plan texts h c = record { source_is = come_source bytes source h.comes; plan_is = c.plan_is; short = c.short }
 
-has_texts : (source : Source) (plan : Plan) (texts : Texts) (answer : LoadAnswer) → IsCutInto source plan texts → HasTexts source plan (loaded_with texts.user texts.plan answer)
+pub has_texts : (source : Source) (plan : Plan) (texts : Texts) (answer : LoadAnswer) → IsCutInto source plan texts → HasTexts source plan (loaded_with texts.user texts.plan answer)
 has_texts source plan texts answer c =
     let same : c.are_texts.plan ≡ plan = plan_is_determined source.program c.are_texts.plan plan c.are_texts.is_plan c.plan_is in
     record {
@@ -74,7 +74,7 @@ fails (ends.Stop kind at) h = absurd h
 fails (ends.Refused exchange cause number) h = absurd h
 fails (ends.FarFault exchange) h = refl
 
-own_never : (end : End) → IsOwn end → status_of end ≡ status.Marshal → ⊥
+pub own_never : (end : End) → IsOwn end → status_of end ≡ status.Marshal → ⊥
 own_never ends.Ok own e = Prim.cc
 own_never (ends.Stop kind at) own e = Prim.cc
 own_never (ends.Refused exchange cause number) own e = own
@@ -93,6 +93,13 @@ module _ (law : RunIsMeaning) (taken : TextsOfSourcesAreTaken) (bytes lines : Li
       taken bytes source plan answer (is_cut bytes source plan texts h c)
       (subst (λ (u : List ℕ). IsHonestLoad u (plan_text source.program plan) answer) t.user_is
       (subst (λ (p : List ℕ). IsHonestLoad texts.user p answer) t.plan_is since.load))
+
+  -- what a run shows is what is meant, or the far side failed
+  pub outcome_means : (loaded : Option Loaded) (o : Outcome) → IsHonest loaded es → RanTo source.program plan texts script ticks loaded es o → IsFarFault o.end ⊎ IsMeant source.program plan script ticks es o
+  outcome_means loaded o honest (RanTo.began is run) =
+      law bytes lines source plan script ticks (held_with loads.Ok) es o (is_cut bytes source plan texts h c) (is_script source.program lines script b) (has_texts source plan texts loads.Ok c) (subst (λ (l : Option Loaded). IsHonest l es) is honest) run
+  outcome_means loaded o honest (RanTo.refused cause is same) = absurd (texts_taken (loads.Refused cause) (subst (λ (l : Option Loaded). IsHonest l es) is honest))
+  outcome_means loaded o honest (RanTo.failed is same) = inl (subst IsFarFault (sym (ap (λ (x : Outcome). x.end) same ∙ nothing_end source.program script ticks (ends.FarFault 0))) tt)
 
   began_means : (s : Status) (text : List ℕ) → IsHonest (Some (held_with loads.Ok)) es → Began source.program plan script ticks es s text → (s ≡ status.FarFault) ⊎ IsMeaning source.program plan script ticks es s text
   began_means s text honest g =
@@ -121,7 +128,7 @@ module _ (law : RunIsMeaning) (taken : TextsOfSourcesAreTaken) (bytes lines : Li
   ran_means loaded s text honest (Ran.failed is r) = inl (r.status_is ∙ ap status_of (nothing_end source.program script ticks (ends.FarFault 0)))
 
 -- what is meant is what the run on one memory is reported as
-same_report : (source : Source) (plan : Plan) (texts : Texts) (script : Bound) (ticks : ℕ) (s : Status) (text : List ℕ) → IsCutInto source plan texts → Reported source.program (meant source.program plan script ticks) s text
+pub same_report : (source : Source) (plan : Plan) (texts : Texts) (script : Bound) (ticks : ℕ) (s : Status) (text : List ℕ) → IsCutInto source plan texts → Reported source.program (meant source.program plan script ticks) s text
     → IsRun source.program script (while_watched ticks) s text
 same_report source plan texts script ticks s text c r = record {
   outcome = meant source.program plan script ticks;
@@ -133,7 +140,7 @@ same_report source plan texts script ticks s text c r = record {
 -- ---- what is due
 
 -- a status that tells of no run
-abbrev IsEarly : Status → Type 0
+abbrev pub IsEarly : Status → Type 0
 IsEarly status.Done = ⊥
 IsEarly status.Usage = Unit {0}
 IsEarly status.SourceRefused = Unit {0}
@@ -149,7 +156,7 @@ IsEarly status.TooLarge = Unit {0}
 IsEarly status.HalvesRefused = Unit {0}
 IsEarly status.NotVerified = Unit {0}
 
-unread_early : (name : List ℕ) (answer : ReadAnswer) (s : Status) (text : List ℕ) → IsUnread name answer s text → IsEarly s
+pub unread_early : (name : List ℕ) (answer : ReadAnswer) (s : Status) (text : List ℕ) → IsUnread name answer s text → IsEarly s
 unread_early name answer s text (IsUnread.missing a e t) = subst IsEarly (sym e) tt
 unread_early name answer s text (IsUnread.long a e t) = subst IsEarly (sym e) tt
 unread_early name answer s text (IsUnread.failed a e t) = subst IsEarly (sym e) tt
@@ -158,11 +165,11 @@ no_source_early : (files : Files) (name : List ℕ) (old new : List ShelfCall) (
 no_source_early files name old new s text (NoSourceOf.unread u) = unread_early name u.answer s text u.why
 no_source_early files name old new s text (NoSourceOf.refused bytes read n) = subst IsEarly (sym n.status_is) tt
 
-no_script_early : (files : Files) (program : Program) (name : List ℕ) (old new : List ShelfCall) (s : Status) (text : List ℕ) → NoScriptOf files program name old new s text → IsEarly s
+pub no_script_early : (files : Files) (program : Program) (name : List ℕ) (old new : List ShelfCall) (s : Status) (text : List ℕ) → NoScriptOf files program name old new s text → IsEarly s
 no_script_early files program name old new s text (NoScriptOf.unread u) = unread_early name u.answer s text u.why
 no_script_early files program name old new s text (NoScriptOf.refused bytes read n) = subst IsEarly (sym n.status_is) tt
 
-not_early : (s : Status) → IsEarly s → (s ≡ status.Done) ⊎ (s ≡ status.Stopped) → ⊥
+pub not_early : (s : Status) → IsEarly s → (s ≡ status.Done) ⊎ (s ≡ status.Stopped) → ⊥
 not_early s early (inl e) = subst IsEarly e early
 not_early s early (inr e) = subst IsEarly e early
 

@@ -1,11 +1,14 @@
 -- The stages of running a script over the halves of a source.
 use Rattle.std.proofs.Common.{◌≡◌, ℕ, List, Option, Some, refl, sym, ap, ◌∙◌, subst}
+use Rattle.mdr_core.specs.declared.plan.Plan.{Plan}
 use Rattle.mdr_core.specs.declared.program.Program.{Program}
 use Rattle.mdr_core.specs.declared.refusal.RefuseKind.TheVariants as refusal
 use Rattle.mdr_cut.specs.declared.texts.Texts.{Texts}
 use Rattle.mdr_due.specs.declared.status.Status.{Status}
 use Rattle.mdr_due.specs.declared.status.Status.TheVariants as status
 use Rattle.mdr_due.specs.Reads.{Files, WasRead, longest_script}
+use Rattle.mdr_due.specs.Statuses.{Counts, HasReadCause}
+use Rattle.mdr_exchanges.specs.Runs.{IsFarFault}
 use Rattle.mdr_model.specs.declared.outcome.End.{End}
 use Rattle.mdr_model.specs.declared.outcome.End.TheVariants as ends
 use Rattle.mdr_outside.specs.Calls.{ShelfCall}
@@ -14,6 +17,7 @@ use Rattle.mdr_outside.specs.declared.far.LoadAnswer.{LoadAnswer}
 use Rattle.mdr_outside.specs.declared.far.Loaded.{Loaded}
 use Rattle.mdr_outside.specs.Far.{loaded_with}
 use Rattle.mdr_outside.specs.Sides.{FarSide}
+use Rattle.mdr_plain.specs.declared.outcome.Outcome.{Outcome}
 use Rattle.mdr_plain.specs.Outcome.{outcome_of}
 use Rattle.mdr_runner.specs.Runs.{status_of}
 use Rattle.mdr_runner.specs.Scripts.{IsScriptOf, NoScriptOf}
@@ -22,8 +26,8 @@ use Rattle.mdr_slicer.specs.Slicing.{IsSourceOf}
 use Rattle.mdr_source.specs.declared.outcome.Source.{Source}
 use Rattle.mdr_split_runner.specs.declared.manner.SplitManner.{SplitManner}
 use Rattle.mdr_split_runner.specs.Messages.{with_messages}
-use Rattle.mdr_split_runner.specs.Reports.{Reported, nothing_ran}
-use Rattle.mdr_split_runner.specs.SplitRuns.{IsShownRun, IsSplitRun, SplitRuns, SplitRunsOver, SplitRunsOverPart, SplitRunsPart}
+use Rattle.mdr_split_runner.specs.Reports.{Ran, RanTo, Reported, nothing_ran}
+use Rattle.mdr_split_runner.specs.SplitRuns.{IsShownRun, IsSplitOutcome, IsSplitRun, SplitRuns, SplitRunsOver, SplitRunsOverPart, SplitRunsPart}
 
 -- ---- a load
 
@@ -39,9 +43,44 @@ unfolding outcome_of
 nothing_end program script ticks end = refl
 
 -- texts that are refused are no fault of the far side's
-pub refused_so : (A : Type 0) (program : Program) (script : Bound) (ticks : ℕ) (s : Status) (text : List ℕ) → Reported program (nothing_ran program script ticks (ends.Refused 0 refusal.Load 0)) s text → s ≡ status.FarFault → A
-refused_so A program script ticks s text r e =
-    let no : status.Marshal ≡ status.FarFault = sym (ap status_of (nothing_end program script ticks (ends.Refused 0 refusal.Load 0))) ∙ sym r.status_is ∙ e in absurd (Prim.cc)
+pub refused_so : (A : Type 0) (program : Program) (script : Bound) (ticks : ℕ) (o : Outcome) → o ≡ nothing_ran program script ticks (ends.Refused 0 refusal.Load 0) → IsFarFault o.end → A
+refused_so A program script ticks o is f = absurd (subst IsFarFault (ap (λ (x : Outcome). x.end) is ∙ nothing_end program script ticks (ends.Refused 0 refusal.Load 0)) f)
+
+-- ---- reports
+
+-- an outcome's report is that of the run over the far side
+pub report_so : (program : Program) (plan : Plan) (texts : Texts) (script : Bound) (ticks : ℕ) (loaded : Option Loaded) (es : List Exchange) (o : Outcome) (s : Status) (text : List ℕ) → RanTo program plan texts script ticks loaded es o → Reported program o s text
+    → Ran program plan texts script ticks loaded es s text
+report_so program plan texts script ticks loaded es o s text (RanTo.began is run) r = Ran.began is (record { outcome = o; run_is = run; reported = r })
+report_so program plan texts script ticks loaded es o s text (RanTo.refused cause is same) r = Ran.refused cause is (subst (λ (x : Outcome). Reported program x s text) same r)
+report_so program plan texts script ticks loaded es o s text (RanTo.failed is same) r = Ran.failed is (subst (λ (x : Outcome). Reported program x s text) same r)
+
+-- an outcome's report is the run's
+pub split_reported : (source : Source) (script : Bound) (ticks : ℕ) (far far' : FarSide) (o : Outcome) (s : Status) (text : List ℕ) → IsSplitOutcome source script ticks far far' o → Reported source.program o s text → IsSplitRun source script ticks far far' s text
+split_reported source script ticks far far' o s text run r = record {
+  plan = run.plan;
+  texts = run.texts;
+  cut = run.cut;
+  loads = run.loads;
+  ran = report_so source.program run.plan run.texts script ticks far'.loaded far'.exchanges o s text run.ran r;
+}
+
+-- its status tells of the far side's fault where its end does
+pub fault_so : (R : Type 0) (end : End) (s : Status) → (IsFarFault end → R) → s ≡ status_of end → s ≡ status.FarFault → R
+fault_so R ends.Ok s f is e = let no : status.Done ≡ status.FarFault = sym is ∙ e in absurd (Prim.cc)
+fault_so R (ends.Stop kind at) s f is e = let no : status.Stopped ≡ status.FarFault = sym is ∙ e in absurd (Prim.cc)
+fault_so R (ends.Refused exchange cause number) s f is e = let no : status.Marshal ≡ status.FarFault = sym is ∙ e in absurd (Prim.cc)
+fault_so R (ends.FarFault exchange) s f is e = f tt
+
+-- and it tells of no file
+pub read_so : (end : End) (s : Status) → s ≡ status_of end → (before after : Counts) → HasReadCause before after s
+read_so end s is before after = subst (HasReadCause before after) (sym is) (of end)
+  where
+    of : (x : End) → HasReadCause before after (status_of x)
+    of ends.Ok = tt
+    of (ends.Stop kind at) = tt
+    of (ends.Refused exchange cause number) = tt
+    of (ends.FarFault exchange) = tt
 
 -- ---- messages
 

@@ -31,6 +31,12 @@ pub record Reported (program : Program) (o : Outcome) (s : Status) (text : List 
   pub status_is : s ≡ status_of o.end
   pub text_is : text ≡ report program o
 
+-- the outcome of a run over a far side that was loaded first: what the run over its answers shows, or that it didn't take the texts
+pub data RanTo (program : Program) (plan : Plan) (texts : Texts) (script : Bound) (ticks : ℕ) (loaded : Option Loaded) (es : List Exchange) (o : Outcome) : Type 0 where
+  began : loaded ≡ Some (loaded_with texts.user texts.plan loads.Ok) → IsRun (driver_of program plan) script ticks es o → RanTo program plan texts script ticks loaded es o
+  refused : (cause : ℕ) → loaded ≡ Some (loaded_with texts.user texts.plan (loads.Refused cause)) → o ≡ nothing_ran program script ticks (ends.Refused 0 refusal.Load 0) → RanTo program plan texts script ticks loaded es o
+  failed : loaded ≡ Some (loaded_with texts.user texts.plan loads.Failed) → o ≡ nothing_ran program script ticks (ends.FarFault 0) → RanTo program plan texts script ticks loaded es o
+
 -- the report of a run over what the far side answered
 pub record Began (program : Program) (plan : Plan) (script : Bound) (ticks : ℕ) (es : List Exchange) (s : Status) (text : List ℕ) : Type 0 where
   pub outcome : Outcome

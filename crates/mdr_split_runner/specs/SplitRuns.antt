@@ -8,6 +8,7 @@ use Rattle.mdr_due.specs.Reads.{Files, WasRead, longest_script, longest_source}
 use Rattle.mdr_exchanges.specs.Runs.{sent_of}
 use Rattle.mdr_outside.specs.Calls.{ShelfCall}
 use Rattle.mdr_outside.specs.Sides.{FarSide}
+use Rattle.mdr_plain.specs.declared.outcome.Outcome.{Outcome}
 use Rattle.mdr_runner.specs.Scripts.{IsScriptOf, NoScriptOf}
 use Rattle.mdr_bound.specs.declared.bound.Bound.{Bound}
 use Rattle.mdr_slicer.specs.Slicing.{IsSourceOf, NoSourceOf}
@@ -16,9 +17,17 @@ use Rattle.mdr_split_runner.specs.Cuts.{IsCutInto}
 use Rattle.mdr_split_runner.specs.declared.manner.SplitManner.{SplitManner}
 use Rattle.mdr_split_runner.specs.Loads.{LoadedOnce, LoadedPart}
 use Rattle.mdr_split_runner.specs.Messages.{with_messages}
-use Rattle.mdr_split_runner.specs.Reports.{Ran}
+use Rattle.mdr_split_runner.specs.Reports.{Ran, RanTo}
 
 -- ---- a source and a script
+
+-- the source is cut, the far side is loaded with its texts and gets the run's messages, and this is what the run shows
+pub record IsSplitOutcome (source : Source) (script : Bound) (ticks : ℕ) (far far' : FarSide) (o : Outcome) : Type 0 where
+  pub plan : Plan
+  pub texts : Texts
+  pub cut : IsCutInto source plan texts
+  pub loads : LoadedOnce texts far.calls far'.calls (sent_of far'.exchanges)
+  pub ran : RanTo source.program plan texts script ticks far'.loaded far'.exchanges o
 
 -- the source is cut, the far side is loaded with its texts and gets the run's messages, and the report is due
 pub record IsSplitRun (source : Source) (script : Bound) (ticks : ℕ) (far far' : FarSide) (s : Status) (text : List ℕ) : Type 0 where

@@ -14,5 +14,7 @@ mod seen;
 
 pub use laws::{split_runs_end, split_runs_mean};
 pub use manner::SplitManner;
-pub use running::split_over;
+pub use messages::{messages_in, report_with_messages};
+pub use reporting::reported;
+pub use running::{outcome_over, run_split, split_over, split_run_over};
 pub use seen::SidesSeen;

@@ -1,10 +1,10 @@
 // The lines that show the messages of a run.
 
-ghost use Rattle.std.specs.Prelude.{◌≡◌, ◌++◌, OnOk, IfOk, decimal};
+ghost use Rattle.std.specs.Prelude.{◌≡◌, ◌++◌, OnOk, IfOk, decimal, true};
 ghost use Rattle.mdr_split_runner.specs.Messages.{bytes_line, answer_line, exchange_lines, lines_of, messages_by, messages_in, messages_shown, with_messages};
 
 use mdr_core::{Items, OutOfMemory};
-use mdr_due::{Due, put_newline, put_word};
+use mdr_due::{Due, put_bytes, put_newline, put_word};
 use mdr_outside::Exchange;
 use mdr_report::put_hex;
 use std::alloc::Global;
@@ -59,7 +59,7 @@ fn messages_by(got: &Option<Items<u8>>) -> u8
 
 /// How many messages there were.
 #[tactic(auto, unfolding(crate::specs::Messages::messages_in))]
-fn messages_in(exchanges: &[Exchange]) -> u128
+pub fn messages_in(exchanges: &[Exchange]) -> u128
     ensures { result ≡ messages_in exchanges.now }
 {
     let mut total: u128 = 0;
@@ -86,6 +86,20 @@ fn put_messages(alloc: Global, out: &mut Vec<u8>, exchanges: &[Exchange]) -> Res
     put_word(out, "messages ")?;
     put_total(alloc, out, messages_in(exchanges))?;
     put_newline(out)
+}
+
+/// A report, and behind it the lines that show the messages.
+pub fn report_with_messages(
+    alloc: Global,
+    report: &[u8],
+    exchanges: &[Exchange],
+) -> Result<Vec<u8>, OutOfMemory>
+    ensures { IfOk result (λ text. text.items ≡ with_messages true exchanges.now report.now) }
+{
+    let mut out = Vec::new(alloc);
+    put_bytes(&mut out, report)?;
+    put_messages(alloc, &mut out, exchanges)?;
+    Ok(out)
 }
 
 /// What is due, with the lines that show the messages behind its text.

@@ -16,11 +16,7 @@ use mdr_world::World;
 use std::alloc::Global;
 
 /// The report of an outcome, with its status.
-pub(crate) fn reported(
-    alloc: Global,
-    program: &Program,
-    outcome: &Outcome,
-) -> Result<Due, OutOfMemory>
+pub fn reported(alloc: Global, program: &Program, outcome: &Outcome) -> Result<Due, OutOfMemory>
     ensures { IfOk result (λ due. Reported program.now outcome.now due.status due.text.items) }
 {
     let status = status_of(&outcome.end);
@@ -29,7 +25,7 @@ pub(crate) fn reported(
 }
 
 /// What a run shows that ended so before it began anything.
-fn nothing_ran(
+pub(crate) fn nothing_ran(
     alloc: Global,
     program: &Program,
     script: &Bound,
@@ -42,20 +38,4 @@ fn nothing_ran(
     let mut world = World::new(alloc, program, script, ticks)?;
     let shown = outcome(alloc, &mut world, end)?;
     Ok(shown)
-}
-
-/// The report of a run that began nothing.
-pub(crate) fn unstarted(
-    alloc: Global,
-    program: &Program,
-    script: &Bound,
-    ticks: u64,
-    end: End,
-) -> Result<Due, OutOfMemory>
-    requires { IsSound program.now }
-    ensures { IfOk result (λ due. Reported program.now (nothing_ran program.now script.now ticks end) due.status due.text.items) }
-{
-    let shown = nothing_ran(alloc, program, script, ticks, end)?;
-    let due = reported(alloc, program, &shown)?;
-    Ok(due)
 }

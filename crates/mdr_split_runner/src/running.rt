@@ -4,26 +4,51 @@ ghost use Rattle.std.specs.Prelude.{◌≡◌, IfOk, OnErr};
 ghost use Rattle.mdr_core.specs.Sound.{IsSound};
 ghost use Rattle.mdr_due.specs.declared.status.Status.TheVariants as status;
 ghost use Rattle.mdr_due.specs.Statuses.{Counts, HasReadCause};
+ghost use Rattle.mdr_exchanges.specs.Runs.{IsFarFault};
 ghost use Rattle.mdr_outside.specs.Count.{Rose};
 ghost use Rattle.mdr_split_runner.specs.Gives.{OverBy, OverPartBy, ReadCauseBy, SplitPartBy, SplitRunsBy};
-ghost use Rattle.mdr_split_runner.specs.SplitRuns.{IsShownRun, IsSplitPart, IsSplitRun};
+ghost use Rattle.mdr_split_runner.specs.SplitRuns.{IsShownRun, IsSplitOutcome, IsSplitPart, IsSplitRun};
 
 use crate::cutting::cut_of;
 use crate::loading::ran;
 use crate::manner::SplitManner;
 use crate::messages::shown;
+use crate::reporting::reported;
 use crate::seen::SidesSeen;
 use mdr_bound::Bound;
 use mdr_core::OutOfMemory;
 use mdr_due::{Due, Stage};
 use mdr_outside::{Far, FarSeen, Shelf};
+use mdr_plain::Outcome;
 use mdr_runner::script_of;
 use mdr_slicer::source_of;
 use mdr_source::Source;
 use std::alloc::Global;
 
-/// Cuts a source, and runs a script over its halves.
-fn run_split<F: Far>(
+/// Cuts a source, and runs a script over its halves: what the run shows.
+pub fn outcome_over<F: Far>(
+    alloc: Global,
+    source: &Source,
+    script: &Bound,
+    ticks: u64,
+    far: &mut F,
+) -> Result<Outcome, OutOfMemory>
+    requires { IsSound source.now.program }
+    ensures done { IfOk result (IsSplitOutcome source.now script.now ticks (⟦<F as FarSeen>⟧.side far.old) (⟦<F as FarSeen>⟧.side far.new)) }
+    ensures part { IsSplitPart source.now script.now ticks (⟦<F as FarSeen>⟧.side far.old) (⟦<F as FarSeen>⟧.side far.new) }
+    ensures failed { IfOk result (λ o. IsFarFault o.end → Rose (F.faults far.old) (F.faults far.new)) }
+{
+    let cut = match cut_of(alloc, source) {
+        Ok(cut) => cut,
+        Err(error) => return Err(error),
+    };
+    let outcome = ran(alloc, &source.program, &cut, script, ticks, far);
+    drop(cut);
+    outcome
+}
+
+/// Cuts a source, runs a script over its halves, and makes the report.
+pub fn run_split<F: Far>(
     alloc: Global,
     source: &Source,
     script: &Bound,
@@ -36,13 +61,9 @@ fn run_split<F: Far>(
     ensures failed { IfOk result (λ due. due.status ≡ status.FarFault → Rose (F.faults far.old) (F.faults far.new)) }
     ensures read { IfOk result (λ due. (before after : Counts) → HasReadCause before after due.status) }
 {
-    let cut = match cut_of(alloc, source) {
-        Ok(cut) => cut,
-        Err(error) => return Err(error),
-    };
-    let due = ran(alloc, &source.program, &cut, script, ticks, far);
-    drop(cut);
-    due
+    let outcome = outcome_over(alloc, source, script, ticks, far)?;
+    let due = reported(alloc, &source.program, &outcome)?;
+    Ok(due)
 }
 
 /// Cuts a source, runs a script over its halves, and shows the messages behind the report where they are asked for.
@@ -64,8 +85,8 @@ fn run_shown<F: Far>(
     Ok(all)
 }
 
-/// Reads a script, and runs it over the halves of a source.
-fn split_run_over<S: Shelf, F: Far>(
+/// Reads a script, and runs it over the halves of a source, as `split_over` does with one that it read.
+pub fn split_run_over<S: Shelf, F: Far>(
     alloc: Global,
     shelf: &mut S,
     far: &mut F,

@@ -4,6 +4,7 @@ mod answers;
 mod cuts;
 mod files;
 mod output;
+mod seeds;
 mod sent;
 mod wires;
 

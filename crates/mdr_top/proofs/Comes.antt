@@ -3,6 +3,9 @@ use Rattle.std.proofs.Common.{◌≡◌, ℕ, List, Option, Some, None, refl, sy
 use Rattle.mdr_due.specs.declared.status.Status.{Status}
 use Rattle.mdr_due.specs.declared.status.Status.TheVariants as status
 use Rattle.mdr_due.specs.Reads.{Files, longest_source, longest_script}
+use Rattle.mdr_generated.proofs.Steps.{told_status}
+use Rattle.mdr_generated.specs.declared.recipe.Recipe.{Recipe}
+use Rattle.mdr_generated.specs.Generated.{budget}
 use Rattle.mdr_model.specs.declared.outcome.End.{End}
 use Rattle.mdr_model.specs.declared.outcome.End.TheVariants as ends
 use Rattle.mdr_model.specs.Law.{IsOwn}
@@ -17,17 +20,27 @@ use Rattle.mdr_runner.proofs.Stages.{outcome_own}
 use Rattle.mdr_bound.specs.declared.bound.Bound.{Bound}
 use Rattle.mdr_source.specs.declared.outcome.Source.{Source}
 use Rattle.mdr_split_runner.specs.declared.manner.SplitManner.{SplitManner}
+use Rattle.mdr_split_runner.specs.Cuts.{IsCutInto}
 use Rattle.mdr_split_runner.specs.Ends.{EndsWith, FailedLast}
-use Rattle.mdr_split_runner.proofs.Endings.{fails_last, split_runs_end}
-use Rattle.mdr_top.specs.Answers.{Unread, Untaken, IsTaken, CutAnswered, ScriptAnswered, FileAnswered, WholeDue, SplitDue, WayDue, RunAnswered, Answered, Prints}
-use Rattle.mdr_top.specs.Comes.{AreNamed, IsWanted, IsRunSource, IsRefused, IsNoScript, WasCut, IsWholeEnd, IsSplitEnd, IsDone, IsStopped, Comes}
+use Rattle.mdr_split_runner.proofs.Endings.{fails_last, outcome_ends, split_runs_end}
+use Rattle.mdr_top.specs.Answers.{Unread, Untaken, IsTaken, CutAnswered, ScriptAnswered, FileAnswered, WholeDue, SplitDue, WayDue, RunAnswered, MadeAnswered, TranscriptDue, VerifyAnswered, Answered, Prints, HoldTexts, AreTaken, UntakenTexts, TextsAnswered}
+use Rattle.mdr_verifier.proofs.Said.{said_exactly}
+use Rattle.mdr_verifier.specs.Laws.{IsExactly}
+use Rattle.mdr_verifier.specs.Verifies.{longest_transcript}
+use Rattle.mdr_top.specs.Comes.{AreNamed, IsRunFor, WasJudged, IsWanted, IsRunSource, IsRefused, IsNoScript, IsScriptRefused, WasCut, IsWholeEnd, IsSplitEnd, IsEnd, IsDone, IsStopped, Comes, IsText, AreRefused, IsNoTextsScript, IsTextsEnd}
+use Rattle.mdr_split_runner.specs.Reports.{Ran}
+use Rattle.mdr_cut.specs.declared.texts.Texts.{Texts}
+use Rattle.mdr_cut.proofs.Determined.{texts_are_determined}
+use Rattle.mdr_halves.proofs.Refusing.{refused_are_none}
+use Rattle.mdr_halves_runner.specs.Names.{TextNames}
+use Rattle.mdr_halves_runner.specs.Reads.{longest_text}
 use Rattle.mdr_top.specs.Cuts.{IsSplit, IsCut}
 use Rattle.mdr_top.specs.declared.words.Cutting.{Cutting}
 use Rattle.mdr_top.specs.declared.words.Cutting.TheVariants as cutting
 use Rattle.mdr_top.specs.declared.words.Way.{Way}
 use Rattle.mdr_top.specs.declared.words.Way.TheVariants as way
 use Rattle.mdr_top.specs.Outside.{Outside}
-use Rattle.mdr_top.specs.Words.{Inputs, OfFiles, Cut, Run, command_of}
+use Rattle.mdr_top.specs.Words.{Inputs, OfFiles, Cut, Run, Generate, Verify, command_of, RunTexts, texts_manner}
 
 -- a read that failed says nothing
 failed_reads : (files : Files) (name : List ℕ) (limit : ℕ) → ReadsFrom files name limit reads.Failed
@@ -67,7 +80,7 @@ module _ (words : List (List ℕ)) (files : Files) (loaded : Option Loaded) (es 
   script_comes name script_name Due s text named ends (ScriptAnswered.script_refused source lines h r n) =
       let named' : IsRunSource words files h.bytes = record { name = name; script_name = script_name; named = named; read = h.read } in
       let none : IsNoScript words files = record { bytes = h.bytes; named = named'; source = source; has = h.has; lines = lines; read = r; line = n.line; kind = n.kind; refused = n.refused } in
-      subst (Comes words files loaded es) (sym n.status_is) none
+      subst (Comes words files loaded es) (sym n.status_is) (IsScriptRefused.of_file none)
   script_comes name script_name Due s text named ends (ScriptAnswered.ran source lines script h r b due) = ends source lines script h r b due
 
   own_comes : (end : End) → IsOwn end → IsWholeEnd words files (status_of end) → Comes words files loaded es (status_of end)
@@ -78,7 +91,7 @@ module _ (words : List (List ℕ)) (files : Files) (loaded : Option Loaded) (es 
 
   whole_comes : (name script_name : List ℕ) (manner : Manner) (s : Status) (text : List ℕ) → command_of words ≡ Some (Run (OfFiles name script_name) (way.Whole manner)) → FileAnswered files name script_name (WholeDue manner s text) s text → Comes words files loaded es s
   whole_comes name script_name manner s text e answered =
-      script_comes name script_name (WholeDue manner s text) s text (record { in_way = way.Whole manner; command = e })
+      script_comes name script_name (WholeDue manner s text) s text (AreNamed.run (way.Whole manner) e)
       (λ source lines script h r b run. subst (Comes words files loaded es) (sym run.status_is) (own_comes run.outcome.end (outcome_own source.program script manner run.outcome run.is_outcome) (record {
         source = source;
         script = script;
@@ -89,19 +102,19 @@ module _ (words : List (List ℕ)) (files : Files) (loaded : Option Loaded) (es 
       })))
       answered
 
-  end_comes : (end : End) → IsSplitEnd words files loaded es (status_of end) → Comes words files loaded es (status_of end)
-  end_comes ends.Ok h = IsDone.split h
-  end_comes (ends.Stop kind at) h = IsStopped.split h
+  end_comes : (end : End) → IsEnd words files loaded es (status_of end) → Comes words files loaded es (status_of end)
+  end_comes ends.Ok h = IsDone.over_halves h
+  end_comes (ends.Stop kind at) h = IsStopped.over_halves h
   end_comes (ends.Refused exchange cause number) h = h
   end_comes (ends.FarFault exchange) h = h
 
   split_comes : (name script_name : List ℕ) (manner : SplitManner) (s : Status) (text : List ℕ) → command_of words ≡ Some (Run (OfFiles name script_name) (way.Split manner)) → FileAnswered files name script_name (SplitDue manner loaded es s text) s text → Comes words files loaded es s
-  split_comes name script_name manner s text e answered = script_comes name script_name (SplitDue manner loaded es s text) s text (record { in_way = way.Split manner; command = e }) ran answered
+  split_comes name script_name manner s text e answered = script_comes name script_name (SplitDue manner loaded es s text) s text (AreNamed.run (way.Split manner) e) ran answered
     where
       ran : (source : Source) (lines : List ℕ) (script : Bound) → IsTaken files name source → ReadsFrom files script_name longest_script (reads.Ok lines) → HasScript source.program lines script → SplitDue manner loaded es s text source script → Comes words files loaded es s
       ran source lines script h r b due =
           let ended : EndsWith source.program due.plan due.texts script manner.ticks loaded es s = split_runs_end source.program due.plan due.texts script manner.ticks loaded es s due.report due.ran in
-          subst (Comes words files loaded es) (sym ended.status_is) (end_comes ended.end (record {
+          subst (Comes words files loaded es) (sym ended.status_is) (end_comes ended.end (IsEnd.split (record {
             source = source;
             script = script;
             manner = manner;
@@ -111,16 +124,86 @@ module _ (words : List (List ℕ)) (files : Files) (loaded : Option Loaded) (es 
             texts = due.texts;
             cut = due.cut;
             ends = record { end = ended.end; ends = ended.ends; status_is = refl };
-          }))
+          })))
 
   run_comes : (inputs : Inputs) (in_way : Way) (s : Status) (text : List ℕ) → command_of words ≡ Some (Run inputs in_way) → RunAnswered inputs files (WayDue in_way loaded es s text) s text → Comes words files loaded es s
   run_comes (OfFiles name script_name) (way.Whole manner) s text e c = whole_comes name script_name manner s text e c
   run_comes (OfFiles name script_name) (way.Split manner) s text e c = split_comes name script_name manner s text e c
 
+  made_comes : (recipe : Recipe) (s : Status) (text : List ℕ) → command_of words ≡ Some (Generate recipe) → MadeAnswered recipe loaded es s text → Comes words files loaded es s
+  made_comes recipe s text e (MadeAnswered.no_source n) = subst (Comes words files loaded es) (sym n.status_is) (IsRefused.no_made recipe e n.refusal n.comes)
+  made_comes recipe s text e (MadeAnswered.no_script source h n) =
+      subst (Comes words files loaded es) (sym n.status_is) (IsScriptRefused.made (record { recipe = recipe; command = e; source = source; has = h; line = n.line; kind = n.kind; refused = n.refused }))
+  made_comes recipe s text e (MadeAnswered.ran source script h b due) =
+      let ended : EndsWith source.program due.plan due.texts script budget loaded es s = outcome_ends source.program due.plan due.texts script budget loaded es due.outcome s due.ran (told_status recipe source.program es due.outcome s text due.told) in
+      subst (Comes words files loaded es) (sym ended.status_is) (end_comes ended.end (IsEnd.made (record {
+        recipe = recipe;
+        command = e;
+        source = source;
+        script = script;
+        has = h;
+        bound = b;
+        plan = due.plan;
+        texts = due.texts;
+        cut = due.cut;
+        ends = record { end = ended.end; ends = ended.ends; status_is = refl };
+      })))
+
+  verify_comes : (name script_name transcript_name : List ℕ) (s : Status) (text : List ℕ) → command_of words ≡ Some (Verify name script_name transcript_name) → VerifyAnswered files name script_name transcript_name s text → Comes words files loaded es s
+  verify_comes name script_name transcript_name s text e answered = script_comes name script_name (TranscriptDue files transcript_name s text) s text (AreNamed.verify transcript_name e) ran answered
+    where
+      of_said : (was : WasJudged words files s) → IsExactly was.transcript was.exchanges was.report s → Comes words files loaded es s
+      of_said was (IsExactly.same is done) = subst (Comes words files loaded es) (sym done) (IsDone.verified (subst (WasJudged words files) done was))
+      of_said was (IsExactly.other not so) = subst (Comes words files loaded es) (sym so) (subst (WasJudged words files) so was)
+
+      ran : (source : Source) (lines : List ℕ) (script : Bound) → IsTaken files name source → ReadsFrom files script_name longest_script (reads.Ok lines) → HasScript source.program lines script → TranscriptDue files transcript_name s text source script → Comes words files loaded es s
+      ran source lines script h r b due = of due
+        where
+          run : IsRunFor words files transcript_name source script
+          run = record { source_name = name; script_name = script_name; command = e; bytes = h.bytes; source_read = h.read; has = h.has; lines = lines; script_read = r; bound = b }
+
+          of : TranscriptDue files transcript_name s text source script → Comes words files loaded es s
+          of (TranscriptDue.unread u) = unread_comes transcript_name longest_transcript s text (IsWanted.as_transcript source script run refl) u
+          of (TranscriptDue.judged bytes t j) =
+              let exactly : IsExactly bytes j.exchanges j.report s = said_exactly bytes j.exchanges j.report s text j.said in
+              of_said (record { name = transcript_name; source = source; script = script; run = run; transcript = bytes; read = t; exchanges = j.exchanges; report = j.report; honest = j.run; exactly = exactly }) exactly
+
+  -- a text of three that isn't read, or texts that are refused
+  untaken_comes : (names : TextNames) (script_name : List ℕ) (s : Status) (text : List ℕ) → command_of words ≡ Some (RunTexts names script_name) → UntakenTexts files names s text → Comes words files loaded es s
+  untaken_comes names script_name s text e (UntakenTexts.no_kernel u) = unread_comes names.kernel longest_text s text (IsWanted.as_text (IsText.kernel names script_name e refl) refl) u
+  untaken_comes names script_name s text e (UntakenTexts.no_user kernel r u) = unread_comes names.user longest_text s text (IsWanted.as_text (IsText.user names script_name kernel e r refl) refl) u
+  untaken_comes names script_name s text e (UntakenTexts.no_plan kernel user r q u) = unread_comes names.plan longest_text s text (IsWanted.as_text (IsText.plan names script_name kernel user e r q refl) refl) u
+  untaken_comes names script_name s text e (UntakenTexts.refused texts h n) =
+      let none : AreRefused words files = record { names = names; script_name = script_name; command = e; texts = texts; held = h; mismatch = n.mismatch; come = n.come; none = λ source are. refused_are_none texts n.mismatch source n.come are } in
+      subst (Comes words files loaded es) (sym n.status_is) none
+
+  texts_come : (names : TextNames) (script_name : List ℕ) (s : Status) (text : List ℕ) → command_of words ≡ Some (RunTexts names script_name) → TextsAnswered names script_name files loaded es s text → Comes words files loaded es s
+  texts_come names script_name s text e (ScriptAnswered.no_source u) = untaken_comes names script_name s text e u
+  texts_come names script_name s text e (ScriptAnswered.script_unread source t u) = unread_comes script_name longest_script s text (IsWanted.as_script_of_texts names source e t refl) u
+  texts_come names script_name s text e (ScriptAnswered.script_refused source lines t r n) =
+      let none : IsNoTextsScript words files = record { names = names; script_name = script_name; command = e; source = source; taken = t; lines = lines; read = r; line = n.line; kind = n.kind; refused = n.refused } in
+      subst (Comes words files loaded es) (sym n.status_is) (IsScriptRefused.of_texts none)
+  texts_come names script_name s text e (ScriptAnswered.ran source lines script t r b due) =
+      let same : due.texts ≡ t.texts = texts_are_determined source.tree source.program due.texts t.texts due.cut.are_texts t.has.are.are in
+      let cut = subst (λ (x : Texts). IsCutInto source due.plan x) same due.cut in
+      let ran = subst (λ (x : Texts). Ran source.program due.plan x script texts_manner.ticks loaded es s due.report) same due.ran in
+      let ended : EndsWith source.program due.plan t.texts script texts_manner.ticks loaded es s = split_runs_end source.program due.plan t.texts script texts_manner.ticks loaded es s due.report ran in
+      subst (Comes words files loaded es) (sym ended.status_is) (end_comes ended.end (IsEnd.texts (record {
+        source = source;
+        script = script;
+        accepted = record { names = names; script_name = script_name; command = e; taken = t; lines = lines; script_read = r; bound = b };
+        plan = due.plan;
+        cut = cut;
+        ends = record { end = ended.end; ends = ended.ends; status_is = refl };
+      })))
+
   answered_comes : (s : Status) (text : List ℕ) → Answered words files loaded es s text → Comes words files loaded es s
   answered_comes s text (Answered.usage e is t) = subst (Comes words files loaded es) (sym is) e
   answered_comes s text (Answered.cut how name e c) = cut_comes how name s text e c
   answered_comes s text (Answered.ran inputs in_way e c) = run_comes inputs in_way s text e c
+  answered_comes s text (Answered.made recipe e c) = made_comes recipe s text e c
+  answered_comes s text (Answered.verified name script_name transcript_name e c) = verify_comes name script_name transcript_name s text e c
+  answered_comes s text (Answered.texts names script_name e c) = texts_come names script_name s text e c
 
 pub prints_comes : (words : List (List ℕ)) (before after : Outside) (s : Status) → Prints words before after s → Comes words before.sides.shelf.files after.sides.far.loaded after.sides.far.exchanges s
 prints_comes words before after s (Prints.whole text a w) = answered_comes words before.sides.shelf.files after.sides.far.loaded after.sides.far.exchanges s text a
@@ -129,6 +212,9 @@ prints_comes words before after s (Prints.nothing is same) = subst (Comes words 
 
 -- where the far side failed
 pub comes_last : (words : List (List ℕ)) (files : Files) (loaded : Option Loaded) (es : List Exchange) (s : Status) → Comes words files loaded es s → s ≡ status.FarFault → FailedLast loaded es
-comes_last words files loaded es s comes is =
-    let e : IsSplitEnd words files loaded es status.FarFault = subst (Comes words files loaded es) is comes in
-    fails_last e.source.program e.plan e.texts e.script e.manner.ticks loaded es status.FarFault e.ends refl
+comes_last words files loaded es s comes is = of (subst (Comes words files loaded es) is comes)
+  where
+    of : IsEnd words files loaded es status.FarFault → FailedLast loaded es
+    of (IsEnd.split e) = fails_last e.source.program e.plan e.texts e.script e.manner.ticks loaded es status.FarFault e.ends refl
+    of (IsEnd.made e) = fails_last e.source.program e.plan e.texts e.script budget loaded es status.FarFault e.ends refl
+    of (IsEnd.texts e) = fails_last e.source.program e.plan e.accepted.taken.texts e.script texts_manner.ticks loaded es status.FarFault e.ends refl

@@ -1,5 +1,5 @@
 -- Where nothing outside fails, what is accepted runs to its end.
-use Rattle.std.proofs.Common.{◌≡◌, ℕ, ◌<◌, ◌≤◌, ◌⊎◌, inl, inr, Bool, List, length, Option, Some, None, Result, Ok, Err, refl, sym, ap, ◌∙◌, subst, arith}
+use Rattle.std.proofs.Common.{◌≡◌, ℕ, ◌<◌, ◌≤◌, ◌⊎◌, inl, inr, Bool, List, [], length, Option, Some, None, Result, Ok, Err, refl, sym, ap, ◌∙◌, subst, arith}
 use Rattle.std.proofs.lemmas.Bool.{le-ltb}
 use Rattle.mdr_due.specs.declared.status.Status.{Status}
 use Rattle.mdr_due.specs.declared.status.Status.TheVariants as status
@@ -23,7 +23,7 @@ use Rattle.mdr_top.specs.Outside.{Outside}
 use Rattle.mdr_top.specs.Splits.{IsOfRun}
 use Rattle.mdr_top.specs.declared.words.Way.{Way}
 use Rattle.mdr_top.specs.declared.words.Way.TheVariants as way
-use Rattle.mdr_top.specs.Words.{Inputs, OfFiles, Task, Cut, Run, command_of}
+use Rattle.mdr_top.specs.Words.{Inputs, OfFiles, Task, Cut, Run, Generate, Verify, command_of, RunTexts}
 
 -- ---- answers exclude each other
 
@@ -56,6 +56,9 @@ too_long limit bytes other same le long = let long' : limit < length bytes = sub
 abbrev names_in : Task → List ℕ × List ℕ
 names_in (Cut how name) = (name, name)
 names_in (Run (OfFiles source_name script_name) in_way) = (source_name, script_name)
+names_in (Generate recipe) = ([], [])
+names_in (Verify source_name script_name transcript_name) = (source_name, script_name)
+names_in (RunTexts names script_name) = (names.kernel, script_name)
 
 abbrev budget_in : Way → ℕ
 budget_in (way.Whole manner) = manner.ticks
@@ -64,6 +67,9 @@ budget_in (way.Split manner) = manner.ticks
 abbrev ticks_in : Task → ℕ
 ticks_in (Cut how name) = 0
 ticks_in (Run inputs in_way) = budget_in in_way
+ticks_in (Generate recipe) = 0
+ticks_in (Verify source_name script_name transcript_name) = 0
+ticks_in (RunTexts names script_name) = 0
 
 -- of a run, a write fault is the output's
 of_output : (words : List (List ℕ)) (before after : Outside) (s : Status) (inputs : Inputs) (in_way : Way) → command_of words ≡ Some (Run inputs in_way) → WriteCause words before after s → s ≡ status.WriteFault → Rose before.out.faults after.out.faults

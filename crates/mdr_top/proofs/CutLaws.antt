@@ -2,6 +2,7 @@
 use Rattle.std.proofs.Common.{◌≡◌, ℕ, suc, List, ◌∷◌, Option, Some, None, Result, Ok, Err, slice_get, codes, refl, sym, ap, subst}
 use Rattle.std.specs.Prelude.{IfOk}
 use Rattle.mdr_core.specs.declared.memory_error.OutOfMemory.{OutOfMemory}
+use Rattle.mdr_generated.specs.declared.recipe.Recipe.{Recipe}
 use Rattle.mdr_outside.specs.Calls.{ShelfCall}
 use Rattle.mdr_due.specs.declared.due.Due.{Due}
 use Rattle.mdr_outside.specs.Shelf.{ReadsFrom}
@@ -19,7 +20,7 @@ use Rattle.mdr_top.specs.declared.words.Cutting.{Cutting}
 use Rattle.mdr_top.specs.declared.words.Cutting.TheVariants as cutting
 use Rattle.mdr_top.specs.declared.words.Way.{Way}
 use Rattle.mdr_top.specs.declared.words.Way.TheVariants as way
-use Rattle.mdr_top.specs.Words.{Inputs, OfFiles, Task, Cut, Run, cut_of, run_of, command_by, command_of}
+use Rattle.mdr_top.specs.Words.{Inputs, OfFiles, Task, Cut, Run, Generate, Verify, cut_of, run_of, recipe_of, verify_of, other_by, command_by, command_of, texts_command}
 use Rattle.mdr_top.specs.Cuts.{CutDone, IsSplit, IsCut, IsOfCut}
 use Rattle.mdr_top.specs.Answers.{Unread, Untaken, CutAnswered}
 use Rattle.mdr_top.proofs.Statuses.{cut_answered_status}
@@ -27,13 +28,30 @@ use Rattle.mdr_top.proofs.Statuses.{cut_answered_status}
 -- ---- words
 
 pub cut_command : (words : List (List ℕ)) (how : Cutting) (name : List ℕ) → Some (how, name) ≡ cut_of words → command_of words ≡ Some (Cut how name)
-cut_command words how name e = ap (λ (c : Option (Cutting × List ℕ)). command_by c (run_of words)) (sym e)
+cut_command words how name e = ap (λ (c : Option (Cutting × List ℕ)). command_by c (run_of words) (other_by (recipe_of words) (verify_of words) (texts_command words))) (sym e)
 
 pub run_command : (words : List (List ℕ)) (source_name script_name : List ℕ) (in_way : Way) → None ≡ cut_of words → Some (source_name, script_name, in_way) ≡ run_of words → command_of words ≡ Some (Run (OfFiles source_name script_name) in_way)
-run_command words source_name script_name in_way none e = λ i. command_by (sym none i) (sym e i)
+run_command words source_name script_name in_way none e = λ i. command_by (sym none i) (sym e i) (other_by (recipe_of words) (verify_of words) (texts_command words))
+
+pub made_command : (words : List (List ℕ)) (recipe : Recipe) → None ≡ cut_of words → None ≡ run_of words → Some recipe ≡ recipe_of words → command_of words ≡ Some (Generate recipe)
+made_command words recipe none not_run e = λ i. command_by (sym none i) (sym not_run i) (other_by (sym e i) (verify_of words) (texts_command words))
+
+pub verify_command : (words : List (List ℕ)) (source_name script_name transcript_name : List ℕ) → None ≡ cut_of words → None ≡ run_of words → None ≡ recipe_of words → Some (source_name, script_name, transcript_name) ≡ verify_of words
+    → command_of words ≡ Some (Verify source_name script_name transcript_name)
+verify_command words source_name script_name transcript_name none not_run not_made e = λ i. command_by (sym none i) (sym not_run i) (other_by (sym not_made i) (sym e i) (texts_command words))
+
+-- words that come to nothing else
+pub others_named : (words : List (List ℕ)) → None ≡ cut_of words → None ≡ run_of words → None ≡ recipe_of words → None ≡ verify_of words → command_of words ≡ texts_command words
+others_named words none not_run not_made not_verify = λ i. command_by (sym none i) (sym not_run i) (other_by (sym not_made i) (sym not_verify i) (texts_command words))
 
 pub cut_no_run : (command : Option Task) (how : Cutting) (name : List ℕ) (inputs : Inputs) (in_way : Way) → command ≡ Some (Cut how name) → command ≡ Some (Run inputs in_way) → ⊥
 cut_no_run command how name inputs in_way e f = Prim.cc
+
+pub no_made : (command : Option Task) (recipe : Recipe) (inputs : Inputs) (in_way : Way) → command ≡ Some (Generate recipe) → command ≡ Some (Run inputs in_way) → ⊥
+no_made command recipe inputs in_way e f = Prim.cc
+
+pub no_verify : (command : Option Task) (source_name script_name transcript_name : List ℕ) (inputs : Inputs) (in_way : Way) → command ≡ Some (Verify source_name script_name transcript_name) → command ≡ Some (Run inputs in_way) → ⊥
+no_verify command source_name script_name transcript_name inputs in_way e f = Prim.cc
 
 pub whole_no_split : (command : Option Task) (inputs other : Inputs) (manner : Manner) (manner' : SplitManner) → command ≡ Some (Run inputs (way.Whole manner)) → command ≡ Some (Run other (way.Split manner')) → ⊥
 whole_no_split command inputs other manner manner' e f = Prim.cc

@@ -1,38 +1,59 @@
 -- What was done is what is printed, and what is meant.
-use Rattle.std.proofs.Common.{◌≡◌, ℕ, ◌⊎◌, true, false, List, [], Option, Some, None, refl, sym, ap, ◌∙◌, subst}
+use Rattle.std.proofs.Common.{◌≡◌, ◌≢◌, ℕ, ◌+◌, ◌*◌, ◌≤◌, length, ◌⊎◌, inl, inr, true, false, List, [], Option, Some, None, refl, sym, ap, ◌∙◌, subst}
 use Rattle.std.proofs.lemmas.List.{append-nil}
 use Rattle.mdr_due.specs.declared.status.Status.{Status}
 use Rattle.mdr_due.specs.declared.status.Status.TheVariants as status
 use Rattle.mdr_due.specs.Reads.{longest_source, longest_script}
+use Rattle.mdr_exchanges.specs.Meanings.{IsMeant}
+use Rattle.mdr_exchanges.specs.Runs.{IsFarFault}
+use Rattle.mdr_gen.specs.Generator.{driver_text, lines_from}
+use Rattle.mdr_generated.proofs.Steps.{told_status}
+use Rattle.mdr_generated.specs.declared.recipe.Recipe.{Recipe}
+use Rattle.mdr_generated.specs.Generated.{budget, IsTold}
+use Rattle.mdr_generated.specs.Generates.{Generates, GeneratesOver, IsGenerated}
 use Rattle.mdr_honest.specs.Honest.{IsHonest}
+use Rattle.mdr_model.specs.declared.outcome.End.{End}
+use Rattle.mdr_model.specs.declared.outcome.End.TheVariants as ends
 use Rattle.mdr_outside.specs.Calls.{ShelfCall, Read, and_then}
 use Rattle.mdr_outside.specs.declared.shelf.ReadAnswer.TheVariants as reads
-use Rattle.mdr_outside.specs.Sides.{SinkSide}
+use Rattle.mdr_outside.specs.Sides.{FarSide, SinkSide}
+use Rattle.mdr_plain.specs.declared.outcome.Outcome.{Outcome}
+use Rattle.mdr_watched.specs.Watched.{watched}
 use Rattle.mdr_runner.specs.declared.manner.Manner.{Manner}
 use Rattle.mdr_runner.specs.Scripts.{NoScriptOf}
-use Rattle.mdr_runner.specs.Runs.{RunsOver, Runs}
+use Rattle.mdr_runner.specs.Runs.{RunsOver, Runs, status_of}
 use Rattle.mdr_slicer.specs.Slicing.{NoSourceOf}
 use Rattle.mdr_split_runner.specs.declared.manner.SplitManner.{SplitManner}
 use Rattle.mdr_split_runner.specs.Means.{SplitMeans, SplitMeansBy}
 use Rattle.mdr_split_runner.specs.SplitRuns.{SplitRuns}
-use Rattle.mdr_split_runner.proofs.Honest.{runs_mean}
-use Rattle.mdr_top.specs.Answers.{WayDue, RunAnswered, Answered, Prints}
+use Rattle.mdr_split_runner.proofs.Honest.{outcome_means, runs_mean}
+use Rattle.mdr_split_runner.proofs.Meanings.{own_never}
+use Rattle.mdr_top.specs.Answers.{WayDue, RunAnswered, MadeAnswered, Answered, Prints}
 use Rattle.mdr_top.specs.Cuts.{IsOfCut}
 use Rattle.mdr_top.specs.Done.{RunDone, Done, DonePart, Does}
 use Rattle.mdr_top.specs.Headline.{MeansBy, Means}
+use Rattle.mdr_top.specs.Made.{MadeMeansBy}
 use Rattle.mdr_top.specs.declared.words.Cutting.{Cutting}
 use Rattle.mdr_top.specs.declared.words.Way.{Way}
 use Rattle.mdr_top.specs.declared.words.Way.TheVariants as way
 use Rattle.mdr_split_runner.specs.Sides.{Sides}
 use Rattle.mdr_top.specs.Outside.{Outside}
 use Rattle.mdr_top.specs.Wholes.{WholeMeansBy, IsOfWhole}
-use Rattle.mdr_top.specs.Words.{Inputs, OfFiles, Task, Cut, Run, command_of}
+use Rattle.mdr_top.specs.Words.{Inputs, OfFiles, Task, Cut, Run, Generate, Verify, command_of, RunTexts, texts_manner}
+use Rattle.mdr_halves_runner.specs.Means.{HalvesMean}
+use Rattle.mdr_halves_runner.specs.Names.{TextNames}
+use Rattle.mdr_halves_runner.specs.Runs.{HalvesRuns}
+use Rattle.mdr_halves_runner.proofs.Honest.{halves_mean}
+use Rattle.mdr_top.specs.Texts.{TextsMeanBy, TextsMean}
 use Rattle.mdr_top.specs.Writing.{IsWritten, IsCutOff, TellsFailure}
-use Rattle.mdr_top.proofs.CutLaws.{cut_no_run, whole_no_split, unread_so, cut_so, cut_status}
+use Rattle.mdr_top.proofs.CutLaws.{cut_no_run, no_made, no_verify, whole_no_split, unread_so, cut_so, cut_status}
 use Rattle.mdr_top.proofs.Headline.{IsEarly, early_sourceless, not_early}
 use Rattle.mdr_top.proofs.Pieces.{offers_last, offers_whole}
 use Rattle.mdr_top.proofs.SplitLaws.{split_so}
 use Rattle.mdr_top.proofs.Statuses.{unread_status}
+use Rattle.mdr_verifier.specs.Verifies.{Verifies}
+use Rattle.mdr_top.proofs.VerifyLaws.{verified_so, verified_unrefused}
+use Rattle.mdr_top.proofs.TextsLaws.{texts_so, texts_no_run, texts_mean_by}
 use Rattle.mdr_top.proofs.WholeLaws.{whole_so, whole_status}
 
 -- ---- what is done
@@ -53,10 +74,20 @@ ran_so : (inputs : Inputs) (in_way : Way) (before after : Sides) (s : Status) (t
 ran_so (OfFiles name script_name) (way.Whole manner) before after s text d = whole_so before.shelf.files name script_name manner before.shelf.calls after.shelf.calls s text d.runs
 ran_so (OfFiles name script_name) (way.Split manner) before after s text d = split_so before.shelf.files name script_name manner before.shelf.calls after.shelf.calls before.far after.far s text d
 
+made_so : (recipe : Recipe) (far far' : FarSide) (s : Status) (text : List ℕ) → IsGenerated recipe far far' s text → MadeAnswered recipe far'.loaded far'.exchanges s text
+made_so recipe far far' s text (Generates.no_source n same) = MadeAnswered.no_source n
+made_so recipe far far' s text (Generates.over source h (GeneratesOver.no_script n same)) = MadeAnswered.no_script source h n
+made_so recipe far far' s text (Generates.over source h (GeneratesOver.ran script b run)) =
+    MadeAnswered.ran source script h b (record { plan = run.run.plan; texts = run.run.texts; cut = run.run.cut; outcome = run.outcome; ran = run.run.ran; told = run.told })
+
 answered_so : (words : List (List ℕ)) (before after : Sides) (s : Status) (text : List ℕ) → Done words before after s text → Answered words before.shelf.files after.far.loaded after.far.exchanges s text
 answered_so words before after s text (Done.usage e same is t) = Answered.usage e is t
 answered_so words before after s text (Done.cut how name e d f) = Answered.cut how name e (cut_so how before.shelf.files after.shelf.files name before.shelf.calls after.shelf.calls s text d)
 answered_so words before after s text (Done.ran inputs in_way e kept runs) = Answered.ran inputs in_way e (ran_so inputs in_way before after s text runs)
+answered_so words before after s text (Done.made recipe e d) = Answered.made recipe e (made_so recipe before.far after.far s text d.generates)
+answered_so words before after s text (Done.verified name script_name transcript_name e same kept v) =
+    Answered.verified name script_name transcript_name e (verified_so before.shelf.files name script_name transcript_name before.shelf.calls after.shelf.calls s text v)
+answered_so words before after s text (Done.texts names script_name e kept runs) = Answered.texts names script_name e (texts_so before.shelf.files names script_name before.shelf.calls after.shelf.calls before.far after.far s text runs)
 
 pub prints_so : (words : List (List ℕ)) (before after : Outside) (s : Status) → Does words before after s → Prints words before after s
 prints_so words before after s (Does.whole text d w) = Prints.whole text (answered_so words before.sides after.sides s text d) w
@@ -126,12 +157,49 @@ module _ (words : List (List ℕ)) (before after : Outside) (s : Status) where
       whole_means (OfFiles name script_name) manner e (whole_status before.sides.shelf.files name script_name manner before.sides.shelf.calls after.sides.shelf.calls s text runs.runs)
   ran_means text adds (OfFiles name script_name) (way.Split manner) e runs honest = split_means text adds name script_name manner e runs honest
 
+  -- over an honest far side no answer is refused
+  made_never : (recipe : Recipe) (text : List ℕ) → IsGenerated recipe before.sides.far after.sides.far s text → IsHonest after.sides.far.loaded after.sides.far.exchanges → s ≢ status.Marshal
+  made_never recipe text (Generates.no_source n same) honest = λ e. let no : status.SourceRefused ≡ status.Marshal = sym n.status_is ∙ e in Prim.cc
+  made_never recipe text (Generates.over source h (GeneratesOver.no_script n same)) honest = λ e. let no : status.ScriptRefused ≡ status.Marshal = sym n.status_is ∙ e in Prim.cc
+  made_never recipe text (Generates.over source h (GeneratesOver.ran script b run)) honest = λ e. never
+      (outcome_means driver_text (lines_from recipe.seed recipe.size) source run.run.plan run.run.texts script budget after.sides.far.exchanges h b run.run.cut after.sides.far.loaded run.outcome honest run.run.ran)
+      (sym (told_status recipe source.program after.sides.far.exchanges run.outcome s text run.told) ∙ e)
+    where
+      fails : (end : End) → IsFarFault end → status_of end ≡ status.Marshal → ⊥
+      fails ends.Ok f is = f
+      fails (ends.Stop kind at) f is = f
+      fails (ends.Refused exchange cause number) f is = f
+      fails (ends.FarFault exchange) f is = Prim.cc
+
+      never : IsFarFault run.outcome.end ⊎ IsMeant source.program run.run.plan script budget after.sides.far.exchanges run.outcome → status_of run.outcome.end ≡ status.Marshal → ⊥
+      never (inl f) is = fails run.outcome.end f is
+      never (inr m) is = own_never run.outcome.end m.own is
+
+  made_means : (recipe : Recipe) (text : List ℕ) → command_of words ≡ Some (Generate recipe) → IsGenerated recipe before.sides.far after.sides.far s text → IsHonest after.sides.far.loaded after.sides.far.exchanges → MeansIt
+  made_means recipe text e made honest = record { never = made_never recipe text made honest; means = λ source_name script_name manner named is. absurd (no_made (command_of words) recipe (OfFiles source_name script_name) (way.Split manner) e named) }
+
+  verify_means : (text name script_name transcript_name : List ℕ) → command_of words ≡ Some (Verify name script_name transcript_name) → Verifies before.sides.shelf.files name script_name transcript_name before.sides.shelf.calls after.sides.shelf.calls s text → MeansIt
+  verify_means text name script_name transcript_name e v = record {
+    never = verified_unrefused before.sides.shelf.files name script_name transcript_name before.sides.shelf.calls after.sides.shelf.calls s text v;
+    means = λ source_name other_name manner named is. absurd (no_verify (command_of words) name script_name transcript_name (OfFiles source_name other_name) (way.Split manner) e named);
+  }
+
+  -- from texts no reply is refused
+  texts_mean : (text : List ℕ) (names : TextNames) (script_name : List ℕ) → command_of words ≡ Some (RunTexts names script_name) → HalvesRuns before.sides.shelf.files names script_name texts_manner before.sides.shelf.calls after.sides.shelf.calls before.sides.far after.sides.far s text → IsHonest after.sides.far.loaded after.sides.far.exchanges → MeansIt
+  texts_mean text names script_name e runs honest = record {
+    never = (halves_mean before.sides.shelf.files names script_name texts_manner before.sides.shelf.calls after.sides.shelf.calls before.sides.far after.sides.far s text runs honest).never;
+    means = λ source_name other_name manner named is. absurd (texts_no_run (command_of words) names script_name (OfFiles source_name other_name) (way.Split manner) e named);
+  }
+
   pub does_mean : Does words before after s → IsHonest after.sides.far.loaded after.sides.far.exchanges → MeansIt
   does_mean (Does.cut due text e d c) honest = early_means (subst IsEarly (sym e) tt)
   does_mean (Does.nothing e d same) honest = early_means (subst IsEarly (sym e) tt)
   does_mean (Does.whole text (Done.usage e same is t) w) honest = early_means (subst IsEarly (sym is) tt)
   does_mean (Does.whole text (Done.cut how name e d f) w) honest = cut_means how name e (cut_status how before.sides.shelf.files after.sides.shelf.files name before.sides.shelf.calls after.sides.shelf.calls s text d)
   does_mean (Does.whole text (Done.ran inputs in_way e kept runs) w) honest = ran_means text w inputs in_way e runs honest
+  does_mean (Does.whole text (Done.made recipe e d) w) honest = made_means recipe text e d.generates honest
+  does_mean (Does.whole text (Done.verified name script_name transcript_name e same kept v) w) honest = verify_means text name script_name transcript_name e v
+  does_mean (Does.whole text (Done.texts names script_name e kept runs) w) honest = texts_mean text names script_name e runs honest
 
 -- ---- what is meant on one memory
 
@@ -166,8 +234,99 @@ module _ (words : List (List ℕ)) (before after : Outside) (s : Status) (source
   done_means text adds is (Done.usage e same st t) = absurd (no_whole (command_of words) (OfFiles source_name script_name) (way.Whole manner) named e)
   done_means text adds is (Done.cut how name e d f) = absurd (cut_no_run (command_of words) how name (OfFiles source_name script_name) (way.Whole manner) e named)
   done_means text adds is (Done.ran inputs in_way e kept runs) = ran_on_one text adds is inputs in_way e runs
+  done_means text adds is (Done.made recipe e d) = absurd (no_made (command_of words) recipe (OfFiles source_name script_name) (way.Whole manner) e named)
+  done_means text adds is (Done.verified name other transcript_name e same kept v) = absurd (no_verify (command_of words) name other transcript_name (OfFiles source_name script_name) (way.Whole manner) e named)
+  done_means text adds is (Done.texts names other e kept runs) = absurd (texts_no_run (command_of words) names other (OfFiles source_name script_name) (way.Whole manner) e named)
 
   pub does_run : Does words before after s → (s ≡ status.Done) ⊎ (s ≡ status.Stopped) → WholeMeansBy words before after s
   does_run (Does.whole text d w) is = done_means text w is d
   does_run (Does.cut due text e d c) is = absurd (not_early s (subst IsEarly (sym e) tt) is)
   does_run (Does.nothing e d same) is = absurd (not_early s (subst IsEarly (sym e) tt) is)
+
+-- ---- what is meant of a seed
+
+other_word : (command : Option Task) (recipe : Recipe) → command ≡ Some (Generate recipe) → command ≡ None → ⊥
+other_word command recipe e f = Prim.cc
+
+other_cut : (command : Option Task) (recipe : Recipe) (how : Cutting) (name : List ℕ) → command ≡ Some (Generate recipe) → command ≡ Some (Cut how name) → ⊥
+other_cut command recipe how name e f = Prim.cc
+
+other_verify : (command : Option Task) (recipe : Recipe) (name script_name transcript_name : List ℕ) → command ≡ Some (Generate recipe) → command ≡ Some (Verify name script_name transcript_name) → ⊥
+other_verify command recipe name script_name transcript_name e f = Prim.cc
+
+other_texts : (command : Option Task) (recipe : Recipe) (names : TextNames) (script_name : List ℕ) → command ≡ Some (Generate recipe) → command ≡ Some (RunTexts names script_name) → ⊥
+other_texts command recipe names script_name e f = Prim.cc
+
+failed_never : (end : End) (s : Status) → IsFarFault end → s ≡ status_of end → (s ≡ status.Done) ⊎ (s ≡ status.Stopped) → ⊥
+failed_never ends.Ok s f so is = f
+failed_never (ends.Stop kind at) s f so is = f
+failed_never (ends.Refused exchange cause number) s f so is = f
+failed_never (ends.FarFault exchange) s f so (inl is) = let no : status.FarFault ≡ status.Done = sym so ∙ is in Prim.cc
+failed_never (ends.FarFault exchange) s f so (inr is) = let no : status.FarFault ≡ status.Stopped = sym so ∙ is in Prim.cc
+
+module _ (words : List (List ℕ)) (before after : Outside) (s : Status) (honest : IsHonest after.sides.far.loaded after.sides.far.exchanges) (is : (s ≡ status.Done) ⊎ (s ≡ status.Stopped)) where
+  made_by : (text : List ℕ) → IsWritten before.out after.out text → (recipe : Recipe) → command_of words ≡ Some (Generate recipe) → IsGenerated recipe before.sides.far after.sides.far s text → MadeMeansBy words before after s
+  made_by text adds recipe e (Generates.no_source n same) = absurd (not_early s (subst IsEarly (sym n.status_is) tt) is)
+  made_by text adds recipe e (Generates.over source h (GeneratesOver.no_script n same)) = absurd (not_early s (subst IsEarly (sym n.status_is) tt) is)
+  made_by text adds recipe e (Generates.over source h (GeneratesOver.ran script b run)) =
+      of (outcome_means driver_text (lines_from recipe.seed recipe.size) source run.run.plan run.run.texts script budget after.sides.far.exchanges h b run.run.cut after.sides.far.loaded run.outcome honest run.run.ran)
+    where
+      of : IsFarFault run.outcome.end ⊎ IsMeant source.program run.run.plan script budget after.sides.far.exchanges run.outcome → MadeMeansBy words before after s
+      of (inl f) = absurd (failed_never run.outcome.end s f (told_status recipe source.program after.sides.far.exchanges run.outcome s text run.told) is)
+      of (inr m) = record {
+        recipe = recipe;
+        command = e;
+        source = source;
+        script = script;
+        has = h;
+        bound = b;
+        plan = run.run.plan;
+        texts = run.run.texts;
+        cut = run.run.cut;
+        text = text;
+        printed = adds;
+        told = subst (λ (o : Outcome). IsTold recipe source.program after.sides.far.exchanges o s text) m.outcome run.told;
+        messages = subst (λ (o : Outcome). 2 * length after.sides.far.exchanges ≤ 4 * o.ticks + 6 * (watched source.program run.run.plan script budget).world.kept.calls) m.outcome m.messages;
+      }
+
+  done_made : (text : List ℕ) → IsWritten before.out after.out text → (recipe : Recipe) → command_of words ≡ Some (Generate recipe) → Done words before.sides after.sides s text → MadeMeansBy words before after s
+  done_made text adds recipe named (Done.usage e same st t) = absurd (other_word (command_of words) recipe named e)
+  done_made text adds recipe named (Done.cut how name e d f) = absurd (other_cut (command_of words) recipe how name named e)
+  done_made text adds recipe named (Done.ran inputs in_way e kept runs) = absurd (no_made (command_of words) recipe inputs in_way named e)
+  done_made text adds recipe named (Done.made other e d) = made_by text adds other e d.generates
+  done_made text adds recipe named (Done.texts names script_name e kept runs) = absurd (other_texts (command_of words) recipe names script_name named e)
+  done_made text adds recipe named (Done.verified name script_name transcript_name e same kept v) = absurd (other_verify (command_of words) recipe name script_name transcript_name named e)
+
+  pub does_made : (recipe : Recipe) → command_of words ≡ Some (Generate recipe) → Does words before after s → MadeMeansBy words before after s
+  does_made recipe named (Does.whole text d w) = done_made text w recipe named d
+  does_made recipe named (Does.cut due text e d c) = absurd (not_early s (subst IsEarly (sym e) tt) is)
+  does_made recipe named (Does.nothing e d same) = absurd (not_early s (subst IsEarly (sym e) tt) is)
+
+-- ---- what is meant from texts
+
+module _ (words : List (List ℕ)) (before after : Outside) (s : Status) (honest : IsHonest after.sides.far.loaded after.sides.far.exchanges) (names : TextNames) (script_name : List ℕ) (named : command_of words ≡ Some (RunTexts names script_name)) where
+  texts_done : (text : List ℕ) → IsWritten before.out after.out text → (s ≡ status.Done) ⊎ (s ≡ status.Stopped) → Done words before.sides after.sides s text → TextsMeanBy words before after s
+  texts_done text adds is (Done.usage e same st t) = absurd (no_texts (command_of words) named e)
+    where
+      no_texts : (command : Option Task) → command ≡ Some (RunTexts names script_name) → command ≡ None → ⊥
+      no_texts command p q = Prim.cc
+  texts_done text adds is (Done.cut how name e d f) = absurd (no_texts (command_of words) named e)
+    where
+      no_texts : (command : Option Task) → command ≡ Some (RunTexts names script_name) → command ≡ Some (Cut how name) → ⊥
+      no_texts command p q = Prim.cc
+  texts_done text adds is (Done.ran inputs in_way e kept runs) = absurd (texts_no_run (command_of words) names script_name inputs in_way named e)
+  texts_done text adds is (Done.made recipe e d) = absurd (other_texts (command_of words) recipe names script_name e named)
+  texts_done text adds is (Done.verified name other transcript_name e same kept v) = absurd (no_texts (command_of words) named e)
+    where
+      no_texts : (command : Option Task) → command ≡ Some (RunTexts names script_name) → command ≡ Some (Verify name other transcript_name) → ⊥
+      no_texts command p q = Prim.cc
+  texts_done text adds is (Done.texts names' other e kept runs) =
+      texts_mean_by words before after s text names' other e adds ((halves_mean before.sides.shelf.files names' other texts_manner before.sides.shelf.calls after.sides.shelf.calls before.sides.far after.sides.far s text runs honest).means is)
+
+  does_texts : Does words before after s → (s ≡ status.Done) ⊎ (s ≡ status.Stopped) → TextsMeanBy words before after s
+  does_texts (Does.whole text d w) is = texts_done text w is d
+  does_texts (Does.cut due text e d c) is = absurd (not_early s (subst IsEarly (sym e) tt) is)
+  does_texts (Does.nothing e d same) is = absurd (not_early s (subst IsEarly (sym e) tt) is)
+
+pub texts_are_meant : (words : List (List ℕ)) (before after : Outside) (s : Status) → Does words before after s → TextsMean words before after s
+texts_are_meant words before after s does honest names script_name named is = does_texts words before after s honest names script_name named does is

@@ -6,6 +6,8 @@ use Rattle.mdr_core.specs.declared.program.Program.{Program}
 use Rattle.mdr_due.specs.declared.status.Status.{Status}
 use Rattle.mdr_due.specs.declared.status.Status.TheVariants as status
 use Rattle.mdr_due.specs.Reads.{Files, longest_source, longest_script}
+use Rattle.mdr_generated.proofs.Steps.{told_status}
+use Rattle.mdr_generated.specs.declared.recipe.Recipe.{Recipe}
 use Rattle.mdr_outside.specs.Count.{Rose}
 use Rattle.mdr_outside.specs.declared.far.Exchange.{Exchange}
 use Rattle.mdr_outside.specs.declared.far.Loaded.{Loaded}
@@ -17,8 +19,8 @@ use Rattle.mdr_runner.specs.Scripts.{script_for}
 use Rattle.mdr_bound.specs.declared.bound.Bound.{Bound}
 use Rattle.mdr_script.specs.declared.script_error.ScriptKind.{ScriptKind}
 use Rattle.mdr_source.specs.declared.outcome.Source.{Source}
-use Rattle.mdr_top.specs.Answers.{Unread, Untaken, IsTaken, CutAnswered, ScriptAnswered, FileAnswered, WholeDue, SplitDue, WayDue, RunAnswered, Answered, Prints}
-use Rattle.mdr_top.specs.Comes.{IsUntakenDue, IsTakenDue, IsCutDue, IsBoundDue, IsSizedDue, IsScriptDue, IsRunDue, IsFileDue, IsWholeDue, WayEnds, IsDueOf, IsDueFor, IsDueOrFault, IsExact, CutCompletes, WholeCompletes}
+use Rattle.mdr_top.specs.Answers.{Unread, Untaken, IsTaken, CutAnswered, ScriptAnswered, FileAnswered, WholeDue, SplitDue, WayDue, RunAnswered, MadeAnswered, TranscriptDue, VerifyAnswered, Answered, Prints, HoldTexts, AreTaken, UntakenTexts, TextsAnswered}
+use Rattle.mdr_top.specs.Comes.{IsUntakenDue, IsTakenDue, IsCutDue, IsBoundDue, IsSizedDue, IsScriptDue, IsRunDue, IsFileDue, IsWholeDue, WayEnds, IsDueOf, IsMadeDue, IsTranscriptDue, IsVerifyDue, IsDueFor, IsDueOrFault, IsExact, CutCompletes, WholeCompletes, IsNoTextDue, IsTextDue, AreTextsDue, AreUntakenDue, AreTakenDue, IsTextsDue}
 use Rattle.mdr_top.specs.Cuts.{IsSplit, IsCut, CutCause, WroteCause, WriteCause, ReadCause}
 use Rattle.mdr_top.specs.declared.words.Cutting.{Cutting}
 use Rattle.mdr_top.specs.declared.words.Cutting.TheVariants as cutting
@@ -27,8 +29,14 @@ use Rattle.mdr_top.specs.declared.words.Way.TheVariants as way
 use Rattle.mdr_top.specs.Headline.{Rests, RestsHere}
 use Rattle.mdr_top.specs.Outside.{Outside}
 use Rattle.mdr_top.specs.Splits.{IsOfRun}
-use Rattle.mdr_top.specs.Words.{Inputs, OfFiles, Task, Cut, Run, command_of}
-use Rattle.mdr_top.proofs.SplitLaws.{run_status}
+use Rattle.mdr_top.specs.Words.{Inputs, OfFiles, Task, Cut, Run, Generate, Verify, command_of, RunTexts, texts_manner}
+use Rattle.mdr_verifier.proofs.Said.{said_exactly}
+use Rattle.mdr_verifier.specs.Verifies.{longest_transcript}
+use Rattle.mdr_top.proofs.SplitLaws.{end_status, run_status}
+use Rattle.mdr_cut.specs.declared.texts.Texts.{Texts}
+use Rattle.mdr_halves.proofs.Refusing.{refused_are_none}
+use Rattle.mdr_halves_runner.specs.Names.{TextNames}
+use Rattle.mdr_halves_runner.specs.Reads.{longest_text}
 
 module _ (words : List (List ℕ)) (f : List ℕ → Option (List ℕ)) (loaded : Option Loaded) (es : List Exchange) (s : Status) (text : List ℕ) where
   -- a source that isn't taken, or whose file couldn't be read
@@ -93,10 +101,80 @@ module _ (words : List (List ℕ)) (f : List ℕ → Option (List ℕ)) (loaded 
   ran_due (OfFiles name script_name) (way.Split manner) c =
       run_due (λ program bound. IsOfRun s) (SplitDue manner loaded es s text) name script_name (λ source script due. run_status source.program due.plan due.texts script manner.ticks loaded es s due.report due.ran) c
 
+  made_due : (recipe : Recipe) → MadeAnswered recipe loaded es s text → IsMadeDue recipe s
+  made_due recipe (MadeAnswered.no_source n) = IsMadeDue.refused n.refusal n.comes n.status_is
+  made_due recipe (MadeAnswered.no_script source h n) =
+      IsMadeDue.accepted source h.comes (subst (λ (given : Result Bound (ℕ × ScriptKind)). IsBoundDue (λ bound. IsOfRun s) given s) (sym n.refused) n.status_is)
+  made_due recipe (MadeAnswered.ran source script h b due) =
+      IsMadeDue.accepted source h.comes (subst (λ (given : Result Bound (ℕ × ScriptKind)). IsBoundDue (λ bound. IsOfRun s) given s) (sym b)
+      (subst IsOfRun (sym (told_status recipe source.program es due.outcome s text due.told)) (end_status due.outcome.end)))
+
+  transcript_due : (name : List ℕ) (source : Source) (script : Bound) → TranscriptDue (Some f) name s text source script → (s ≡ status.ReadFault) ⊎ IsTranscriptDue source script (f name) s
+  transcript_due name source script (TranscriptDue.unread (Unread.missing r e t)) = inr (IsTranscriptDue.missing r e)
+  transcript_due name source script (TranscriptDue.unread (Unread.long r e t)) = inr (of (f name) refl r)
+    where
+      of : (o : Option (List ℕ)) → f name ≡ o → IsSomeAnd o (λ bytes. longest_transcript < length bytes) → IsTranscriptDue source script (f name) s
+      of None is h = elim h [ ]
+      of (Some bytes) is h = IsTranscriptDue.long bytes is h e
+  transcript_due name source script (TranscriptDue.unread (Unread.failed e t)) = inl e
+  transcript_due name source script (TranscriptDue.judged bytes r j) = inr (IsTranscriptDue.judged bytes j.exchanges j.report r.0 r.1 j.run (said_exactly bytes j.exchanges j.report s text j.said))
+
+  verify_due : (name script_name transcript_name : List ℕ) → VerifyAnswered (Some f) name script_name transcript_name s text → IsDueOrFault (IsVerifyDue (f name) (f script_name) (f transcript_name) s) s
+  verify_due name script_name transcript_name (ScriptAnswered.no_source u) =
+      or_fault (IsUntakenDue (f name) s) (IsVerifyDue (f name) (f script_name) (f transcript_name) s) (λ none. IsVerifyDue.no_source none) (untaken_due name u)
+  verify_due name script_name transcript_name (ScriptAnswered.script_unread source h u) =
+      or_fault (IsScriptDue source.program (λ bound. ⊥) (f script_name) s) (IsVerifyDue (f name) (f script_name) (f transcript_name) s) (λ due. IsVerifyDue.no_script source (taken_due name source h) due) (script_unfit script_name source.program (λ bound. ⊥) u)
+  verify_due name script_name transcript_name (ScriptAnswered.script_refused source lines h r n) =
+      inr (inr (inr (IsVerifyDue.no_script source (taken_due name source h) (script_fits script_name lines source.program (λ bound. ⊥) (Err (n.line, n.kind)) r n.refused n.status_is))))
+  verify_due name script_name transcript_name (ScriptAnswered.ran source lines script h r b due) =
+      or_fault (IsTranscriptDue source script (f transcript_name) s) (IsVerifyDue (f name) (f script_name) (f transcript_name) s) (λ d. IsVerifyDue.accepted source lines script (taken_due name source h) r.0 r.1 b d) (transcript_due transcript_name source script due)
+
+  -- ---- three texts
+
+  no_text_due : (name : List ℕ) → Unread (Some f) name longest_text s text → (s ≡ status.ReadFault) ⊎ IsNoTextDue (f name) s
+  no_text_due name (Unread.missing r e t) = inr (IsNoTextDue.missing r e)
+  no_text_due name (Unread.long r e t) = inr (of (f name) refl r)
+    where
+      of : (o : Option (List ℕ)) → f name ≡ o → IsSomeAnd o (λ bytes. longest_text < length bytes) → IsNoTextDue (f name) s
+      of None is h = elim h [ ]
+      of (Some bytes) is h = IsNoTextDue.long bytes is h e
+  no_text_due name (Unread.failed e t) = inl e
+
+  text_due : (name bytes : List ℕ) → ReadsFrom (Some f) name longest_text (reads.Ok bytes) → IsTextDue (f name) bytes
+  text_due name bytes r = record { holds = r.0; fits = r.1 }
+
+  texts_due : (names : TextNames) (texts : Texts) → HoldTexts (Some f) names texts → AreTextsDue f names texts
+  texts_due names texts h = record { kernel = text_due names.kernel texts.kernel h.kernel_read; user = text_due names.user texts.user h.user_read; plan = text_due names.plan texts.plan h.plan_read }
+
+  known : (Known Due : Type 0) → (Known → Due) → (s ≡ status.ReadFault) ⊎ Known → (s ≡ status.ReadFault) ⊎ Due
+  known Known Due go (inl is) = inl is
+  known Known Due go (inr k) = inr (go k)
+
+  untaken_texts_due : (names : TextNames) → UntakenTexts (Some f) names s text → (s ≡ status.ReadFault) ⊎ AreUntakenDue f names s
+  untaken_texts_due names (UntakenTexts.no_kernel u) = known (IsNoTextDue (f names.kernel) s) (AreUntakenDue f names s) (λ n. AreUntakenDue.no_kernel n) (no_text_due names.kernel u)
+  untaken_texts_due names (UntakenTexts.no_user kernel r u) = known (IsNoTextDue (f names.user) s) (AreUntakenDue f names s) (λ n. AreUntakenDue.no_user kernel (text_due names.kernel kernel r) n) (no_text_due names.user u)
+  untaken_texts_due names (UntakenTexts.no_plan kernel user r q u) = known (IsNoTextDue (f names.plan) s) (AreUntakenDue f names s) (λ n. AreUntakenDue.no_plan kernel user (text_due names.kernel kernel r) (text_due names.user user q) n) (no_text_due names.plan u)
+  untaken_texts_due names (UntakenTexts.refused texts h n) = inr (AreUntakenDue.refused texts (texts_due names texts h) (λ source are. refused_are_none texts n.mismatch source n.come are) n.status_is)
+
+  taken_texts_due : (names : TextNames) (source : Source) → AreTaken (Some f) names source → AreTakenDue f names source
+  taken_texts_due names source t = record { texts = t.texts; due = texts_due names t.texts t.held; are = t.has.are }
+
+  all_texts_due : (names : TextNames) (script_name : List ℕ) → TextsAnswered names script_name (Some f) loaded es s text → IsDueOrFault (IsTextsDue names script_name f s) s
+  all_texts_due names script_name (ScriptAnswered.no_source u) = or_fault (AreUntakenDue f names s) (IsTextsDue names script_name f s) (λ none. IsRunDue.no_source none) (untaken_texts_due names u)
+  all_texts_due names script_name (ScriptAnswered.script_unread source t u) =
+      or_fault (IsScriptDue source.program (λ bound. IsOfRun s) (f script_name) s) (IsTextsDue names script_name f s) (λ due. IsRunDue.accepted source (taken_texts_due names source t) due) (script_unfit script_name source.program (λ bound. IsOfRun s) u)
+  all_texts_due names script_name (ScriptAnswered.script_refused source lines t r n) =
+      inr (inr (inr (IsRunDue.accepted source (taken_texts_due names source t) (script_fits script_name lines source.program (λ bound. IsOfRun s) (Err (n.line, n.kind)) r n.refused n.status_is))))
+  all_texts_due names script_name (ScriptAnswered.ran source lines script t r b due) =
+      inr (inr (inr (IsRunDue.accepted source (taken_texts_due names source t) (script_fits script_name lines source.program (λ bound. IsOfRun s) (Ok script) r b (run_status source.program due.plan due.texts script texts_manner.ticks loaded es s due.report due.ran)))))
+
   answered_due : Answered words (Some f) loaded es s text → IsDueOrFault (IsDueFor (command_of words) f s) s
   answered_due (Answered.usage e is t) = inr (inr (inr (subst (λ (c : Option Task). IsDueFor c f s) (sym e) is)))
   answered_due (Answered.cut how name e c) = subst (λ (d : Option Task). IsDueOrFault (IsDueFor d f s) s) (sym e) (cut_due how name c)
   answered_due (Answered.ran inputs in_way e c) = subst (λ (d : Option Task). IsDueOrFault (IsDueFor d f s) s) (sym e) (ran_due inputs in_way c)
+  answered_due (Answered.made recipe e c) = subst (λ (d : Option Task). IsDueOrFault (IsDueFor d f s) s) (sym e) (inr (inr (inr (made_due recipe c))))
+  answered_due (Answered.verified name script_name transcript_name e c) = subst (λ (d : Option Task). IsDueOrFault (IsDueFor d f s) s) (sym e) (verify_due name script_name transcript_name c)
+  answered_due (Answered.texts names script_name e c) = subst (λ (d : Option Task). IsDueOrFault (IsDueFor d f s) s) (sym e) (all_texts_due names script_name c)
 
 pub prints_exactly : (words : List (List ℕ)) (before after : Outside) (s : Status) → Prints words before after s → IsExact words before.sides.shelf.files s
 prints_exactly words before after s p = of before.sides.shelf.files (exactly p)
@@ -118,6 +196,9 @@ usage_comes words before after s (Prints.whole text a w) none = of a
     of (Answered.usage e is t) = inl is
     of (Answered.cut how name e c) = absurd (Prim.cc)
     of (Answered.ran inputs in_way e c) = absurd (Prim.cc)
+    of (Answered.made recipe e c) = absurd (Prim.cc)
+    of (Answered.verified name script_name transcript_name e c) = absurd (Prim.cc)
+    of (Answered.texts names script_name e c) = absurd (Prim.cc)
 usage_comes words before after s (Prints.cut due text is a c) none = inr (inl is)
 usage_comes words before after s (Prints.nothing is same) none = inr (inr is)
 

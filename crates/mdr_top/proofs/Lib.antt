@@ -3,6 +3,9 @@ pub mod CutLaws
 pub mod WholeLaws
 pub mod SplitLaws
 pub mod RunLaws
+pub mod MadeLaws
+pub mod VerifyLaws
+pub mod TextsLaws
 pub mod Headline
 pub mod Complete
 pub mod Comes

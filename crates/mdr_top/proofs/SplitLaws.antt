@@ -40,7 +40,8 @@ split_so files source_name script_name manner old new far far' s text (SplitRuns
 
 -- ---- statuses
 
-end_status : (end : End) → IsOfRun (status_of end)
+-- each end of a run has one of its statuses
+pub end_status : (end : End) → IsOfRun (status_of end)
 end_status ends.Ok = tt
 end_status (ends.Stop kind at) = tt
 end_status (ends.Refused exchange cause number) = tt

@@ -7,10 +7,17 @@ use Rattle.mdr_due.specs.declared.status.Status.{Status}
 use Rattle.mdr_due.specs.declared.status.Status.TheVariants as status
 use Rattle.mdr_due.specs.Lines.{file_line}
 use Rattle.mdr_due.specs.Reads.{Files, longest_source, longest_script}
+use Rattle.mdr_gen.specs.Generator.{driver_text, lines_from}
+use Rattle.mdr_generated.specs.declared.recipe.Recipe.{Recipe}
+use Rattle.mdr_generated.specs.Generated.{budget, IsTold}
+use Rattle.mdr_halves_runner.specs.Names.{TextNames}
+use Rattle.mdr_halves_runner.specs.Reads.{longest_text}
+use Rattle.mdr_halves_runner.specs.Sources.{HasHalves, NoHalves}
 use Rattle.mdr_outside.specs.declared.far.Exchange.{Exchange}
 use Rattle.mdr_outside.specs.declared.far.Loaded.{Loaded}
 use Rattle.mdr_outside.specs.declared.shelf.ReadAnswer.TheVariants as reads
 use Rattle.mdr_outside.specs.Shelf.{ReadsFrom}
+use Rattle.mdr_plain.specs.declared.outcome.Outcome.{Outcome}
 use Rattle.mdr_runner.specs.declared.manner.Manner.{Manner}
 use Rattle.mdr_runner.specs.Runs.{IsRun}
 use Rattle.mdr_runner.specs.Scripts.{HasScript, NoScript}
@@ -20,7 +27,9 @@ use Rattle.mdr_source.specs.declared.outcome.Source.{Source}
 use Rattle.mdr_split_runner.specs.Cuts.{IsCutInto}
 use Rattle.mdr_split_runner.specs.declared.manner.SplitManner.{SplitManner}
 use Rattle.mdr_split_runner.specs.Messages.{with_messages}
-use Rattle.mdr_split_runner.specs.Reports.{Ran}
+use Rattle.mdr_split_runner.specs.Reports.{Ran, RanTo}
+use Rattle.mdr_verifier.specs.Judged.{IsJudged}
+use Rattle.mdr_verifier.specs.Verifies.{longest_transcript}
 use Rattle.mdr_top.specs.declared.words.Cutting.{Cutting}
 use Rattle.mdr_top.specs.declared.words.Way.{Way}
 use Rattle.mdr_top.specs.declared.words.Way.TheVariants as way
@@ -28,7 +37,7 @@ use Rattle.mdr_top.specs.Cuts.{IsCut}
 use Rattle.mdr_top.specs.Lines.{usage_line}
 use Rattle.mdr_top.specs.Outside.{Outside}
 use Rattle.mdr_top.specs.Writing.{IsWritten, IsCutOff}
-use Rattle.mdr_top.specs.Words.{Inputs, OfFiles, Cut, Run, command_of}
+use Rattle.mdr_top.specs.Words.{Inputs, OfFiles, Cut, Run, Generate, Verify, command_of, RunTexts, texts_manner}
 
 -- a file that isn't there to be read
 pub data Unread (files : Files) (name : List ℕ) (limit : ℕ) (s : Status) (text : List ℕ) : Type 0 where
@@ -89,6 +98,58 @@ WayDue (way.Split manner) loaded es s text = SplitDue manner loaded es s text
 abbrev pub RunAnswered : Inputs → (files : Files) → (Due : Source → Bound → Type 0) → Status → List ℕ → Type 0
 RunAnswered (OfFiles source_name script_name) files Due s text = FileAnswered files source_name script_name Due s text
 
+-- ---- a seed
+
+-- the far side is loaded with the texts that the driver is cut into, and what the run over what it answered shows is told
+pub record MadeDue (recipe : Recipe) (loaded : Option Loaded) (es : List Exchange) (s : Status) (text : List ℕ) (source : Source) (script : Bound) : Type 0 where
+  pub plan : Plan
+  pub texts : Texts
+  pub cut : IsCutInto source plan texts
+  pub outcome : Outcome
+  pub ran : RanTo source.program plan texts script budget loaded es outcome
+  pub told : IsTold recipe source.program es outcome s text
+
+-- the driver and the script that the seed makes are run over the driver's two halves, where they are a source and a script
+pub data MadeAnswered (recipe : Recipe) (loaded : Option Loaded) (es : List Exchange) (s : Status) (text : List ℕ) : Type 0 where
+  no_source : NoSource driver_text s text → MadeAnswered recipe loaded es s text
+  no_script : (source : Source) → HasSource driver_text source → NoScript source.program (lines_from recipe.seed recipe.size) s text → MadeAnswered recipe loaded es s text
+  ran : (source : Source) (script : Bound) → HasSource driver_text source → HasScript source.program (lines_from recipe.seed recipe.size) script → MadeDue recipe loaded es s text source script → MadeAnswered recipe loaded es s text
+
+-- ---- a transcript
+
+-- the transcript isn't read, or it is held against the run of the script over the source's halves
+pub data TranscriptDue (files : Files) (name : List ℕ) (s : Status) (text : List ℕ) (source : Source) (script : Bound) : Type 0 where
+  unread : Unread files name longest_transcript s text → TranscriptDue files name s text source script
+  judged : (bytes : List ℕ) → ReadsFrom files name longest_transcript (reads.Ok bytes) → IsJudged source script bytes s text → TranscriptDue files name s text source script
+
+abbrev pub VerifyAnswered : (files : Files) (source_name script_name transcript_name : List ℕ) → Status → List ℕ → Type 0
+VerifyAnswered files source_name script_name transcript_name s text = FileAnswered files source_name script_name (TranscriptDue files transcript_name s text) s text
+
+-- ---- three texts and a script
+
+-- the files hold the texts
+pub record HoldTexts (files : Files) (names : TextNames) (texts : Texts) : Type 0 where
+  pub kernel_read : ReadsFrom files names.kernel longest_text (reads.Ok texts.kernel)
+  pub user_read : ReadsFrom files names.user longest_text (reads.Ok texts.user)
+  pub plan_read : ReadsFrom files names.plan longest_text (reads.Ok texts.plan)
+
+-- texts that aren't taken: the first whose file isn't read, or they are refused
+pub data UntakenTexts (files : Files) (names : TextNames) (s : Status) (text : List ℕ) : Type 0 where
+  no_kernel : Unread files names.kernel longest_text s text → UntakenTexts files names s text
+  no_user : (kernel : List ℕ) → ReadsFrom files names.kernel longest_text (reads.Ok kernel) → Unread files names.user longest_text s text → UntakenTexts files names s text
+  no_plan : (kernel user : List ℕ) → ReadsFrom files names.kernel longest_text (reads.Ok kernel) → ReadsFrom files names.user longest_text (reads.Ok user) → Unread files names.plan longest_text s text → UntakenTexts files names s text
+  refused : (texts : Texts) → HoldTexts files names texts → NoHalves texts s text → UntakenTexts files names s text
+
+-- texts that are taken, those of this source
+pub record AreTaken (files : Files) (names : TextNames) (source : Source) : Type 0 where
+  pub texts : Texts
+  pub held : HoldTexts files names texts
+  pub has : HasHalves texts source
+
+-- what is due of them is what is due of a run over the two halves of their source
+abbrev pub TextsAnswered : TextNames → (script_name : List ℕ) → (files : Files) → Option Loaded → List Exchange → Status → List ℕ → Type 0
+TextsAnswered names script_name files loaded es s text = ScriptAnswered files (UntakenTexts files names) (AreTaken files names) script_name (SplitDue texts_manner loaded es s text) s text
+
 -- ---- the words
 
 -- the status and the text that are due
@@ -96,6 +157,9 @@ pub data Answered (words : List (List ℕ)) (files : Files) (loaded : Option Loa
   usage : command_of words ≡ None → s ≡ status.Usage → text ≡ usage_line → Answered words files loaded es s text
   cut : (how : Cutting) (name : List ℕ) → command_of words ≡ Some (Cut how name) → CutAnswered how files name s text → Answered words files loaded es s text
   ran : (inputs : Inputs) (in_way : Way) → command_of words ≡ Some (Run inputs in_way) → RunAnswered inputs files (WayDue in_way loaded es s text) s text → Answered words files loaded es s text
+  made : (recipe : Recipe) → command_of words ≡ Some (Generate recipe) → MadeAnswered recipe loaded es s text → Answered words files loaded es s text
+  verified : (source_name script_name transcript_name : List ℕ) → command_of words ≡ Some (Verify source_name script_name transcript_name) → VerifyAnswered files source_name script_name transcript_name s text → Answered words files loaded es s text
+  texts : (names : TextNames) (script_name : List ℕ) → command_of words ≡ Some (RunTexts names script_name) → TextsAnswered names script_name files loaded es s text → Answered words files loaded es s text
 
 -- ---- what is printed
 

@@ -17,7 +17,7 @@ use Rattle.mdr_slicer.specs.Slicing.{Splits, SplitsPart, Reports, IsReported}
 use Rattle.mdr_top.specs.declared.words.Cutting.{Cutting}
 use Rattle.mdr_top.specs.declared.words.Cutting.TheVariants as cutting
 use Rattle.mdr_top.specs.Outside.{Outside}
-use Rattle.mdr_top.specs.Words.{Task, Cut, Run, command_of}
+use Rattle.mdr_top.specs.Words.{Task, Cut, Run, Generate, Verify, command_of, RunTexts}
 
 -- ---- what is done
 
@@ -70,6 +70,9 @@ abbrev pub WroteCause : Option Task → (before after : ℕ) → Type 0
 WroteCause None before after = ⊥
 WroteCause (Some (Cut how name)) before after = CutCause how before after
 WroteCause (Some (Run inputs in_way)) before after = ⊥
+WroteCause (Some (Generate recipe)) before after = ⊥
+WroteCause (Some (Verify source_name script_name transcript_name)) before after = ⊥
+WroteCause (Some (RunTexts names script_name)) before after = ⊥
 
 -- a write fault comes only where the output's count of faults rose, or where texts are written the shelf's of failed writes
 abbrev pub WriteCause : (words : List (List ℕ)) → (before after : Outside) → Status → Type 0

@@ -9,6 +9,8 @@ pub mod Answers
 pub mod Accepted
 pub mod Done
 pub mod Headline
+pub mod Made
 pub mod Wholes
 pub mod Splits
+pub mod Texts
 pub mod Comes

@@ -8,11 +8,13 @@ ghost use Rattle.mdr_top.specs.Cuts.{ReadCause, WroteCause};
 ghost use Rattle.mdr_top.specs.Done.{DoneBy, PartBy};
 
 use crate::cutting::cut;
-use crate::lines::usage_line;
+use crate::making::made;
+use crate::texts::from_texts;
+use crate::verifying::verify;
 use crate::ways::ran;
-use crate::words::{cut_of, run_of};
+use crate::words::{cut_of, recipe_of, run_of, verify_of};
 use mdr_core::OutOfMemory;
-use mdr_due::{Due, Status};
+use mdr_due::Due;
 use mdr_outside::{Far, Shelf, ShelfSeen};
 use mdr_split_runner::SidesSeen;
 use std::alloc::Global;
@@ -33,11 +35,14 @@ pub(crate) fn answered<S: Shelf, F: Far>(
     if let Some((how, name)) = cut_of(words) {
         return cut(alloc, how, shelf, name);
     }
-    let Some((source_name, script_name, way)) = run_of(words) else {
-        return Ok(Due {
-            status: Status::Usage,
-            text: usage_line(alloc)?,
-        });
-    };
-    ran(alloc, shelf, far, source_name, script_name, way)
+    if let Some((source_name, script_name, way)) = run_of(words) {
+        return ran(alloc, shelf, far, source_name, script_name, way);
+    }
+    if let Some(recipe) = recipe_of(words) {
+        return made(alloc, far, recipe);
+    }
+    if let Some((source_name, script_name, transcript_name)) = verify_of(words) {
+        return verify(alloc, shelf, source_name, script_name, transcript_name);
+    }
+    from_texts(alloc, words, shelf, far)
 }

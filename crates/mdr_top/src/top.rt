@@ -12,7 +12,9 @@ ghost use Rattle.mdr_top.specs.Done.{Does};
 ghost use Rattle.mdr_top.specs.Cuts.{ReadCause, WriteCause};
 ghost use Rattle.mdr_top.specs.Headline.{MeansWhereHonest, Completes};
 ghost use Rattle.mdr_top.specs.Comes.{Comes, IsExact, CutCompletes, WholeCompletes};
+ghost use Rattle.mdr_top.specs.Made.{MadeMeans};
 ghost use Rattle.mdr_top.specs.Wholes.{WholeMeans};
+ghost use Rattle.mdr_top.specs.Texts.{PrintsAsSplit, TextsMean};
 ghost use Rattle.mdr_top.specs.Words.{command_of};
 ghost use Rattle.mdr_top.specs.Writing.{Writes, TellsFailure};
 
@@ -73,8 +75,9 @@ fn printed<S: Shelf, O: Sink, F: Far>(
 }
 
 /// Does what the words say: reads a source from the shelf, and writes its texts to files, or reports on it, or runs a
-/// script over it, on one memory or over its two halves, of which the user half runs in the far side; and prints what came
-/// of it, or why there is nothing. Nothing is printed before all of it is made.
+/// script over it, on one memory or over its two halves, of which the user half runs in the far side; or runs one over the
+/// halves that three texts are; or runs what a seed makes; or holds a transcript against a run; and prints what came of it,
+/// or why there is nothing. Nothing is printed before all of it is made.
 pub fn run<S: Shelf, O: Sink, F: Far>(
     alloc: Global,
     words: &Vec<String>,
@@ -91,6 +94,9 @@ pub fn run<S: Shelf, O: Sink, F: Far>(
     ensures failed_write { TellsFailure (O.calls out.old) (O.calls out.new) result }
     ensures meaning { MeansWhereHonest (map string_bytes words.now.items) (⟦<(S, O, F) as Seen>⟧.at (shelf.old, out.old, far.old)) (⟦<(S, O, F) as Seen>⟧.at (shelf.new, out.new, far.new)) result }
     ensures whole_meaning { WholeMeans (map string_bytes words.now.items) (⟦<(S, O, F) as Seen>⟧.at (shelf.old, out.old, far.old)) (⟦<(S, O, F) as Seen>⟧.at (shelf.new, out.new, far.new)) result }
+    ensures made_meaning { MadeMeans (map string_bytes words.now.items) (⟦<(S, O, F) as Seen>⟧.at (shelf.old, out.old, far.old)) (⟦<(S, O, F) as Seen>⟧.at (shelf.new, out.new, far.new)) result }
+    ensures texts_meaning { TextsMean (map string_bytes words.now.items) (⟦<(S, O, F) as Seen>⟧.at (shelf.old, out.old, far.old)) (⟦<(S, O, F) as Seen>⟧.at (shelf.new, out.new, far.new)) result }
+    ensures as_split { PrintsAsSplit (map string_bytes words.now.items) (⟦<(S, O, F) as Seen>⟧.at (shelf.old, out.old, far.old)) (⟦<(S, O, F) as Seen>⟧.at (shelf.new, out.new, far.new)) result }
     ensures comes { Comes (map string_bytes words.now.items) (S.files shelf.old) (F.loaded far.new) (F.exchanges far.new) result }
     ensures exact { IsExact (map string_bytes words.now.items) (S.files shelf.old) result }
     ensures usage { command_of (map string_bytes words.now.items) ≡ None → (result ≡ status.Usage) ⊎ ((result ≡ status.WriteFault) ⊎ (result ≡ status.OutOfMemory)) }

@@ -2,9 +2,11 @@
 
 ghost use Rattle.std.specs.Prelude.{◌≡◌, map, option_map, string_bytes};
 ghost use Rattle.mdr_top.specs.Budgets.{budget_of};
-ghost use Rattle.mdr_top.specs.Words.{cutting_of, cut_of, whole_way, split_way, way_by, way_of, run_as, run_of};
+ghost use Rattle.mdr_top.specs.Words.{cutting_of, cut_of, whole_way, split_way, way_by, way_of, run_as, run_of, recipe_by, recipe_of, verify_of};
 
 use crate::flags::{Flags, flags_of};
+use crate::ticks::{seed_of, size_of};
+use mdr_generated::Recipe;
 use mdr_runner::Manner;
 use mdr_split_runner::SplitManner;
 
@@ -133,4 +135,40 @@ pub(crate) fn run_of(words: &[String]) -> Option<(&str, &str, Way)>
     let (mode, file, script, others) = run_as(words)?;
     let way = way_of(mode, others)?;
     Some((file, script, way))
+}
+
+fn recipe_by(seed: Option<u64>, size: Option<u64>) -> Option<Recipe>
+    ensures { result ≡ recipe_by seed size }
+{
+    match seed {
+        Some(seed) => match size {
+            Some(size) => Some(Recipe { seed, size }),
+            None => None,
+        },
+        None => None,
+    }
+}
+
+/// The seed and the number of lines, where the words are `gen SEED SIZE`.
+pub(crate) fn recipe_of(words: &[String]) -> Option<Recipe>
+    ensures { result ≡ recipe_of (map string_bytes words.now) }
+{
+    match words {
+        [gen_word, seed, size] if gen_word.as_str() == "gen" => {
+            recipe_by(seed_of(seed.as_str()), size_of(size.as_str()))
+        }
+        _ => None,
+    }
+}
+
+/// The names of the source, of the script and of the transcript, where the words are `verify FILE SCRIPT TRANSCRIPT`.
+pub(crate) fn verify_of(words: &[String]) -> Option<(&str, &str, &str)>
+    ensures { option_map (λ x. (x.0.now, x.1.now, x.2.now)) result ≡ verify_of (map string_bytes words.now) }
+{
+    match words {
+        [verify, file, script, transcript] if verify.as_str() == "verify" => {
+            Some((file.as_str(), script.as_str(), transcript.as_str()))
+        }
+        _ => None,
+    }
 }

@@ -10,9 +10,3 @@ returns-clause-part g c =
     sent_whole c.args.program.now c.args.plan.now c.args.script.now c.args.ticks (g.F.Far.calls c.args.far.now) (g.F.Far.calls c.run.new.far) (g.F.Far.exchanges c.run.new.far)
     (subst (λ (h : HalfState). sent_of (g.F.Far.exchanges c.run.new.far) ≡ map text (run_over (driver_held h) c.args.script.now c.args.ticks (g.F.Far.exchanges c.run.new.far)).sent) c.in_ok-half.ensures c.in_ok-outcome.ensures.run.messages)
     c.in_ok-outcome.ensures.called
-
-pub returns-in_err-due-clause-part : goal.returns-in_err-due-clause-part
-returns-in_err-due-clause-part g c =
-    sent_whole c.args.program.now c.args.plan.now c.args.script.now c.args.ticks (g.F.Far.calls c.args.far.now) (g.F.Far.calls c.run.new.far) (g.F.Far.exchanges c.run.new.far)
-    (subst (λ (h : HalfState). sent_of (g.F.Far.exchanges c.run.new.far) ≡ map text (run_over (driver_held h) c.args.script.now c.args.ticks (g.F.Far.exchanges c.run.new.far)).sent) c.in_ok-half.ensures c.in_ok-outcome.ensures.run.messages)
-    c.in_ok-outcome.ensures.called

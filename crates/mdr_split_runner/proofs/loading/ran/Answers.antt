@@ -2,17 +2,17 @@ use Rattle.std.proofs.lemmas.Result.{IfOk-weaker}
 use Rattle.mdr_outside.specs.declared.far.LoadAnswer.TheVariants as loads
 use Rattle.mdr_split_runner.proofs.Sending.{sent_none}
 use Rattle.mdr_split_runner.proofs.Steps.{held_texts, refused_so}
-use Rattle.mdr_split_runner.specs.Reports.Ran.{refused}
+use Rattle.mdr_split_runner.specs.Reports.RanTo.{refused}
 use Rattle.mdr_split_runner.proofs.loading.ran.Goals as goal
 
 pub returns-in-Refused-clause-ran : goal.returns-in-Refused-clause-ran
 returns-in-Refused-clause-ran g c =
-    IfOk-weaker c.unstarted.result _ _
-    (λ due h. refused c.in-Refused.field-0 (held_texts c.args.cut.now.texts c.as_slice-user.result.now c.as_slice-lines.result.now (loads.Refused c.in-Refused.field-0) (g.F.Far.loaded c.load.new.self) c.as_slice-user.ensures c.as_slice-lines.ensures c.in-Refused.ensures.loaded) h)
-    c.unstarted.ensures
+    IfOk-weaker c.nothing_ran.result _ _
+    (λ o h. refused c.in-Refused.field-0 (held_texts c.args.cut.now.texts c.as_slice-user.result.now c.as_slice-lines.result.now (loads.Refused c.in-Refused.field-0) (g.F.Far.loaded c.load.new.self) c.as_slice-user.ensures c.as_slice-lines.ensures c.in-Refused.ensures.loaded) h)
+    c.nothing_ran.ensures
 
 pub returns-in-Refused-clause-failed : goal.returns-in-Refused-clause-failed
-returns-in-Refused-clause-failed g c = IfOk-weaker c.unstarted.result _ _ (λ due h. refused_so _ c.args.program.now c.args.script.now c.args.ticks due.status due.text.items h) c.unstarted.ensures
+returns-in-Refused-clause-failed g c = IfOk-weaker c.nothing_ran.result _ _ (λ o h. refused_so _ c.args.program.now c.args.script.now c.args.ticks o h) c.nothing_ran.ensures
 
 pub returns-in-Refused-clause-part : goal.returns-in-Refused-clause-part
 returns-in-Refused-clause-part g c =

@@ -1,9 +1,10 @@
 use Rattle.std.proofs.Common.{map}
 use Rattle.std.specs.Prelude.{string_bytes}
-use Rattle.mdr_top.proofs.DoneLaws.{prints_so, does_mean, does_run, does_tell}
+use Rattle.mdr_top.proofs.DoneLaws.{prints_so, does_made, does_mean, does_run, does_tell, texts_are_meant}
 use Rattle.mdr_top.proofs.Complete.{completes}
 use Rattle.mdr_top.proofs.Comes.{comes_last, prints_comes}
 use Rattle.mdr_top.proofs.Exact.{cut_completes, prints_exactly, usage_comes, whole_completes}
+use Rattle.mdr_top.proofs.TextsLaws.{prints_as_split}
 use Rattle.mdr_top.proofs.top.run.Goals as goal
 
 pub returns-clause-prints : goal.returns-clause-prints
@@ -20,6 +21,15 @@ returns-clause-meaning g c = λ honest. does_mean _ _ _ _ c.printed.ensures.does
 
 pub returns-clause-whole_meaning : goal.returns-clause-whole_meaning
 returns-clause-whole_meaning g c = λ source_name script_name manner named is. does_run _ _ _ _ source_name script_name manner named c.printed.ensures.does is
+
+pub returns-clause-made_meaning : goal.returns-clause-made_meaning
+returns-clause-made_meaning g c = λ honest recipe named is. does_made _ _ _ _ honest is recipe named c.printed.ensures.does
+
+pub returns-clause-texts_meaning : goal.returns-clause-texts_meaning
+returns-clause-texts_meaning g c = texts_are_meant _ _ _ _ c.printed.ensures.does
+
+pub returns-clause-as_split : goal.returns-clause-as_split
+returns-clause-as_split g c = prints_as_split _ _ _ _ (prints_so _ _ _ _ c.printed.ensures.does)
 
 pub returns-clause-comes : goal.returns-clause-comes
 returns-clause-comes g c = prints_comes _ _ _ _ (prints_so _ _ _ _ c.printed.ensures.does)

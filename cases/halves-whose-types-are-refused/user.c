@@ -1,0 +1,8 @@
+struct gone *lost;
+u32 count;
+__remote void bump(void);
+void open(void) {
+	bump();
+	writel(count, 4);
+	bump();
+}

@@ -1,0 +1,7 @@
+pub mod Placing
+pub mod Waiting
+pub mod Judging
+pub mod Shaping
+pub mod Coming
+pub mod Steps
+pub mod Refusing

@@ -1,0 +1,5 @@
+pub mod Names
+pub mod Reads
+pub mod Sources
+pub mod Runs
+pub mod Means

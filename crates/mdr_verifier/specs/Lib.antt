@@ -1,0 +1,4 @@
+pub mod Runs
+pub mod Judged
+pub mod Verifies
+pub mod Laws
