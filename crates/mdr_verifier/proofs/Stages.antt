@@ -39,8 +39,8 @@ says_reads P done not (verdict.Report number) s is = subst P (sym is) not
 
 pub said_holds : (P : Status → Type 0) → P status.Done → P status.NotVerified → (bytes : List ℕ) (es : List Exchange) (report : List ℕ) (s : Status) (text : List ℕ) → IsSaid bytes es report s text → P s
 said_holds P done not bytes es report s text (IsSaid.same is so t) = subst P (sym so) done
-said_holds P done not bytes es report s text (IsSaid.differs no (Differs.misread number fault so t)) = subst P (sym so) not
-said_holds P done not bytes es report s text (IsSaid.differs no (Differs.compared t is says)) = says_reads P done not says.found s says.status_is
+said_holds P done not bytes es report s text (IsSaid.differs unlike (Differs.misread number fault so t)) = subst P (sym so) not
+said_holds P done not bytes es report s text (IsSaid.differs unlike (Differs.compared t is says)) = says_reads P done not says.found s says.status_is
 
 -- ---- files
 

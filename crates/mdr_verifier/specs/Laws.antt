@@ -1,4 +1,4 @@
--- for proofs
+-- protocol
 -- What is known of runs over honest far sides, and of transcripts that are judged by them.
 use Rattle.std.specs.Prelude.{◌≡◌, ◌↔◌, ℕ, true, List}
 use Rattle.mdr_due.specs.declared.status.Status.{Status}
