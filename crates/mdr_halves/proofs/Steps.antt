@@ -91,3 +91,47 @@ compared texts text source (Some m) j comes c =
     let here = subst (λ (bytes : List ℕ). Comes bytes (Ok source)) j.text_is comes in
     let same = source_same (tree_with j.items) source (again texts j.items j.are) here in
     Come.other j.items source.program c.due j.are (source_means (printed (tree_with j.items)) source (tree_with j.items) here same) (texts_moved source.tree (tree_with j.items) source.program c.due same c.are) c.other
+
+-- ---- what functions gave, by cases
+
+pub half_read : (text seen : List ℕ) (o : Result Tree ℕ) (tree : Tree) → seen ≡ text → IsRead seen o → o ≡ Ok tree → IsHalf text tree
+half_read text seen o tree same r is = subst (λ (t : List ℕ). IsHalf t tree) same (subst (IsRead seen) is r)
+
+pub half_unread : (text seen : List ℕ) (o : Result Tree ℕ) (line : ℕ) → seen ≡ text → IsRead seen o → o ≡ Err line → IsUnread text line
+half_unread text seen o line same r is = subst (λ (t : List ℕ). IsUnread t line) same (subst (IsRead seen) is r)
+
+pub refused_kernel : (texts : Texts) (line : ℕ) (m : Mismatch) → IsUnread texts.kernel line → m ≡ at which.Kernel line → Come texts (Err m)
+refused_kernel texts line m u is = subst (λ (x : Mismatch). Come texts (Err x)) (sym is) (Come.no_kernel line u)
+
+pub refused_user : (texts : Texts) (kernel : Tree) (line : ℕ) (m : Mismatch) (o : Result (List ℕ) Mismatch) → IsHalf texts.kernel kernel → IsUnread texts.user line → m ≡ at which.User line → o ≡ Err m → Joining texts o
+refused_user texts kernel line m o k u is so = subst (Joining texts) (sym so) (subst (λ (x : Mismatch). Come texts (Err x)) (sym is) (Come.no_user kernel line k u))
+
+pub refused_so : (texts : Texts) (m here : Mismatch) (o : Result Source Mismatch) → Come texts (Err here) → m ≡ here → o ≡ Err m → Come texts o
+refused_so texts m here o c is so = subst (Come texts) (sym so) (subst (λ (x : Mismatch). Come texts (Err x)) (sym is) c)
+
+-- ---- the first text that is another
+
+other_there : (text : Which) (a b said due : List ℕ) (o o' : Option Mismatch) → said ≡ a → due ≡ b → o ≡ o' → OtherIn text said due o → OtherIn text a b o'
+other_there text a b said due o o' e f is h =
+    subst (λ (s : List ℕ). OtherIn text s b o') e (subst (λ (d : List ℕ). OtherIn text said d o') f (subst (OtherIn text said due) is h))
+
+pub same_text : (text : Which) (a b said due : List ℕ) (o : Option Mismatch) → said ≡ a → due ≡ b → OtherIn text said due o → o ≡ None → a ≡ b
+same_text text a b said due o e f h is = other_there text a b said due o None e f is h
+
+pub first_kernel : (given due : Texts) (said other : List ℕ) (o : Option Mismatch) (m : Mismatch) → said ≡ given.kernel → other ≡ due.kernel → OtherIn which.Kernel said other o → o ≡ Some m → IsOther given due m
+first_kernel given due said other o m e f h is =
+    let t = other_there which.Kernel given.kernel due.kernel said other o (Some m) e f is h in
+    subst (IsOther given due) (sym t.2) (IsOther.in_kernel t.0 t.1)
+
+pub first_user : (given due : Texts) (said other : List ℕ) (o : Option Mismatch) (m : Mismatch) → given.kernel ≡ due.kernel → said ≡ given.user → other ≡ due.user → OtherIn which.User said other o → o ≡ Some m → IsOther given due m
+first_user given due said other o m k e f h is =
+    let t = other_there which.User given.user due.user said other o (Some m) e f is h in
+    subst (IsOther given due) (sym t.2) (IsOther.in_user t.0 k t.1)
+
+pub first_plan : (given due : Texts) (said other : List ℕ) (o : Option Mismatch) → given.kernel ≡ due.kernel → given.user ≡ due.user → said ≡ given.plan → other ≡ due.plan → OtherIn which.Plan said other o → FirstOther given due o
+first_plan given due said other None k u e f h =
+    let p : given.plan ≡ due.plan = same_text which.Plan given.plan due.plan said other None e f h refl in
+    λ i. record { kernel = k i; user = u i; plan = p i }
+first_plan given due said other (Some m) k u e f h =
+    let t = other_there which.Plan given.plan due.plan said other (Some m) (Some m) e f refl h in
+    subst (IsOther given due) (sym t.2) (IsOther.in_plan t.0 k u t.1)
