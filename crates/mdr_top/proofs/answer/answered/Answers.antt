@@ -61,4 +61,4 @@ pub returns-in-Some-verify_of-clause-wrote : goal.returns-in-Some-verify_of-clau
 returns-in-Some-verify_of-clause-wrote g c = ok_so c.verify.result _ _ (λ due none is. absurd (none is)) c.verify.ensures.unwritten
 
 pub returns-clause-done : goal.returns-clause-done
-returns-clause-done g c = Done.usage (no_command (map string_bytes c.args.words.now) (search rules) (search rules) (search rules) (search rules)) refl refl c.in_ok-text.ensures
+returns-clause-done g c = Done.usage (no_command (map string_bytes c.args.words.now) (search rules) (search rules) (search rules) (search rules)) refl refl c.in_ok-usage_line.ensures
