@@ -6,7 +6,7 @@ ghost use Rattle.mdr_halves_runner.specs.Names.{names_in};
 ghost use Rattle.mdr_outside.specs.Count.{Rose};
 ghost use Rattle.mdr_top.specs.Cuts.{ReadCause};
 ghost use Rattle.mdr_top.specs.Done.{DoneBy, PartBy};
-ghost use Rattle.mdr_top.specs.Words.{command_of, is_halves, texts_command, texts_manner, texts_of};
+ghost use Rattle.mdr_top.specs.Words.{command_of, is_halves, texts_command, texts_of};
 
 use crate::lines::usage_line;
 use mdr_core::OutOfMemory;
@@ -16,15 +16,8 @@ use mdr_outside::{Far, Shelf, ShelfSeen};
 use mdr_split_runner::{SidesSeen, SplitManner};
 use std::alloc::Global;
 
-/// The manner of such a run, which has no flags.
-fn texts_manner() -> SplitManner
-    ensures { result ≡ texts_manner }
-{
-    SplitManner {
-        ticks: 1_000_000,
-        wire: false,
-    }
-}
+/// The budget of such a run, which has no flags.
+const TICKS: u64 = 1_000_000;
 
 fn is_halves(run: &str, mode: &str) -> bool
     ensures { result ≡ is_halves run.now mode.now }
@@ -70,5 +63,9 @@ pub(crate) fn from_texts<S: Shelf, F: Far>(
             text: usage_line(alloc)?,
         });
     };
-    halves_over(alloc, shelf, far, files, script_name, texts_manner())
+    let manner = SplitManner {
+        ticks: TICKS,
+        wire: false,
+    };
+    halves_over(alloc, shelf, far, files, script_name, manner)
 }

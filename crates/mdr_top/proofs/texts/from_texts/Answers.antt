@@ -1,10 +1,8 @@
-use Rattle.std.proofs.Common.{map, refl, rules, subst}
-use Rattle.std.specs.Prelude.{IfOk, OnErr, string_bytes}
+use Rattle.std.proofs.Common.{map, refl, rules}
+use Rattle.std.specs.Prelude.{string_bytes}
 use Rattle.mdr_due.proofs.StageSteps.{err_weaker}
 use Rattle.mdr_slicer.proofs.Steps.{ok_so}
 use Rattle.mdr_halves_runner.specs.Names.{names_in}
-use Rattle.mdr_halves_runner.specs.Runs.{HalvesPartBy, HalvesRunsBy}
-use Rattle.mdr_split_runner.specs.declared.manner.SplitManner.{SplitManner}
 use Rattle.mdr_top.specs.Done.{Done, DonePart}
 use Rattle.mdr_top.proofs.TextsLaws.{texts_named, texts_unnamed, texts_unwritten}
 use Rattle.mdr_top.proofs.texts.from_texts.Goals as goal
@@ -14,15 +12,11 @@ returns-in_default-clause-done g c = λ e. Done.usage (texts_unnamed (map string
 
 pub returns-clause-done : goal.returns-clause-done
 returns-clause-done g c = λ e.
-    ok_so c.halves_over.result _ _ (λ due runs. Done.texts (names_in c.in-Some.files) c.in-Some.script_name.now (texts_named (map string_bytes c.args.words.now) (names_in c.in-Some.files) c.in-Some.script_name.now e c.in-Some.ensures) c.halves_over.ensures.kept runs)
-    (subst (λ (m : SplitManner). IfOk c.halves_over.result (HalvesRunsBy (names_in c.in-Some.files) c.in-Some.script_name.now m _)) c.texts_manner.ensures c.halves_over.ensures.done)
+    ok_so c.halves_over.result _ _ (λ due runs. Done.texts (names_in c.in-Some.files) c.in-Some.script_name.now (texts_named (map string_bytes c.args.words.now) (names_in c.in-Some.files) c.in-Some.script_name.now e c.in-Some.ensures) c.halves_over.ensures.kept runs) c.halves_over.ensures.done
 
 pub returns-clause-part : goal.returns-clause-part
 returns-clause-part g c = λ e.
-    err_weaker c.halves_over.result _ _ (λ part. DonePart.texts_part (names_in c.in-Some.files) c.in-Some.script_name.now (texts_named (map string_bytes c.args.words.now) (names_in c.in-Some.files) c.in-Some.script_name.now e c.in-Some.ensures) c.halves_over.ensures.kept part)
-    (subst (λ (m : SplitManner). OnErr c.halves_over.result (HalvesPartBy (names_in c.in-Some.files) c.in-Some.script_name.now m.ticks _)) c.texts_manner.ensures c.halves_over.ensures.part)
+    err_weaker c.halves_over.result _ _ (λ part. DonePart.texts_part (names_in c.in-Some.files) c.in-Some.script_name.now (texts_named (map string_bytes c.args.words.now) (names_in c.in-Some.files) c.in-Some.script_name.now e c.in-Some.ensures) c.halves_over.ensures.kept part) c.halves_over.ensures.part
 
 pub returns-clause-unwritten : goal.returns-clause-unwritten
-returns-clause-unwritten g c =
-    ok_so c.halves_over.result _ _ (λ due runs. texts_unwritten _ _ _ _ _ _ _ _ _ runs)
-    (subst (λ (m : SplitManner). IfOk c.halves_over.result (HalvesRunsBy (names_in c.in-Some.files) c.in-Some.script_name.now m _)) c.texts_manner.ensures c.halves_over.ensures.done)
+returns-clause-unwritten g c = ok_so c.halves_over.result _ _ (λ due runs. texts_unwritten _ _ _ _ _ _ _ _ _ runs) c.halves_over.ensures.done
