@@ -5,7 +5,8 @@ use Rattle.mdr_due.specs.declared.due.Stage.{Stage}
 use Rattle.mdr_due.specs.declared.due.Stage.TheVariants as stage
 use Rattle.mdr_due.specs.declared.status.Status.{Status}
 use Rattle.mdr_due.specs.Reads.{Files, IsRead, UnreadBy, WasRead}
-use Rattle.mdr_due.specs.Stages.{StageIs}
+use Rattle.mdr_due.specs.Stages.{StageIs, HasStageCause}
+use Rattle.mdr_due.specs.Statuses.{Counts, HasReadCause}
 use Rattle.mdr_outside.specs.Calls.{ShelfCall}
 use Rattle.mdr_outside.specs.declared.shelf.ReadAnswer.{ReadAnswer}
 use Rattle.mdr_outside.specs.declared.shelf.ReadAnswer.TheVariants as reads
@@ -43,3 +44,8 @@ module _ (files later : Files) (names : TextNames) (script_name : List ℕ) (man
 
   pub runs_part : SplitRunsOverPart later source script_name manner.ticks between new far far' → HalvesPart files names script_name manner.ticks old new far far'
   runs_part part = HalvesPart.sourced_part source between read (subst (λ (f : Files). SplitRunsOverPart f source script_name manner.ticks between new far far') kept part)
+
+-- texts that are refused tell of no file
+pub joined_cause : (texts : Texts) (before after : Counts) (st : Stage Source) → StageIs (HasHalves texts) (NoHalves texts) st → HasStageCause before after st
+joined_cause texts before after (stage.Goes source) has = tt
+joined_cause texts before after (stage.Ends due) none = subst (HasReadCause before after) (sym none.status_is) tt

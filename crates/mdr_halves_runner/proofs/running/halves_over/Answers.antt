@@ -13,11 +13,11 @@ returns-in-Ok-Ends-clause-done g c = no_source (ended _ _ c.in-Ok-Ends.field-0 c
 pub returns-clause-done : goal.returns-clause-done
 returns-clause-done g c =
     IfOk-weaker c.split_run_over-due.result _ _
-    (λ due runs. runs_so (g.S.Shelf.files c.args.shelf.now) (g.S.Shelf.files c.source_in.new.shelf) (names_in c.args.files.entry) c.args.script_name.now c.args.manner (g.S.Shelf.calls c.args.shelf.now) (g.S.Shelf.calls c.source_in.new.shelf) (g.S.Shelf.calls c.split_run_over-due.new.shelf) _ _ c.in-Ok-Goes.source c.source_in.ensures.kept (gone _ _ c.in-Ok-Goes.field-0 c.in-Ok-Goes.source c.in-Ok-Goes.field-0-is c.in-Ok-Goes.ensures.read) due.status due.text.items runs)
+    (λ due runs. runs_so (g.S.Shelf.files c.args.shelf.now) (g.S.Shelf.files c.source_in.new.shelf) (names_in c.args.files) c.args.script_name.now c.args.manner (g.S.Shelf.calls c.args.shelf.now) (g.S.Shelf.calls c.source_in.new.shelf) (g.S.Shelf.calls c.split_run_over-due.new.shelf) _ _ c.in-Ok-Goes.source c.source_in.ensures.kept (gone _ _ c.in-Ok-Goes.field-0 c.in-Ok-Goes.source c.in-Ok-Goes.field-0-is c.in-Ok-Goes.ensures.read) due.status due.text.items runs)
     c.split_run_over-due.ensures.done
 
 pub returns-clause-part : goal.returns-clause-part
 returns-clause-part g c =
     err_weaker c.split_run_over-due.result _ _
-    (λ part. runs_part (g.S.Shelf.files c.args.shelf.now) (g.S.Shelf.files c.source_in.new.shelf) (names_in c.args.files.entry) c.args.script_name.now c.args.manner (g.S.Shelf.calls c.args.shelf.now) (g.S.Shelf.calls c.source_in.new.shelf) (g.S.Shelf.calls c.split_run_over-due.new.shelf) _ _ c.in-Ok-Goes.source c.source_in.ensures.kept (gone _ _ c.in-Ok-Goes.field-0 c.in-Ok-Goes.source c.in-Ok-Goes.field-0-is c.in-Ok-Goes.ensures.read) part)
+    (λ part. runs_part (g.S.Shelf.files c.args.shelf.now) (g.S.Shelf.files c.source_in.new.shelf) (names_in c.args.files) c.args.script_name.now c.args.manner (g.S.Shelf.calls c.args.shelf.now) (g.S.Shelf.calls c.source_in.new.shelf) (g.S.Shelf.calls c.split_run_over-due.new.shelf) _ _ c.in-Ok-Goes.source c.source_in.ensures.kept (gone _ _ c.in-Ok-Goes.field-0 c.in-Ok-Goes.source c.in-Ok-Goes.field-0-is c.in-Ok-Goes.ensures.read) part)
     c.split_run_over-due.ensures.part
