@@ -1,5 +1,6 @@
 -- The stages of judging a transcript.
-use Rattle.std.proofs.Common.{◌≡◌, ◌≢◌, ℕ, List, refl, sym, ap, ◌∙◌, subst}
+use Rattle.std.proofs.Common.{◌≡◌, ◌≢◌, ◌↔◌, ℕ, true, false, List, sym, ◌∙◌, subst}
+use Rattle.std.specs.Prelude.{IsTrue}
 use Rattle.mdr_due.specs.declared.status.Status.{Status}
 use Rattle.mdr_due.specs.declared.status.Status.TheVariants as status
 use Rattle.mdr_due.specs.Reads.{Files, IsRead, WasRead}
@@ -19,6 +20,12 @@ use Rattle.mdr_verify.specs.declared.verdict.Verdict.TheVariants as verdict
 use Rattle.mdr_verifier.specs.Judged.{Differs, IsJudged, IsSaid, Says, verdict_status}
 use Rattle.mdr_verifier.specs.Runs.{IsHonestRun, budget}
 use Rattle.mdr_verifier.specs.Verifies.{Verifies, VerifiesOver, VerifiesOverPart, VerifiesPart, VerifiesRun, longest_transcript}
+
+-- ---- what is printed
+
+-- bytes that aren't those that were made aren't what these are
+pub not_same : (x y z : List ℕ) → (IsTrue false ↔ (x ≡ y)) → y ≡ z → x ≡ z → ⊥
+not_same x y z both is e = let q : false ≡ true = both.1 (e ∙ sym is) in Prim.cc
 
 -- ---- a run over a far side of its own
 
