@@ -9,6 +9,7 @@ use Rattle.mdr_due.specs.declared.status.Status.{Status}
 use Rattle.mdr_due.specs.declared.status.Status.TheVariants as status
 use Rattle.mdr_due.specs.Reads.{Files, longest_script}
 use Rattle.mdr_halves.specs.Joins.{AreTextsOf}
+use Rattle.mdr_halves.specs.Laws.{AreSame}
 use Rattle.mdr_halves.proofs.Placing.{texts_moved}
 use Rattle.mdr_halves.proofs.Refusing.{refused_are_none, texts_of_one}
 use Rattle.mdr_halves_runner.specs.Means.{HalvesMean, HalvesMeanBy}
@@ -112,6 +113,7 @@ texts_unwritten files names script_name old new far far' s text runs =
 
 module _ (words : List (List ℕ)) (before after : Outside) (s : Status) (text : List ℕ) (names : TextNames) (script_name : List ℕ) (e : command_of words ≡ Some (RunTexts names script_name)) (adds : IsWritten before.out after.out text) where
   pub texts_mean_by : HalvesMeanBy before.sides.shelf.files names script_name texts_manner before.sides.shelf.calls after.sides.shelf.calls after.sides.far.loaded after.sides.far.exchanges s text → TextsMeanBy words before after s
+  unfolding taken
   texts_mean_by m = record {
     source = m.source;
     script = m.script;
@@ -185,6 +187,7 @@ module _ (f : List ℕ → Option (List ℕ)) (names : TextNames) (source_name s
   untaken_fails (UntakenTexts.refused texts h n) = absurd (refused_are_none texts n.mismatch split.source n.come (subst (λ (t : Texts). AreTextsOf t split.source) (sym (one_held texts h)) are_of))
 
   module _ (source : Source) (taken' : AreTaken (Some f) names source) where
+    one : AreSame source split.source
     one = texts_of_one taken'.texts source split.source taken'.has.are (subst (λ (t : Texts). AreTextsOf t split.source) (sym (one_held taken'.texts taken'.held)) are_of)
 
     due_moved : (script : Bound) → SplitDue texts_manner loaded es s text source script → SplitDue texts_manner loaded es s text split.source script

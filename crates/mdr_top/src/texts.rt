@@ -6,25 +6,16 @@ ghost use Rattle.mdr_halves_runner.specs.Names.{names_in};
 ghost use Rattle.mdr_outside.specs.Count.{Rose};
 ghost use Rattle.mdr_top.specs.Cuts.{ReadCause};
 ghost use Rattle.mdr_top.specs.Done.{DoneBy, PartBy};
-ghost use Rattle.mdr_top.specs.Words.{command_of, is_halves, texts_command, texts_manner, texts_of};
+ghost use Rattle.mdr_top.specs.Words.{command_of, is_halves, texts_command, texts_of};
 
 use crate::lines::usage_line;
+use crate::words::TICKS;
 use mdr_core::OutOfMemory;
 use mdr_due::{Due, Status};
 use mdr_halves_runner::{TextFiles, halves_over};
 use mdr_outside::{Far, Shelf, ShelfSeen};
 use mdr_split_runner::{SidesSeen, SplitManner};
 use std::alloc::Global;
-
-/// The manner of such a run, which has no flags.
-fn texts_manner() -> SplitManner
-    ensures { result ≡ texts_manner }
-{
-    SplitManner {
-        ticks: 1_000_000,
-        wire: false,
-    }
-}
 
 fn is_halves(run: &str, mode: &str) -> bool
     ensures { result ≡ is_halves run.now mode.now }
@@ -70,5 +61,9 @@ pub(crate) fn from_texts<S: Shelf, F: Far>(
             text: usage_line(alloc)?,
         });
     };
-    halves_over(alloc, shelf, far, files, script_name, texts_manner())
+    let manner = SplitManner {
+        ticks: TICKS,
+        wire: false,
+    };
+    halves_over(alloc, shelf, far, files, script_name, manner)
 }

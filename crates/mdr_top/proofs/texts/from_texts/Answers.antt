@@ -1,4 +1,4 @@
-use Rattle.std.proofs.Common.{map, refl}
+use Rattle.std.proofs.Common.{map, refl, rules}
 use Rattle.std.specs.Prelude.{string_bytes}
 use Rattle.mdr_due.proofs.StageSteps.{err_weaker}
 use Rattle.mdr_slicer.proofs.Steps.{ok_so}
@@ -7,8 +7,8 @@ use Rattle.mdr_top.specs.Done.{Done, DonePart}
 use Rattle.mdr_top.proofs.TextsLaws.{texts_named, texts_unnamed, texts_unwritten}
 use Rattle.mdr_top.proofs.texts.from_texts.Goals as goal
 
-pub returns-in_ok-text-in_default-clause-done : goal.returns-in_ok-text-in_default-clause-done
-returns-in_ok-text-in_default-clause-done g c = λ e. Done.usage (texts_unnamed (map string_bytes c.args.words.now) e c.texts_of.ensures) refl refl c.in_ok-text.ensures
+pub returns-in_default-clause-done : goal.returns-in_default-clause-done
+returns-in_default-clause-done g c = λ e. Done.usage (texts_unnamed (map string_bytes c.args.words.now) e (search rules)) refl refl c.in_ok-usage_line.ensures
 
 pub returns-clause-done : goal.returns-clause-done
 returns-clause-done g c = λ e.
