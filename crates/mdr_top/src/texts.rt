@@ -9,15 +9,13 @@ ghost use Rattle.mdr_top.specs.Done.{DoneBy, PartBy};
 ghost use Rattle.mdr_top.specs.Words.{command_of, is_halves, texts_command, texts_of};
 
 use crate::lines::usage_line;
+use crate::words::TICKS;
 use mdr_core::OutOfMemory;
 use mdr_due::{Due, Status};
 use mdr_halves_runner::{TextFiles, halves_over};
 use mdr_outside::{Far, Shelf, ShelfSeen};
 use mdr_split_runner::{SidesSeen, SplitManner};
 use std::alloc::Global;
-
-/// The budget of such a run, which has no flags.
-const TICKS: u64 = 1_000_000;
 
 fn is_halves(run: &str, mode: &str) -> bool
     ensures { result ≡ is_halves run.now mode.now }

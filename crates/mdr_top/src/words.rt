@@ -54,7 +54,7 @@ pub(crate) fn cut_of(words: &[String]) -> Option<(Cutting, &str)>
 }
 
 /// The budget where nothing is said of it.
-const TICKS: u64 = 1_000_000;
+pub(crate) const TICKS: u64 = 1_000_000;
 
 fn budget_of(ticks: Option<u64>) -> u64
     ensures { result ≡ budget_of ticks }
