@@ -1,4 +1,5 @@
 pub mod AllKeysLaws
+pub mod CountLaws
 pub mod FieldBodies
 pub mod FormBodies
 pub mod KeyLaws

@@ -4,11 +4,12 @@ ghost use Rattle.std.specs.Prelude.{◌≡◌, ◌≤◌, ◌++◌, IfOk, OnOk, 
 ghost use Rattle.std.specs.List.{list_any};
 ghost use Rattle.std.specs.Option.{option_copied};
 ghost use Rattle.mdr_core.specs.Layout.{fields_of};
+ghost use Rattle.mdr_core.specs.Sound.{IsSound};
 ghost use Rattle.mdr_core.specs.Suited.{is_key, is_lock, key_type};
 ghost use Rattle.mdr_access.specs.KeyOrder.{same_key};
 ghost use Rattle.mdr_access.specs.AllKeys.{kept, global_keys, field_keys, struct_keys, element_keys, all_keys};
 
-use mdr_core::{Field, Key, Limit, OutOfMemory, Program, Ty};
+use mdr_core::{Field, Key, Program, Ty};
 use std::alloc::{AllocError, Global};
 
 fn is_lock(ty: &Ty) -> bool
@@ -135,27 +136,22 @@ fn add_elements(program: &Program, out: &mut Vec<Key>) -> Result<(), AllocError>
 
 /// Adds the keys of the structs' fields.
 #[tactic(auto, unfolding(crate::specs::AllKeys::struct_keys))]
-fn add_structs(program: &Program, out: &mut Vec<Key>) -> Result<(), OutOfMemory>
-    requires { length program.now.structs ≤ 4294967296 }
+fn add_structs(program: &Program, out: &mut Vec<Key>) -> Result<(), AllocError>
+    requires { IsSound program.now }
     ensures { OnOk result (out.new.items ≡ out.old.items ++ struct_keys program.now 0 program.now.structs) }
 {
-    for (s, def) in program.structs.as_slice().iter().enumerate() {
-        if def.fields.len() > 1 << 32 {
-            return Err(Limit::Unmet.past());
-        }
+    let structs = program.structs.as_slice();
+    for (s, def) in structs.iter().enumerate() {
         add_fields(program, s as u32, def.fields.as_slice(), out)?;
     }
     Ok(())
 }
 
 /// The keys of a program that name no lock, in their order.
-pub(crate) fn all_keys(alloc: Global, program: &Program) -> Result<Vec<Key>, OutOfMemory>
+pub(crate) fn all_keys(alloc: Global, program: &Program) -> Result<Vec<Key>, AllocError>
+    requires { IsSound program.now }
     ensures { IfOk result (λ keys. keys.items ≡ all_keys program.now) }
 {
-    let most = 1 << 32;
-    if program.globals.len() > most || program.structs.len() > most || program.types.len() > most {
-        return Err(Limit::Unmet.past());
-    }
     let mut keys = Vec::new(alloc);
     add_globals(program, &mut keys)?;
     add_structs(program, &mut keys)?;

@@ -15,7 +15,7 @@ use crate::keys::all_keys;
 use crate::owned::owned;
 use crate::shared::{each_alone, share};
 use crate::walk::{is_user, led_marks, picked, turned, user_edges};
-use mdr_core::{Half, Items, Key, Limit, OutOfMemory, Plan, Program};
+use mdr_core::{Half, Items, Key, OutOfMemory, Plan, Program};
 use mdr_paths::turned_edges;
 use mdr_slice::{Halves, call_graph, called_marks};
 use std::alloc::{AllocError, Global};
@@ -178,15 +178,8 @@ fn plan_keys(
     requires { IsSound program.now }
     ensures { IfOk result (λ lists. AreLists program.now halves.now lists.items) }
 {
-    let most = 1 << 32;
-    if program.types.len() > most || program.funcs.len() > most {
-        return Err(Limit::Unmet.past());
-    }
     let exposed = exposed_fields(alloc, program)?;
     let keys = all_keys(alloc, program)?;
-    if keys.len() > most {
-        return Err(Limit::Unmet.past());
-    }
     let rows = rows_of(alloc, program, exposed.as_slice(), keys.as_slice())?;
     let graph = call_graph(alloc, program)?;
     let edges = user_edges(alloc, halves, graph.as_slice())?;

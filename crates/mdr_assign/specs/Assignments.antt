@@ -4,9 +4,9 @@ use Rattle.std.specs.Prelude.{ℕ, List, Option, Some, None, codes, pos}
 use Rattle.std.specs.Str.{bytes_eq}
 use Rattle.mdr_core.specs.declared.code.BinOp.{BinOp}
 use Rattle.mdr_core.specs.declared.code.BinOp.TheVariants.{Add, Sub}
-use Rattle.mdr_core.specs.declared.code.Expr.{Expr}
-use Rattle.mdr_core.specs.declared.code.Expr.TheVariants as expr
-use Rattle.mdr_core.specs.declared.code.Lval.{Lval}
+use Rattle.mdr_rich.specs.declared.code.Expr.{Expr}
+use Rattle.mdr_rich.specs.declared.code.Expr.TheVariants as expr
+use Rattle.mdr_rich.specs.declared.code.Lval.{Lval}
 use Rattle.mdr_core.specs.declared.kind.Kind.TheVariants.{S32}
 use Rattle.mdr_core.specs.declared.place.Place.{Place}
 use Rattle.mdr_core.specs.declared.types.Ty.{Ty}

@@ -2,7 +2,7 @@
 
 ghost use Rattle.std.specs.Prelude.{◌≡◌, IfOk, Err};
 ghost use Rattle.mdr_assign.specs.declared.assignment.Destination.{Destination};
-ghost use Rattle.mdr_core.specs.declared.code.Expr.{Expr};
+ghost use Rattle.mdr_rich.specs.declared.code.Expr.{Expr};
 ghost use Rattle.mdr_operand.specs.declared.operand.Operand.{Operand};
 ghost use Rattle.mdr_faults.specs.Faults.{Checked, told, after, both};
 ghost use Rattle.mdr_binary.specs.Binaries.{calculation_of};
@@ -10,11 +10,12 @@ ghost use Rattle.mdr_assign.specs.Assignments.{scalar_object, destination_at, gi
 
 use mdr_binary::calculation_of;
 use mdr_code_copies::copied_lval;
-use mdr_core::{BinOp, Expr, Lval, Place, Ty};
+use mdr_core::{BinOp, Place, Ty};
 use mdr_faults::{Fault, FaultKind, Scope, both, copied_type, is_scalar};
 use mdr_operand::{
     AssignmentOperator, Operand, both_given_up, converted_at, given_up, out_of_memory,
 };
+use mdr_rich::{Expr, Lval};
 use std::alloc::{AllocError, Global};
 
 /// A scalar object that is given a value, and its type.

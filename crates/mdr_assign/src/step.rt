@@ -7,9 +7,10 @@ ghost use Rattle.mdr_faults.specs.Faults.{Checked, told, after};
 ghost use Rattle.mdr_assign.specs.Assignments.{step_operator, one, stepped_by, stepped_at, step_rule};
 
 use crate::assignment::{Assignment, Destination, compound_at, destination_at};
-use mdr_core::{BinOp, Expr, Kind, Place, Value};
+use mdr_core::{BinOp, Kind, Place, Value};
 use mdr_faults::{Fault, FaultKind, Scope};
 use mdr_operand::{Operand, given_up, number};
+use mdr_rich::Expr;
 use std::alloc::{AllocError, Global};
 
 /// What is done with 1.

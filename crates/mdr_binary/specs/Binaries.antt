@@ -3,8 +3,8 @@
 use Rattle.std.specs.Prelude.{Bool, true, false, ◌&&◌, ◌||◌, Option, Some, None}
 use Rattle.mdr_core.specs.declared.code.BinOp.{BinOp}
 use Rattle.mdr_core.specs.declared.code.BinOp.TheVariants.{Add, Sub, Mul, Div, Rem, Shl, Shr, BitAnd, BitOr, BitXor}
-use Rattle.mdr_core.specs.declared.code.Expr.{Expr}
-use Rattle.mdr_core.specs.declared.code.Expr.TheVariants as expr
+use Rattle.mdr_rich.specs.declared.code.Expr.{Expr}
+use Rattle.mdr_rich.specs.declared.code.Expr.TheVariants as expr
 use Rattle.mdr_core.specs.declared.code.RelOp.{RelOp}
 use Rattle.mdr_core.specs.declared.code.RelOp.TheVariants.{Eq, Ne, Lt, Le, Gt, Ge}
 use Rattle.mdr_core.specs.declared.kind.Kind.{Kind}

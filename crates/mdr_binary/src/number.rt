@@ -7,9 +7,10 @@ ghost use Rattle.mdr_operand.specs.Forms.{at_kind};
 ghost use Rattle.mdr_binary.specs.Binaries.{bin_at, with_common, arithmetic, shifted, is_shift, calculated, numbers_calculated, compared, compared_at, integers_compared, numbers_compared};
 
 use mdr_arith::{common, promote};
-use mdr_core::{BinOp, Boxed, Expr, Kind, Place, RelOp};
+use mdr_core::{BinOp, Boxed, Kind, Place, RelOp};
 use mdr_faults::{Fault, both};
 use mdr_operand::{Integer, Operand, at_kind, integer_at, number, out_of_memory, truth};
+use mdr_rich::Expr;
 use std::alloc::{AllocError, Global};
 
 fn boxed_at(alloc: Global, kind: Kind, n: Integer) -> Result<Boxed<Expr>, AllocError>

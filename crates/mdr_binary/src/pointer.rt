@@ -1,8 +1,8 @@
 // Pointers moved, and their difference (C99 6.5.6).
 
 ghost use Rattle.std.specs.Prelude.{◌≡◌, IfOk};
-ghost use Rattle.mdr_core.specs.declared.code.Expr.{Expr};
-ghost use Rattle.mdr_core.specs.declared.code.Expr.TheVariants as expr;
+ghost use Rattle.mdr_rich.specs.declared.code.Expr.{Expr};
+ghost use Rattle.mdr_rich.specs.declared.code.Expr.TheVariants as expr;
 ghost use Rattle.mdr_core.specs.declared.kind.Kind.TheVariants.{S64};
 ghost use Rattle.mdr_operand.specs.declared.operand.Integer.{Integer};
 ghost use Rattle.mdr_operand.specs.declared.operand.Operand.TheVariants as operand;
@@ -14,11 +14,12 @@ ghost use Rattle.mdr_faults.specs.Faults.{Checked, told, both, refuse};
 ghost use Rattle.mdr_binary.specs.Binaries.{moved, moved_pointer, moved_by, distance, have_distance, distance_at, difference, sum, less, pointers_calculated};
 
 use crate::value::both_boxed;
-use mdr_core::{BinOp, Expr, Kind, Place, Ty};
+use mdr_core::{BinOp, Kind, Place, Ty};
 use mdr_faults::{Fault, Scope, both, is_alike, mismatch};
 use mdr_operand::{
     Integer, Operand, Pointer, Scalar, integer_at, is_complete, is_number, number, pointer_at,
 };
+use mdr_rich::Expr;
 use std::alloc::{AllocError, Global};
 
 /// A fault where these values were to be used.

@@ -1,18 +1,19 @@
 // Pointers of whatever types, compared (C99 6.5.8, 6.5.9), and `&&` and `||` (6.5.13, 6.5.14).
 
 ghost use Rattle.std.specs.Prelude.{◌≡◌, IfOk, None, Ok};
-ghost use Rattle.mdr_core.specs.declared.code.Expr.{Expr};
-ghost use Rattle.mdr_core.specs.declared.code.Expr.TheVariants as expr;
+ghost use Rattle.mdr_rich.specs.declared.code.Expr.{Expr};
+ghost use Rattle.mdr_rich.specs.declared.code.Expr.TheVariants as expr;
 ghost use Rattle.mdr_operand.specs.declared.operand.Scalar.{Scalar};
 ghost use Rattle.mdr_faults.specs.Faults.{Checked, Right, told, both};
 ghost use Rattle.mdr_operand.specs.Forms.{null_pointer, truth};
 ghost use Rattle.mdr_binary.specs.Binaries.{compared, address_by, address_at, null_or_address, null_compared, have_one_object, have_one_function, have_one_type, have_one_void, void_of, values_compared, voids_compared, both_true, either_true, conjunction, disjunction};
 
-use mdr_core::{Boxed, Expr, Place, RelOp, Value};
+use mdr_core::{Boxed, Place, RelOp, Value};
 use mdr_faults::{Fault, are_alike, both, is_alike};
 use mdr_operand::{
     Operand, Scalar, expression_of, is_null, needed, out_of_memory, scalar_at, truth,
 };
+use mdr_rich::Expr;
 use std::alloc::{AllocError, Global};
 
 fn boxed_beside(

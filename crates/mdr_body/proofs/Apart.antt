@@ -14,7 +14,7 @@ use Rattle.mdr_syntax.specs.declared.tree.NodeWhat.TheViews.{out-NodeWhat, roll-
 use Rattle.mdr_faults.specs.declared.fault.Fault.{Fault}
 use Rattle.mdr_faults.specs.declared.scope.Scope.{Scope}
 use Rattle.mdr_faults.specs.Faults.{Checked, told}
-use Rattle.mdr_operand.specs.Written.{Line, Lines, node_what_written, clause_written, node_written}
+use Rattle.mdr_operand.specs.Written.{Line, Lines, Labelled, node_what_written, clause_written, node_written}
 use Rattle.mdr_body.specs.declared.here.Frame.{Frame}
 use Rattle.mdr_body.specs.declared.here.Here.{Here}
 use Rattle.mdr_body.specs.Locals.{numbered}
@@ -38,25 +38,25 @@ has_parts (Line.If p e one other) = true
 has_parts (Line.While p e body) = true
 has_parts (Line.For p init test step body) = true
 has_parts (Line.Do p body e) = false
-has_parts (Line.Switch p e) = false
+has_parts (Line.Switch p e cs) = false
 has_parts (Line.Return p e) = false
 has_parts (Line.Break p) = false
 has_parts (Line.Continue p) = false
 
 layer_apart : (l : Layer) → ((d : Decl) (v : Option Form) → roll-NodeWhat l ≡ Local d v → ⊥) → (p : Place) → declares (line_what (roll-NodeWhat l) p) ≡ false
-layer_apart NodeWhat-F.Empty other p = rw (fold-roll-NodeWhat (Place → Line) (Unit {0}) Line node_what_written clause_written node_written NodeWhat-F.Empty) refl
-layer_apart (NodeWhat-F.Block ss) other p = rw (fold-roll-NodeWhat (Place → Line) (Unit {0}) Line node_what_written clause_written node_written (NodeWhat-F.Block ss)) refl
+layer_apart NodeWhat-F.Empty other p = rw (fold-roll-NodeWhat (Place → Line) Labelled Line node_what_written clause_written node_written NodeWhat-F.Empty) refl
+layer_apart (NodeWhat-F.Block ss) other p = rw (fold-roll-NodeWhat (Place → Line) Labelled Line node_what_written clause_written node_written (NodeWhat-F.Block ss)) refl
 layer_apart (NodeWhat-F.Local d v) other p = absurd (other d v (rolls-Local d v))
-layer_apart (NodeWhat-F.Assign q op a b) other p = rw (fold-roll-NodeWhat (Place → Line) (Unit {0}) Line node_what_written clause_written node_written (NodeWhat-F.Assign q op a b)) refl
-layer_apart (NodeWhat-F.Plain f) other p = rw (fold-roll-NodeWhat (Place → Line) (Unit {0}) Line node_what_written clause_written node_written (NodeWhat-F.Plain f)) refl
-layer_apart (NodeWhat-F.If e a b) other p = rw (fold-roll-NodeWhat (Place → Line) (Unit {0}) Line node_what_written clause_written node_written (NodeWhat-F.If e a b)) refl
-layer_apart (NodeWhat-F.While e a) other p = rw (fold-roll-NodeWhat (Place → Line) (Unit {0}) Line node_what_written clause_written node_written (NodeWhat-F.While e a)) refl
-layer_apart (NodeWhat-F.For i t s a) other p = rw (fold-roll-NodeWhat (Place → Line) (Unit {0}) Line node_what_written clause_written node_written (NodeWhat-F.For i t s a)) refl
-layer_apart (NodeWhat-F.Do a e) other p = rw (fold-roll-NodeWhat (Place → Line) (Unit {0}) Line node_what_written clause_written node_written (NodeWhat-F.Do a e)) refl
-layer_apart (NodeWhat-F.Switch e cs) other p = rw (fold-roll-NodeWhat (Place → Line) (Unit {0}) Line node_what_written clause_written node_written (NodeWhat-F.Switch e cs)) refl
-layer_apart (NodeWhat-F.Return e) other p = rw (fold-roll-NodeWhat (Place → Line) (Unit {0}) Line node_what_written clause_written node_written (NodeWhat-F.Return e)) refl
-layer_apart NodeWhat-F.Break other p = rw (fold-roll-NodeWhat (Place → Line) (Unit {0}) Line node_what_written clause_written node_written NodeWhat-F.Break) refl
-layer_apart NodeWhat-F.Continue other p = rw (fold-roll-NodeWhat (Place → Line) (Unit {0}) Line node_what_written clause_written node_written NodeWhat-F.Continue) refl
+layer_apart (NodeWhat-F.Assign q op a b) other p = rw (fold-roll-NodeWhat (Place → Line) Labelled Line node_what_written clause_written node_written (NodeWhat-F.Assign q op a b)) refl
+layer_apart (NodeWhat-F.Plain f) other p = rw (fold-roll-NodeWhat (Place → Line) Labelled Line node_what_written clause_written node_written (NodeWhat-F.Plain f)) refl
+layer_apart (NodeWhat-F.If e a b) other p = rw (fold-roll-NodeWhat (Place → Line) Labelled Line node_what_written clause_written node_written (NodeWhat-F.If e a b)) refl
+layer_apart (NodeWhat-F.While e a) other p = rw (fold-roll-NodeWhat (Place → Line) Labelled Line node_what_written clause_written node_written (NodeWhat-F.While e a)) refl
+layer_apart (NodeWhat-F.For i t s a) other p = rw (fold-roll-NodeWhat (Place → Line) Labelled Line node_what_written clause_written node_written (NodeWhat-F.For i t s a)) refl
+layer_apart (NodeWhat-F.Do a e) other p = rw (fold-roll-NodeWhat (Place → Line) Labelled Line node_what_written clause_written node_written (NodeWhat-F.Do a e)) refl
+layer_apart (NodeWhat-F.Switch e cs) other p = rw (fold-roll-NodeWhat (Place → Line) Labelled Line node_what_written clause_written node_written (NodeWhat-F.Switch e cs)) refl
+layer_apart (NodeWhat-F.Return e) other p = rw (fold-roll-NodeWhat (Place → Line) Labelled Line node_what_written clause_written node_written (NodeWhat-F.Return e)) refl
+layer_apart NodeWhat-F.Break other p = rw (fold-roll-NodeWhat (Place → Line) Labelled Line node_what_written clause_written node_written NodeWhat-F.Break) refl
+layer_apart NodeWhat-F.Continue other p = rw (fold-roll-NodeWhat (Place → Line) Labelled Line node_what_written clause_written node_written NodeWhat-F.Continue) refl
 
 pub apart : (s : NodeWhat) → ((d : Decl) (v : Option Form) → s ≡ Local d v → ⊥) → (p : Place) → declares (line_what s p) ≡ false
 apart s other p =
@@ -64,26 +64,26 @@ apart s other p =
     rw (sym e) (layer_apart (out-NodeWhat s) (λ d v i. other d v (sym e ∙ i)) p)
 
 declared : (d : Decl) (v : Option Form) (p : Place) → declares (line_what (Local d v) p) ≡ true
-declared d v p = ap (λ (n : NodeWhat). declares (line_what n p)) (sym (rolls-Local d v)) ∙ ap (λ (f : Place → Line). declares (f p)) (fold-roll-NodeWhat (Place → Line) (Unit {0}) Line node_what_written clause_written node_written (NodeWhat-F.Local d v))
+declared d v p = ap (λ (n : NodeWhat). declares (line_what n p)) (sym (rolls-Local d v)) ∙ ap (λ (f : Place → Line). declares (f p)) (fold-roll-NodeWhat (Place → Line) Labelled Line node_what_written clause_written node_written (NodeWhat-F.Local d v))
 
 -- what declares isn't said to declare nothing
 pub not_apart : (s : NodeWhat) (d : Decl) (v : Option Form) → s ≡ Local d v → (p : Place) → declares (line_what s p) ≡ false → ⊥
 not_apart s d v e p h = differ (sym (ap (λ (n : NodeWhat). declares (line_what n p)) e ∙ declared d v p) ∙ h)
 
 layer_whole : (l : Layer) → ((ss : List Node) → roll-NodeWhat l ≡ Block ss → ⊥) → ((e : Form) (a : Node) (b : Option Node) → roll-NodeWhat l ≡ If e a b → ⊥) → ((e : Form) (a : Node) → roll-NodeWhat l ≡ While e a → ⊥) → ((i : List Node) (t : Option Form) (s : Option Node) (a : Node) → roll-NodeWhat l ≡ For i t s a → ⊥) → (p : Place) → has_parts (line_what (roll-NodeWhat l) p) ≡ false
-layer_whole NodeWhat-F.Empty no_block no_if no_while no_for p = rw (fold-roll-NodeWhat (Place → Line) (Unit {0}) Line node_what_written clause_written node_written NodeWhat-F.Empty) refl
+layer_whole NodeWhat-F.Empty no_block no_if no_while no_for p = rw (fold-roll-NodeWhat (Place → Line) Labelled Line node_what_written clause_written node_written NodeWhat-F.Empty) refl
 layer_whole (NodeWhat-F.Block ss) no_block no_if no_while no_for p = absurd (no_block ss (rolls-Block ss))
-layer_whole (NodeWhat-F.Local d v) no_block no_if no_while no_for p = rw (fold-roll-NodeWhat (Place → Line) (Unit {0}) Line node_what_written clause_written node_written (NodeWhat-F.Local d v)) refl
-layer_whole (NodeWhat-F.Assign q op a b) no_block no_if no_while no_for p = rw (fold-roll-NodeWhat (Place → Line) (Unit {0}) Line node_what_written clause_written node_written (NodeWhat-F.Assign q op a b)) refl
-layer_whole (NodeWhat-F.Plain f) no_block no_if no_while no_for p = rw (fold-roll-NodeWhat (Place → Line) (Unit {0}) Line node_what_written clause_written node_written (NodeWhat-F.Plain f)) refl
+layer_whole (NodeWhat-F.Local d v) no_block no_if no_while no_for p = rw (fold-roll-NodeWhat (Place → Line) Labelled Line node_what_written clause_written node_written (NodeWhat-F.Local d v)) refl
+layer_whole (NodeWhat-F.Assign q op a b) no_block no_if no_while no_for p = rw (fold-roll-NodeWhat (Place → Line) Labelled Line node_what_written clause_written node_written (NodeWhat-F.Assign q op a b)) refl
+layer_whole (NodeWhat-F.Plain f) no_block no_if no_while no_for p = rw (fold-roll-NodeWhat (Place → Line) Labelled Line node_what_written clause_written node_written (NodeWhat-F.Plain f)) refl
 layer_whole (NodeWhat-F.If e a b) no_block no_if no_while no_for p = absurd (no_if e a b (rolls-If e a b))
 layer_whole (NodeWhat-F.While e a) no_block no_if no_while no_for p = absurd (no_while e a (rolls-While e a))
 layer_whole (NodeWhat-F.For i t s a) no_block no_if no_while no_for p = absurd (no_for i t s a (rolls-For i t s a))
-layer_whole (NodeWhat-F.Do a e) no_block no_if no_while no_for p = rw (fold-roll-NodeWhat (Place → Line) (Unit {0}) Line node_what_written clause_written node_written (NodeWhat-F.Do a e)) refl
-layer_whole (NodeWhat-F.Switch e cs) no_block no_if no_while no_for p = rw (fold-roll-NodeWhat (Place → Line) (Unit {0}) Line node_what_written clause_written node_written (NodeWhat-F.Switch e cs)) refl
-layer_whole (NodeWhat-F.Return e) no_block no_if no_while no_for p = rw (fold-roll-NodeWhat (Place → Line) (Unit {0}) Line node_what_written clause_written node_written (NodeWhat-F.Return e)) refl
-layer_whole NodeWhat-F.Break no_block no_if no_while no_for p = rw (fold-roll-NodeWhat (Place → Line) (Unit {0}) Line node_what_written clause_written node_written NodeWhat-F.Break) refl
-layer_whole NodeWhat-F.Continue no_block no_if no_while no_for p = rw (fold-roll-NodeWhat (Place → Line) (Unit {0}) Line node_what_written clause_written node_written NodeWhat-F.Continue) refl
+layer_whole (NodeWhat-F.Do a e) no_block no_if no_while no_for p = rw (fold-roll-NodeWhat (Place → Line) Labelled Line node_what_written clause_written node_written (NodeWhat-F.Do a e)) refl
+layer_whole (NodeWhat-F.Switch e cs) no_block no_if no_while no_for p = rw (fold-roll-NodeWhat (Place → Line) Labelled Line node_what_written clause_written node_written (NodeWhat-F.Switch e cs)) refl
+layer_whole (NodeWhat-F.Return e) no_block no_if no_while no_for p = rw (fold-roll-NodeWhat (Place → Line) Labelled Line node_what_written clause_written node_written (NodeWhat-F.Return e)) refl
+layer_whole NodeWhat-F.Break no_block no_if no_while no_for p = rw (fold-roll-NodeWhat (Place → Line) Labelled Line node_what_written clause_written node_written NodeWhat-F.Break) refl
+layer_whole NodeWhat-F.Continue no_block no_if no_while no_for p = rw (fold-roll-NodeWhat (Place → Line) Labelled Line node_what_written clause_written node_written NodeWhat-F.Continue) refl
 
 whole : (n : NodeWhat) → ((ss : List Node) → n ≡ Block ss → ⊥) → ((e : Form) (a : Node) (b : Option Node) → n ≡ If e a b → ⊥) → ((e : Form) (a : Node) → n ≡ While e a → ⊥) → ((i : List Node) (t : Option Form) (s : Option Node) (a : Node) → n ≡ For i t s a → ⊥) → (p : Place) → has_parts (line_what n p) ≡ false
 whole n no_block no_if no_while no_for p =
@@ -100,7 +100,7 @@ behind_plain scope frame here t (Line.If p e one other) h = refl
 behind_plain scope frame here t (Line.While p e body) h = refl
 behind_plain scope frame here t (Line.For p init test step body) h = refl
 behind_plain scope frame here t (Line.Do p body e) h = refl
-behind_plain scope frame here t (Line.Switch p e) h = refl
+behind_plain scope frame here t (Line.Switch p e cs) h = refl
 behind_plain scope frame here t (Line.Return p e) h = refl
 behind_plain scope frame here t (Line.Break p) h = refl
 behind_plain scope frame here t (Line.Continue p) h = refl
@@ -115,7 +115,7 @@ simple_line rules scope frame in_loop is_part here t (Line.If p e one other) h =
 simple_line rules scope frame in_loop is_part here t (Line.While p e body) h = absurd (differ h)
 simple_line rules scope frame in_loop is_part here t (Line.For p init test step body) h = absurd (differ h)
 simple_line rules scope frame in_loop is_part here t (Line.Do p body e) h = refl
-simple_line rules scope frame in_loop is_part here t (Line.Switch p e) h = refl
+simple_line rules scope frame in_loop is_part here t (Line.Switch p e cs) h = refl
 simple_line rules scope frame in_loop is_part here t (Line.Return p e) h = refl
 simple_line rules scope frame in_loop is_part here t (Line.Break p) h = refl
 simple_line rules scope frame in_loop is_part here t (Line.Continue p) h = refl
@@ -130,7 +130,7 @@ behind_simple scope frame here t (Line.If p e one other) h = absurd (differ h)
 behind_simple scope frame here t (Line.While p e body) h = absurd (differ h)
 behind_simple scope frame here t (Line.For p init test step body) h = absurd (differ h)
 behind_simple scope frame here t (Line.Do p body e) h = refl
-behind_simple scope frame here t (Line.Switch p e) h = refl
+behind_simple scope frame here t (Line.Switch p e cs) h = refl
 behind_simple scope frame here t (Line.Return p e) h = refl
 behind_simple scope frame here t (Line.Break p) h = refl
 behind_simple scope frame here t (Line.Continue p) h = refl

@@ -2,7 +2,7 @@
 use Rattle.std.proofs.Common.{ℕ, ◌≡◌, ◌<◌, ◌+◌, List, [], ◌∷◌, ◌++◌, drop, length, get_or, refl, ap, append_assoc, Bool, true, false, Option, Result, Ok, Err}
 use Rattle.std.proofs.Math.Path.{sym, ◌∙◌}
 use Rattle.std.proofs.lemmas.List.{at_drop_more}
-use Rattle.mdr_core.specs.declared.code.Stmt.{Stmt}
+use Rattle.mdr_rich.specs.declared.code.Stmt.{Stmt}
 use Rattle.mdr_syntax.specs.declared.tree.Node.{Node}
 use Rattle.mdr_faults.specs.declared.fault.Fault.{Fault}
 use Rattle.mdr_faults.specs.declared.scope.Scope.{Scope}

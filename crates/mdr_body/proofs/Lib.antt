@@ -1,3 +1,4 @@
 pub mod Apart
 pub mod Closing
+mod Folds
 pub mod Gathering

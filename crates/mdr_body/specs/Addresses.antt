@@ -7,7 +7,7 @@ use Rattle.mdr_syntax.specs.declared.tree.Decl.{Decl, out-Decl}
 use Rattle.mdr_syntax.specs.declared.tree.NodeWhat.{NodeWhat}
 use Rattle.mdr_syntax.specs.declared.tree.NodeWhat.TheFolds.{fold-NodeWhat}
 use Rattle.mdr_faults.specs.Declarations.{is_same_name}
-use Rattle.mdr_operand.specs.Written.{Written, Writtens, Line, Lines, node_what_written, clause_written, node_written}
+use Rattle.mdr_operand.specs.Written.{Written, Writtens, Line, Lines, Clauses, Labelled, node_what_written, clause_written, node_written}
 
 -- ---- expressions
 
@@ -66,7 +66,7 @@ abbrev mutual
   -- what the head of a `for` declares is in scope in all of it (6.8.5, paragraph 5)
   takes_at name (Line.For p init test step body) = takes_along name init (perhaps_takes name test || (takes_along name step false || takes_at name body))
   takes_at name (Line.Do p body e) = takes_at name body || takes_in name e
-  takes_at name (Line.Switch p e) = takes_in name e
+  takes_at name (Line.Switch p e cs) = takes_in name e || clauses_take name cs
   takes_at name (Line.Return p e) = perhaps_takes name e
   takes_at name (Line.Break p) = false
   takes_at name (Line.Continue p) = false
@@ -75,7 +75,11 @@ abbrev mutual
   takes_along name Lines.End behind = behind
   takes_along name (Lines.Then l ls) behind = takes_at name l || (not (hides name l) && takes_along name ls behind)
 
+  pub clauses_take : List ℕ → Clauses → Bool
+  clauses_take name Clauses.NoPart = false
+  clauses_take name (Clauses.Part labels ls cs) = takes_along name ls false || clauses_take name cs
+
 -- ---- what is written
 
 abbrev pub line_what : NodeWhat → Place → Line
-line_what = fold-NodeWhat (Place → Line) (Unit {0}) Line node_what_written clause_written node_written
+line_what = fold-NodeWhat (Place → Line) Labelled Line node_what_written clause_written node_written

@@ -1,7 +1,7 @@
 -- believed
 -- A function's body: its parameters' places, its locals, its statements (C99 6.9.1).
 use Rattle.std.specs.Prelude.{Bool, false, List, map}
-use Rattle.mdr_core.specs.declared.code.Stmt.{Stmt}
+use Rattle.mdr_rich.specs.declared.code.Stmt.{Stmt}
 use Rattle.mdr_core.specs.declared.program.Local.{Local}
 use Rattle.mdr_syntax.specs.declared.tree.Head.{Head}
 use Rattle.mdr_syntax.specs.declared.tree.Node.{Node}

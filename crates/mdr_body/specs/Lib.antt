@@ -1,4 +1,3 @@
-pub mod Backs
 pub mod Addresses
 pub mod Uses
 pub mod Locals

@@ -1,12 +1,12 @@
 -- believed
 -- Statements: what each comes to, and what is known behind it (C99 6.8).
 use Rattle.std.specs.Prelude.{ℕ, ◌&&◌, ◌||◌, not, nat_lt, Bool, true, false, List, [], ◌∷◌, ◌++◌, length, Option, Some, None}
-use Rattle.mdr_core.specs.declared.code.Expr.{Expr}
-use Rattle.mdr_core.specs.declared.code.Lval.{Lval}
-use Rattle.mdr_core.specs.declared.code.Lval.TheVariants as lval
-use Rattle.mdr_core.specs.declared.code.Step.{Step}
-use Rattle.mdr_core.specs.declared.code.Step.TheVariants as step
-use Rattle.mdr_core.specs.declared.code.Stmt.{Stmt}
+use Rattle.mdr_rich.specs.declared.code.Expr.{Expr}
+use Rattle.mdr_rich.specs.declared.code.Lval.{Lval}
+use Rattle.mdr_rich.specs.declared.code.Lval.TheVariants as lval
+use Rattle.mdr_rich.specs.declared.code.Step.{Step}
+use Rattle.mdr_rich.specs.declared.code.Step.TheVariants as step
+use Rattle.mdr_rich.specs.declared.code.Stmt.{Stmt}
 use Rattle.mdr_core.specs.declared.place.Place.{Place}
 use Rattle.mdr_core.specs.declared.types.Ty.{Ty}
 use Rattle.mdr_core.specs.Layout.{chosen}
@@ -138,7 +138,7 @@ simple_made rules scope frame in_loop here t (Line.If p e one other) = refuse p 
 simple_made rules scope frame in_loop here t (Line.While p e body) = refuse p Mismatch
 simple_made rules scope frame in_loop here t (Line.For p init test step body) = refuse p Mismatch
 simple_made rules scope frame in_loop here t (Line.Do p body e) = refuse p Mismatch
-simple_made rules scope frame in_loop here t (Line.Switch p e) = refuse p Mismatch
+simple_made rules scope frame in_loop here t (Line.Switch p e cs) = refuse p Mismatch
 simple_made rules scope frame in_loop here t (Line.Return p e) = stated here.number (return_step rules scope frame here p e)
 simple_made rules scope frame in_loop here t (Line.Break p) = stated here.number (jumped p in_loop step.Break)
 simple_made rules scope frame in_loop here t (Line.Continue p) = stated here.number (jumped p in_loop step.Continue)
@@ -227,7 +227,7 @@ abbrev mutual
   line_behind scope frame here t (Line.While p e body) = line_behind scope frame (numbered here) false body
   line_behind scope frame here t (Line.For p init test step body) = left here (line_behind scope frame (behind_head scope frame (entered here) init test step body) false body)
   line_behind scope frame here t (Line.Do p body e) = numbered here
-  line_behind scope frame here t (Line.Switch p e) = numbered here
+  line_behind scope frame here t (Line.Switch p e cs) = numbered here
   line_behind scope frame here t (Line.Return p e) = numbered here
   line_behind scope frame here t (Line.Break p) = numbered here
   line_behind scope frame here t (Line.Continue p) = numbered here
@@ -257,7 +257,7 @@ abbrev mutual
       both (for_head rules scope frame (entered here) p init test step body)
       (line_made rules scope frame true true (behind_head scope frame (entered here) init test step body) false body) (for_of here.number)
   line_made rules scope frame in_loop is_part here t (Line.Do p body e) = simple_made rules scope frame in_loop here t (Line.Do p body e)
-  line_made rules scope frame in_loop is_part here t (Line.Switch p e) = simple_made rules scope frame in_loop here t (Line.Switch p e)
+  line_made rules scope frame in_loop is_part here t (Line.Switch p e cs) = simple_made rules scope frame in_loop here t (Line.Switch p e cs)
   line_made rules scope frame in_loop is_part here t (Line.Return p e) = simple_made rules scope frame in_loop here t (Line.Return p e)
   line_made rules scope frame in_loop is_part here t (Line.Break p) = simple_made rules scope frame in_loop here t (Line.Break p)
   line_made rules scope frame in_loop is_part here t (Line.Continue p) = simple_made rules scope frame in_loop here t (Line.Continue p)

@@ -8,7 +8,7 @@ use Rattle.mdr_syntax.specs.declared.tree.Decl.{Decl}
 use Rattle.mdr_syntax.specs.declared.tree.Head.{Head}
 use Rattle.mdr_syntax.specs.declared.tree.Node.{Node}
 use Rattle.mdr_faults.specs.Scopes.{or_else}
-use Rattle.mdr_operand.specs.Written.{Written, Writtens, Line, Lines, lines_of}
+use Rattle.mdr_operand.specs.Written.{Written, Writtens, Line, Lines, Clauses, lines_of}
 use Rattle.mdr_body.specs.Addresses.{is_declared_by, hides}
 
 -- ---- expressions
@@ -52,7 +52,7 @@ abbrev mutual
   -- what the head of a `for` declares is in scope in all of it (6.8.5, paragraph 5)
   use_at name (Line.For p init test step body) = use_along name init (or_else (perhaps_use name test) (or_else (use_along name step None) (use_at name body)))
   use_at name (Line.Do p body e) = or_else (use_at name body) (use_in name e)
-  use_at name (Line.Switch p e) = use_in name e
+  use_at name (Line.Switch p e cs) = or_else (use_in name e) (use_in_clauses name cs)
   use_at name (Line.Return p e) = perhaps_use name e
   use_at name (Line.Break p) = None
   use_at name (Line.Continue p) = None
@@ -60,6 +60,10 @@ abbrev mutual
   pub use_along : List ℕ → Lines → (behind : Option Place) → Option Place
   use_along name Lines.End behind = behind
   use_along name (Lines.Then l ls) behind = or_else (use_at name l) (chosen (hides name l) None (use_along name ls behind))
+
+  pub use_in_clauses : List ℕ → Clauses → Option Place
+  use_in_clauses name Clauses.NoPart = None
+  use_in_clauses name (Clauses.Part labels ls cs) = or_else (use_along name ls None) (use_in_clauses name cs)
 
 -- ---- bodies
 

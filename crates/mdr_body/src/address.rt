@@ -2,11 +2,11 @@
 
 ghost use Rattle.std.specs.Prelude.{◌≡◌, ◌&&◌, ◌||◌, not, false, map, Some};
 ghost use Rattle.std.specs.Option.{option_map};
-ghost use Rattle.mdr_operand.specs.Written.{written_of, written_what, written_list, line_of, lines_of, perhaps};
-ghost use Rattle.mdr_body.specs.Addresses.{is_address, is_name, takes_in, takes_among, perhaps_takes, is_declared_by, hides, takes_at, takes_along, line_what};
+ghost use Rattle.mdr_operand.specs.Written.{written_of, written_what, written_list, line_of, lines_of, clause_of, clauses_of, perhaps};
+ghost use Rattle.mdr_body.specs.Addresses.{is_address, is_name, takes_in, takes_among, perhaps_takes, is_declared_by, hides, takes_at, takes_along, clauses_take, line_what};
 
 use mdr_core::{Boxed, Place};
-use mdr_syntax::{Decl, Form, FormWhat, Node, NodeWhat};
+use mdr_syntax::{Clause, Decl, Form, FormWhat, Node, NodeWhat};
 
 fn is_address(operator: &[u8]) -> bool
     ensures { result ≡ is_address operator.now }
@@ -173,7 +173,7 @@ fn takes_at_what(place: Place, what: &NodeWhat, name: &[u8]) -> bool
             takes_along(init.as_slice(), name, behind)
         }
         NodeWhat::Do(body, e) => takes_at(body.get(), name) || takes_in(e, name),
-        NodeWhat::Switch(e, _) => takes_in(e, name),
+        NodeWhat::Switch(e, clauses) => takes_in(e, name) || clauses_take(clauses.as_slice(), name),
         NodeWhat::Return(e) => perhaps_takes(e, name),
         NodeWhat::Break => false,
         NodeWhat::Continue => false,
@@ -205,4 +205,23 @@ pub fn takes_along(nodes: &[Node], name: &[u8], behind: bool) -> bool
         }
     }
     behind
+}
+
+#[cycle(takes_at)]
+fn clause_takes(clause: &Clause, name: &[u8]) -> bool
+    ensures { result ≡ takes_along name.now (clause_of clause.now).1 false }
+{
+    takes_along(clause.body.as_slice(), name, false)
+}
+
+#[cycle(takes_at)]
+fn clauses_take(clauses: &[Clause], name: &[u8]) -> bool
+    ensures { result ≡ clauses_take name.now (clauses_of clauses.now) }
+{
+    for clause in clauses {
+        if clause_takes(clause, name) {
+            return true;
+        }
+    }
+    false
 }

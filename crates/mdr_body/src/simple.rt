@@ -2,8 +2,8 @@
 
 ghost use Rattle.std.specs.Prelude.{◌≡◌, ℕ, Bool, false, ◌∷◌, ◌++◌, [], IfOk, OnOk, Ok, length, None};
 ghost use Rattle.std.specs.Option.{option_map, option_copied};
-ghost use Rattle.mdr_core.specs.declared.code.Expr.{Expr};
-ghost use Rattle.mdr_core.specs.declared.code.Step.{Step};
+ghost use Rattle.mdr_rich.specs.declared.code.Expr.{Expr};
+ghost use Rattle.mdr_rich.specs.declared.code.Step.{Step};
 ghost use Rattle.mdr_core.specs.Layout.{chosen};
 ghost use Rattle.mdr_faults.specs.declared.fault.FaultKind.TheVariants.{Mismatch};
 ghost use Rattle.mdr_faults.specs.Faults.{Checked, Right, refuse, told, after};
@@ -19,10 +19,11 @@ ghost use Rattle.mdr_body.specs.Statements.{stmt, stated, tested, condition, som
 use crate::here::{Frame, Here};
 use crate::locals::{declare_local, is_own_object, local_object};
 use crate::typing::Typing;
-use mdr_core::{Expr, Items, Lval, Name, OutOfMemory, Place, Step, Stmt, Ty};
+use mdr_core::{Items, Name, OutOfMemory, Place, Ty};
 use mdr_faults::{Fault, Object, Scope, copied, is_scalar, is_void, mismatch};
 use mdr_headings::is_character;
 use mdr_operand::{LocalName, Operand, expression_of, scalar_at};
+use mdr_rich::{Expr, Lval, Step, Stmt};
 use mdr_syntax::{Decl, Form, FormWhat, NodeWhat};
 use std::alloc::{AllocError, Global};
 

@@ -2,8 +2,8 @@
 
 ghost use Rattle.std.specs.Prelude.{◌≡◌, ◌||◌, ◌+◌, ◌<◌, IfOk, OnOk, List, drop, length, false, true};
 ghost use Rattle.std.specs.Option.{option_map};
-ghost use Rattle.mdr_core.specs.declared.code.Expr.{Expr};
-ghost use Rattle.mdr_core.specs.declared.code.Stmt.{Stmt};
+ghost use Rattle.mdr_rich.specs.declared.code.Expr.{Expr};
+ghost use Rattle.mdr_rich.specs.declared.code.Stmt.{Stmt};
 ghost use Rattle.mdr_faults.specs.Faults.{Checked, told, both};
 ghost use Rattle.mdr_operand.specs.Written.{written_of, line_of, lines_of, perhaps};
 ghost use Rattle.mdr_body.specs.Locals.{is_taken, entered, left, numbered};
@@ -16,8 +16,9 @@ use crate::locals::{count, leave, takes};
 use crate::release::left_over;
 use crate::simple::{condition, perhaps_condition, simple_made, single};
 use crate::typing::Typing;
-use mdr_core::{Boxed, Expr, Items, Name, OutOfMemory, Place, Step, Stmt};
+use mdr_core::{Boxed, Items, Name, OutOfMemory, Place};
 use mdr_faults::{Fault, Scope, both, followed};
+use mdr_rich::{Expr, Step, Stmt};
 use mdr_syntax::{Form, Node, NodeWhat};
 use std::alloc::{AllocError, Global};
 

@@ -1,8 +1,9 @@
 // The rules of what stands in statements: expressions, assignments and calls (C99 6.5).
 
-use mdr_core::{Lval, OutOfMemory, Place, Step, Ty};
+use mdr_core::{OutOfMemory, Place, Ty};
 use mdr_faults::{Fault, Scope};
 use mdr_operand::{LocalName, Operand};
+use mdr_rich::{Lval, Step};
 use mdr_syntax::Form;
 use std::alloc::Global;
 

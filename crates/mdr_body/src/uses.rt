@@ -4,13 +4,13 @@ ghost use Rattle.std.specs.Prelude.{◌≡◌, map, Some, None};
 ghost use Rattle.std.specs.Option.{option_map};
 ghost use Rattle.mdr_core.specs.Layout.{chosen};
 ghost use Rattle.mdr_faults.specs.Scopes.{or_else};
-ghost use Rattle.mdr_operand.specs.Written.{written_of, written_what, written_list, line_of, lines_of, perhaps};
+ghost use Rattle.mdr_operand.specs.Written.{written_of, written_what, written_list, line_of, lines_of, clause_of, clauses_of, perhaps};
 ghost use Rattle.mdr_body.specs.Addresses.{is_declared_by, line_what};
-ghost use Rattle.mdr_body.specs.Uses.{use_in, use_among, perhaps_use, use_at, use_along, is_parameter, first_use};
+ghost use Rattle.mdr_body.specs.Uses.{use_in, use_among, perhaps_use, use_at, use_along, use_in_clauses, is_parameter, first_use};
 
 use crate::address::{hides, is_declared_by};
 use mdr_core::{Boxed, Place};
-use mdr_syntax::{Decl, Form, FormWhat, Head, Node, NodeWhat};
+use mdr_syntax::{Clause, Decl, Form, FormWhat, Head, Node, NodeWhat};
 
 /// The first of two places, of which the one stands in front of the other.
 fn first_place(one: Option<Place>, other: Option<Place>) -> Option<Place>
@@ -127,7 +127,9 @@ fn use_at_what(place: Place, what: &NodeWhat, name: &[u8]) -> Option<Place>
             )
         }
         NodeWhat::Do(body, e) => first_place(use_at(body.get(), name), use_in(e, name)),
-        NodeWhat::Switch(e, _) => use_in(e, name),
+        NodeWhat::Switch(e, clauses) => {
+            first_place(use_in(e, name), use_in_clauses(clauses.as_slice(), name))
+        }
         NodeWhat::Return(e) => perhaps_use(e, name),
         NodeWhat::Break => None,
         NodeWhat::Continue => None,
@@ -159,6 +161,25 @@ fn use_along(nodes: &[Node], name: &[u8], behind: Option<Place>) -> Option<Place
         }
     }
     behind
+}
+
+#[cycle(use_at)]
+fn use_in_clause(clause: &Clause, name: &[u8]) -> Option<Place>
+    ensures { result ≡ use_along name.now (clause_of clause.now).1 None }
+{
+    use_along(clause.body.as_slice(), name, None)
+}
+
+#[cycle(use_at)]
+fn use_in_clauses(clauses: &[Clause], name: &[u8]) -> Option<Place>
+    ensures { result ≡ use_in_clauses name.now (clauses_of clauses.now) }
+{
+    for clause in clauses {
+        if let Some(place) = use_in_clause(clause, name) {
+            return Some(place);
+        }
+    }
+    None
 }
 
 fn is_parameter(ds: &[Decl], name: &[u8]) -> bool

@@ -1,7 +1,7 @@
 // A function's body (C99 6.9.1).
 
 ghost use Rattle.std.specs.Prelude.{◌≡◌, IfOk, List, false, map};
-ghost use Rattle.mdr_core.specs.declared.code.Stmt.{Stmt};
+ghost use Rattle.mdr_rich.specs.declared.code.Stmt.{Stmt};
 ghost use Rattle.mdr_core.specs.declared.program.Local.{Local};
 ghost use Rattle.mdr_faults.specs.Faults.{Checked, told, both};
 ghost use Rattle.mdr_operand.specs.Written.{lines_of};
@@ -14,9 +14,10 @@ use crate::locals::{first_here, parameter_objects, struct_locks};
 use crate::statement::lines;
 use crate::typing::Typing;
 use crate::uses::first_use;
-use mdr_core::{Items, Local, OutOfMemory, Place, Stmt};
+use mdr_core::{Items, Local, OutOfMemory, Place};
 use mdr_faults::{Fault, Scope, both, extended};
 use mdr_headings::{Bodies, Body, head_result};
+use mdr_rich::Stmt;
 use mdr_syntax::{Head, Node};
 use std::alloc::{AllocError, Global};
 

@@ -1,8 +1,8 @@
 -- believed
 -- The arguments of a call (C99 6.5.2.2).
 use Rattle.std.specs.Prelude.{ℕ, ◌==◌, ◌+◌, List, [], ◌∷◌, length, Option, Some, None, slice_get}
-use Rattle.mdr_core.specs.declared.code.Callee.{Callee}
-use Rattle.mdr_core.specs.declared.code.Expr.{Expr}
+use Rattle.mdr_rich.specs.declared.code.Callee.{Callee}
+use Rattle.mdr_rich.specs.declared.code.Expr.{Expr}
 use Rattle.mdr_core.specs.declared.place.Place.{Place}
 use Rattle.mdr_core.specs.declared.types.Ty.{Ty}
 use Rattle.mdr_core.specs.Layout.{chosen}

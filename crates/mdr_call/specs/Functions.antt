@@ -1,7 +1,7 @@
 -- believed
 -- Calls of functions (C99 6.5.2.2).
 use Rattle.std.specs.Prelude.{Bool, true, false, List, Option, Some, None, slice_get}
-use Rattle.mdr_core.specs.declared.code.Callee.TheVariants as callee
+use Rattle.mdr_rich.specs.declared.code.Callee.TheVariants as callee
 use Rattle.mdr_core.specs.declared.place.Place.{Place}
 use Rattle.mdr_core.specs.declared.types.Ty.{Ty}
 use Rattle.mdr_core.specs.declared.types.Ty.TheVariants as type

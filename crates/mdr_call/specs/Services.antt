@@ -2,9 +2,9 @@
 -- Calls of the kernel's services: which there are, and what each takes and gives.
 use Rattle.std.specs.Prelude.{ℕ, ◌==◌, ◌&&◌, Bool, false, List, [], ◌∷◌, codes, length, map, Option, Some, None, slice_get}
 use Rattle.std.specs.Str.{bytes_eq}
-use Rattle.mdr_core.specs.declared.code.Callee.TheVariants as callee
-use Rattle.mdr_core.specs.declared.code.Expr.{Expr}
-use Rattle.mdr_core.specs.declared.code.Expr.TheVariants as expr
+use Rattle.mdr_rich.specs.declared.code.Callee.TheVariants as callee
+use Rattle.mdr_rich.specs.declared.code.Expr.{Expr}
+use Rattle.mdr_rich.specs.declared.code.Expr.TheVariants as expr
 use Rattle.mdr_core.specs.declared.kind.Kind.{Kind}
 use Rattle.mdr_core.specs.declared.kind.Kind.TheVariants.{U64, S32}
 use Rattle.mdr_core.specs.declared.place.Place.{Place}

@@ -13,9 +13,10 @@ ghost use Rattle.mdr_call.specs.Services.{type_argument, allocated, allocation_o
 use crate::arguments::arguments_as;
 use crate::parts::{Argument, TypedCall, bad_arity, first_off};
 use crate::plain::{alone, one};
-use mdr_core::{Boxed, CallForm, Callee, Expr, Items, Kind, Place, Ty};
+use mdr_core::{Boxed, Items, Kind, Place, Ty};
 use mdr_faults::{Fault, Scope, cells_of, copied_type, mismatch};
 use mdr_postfix::given_up;
+use mdr_rich::{CallForm, Callee, Expr};
 use std::alloc::{AllocError, Global};
 
 fn type_argument(argument: Option<&Argument>) -> Option<&Ty>

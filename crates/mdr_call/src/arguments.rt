@@ -7,9 +7,10 @@ ghost use Rattle.mdr_faults.specs.Faults.{told, refuse};
 ghost use Rattle.mdr_call.specs.Arguments.{argument_as, argument_for, arguments_as, converted};
 
 use crate::parts::{Argument, bad_arity};
-use mdr_core::{Expr, Items, Place, Ty};
+use mdr_core::{Items, Place, Ty};
 use mdr_faults::{Fault, extended, mismatch};
 use mdr_operand::converted_at;
+use mdr_rich::Expr;
 use std::alloc::{AllocError, Global};
 
 /// A wrong part, which is let go.

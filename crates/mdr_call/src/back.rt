@@ -2,17 +2,18 @@
 
 ghost use Rattle.std.specs.Prelude.{◌≡◌, ◌∷◌, IfOk};
 ghost use Rattle.mdr_faults.specs.Faults.{Right, told, after};
-ghost use Rattle.mdr_core.specs.declared.code.Callee.TheVariants as callee;
+ghost use Rattle.mdr_rich.specs.declared.code.Callee.TheVariants as callee;
 ghost use Rattle.mdr_call.specs.Arguments.{arguments_as, plain_call};
 ghost use Rattle.mdr_call.specs.Services.{handle_argument, calling_back, called_back, kcall_of, kcall_by, kcall};
 
 use crate::arguments::{arguments_as, refused};
 use crate::function::handle_by;
 use crate::parts::{Argument, Handle, TypedCall, bad_arity, first_off, plain_call, result_of};
-use mdr_core::{Callee, Expr, Items, Place, Ty};
+use mdr_core::{Items, Place, Ty};
 use mdr_faults::Fault;
 use mdr_operand::{needed, out_of_memory, value_of};
 use mdr_postfix::{given_up, nothing};
+use mdr_rich::{Callee, Expr};
 use std::alloc::{AllocError, Global};
 
 fn handle_argument(argument: Argument) -> Option<Handle>

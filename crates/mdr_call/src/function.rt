@@ -7,10 +7,11 @@ ghost use Rattle.mdr_call.specs.Functions.{is_function, function_of, handle_of, 
 
 use crate::arguments::converted;
 use crate::parts::{Argument, Callable, Handle, TypedCall, plain_call, result_of};
-use mdr_core::{Callee, Expr, Items, Place};
+use mdr_core::{Items, Place};
 use mdr_faults::Fault;
 use mdr_operand::{Operand, Scalar, needed, out_of_memory, value_of};
 use mdr_postfix::{Located, given_up, nothing};
+use mdr_rich::{Callee, Expr};
 use std::alloc::{AllocError, Global};
 
 fn is_function(x: &Operand) -> bool

@@ -2,15 +2,16 @@
 
 ghost use Rattle.std.specs.Prelude.{◌≡◌, ◌∷◌, [], IfOk};
 ghost use Rattle.std.specs.Option.{option_copied};
-ghost use Rattle.mdr_core.specs.declared.code.Expr.TheVariants as expr;
+ghost use Rattle.mdr_rich.specs.declared.code.Expr.TheVariants as expr;
 ghost use Rattle.mdr_core.specs.declared.value.Value.TheVariants as value;
 ghost use Rattle.mdr_faults.specs.Faults.{told};
 ghost use Rattle.mdr_call.specs.Services.{is_void_there, is_handler, handler_by, handler, requested, request_irq};
 
 use crate::parts::{Argument, TypedCall, bad_arity, plain_call};
-use mdr_core::{Callee, Expr, Items, Kind, Place, Ty, Value};
+use mdr_core::{Items, Kind, Place, Ty, Value};
 use mdr_faults::{Fault, FaultKind, is_void};
 use mdr_operand::Operand;
+use mdr_rich::{Callee, Expr};
 use std::alloc::{AllocError, Global};
 
 fn is_void_there(ty: Option<&Ty>) -> bool

@@ -7,9 +7,10 @@ ghost use Rattle.mdr_call.specs.Arguments.{first_off, plain_call};
 ghost use Rattle.mdr_call.specs.Functions.{result_of};
 
 use crate::service::Service;
-use mdr_core::{CallForm, Callee, Expr, Items, Name, Place, Ty};
+use mdr_core::{Items, Name, Place, Ty};
 use mdr_faults::{Fault, FaultKind, copied_type};
 use mdr_operand::Operand;
+use mdr_rich::{CallForm, Callee, Expr};
 use std::alloc::{AllocError, Global};
 
 /// What is called, as it is found: a service by its word, or what a callee comes to.

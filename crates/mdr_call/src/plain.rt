@@ -9,8 +9,9 @@ ghost use Rattle.mdr_call.specs.Services.{number, plain_types, plain_service};
 use crate::function::call_with;
 use crate::parts::{Argument, Callable, TypedCall};
 use crate::service::PlainService;
-use mdr_core::{Boxed, Callee, Items, Kind, Place, Ty};
+use mdr_core::{Boxed, Items, Kind, Place, Ty};
 use mdr_faults::Fault;
+use mdr_rich::Callee;
 use std::alloc::{AllocError, Global};
 
 fn number(service: PlainService) -> u32

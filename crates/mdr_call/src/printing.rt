@@ -9,10 +9,11 @@ use crate::arguments::{converted, refused};
 use crate::directives::directives;
 use crate::parts::{Argument, TypedCall, bad_arity, first_off};
 use crate::plain::alone;
-use mdr_core::{CallForm, Callee, Expr, Items, Kind, Name, Place, Ty};
+use mdr_core::{Items, Kind, Name, Place, Ty};
 use mdr_faults::Fault;
 use mdr_operand::needed;
 use mdr_postfix::{given_up, nothing};
+use mdr_rich::{CallForm, Callee, Expr};
 use std::alloc::{AllocError, Global};
 
 fn text_argument(argument: Argument) -> Option<Name>

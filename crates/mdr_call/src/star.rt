@@ -1,7 +1,7 @@
 // What is called (C99 6.5.2.2): `*f` as a callee.
 
 ghost use Rattle.std.specs.Prelude.{◌≡◌, IfOk, Some};
-ghost use Rattle.mdr_core.specs.declared.code.Expr.{Expr};
+ghost use Rattle.mdr_rich.specs.declared.code.Expr.{Expr};
 ghost use Rattle.mdr_faults.specs.Faults.{Checked, Right, told};
 ghost use Rattle.mdr_operand.specs.declared.operand.Operand.{Operand};
 ghost use Rattle.mdr_operand.specs.Forms.{scalar_of, prefix_rule};

@@ -17,12 +17,12 @@ use Rattle.mdr_paths.specs.Numbers.{numbers}
 use Rattle.mdr_paths.specs.Paths.{is_in}
 use Rattle.mdr_paths.proofs.NodeLists.{in_both, is_in-head}
 use Rattle.mdr_slice.specs.Calls.{all_calls, all_code_names, all_term_names, body_code, body_names, call_handlers, call_names, called_names, calls, code_names, func_handlers, global_names, goal_names, handlers_by, lvalue_names, names_of, option_names, term_names, value_names}
-use Rattle.mdr_slice.specs.Graph.{AreCallees, Reaches}
+use Rattle.mdr_slice.specs.Graph.{AreCallees, Reaches, reaches_by}
 use Rattle.mdr_slice.specs.Pointed as slicer
 use Rattle.mdr_meaning.specs.Bodies.{body_by, body_from, body_of}
 use Rattle.mdr_meaning.specs.Sides.{Body}
 use Rattle.mdr_meaning.specs.Named as named
-use Rattle.mdr_meaning.specs.Within.{CalleeWithin, CodesWithin, CodeWithin, FormWithin, GoalWithin, LvalueWithin, OptionWithin, TermsWithin, TermWithin, Uses, ValueWithin, called_type, value_type}
+use Rattle.mdr_meaning.specs.Within.{CalleeWithin, CodesWithin, CodeWithin, FirstWithin, FormWithin, GoalWithin, LvalueWithin, OptionWithin, TermsWithin, TermWithin, Uses, ValueWithin, called_type, value_type}
 use Rattle.mdr_callees.specs.Callees.{CodeKeepsToTheCallGraph, uses_by}
 
 some_is : {A : Type 0} {a b : A} → Some a ≡ Some b → a ≡ b
@@ -194,10 +194,10 @@ registers (suc n) e = ap suc (seventh n e)
 
 -- ---- calls
 
-module _ (program : Program) (uses : Uses) (kernel_calls : Bool) (slots : List Slot) (caller : ℕ) where
+module _ (program : Program) (uses : Uses) (slots : List Slot) (caller : ℕ) where
   -- what a call may call, its caller may call; and what it registers handles interrupts
   record Leads (form : CallOf) : Type 0 where
-    calls : (g : ℕ) → g < length program.funcs → Reaches program slots kernel_calls form g → uses.calls caller g ≡ true
+    calls : (g : ℕ) → g < length program.funcs → Reaches program slots true form g → uses.calls caller g ≡ true
     handlers : (g : ℕ) → is_in numbers (handlers_by form.callee form.args) g ≡ true → uses.handles g ≡ true
 
   abbrev AllLead : List CallOf → Type 0
@@ -227,8 +227,14 @@ module _ (program : Program) (uses : Uses) (kernel_calls : Bool) (slots : List S
       λ f func names points is_taken.
           leads.calls f (slice_get_within program.funcs f func names) (record { func = func; names = names; typed = sym (same_called program slots e) ∙ points; taken = sym (exact f) ∙ is_taken }),
     )
-    callee_within (Called.Service n) args shape format given typed leads taken = λ f names is. leads.handlers f (registered n args f (registers n names) is)
+    callee_within (Called.Service n) args shape format given typed leads taken = (λ f names is. leads.handlers f (registered n args f (registers n names) is), λ back. first_within args leads.calls back)
       where
+        -- what the first argument may point to, where the service calls back
+        first_within : (es : List Term) → ((g : ℕ) → g < length program.funcs → reaches_by program slots true (Called.Service n) es g → uses.calls caller g ≡ true) → n ≡ 15 → FirstWithin program uses slots caller es
+        first_within [] calls back = tt
+        first_within (e ∷ es) calls back = λ f func names points is_taken.
+            calls f (slice_get_within program.funcs f func names) (back, record { func = func; names = names; typed = sym (same_called program slots e) ∙ points; taken = sym (exact f) ∙ is_taken })
+
         registered : (n : ℕ) (args : List Term) (f : ℕ) → n ≡ 7 → args ≡ Term.Lit (value.Fn f) ∷ [] → is_in numbers (handlers_by (Called.Service n) args) f ≡ true
         registered n args f number is = rw (number, is) (is_in-head numbers f [])
 
@@ -308,9 +314,9 @@ handlers_of_call (c ∷ cs) (suc i) form e g h = grind (arith, in_both numbers (
 
 -- ---- the law
 
-module _ (program : Program) (sound : IsSound program) (kernel_calls : Bool) (callees : List (List ℕ)) (are : AreCallees program kernel_calls callees) where
+module _ (program : Program) (sound : IsSound program) (callees : List (List ℕ)) (are : AreCallees program true callees) where
   call_leads : (f : ℕ) (func : Func) → slice_get program.funcs f ≡ Some func → (i : ℕ) (form : CallOf) → slice_get (all_calls (body_code func.body)) i ≡ Some form
-      → Leads program (uses_by program callees) kernel_calls (slots_of func) f form
+      → Leads program (uses_by program callees) (slots_of func) f form
   call_leads f func names i form e = record {
     calls = λ g inside reaches. ((are.rows f (slice_get_within program.funcs f func names)).exact g).1 (record { func = func; names = names; inside = inside; by = record { at = i; call = form; is = e; leads = reaches } });
     handlers = λ g h. handlers_of_body program.funcs f func names g (handlers_of_call (all_calls (body_code func.body)) i form e g h);
@@ -324,8 +330,8 @@ module _ (program : Program) (sound : IsSound program) (kernel_calls : Bool) (ca
   body_within f func None body names is typed e = absurd cc
   body_within f func (Some ss) body names is typed e =
       subst (λ (b : Body). CodesWithin program (uses_by program callees) b.slots f b.code) (some_is e)
-      (codes_within program (uses_by program callees) kernel_calls (slots_of func) f (λ g. refl) func.result false (codes_of ss) typed
-      (all_lead program (uses_by program callees) kernel_calls (slots_of func) f (all_calls (codes_of ss)) (subst (λ x. (i : ℕ) (form : CallOf) → slice_get (all_calls (body_code x)) i ≡ Some form → Leads program (uses_by program callees) kernel_calls (slots_of func) f form) is (call_leads f func names)))
+      (codes_within program (uses_by program callees) (slots_of func) f (λ g. refl) func.result false (codes_of ss) typed
+      (all_lead program (uses_by program callees) (slots_of func) f (all_calls (codes_of ss)) (subst (λ x. (i : ℕ) (form : CallOf) → slice_get (all_calls (body_code x)) i ≡ Some form → Leads program (uses_by program callees) (slots_of func) f form) is (call_leads f func names)))
       (subst (λ x. AreTaken (uses_by program callees).taken (all_code_names (body_code x))) is (taken_of f func names)))
 
   found_within : (f : ℕ) (found : Option Func) (body : Body) → slice_get program.funcs f ≡ found → body_from found ≡ Some body → CodesWithin program (uses_by program callees) body.slots f body.code
@@ -337,4 +343,4 @@ module _ (program : Program) (sound : IsSound program) (kernel_calls : Bool) (ca
   function_within f body e = found_within f (slice_get program.funcs f) body refl e
 
 pub code_keeps : CodeKeepsToTheCallGraph
-code_keeps program sound kernel_calls callees are side of = record { bodies = λ f body own. function_within program sound kernel_calls callees are f body (of.bodies f body own) }
+code_keeps program sound callees are side of = record { bodies = λ f body own. function_within program sound callees are f body (of.bodies f body own) }

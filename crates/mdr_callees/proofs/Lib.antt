@@ -1,2 +1,3 @@
+pub mod BackLaws
 pub mod CalleeLaws
 pub mod HalfLaws

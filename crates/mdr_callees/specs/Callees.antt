@@ -1,8 +1,9 @@
 -- believed
 -- What running code does with functions, bounded by what the slicer says of a program.
-use Rattle.std.specs.Prelude.{◌≡◌, ℕ, Bool, true, false, List, [], Some, slice_get, get_or}
+use Rattle.std.specs.Prelude.{◌≡◌, ℕ, true, false, List, [], Some, slice_get, get_or}
 use Rattle.mdr_core.specs.declared.plan.Half.TheVariants.{Kernel, User}
 use Rattle.mdr_core.specs.declared.program.Program.{Program}
+use Rattle.mdr_core.specs.Backs.{CallsNothingBack}
 use Rattle.mdr_core.specs.Sound.{IsSound}
 use Rattle.mdr_paths.specs.Paths.{is_in}
 use Rattle.mdr_paths.specs.Numbers.{numbers}
@@ -22,11 +23,15 @@ uses_by program callees = record {
   handles = is_in numbers (handlers_of program);
 }
 
--- whether calls back through the kernel count in the graph or not
+-- calls back through the kernel count in the graph
 abbrev pub CodeKeepsToTheCallGraph : Type 0
 CodeKeepsToTheCallGraph =
-    (program : Program) → IsSound program → (kernel_calls : Bool) (callees : List (List ℕ)) → AreCallees program kernel_calls callees
+    (program : Program) → IsSound program → (callees : List (List ℕ)) → AreCallees program true callees
     → (side : Side) → IsSideOf program side → IsWithin program side (uses_by program callees)
+
+-- where nothing is called back, the graph is the same without them
+abbrev pub OneGraphWhereNothingCallsBack : Type 0
+OneGraphWhereNothingCallsBack = (program : Program) → CallsNothingBack program → (callees : List (List ℕ)) → AreCallees program false callees → AreCallees program true callees
 
 abbrev pub CrossingsHaveStubs : Type 0
 CrossingsHaveStubs =

@@ -1,11 +1,16 @@
 // Laws, each as a function that does nothing.
 
-ghost use Rattle.mdr_callees.specs.Callees.{CodeKeepsToTheCallGraph, CrossingsHaveStubs, TheKernelHalfCrossesNowhere};
+ghost use Rattle.mdr_callees.specs.Callees.{CodeKeepsToTheCallGraph, CrossingsHaveStubs, OneGraphWhereNothingCallsBack, TheKernelHalfCrossesNowhere};
 
 /// Running code of a sound program calls only functions that the call graph says it may call, passes on only functions
 /// whose addresses are taken, and registers only handlers that `request_irq` is given somewhere.
 pub fn code_keeps_to_the_call_graph()
     ensures { CodeKeepsToTheCallGraph }
+{}
+
+/// The call graph of a program that calls nothing back is one, whether such calls count in it or not.
+pub fn one_graph_where_nothing_calls_back()
+    ensures { OneGraphWhereNothingCallsBack }
 {}
 
 /// A function of the kernel half that code of the user half calls has a down stub.

@@ -2,8 +2,9 @@
 
 ghost use Rattle.std.specs.Prelude.{◌≡◌, IfOk};
 
-use mdr_core::{Boxed, Expr, Lval};
+use mdr_core::Boxed;
 use mdr_faults::copied_type;
+use mdr_rich::{Expr, Lval};
 use std::alloc::{AllocError, Global};
 
 #[cycle(copies)]

@@ -331,4 +331,5 @@ a_network_driver_is_sound = record {
   structs = sound_struct;
   globals = sound_global;
   funcs = λ f func e. absurd cc;
+  numbers = record { types = omega arith; globals = omega arith; structs = omega arith; funcs = omega arith };
 }

@@ -1,4 +1,5 @@
 pub mod formers
+pub mod Backs
 pub mod Bits
 pub mod Code
 pub mod Conversions

@@ -175,6 +175,13 @@ pub record IsTable (program : Program) : Type 0 where
 
 -- ---- programs
 
+-- its types, globals, structs and functions are few: numbers of 32 bits count them, and all that the globals, the fields of the structs and the types are together
+pub record HasFewNumbers (program : Program) : Type 0 where
+  pub types : length program.types ≤ 16777216
+  pub globals : length program.globals ≤ 16777216
+  pub structs : length program.structs ≤ 16777216
+  pub funcs : length program.funcs ≤ 16777216
+
 pub record IsSound (program : Program) : Type 0 where
   -- the cells of structs and their number of fields keep the limits
   pub small : AreSmall program.structs
@@ -183,3 +190,4 @@ pub record IsSound (program : Program) : Type 0 where
   pub structs : (s : ℕ) (def : StructDef) → slice_get program.structs s ≡ Some def → IsSoundStruct program s def
   pub globals : (g : ℕ) (def : GlobalDef) → slice_get program.globals g ≡ Some def → IsSoundGlobal program g def
   pub funcs : (f : ℕ) (func : Func) → slice_get program.funcs f ≡ Some func → IsSoundFunc program func
+  pub numbers : HasFewNumbers program

@@ -311,11 +311,19 @@ pub record CallsService (program : Program) (slots : List Slot) (call : CallOf) 
   pub object : NamesObject program call.shape
   pub is : result ≡ signature.result
 
+-- service 15 calls back: the function that its first argument points to, with the second
+pub record CallsBack (program : Program) (slots : List Slot) (call : CallOf) (n : ℕ) (result : Ty) : Type 0 where
+  pub back : n ≡ 15
+  pub no_type : call.shape ≡ None
+  pub no_text : call.format ≡ None
+  pub param : Ty
+  pub args : HaveAll program slots call.args (type.Fun (result ∷ param ∷ []) ∷ param ∷ [])
+
 -- a call gives a value of this type, or `void`
 abbrev pub gives_by : Called → Program → List Slot → CallOf → Ty → Type 0
 gives_by (Called.Direct f) program slots call result = CallsDirectly program slots call f result
 gives_by (Called.Through e) program slots call result = CallsThrough program slots call e result
-gives_by (Called.Service n) program slots call result = CallsService program slots call n result
+gives_by (Called.Service n) program slots call result = CallsService program slots call n result ⊎ CallsBack program slots call n result
 
 abbrev pub CallGives : Program → List Slot → CallOf → Ty → Type 0
 CallGives program slots call result = gives_by call.callee program slots call result

@@ -2,8 +2,8 @@
 
 use std::alloc::{AllocError, AllocFailed};
 
-/// Memory was wanting. It is told apart from every other refusal. Only an allocator's refusal makes one, and what goes
-/// past a `Limit`.
+/// Memory was wanting. It is told apart from every other refusal. A value comes from three places alone: an allocator
+/// that refused, a `Limit` that would be passed, and an error of another type that said the same (`passed_on`).
 #[derive(Clone, Copy, Debug)]
 pub struct OutOfMemory {
     _own: (),
@@ -48,7 +48,7 @@ pub enum Limit {
     Cells,
     /// Bytes of a text: 2^32 - 1.
     Bytes,
-    /// Types, globals, structs, functions or locals of a program: 2^32.
+    /// Types, globals, structs or functions of a program: 2^24. Its locals or fields: 2^32.
     Parts,
     /// What a message can't spell: a list of 2^31 items, or a number past its kind.
     Items,

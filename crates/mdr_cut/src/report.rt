@@ -1,7 +1,7 @@
 // The report of a source.
 
 ghost use Rattle.std.specs.Prelude.{◌≡◌, ◌++◌, IfOk, map, true, vec_items};
-ghost use Rattle.mdr_core.specs.Sound.{IsSound};
+ghost use Rattle.mdr_core.specs.Sound.{HasFewNumbers, IsSound};
 ghost use Rattle.mdr_slice.specs.Graph.{AreCallees};
 ghost use Rattle.mdr_cut.specs.Cuts.{IsReport};
 
@@ -25,6 +25,7 @@ fn rows_of(alloc: Global, edges: &[Vec<u32>]) -> Result<Vec<Items<u32>>, AllocEr
 
 /// For each function those that it may call.
 fn graph_of(alloc: Global, program: &Program) -> Result<Vec<Items<u32>>, OutOfMemory>
+    requires { HasFewNumbers program.now }
     ensures { IfOk result (λ graph. AreCallees program.now true graph.items) }
 {
     let edges = call_graph(alloc, program)?;

@@ -2,6 +2,7 @@
 -- The numbers of statuses, and what their causes are.
 use Rattle.std.specs.Prelude.{ℕ}
 use Rattle.mdr_outside.specs.Count.{Rose}
+use Rattle.mdr_outside.specs.Sides.{ShelfSide}
 use Rattle.mdr_due.specs.declared.status.Status.{Status}
 use Rattle.mdr_due.specs.declared.status.Status.TheVariants as status
 
@@ -43,3 +44,10 @@ HasReadCause before after status.Stopped = Unit {0}
 HasReadCause before after status.OutOfMemory = Unit {0}
 HasReadCause before after status.HalvesRefused = Unit {0}
 HasReadCause before after status.NotVerified = Unit {0}
+
+-- what a shelf has counted so far, and the same of its answers between two moments
+abbrev pub counts_in : ShelfSide → Counts
+counts_in s = record { faults = s.faults; absent = s.absent; long = s.long }
+
+abbrev pub ReadCause : (before after : ShelfSide) → Status → Type 0
+ReadCause before after s = HasReadCause (counts_in before) (counts_in after) s

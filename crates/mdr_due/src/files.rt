@@ -3,13 +3,13 @@
 ghost use Rattle.std.specs.Prelude.{◌≡◌, ◌≤◌, IfOk, OnErr};
 ghost use Rattle.mdr_outside.specs.declared.shelf.ReadAnswer.TheVariants as reads;
 ghost use Rattle.mdr_due.specs.Reads.{IsRead, WasRead, UnreadBy};
-ghost use Rattle.mdr_due.specs.Stages.{StageIs, HasStageCause};
+ghost use Rattle.mdr_due.specs.Stages.{StageCause, StageIs};
 
 use crate::due::{Due, Stage};
 use crate::lines::file_line;
 use crate::status::Status;
 use mdr_core::{Items, OutOfMemory};
-use mdr_outside::{ReadAnswer, Shelf};
+use mdr_outside::{ReadAnswer, Shelf, ShelfSeen};
 use std::alloc::Global;
 
 /// The bytes of a file of at most `limit` bytes, or what is due where there is none.
@@ -22,7 +22,7 @@ pub fn file<S: Shelf>(
     ensures read { IfOk result (StageIs (λ bytes. IsRead (S.files shelf.old) name.now limit (S.calls shelf.old) (S.calls shelf.new) (reads.Ok bytes)) (UnreadBy (S.files shelf.old) name.now limit (S.calls shelf.old) (S.calls shelf.new))) }
     ensures part { OnErr result (WasRead (S.files shelf.old) name.now limit (S.calls shelf.old) (S.calls shelf.new)) }
     ensures kept { S.files shelf.new ≡ S.files shelf.old }
-    ensures cause { IfOk result (HasStageCause (record { faults = S.faults shelf.old; absent = S.absent shelf.old; long = S.long shelf.old }) (record { faults = S.faults shelf.new; absent = S.absent shelf.new; long = S.long shelf.new })) }
+    ensures cause { IfOk result (StageCause (⟦<S as ShelfSeen>⟧.side shelf.old) (⟦<S as ShelfSeen>⟧.side shelf.new)) }
     ensures faults_later { S.faults shelf.old ≤ S.faults shelf.new }
     ensures absent_later { S.absent shelf.old ≤ S.absent shelf.new }
     ensures long_later { S.long shelf.old ≤ S.long shelf.new }

@@ -1,22 +1,19 @@
 -- The stages of running a seed's driver and script.
-use Rattle.std.proofs.Common.{◌≡◌, ℕ, List, refl, sym, ap, ◌∙◌, subst}
+use Rattle.std.proofs.Common.{◌≡◌, ℕ, List, sym, ap, ◌∙◌, subst}
 use Rattle.mdr_core.specs.declared.program.Program.{Program}
 use Rattle.mdr_due.specs.declared.status.Status.{Status}
-use Rattle.mdr_due.specs.declared.status.Status.TheVariants as status
 use Rattle.mdr_gen.specs.Generator.{driver_text, lines_from}
 use Rattle.mdr_model.specs.declared.outcome.End.{End}
 use Rattle.mdr_outside.specs.declared.far.Exchange.{Exchange}
 use Rattle.mdr_outside.specs.Sides.{FarSide}
 use Rattle.mdr_plain.specs.declared.outcome.Outcome.{Outcome}
 use Rattle.mdr_runner.specs.Runs.{status_of}
-use Rattle.mdr_runner.specs.Scripts.{NoScript}
 use Rattle.mdr_bound.specs.declared.bound.Bound.{Bound}
-use Rattle.mdr_slicer.specs.Slicing.{NoSource}
 use Rattle.mdr_source.specs.declared.outcome.Source.{Source}
 use Rattle.mdr_split_runner.specs.SplitRuns.{IsSplitOutcome}
 use Rattle.mdr_generated.specs.declared.recipe.Recipe.{Recipe}
 use Rattle.mdr_generated.specs.Generated.{budget, IsGeneratedRun, IsTold}
-use Rattle.mdr_generated.specs.Generates.{Generates, GeneratesOver, GeneratesPart, IsGenerated, IsGeneratedPart}
+use Rattle.mdr_generated.specs.Generates.{Generates, GeneratesPart, IsGenerated, IsGeneratedPart}
 
 -- ---- a run
 
@@ -29,20 +26,10 @@ pub generated_so : (recipe : Recipe) (source : Source) (script : Bound) (far far
     → IsGeneratedRun recipe source script far far' s text
 generated_so recipe source script far far' o es s text run same told = record { outcome = o; run = run; told = subst (λ (xs : List Exchange). IsTold recipe source.program xs o s text) same told }
 
--- what holds of the statuses of texts that are refused, and of each end of a run, holds of what is due
-pub generated_holds : (P : Status → Type 0) → P status.SourceRefused → P status.ScriptRefused → ((end : End) → P (status_of end)) → (recipe : Recipe) (driver lines : List ℕ) (far far' : FarSide) (s : Status) (text : List ℕ) → Generates recipe driver lines far far' s text → P s
-generated_holds P no_source no_script ends recipe driver lines far far' s text (Generates.no_source none same) = subst P (sym none.status_is) no_source
-generated_holds P no_source no_script ends recipe driver lines far far' s text (Generates.over source has (GeneratesOver.no_script none same)) = subst P (sym none.status_is) no_script
-generated_holds P no_source no_script ends recipe driver lines far far' s text (Generates.over source has (GeneratesOver.ran script given run)) =
-    subst P (sym (told_status recipe source.program far'.exchanges run.outcome s text run.told)) (ends run.outcome.end)
-
--- ---- texts that are refused tell of no fault of the far side's
-
-pub no_source_far : (R : Type 0) (bytes : List ℕ) (s : Status) (text : List ℕ) → NoSource bytes s text → s ≡ status.FarFault → R
-no_source_far R bytes s text none e = let no : status.SourceRefused ≡ status.FarFault = sym none.status_is ∙ e in absurd (Prim.cc)
-
-pub no_script_far : (R : Type 0) (program : Program) (bytes : List ℕ) (s : Status) (text : List ℕ) → NoScript program bytes s text → s ≡ status.FarFault → R
-no_script_far R program bytes s text none e = let no : status.ScriptRefused ≡ status.FarFault = sym none.status_is ∙ e in absurd (Prim.cc)
+-- what holds of the statuses of all ends of a run holds of what is due
+pub generated_holds : (P : Status → Type 0) → ((end : End) → P (status_of end)) → (recipe : Recipe) (driver lines : List ℕ) (far far' : FarSide) (s : Status) (text : List ℕ) → Generates recipe driver lines far far' s text → P s
+generated_holds P ends recipe driver lines far far' s text g =
+    subst P (sym (told_status recipe g.source.program far'.exchanges g.over.run.outcome s text g.over.run.told)) (ends g.over.run.outcome.end)
 
 -- ---- the texts of a seed
 

@@ -1,12 +1,12 @@
 -- protocol
--- What making a driver and a script and running them does to the far side, and what is due for it: one constructor for each way that it goes.
+-- What making a driver and a script and running them does to the far side, and what is due for it. The two texts of a seed are a source and a script.
 use Rattle.std.specs.Prelude.{◌≡◌, ℕ, List}
 use Rattle.mdr_due.specs.declared.status.Status.{Status}
 use Rattle.mdr_gen.specs.Generator.{driver_text, lines_from}
 use Rattle.mdr_outside.specs.Sides.{FarSide}
-use Rattle.mdr_runner.specs.Scripts.{HasScript, NoScript}
+use Rattle.mdr_runner.specs.Scripts.{HasScript}
 use Rattle.mdr_bound.specs.declared.bound.Bound.{Bound}
-use Rattle.mdr_slicer.specs.Slicing.{HasSource, NoSource}
+use Rattle.mdr_slicer.specs.Slicing.{HasSource}
 use Rattle.mdr_source.specs.declared.outcome.Source.{Source}
 use Rattle.mdr_split_runner.specs.SplitRuns.{IsSplitPart}
 use Rattle.mdr_generated.specs.declared.recipe.Recipe.{Recipe}
@@ -14,9 +14,10 @@ use Rattle.mdr_generated.specs.Generated.{budget, IsGeneratedRun}
 
 -- ---- a driver, and a script's text
 
-pub data GeneratesOver (recipe : Recipe) (source : Source) (lines : List ℕ) (far far' : FarSide) (s : Status) (text : List ℕ) : Type 0 where
-  no_script : NoScript source.program lines s text → far' ≡ far → GeneratesOver recipe source lines far far' s text
-  ran : (script : Bound) → HasScript source.program lines script → IsGeneratedRun recipe source script far far' s text → GeneratesOver recipe source lines far far' s text
+pub record GeneratesOver (recipe : Recipe) (source : Source) (lines : List ℕ) (far far' : FarSide) (s : Status) (text : List ℕ) : Type 0 where
+  pub script : Bound
+  pub bound : HasScript source.program lines script
+  pub run : IsGeneratedRun recipe source script far far' s text
 
 -- as much of it was done as memory was there for
 pub data GeneratesOverPart (source : Source) (lines : List ℕ) (far far' : FarSide) : Type 0 where
@@ -25,9 +26,10 @@ pub data GeneratesOverPart (source : Source) (lines : List ℕ) (far far' : FarS
 
 -- ---- two texts
 
-pub data Generates (recipe : Recipe) (driver lines : List ℕ) (far far' : FarSide) (s : Status) (text : List ℕ) : Type 0 where
-  no_source : NoSource driver s text → far' ≡ far → Generates recipe driver lines far far' s text
-  over : (source : Source) → HasSource driver source → GeneratesOver recipe source lines far far' s text → Generates recipe driver lines far far' s text
+pub record Generates (recipe : Recipe) (driver lines : List ℕ) (far far' : FarSide) (s : Status) (text : List ℕ) : Type 0 where
+  pub source : Source
+  pub has : HasSource driver source
+  pub over : GeneratesOver recipe source lines far far' s text
 
 pub data GeneratesPart (driver lines : List ℕ) (far far' : FarSide) : Type 0 where
   unread : far' ≡ far → GeneratesPart driver lines far far'

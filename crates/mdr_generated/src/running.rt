@@ -11,7 +11,7 @@ ghost use Rattle.mdr_generated.specs.Generates.{GeneratesOver, GeneratesOverPart
 use crate::answering::told;
 use crate::recipe::Recipe;
 use mdr_bound::Bound;
-use mdr_core::OutOfMemory;
+use mdr_core::{Limit, OutOfMemory};
 use mdr_due::{Due, Stage};
 use mdr_gen::generate;
 use mdr_outside::{Far, FarSeen};
@@ -42,7 +42,8 @@ fn ran<F: Far>(
     Ok(due)
 }
 
-/// Judges the script's text, and runs it over the two halves of the driver.
+/// Judges the script's text, and runs it over the two halves of the driver. A seed's script is refused for no driver of its
+/// own; where one were, memory would be wanting.
 fn ran_over<F: Far>(
     alloc: Global,
     recipe: Recipe,
@@ -57,7 +58,10 @@ fn ran_over<F: Far>(
 {
     let script = match judged(alloc, &source.program, lines) {
         Ok(Stage::Goes(script)) => script,
-        Ok(Stage::Ends(due)) => return Ok(due),
+        Ok(Stage::Ends(due)) => {
+            drop(due);
+            return Err(Limit::Unmet.past());
+        }
         Err(error) => return Err(error),
     };
     let due = ran(alloc, recipe, source, &script, far);
@@ -65,7 +69,8 @@ fn ran_over<F: Far>(
     due
 }
 
-/// Judges the driver's text and then the script's, and runs the script over the driver's two halves.
+/// Judges the driver's text and then the script's, and runs the script over the driver's two halves. The driver isn't
+/// refused either.
 fn ran_of<F: Far>(
     alloc: Global,
     recipe: Recipe,
@@ -79,7 +84,10 @@ fn ran_of<F: Far>(
 {
     let source = match compiled(alloc, driver) {
         Ok(Stage::Goes(source)) => source,
-        Ok(Stage::Ends(due)) => return Ok(due),
+        Ok(Stage::Ends(due)) => {
+            drop(due);
+            return Err(Limit::Unmet.past());
+        }
         Err(error) => return Err(error),
     };
     let due = ran_over(alloc, recipe, &source, lines, far);

@@ -1,10 +1,11 @@
 -- What a user half's text comes to, from one stage to the next.
-use Rattle.std.proofs.Common.{◌≡◌, refl, sym, subst, ap, ◌∙◌, ◌≤◌, ℕ, Bool, true, false, List, length, Option, Some, None, Result, Ok, Err}
+use Rattle.std.proofs.Common.{◌≡◌, refl, sym, subst, ap, ◌∙◌, ℕ, Bool, true, false, List, Option, Some, None, Result, Ok, Err}
 use Rattle.std.specs.Prelude.{IfOk, MatchOption}
 use Rattle.mdr_core.specs.declared.memory_error.OutOfMemory.{OutOfMemory}
 use Rattle.mdr_core.specs.declared.plan.Plan.{Plan}
 use Rattle.mdr_core.specs.declared.program.Func.{Func}
 use Rattle.mdr_core.specs.declared.program.Program.{Program}
+use Rattle.mdr_core.specs.Sound.{HasFewNumbers}
 use Rattle.mdr_syntax.specs.declared.error.LexError.{LexError}
 use Rattle.mdr_syntax.specs.declared.token.Token.{Token}
 use Rattle.mdr_syntax.specs.declared.tree.Tree.{Tree}
@@ -95,14 +96,26 @@ no_tokens user plan x e = λ program is. differ (functions_call_back program.fun
     differ : (b : Bool) (ts : List Token) → ◌≡◌ {A = Result (List Token) LexError} (Ok ts) (Err x) → b ≡ true
     differ b ts q = absurd cc
 
-pub small_half : (user : List ℕ) (plan : Plan) (count : ℕ) (o : Option Program) → count ≡ length plan.types → count ≤ 4294967296 → Finds user plan o → HasHalf user plan o
-small_half user plan count (Some program) n m f = record { found = f; types = subst (λ (k : ℕ). k ≤ 4294967296) n m }
-small_half user plan count None n m f = f
+same_found : (p q : Program) → Some p ≡ Some q → p ≡ q
+same_found p q e = cc
+
+small_by : (user : List ℕ) (plan : Plan) (program : Program) (o : Option Program) → o ≡ Some program → HasFewNumbers program → IsFound user plan program → HasHalf user plan o
+small_by user plan program None e few f = absurd cc
+small_by user plan program (Some p) e few f = subst (IsSmall user plan) (sym (same_found p program e)) (record { found = f; numbers = few })
+
+-- what is found is a half if its numbers are few
+pub small_half : (user : List ℕ) (plan : Plan) (found : Option Program) (program : Program) (r : Result (Option Program) OutOfMemory) → found ≡ Some program → Finds user plan found
+    → IfOk r (λ o. (o ≡ Some program) × HasFewNumbers program) → IfOk r (HasHalf user plan)
+small_half user plan found program (Ok o) e f h = small_by user plan program o h.0 h.1 (subst (Finds user plan) e f)
+small_half user plan found program (Err x) e f h = tt
+
+pub no_half : (user : List ℕ) (plan : Plan) (found : Option Program) → found ≡ None → Finds user plan found → IsMissing user plan
+no_half user plan found e f = subst (Finds user plan) e f
 
 -- ---- both texts
 
 pub loads_half : (user text : List ℕ) (plan : Plan) (program : Program) → IsPlanText text plan → IsSmall user plan program → Loads user text program plan
-loads_half user text plan program is h = record { planned = is; comes = (h.found).comes; no_back = (h.found).no_back; types = h.types }
+loads_half user text plan program is h = record { planned = is; comes = (h.found).comes; no_back = (h.found).no_back; numbers = h.numbers }
 
 pub refused_half : (user text : List ℕ) (plan : Plan) → IsPlanText text plan → IsMissing user plan → AreRefused user text 2
 refused_half user text plan is none = AreRefused.no_program plan refl is none

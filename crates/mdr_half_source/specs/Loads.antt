@@ -1,8 +1,9 @@
 -- believed
 -- What the texts of a user half and of its plan load, and why texts are refused.
-use Rattle.std.specs.Prelude.{◌≡◌, ◌≤◌, ℕ, Bool, true, false, List, length, Ok}
+use Rattle.std.specs.Prelude.{◌≡◌, ℕ, Bool, true, false, List, Ok}
 use Rattle.mdr_core.specs.declared.plan.Plan.{Plan}
 use Rattle.mdr_core.specs.declared.program.Program.{Program}
+use Rattle.mdr_core.specs.Sound.{HasFewNumbers}
 use Rattle.mdr_syntax.specs.declared.token.Token.{Token}
 use Rattle.mdr_syntax.specs.declared.tree.Tree.{Tree}
 use Rattle.mdr_syntax.specs.Tokens.{tokens_of}
@@ -28,12 +29,12 @@ pub record IsHalfProgramOf (bytes : List ℕ) (halves : Bool) (uses : UseRule) (
 abbrev pub ComesTo : (user : List ℕ) → Plan → Program → Type 0
 ComesTo user plan program = IsHalfProgramOf user true first_use plan program
 
--- the plan's text is read as this plan, and the user half's text comes, with it, to this program, which calls nothing back and whose types have numbers of 32 bits
+-- the plan's text is read as this plan, and the user half's text comes, with it, to this program, which calls nothing back and whose types, globals, structs and functions are few
 pub record Loads (user plan_text : List ℕ) (program : Program) (plan : Plan) : Type 0 where
   pub planned : IsPlanText plan_text plan
   pub comes : ComesTo user plan program
   pub no_back : functions_call_back program.funcs ≡ false
-  pub types : length plan.types ≤ 4294967296
+  pub numbers : HasFewNumbers program
 
 -- texts that can be loaded
 pub record AreLoadable (user plan_text : List ℕ) : Type 0 where

@@ -1,8 +1,9 @@
 -- protocol
 -- The program of a user half's text, stage by stage.
-use Rattle.std.specs.Prelude.{◌≡◌, ◌≤◌, ℕ, true, false, List, length, Option, Some, None}
+use Rattle.std.specs.Prelude.{◌≡◌, ℕ, true, false, List, Option, Some, None}
 use Rattle.mdr_core.specs.declared.plan.Plan.{Plan}
 use Rattle.mdr_core.specs.declared.program.Program.{Program}
+use Rattle.mdr_core.specs.Sound.{HasFewNumbers}
 use Rattle.mdr_syntax.specs.declared.token.Token.{Token}
 use Rattle.mdr_syntax.specs.declared.tree.Tree.{Tree}
 use Rattle.mdr_parse.specs.declared.error.ParseError.{ParseError}
@@ -61,10 +62,10 @@ abbrev pub Finds : List ℕ → Plan → Option Program → Type 0
 Finds user plan (Some program) = IsFound user plan program
 Finds user plan None = IsMissing user plan
 
--- and its plan numbers its types with 32 bits
+-- and its types, globals, structs and functions are few
 pub record IsSmall (user : List ℕ) (plan : Plan) (program : Program) : Type 0 where
   pub found : IsFound user plan program
-  pub types : length plan.types ≤ 4294967296
+  pub numbers : HasFewNumbers program
 
 abbrev pub HasHalf : List ℕ → Plan → Option Program → Type 0
 HasHalf user plan (Some program) = IsSmall user plan program

@@ -1,7 +1,9 @@
 // The plan and the program of two texts, or which of the two is none.
 
-ghost use Rattle.std.specs.Prelude.{◌≡◌, ℕ, true, false, List, None, IfOk, MatchResult, MatchOption};
+ghost use Rattle.std.specs.Prelude.{◌≡◌, ℕ, true, false, List, Some, None, IfOk, MatchResult, MatchOption};
+ghost use Rattle.mdr_core.specs.declared.plan.Plan.{Plan as AnyPlan};
 ghost use Rattle.mdr_core.specs.declared.program.Program.{Program as AnyProgram};
+ghost use Rattle.mdr_core.specs.Sound.{HasFewNumbers};
 ghost use Rattle.mdr_faults.specs.Faults.{Checked, Right, IsFirst};
 ghost use Rattle.mdr_plan.specs.Texts.{IsPlanText};
 ghost use Rattle.mdr_half_source.specs.Halves.{ComeTo};
@@ -11,7 +13,7 @@ use crate::misfit::Misfit;
 use crate::outcome::HalfSource;
 use mdr_body::Rule;
 use mdr_check_half::check_half;
-use mdr_core::{Limit, OutOfMemory, Plan, Program};
+use mdr_core::{Limit, OutOfMemory, Plan, Program, has_few_numbers};
 use mdr_express::left_over;
 use mdr_faults::Fault;
 use mdr_parse::{ParseError, parse};
@@ -20,9 +22,6 @@ use mdr_source::functions_call_back;
 use mdr_syntax::{LexError, Token, Tree, tokens};
 use mdr_typing::ProfileRules;
 use std::alloc::Global;
-
-/// The most types that 32 bits number.
-const MOST_TYPES: usize = 0x1_0000_0000;
 
 // ---- programs
 
@@ -118,15 +117,41 @@ fn found_in(alloc: Global, plan: &Plan, user: &[u8]) -> Result<Option<Program>, 
     }
 }
 
-/// The same with a plan whose types have numbers of 32 bits. A larger one finds no memory.
+/// A program that has few numbers or not. One that hasn't finds no memory.
+fn within<P: Drop>(is_few: bool, program: P) -> Result<Option<P>, OutOfMemory>
+    ensures { IfOk result (λ o. (o ≡ Some program) × (is_few ≡ true)) }
+{
+    if is_few {
+        Ok(Some(program))
+    } else {
+        Err(Limit::Parts.past())
+    }
+}
+
+fn few(program: Program) -> Result<Option<Program>, OutOfMemory>
+    ensures { IfOk result (λ o. (o ≡ Some program) × HasFewNumbers program) }
+{
+    let is_few = has_few_numbers(&program);
+    within(is_few, program)
+}
+
+/// What was found, if its types, globals, structs and functions are few.
+fn counted(found: Option<Program>) -> Result<Option<Program>, OutOfMemory>
+    ensures { (user : List ℕ) (plan : AnyPlan) → Finds user plan found → IfOk result (HasHalf user plan) }
+{
+    match found {
+        Some(program) => few(program),
+        None => Ok(None),
+    }
+}
+
+/// The program of a user half's text with a plan, if it has one that is few.
 fn of_text(alloc: Global, plan: &Plan, user: &[u8]) -> Result<Option<Program>, OutOfMemory>
     ensures { IfOk result (HasHalf user.now plan.now) }
 {
-    if plan.types.len() > MOST_TYPES {
-        return Err(Limit::Parts.past());
-    }
     let found = found_in(alloc, plan, user)?;
-    Ok(found)
+    let half = counted(found)?;
+    Ok(half)
 }
 
 /// Why there is no half, in place of what was read for it.

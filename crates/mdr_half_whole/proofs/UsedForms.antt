@@ -2,8 +2,8 @@
 use Rattle.std.proofs.Common.{◌≡◌, ℕ, Bool, true, false, List, ◌∷◌, Option, Some, None, refl, sym, ap, ◌∙◌, subst}
 use Rattle.std.proofs.lemmas.Slice.Eq.{bytes_eq-Decides}
 use Rattle.std.specs.Str.{bytes_eq}
-use Rattle.mdr_core.specs.declared.code.Lval.{Lval}
-use Rattle.mdr_core.specs.declared.code.Step.{Step}
+use Rattle.mdr_rich.specs.declared.code.Lval.{Lval}
+use Rattle.mdr_rich.specs.declared.code.Step.{Step}
 use Rattle.mdr_core.specs.declared.place.Place.{Place}
 use Rattle.mdr_core.specs.declared.types.Ty.{Ty}
 use Rattle.mdr_core.specs.Layout.{chosen}

@@ -1,16 +1,16 @@
 -- Bodies without faults use no name that gives nothing.
 use Rattle.std.proofs.Common.{◌≡◌, ℕ, ◌+◌, ◌||◌, ◌&&◌, not, Bool, true, false, List, [], ◌∷◌, map, Option, Some, None, refl, sym, ap, ◌∙◌, subst}
 use Rattle.std.specs.Str.{bytes_eq}
-use Rattle.mdr_core.specs.declared.code.Expr.{Expr}
-use Rattle.mdr_core.specs.declared.code.Step.{Step}
-use Rattle.mdr_core.specs.declared.code.Stmt.{Stmt}
+use Rattle.mdr_rich.specs.declared.code.Expr.{Expr}
+use Rattle.mdr_rich.specs.declared.code.Step.{Step}
+use Rattle.mdr_rich.specs.declared.code.Stmt.{Stmt}
 use Rattle.mdr_core.specs.declared.place.Place.{Place}
 use Rattle.mdr_core.specs.Layout.{chosen}
 use Rattle.mdr_syntax.specs.declared.tree.Decl.{Decl, out-Decl}
 use Rattle.mdr_syntax.specs.declared.tree.Node.{Node}
 use Rattle.mdr_syntax.specs.declared.tree.NodeWhat.{NodeWhat}
 use Rattle.mdr_syntax.specs.declared.tree.NodeWhat.TheOpen.{NodeWhat-F}
-use Rattle.mdr_syntax.specs.declared.tree.NodeWhat.TheFolds.{ind-Node, map-NodeWhat, fold-NodeWhat, fold-Clause, fold-roll-NodeWhat, fold_out-Node}
+use Rattle.mdr_syntax.specs.declared.tree.NodeWhat.TheFolds.{ind-Node, map-NodeWhat, fold-NodeWhat, fold-roll-NodeWhat, fold-roll-Clause, fold_out-Node}
 use Rattle.mdr_syntax.specs.declared.tree.Clause.{Clause}
 use Rattle.mdr_faults.specs.declared.fault.FaultKind.TheVariants.{Mismatch}
 use Rattle.mdr_faults.specs.declared.scope.Object.{Object}
@@ -21,7 +21,7 @@ use Rattle.mdr_faults.specs.Scopes.{entity_named, or_else}
 use Rattle.mdr_headings.specs.Structs.{name_or_none}
 use Rattle.mdr_operand.specs.declared.room.LocalName.{LocalName}
 use Rattle.mdr_operand.specs.Rooms.{local_from, local_named}
-use Rattle.mdr_operand.specs.Written.{Written, Line, Lines, line_list, node_what_written, clause_written, node_written, line_of, lines_of}
+use Rattle.mdr_operand.specs.Written.{Written, Line, Lines, Clauses, Labelled, line_list, clause_list, node_what_written, clause_written, node_written, line_of, lines_of, clause_of}
 use Rattle.mdr_express.specs.Expressions.{typed}
 use Rattle.mdr_call.specs.Services.{service_named}
 use Rattle.mdr_body.specs.declared.here.Frame.{Frame}
@@ -57,7 +57,7 @@ abbrev mutual
   IsWhole (Line.While p e body) = IsWhole body
   IsWhole (Line.For p init test step body) = AtMostOne step × IsWhole body
   IsWhole (Line.Do p body e) = Unit {0}
-  IsWhole (Line.Switch p e) = Unit {0}
+  IsWhole (Line.Switch p e cs) = AreWholeClauses cs
   IsWhole (Line.Return p e) = Unit {0}
   IsWhole (Line.Break p) = Unit {0}
   IsWhole (Line.Continue p) = Unit {0}
@@ -66,11 +66,12 @@ abbrev mutual
   AreWhole Lines.End = Unit {0}
   AreWhole (Lines.Then l ls) = IsWhole l × AreWhole ls
 
-abbrev line_what : NodeWhat → Place → Line
-line_what = fold-NodeWhat (Place → Line) (Unit {0}) Line node_what_written clause_written node_written
+  AreWholeClauses : Clauses → Type 0
+  AreWholeClauses Clauses.NoPart = Unit {0}
+  AreWholeClauses (Clauses.Part labels ls cs) = AreWhole ls × AreWholeClauses cs
 
-abbrev line_clause : Clause → Unit {0}
-line_clause = fold-Clause (Place → Line) (Unit {0}) Line node_what_written clause_written node_written
+abbrev line_what : NodeWhat → Place → Line
+line_what = fold-NodeWhat (Place → Line) Labelled Line node_what_written clause_written node_written
 
 abbrev WholeWhat : NodeWhat → Type 0
 WholeWhat w = (p : Place) → IsWhole (line_what w p)
@@ -79,38 +80,49 @@ abbrev WholeNode : Node → Type 0
 WholeNode n = IsWhole (line_of n)
 
 abbrev WholeClause : Clause → Type 0
-WholeClause c = Unit {0}
+WholeClause c = AreWhole (clause_of c).1
 
 abbrev WholeLayer : NodeWhat-F NodeWhat Clause Node → Type 0
-WholeLayer l = (p : Place) → IsWhole (node_what_written (map-NodeWhat NodeWhat Clause Node (Place → Line) (Unit {0}) Line line_what line_clause line_of l) p)
+WholeLayer l = (p : Place) → IsWhole (node_what_written (map-NodeWhat NodeWhat Clause Node (Place → Line) Labelled Line line_what clause_of line_of l) p)
 
 all_whole : {Z : Type 0} (of : Z → Node) → ((z : Z) → WholeNode (of z)) → (zs : List Z) → AreWhole (line_list (map line_of (map of zs)))
 all_whole of good [] = tt
 all_whole of good (z ∷ zs) = (good z, all_whole of good zs)
 
-layer_whole : {X Y Z : Type 0} (what : X → NodeWhat) (clause : Y → Clause) (of : Z → Node) → ((z : Z) → WholeNode (of z)) → (l : NodeWhat-F X Y Z) → WholeLayer (map-NodeWhat X Y Z NodeWhat Clause Node what clause of l)
-layer_whole what clause of good NodeWhat-F.Empty p = tt
-layer_whole what clause of good (NodeWhat-F.Block zs) p = all_whole of good zs
-layer_whole what clause of good (NodeWhat-F.Local d value) p = tt
-layer_whole what clause of good (NodeWhat-F.Assign place op a b) p = tt
-layer_whole what clause of good (NodeWhat-F.Plain f) p = tt
-layer_whole what clause of good (NodeWhat-F.If c a None) p = (good a, (tt, tt))
-layer_whole what clause of good (NodeWhat-F.If c a (Some b)) p = (good a, (tt, (good b, tt)))
-layer_whole what clause of good (NodeWhat-F.While c a) p = good a
-layer_whole what clause of good (NodeWhat-F.For zs c None a) p = (tt, good a)
-layer_whole what clause of good (NodeWhat-F.For zs c (Some s) a) p = (tt, good a)
-layer_whole what clause of good (NodeWhat-F.Do a c) p = tt
-layer_whole what clause of good (NodeWhat-F.Switch c cs) p = tt
-layer_whole what clause of good (NodeWhat-F.Return o) p = tt
-layer_whole what clause of good NodeWhat-F.Break p = tt
-layer_whole what clause of good NodeWhat-F.Continue p = tt
+all_whole_clauses : {Y : Type 0} (clause : Y → Clause) → ((y : Y) → WholeClause (clause y)) → (ys : List Y) → AreWholeClauses (clause_list (map clause_of (map clause ys)))
+all_whole_clauses clause good [] = tt
+all_whole_clauses clause good (y ∷ ys) = (good y, all_whole_clauses clause good ys)
+
+layer_whole : {X Y Z : Type 0} (what : X → NodeWhat) (clause : Y → Clause) (of : Z → Node) → ((y : Y) → WholeClause (clause y)) → ((z : Z) → WholeNode (of z)) → (l : NodeWhat-F X Y Z) → WholeLayer (map-NodeWhat X Y Z NodeWhat Clause Node what clause of l)
+layer_whole what clause of in_clauses good NodeWhat-F.Empty p = tt
+layer_whole what clause of in_clauses good (NodeWhat-F.Block zs) p = all_whole of good zs
+layer_whole what clause of in_clauses good (NodeWhat-F.Local d value) p = tt
+layer_whole what clause of in_clauses good (NodeWhat-F.Assign place op a b) p = tt
+layer_whole what clause of in_clauses good (NodeWhat-F.Plain f) p = tt
+layer_whole what clause of in_clauses good (NodeWhat-F.If c a None) p = (good a, (tt, tt))
+layer_whole what clause of in_clauses good (NodeWhat-F.If c a (Some b)) p = (good a, (tt, (good b, tt)))
+layer_whole what clause of in_clauses good (NodeWhat-F.While c a) p = good a
+layer_whole what clause of in_clauses good (NodeWhat-F.For zs c None a) p = (tt, good a)
+layer_whole what clause of in_clauses good (NodeWhat-F.For zs c (Some s) a) p = (tt, good a)
+layer_whole what clause of in_clauses good (NodeWhat-F.Do a c) p = tt
+layer_whole what clause of in_clauses good (NodeWhat-F.Switch c cs) p = all_whole_clauses clause in_clauses cs
+layer_whole what clause of in_clauses good (NodeWhat-F.Return o) p = tt
+layer_whole what clause of in_clauses good NodeWhat-F.Break p = tt
+layer_whole what clause of in_clauses good NodeWhat-F.Continue p = tt
+
+abbrev HoldsWhole : Labelled → Type 0
+HoldsWhole c = AreWhole c.1
+
+abbrev ClauseLayer : List Node → Type 0
+ClauseLayer ns = AreWhole (line_list (map line_of ns))
 
 node_whole : (n : Node) → WholeNode n
 node_whole = ind-Node WholeWhat WholeClause WholeNode
-    (λ x y is p. subst IsWhole (sym (ap (λ (f : Place → Line). f p) (fold-roll-NodeWhat (Place → Line) (Unit {0}) Line node_what_written clause_written node_written x)))
-    (subst WholeLayer is (layer_whole (λ e. e.0) (λ e. e.0) (λ e. e.0) (λ e. e.1) y) p))
-    (λ x y is. tt)
-    (λ x y is. subst IsWhole (sym (fold_out-Node (Place → Line) (Unit {0}) Line node_what_written clause_written node_written (record { place = x.place; what = x.what })))
+    (λ x y is p. subst IsWhole (sym (ap (λ (f : Place → Line). f p) (fold-roll-NodeWhat (Place → Line) Labelled Line node_what_written clause_written node_written x)))
+    (subst WholeLayer is (layer_whole (λ e. e.0) (λ e. e.0) (λ e. e.0) (λ e. e.1) (λ e. e.1) y) p))
+    (λ x y is. subst HoldsWhole (sym (fold-roll-Clause (Place → Line) Labelled Line node_what_written clause_written node_written x))
+    (subst ClauseLayer (ap (λ z. z.body) is) (all_whole (λ e. e.0) (λ e. e.1) y.body)))
+    (λ x y is. subst IsWhole (sym (fold_out-Node (Place → Line) Labelled Line node_what_written clause_written node_written (record { place = x.place; what = x.what })))
     ((subst WholeWhat (ap (λ z. z.what) is) (y.what.1)) x.place))
 
 nodes_whole : (ns : List Node) → AreWhole (lines_of ns)
@@ -209,7 +221,7 @@ module _ (scope : Scope) (name : List ℕ) (gives : GivesNothing (entity_named s
   simple_free in_loop here t (Line.While p c body) ss h f e = not_right _ ss e
   simple_free in_loop here t (Line.For p init test step body) ss h f e = not_right _ ss e
   simple_free in_loop here t (Line.Do p body c) ss h f e = not_right _ ss e
-  simple_free in_loop here t (Line.Switch p c) ss h f e = not_right _ ss e
+  simple_free in_loop here t (Line.Switch p c cs) ss h f e = not_right _ ss e
   simple_free in_loop here t (Line.Return p o) ss h f e =
       let s = after_right (return_step profile_rules scope frame here p o) (single here.number) ss e in
       return_free here p o s.value f s.right
@@ -235,7 +247,7 @@ module _ (scope : Scope) (name : List ℕ) (gives : GivesNothing (entity_named s
   free_line here t (Line.While p c body) h q f = free_kept here t (Line.While p c body) refl h f
   free_line here t (Line.For p init test step body) h q f = free_kept here t (Line.For p init test step body) refl h f
   free_line here t (Line.Do p body c) h q f = f
-  free_line here t (Line.Switch p c) h q f = f
+  free_line here t (Line.Switch p c cs) h q f = f
   free_line here t (Line.Return p o) h q f = f
   free_line here t (Line.Break p) h q f = f
   free_line here t (Line.Continue p) h q f = f
@@ -305,7 +317,7 @@ module _ (scope : Scope) (name : List ℕ) (gives : GivesNothing (entity_named s
         let b = both_right (for_head profile_rules scope frame (entered here) p init test step body) (line_made profile_rules scope frame true true there false body) (for_of here.number) ss e in
         for_free (entered here) p init test step body b.left (h.0.0, h.1.0) w.0 f (λ g. line_free true true there false body b.right h.1.1.1 w.1 g b.second) b.first
     line_free in_loop is_part here t (Line.Do p body c) ss h w f e = not_right _ ss e
-    line_free in_loop is_part here t (Line.Switch p c) ss h w f e = not_right _ ss e
+    line_free in_loop is_part here t (Line.Switch p c cs) ss h w f e = not_right _ ss e
     line_free in_loop is_part here t (Line.Return p o) ss h w f e = simple_free in_loop here t (Line.Return p o) ss h f e
     line_free in_loop is_part here t (Line.Break p) ss h w f e = refl
     line_free in_loop is_part here t (Line.Continue p) ss h w f e = refl

@@ -41,7 +41,7 @@ same_program tree p q r s = one_right (typed_tree tree) p q r.judged s.judged
 pub source_means : (bytes : List ℕ) (source : Source) (other : Tree) → Comes bytes (Ok source) → unplaced_tree source.tree ≡ unplaced_tree other → Means other (Ok source.program)
 source_means bytes source other comes e =
     let r = right_moved source.tree other source.program e (source_right bytes source comes) in
-    Means.built r.built (Judged.right source.program r.judged r.no_back (come_source bytes source comes).types)
+    Means.built r.built (Judged.right source.program r.judged r.no_back (come_source bytes source comes).numbers)
 
 -- ---- a tree that is refused
 
@@ -64,7 +64,7 @@ judged_moved b c _ w h (Judged.fault f i) e = by c (typed_tree b) refl h i
     by _ _ k (AreAlike.Rights x) i = absurd i
     by _ _ k (AreAlike.Wrongs fs gs) i = record { refusal = refusals.Fault (first gs); means = Means.built w (subst (λ (d : Checked Program). Judged d (Err (refusals.Fault (first gs)))) (sym k) (Judged.fault (first gs) (first_is_in gs, first_is_least gs))) }
 judged_moved b c _ w h (Judged.back program is back) e = record { refusal = refusals.Unbuilt; means = Means.built w (Judged.back program (right_same program h is) back) }
-judged_moved b c _ w h (Judged.right program is back types) e = absurd e
+judged_moved b c _ w h (Judged.right program is back few) e = absurd e
 
 pub refused_moved : (a b : Tree) (o : Result Program Refusal) → unplaced_tree a ≡ unplaced_tree b → Means a o → IsErr o → IsRefused b
 refused_moved a b _ e (Means.unbuilt w) t = record { refusal = refusals.Unbuilt; means = Means.unbuilt (sym (waits_same a b e) ∙ w) }
@@ -79,7 +79,7 @@ judged_once : (tree : Tree) (program : Program) (o : Result Program Refusal) →
 judged_once tree program _ r (Judged.fault f i) t = no_first (typed_tree tree) program f r.judged i
 judged_once tree program _ r (Judged.back q is back) t =
     not_both back (ap (λ (p : Program). functions_call_back p.funcs) (one_right (typed_tree tree) q program is r.judged) ∙ r.no_back)
-judged_once tree program _ r (Judged.right q is back types) t = t
+judged_once tree program _ r (Judged.right q is back few) t = t
 
 pub not_refused : (tree : Tree) (program : Program) (o : Result Program Refusal) → IsRight tree program → Means tree o → IsErr o → ⊥
 not_refused tree program _ r (Means.unbuilt w) t = not_both w r.built
@@ -92,7 +92,7 @@ IsRightOf tree (Err e) = Unit {0}
 judged_right : (tree : Tree) (o : Result Program Refusal) → waits tree.items ≡ false → Judged (typed_tree tree) o → IsRightOf tree o
 judged_right tree _ w (Judged.fault f i) = tt
 judged_right tree _ w (Judged.back q is back) = tt
-judged_right tree _ w (Judged.right q is back types) = record { built = w; judged = is; no_back = back }
+judged_right tree _ w (Judged.right q is back few) = record { built = w; judged = is; no_back = back }
 
 pub meaning_right : (tree : Tree) (o : Result Program Refusal) → Means tree o → IsRightOf tree o
 meaning_right tree _ (Means.unbuilt w) = tt

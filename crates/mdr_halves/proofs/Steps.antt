@@ -15,7 +15,6 @@ use Rattle.mdr_sound.proofs.Sourced.{sources_sound}
 use Rattle.mdr_source.specs.declared.outcome.Source.{Source}
 use Rattle.mdr_source.specs.declared.refusal.Refusal.{Refusal}
 use Rattle.mdr_source.specs.Sources.{Comes}
-use Rattle.mdr_source.proofs.NothingBack.{body_calls_nothing_back}
 use Rattle.mdr_source.proofs.Whose.{come_source}
 use Rattle.mdr_syntax.specs.declared.error.LexError.{LexError}
 use Rattle.mdr_syntax.specs.declared.error.LexError.TheVariants as lex
@@ -74,7 +73,7 @@ pub source_sound : (bytes : List ℕ) (source : Source) → Comes bytes (Ok sour
 source_sound bytes source comes =
     let s = come_source bytes source comes in
     let is : IsProgramOf bytes false first_use source.program = record { tokens = s.tokens; tree = source.tree; lexed = s.are_tokens; read = s.reads; typed = s.judged } in
-    sources_sound bytes false first_use source.program is s.types (body_calls_nothing_back (source.program).funcs s.no_back)
+    sources_sound bytes false first_use source.program is s.numbers
 
 pub refused_types : (texts : Texts) (text : List ℕ) (r : Refusal) → IsJoinedText texts text → Comes text (Err r) → Come texts (Err (at which.Kernel 0))
 refused_types texts text r j comes =

@@ -78,7 +78,7 @@ mutual
   line_same (AreLine.Whiles p q h i) = either (part_same h) (line_same i)
   line_same (AreLine.Fors p q h o i j) = either (lines_same h) (either (perhaps_part_same o) (either (lines_same i) (line_same j)))
   line_same (AreLine.Dos p q h i) = refl
-  line_same (AreLine.Switches p q h) = refl
+  line_same (AreLine.Switches p q h cs) = refl
   line_same (AreLine.Returns p q o) = perhaps_whole_same o
   line_same (AreLine.Breaks p q) = refl
   line_same (AreLine.Continues p q) = refl

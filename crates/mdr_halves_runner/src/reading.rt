@@ -1,7 +1,7 @@
 // Three texts that are read.
 
 ghost use Rattle.std.specs.Prelude.{◌≡◌, ◌≤◌, IfOk, OnErr};
-ghost use Rattle.mdr_due.specs.Stages.{StageIs, HasStageCause};
+ghost use Rattle.mdr_due.specs.Stages.{StageCause, StageIs};
 ghost use Rattle.mdr_halves_runner.specs.Names.{names_in};
 ghost use Rattle.mdr_halves_runner.specs.Reads.{AreRead, NoTexts, TextsPart};
 
@@ -9,7 +9,7 @@ use crate::files::TextFiles;
 use mdr_core::OutOfMemory;
 use mdr_cut::Texts;
 use mdr_due::{Stage, file};
-use mdr_outside::Shelf;
+use mdr_outside::{Shelf, ShelfSeen};
 use std::alloc::Global;
 
 /// The longest text: 64 MiB.
@@ -24,7 +24,7 @@ pub(crate) fn texts_read<S: Shelf>(
     ensures read { IfOk result (StageIs (AreRead (S.files shelf.old) (names_in files.entry) (S.calls shelf.old) (S.calls shelf.new)) (NoTexts (S.files shelf.old) (names_in files.entry) (S.calls shelf.old) (S.calls shelf.new))) }
     ensures part { OnErr result (TextsPart (S.files shelf.old) (names_in files.entry) (S.calls shelf.old) (S.calls shelf.new)) }
     ensures kept { S.files shelf.new ≡ S.files shelf.old }
-    ensures cause { IfOk result (HasStageCause (record { faults = S.faults shelf.old; absent = S.absent shelf.old; long = S.long shelf.old }) (record { faults = S.faults shelf.new; absent = S.absent shelf.new; long = S.long shelf.new })) }
+    ensures cause { IfOk result (StageCause (⟦<S as ShelfSeen>⟧.side shelf.old) (⟦<S as ShelfSeen>⟧.side shelf.new)) }
     ensures faults_later { S.faults shelf.old ≤ S.faults shelf.new }
     ensures absent_later { S.absent shelf.old ≤ S.absent shelf.new }
     ensures long_later { S.long shelf.old ≤ S.long shelf.new }

@@ -1,7 +1,7 @@
 // The source whose halves and plan three texts are.
 
 ghost use Rattle.std.specs.Prelude.{◌≡◌, ◌≤◌, IfOk, OnErr};
-ghost use Rattle.mdr_due.specs.Stages.{StageIs, HasStageCause};
+ghost use Rattle.mdr_due.specs.Stages.{StageCause, StageIs};
 ghost use Rattle.mdr_halves_runner.specs.Names.{names_in};
 ghost use Rattle.mdr_halves_runner.specs.Reads.{TextsPart};
 ghost use Rattle.mdr_halves_runner.specs.Sources.{HasHalves, NoHalves, IsSourceIn, NoSourceIn};
@@ -12,7 +12,7 @@ use mdr_core::OutOfMemory;
 use mdr_cut::Texts;
 use mdr_due::{Due, Stage, Status};
 use mdr_halves::{mismatch_line, source_of_texts};
-use mdr_outside::Shelf;
+use mdr_outside::{Shelf, ShelfSeen};
 use mdr_source::Source;
 use std::alloc::Global;
 
@@ -38,7 +38,7 @@ pub(crate) fn source_in<S: Shelf>(
     ensures read { IfOk result (StageIs (IsSourceIn (S.files shelf.old) (names_in files.entry) (S.calls shelf.old) (S.calls shelf.new)) (NoSourceIn (S.files shelf.old) (names_in files.entry) (S.calls shelf.old) (S.calls shelf.new))) }
     ensures part { OnErr result (TextsPart (S.files shelf.old) (names_in files.entry) (S.calls shelf.old) (S.calls shelf.new)) }
     ensures kept { S.files shelf.new ≡ S.files shelf.old }
-    ensures cause { IfOk result (HasStageCause (record { faults = S.faults shelf.old; absent = S.absent shelf.old; long = S.long shelf.old }) (record { faults = S.faults shelf.new; absent = S.absent shelf.new; long = S.long shelf.new })) }
+    ensures cause { IfOk result (StageCause (⟦<S as ShelfSeen>⟧.side shelf.old) (⟦<S as ShelfSeen>⟧.side shelf.new)) }
     ensures faults_later { S.faults shelf.old ≤ S.faults shelf.new }
     ensures absent_later { S.absent shelf.old ≤ S.absent shelf.new }
     ensures long_later { S.long shelf.old ≤ S.long shelf.new }

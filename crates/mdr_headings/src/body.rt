@@ -1,7 +1,8 @@
 // What the bodies of functions come to (C99 6.9.1).
 
-use mdr_core::{Items, Local, OutOfMemory, Place, Stmt};
+use mdr_core::{Items, Local, OutOfMemory, Place};
 use mdr_faults::{Fault, Scope};
+use mdr_rich::Stmt;
 use mdr_syntax::{Head, Node};
 use std::alloc::Global;
 

@@ -13,12 +13,13 @@ use Rattle.mdr_meaning.specs.Within.{Uses}
 use Rattle.mdr_model.specs.declared.command.Command.{Command}
 use Rattle.mdr_model.specs.declared.command.Command.TheVariants as command
 use Rattle.mdr_model.specs.Values.{value_of}
+use Rattle.mdr_model.specs.declared.memory.Cell.{Cell}
 use Rattle.mdr_plain.specs.declared.outcome.Happened.TheVariants as happened
 use Rattle.mdr_plain.specs.Plain.{never, whole}
 use Rattle.mdr_plain.specs.Running.{Before, call, interrupts}
-use Rattle.mdr_plain.specs.Scripts.{Beginning, Did, Finish, Opens, and_then, begin, begun, called_by, commands, idle, in_place, returned, showed}
+use Rattle.mdr_plain.specs.Scripts.{Beginning, Did, Finish, Opens, and_then, begin, begun, called_by, commands, idle, in_place, poked_memory, returned, showed}
 use Rattle.mdr_plain.specs.Services.{served}
-use Rattle.mdr_plain.specs.Storage.{next_serial}
+use Rattle.mdr_plain.specs.Storage.{next_serial, with_memory}
 use Rattle.mdr_plain.specs.World.{Ran, Work, World, advanced, counted, noted, then}
 use Rattle.mdr_holds.specs.Holding.{Holds}
 use Rattle.mdr_holds.specs.Laws.{AreCommands, BeginsRight, IsAround, IsCalled, IsCode, IsCommand, noted_command}
@@ -26,6 +27,7 @@ use Rattle.mdr_holds.specs.Leaving.{GivesResult, IsAsBefore, Later, Leads, Retur
 use Rattle.mdr_holds.proofs.Kernel.{called, with_interrupts}
 use Rattle.mdr_holds.proofs.Leading.{after_leads, later_leads, then_leads}
 use Rattle.mdr_holds.proofs.Memories.{globals_known}
+use Rattle.mdr_holds.proofs.Poking.{poked_later}
 use Rattle.mdr_holds.proofs.Steps.{kept_holds, kept_later, later_on, later_same, tick_later}
 
 -- ---- the state in which a command begins
@@ -34,6 +36,8 @@ pub noted_holds : (program : Program) (K : Knowledge) (w : World) (c : Command) 
 noted_holds program K w (command.Call f args) h = kept_holds program K (record w { kept = record w.kept { calls = w.kept.calls + 1 } }) _ (kept_holds program K w (record w.kept { calls = w.kept.calls + 1 }) h h.handler) h.handler
 noted_holds program K w (command.Idle n) h = kept_holds program K w _ h h.handler
 noted_holds program K w (command.Show g) h = kept_holds program K w _ h h.handler
+noted_holds program K w (command.Poke serial index n) h = h
+noted_holds program K w (command.Say text) h = kept_holds program K w _ h h.handler
 
 module _ (program : Program) (sound : IsSound program) (uses : Uses) (side : Side) (code : IsCode program uses side) where
   abbrev before : Before
@@ -99,6 +103,11 @@ module _ (program : Program) (sound : IsSound program) (uses : Uses) (side : Sid
       call_right K (begun program f args w) same holds f c.0 (map wire_of args) (record { names = c.1; fit = c.2 K (globals_known program K w.memory h.memory) }) (is_user f)
   begins_right is_user K w same h (command.Idle n) c = idled_leads K (noted (happened.Idle n) w) same n (noted_holds program K w (command.Idle n) h)
   begins_right is_user K w same h (command.Show g) c = ended K tt (showed program g w) (later_same program _ K (showed program g w) (noted_holds program K w (command.Show g) h)) refl
+  begins_right is_user K w same h (command.Poke serial index n) c =
+      let at : Cell = record { serial = serial; index = index } in
+      ended K tt (with_memory w (poked_memory at n w.memory)) (poked_later program (next_serial w) K w h at n) refl
+  begins_right is_user K w same h (command.Say text) c =
+      ended K tt (noted (happened.Say text) w) (later_same program _ K (noted (happened.Say text) w) (noted_holds program K w (command.Say text) h)) refl
 
   -- where functions of the user half are called by this
   module _ (is_user : ℕ → Bool) (up : (func : ℕ) (args : List Wire) → World → Ran Wire)

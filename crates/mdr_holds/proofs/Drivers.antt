@@ -32,13 +32,13 @@ use Rattle.mdr_holds.specs.Holding.{IsHandler}
 use Rattle.mdr_holds.specs.Laws.{CallsItself, HaveBodies, IsCode, IsDriver, ProgramsAreDrivers, TakesFirst}
 use Rattle.mdr_holds.proofs.Fitting.{some_is}
 
-is_code : (program : Program) → IsSound program → (kernel_calls : Bool) (callees : List (List ℕ)) → AreCallees program kernel_calls callees → (side : Side) → IsSideOf program side → IsCode program (uses_by program callees) side
-is_code program sound kernel_calls callees h side s = record { bodies = s; within = code_keeps program sound kernel_calls callees h side s }
+is_code : (program : Program) → IsSound program → (callees : List (List ℕ)) → AreCallees program true callees → (side : Side) → IsSideOf program side → IsCode program (uses_by program callees) side
+is_code program sound callees h side s = record { bodies = s; within = code_keeps program sound callees h side s }
 
-is_driver : (program : Program) → IsSound program → (plan : Plan) (kernel_calls : Bool) (callees : List (List ℕ)) → AreCallees program kernel_calls callees → IsDriver (driver_of program plan) (uses_by program callees)
-is_driver program sound plan kernel_calls callees h =
+is_driver : (program : Program) → IsSound program → (plan : Plan) (callees : List (List ℕ)) → AreCallees program true callees → IsDriver (driver_of program plan) (uses_by program callees)
+is_driver program sound plan callees h =
     let sides = sides_are_of_programs program (λ f. not (is_user plan f)) in
-    record { sound = sound; kernel = is_code program sound kernel_calls callees h _ sides.1; user = is_code program sound kernel_calls callees h _ sides.2 }
+    record { sound = sound; kernel = is_code program sound callees h _ sides.1; user = is_code program sound callees h _ sides.2 }
 
 -- ---- first values
 

@@ -11,6 +11,7 @@ pub mod Running
 pub mod Leading
 pub mod Views
 pub mod Kernel
+pub mod Poking
 pub mod User
 pub mod States
 pub mod Commands

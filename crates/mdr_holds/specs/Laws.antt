@@ -194,6 +194,8 @@ abbrev pub IsCommand : Program → Command → Type 0
 IsCommand program (command.Call f args) = (func : Func) × (slice_get program.funcs f ≡ Some func) × ((K : Knowledge) → KnowsGlobals program K → AllFit program K (map wire_of args) (map (λ (p : Param). p.ty) func.params))
 IsCommand program (command.Idle n) = Unit {0}
 IsCommand program (command.Show g) = (def : GlobalDef) × (slice_get program.globals g ≡ Some def)
+IsCommand program (command.Poke serial index n) = Unit {0}
+IsCommand program (command.Say text) = Unit {0}
 
 abbrev pub AreCommands : Program → List Command → Type 0
 AreCommands program [] = Unit {0}
@@ -214,6 +216,8 @@ abbrev pub noted_command : Program → Command → World → World
 noted_command program (command.Call f args) w = begun program f args w
 noted_command program (command.Idle n) w = noted (happened.Idle n) w
 noted_command program (command.Show g) w = showed program g w
+noted_command program (command.Poke serial index n) w = w
+noted_command program (command.Say text) w = noted (happened.Say text) w
 
 -- a command was done, or a function of the user half is called, with arguments that fit
 abbrev pub BeginsRight : Program → Knowledge → World → Beginning → Type 0
@@ -239,11 +243,11 @@ pub record RunsHold : Type 0 where
 abbrev pub HaveBodies : Program → Type 0
 HaveBodies program = (f : ℕ) (func : Func) → slice_get program.funcs f ≡ Some func → (body : Body) × (body_of program f ≡ Some body)
 
--- each plan, with what the slicer says of calls
+-- each plan, with what the slicer says of calls, those back through the kernel among them
 pub record ProgramsAreDrivers : Type 0 where
-  pub driver : (program : Program) → IsSound program → (plan : Plan) (kernel_calls : Bool) (callees : List (List ℕ)) → AreCallees program kernel_calls callees → IsDriver (driver_of program plan) (uses_by program callees)
+  pub driver : (program : Program) → IsSound program → (plan : Plan) (callees : List (List ℕ)) → AreCallees program true callees → IsDriver (driver_of program plan) (uses_by program callees)
   pub first : (program : Program) (callees : List (List ℕ)) → TakesFirst program (uses_by program callees)
-  -- where the plan has the halves, and each function has a body, code of the kernel half calls no other function
+  -- where the plan has the halves, and each function has a body, code of the kernel half calls no other function, calls back aside
   pub kernel : (program : Program) (plan : Plan) (roots : List ℕ) (halves : Halves) → AreHalves program roots halves → plan.halves ≡ halves.halves → HaveBodies program → (callees : List (List ℕ)) → AreCallees program false callees
       → CallsItself (uses_by program callees) (driver_of program plan).kernel
   -- and where all that handle interrupts are roots, each has its body in the kernel half

@@ -9,7 +9,6 @@ use Rattle.mdr_grammar.proofs.Exact.{one_tree}
 use Rattle.mdr_body.specs.Bodies.{body_rule}
 use Rattle.mdr_body.specs.Uses.{first_use}
 use Rattle.mdr_typing.specs.Profile.{profile_rules}
-use Rattle.mdr_source.proofs.NothingBack.{body_calls_nothing_back}
 use Rattle.mdr_plan.proofs.Running.{plan_once}
 use Rattle.mdr_check_half.specs.HalfPrograms.{half_typed}
 use Rattle.mdr_check_half.specs.Planned.{IsPlanned}
@@ -57,6 +56,6 @@ half_is user text program plan h =
     let planned : IsPlanned plan = plans_planned text plan h.planned in
     let is = h.comes in
     record {
-      sound = halves_sound user true first_use plan program is planned h.types (body_calls_nothing_back program.funcs h.no_back);
+      sound = halves_sound user true first_use plan program is planned h.numbers;
       suited = plans_suit (body_rule profile_rules) first_use plan (is.tree).items program planned is.typed;
     }

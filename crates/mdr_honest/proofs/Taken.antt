@@ -1,14 +1,12 @@
 -- The texts of a source's user half and of its plan are loaded.
-use Rattle.std.proofs.Common.{◌≡◌, ℕ, zero, suc, ◌+◌, ◌<◌, ◌≤◌, Bool, true, false, ◌||◌, List, [], ◌∷◌, length, Some, slice_get, refl, sym, ap, ◌∙◌, subst, arith}
+use Rattle.std.proofs.Common.{◌≡◌, ℕ, zero, suc, ◌≤◌, Bool, true, false, ◌||◌, List, [], ◌∷◌, length, Some, slice_get, refl, sym, ap, ◌∙◌, subst, arith}
 use Rattle.std.specs.Prelude.{is_some}
-use Rattle.std.proofs.lemmas.Option.{slice_get_within}
 use Rattle.mdr_core.specs.declared.plan.Half.TheVariants.{User}
 use Rattle.mdr_core.specs.declared.plan.Plan.{Plan}
 use Rattle.mdr_core.specs.declared.program.Func.{Func}
 use Rattle.mdr_core.specs.declared.program.Program.{Program}
 use Rattle.mdr_core.specs.declared.types.Ty.{Ty}
-use Rattle.mdr_core.specs.declared.types.Ty.TheVariants as type
-use Rattle.mdr_core.specs.Sound.{IsObjectSort, IsSound, IsTable}
+use Rattle.mdr_core.specs.Sound.{HasFewNumbers, IsObjectSort, IsSound}
 use Rattle.mdr_core.specs.TypeText.{Occurs}
 use Rattle.mdr_core.specs.Types.{sort_of}
 use Rattle.mdr_slice.specs.declared.halves.Halves.{Halves}
@@ -26,6 +24,7 @@ use Rattle.mdr_source.specs.Sources.{IsSource}
 use Rattle.mdr_half.specs.Halves.{half_of, is_same_half, user_text, user_tree}
 use Rattle.mdr_half.specs.Plans.{plan_text}
 use Rattle.mdr_half_pieces.specs.Bodies.{HaveBodies as HaveEach}
+use Rattle.mdr_half_pieces.specs.Programs.{IsPartOf}
 use Rattle.mdr_half_pieces.specs.Sides.{AreShown, IsShown}
 use Rattle.mdr_half_read.specs.Reading.{ComesToPart}
 use Rattle.mdr_half_whole.specs.Whole.{IsReadOf, IsWhole}
@@ -47,18 +46,18 @@ use Rattle.mdr_texts.proofs.HalvesAgain.{half_again}
 use Rattle.mdr_type_table.specs.Tabled.{HasFormedPointers}
 use Rattle.mdr_canonical.specs.Plannable.{HasShortNumbers as AreShort}
 use Rattle.mdr_outside.specs.declared.far.LoadAnswer.TheVariants as loads
-use Rattle.mdr_honest.specs.Loading.{AreItsHalf, HasShortNumbers, IsCut, TextsOfSourcesAreLoaded, TextsOfSourcesAreTaken}
-use Rattle.mdr_source.proofs.NothingBack.{body_calls_nothing_back, none_of}
+use Rattle.mdr_honest.specs.Loading.{AreItsHalf, IsCut, TextsOfSourcesAreLoaded, TextsOfSourcesAreTaken}
+use Rattle.mdr_source.proofs.NothingBack.{none_of}
 use Rattle.mdr_honest.proofs.Halves.{not_refused}
 
 -- ---- a source
 
 pub is_whole : (bytes : List ℕ) (source : Source) → IsSource bytes source → IsWhole bytes source.tree source.program
-is_whole bytes source s = record { tokens = s.tokens; lexed = s.are_tokens; reads = s.reads; right = s.judged; types = s.types }
+is_whole bytes source s = record { tokens = s.tokens; lexed = s.are_tokens; reads = s.reads; right = s.judged; types = (let few = (s.numbers).types in omega (arith, few)) }
 
 pub source_sound : (bytes : List ℕ) (source : Source) → IsSource bytes source → IsSound source.program
 source_sound bytes source s =
-    sources_sound bytes false first_use source.program (record { tokens = s.tokens; tree = source.tree; lexed = s.are_tokens; read = s.reads; typed = s.judged }) s.types (body_calls_nothing_back (source.program).funcs s.no_back)
+    sources_sound bytes false first_use source.program (record { tokens = s.tokens; tree = source.tree; lexed = s.are_tokens; read = s.reads; typed = s.judged }) s.numbers
 
 same_func : (a b : Func) → Some a ≡ Some b → a ≡ b
 same_func a b e = cc
@@ -91,21 +90,13 @@ formed_pointers bytes source s =
     types_of_files source.program profile_rules first_use source.tree.items s.judged (ranges_of source.tree.items proper) (profile_formed source.program) in
     record { formed = λ t occurs pointer. record { formed = λ wrong. not_wrong (subst IsObjectSort wrong (formed t occurs)) } }
 
--- each struct stands in the type table
-few_structs : (program : Program) → IsTable program → length program.types ≤ 4294967296 → length program.structs ≤ 4294967296
-few_structs program table few = by (length program.structs) refl
-  where
-    by : (n : ℕ) → length program.structs ≡ n → length program.structs ≤ 4294967296
-    by zero e = omega (arith, e)
-    by (suc n) e =
-        let inside : 9 + n < length program.types = slice_get_within program.types (9 + n) (type.Struct n) (table.structs n (omega (arith, e))) in
-        omega (arith, e, few, inside)
-
-are_short : (program : Program) → IsSound program → length program.types ≤ 4294967296 → HasShortNumbers program → AreShort program
-are_short program sound few short =
-    let structs = few_structs program sound.table few in
-    let globals = short.globals in
-    record { structs = omega (arith, structs); fields = sound.few; globals = omega (arith, globals); types = omega (arith, few); funcs = short.funcs }
+are_short : (program : Program) → IsSound program → AreShort program
+are_short program sound =
+    let structs = (sound.numbers).structs in
+    let globals = (sound.numbers).globals in
+    let types = (sound.numbers).types in
+    let funcs = (sound.numbers).funcs in
+    record { structs = omega (arith, structs); fields = sound.few; globals = omega (arith, globals); types = omega (arith, types); funcs = omega (arith, funcs) }
 
 plan_is_read : (bytes : List ℕ) (source : Source) (plan : Plan) → IsCut bytes source plan → IsPlanText (plan_text source.program plan) plan
 plan_is_read bytes source plan cut =
@@ -113,7 +104,7 @@ plan_is_read bytes source plan cut =
     let is = cut.plan_is in
     plans_of_sources_are_read (body_rule profile_rules) first_use bytes source.program is.halves plan
     (record { tree = source.tree; source = record { tokens = s.tokens; lexed = s.are_tokens; read = s.reads }; right = s.judged })
-    (formed_pointers bytes source s) (are_short source.program (source_sound bytes source s) s.types cut.short) (has_each source.program is.roots is.halves is.are_halves) is.is_plan
+    (formed_pointers bytes source s) (are_short source.program (source_sound bytes source s)) (has_each source.program is.roots is.halves is.are_halves) is.is_plan
 
 -- ---- what a half has of a program that calls nothing back calls nothing back
 
@@ -133,6 +124,22 @@ part_back plan (f ∷ fs) [] shown none = refl
 part_back plan (f ∷ fs) (g ∷ gs) shown none =
     let parts = none_of (body_calls_back f.body) (functions_call_back fs) none in
     neither (body_calls_back g.body) (functions_call_back gs) (shown_back (is_same_half (half_of plan f.name) User) f g shown.0 parts.0) (part_back plan fs gs shown.1 parts.1)
+
+-- ---- and it has as many types, globals, structs and functions
+
+shown_many : (plan : Plan) (fs gs : List Func) → AreShown User plan fs gs → length gs ≡ length fs
+shown_many plan [] [] shown = refl
+shown_many plan [] (g ∷ gs) shown = absurd shown
+shown_many plan (f ∷ fs) [] shown = absurd shown
+shown_many plan (f ∷ fs) (g ∷ gs) shown = ap suc (shown_many plan fs gs shown.1)
+
+part_few : (plan : Plan) (whole part : Program) → IsPartOf User plan whole part → HasFewNumbers whole → HasFewNumbers part
+part_few plan whole part is few = record {
+  types = subst (λ n. n ≤ 16777216) (sym (ap length is.types)) few.types;
+  globals = subst (λ n. n ≤ 16777216) (sym (ap length is.globals)) few.globals;
+  structs = subst (λ n. n ≤ 16777216) (sym (ap length is.structs)) few.structs;
+  funcs = subst (λ n. n ≤ 16777216) (sym (shown_many plan whole.funcs part.funcs is.funcs)) few.funcs;
+}
 
 -- ---- its texts are loaded
 
@@ -154,7 +161,7 @@ texts_are_loaded bytes source plan cut =
         planned = plan_is_read bytes source plan cut;
         comes = record { tokens = printed.tokens; tree = again.read; lexed = printed.is_text; read = again.is_read; typed = r.typed };
         no_back = subst (λ (p : Program). functions_call_back p.funcs ≡ false) same (part_back plan source.program.funcs (c.part).funcs (c.is_part).funcs s.no_back);
-        types = subst (λ (ts : List Ty). length ts ≤ 4294967296) (sym (is.is_plan).types) s.types;
+        numbers = subst HasFewNumbers same (part_few plan source.program c.part c.is_part s.numbers);
       };
       replies = r.replies;
     }

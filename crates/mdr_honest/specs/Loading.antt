@@ -1,6 +1,6 @@
--- believed
+-- protocol
 -- What texts that are loaded come to, and that those of a source are loaded.
-use Rattle.std.specs.Prelude.{◌≡◌, ◌≤◌, ◌^◌, ℕ, List, length}
+use Rattle.std.specs.Prelude.{◌≡◌, ℕ, List}
 use Rattle.mdr_core.specs.declared.plan.Plan.{Plan}
 use Rattle.mdr_core.specs.declared.program.Program.{Program}
 use Rattle.mdr_core.specs.Sound.{IsSound}
@@ -43,16 +43,10 @@ LoadedHalvesAreSound = (user text : List ℕ) (program : Program) (plan : Plan) 
 
 -- ---- the texts of sources
 
--- globals have numbers of 32 bits, and functions of 64
-pub record HasShortNumbers (program : Program) : Type 0 where
-  pub globals : length program.globals ≤ 4294967296
-  pub funcs : length program.funcs ≤ 2 ^ 64
-
 -- a source without faults, with its plan
 pub record IsCut (bytes : List ℕ) (source : Source) (plan : Plan) : Type 0 where
   pub source_is : IsSource bytes source
   pub plan_is : IsPlanOf source.program plan
-  pub short : HasShortNumbers source.program
 
 -- the texts of the user half and of the plan are loaded, and that half gives the replies of the whole program
 pub record AreItsHalf (source : Source) (plan : Plan) : Type 0 where

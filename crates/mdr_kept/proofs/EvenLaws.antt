@@ -1,7 +1,8 @@
 -- Work in a state leads to work in a state that is like it, how locks are held aside, and has no visible sets.
-use Rattle.std.proofs.Common.{◌≡◌, ℕ, zero, suc, ◌-◌, ◌≤◌, Bool, true, false, ◌&&◌, ◌||◌, List, [], ◌∷◌, ◌++◌, Option, Some, None, Result, Ok, Err, refl, sym, ◌∙◌, ap, subst, arith}
+use Rattle.std.proofs.Common.{◌≡◌, ℕ, ℤ, zero, suc, ◌-◌, ◌≤◌, Bool, true, false, ◌&&◌, ◌||◌, List, [], ◌∷◌, ◌++◌, Option, Some, None, Result, Ok, Err, refl, sym, ◌∙◌, ap, subst, arith}
 use Rattle.std.specs.Prelude.{map, nat_lt, not}
 use Rattle.std.specs.List.{list_all}
+use Rattle.std.specs.Option.{option_map}
 use Rattle.std.proofs.lemmas.List.{map-append}
 use Rattle.mdr_core.specs.declared.place.At.{At}
 use Rattle.mdr_core.specs.declared.program.Program.{Program}
@@ -26,6 +27,7 @@ use Rattle.mdr_model.specs.Memory.{Memory, born_at, cell_at, cell_of, everywhere
 use Rattle.mdr_plain.specs.declared.outcome.Happened.{Happened}
 use Rattle.mdr_plain.specs.declared.outcome.Happened.TheVariants as happened
 use Rattle.mdr_plain.specs.Gate.{due}
+use Rattle.mdr_plain.specs.Scripts.{poked_memory, poked_value, put_if}
 use Rattle.mdr_plain.specs.Locks.{acquire, acquired, changed, is_locked, lock_in, release, released, taken_as, with_lock}
 use Rattle.mdr_plain.specs.Services.{Served, allocated, as_now, as_served, asked_once_more, fails_now, freed, freed_by, gives_none, is_no_block, is_whole, register_read, register_written, requested, served, served_by, when_changed, with_device}
 use Rattle.mdr_plain.specs.Storage.{births, born, bytes_from, cells_read, deaths, died, died_at, fresh, new_of, pointer_to, read, with_memory, with_pointer, without}
@@ -65,8 +67,35 @@ even_memory w w' e = ap (λ (u : World). u.memory) e.is
 pub even_rest : (w w' : World) → Even w w' → w.clock.rest ≡ w'.clock.rest
 even_rest w w' e = ap (λ (u : World). u.clock.rest) e.is
 
+-- what is put where an integer is held
+poked_spun : (o : Option Wire) (n : ℤ) → poked_value (option_map spun o) n ≡ poked_value o n
+poked_spun None n = refl
+poked_spun (Some (wire.Int k m)) n = refl
+poked_spun (Some wire.Null) n = refl
+poked_spun (Some wire.Dead) n = refl
+poked_spun (Some (wire.Ptr p)) n = refl
+poked_spun (Some (wire.Fn f)) n = refl
+poked_spun (Some (wire.Lock s)) n = refl
+poked_spun (Some wire.NoValue) n = refl
+
 even_with : (w w' : World) (m m' : Memory) → spun_memory m ≡ spun_memory m' → Even w w' → Even (with_memory w m) (with_memory w' m')
 even_with w w' m m' f e = record { is = λ i. with_memory (e.is i) (f i); alone = e.alone }
+
+pub even_poked : (c : Cell) (n : ℤ) (w w' : World) → Even w w' → Even (with_memory w (poked_memory c n w.memory)) (with_memory w' (poked_memory c n w'.memory))
+even_poked c n w w' e = even_with w w' _ _ (subst (λ (o : Option Wire). spun_memory (poked_memory c n w.memory) ≡ spun_memory (put_if o c w'.memory)) alike (same_put (poked_value (cell_at w.memory c) n))) e
+  where
+    memories : spun_memory w.memory ≡ spun_memory w'.memory
+    memories = even_memory w w' e
+
+    held : option_map spun (cell_at w.memory c) ≡ option_map spun (cell_at w'.memory c)
+    held = sym (cell_at_spun w.memory c) ∙ ap (λ (m : Memory). cell_at m c) memories ∙ cell_at_spun w'.memory c
+
+    alike : poked_value (cell_at w.memory c) n ≡ poked_value (cell_at w'.memory c) n
+    alike = sym (poked_spun (cell_at w.memory c) n) ∙ ap (λ (o : Option Wire). poked_value o n) held ∙ poked_spun (cell_at w'.memory c) n
+
+    same_put : (o : Option Wire) → spun_memory (put_if o c w.memory) ≡ spun_memory (put_if o c w'.memory)
+    same_put None = memories
+    same_put (Some v) = sym (put_spun w.memory c v) ∙ ap (λ (m : Memory). put m c (spun v)) memories ∙ put_spun w'.memory c v
 
 pub even_ticked : (w w' : World) → Even w w' → Even (record w { clock = advanced 1 w.clock }) (record w' { clock = advanced 1 w'.clock })
 even_ticked w w' e = record { is = ap (λ (u : World). record u { clock = advanced 1 u.clock }) e.is; alone = e.alone }

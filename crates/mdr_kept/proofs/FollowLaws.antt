@@ -181,6 +181,8 @@ module _ (d : Driver) where
     does_leads (command.Call f args) w = called_leads (is_user d.plan f) f (map wire_of args) (begun d.program f args w)
     does_leads (command.Idle n) w = leads_then _ _ _ _ (idle_leads n _) (λ w'. tries_lead 0 w')
     does_leads (command.Show g) w = same _
+    does_leads (command.Poke serial index n) w = same _
+    does_leads (command.Say text) w = same _
 
     not_ok : {X : Type 0} (kind : StopKind) (at : Option At) → ends.Stop kind at ≡ ends.Ok → X
     not_ok kind at e = absurd cc

@@ -13,19 +13,21 @@ use Rattle.mdr_meaning.specs.Values.{wire_of}
 use Rattle.mdr_model.specs.declared.command.Command.{Command}
 use Rattle.mdr_model.specs.declared.command.Command.TheVariants as command
 use Rattle.mdr_model.specs.declared.outcome.End.TheVariants as ends
+use Rattle.mdr_model.specs.declared.memory.Cell.{Cell}
 use Rattle.mdr_model.specs.Memory.{Memory}
 use Rattle.mdr_model.specs.Report.{global_name}
 use Rattle.mdr_model.specs.Values.{value_of}
 use Rattle.mdr_plain.specs.declared.outcome.Happened.TheVariants as happened
 use Rattle.mdr_plain.specs.Plain.{does as does_plainly, plain_of, whole}
 use Rattle.mdr_plain.specs.Running.{KernelCode, interrupts}
-use Rattle.mdr_plain.specs.Scripts.{Finish, and_then, begin, begun, block_cells, commands, finish, first_world, idle, idled, returned, showed}
+use Rattle.mdr_plain.specs.Scripts.{Finish, and_then, begin, begun, block_cells, commands, finish, first_world, idle, idled, poked_memory, returned, showed}
+use Rattle.mdr_plain.specs.Storage.{with_memory}
 use Rattle.mdr_plain.specs.World.{World, Ran, Ended, Stopped, Work, counted, noted}
 use Rattle.mdr_watched.specs.Driver.{Driver, driver_of, is_user}
 use Rattle.mdr_kept.specs.Alike.{plainly_finished, spun, spun_event, spun_memory, spun_value}
 use Rattle.mdr_kept.specs.Laws.{StrictRunsArePlain}
 use Rattle.mdr_kept.specs.Strict.{does, strict_of, tries}
-use Rattle.mdr_kept.proofs.EvenLaws.{Both, Ends, Even, Leads, ended, even_memory, even_noted, even_rest, fewer, leads_after, leads_counted, leads_then}
+use Rattle.mdr_kept.proofs.EvenLaws.{Both, Ends, Even, Leads, ended, even_memory, even_noted, even_poked, even_rest, fewer, leads_after, leads_counted, leads_then}
 use Rattle.mdr_kept.proofs.HalfLaws.{called_leads, tries_lead}
 use Rattle.mdr_kept.proofs.LikeLaws.{Like, Locks, Same}
 use Rattle.mdr_kept.proofs.SpunLaws.{block_cells_spun}
@@ -100,6 +102,10 @@ module _ (program : Program) (plan : Plan) where
   does_leads (command.Call f args) w w' e = returned_leads w.clock.rest _ _ (called_leads program plan (is_user plan f) f (map wire_of args) (begun program f args w) (begun program f args w') (even_begun program f args w w' e))
   does_leads (command.Idle n) w w' e = idled_leads n w w' e
   does_leads (command.Show g) w w' e = ended Both w.clock.rest tt tt (showed program g w) (showed program g w') tt (even_showed program g w w' e) (le_refl w.clock.rest)
+  does_leads (command.Poke serial index n) w w' e =
+      let at : Cell = record { serial = serial; index = index } in
+      ended Both w.clock.rest tt tt (with_memory w (poked_memory at n w.memory)) (with_memory w' (poked_memory at n w'.memory)) tt (even_poked at n w w' e) (le_refl w.clock.rest)
+  does_leads (command.Say text) w w' e = ended Both w.clock.rest tt tt (noted (happened.Say text) w) (noted (happened.Say text) w') tt (even_noted (happened.Say text) (happened.Say text) w w' refl e) (le_refl w.clock.rest)
 
   not_ok : {X : Type 0} (kind : StopKind) (at : Option At) → ends.Stop kind at ≡ ends.Ok → X
   not_ok kind at e = absurd cc

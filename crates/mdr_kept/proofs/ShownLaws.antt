@@ -156,6 +156,7 @@ event_printed program (happened.Wrote r n) = refl
 event_printed program (happened.Log text) = refl
 event_printed program (happened.Deliver bytes) = refl
 event_printed program (happened.Irq f) = refl
+event_printed program (happened.Say text) = refl
 
 events_printed : (program : Program) (es : List Happened) → event_lines program (map spun_event es) ≡ event_lines program es
 unfolding event_lines

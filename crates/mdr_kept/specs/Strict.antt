@@ -17,10 +17,11 @@ use Rattle.mdr_model.specs.Memory.{Memory, is_live, normal}
 use Rattle.mdr_plain.specs.Gate.{are_none, due}
 use Rattle.mdr_plain.specs.Plain.{never}
 use Rattle.mdr_plain.specs.Running.{Before, Crossing, Setting, handling, in_kernel, interrupted, nothing}
-use Rattle.mdr_plain.specs.Scripts.{Finish, begun, commands, first_world, idled, returned, showed}
+use Rattle.mdr_plain.specs.declared.outcome.Happened.TheVariants as happened
+use Rattle.mdr_plain.specs.Scripts.{Finish, begun, commands, first_world, idled, poked, returned, showed}
 use Rattle.mdr_plain.specs.Services.{served}
 use Rattle.mdr_plain.specs.Storage.{accesses, next_serial}
-use Rattle.mdr_plain.specs.World.{World, Ran, Ended, Stopped, Work, after, done, given, then, ticked}
+use Rattle.mdr_plain.specs.World.{World, Ran, Ended, Stopped, Work, after, done, given, noted, then, ticked}
 use Rattle.mdr_bound.specs.declared.bound.Bound.{Bound}
 use Rattle.mdr_watched.specs.Driver.{Driver, entry_roots, is_user, touched_by}
 use Rattle.mdr_watched.specs.Kept.{due_plainly, free, meets_user, unless_due}
@@ -114,6 +115,8 @@ module _ (d : Driver) where
   does (command.Call f args) w = returned (tries d) (called (is_user d.plan f) f (map wire_of args) (begun d.program f args w))
   does (command.Idle n) w = idled (tries d) n w
   does (command.Show g) w = done (showed d.program g w)
+  does (command.Poke serial index n) w = done (poked serial index n w)
+  does (command.Say text) w = done (noted (happened.Say text) w)
 
 -- the followed run (`followed_of`), which ends too where user code passes a pointer to a block that has died, to kernel code or with a question, where a function gives one, and where kernel code calls user code
 unfoldable pub strict_of : Driver → Bound → (budget : ℕ) → Finish

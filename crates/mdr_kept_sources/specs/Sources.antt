@@ -1,9 +1,11 @@
 -- for proofs
 -- Programs of sources that keep their annotations.
-use Rattle.std.specs.Prelude.{◌≡◌, ℕ, ◌≤◌, Bool, List, length}
+use Rattle.std.specs.Prelude.{◌≡◌, ℕ, Bool, List}
 use Rattle.mdr_check.specs.Uses.{UseRule}
 use Rattle.mdr_core.specs.declared.plan.Plan.{Plan}
 use Rattle.mdr_core.specs.declared.program.Program.{Program}
+use Rattle.mdr_core.specs.Backs.{CallsNothingBack}
+use Rattle.mdr_core.specs.Sound.{HasFewNumbers}
 use Rattle.mdr_holds.specs.Laws.{IsScript}
 use Rattle.mdr_plain.specs.Outcome.{outcome_of}
 use Rattle.mdr_plain.specs.Plain.{plain}
@@ -11,7 +13,6 @@ use Rattle.mdr_plain.specs.Report.{report}
 use Rattle.mdr_reports.specs.Laws.{IsSliced}
 use Rattle.mdr_bound.specs.declared.bound.Bound.{Bound}
 use Rattle.mdr_sound.specs.Sources.{IsProgramOf}
-use Rattle.mdr_sound.specs.Whole.{CallsNothingBack}
 use Rattle.mdr_watched.specs.Kept.{Kept}
 use Rattle.mdr_watched.specs.Watched.{watched}
 
@@ -19,6 +20,6 @@ use Rattle.mdr_watched.specs.Watched.{watched}
 abbrev pub SourcesKeepReports : Type 0
 SourcesKeepReports =
     (bytes : List ℕ) (halves : Bool) (uses : UseRule) (program : Program) (plan : Plan) (script : Bound) (budget : ℕ)
-    → IsProgramOf bytes halves uses program → length program.types ≤ 4294967296 → CallsNothingBack program
+    → IsProgramOf bytes halves uses program → HasFewNumbers program → CallsNothingBack program
     → IsSliced program plan → IsScript program script → Kept program plan script budget
     → report program (outcome_of program (watched program plan script budget)) ≡ report program (outcome_of program (plain program script budget))

@@ -19,8 +19,9 @@ use Rattle.mdr_model.specs.KernelState.{Reading}
 use Rattle.mdr_model.specs.ReplyFaults.{reply_of}
 use Rattle.mdr_model.proofs.Accepted.{or_none, unless_passes}
 use Rattle.mdr_plain.specs.Running.{call, interrupts}
-use Rattle.mdr_plain.specs.Scripts.{begin, begun, called_by, idled, returned, showed}
-use Rattle.mdr_plain.specs.World.{World, Ran, Ended, Stopped, Work, done, left}
+use Rattle.mdr_plain.specs.declared.outcome.Happened.TheVariants as happened
+use Rattle.mdr_plain.specs.Scripts.{begin, begun, called_by, idled, poked, returned, showed}
+use Rattle.mdr_plain.specs.World.{World, Ran, Ended, Stopped, Work, done, left, noted}
 use Rattle.mdr_bound.specs.declared.bound.Bound.{Bound}
 use Rattle.mdr_split.specs.AnyAnswers.{MessagesAreFew, kernel_in}
 use Rattle.mdr_split.specs.Fits.{fits}
@@ -140,6 +141,8 @@ module _ (d : Driver) where
   command_paid (command.Call f args) script k go p later = call_paid (is_user d.plan f) f (map wire_of args) (begun d.program f args k.world) script k go (begun_pays f args k.exchanges k.world p) later
   command_paid (command.Idle n) script k go p later = did_paid k.world (idled (interrupts (kernel_of d)) n k.world) k go p (idled_leads k.world d n k.world (itself k.world)) later
   command_paid (command.Show g) script k go p later = did_paid k.world (done (showed d.program g k.world)) k go p (record { at_end = itself k.world }) later
+  command_paid (command.Poke serial index n) script k go p later = did_paid k.world (done (poked serial index n k.world)) k go p (record { at_end = itself k.world }) later
+  command_paid (command.Say text) script k go p later = did_paid k.world (done (noted (happened.Say text) k.world)) k go p (record { at_end = itself k.world }) later
 
   commands_paid : (script : List Command) (k : Kernel) → Pays k.exchanges k.world → IsPaid (split_commands d script k)
   unfolding split_commands

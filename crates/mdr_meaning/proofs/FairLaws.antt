@@ -46,7 +46,7 @@ use Rattle.mdr_meaning.specs.Statements.{around, characters, declared, declared_
 use Rattle.mdr_meaning.specs.Tree.{Tree}
 use Rattle.mdr_meaning.specs.Numbers.{type_number}
 use Rattle.mdr_meaning.specs.Values.{first_of, is_true, natural, natural_of, rest_of, saturated_u32, wire_of}
-use Rattle.mdr_meaning.specs.Within.{CalleeWithin, CodeWithin, CodesWithin, FormWithin, GoalWithin, LvalueWithin, OptionWithin, TermWithin, TermsWithin, Uses, called_type}
+use Rattle.mdr_meaning.specs.Within.{CalleeWithin, CodeWithin, CodesWithin, FirstWithin, FormWithin, GoalWithin, LvalueWithin, OptionWithin, PointerWithin, TermWithin, TermsWithin, Uses, called_type}
 use Rattle.mdr_meaning.proofs.ExpressionLaws.{Gives, given_fair, named_slot, place_fair, value_fair}
 use Rattle.mdr_meaning.proofs.FitLaws.{literal_fits, of_integer, of_pointer, to_integer, to_pointer}
 use Rattle.mdr_meaning.proofs.GrowthLaws.{all_grow, are_grow, data_known, fits_result, globals_grow, grows_on, grows_same, known_append, result_grows, result_outlives}
@@ -530,28 +530,44 @@ module _ (most : ℕ) (wide : 256 ≤ most) (program : Program) (sound : IsSound
           (n (wire.Fn h.0 ∷ []) (literal_all K h.0 ts (subst (λ xs. HaveAll program here.slots xs ts) h.1 typed) taken) (h.0, refl, ap (λ (u : Uses). u.handles h.0) st.globals.uses_are ∙ handles h.0 names h.1))
       service_args at w K live base l st m es ts typed c s names h handles k n = values_go at w K here.slots live base l st es ts typed c k (λ vs all. n vs all tt)
 
+      -- a call through a pointer: the callee is evaluated before the arguments
+      pointer_fair : (at : At) → IsPlace side at → (K : Knowledge) (live base : List Wire) (l : Locals) → Stands K here.slots live base l → (e : Term) (es : List Term) (t : Ty) (params : List Ty) → Has program here.slots e (ty.Fun (t ∷ params)) → HaveAll program here.slots es params
+          → TermWithin uses.taken e → TermsWithin uses.taken es → PointerWithin program uses here.slots at.func e → (k : Wire → Tree) → ValueFair K live t k
+          → F K live (value (known_of program) at l.slots e (λ v. values (known_of program) at l.slots es (λ vs. through side low here at v vs k)))
+      pointer_fair at w K live base l st e es t params pointer typed x xs calls k n =
+          by_type
+          (callee most program sound side top K live st.globals.globals at w here.slots l.slots (slots_fit K here.slots live base l st) e (t ∷ params) pointer (subst (λ (u : Uses). TermWithin u.taken e) (sym st.globals.uses_are) x))
+        where
+          calls_on : Wire → Tree
+          calls_on v = values (known_of program) at l.slots es (λ vs. through side low here at v vs k)
+
+          by_type : (called_type program here.slots e ≡ Some (ty.Fun (t ∷ params))) ⊎ Gives most program sound side top K live st.globals.globals at w (λ v. v ≡ wire.Null) (value (known_of program) at l.slots e)
+              → F K live (value (known_of program) at l.slots e calls_on)
+          by_type (inl q) =
+              value_goes at w K here.slots live base l st e (ty.Fun (t ∷ params)) pointer x calls_on
+              (λ v fits. values_go at w K here.slots live base l st es params typed xs (λ vs. through side low here at v vs k)
+              (λ vs all. through_fair at w K live st.globals t params v vs (subst (λ y. FitsLayer program K y v) (outs-Fun (t ∷ params)) fits) all (λ f func names same taken. calls f func names (q ∙ ap Some (sym same)) taken) k n))
+          by_type (inr r) =
+              r.by calls_on (record {
+                by = λ v q. values_go at w K here.slots live base l st es params typed xs (λ vs. through side low here at v vs k) (λ vs all. subst (λ y. F K live (through side low here at y vs k)) (sym q) (w, refl));
+              })
+
+      -- the service that calls back: its first argument is a pointer to what it calls with the second
+      back_fair : (at : At) → IsPlace side at → (K : Knowledge) (live base : List Wire) (l : Locals) → Stands K here.slots live base l → (es : List Term) (t param : Ty) → HaveAll program here.slots es (ty.Fun (t ∷ param ∷ []) ∷ param ∷ []) → TermsWithin uses.taken es
+          → FirstWithin program uses here.slots at.func es → (b : Bool) → b ≡ true → (other : List Wire → (Wire → Tree) → Tree) (k : Wire → Tree) → ValueFair K live t k
+          → F K live (values (known_of program) at l.slots es (λ vs. chosen b (through side low here at (first_of vs) (rest_of vs)) (other vs) k))
+      back_fair at w K live base l st [] t param typed xs calls b is other k n = absurd typed
+      back_fair at w K live base l st (e ∷ es) t param typed xs calls false is other k n = absurd cc
+      back_fair at w K live base l st (e ∷ es) t param typed xs calls true is other k n = pointer_fair at w K live base l st e es t (param ∷ []) typed.0 typed.1 xs.0 xs.1 calls k n
+
       call_fair : (at : At) → IsPlace side at → (K : Knowledge) (live base : List Wire) (l : Locals) → Stands K here.slots live base l → (form : CallOf) (c : Called) (t : Ty) → gives_by c program here.slots form t → CalleeWithin program uses here.slots at.func c form.args → TermsWithin uses.taken form.args → (k : Wire → Tree) → ValueFair K live t k → F K live (call_by side low here at l.slots form c k)
       call_fair at w K live base l st form (Called.Direct f) t c x xs k n =
           values_go at w K here.slots live base l st form.args (map (λ (p : Param). p.ty) c.func.params) c.call_is.args xs (λ vs. direct side low here at f vs k) (λ vs all. direct_fair at w K live st.globals f c.func c.names vs all x k (subst (λ u. ValueFair K live u k) c.is n))
-      call_fair at w K live base l st form (Called.Through e) t c x xs k n =
-          by_type
-          (callee most program sound side top K live st.globals.globals at w here.slots l.slots (slots_fit K here.slots live base l st) e (t ∷ c.params) c.pointer (subst (λ (u : Uses). TermWithin u.taken e) (sym st.globals.uses_are) x.0))
-        where
-          calls_on : Wire → Tree
-          calls_on v = values (known_of program) at l.slots form.args (λ vs. through side low here at v vs k)
-
-          by_type : (called_type program here.slots e ≡ Some (ty.Fun (t ∷ c.params))) ⊎ Gives most program sound side top K live st.globals.globals at w (λ v. v ≡ wire.Null) (value (known_of program) at l.slots e)
-              → F K live (value (known_of program) at l.slots e calls_on)
-          by_type (inl q) =
-              value_goes at w K here.slots live base l st e (ty.Fun (t ∷ c.params)) c.pointer x.0 calls_on
-              (λ v fits. values_go at w K here.slots live base l st form.args c.params c.call_is.args xs (λ vs. through side low here at v vs k)
-              (λ vs all. through_fair at w K live st.globals t c.params v vs (subst (λ y. FitsLayer program K y v) (outs-Fun (t ∷ c.params)) fits) all (λ f func names same taken. x.1 f func names (q ∙ ap Some (sym same)) taken) k n))
-          by_type (inr r) =
-              r.by calls_on (record {
-                by = λ v q. values_go at w K here.slots live base l st form.args c.params c.call_is.args xs (λ vs. through side low here at v vs k) (λ vs all. subst (λ y. F K live (through side low here at y vs k)) (sym q) (w, refl));
-              })
-      call_fair at w K live base l st form (Called.Service m) t c x xs k n =
-          service_args at w K live base l st m form.args c.signature.params c.args xs c.service c.names c.handler x (λ vs. chosen (m == 15) (through side low here at (first_of vs) (rest_of vs)) (serves (known_of program) m at form vs) k) (λ vs all handles. by_number vs all handles (m == 15) refl)
+      call_fair at w K live base l st form (Called.Through e) t c x xs k n = pointer_fair at w K live base l st e form.args t c.params c.pointer c.call_is.args x.0 xs x.1 k n
+      call_fair at w K live base l st form (Called.Service m) t (inr c) x xs k n =
+          back_fair at w K live base l st form.args t c.param c.args xs (x.1 c.back) (m == 15) (subst (λ i. (i == 15) ≡ true) (sym c.back) refl) (λ vs. serves (known_of program) m at form vs) k n
+      call_fair at w K live base l st form (Called.Service m) t (inl c) x xs k n =
+          service_args at w K live base l st m form.args c.signature.params c.args xs c.service c.names c.handler x.0 (λ vs. chosen (m == 15) (through side low here at (first_of vs) (rest_of vs)) (serves (known_of program) m at form vs) k) (λ vs all handles. by_number vs all handles (m == 15) refl)
         where
           by_number : (vs : List Wire) → AllFit program K vs c.signature.params → Handles K c.service vs → (b : Bool) → (m == 15) ≡ b
               → F K live (chosen b (through side low here at (first_of vs) (rest_of vs)) (serves (known_of program) m at form vs) k)

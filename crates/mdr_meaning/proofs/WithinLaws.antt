@@ -5,7 +5,7 @@ use Rattle.mdr_core.specs.declared.value.Value.{Value}
 use Rattle.mdr_core.specs.declared.value.Value.TheVariants as value
 use Rattle.mdr_core.specs.Code.{Term, Lvalue, Called, Goal, Code, Codes}
 use Rattle.mdr_core.specs.Typing.{Slot}
-use Rattle.mdr_meaning.specs.Within.{ValueWithin, TermWithin, LvalueWithin, TermsWithin, CalleeWithin, GoalWithin, OptionWithin, CodeWithin, CodesWithin, all_uses, AllKeepToIt}
+use Rattle.mdr_meaning.specs.Within.{ValueWithin, TermWithin, LvalueWithin, TermsWithin, CalleeWithin, GoalWithin, OptionWithin, CodeWithin, CodesWithin, FirstWithin, all_uses, AllKeepToIt}
 
 all_value : (v : Value) → ValueWithin all_uses.taken v
 all_value (value.Fn f) = refl
@@ -52,10 +52,14 @@ all_option None = tt
 all_option (Some e) = all_term e
 
 module _ (program : Program) (slots : List Slot) (caller : ℕ) where
+  all_first : (es : List Term) → FirstWithin program all_uses slots caller es
+  all_first [] = tt
+  all_first (e ∷ es) = λ f func names typed taken. refl
+
   all_callee : (c : Called) (args : List Term) → CalleeWithin program all_uses slots caller c args
   all_callee (Called.Direct f) args = refl
   all_callee (Called.Through e) args = (all_term e, λ f func names typed taken. refl)
-  all_callee (Called.Service n) args = λ f names is. refl
+  all_callee (Called.Service n) args = (λ f names is. refl, λ back. all_first args)
 
   mutual
     all_code : (c : Code) → CodeWithin program all_uses slots caller c

@@ -69,13 +69,23 @@ called_type program slots (Term.Lit v) = value_type program v
 called_type program slots (Term.Load p) = named_type program slots p
 called_type program slots _ = None
 
--- a function is called by its name; through a pointer each of the pointer's type whose address is taken; and `request_irq` is given a handler
+-- each function of a pointer's type whose address is taken may be called
+abbrev pub PointerWithin : Program → Uses → List Slot → (caller : ℕ) → Term → Type 0
+PointerWithin program uses slots caller e =
+    (f : ℕ) (func : Func) → slice_get program.funcs f ≡ Some func → called_type program slots e ≡ Some (function_type func) → uses.taken f ≡ true → uses.calls caller f ≡ true
+
+abbrev pub FirstWithin : Program → Uses → List Slot → (caller : ℕ) → List Term → Type 0
+FirstWithin program uses slots caller [] = Unit {0}
+FirstWithin program uses slots caller (e ∷ es) = PointerWithin program uses slots caller e
+
+-- a function is called by its name, or through a pointer; `request_irq` is given a handler, and the service that calls back, of number 15, a pointer
 abbrev pub CalleeWithin : Program → Uses → List Slot → (caller : ℕ) → Called → List Term → Type 0
 CalleeWithin program uses slots caller (Called.Direct f) args = uses.calls caller f ≡ true
 CalleeWithin program uses slots caller (Called.Through e) args =
-    TermWithin uses.taken e
-    × ((f : ℕ) (func : Func) → slice_get program.funcs f ≡ Some func → called_type program slots e ≡ Some (function_type func) → uses.taken f ≡ true → uses.calls caller f ≡ true)
-CalleeWithin program uses slots caller (Called.Service n) args = (f : ℕ) → service_numbered n ≡ Some RequestIrq → args ≡ Term.Lit (value.Fn f) ∷ [] → uses.handles f ≡ true
+    TermWithin uses.taken e × PointerWithin program uses slots caller e
+CalleeWithin program uses slots caller (Called.Service n) args =
+    ((f : ℕ) → service_numbered n ≡ Some RequestIrq → args ≡ Term.Lit (value.Fn f) ∷ [] → uses.handles f ≡ true)
+    × (n ≡ 15 → FirstWithin program uses slots caller args)
 
 abbrev pub FormWithin : Program → Uses → List Slot → (caller : ℕ) → CallOf → Type 0
 FormWithin program uses slots caller form = CalleeWithin program uses slots caller form.callee form.args × TermsWithin uses.taken form.args

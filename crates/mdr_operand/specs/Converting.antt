@@ -1,8 +1,8 @@
 -- believed
 -- Which values become values of other types: as if by assignment (C99 6.3.2.3, 6.5.16.1), and by a cast (6.5.4).
 use Rattle.std.specs.Prelude.{ℕ, List, Option, Some, None}
-use Rattle.mdr_core.specs.declared.code.Expr.{Expr}
-use Rattle.mdr_core.specs.declared.code.Expr.TheVariants as expr
+use Rattle.mdr_rich.specs.declared.code.Expr.{Expr}
+use Rattle.mdr_rich.specs.declared.code.Expr.TheVariants as expr
 use Rattle.mdr_core.specs.declared.kind.Kind.{Kind}
 use Rattle.mdr_core.specs.declared.place.Place.{Place}
 use Rattle.mdr_core.specs.declared.types.Ty.{Ty, out-Ty}

@@ -5,14 +5,16 @@ use Rattle.std.specs.Option.{option_map}
 use Rattle.mdr_core.specs.declared.kind.Kind.{Kind}
 use Rattle.mdr_core.specs.declared.place.Place.{Place}
 use Rattle.mdr_syntax.specs.declared.tree.Base.{Base}
+use Rattle.mdr_syntax.specs.declared.tree.Clause.{Clause}
 use Rattle.mdr_syntax.specs.declared.tree.Decl.{Decl}
 use Rattle.mdr_syntax.specs.declared.tree.Form.{Form}
 use Rattle.mdr_syntax.specs.declared.tree.FormWhat.{FormWhat}
 use Rattle.mdr_syntax.specs.declared.tree.FormWhat.TheOpen.{Form-F, FormWhat-F}
 use Rattle.mdr_syntax.specs.declared.tree.FormWhat.TheFolds.{fold-Form, fold-FormWhat}
+use Rattle.mdr_syntax.specs.declared.tree.Label.{Label}
 use Rattle.mdr_syntax.specs.declared.tree.Node.{Node}
 use Rattle.mdr_syntax.specs.declared.tree.NodeWhat.TheOpen.{Node-F, NodeWhat-F, Clause-F}
-use Rattle.mdr_syntax.specs.declared.tree.NodeWhat.TheFolds.{fold-Node}
+use Rattle.mdr_syntax.specs.declared.tree.NodeWhat.TheFolds.{fold-Node, fold-Clause}
 
 -- ---- expressions
 
@@ -83,7 +85,7 @@ mutual
     While : Place → Written → Line → Line
     For : Place → (init : Lines) → Option Written → (step : Lines) → Line → Line
     Do : Place → Line → Written → Line
-    Switch : Place → Written → Line
+    Switch : Place → Written → Clauses → Line
     Return : Place → Option Written → Line
     Break : Place → Line
     Continue : Place → Line
@@ -92,16 +94,29 @@ mutual
     End : Lines
     Then : Line → Lines → Lines
 
+  -- the clauses of a `switch`: of each its labels, and the statements behind them (6.8.1, 6.8.4.2)
+  pub data Clauses : Type 0 where
+    NoPart : Clauses
+    Part : List Label → Lines → Clauses → Clauses
+
 abbrev pub line_list : List Line → Lines
 line_list [] = Lines.End
 line_list (l ∷ ls) = Lines.Then l (line_list ls)
+
+-- a clause
+abbrev pub Labelled : Type 0
+Labelled = List Label × Lines
+
+abbrev pub clause_list : List Labelled → Clauses
+clause_list [] = Clauses.NoPart
+clause_list (c ∷ cs) = Clauses.Part c.0 c.1 (clause_list cs)
 
 -- what may be missing: no line, or one
 abbrev pub perhaps : Option Line → Lines
 perhaps None = Lines.End
 perhaps (Some l) = Lines.Then l Lines.End
 
-abbrev pub node_what_written : NodeWhat-F (Place → Line) (Unit {0}) Line → Place → Line
+abbrev pub node_what_written : NodeWhat-F (Place → Line) Labelled Line → Place → Line
 node_what_written NodeWhat-F.Empty p = Line.Empty p
 node_what_written (NodeWhat-F.Block body) p = Line.Block p (line_list body)
 node_what_written (NodeWhat-F.Local d value) p = Line.Local p d (option_map written_of value)
@@ -111,19 +126,25 @@ node_what_written (NodeWhat-F.If e one other) p = Line.If p (written_of e) one (
 node_what_written (NodeWhat-F.While e body) p = Line.While p (written_of e) body
 node_what_written (NodeWhat-F.For init test step body) p = Line.For p (line_list init) (option_map written_of test) (perhaps step) body
 node_what_written (NodeWhat-F.Do body e) p = Line.Do p body (written_of e)
-node_what_written (NodeWhat-F.Switch e clauses) p = Line.Switch p (written_of e)
+node_what_written (NodeWhat-F.Switch e clauses) p = Line.Switch p (written_of e) (clause_list clauses)
 node_what_written (NodeWhat-F.Return e) p = Line.Return p (option_map written_of e)
 node_what_written NodeWhat-F.Break p = Line.Break p
 node_what_written NodeWhat-F.Continue p = Line.Continue p
 
-abbrev pub clause_written : Clause-F (Place → Line) (Unit {0}) Line → Unit {0}
-clause_written c = tt
+abbrev pub clause_written : Clause-F (Place → Line) Labelled Line → Labelled
+clause_written c = (c.labels, line_list c.body)
 
-abbrev pub node_written : Node-F (Place → Line) (Unit {0}) Line → Line
+abbrev pub node_written : Node-F (Place → Line) Labelled Line → Line
 node_written n = n.what n.place
 
 abbrev pub line_of : Node → Line
-line_of = fold-Node (Place → Line) (Unit {0}) Line node_what_written clause_written node_written
+line_of = fold-Node (Place → Line) Labelled Line node_what_written clause_written node_written
+
+abbrev pub clause_of : Clause → Labelled
+clause_of = fold-Clause (Place → Line) Labelled Line node_what_written clause_written node_written
 
 abbrev pub lines_of : List Node → Lines
 lines_of ns = line_list (map line_of ns)
+
+abbrev pub clauses_of : List Clause → Clauses
+clauses_of cs = clause_list (map clause_of cs)

@@ -2,14 +2,15 @@
 
 ghost use Rattle.std.specs.Prelude.{◌≡◌, IfOk, Ok};
 ghost use Rattle.mdr_faults.specs.Faults.{told};
-ghost use Rattle.mdr_core.specs.declared.code.Lval.TheVariants as lval;
+ghost use Rattle.mdr_rich.specs.declared.code.Lval.TheVariants as lval;
 ghost use Rattle.mdr_operand.specs.declared.operand.Operand.TheVariants as operand;
 ghost use Rattle.mdr_operand.specs.Forms.{address_of, object_address, address};
 
 use crate::operand::{Operand, Scalar};
 use crate::release::{both_given_up, given_up};
-use mdr_core::{Boxed, Expr, Items, Lval, Place, Ty, Value};
+use mdr_core::{Boxed, Items, Place, Ty, Value};
 use mdr_faults::{Fault, FaultKind};
+use mdr_rich::{Expr, Lval};
 use std::alloc::{AllocError, Global};
 
 #[tactic(auto, unfolding(crate::specs::Forms::address_of))]

@@ -10,8 +10,9 @@ ghost use Rattle.mdr_operand.specs.Converting.{value_of_type, cast_value, cast_t
 use crate::conversion::cast_as;
 use crate::operand::{Operand, Scalar, needed, scalar_of};
 use crate::release::out_of_memory;
-use mdr_core::{Expr, Place, Ty};
+use mdr_core::{Place, Ty};
 use mdr_faults::{Fault, Scope, both, type_named};
+use mdr_rich::Expr;
 use mdr_syntax::Base;
 use std::alloc::{AllocError, Global};
 

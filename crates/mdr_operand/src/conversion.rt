@@ -2,7 +2,7 @@
 
 ghost use Rattle.std.specs.Prelude.{◌≡◌, IfOk, Some, None};
 ghost use Rattle.mdr_core.specs.Layout.{chosen};
-ghost use Rattle.mdr_core.specs.declared.code.Expr.TheVariants as expr;
+ghost use Rattle.mdr_rich.specs.declared.code.Expr.TheVariants as expr;
 ghost use Rattle.mdr_core.specs.declared.types.Ty.{out-Ty};
 ghost use Rattle.mdr_faults.specs.Faults.{told};
 ghost use Rattle.mdr_operand.specs.Converting.{number_as, pointer_as, opaque_as, handle_as, scalar_as, null_as, value_as, cast_as, first_of, constant_as, operand_as, converted_at};
@@ -10,8 +10,9 @@ ghost use Rattle.mdr_operand.specs.Converting.{number_as, pointer_as, opaque_as,
 use crate::operand::{Integer, Operand, Scalar, at_kind, needed, value_of};
 use crate::release::nothing;
 use crate::sort::is_null;
-use mdr_core::{Boxed, Expr, Items, Kind, Place, Ty, Value};
+use mdr_core::{Boxed, Items, Kind, Place, Ty, Value};
 use mdr_faults::{Fault, are_alike, copied_type, is_alike};
+use mdr_rich::Expr;
 use std::alloc::{AllocError, Global};
 
 fn kept(holds: bool, value: Expr) -> Option<Expr>

@@ -6,8 +6,9 @@ ghost use Rattle.mdr_faults.specs.Faults.{told};
 ghost use Rattle.mdr_operand.specs.Forms.{scalar_of, value_of, expression_of, needed, scalar_at, integer_by, integer_at, at_kind, number, truth, literal, condition_at, pointer_by, pointer_at};
 
 use crate::release::nothing;
-use mdr_core::{Boxed, Expr, Items, Kind, Lval, Place, Ty, Value};
+use mdr_core::{Boxed, Items, Kind, Place, Ty, Value};
 use mdr_faults::{Fault, FaultKind};
+use mdr_rich::{Expr, Lval};
 use std::alloc::{AllocError, Global};
 
 /// A value of a scalar type.

@@ -12,8 +12,9 @@ use crate::operand::{
 use crate::operator::PrefixOperator;
 use crate::release::given_up;
 use mdr_arith::promote;
-use mdr_core::{Boxed, Expr, Lval, Place, Ty};
+use mdr_core::{Boxed, Place, Ty};
 use mdr_faults::{Fault, FaultKind};
+use mdr_rich::{Expr, Lval};
 use std::alloc::{AllocError, Global};
 
 #[tactic(auto, unfolding(crate::specs::Forms::promoted_number))]

@@ -1,7 +1,7 @@
 // Which sort an operand or a type is of.
 
 ghost use Rattle.std.specs.Prelude.{◌≡◌, Some};
-ghost use Rattle.mdr_core.specs.declared.code.Expr.{Expr};
+ghost use Rattle.mdr_rich.specs.declared.code.Expr.{Expr};
 ghost use Rattle.mdr_operand.specs.Forms.{scalar_of, is_number_value, is_number, is_null, is_complete};
 
 use crate::operand::{Operand, Scalar};

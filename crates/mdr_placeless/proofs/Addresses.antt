@@ -1,9 +1,9 @@
 -- Whose addresses a block takes doesn't depend on places.
-use Rattle.mdr_body.specs.Addresses.{takes_among, takes_at, takes_along, hides, is_address, is_declared_by, is_name, takes_in, perhaps_takes}
+use Rattle.mdr_body.specs.Addresses.{takes_among, takes_at, takes_along, clauses_take, hides, is_address, is_declared_by, is_name, takes_in, perhaps_takes}
 use Rattle.mdr_body.specs.Statements.{head_taken, taken_behind}
 use Rattle.mdr_faults.specs.Declarations.{is_same_name}
 use Rattle.mdr_placeless.proofs.Declared.{AreDecls}
-use Rattle.mdr_placeless.proofs.Lines.{AreLine, AreLines}
+use Rattle.mdr_placeless.proofs.Lines.{AreLine, AreLines, AreClauses}
 use Rattle.mdr_placeless.proofs.Lines.AreLine.{Assigns, Blocks, Breaks, Continues, Dos, Empties, Fors, Ifs, Locals, Plains, Returns, Switches, Whiles}
 use Rattle.mdr_placeless.proofs.Scopes.{Perhaps}
 use Rattle.mdr_placeless.proofs.Scopes.Perhaps.{Nones, Somes}
@@ -12,8 +12,9 @@ use Rattle.mdr_placeless.proofs.Written.AreWritten.{Binaries, Calls, Casts, Choi
 use Rattle.mdr_syntax.specs.declared.tree.Decl.{Decl}
 use Rattle.std.proofs.Common.{Bool, List, None, Option, Some, ap, false, not, refl, ℕ, ◌&&◌, ◌||◌, ◌∙◌, ◌≡◌}
 use Rattle.mdr_body.specs.Locals.{is_taken, takes}
-use Rattle.mdr_operand.specs.Written.{Written, Writtens, Line, Lines}
+use Rattle.mdr_operand.specs.Written.{Written, Writtens, Line, Lines, Clauses}
 use Rattle.mdr_placeless.proofs.Lines.AreLines.{Ends as NoLines, Thens as MoreLines}
+use Rattle.mdr_placeless.proofs.Lines.AreClauses.{NoClauses, MoreClauses}
 use Rattle.mdr_placeless.proofs.Written.AreWrittens.{Ends, Thens}
 
 either : (a b c d : Bool) → a ≡ c → b ≡ d → (a || b) ≡ (c || d)
@@ -75,7 +76,7 @@ hides_both name (Ifs p q r l rs) = refl
 hides_both name (Whiles p q r l) = refl
 hides_both name (Fors p q rs o rs' l) = refl
 hides_both name (Dos p q l r) = refl
-hides_both name (Switches p q r) = refl
+hides_both name (Switches p q r cs) = refl
 hides_both name (Returns p q o) = refl
 hides_both name (Breaks p q) = refl
 hides_both name (Continues p q) = refl
@@ -92,7 +93,7 @@ mutual
   has_both name (Fors p q {ks = ks} rs h rs' l) =
       have_both name rs _ ∙ ap (λ b. takes_along name ks b) (either _ _ _ _ (perhaps_takes_both name h) (either _ _ _ _ (have_both name rs' false) (has_both name l)))
   has_both name (Dos p q l r) = either _ _ _ _ (has_both name l) (takes_both_in name r)
-  has_both name (Switches p q r) = takes_both_in name r
+  has_both name (Switches p q r cs) = either _ _ _ _ (takes_both_in name r) (clauses_both name cs)
   has_both name (Returns p q h) = perhaps_takes_both name h
   has_both name (Breaks p q) = refl
   has_both name (Continues p q) = refl
@@ -101,6 +102,10 @@ mutual
   have_both name NoLines behind = refl
   have_both name (MoreLines {l = l} {k = k} {ls = ls} {ks = ks} r rs) behind =
       either _ _ _ _ (has_both name r) (ap (λ b. not b && takes_along name ls behind) (hides_both name r) ∙ ap (λ b. not (hides name k) && b) (have_both name rs behind))
+
+  clauses_both : (name : List ℕ) {cs ds : Clauses} → AreClauses cs ds → clauses_take name cs ≡ clauses_take name ds
+  clauses_both name NoClauses = refl
+  clauses_both name (MoreClauses xs rs cs) = either _ _ _ _ (have_both name rs false) (clauses_both name cs)
 
 -- ---- whose addresses are taken
 
@@ -121,7 +126,7 @@ line_taken (Ifs p q r l ls) rs = refl
 line_taken (Whiles p q r l) rs = refl
 line_taken (Fors p q ls o ls' l) rs = refl
 line_taken (Dos p q l r) rs = refl
-line_taken (Switches p q r) rs = refl
+line_taken (Switches p q r cs) rs = refl
 line_taken (Returns p q o) rs = refl
 line_taken (Breaks p q) rs = refl
 line_taken (Continues p q) rs = refl
@@ -145,7 +150,7 @@ head_both (Ifs p q v l ls) rs g rs' r = refl
 head_both (Whiles p q v l) rs g rs' r = refl
 head_both (Fors p q ls o ls' l) rs g rs' r = refl
 head_both (Dos p q l v) rs g rs' r = refl
-head_both (Switches p q v) rs g rs' r = refl
+head_both (Switches p q v cs) rs g rs' r = refl
 head_both (Returns p q o) rs g rs' r = refl
 head_both (Breaks p q) rs g rs' r = refl
 head_both (Continues p q) rs g rs' r = refl

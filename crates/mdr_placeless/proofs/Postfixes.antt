@@ -25,8 +25,8 @@ use Rattle.mdr_postfix.specs.Names.{file_name, local_operand, local_or, name_rul
 use Rattle.mdr_postfix.specs.Subscripts.{array_of, element, element_at, element_by, element_of_array, element_of_pointer, is_array, subscript_of, subscript_rule}
 use Rattle.mdr_postfix.specs.declared.located.Located.{Located}
 use Rattle.std.proofs.Common.{Bool, List, None, Option, Some, ap, bytes_eq, false, nat_lt, refl, subst, true, ℕ, ◌∙◌, ◌≡◌}
-use Rattle.mdr_core.specs.declared.code.Lval.TheVariants as lval
-use Rattle.mdr_core.specs.declared.code.Lval.{Lval}
+use Rattle.mdr_rich.specs.declared.code.Lval.TheVariants as lval
+use Rattle.mdr_rich.specs.declared.code.Lval.{Lval}
 use Rattle.mdr_core.specs.declared.types.Ty.{Ty, out-Ty}
 use Rattle.mdr_postfix.specs.Members.{object_of, struct_entry, struct_of}
 

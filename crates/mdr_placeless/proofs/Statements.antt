@@ -37,10 +37,10 @@ use Rattle.mdr_typing.specs.Profile.{profile_rules}
 use Rattle.std.proofs.Common.{Bool, List, None, Option, Some, [], ap, false, length, map, refl, subst, true, ℕ, ◌∙◌, ◌∷◌, ◌≡◌}
 use Rattle.mdr_body.specs.Locals.{is_taken}
 use Rattle.mdr_body.specs.Statements.{single, stmt, stated, tested, takes_text, is_single}
-use Rattle.mdr_core.specs.declared.code.Expr.{Expr}
-use Rattle.mdr_core.specs.declared.code.Step.TheVariants as step
-use Rattle.mdr_core.specs.declared.code.Step.{Step}
-use Rattle.mdr_core.specs.declared.code.Stmt.{Stmt}
+use Rattle.mdr_rich.specs.declared.code.Expr.{Expr}
+use Rattle.mdr_rich.specs.declared.code.Step.TheVariants as step
+use Rattle.mdr_rich.specs.declared.code.Step.{Step}
+use Rattle.mdr_rich.specs.declared.code.Stmt.{Stmt}
 use Rattle.mdr_core.specs.declared.types.Ty.{Ty}
 use Rattle.mdr_faults.specs.declared.scope.Object.{Object}
 use Rattle.mdr_operand.specs.Written.{Written, Line, Lines, lines_of}
@@ -141,7 +141,7 @@ module _ {s t : Scope} (a : AreScopes s t) {f g : Frame} (fs : AreFrames f g) wh
   simples r in_loop b (Whiles p q z l) = Wrongs _ _
   simples r in_loop b (Fors p q ls o ls' l) = Wrongs _ _
   simples r in_loop b (Dos p q l z) = Wrongs _ _
-  simples r in_loop b (Switches p q z) = Wrongs _ _
+  simples r in_loop b (Switches p q z cs) = Wrongs _ _
   simples {h = h} {k = k} r in_loop b (Returns p q o) = stated_both h.number k.number r.number_both (returns_both a r fs p q o)
   simples {h = h} {k = k} r in_loop b (Breaks p q) = stated_both h.number k.number r.number_both (jumps p q in_loop step.Break)
   simples {h = h} {k = k} r in_loop b (Continues p q) = stated_both h.number k.number r.number_both (jumps p q in_loop step.Continue)
@@ -159,7 +159,7 @@ module _ {s t : Scope} (a : AreScopes s t) {f g : Frame} (fs : AreFrames f g) wh
   behinds r b (Whiles p q z l) = r
   behinds r b (Fors p q ls o ls' l) = r
   behinds r b (Dos p q l z) = r
-  behinds r b (Switches p q z) = r
+  behinds r b (Switches p q z cs) = r
   behinds r b (Returns p q o) = r
   behinds r b (Breaks p q) = r
   behinds r b (Continues p q) = r
@@ -209,7 +209,7 @@ module _ {s t : Scope} (a : AreScopes s t) {f g : Frame} (fs : AreFrames f g) wh
     line_past (Whiles p q z l) r b = line_past l (numbered_both r) false
     line_past (Fors p q ls o ls' l) r b = left_both r (line_past l (past_heads (entered_both r) ls o ls' l) false)
     line_past (Dos p q l z) r b = numbered_both r
-    line_past (Switches p q z) r b = numbered_both r
+    line_past (Switches p q z cs) r b = numbered_both r
     line_past (Returns p q o) r b = numbered_both r
     line_past (Breaks p q) r b = numbered_both r
     line_past (Continues p q) r b = numbered_both r
@@ -250,7 +250,7 @@ module _ {s t : Scope} (a : AreScopes s t) {f g : Frame} (fs : AreFrames f g) wh
     line_made_both (Fors p q ls o ls' l) in_loop is_part {h = h} {k = k} r b =
         both_alike (for_heads (entered_both r) p q ls o ls' l) (line_made_both l true true (past_heads (entered_both r) ls o ls' l) false) (fors_both h.number k.number r.number_both)
     line_made_both (Dos p q l z) in_loop is_part r b = Wrongs _ _
-    line_made_both (Switches p q z) in_loop is_part r b = Wrongs _ _
+    line_made_both (Switches p q z cs) in_loop is_part r b = Wrongs _ _
     line_made_both (Returns p q o) in_loop is_part r b = simples r in_loop b (Returns p q o)
     line_made_both (Breaks p q) in_loop is_part r b = simples r in_loop b (Breaks p q)
     line_made_both (Continues p q) in_loop is_part r b = simples r in_loop b (Continues p q)

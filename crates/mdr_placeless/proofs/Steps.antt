@@ -28,7 +28,7 @@ use Rattle.mdr_typing.specs.declared.source.Source.{Source}
 use Rattle.std.proofs.Common.{List, None, Option, Some, ℕ}
 use Rattle.mdr_assign.specs.Assignments.{one}
 use Rattle.mdr_core.specs.declared.code.BinOp.{BinOp}
-use Rattle.mdr_core.specs.declared.code.Lval.{Lval}
+use Rattle.mdr_rich.specs.declared.code.Lval.{Lval}
 use Rattle.mdr_core.specs.declared.types.Ty.{Ty}
 use Rattle.mdr_operand.specs.declared.operand.Operand.TheVariants as operand
 use Rattle.mdr_operand.specs.declared.operator.AssignmentOperator.TheVariants.{Plain, Compound}

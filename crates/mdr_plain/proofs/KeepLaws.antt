@@ -196,6 +196,8 @@ module _ (P : World → Type 0) (kept : IsKept P) where
         goes _ _ (call_keeps _ interrupts_keep f _ 0 _ (kept.keeping (record w { kept = record w.kept { calls = w.kept.calls + 1 } }) _ (kept.keeping w (record w.kept { calls = w.kept.calls + 1 }) e))) (λ v w' e'. interrupts_keep 0 _ (kept.keeping w' _ e'))
     does_keeps (command.Idle n) w e = goes_then _ _ (idle_keeps n _ (kept.keeping w _ e)) (λ w' e'. interrupts_keep 0 w' e')
     does_keeps (command.Show g) w e = so (kept.keeping w _ e)
+    does_keeps (command.Poke serial index n) w e = so (kept.memory w _ e)
+    does_keeps (command.Say text) w e = so (kept.keeping w _ e)
 
     and_then_keeps : (r : Work) (go : World → Finish) → Keeps r → ((w : World) → P w → P (go w).world) → P (and_then r go).world
     and_then_keeps (Ended x w) go a each = each w a.at_end

@@ -60,6 +60,7 @@ event_line program (happened.Deliver bytes) = codes "deliver " ++ (hex bytes ++ 
 event_line program (happened.Irq f) = codes "irq " ++ (func_name program f ++ newline)
 event_line program (happened.Ret v) = small_line program (small.Ret v)
 event_line program (happened.Show name vs) = codes "show " ++ (name ++ (codes ":" ++ (values_shown program vs ++ newline)))
+event_line program (happened.Say text) = text ++ newline
 
 unfoldable pub event_lines : Program → List Happened → List ℕ
 event_lines program [] = []

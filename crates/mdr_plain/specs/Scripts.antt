@@ -1,24 +1,27 @@
 -- believed
 -- Scripts: what each command does, and how a run ends.
-use Rattle.std.specs.Prelude.{ℕ, zero, suc, ◌+◌, Bool, true, false, List, [], ◌∷◌, map, None, ◌==◌}
+use Rattle.std.specs.Prelude.{ℕ, ℤ, zero, suc, ◌+◌, Bool, true, false, List, [], ◌∷◌, map, Option, Some, None, ◌==◌}
 use Rattle.mdr_core.specs.declared.program.Program.{Program}
 use Rattle.mdr_core.specs.declared.value.Value.{Value}
+use Rattle.mdr_core.specs.Kinds.{is_in_range}
 use Rattle.mdr_core.specs.Layout.{chosen}
 use Rattle.mdr_device.specs.Machines.{made}
 use Rattle.mdr_meaning.specs.declared.wire.Wire.{Wire}
+use Rattle.mdr_meaning.specs.declared.wire.Wire.TheVariants as wire
 use Rattle.mdr_meaning.specs.Numbers.{Numbered}
 use Rattle.mdr_meaning.specs.Values.{wire_of}
 use Rattle.mdr_model.specs.declared.command.Command.{Command}
 use Rattle.mdr_model.specs.declared.command.Command.TheVariants as command
 use Rattle.mdr_model.specs.declared.outcome.End.{End}
 use Rattle.mdr_model.specs.declared.outcome.End.TheVariants as ends
-use Rattle.mdr_model.specs.Memory.{Memory}
+use Rattle.mdr_model.specs.declared.memory.Cell.{Cell}
+use Rattle.mdr_model.specs.Memory.{Memory, cell_at, put}
 use Rattle.mdr_model.specs.Report.{func_name, global_name}
 use Rattle.mdr_model.specs.Values.{value_of}
 use Rattle.mdr_bound.specs.declared.bound.Bound.{Bound}
 use Rattle.mdr_plain.specs.declared.outcome.Happened.TheVariants as happened
 use Rattle.mdr_plain.specs.Running.{Before, KernelCode, call, interrupts}
-use Rattle.mdr_plain.specs.Storage.{birth_of, first_memory}
+use Rattle.mdr_plain.specs.Storage.{birth_of, first_memory, with_memory}
 use Rattle.mdr_plain.specs.World.{World, Ran, Ended, Stopped, Work, after, done, then, noted, ticked}
 
 -- ---- `call`
@@ -51,6 +54,23 @@ block_cells (b ∷ m) serial = chosen (b.born.serial == serial) b.cells (block_c
 abbrev pub showed : Program → (global : ℕ) → World → World
 showed program g w = noted (happened.Show (global_name program g) (map value_of (block_cells w.memory g))) w
 
+-- ---- `Poke`
+
+-- what is put where this is held: an integer, where one of a kind is held that has it
+abbrev pub poked_value : Option Wire → ℤ → Option Wire
+poked_value (Some (wire.Int k m)) n = chosen (is_in_range k n) (Some (wire.Int k n)) None
+poked_value held n = None
+
+abbrev pub put_if : Option Wire → Cell → Memory → Memory
+put_if None c m = m
+put_if (Some v) c m = put m c v
+
+abbrev pub poked_memory : Cell → ℤ → Memory → Memory
+poked_memory c n m = put_if (poked_value (cell_at m c) n) c m
+
+abbrev pub poked : (serial index : ℕ) → ℤ → World → World
+poked serial index n w = with_memory w (poked_memory (record { serial = serial; index = index }) n w.memory)
+
 -- ---- commands
 
 -- how a command begins: it was done at once, or a function of the user half is called with these arguments
@@ -67,6 +87,8 @@ unfoldable pub begin : KernelCode → (is_user : ℕ → Bool) → Command → W
 begin kernel is_user (command.Call f args) w = called_by (is_user f) kernel f (map wire_of args) (begun kernel.program f args w)
 begin kernel is_user (command.Idle n) w = Did (idled (interrupts kernel) n w)
 begin kernel is_user (command.Show g) w = Did (done (showed kernel.program g w))
+begin kernel is_user (command.Poke serial index n) w = Did (done (poked serial index n w))
+begin kernel is_user (command.Say text) w = Did (done (noted (happened.Say text) w))
 
 -- on one memory a function of the user half runs in place
 abbrev pub in_place : KernelCode → (upcall : (func : ℕ) (args : List Wire) → World → Ran Wire) → Beginning → Work

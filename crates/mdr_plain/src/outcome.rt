@@ -24,6 +24,8 @@ pub enum Happened {
     Ret(Value),
     /// A command showed what a global's cells hold.
     Show(Name, Items<Value>),
+    /// A command noted a line.
+    Say(Name),
 }
 
 /// What a run shows: its events in order, its end, the ticks used, the live blocks and the objects.

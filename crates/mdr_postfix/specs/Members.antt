@@ -2,7 +2,7 @@
 -- Members (C99 6.5.2.3).
 use Rattle.std.specs.Prelude.{ℕ, Bool, true, false, List, Option, Some, None, position, slice_get}
 use Rattle.std.specs.Str.{bytes_eq}
-use Rattle.mdr_core.specs.declared.code.Lval.TheVariants as lval
+use Rattle.mdr_rich.specs.declared.code.Lval.TheVariants as lval
 use Rattle.mdr_core.specs.declared.place.Place.{Place}
 use Rattle.mdr_core.specs.declared.types.Ty.{Ty, out-Ty}
 use Rattle.mdr_core.specs.declared.types.Ty.TheOpen.{Ty-F}

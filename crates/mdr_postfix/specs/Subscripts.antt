@@ -1,8 +1,8 @@
 -- believed
 -- Subscripts (C99 6.5.2.1).
 use Rattle.std.specs.Prelude.{Bool, true, false, Option, Some, None}
-use Rattle.mdr_core.specs.declared.code.Expr.TheVariants as expr
-use Rattle.mdr_core.specs.declared.code.Lval.TheVariants as lval
+use Rattle.mdr_rich.specs.declared.code.Expr.TheVariants as expr
+use Rattle.mdr_rich.specs.declared.code.Lval.TheVariants as lval
 use Rattle.mdr_core.specs.declared.place.Place.{Place}
 use Rattle.mdr_core.specs.Layout.{chosen}
 use Rattle.mdr_faults.specs.declared.fault.FaultKind.TheVariants.{Mismatch}

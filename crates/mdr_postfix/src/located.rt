@@ -2,8 +2,9 @@
 
 ghost use Rattle.std.specs.Prelude.{◌≡◌, None, Err};
 
-use mdr_core::{Lval, Ty};
+use mdr_core::Ty;
 use mdr_faults::Fault;
+use mdr_rich::Lval;
 
 /// An object's lvalue and its type, or an array's and that of its elements.
 #[derive(Drop)]

@@ -8,9 +8,10 @@ ghost use Rattle.mdr_postfix.specs.Members.{object_of, object_at, target, target
 
 use crate::located::{Located, given_up, nothing};
 use crate::name::{copied_object, object_operand};
-use mdr_core::{Boxed, Lval, OutOfMemory, Place, Ty};
+use mdr_core::{Boxed, OutOfMemory, Place, Ty};
 use mdr_faults::{Fault, FaultKind, Member, Object, Scope, StructEntry, small};
 use mdr_operand::{Operand, Pointer, needed, pointer_at};
+use mdr_rich::Lval;
 use std::alloc::{AllocError, Global};
 
 /// A member: its number in its struct, and what it is.

@@ -5,12 +5,13 @@ ghost use Rattle.std.specs.Option.{option_copied};
 ghost use Rattle.mdr_faults.specs.Faults.{told};
 ghost use Rattle.mdr_postfix.specs.Names.{object_operand, constant_operand, entity_operand, file_name, place_of_local, local_operand, name_rule};
 
-use mdr_core::{Expr, Items, Lval, Place, Ty, Value};
+use mdr_core::{Items, Place, Ty, Value};
 use mdr_faults::{
     Constant, Entity, Fault, FaultKind, Named, Object, Scope, Signature, copied_type, copied_types,
     entity_named,
 };
 use mdr_operand::{LocalName, Operand, local_named, number};
+use mdr_rich::{Expr, Lval};
 use std::alloc::{AllocError, Global};
 
 /// An object by its lvalue.

@@ -3,17 +3,18 @@
 ghost use Rattle.std.specs.Prelude.{◌≡◌, IfOk, false};
 ghost use Rattle.mdr_faults.specs.Faults.{Checked, told};
 ghost use Rattle.mdr_operand.specs.declared.operand.Operand.{Operand};
-ghost use Rattle.mdr_core.specs.declared.code.Expr.TheVariants as expr;
-ghost use Rattle.mdr_core.specs.declared.code.Lval.TheVariants as lval;
+ghost use Rattle.mdr_rich.specs.declared.code.Expr.TheVariants as expr;
+ghost use Rattle.mdr_rich.specs.declared.code.Lval.TheVariants as lval;
 ghost use Rattle.mdr_postfix.specs.Subscripts.{is_array, array_of, element_in, element_of_array, element_behind, element_at, element_of_pointer, element_by, element, subscript_of, subscript_rule};
 
 use crate::located::{Located, given_up, nothing};
-use mdr_core::{Boxed, Expr, Lval, Place};
+use mdr_core::{Boxed, Place};
 use mdr_faults::{Fault, FaultKind, Scope, both};
 use mdr_operand::{
     Integer, Operand, Pointer, both_given_up, integer_at, is_complete, is_number, needed,
     out_of_memory, pointer_at,
 };
+use mdr_rich::{Expr, Lval};
 use std::alloc::{AllocError, Global};
 
 fn is_array(x: &Operand) -> bool

@@ -8,6 +8,7 @@ use Rattle.mdr_check.specs.declared.file.Piece.{Piece}
 use Rattle.mdr_check.specs.declared.file.Piece.TheVariants as piece
 use Rattle.mdr_headings.specs.declared.body.Body.{Body}
 use Rattle.mdr_headings.specs.declared.head.Heading.{Heading}
+use Rattle.mdr_lower.specs.Lowering.{lowered}
 use Rattle.mdr_program.specs.declared.parts.Parts.{Parts}
 
 -- ---- one function
@@ -25,9 +26,9 @@ marked objects i (p ∷ ps) = flagged p (slice_get objects i) ∷ marked objects
 abbrev pub remote : List ℕ → Heading → Func
 remote name h = record { name = name; params = h.params; result = h.result; ann = h.ann; locals = []; critical = false; body = None }
 
--- a function with its body: the names of its parameters are those that stand before the body (6.9.1, paragraph 5)
+-- a function with its body, which is lowered: the names of its parameters are those that stand before the body (6.9.1, paragraph 5)
 abbrev pub whole : List ℕ → Bool → Heading → Body → Func
-whole name is_critical h b = record { name = name; params = marked b.objects 0 h.params; result = h.result; ann = h.ann; locals = b.locals; critical = is_critical; body = Some b.statements }
+whole name is_critical h b = record { name = name; params = marked b.objects 0 h.params; result = h.result; ann = h.ann; locals = b.locals; critical = is_critical; body = Some (lowered b.statements) }
 
 -- ---- functions by their numbers
 

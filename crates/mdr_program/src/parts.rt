@@ -8,6 +8,7 @@ ghost use Rattle.mdr_program.specs.Parts.{flagged, marked, remote, whole, number
 use mdr_check::{Piece, Variable};
 use mdr_core::{Func, Items, Name, Param, StructDef};
 use mdr_headings::{Body, Heading};
+use mdr_lower::lowered;
 use std::alloc::{AllocError, Global};
 
 /// The structs, globals and functions of a file, by their numbers.
@@ -73,6 +74,7 @@ fn whole(
 ) -> Result<Func, AllocError>
     ensures { IfOk result (λ f. f ≡ whole name is_critical h b) }
 {
+    let statements = lowered(alloc, b.statements.as_slice())?;
     Ok(Func {
         name,
         params: marked(alloc, h.params, b.objects.as_slice())?,
@@ -80,7 +82,7 @@ fn whole(
         ann: h.ann,
         locals: b.locals,
         critical: is_critical,
-        body: Some(b.statements),
+        body: Some(statements),
     })
 }
 

@@ -74,6 +74,14 @@ fn put_show(
     put_newline(out)
 }
 
+/// The line that a command noted.
+fn put_say(out: &mut Vec<u8>, text: &[u8]) -> Result<(), AllocError>
+    ensures { OnOk result (out.new.items ≡ out.old.items ++ (text.now ++ newline)) }
+{
+    put_bytes(out, text)?;
+    put_newline(out)
+}
+
 #[tactic(auto, unfolding(mdr_plain::specs::Report::event_line))]
 fn put_event(
     alloc: Global,
@@ -95,6 +103,7 @@ fn put_event(
         Happened::Show(name, values) => {
             put_show(alloc, out, program, name.as_slice(), values.as_slice())
         }
+        Happened::Say(text) => put_say(out, text.as_slice()),
     }
 }
 

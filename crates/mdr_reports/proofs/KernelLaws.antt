@@ -2,6 +2,7 @@
 use Rattle.std.proofs.Common.{◌≡◌, ◌⊎◌, inl, inr, ℕ, suc, ◌+◌, ◌<◌, ◌≤◌, Bool, true, false, not, List, [], ◌∷◌, length, map, slice_get, get_or, Option, Some, None, is_some, refl, sym, ap, ◌∙◌, subst, arith}
 use Rattle.std.proofs.lemmas.Option.{slice_get_cases, slice_get_within}
 use Rattle.mdr_callees.specs.Callees.{uses_by}
+use Rattle.mdr_callees.proofs.BackLaws.{one_graph}
 use Rattle.mdr_callees.proofs.HalfLaws.{nowhere}
 use Rattle.mdr_core.specs.declared.place.At.{At}
 use Rattle.mdr_core.specs.declared.plan.Half.{Half}
@@ -79,7 +80,7 @@ module _ (program : Program) (plan : Plan) (driven : IsDriven program plan) wher
   halves = driven.sliced.halves
 
   pub driver : IsDriver d uses
-  driver = programs_are_drivers.driver program driven.sound plan false (graph_of program) (graph_is program)
+  driver = programs_are_drivers.driver program driven.sound plan (graph_of program) (one_graph program driven.nothing_back (graph_of program) (graph_is program))
 
   -- ---- functions of the kernel half
 

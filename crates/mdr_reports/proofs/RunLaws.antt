@@ -1,5 +1,5 @@
 -- Whole runs: commands one by one, and then the reports.
-use Rattle.std.proofs.Common.{◌≡◌, ℕ, zero, suc, ◌+◌, Bool, true, false, List, [], ◌∷◌, length, map, Option, None, refl, sym, ap, ◌∙◌, subst, arith}
+use Rattle.std.proofs.Common.{◌≡◌, ℕ, ℤ, zero, suc, ◌+◌, Bool, true, false, List, [], ◌∷◌, length, map, Option, None, refl, sym, ap, ◌∙◌, subst, arith}
 use Rattle.std.specs.Option.{option_map}
 use Rattle.mdr_core.specs.declared.place.At.{At}
 use Rattle.mdr_core.specs.declared.plan.Plan.{Plan}
@@ -23,8 +23,8 @@ use Rattle.mdr_plain.specs.declared.outcome.Happened.{Happened}
 use Rattle.mdr_plain.specs.declared.outcome.Happened.TheVariants as happened
 use Rattle.mdr_plain.specs.Gate.{are_none, due}
 use Rattle.mdr_plain.specs.Running.{call, interrupts}
-use Rattle.mdr_plain.specs.Scripts.{Finish, and_then, begin, begun, called_by, commands, first_world, idle, in_place, returned, showed}
-use Rattle.mdr_plain.specs.Storage.{next_serial}
+use Rattle.mdr_plain.specs.Scripts.{Finish, and_then, begin, begun, called_by, commands, first_world, idle, in_place, poked_memory, returned, showed}
+use Rattle.mdr_plain.specs.Storage.{next_serial, with_memory}
 use Rattle.mdr_plain.specs.World.{Ended, Ran, Stopped, Work, World, advanced, after, counted, left, noted, then}
 use Rattle.mdr_plain.proofs.KeepLaws.{interrupts_keep}
 use Rattle.mdr_bound.specs.declared.bound.Bound.{Bound}
@@ -41,6 +41,7 @@ use Rattle.mdr_holds.proofs.Drivers.{programs_are_drivers}
 use Rattle.mdr_holds.proofs.First.{first_holds}
 use Rattle.mdr_holds.proofs.Kernel.{called as kernel_called, with_interrupts}
 use Rattle.mdr_holds.proofs.Memories.{globals_known}
+use Rattle.mdr_holds.proofs.Poking.{poked_later}
 use Rattle.mdr_holds.proofs.Steps.{in_order, kept_holds, tick_later}
 use Rattle.mdr_holds.proofs.User.{upcall_leaves}
 use Rattle.mdr_holds.proofs.Views.{called_views}
@@ -163,6 +164,14 @@ module _ (program : Program) (plan : Plan) (driven : IsDriven program plan) wher
   fine_begun : (f : ℕ) (args : List Value) (w : World) → Fine w → Fine (begun program f args w)
   fine_begun f args w fine = fine_noted _ _ (record { known = fine.known; uses_are = fine.uses_are; holds = kept_holds program fine.known w (record w.kept { calls = w.kept.calls + 1 }) fine.holds fine.holds.handler; alone = fine.alone })
 
+  fine_poked : (c : Cell) (n : ℤ) (w : World) → Fine w → Fine (with_memory w (poked_memory c n w.memory))
+  fine_poked c n w fine = record {
+    known = fine.known;
+    uses_are = fine.uses_are;
+    holds = (poked_later program (next_serial w) fine.known w fine.holds c n).holds;
+    alone = fine.alone;
+  }
+
   does_same : (c : Command) (w : World) → Fine w → IsCommand program c → Same (does e (free e) c w) (does_strictly e c w)
   unfolding begin
   does_same (command.Call f args) w fine r =
@@ -172,6 +181,10 @@ module _ (program : Program) (plan : Plan) (driven : IsDriven program plan) wher
       (arguments_current program u (is_live w.memory) lives.globals (map wire_of args) (map (λ (p : Param). p.ty) r.0.params) (r.2 (first_knowledge program u) (first_knows program u))) (is_user plan f) refl
   does_same (command.Idle n) w fine r = same_then _ _ _ _ (idle_same n (noted (happened.Idle n) w) (fine_noted (happened.Idle n) w fine)) tried
   does_same (command.Show g) w fine r = record { is = refl; fine = λ x w' q. subst Fine (ended_is tt x (showed program g w) w' q).1 (fine_noted _ w fine) }
+  does_same (command.Poke serial index n) w fine r =
+      let at : Cell = record { serial = serial; index = index } in
+      record { is = refl; fine = λ x w' q. subst Fine (ended_is tt x (with_memory w (poked_memory at n w.memory)) w' q).1 (fine_poked at n w fine) }
+  does_same (command.Say text) w fine r = record { is = refl; fine = λ x w' q. subst Fine (ended_is tt x (noted (happened.Say text) w) w' q).1 (fine_noted (happened.Say text) w fine) }
 
   same_and_then : (r s : Work) (go go' : World → Finish) → Same r s → ((w : World) → Fine w → go w ≡ go' w) → and_then r go ≡ and_then s go'
   same_and_then (Ended x w) s go go' h each = each w (h.fine x w refl) ∙ ap (λ (r : Work). and_then r go') h.is

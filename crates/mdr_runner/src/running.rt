@@ -3,7 +3,7 @@
 ghost use Rattle.std.specs.Prelude.{◌≡◌, IfOk, OnErr};
 ghost use Rattle.mdr_core.specs.Sound.{IsSound};
 ghost use Rattle.mdr_due.specs.Reads.{WasRead, longest_script};
-ghost use Rattle.mdr_due.specs.Statuses.{Counts, HasReadCause};
+ghost use Rattle.mdr_due.specs.Statuses.{Counts, HasReadCause, ReadCause};
 ghost use Rattle.mdr_runner.specs.Runs.{IsRun, RunsOver, Runs, RunsPart};
 
 use crate::ending::status_of;
@@ -13,7 +13,7 @@ use crate::scripts::script_of;
 use mdr_bound::Bound;
 use mdr_core::{OutOfMemory, Program};
 use mdr_due::{Due, Stage};
-use mdr_outside::Shelf;
+use mdr_outside::{Shelf, ShelfSeen};
 use mdr_report::report_whole;
 use mdr_slicer::source_of;
 use std::alloc::Global;
@@ -42,7 +42,7 @@ fn run_over<S: Shelf>(
     ensures done { IfOk result (λ due. RunsOver (S.files shelf.old) program.now name.now manner (S.calls shelf.old) (S.calls shelf.new) due.status due.text.items) }
     ensures part { OnErr result (WasRead (S.files shelf.old) name.now longest_script (S.calls shelf.old) (S.calls shelf.new)) }
     ensures kept { S.files shelf.new ≡ S.files shelf.old }
-    ensures read { IfOk result (λ due. HasReadCause (record { faults = S.faults shelf.old; absent = S.absent shelf.old; long = S.long shelf.old }) (record { faults = S.faults shelf.new; absent = S.absent shelf.new; long = S.long shelf.new }) due.status) }
+    ensures read { IfOk result (λ due. ReadCause (⟦<S as ShelfSeen>⟧.side shelf.old) (⟦<S as ShelfSeen>⟧.side shelf.new) due.status) }
     ensures unwritten_same { S.unwritten shelf.new ≡ S.unwritten shelf.old }
 {
     let script = match script_of(alloc, shelf, program, name) {
@@ -67,7 +67,7 @@ pub fn whole<S: Shelf>(
     ensures done { IfOk result (λ due. Runs (S.files shelf.old) source_name.now script_name.now manner (S.calls shelf.old) (S.calls shelf.new) due.status due.text.items) }
     ensures part { OnErr result (RunsPart (S.files shelf.old) source_name.now script_name.now (S.calls shelf.old) (S.calls shelf.new)) }
     ensures kept { S.files shelf.new ≡ S.files shelf.old }
-    ensures read { IfOk result (λ due. HasReadCause (record { faults = S.faults shelf.old; absent = S.absent shelf.old; long = S.long shelf.old }) (record { faults = S.faults shelf.new; absent = S.absent shelf.new; long = S.long shelf.new }) due.status) }
+    ensures read { IfOk result (λ due. ReadCause (⟦<S as ShelfSeen>⟧.side shelf.old) (⟦<S as ShelfSeen>⟧.side shelf.new) due.status) }
 {
     let source = match source_of(alloc, shelf, source_name) {
         Ok(Stage::Goes(source)) => source,

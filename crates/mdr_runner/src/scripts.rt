@@ -1,9 +1,10 @@
 // Scripts that are read for a program.
 
 ghost use Rattle.std.specs.Prelude.{◌≡◌, ◌≤◌, IfOk, OnErr};
+ghost use Rattle.mdr_core.specs.Sound.{HasFewNumbers};
 ghost use Rattle.mdr_due.specs.Reads.{WasRead, longest_script};
 ghost use Rattle.mdr_due.specs.Lines.{script_line};
-ghost use Rattle.mdr_due.specs.Stages.{StageIs, HasStageCause};
+ghost use Rattle.mdr_due.specs.Stages.{StageCause, StageIs};
 ghost use Rattle.mdr_due.specs.declared.status.Status.TheVariants as status;
 ghost use Rattle.mdr_script.specs.Scripts.{Told};
 ghost use Rattle.mdr_runner.specs.Scripts.{script_for, kind_word, HasScript, NoScript, IsScriptOf, NoScriptOf};
@@ -12,7 +13,7 @@ use crate::kinds::kind_word;
 use mdr_bound::Bound;
 use mdr_core::{OutOfMemory, Program};
 use mdr_due::{Due, Stage, Status, file, script_line};
-use mdr_outside::Shelf;
+use mdr_outside::{Shelf, ShelfSeen};
 use mdr_script::{ScriptError, ScriptKind, bind, read_script};
 use std::alloc::Global;
 
@@ -21,6 +22,7 @@ const LONGEST_SCRIPT: u64 = 262_144;
 
 /// The script that a text is for a program, or the first line that is refused, and why.
 fn script_for(alloc: Global, program: &Program, bytes: &[u8]) -> Result<Bound, ScriptError>
+    requires { HasFewNumbers program.now }
     ensures { Told result (script_for program.now bytes.now) }
 {
     match read_script(alloc, bytes) {
@@ -41,6 +43,7 @@ fn refused(alloc: Global, line: u32, kind: ScriptKind) -> Result<Due, OutOfMemor
 
 /// The script that a text is for a program, or what is due where it is refused.
 pub fn judged(alloc: Global, program: &Program, bytes: &[u8]) -> Result<Stage<Bound>, OutOfMemory>
+    requires { HasFewNumbers program.now }
     ensures { IfOk result (StageIs (HasScript program.now bytes.now) (NoScript program.now bytes.now)) }
 {
     match script_for(alloc, program, bytes) {
@@ -60,10 +63,11 @@ pub fn script_of<S: Shelf>(
     program: &Program,
     name: &str,
 ) -> Result<Stage<Bound>, OutOfMemory>
+    requires { HasFewNumbers program.now }
     ensures read { IfOk result (StageIs (IsScriptOf (S.files shelf.old) program.now name.now (S.calls shelf.old) (S.calls shelf.new)) (NoScriptOf (S.files shelf.old) program.now name.now (S.calls shelf.old) (S.calls shelf.new))) }
     ensures part { OnErr result (WasRead (S.files shelf.old) name.now longest_script (S.calls shelf.old) (S.calls shelf.new)) }
     ensures kept { S.files shelf.new ≡ S.files shelf.old }
-    ensures cause { IfOk result (HasStageCause (record { faults = S.faults shelf.old; absent = S.absent shelf.old; long = S.long shelf.old }) (record { faults = S.faults shelf.new; absent = S.absent shelf.new; long = S.long shelf.new })) }
+    ensures cause { IfOk result (StageCause (⟦<S as ShelfSeen>⟧.side shelf.old) (⟦<S as ShelfSeen>⟧.side shelf.new)) }
     ensures faults_later { S.faults shelf.old ≤ S.faults shelf.new }
     ensures absent_later { S.absent shelf.old ≤ S.absent shelf.new }
     ensures long_later { S.long shelf.old ≤ S.long shelf.new }

@@ -511,6 +511,12 @@ module _ (program : Program) (sound : IsSound program) (scoped : IsScoped progra
         of (Ok f) = direct_current here at f vs k lives live knows h soon
         of (Err kind) = tt
 
+    -- the service that calls back
+    back_current : (here : Here) (at : At) (vs : List Wire) (k : Wire → Tree) (other : (Wire → Tree) → Tree) (lives : Lives) (live : List Wire) → Knows lives live → AreCurrent lives vs → Soon live k → (b : Bool) → b ≡ true
+        → C lives live (chosen b (through side low here at (first_of vs) (rest_of vs)) other k)
+    back_current here at vs k other lives live knows h soon true is = through_current here at (first_of vs) (rest_of vs) k lives live knows (rest_current lives vs h) soon
+    back_current here at vs k other lives live knows h soon false is = absurd cc
+
     call_current : (here : Here) (objects : List ℕ) (at : At) (s : List Wire) (form : CallOf) (c : Called) (t : Ty) → gives_by c program here.slots form t → CalleeScoped objects c → TermsScoped objects form.args
         → (k : Wire → Tree) (lives : Lives) (live : List Wire) → Knows lives live → IsFrame here.slots objects live s → Soon live k → C lives live (call_by side low here at s form c k)
     call_current here objects at s form (Called.Direct f) t d x xs k lives live knows frame soon =
@@ -518,7 +524,10 @@ module _ (program : Program) (sound : IsSound program) (scoped : IsScoped progra
     call_current here objects at s form (Called.Through e) t d x xs k lives live knows frame soon =
         (value_current program lives live knows here.slots objects s frame at e (type.Fun (t ∷ d.params)) d.pointer x).by _
         (λ v c. values_current program lives live knows here.slots objects s frame at form.args d.params d.call_is.args xs (λ vs. through side low here at v vs k) (λ vs h. through_current here at v vs k lives live knows h soon))
-    call_current here objects at s form (Called.Service n) t d x xs k lives live knows frame soon =
+    call_current here objects at s form (Called.Service n) t (inr d) x xs k lives live knows frame soon =
+        values_current program lives live knows here.slots objects s frame at form.args (type.Fun (t ∷ d.param ∷ []) ∷ d.param ∷ []) d.args xs (λ vs. chosen (n == 15) (through side low here at (first_of vs) (rest_of vs)) (serves (known_of program) n at form vs) k)
+        (λ vs h. back_current here at vs k (serves (known_of program) n at form vs) lives live knows h soon (n == 15) (subst (λ i. (i == 15) ≡ true) (sym d.back) refl))
+    call_current here objects at s form (Called.Service n) t (inl d) x xs k lives live knows frame soon =
         values_current program lives live knows here.slots objects s frame at form.args d.signature.params d.args xs (λ vs. chosen (n == 15) (through side low here at (first_of vs) (rest_of vs)) (serves (known_of program) n at form vs) k) (λ vs h. of vs h (n == 15))
       where
         of : (vs : List Wire) → AreCurrent lives vs → (b : Bool) → C lives live (chosen b (through side low here at (first_of vs) (rest_of vs)) (serves (known_of program) n at form vs) k)

@@ -1,6 +1,7 @@
 // Binding a script to a program.
 
-ghost use Rattle.std.specs.Prelude.{◌≡◌, [], slice_get};
+ghost use Rattle.std.specs.Prelude.{◌≡◌, ◌≤◌, [], slice_get};
+ghost use Rattle.mdr_core.specs.Sound.{HasFewNumbers};
 ghost use Rattle.std.specs.List.{position};
 ghost use Rattle.mdr_script.specs.Scripts.{Told};
 ghost use Rattle.mdr_script.specs.Binding.{Binds, LineBinds, func_number, values_bound, called, call_by, call_bound, show_bound, command_bound, commands_behind, bound_of};
@@ -30,6 +31,7 @@ fn bind_values(
     params: &[Param],
     args: &[ArgText],
 ) -> Result<Items<Value>, Unbound>
+    requires { HasFewNumbers program.now }
     ensures { Binds result (values_bound program.now params.now args.now) }
 {
     if has_unknown(program.globals.as_slice(), args) {
@@ -49,9 +51,11 @@ fn call_with(
     params: &[Param],
     args: &[ArgText],
 ) -> Result<Command, Unbound>
+    requires few { HasFewNumbers program.now }
+    requires inside { number ≤ 16777216 }
     ensures { Binds result (called number (values_bound program.now params.now args.now)) }
 {
-    let number = small(number)?;
+    let number = small(number);
     match bind_values(alloc, program, params, args) {
         Ok(values) => Ok(Command::Call(number, values)),
         Err(e) => Err(e),
@@ -64,6 +68,8 @@ fn call_by(
     number: usize,
     args: &[ArgText],
 ) -> Result<Command, Unbound>
+    requires few { HasFewNumbers program.now }
+    requires inside { number ≤ 16777216 }
     ensures { Binds result (call_by program.now number (slice_get program.now.funcs number) args.now) }
 {
     match program.funcs.as_slice().get(number) {
@@ -79,6 +85,7 @@ fn bind_call(
     name: &[u8],
     args: &[ArgText],
 ) -> Result<Command, Unbound>
+    requires { HasFewNumbers program.now }
     ensures { Binds result (call_bound program.now name.now args.now) }
 {
     match func_number(program.funcs.as_slice(), name) {
@@ -89,15 +96,17 @@ fn bind_call(
 
 #[tactic(auto, unfolding(crate::specs::Binding::show_bound))]
 fn bind_show(program: &Program, name: &[u8]) -> Result<Command, Unbound>
+    requires { HasFewNumbers program.now }
     ensures { Binds result (show_bound program.now name.now) }
 {
     match global_number(program.globals.as_slice(), name) {
-        Some(number) => Ok(Command::Show(small(number)?)),
+        Some(number) => Ok(Command::Show(small(number))),
         None => Err(Unbound::Kind(ScriptKind::NoGlobal)),
     }
 }
 
 fn bind_command(alloc: Global, program: &Program, what: &LineWhat) -> Result<Command, Unbound>
+    requires { HasFewNumbers program.now }
     ensures { Binds result (command_bound program.now what.now) }
 {
     match what {
@@ -108,6 +117,7 @@ fn bind_command(alloc: Global, program: &Program, what: &LineWhat) -> Result<Com
 }
 
 fn bind_line(alloc: Global, program: &Program, line: &ScriptLine) -> Result<Command, ScriptError>
+    requires { HasFewNumbers program.now }
     ensures { LineBinds result line.now.line (command_bound program.now line.now.what) }
 {
     match bind_command(alloc, program, &line.what) {
@@ -122,6 +132,7 @@ fn bind_commands(
     program: &Program,
     lines: &[ScriptLine],
 ) -> Result<Items<Command>, ScriptError>
+    requires { HasFewNumbers program.now }
     ensures { Told result (commands_behind program.now [] lines.now) }
 {
     let mut commands = Items::new(alloc);
@@ -137,6 +148,7 @@ fn bind_commands(
 /// The script for a program, or its first line that doesn't suit the program, and why.
 #[tactic(auto, unfolding(crate::specs::Binding::bound_of))]
 pub fn bind(alloc: Global, script: &Script, program: &Program) -> Result<Bound, ScriptError>
+    requires { HasFewNumbers program.now }
     ensures { Told result (bound_of script.now program.now) }
 {
     match bind_commands(alloc, program, script.lines.as_slice()) {

@@ -1,9 +1,9 @@
 // Arguments bound to parameters.
 
-ghost use Rattle.std.specs.Prelude.{◌≡◌, IfOk, OnErr, Err, slice_get};
+ghost use Rattle.std.specs.Prelude.{◌≡◌, ◌≤◌, IfSome, slice_get};
 ghost use Rattle.std.specs.List.{list_any, position};
 ghost use Rattle.mdr_core.specs.declared.types.Ty.{out-Ty};
-ghost use Rattle.mdr_script.specs.declared.unbound.Unbound.TheVariants as unbound;
+ghost use Rattle.mdr_core.specs.Sound.{HasFewNumbers};
 ghost use Rattle.mdr_script.specs.Binding.{Binds, global_number, type_number, is_unknown, int_bound, null_bound, takes, view_bound, address_by, address_bound, arg_bound, args_behind};
 
 use crate::line::ArgText;
@@ -24,15 +24,12 @@ fn type_number(types: &[Ty], ty: &Ty) -> Option<usize>
     types.iter().position(|t| is_alike(t, ty))
 }
 
-/// A number of 32 bits. A program of more parts is too large to be held.
-pub fn small(n: usize) -> Result<u32, Unbound>
-    ensures number { IfOk result (λ m. m ≡ n) }
-    ensures memory { OnErr result (result ≡ Err unbound.OutOfMemory) }
+/// The number of a type, a global or a function, of which there are few.
+pub fn small(n: usize) -> u32
+    requires { n ≤ 16777216 }
+    ensures { result ≡ n }
 {
-    match u32::try_from(n) {
-        Ok(n) => Ok(n),
-        Err(_) => Err(Unbound::OutOfMemory),
-    }
+    n as u32
 }
 
 /// Whether the argument names no global that there is.
@@ -89,8 +86,9 @@ fn takes(ty: &Ty, target: &Ty) -> bool
 }
 
 /// A view of the whole global.
-fn view_of(number: usize, global: &GlobalDef, ty: Option<usize>) -> Result<Value, Unbound>
-    ensures { Binds result (view_bound number global.now ty) }
+fn view_of(number: usize, global: &GlobalDef, ty: Option<usize>) -> Result<Value, ScriptKind>
+    requires { IfSome ty (λ t. t ≤ 16777216) }
+    ensures { result ≡ view_bound number global.now ty }
 {
     match ty {
         Some(t) => Ok(Value::Ptr(View {
@@ -99,16 +97,17 @@ fn view_of(number: usize, global: &GlobalDef, ty: Option<usize>) -> Result<Value
                 serial: number as u64,
             },
             first: 0,
-            ty: small(t)?,
+            ty: small(t),
             count: global.count,
             index: 0,
         })),
-        None => Err(Unbound::Kind(ScriptKind::ArgKind)),
+        None => Err(ScriptKind::ArgKind),
     }
 }
 
-fn address_by(program: &Program, ty: &Ty, number: usize) -> Result<Value, Unbound>
-    ensures { Binds result (address_by program.now ty.now number (slice_get program.now.globals number)) }
+fn address_by(program: &Program, ty: &Ty, number: usize) -> Result<Value, ScriptKind>
+    requires { HasFewNumbers program.now }
+    ensures { result ≡ address_by program.now ty.now number (slice_get program.now.globals number) }
 {
     match program.globals.as_slice().get(number) {
         Some(global) => {
@@ -119,35 +118,31 @@ fn address_by(program: &Program, ty: &Ty, number: usize) -> Result<Value, Unboun
                     type_number(program.types.as_slice(), &global.ty),
                 )
             } else {
-                Err(Unbound::Kind(ScriptKind::ArgKind))
+                Err(ScriptKind::ArgKind)
             }
         }
-        None => Err(Unbound::Kind(ScriptKind::NoGlobal)),
+        None => Err(ScriptKind::NoGlobal),
     }
 }
 
 #[tactic(auto, unfolding(crate::specs::Binding::address_bound))]
-fn bind_address(program: &Program, ty: &Ty, name: &[u8]) -> Result<Value, Unbound>
-    ensures { Binds result (address_bound program.now ty.now name.now) }
+fn bind_address(program: &Program, ty: &Ty, name: &[u8]) -> Result<Value, ScriptKind>
+    requires { HasFewNumbers program.now }
+    ensures { result ≡ address_bound program.now ty.now name.now }
 {
     match global_number(program.globals.as_slice(), name) {
         Some(number) => address_by(program, ty, number),
-        None => Err(Unbound::Kind(ScriptKind::NoGlobal)),
+        None => Err(ScriptKind::NoGlobal),
     }
 }
 
-fn bind_arg(program: &Program, ty: &Ty, arg: &ArgText) -> Result<Value, Unbound>
-    ensures { Binds result (arg_bound program.now ty.now arg.now) }
+fn bind_arg(program: &Program, ty: &Ty, arg: &ArgText) -> Result<Value, ScriptKind>
+    requires { HasFewNumbers program.now }
+    ensures { result ≡ arg_bound program.now ty.now arg.now }
 {
     match arg {
-        ArgText::Int(n) => match bind_int(ty, *n) {
-            Ok(value) => Ok(value),
-            Err(kind) => Err(Unbound::Kind(kind)),
-        },
-        ArgText::Null => match bind_null(ty) {
-            Ok(value) => Ok(value),
-            Err(kind) => Err(Unbound::Kind(kind)),
-        },
+        ArgText::Int(n) => bind_int(ty, *n),
+        ArgText::Null => bind_null(ty),
         ArgText::Global(name) => bind_address(program, ty, name.as_slice()),
     }
 }
@@ -159,6 +154,7 @@ pub fn bind_args(
     params: &[Param],
     args: &[ArgText],
 ) -> Result<Items<Value>, Unbound>
+    requires { HasFewNumbers program.now }
     ensures { Binds result (args_behind program.now values params.now args.now) }
 {
     let [param, params @ ..] = params else {
@@ -171,7 +167,10 @@ pub fn bind_args(
     let [arg, args @ ..] = args else {
         return Err(Unbound::Kind(ScriptKind::Arity));
     };
-    let value = bind_arg(program, &param.ty, arg)?;
+    let value = match bind_arg(program, &param.ty, arg) {
+        Ok(value) => value,
+        Err(kind) => return Err(Unbound::Kind(kind)),
+    };
     let mut values = values;
     values.push(value)?;
     bind_args(program, values, params, args)

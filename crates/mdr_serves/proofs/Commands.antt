@@ -174,6 +174,9 @@ module _ (d : Driver) (uses : Uses) (right : IsRight d uses) (fuel budget : ℕ)
       work_finishes cs later KU k (noted_command d.program (command.Idle n) k.world) (next_serial k.world) (agree_noted d uses budget KU k.agreed (happened.Idle n) k.world a) bound _ right'
   command_finishes (command.Show g) cs named later KU k a bound right' =
       work_finishes cs later KU k (noted_command d.program (command.Show g) k.world) (next_serial k.world) (agree_noted d uses budget KU k.agreed _ k.world a) bound _ right'
+  command_finishes (command.Poke serial index n) cs named later KU k a bound right' = work_finishes cs later KU k k.world (next_serial k.world) a bound _ right'
+  command_finishes (command.Say text) cs named later KU k a bound right' =
+      work_finishes cs later KU k (noted_command d.program (command.Say text) k.world) (next_serial k.world) (agree_noted d uses budget KU k.agreed (happened.Say text) k.world a) bound _ right'
 
   pub finishes : (script : List Command) → AreCommands d.program script → FinishesAll script
   unfolding split_commands commands

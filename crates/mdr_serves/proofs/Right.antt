@@ -143,7 +143,7 @@ module _ (program : Program) (plan : Plan) (callees : List (List ℕ)) (sound : 
   is_suited = keys_are_right.suits program planned.halves plan (record { halves_size = planned.are_halves.halves_size; roots_size = planned.are_halves.roots_size; down_size = planned.are_halves.down_size }) planned.is_plan
 
   is_driver : IsDriver (driver_of program plan) uses_now
-  is_driver = programs_are_drivers.driver program sound plan true callees graph
+  is_driver = programs_are_drivers.driver program sound plan callees graph
 
   handled : (f : ℕ) (func : Func) → slice_get program.funcs f ≡ Some func → uses_now.handles f ≡ true → is_kernel_half (driver_of program plan) f ≡ true
   unfolding kernel_side

@@ -91,3 +91,13 @@ pub fn show(alloc: Global, world: &mut World, global: u32) -> Result<(), OutOfMe
     world.note(Happened::Show(name, values))?;
     Ok(())
 }
+
+/// A line is noted.
+pub fn say(alloc: Global, world: &mut World, text: &[u8]) -> Result<(), OutOfMemory>
+    ensures as_before { OnErr result (world.new ≡ world.old) }
+    ensures said { OnOk result (world.new ≡ driver world.old.program (noted (happened.Say text.now) world.old.world)) }
+{
+    let text = Items::from_slice(alloc, text)?;
+    world.note(Happened::Say(text))?;
+    Ok(())
+}

@@ -19,6 +19,6 @@ mod texts;
 mod values;
 
 pub use answer::Served;
-pub use commands::{note_call, note_idle, note_return, show};
+pub use commands::{note_call, note_idle, note_return, say, show};
 pub use service::Service;
 pub use serving::serve;

@@ -4,6 +4,7 @@ ghost use Rattle.std.specs.Prelude.{◌≡◌, ◌↔◌, ◌≤◌, IsTrue, IfO
 ghost use Rattle.std.specs.Option.{option_copied};
 ghost use Rattle.mdr_core.specs.declared.code.CallForm.{CallForm as AnyCall};
 ghost use Rattle.mdr_core.specs.Folds.{call_of, term_of};
+ghost use Rattle.mdr_core.specs.Sound.{HasFewNumbers};
 ghost use Rattle.mdr_core.specs.Typing.{slots_of};
 ghost use Rattle.mdr_paths.specs.Marking.{AreMarks, AreNodes, Tells};
 ghost use Rattle.mdr_paths.specs.Numbers.{marked};
@@ -13,7 +14,7 @@ ghost use Rattle.mdr_slice.specs.Graph.{AreCallees, KernelCallReaches, MayPointT
 use crate::calls::calls_of;
 use crate::names::names_of;
 use crate::pointed::is_called_type;
-use mdr_core::{CallForm, Callee, Expr, Func, Limit, OutOfMemory, Program};
+use mdr_core::{CallForm, Callee, Expr, Func, OutOfMemory, Program};
 use mdr_paths::{marked_nodes, marks_of};
 use std::alloc::{AllocError, Global};
 
@@ -151,12 +152,10 @@ pub(crate) fn graph(
     program: &Program,
     counts: bool,
 ) -> Result<Vec<Vec<u32>>, OutOfMemory>
+    requires { HasFewNumbers program.now }
     ensures { IfOk result (λ edges. AreCallees program.now counts (map vec_items edges.items)) }
 {
     let count = program.funcs.len();
-    if count > 1 << 32 {
-        return Err(Limit::Unmet.past());
-    }
     let names = names_of(alloc, program)?;
     let taken = marks_of(alloc, count, names.as_slice())?;
     let mut edges = Vec::new(alloc);
@@ -170,6 +169,7 @@ pub(crate) fn graph(
 /// For each function those that it may call, rising: by name, or through a pointer of their type where their address is
 /// taken somewhere. A call by the kernel's service that calls back counts as one through a pointer.
 pub fn call_graph(alloc: Global, program: &Program) -> Result<Vec<Vec<u32>>, OutOfMemory>
+    requires { HasFewNumbers program.now }
     ensures { IfOk result (λ edges. AreCallees program.now true (map vec_items edges.items)) }
 {
     graph(alloc, program, true)

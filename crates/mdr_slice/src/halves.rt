@@ -2,6 +2,7 @@
 
 ghost use Rattle.std.specs.Prelude.{◌≡◌, ◌&&◌, [], IfOk, length, map, vec_items};
 ghost use Rattle.mdr_core.specs.Layout.{chosen};
+ghost use Rattle.mdr_core.specs.Sound.{HasFewNumbers};
 ghost use Rattle.mdr_paths.specs.Marking.{Tells, Adds};
 ghost use Rattle.mdr_slice.specs.Graph.{AreCallees};
 ghost use Rattle.mdr_slice.specs.Halves.{AreFunctions, AreHalves, HasDownStub, IsKernel};
@@ -23,7 +24,8 @@ pub struct Halves {
 
 /// Marks the functions of the kernel half.
 fn kernel_marks(alloc: Global, program: &Program, roots: &[u32]) -> Result<Vec<bool>, OutOfMemory>
-    requires { AreFunctions program.now roots.now }
+    requires few { HasFewNumbers program.now }
+    requires roots { AreFunctions program.now roots.now }
     ensures { IfOk result (λ marks. Tells (length program.now.funcs) (IsKernel program.now roots.now) marks.items) }
 {
     let edges = graph(alloc, program, false)?;
@@ -79,7 +81,8 @@ fn both(alloc: Global, one: &[bool], other: &[bool]) -> Result<Vec<bool>, AllocE
 
 /// Marks the functions with a down stub.
 fn down_marks(alloc: Global, program: &Program, kernel: &[bool]) -> Result<Vec<bool>, OutOfMemory>
-    requires { length kernel.now ≡ length program.now.funcs }
+    requires few { HasFewNumbers program.now }
+    requires marks { length kernel.now ≡ length program.now.funcs }
     ensures { IfOk result (λ marks. Tells (length program.now.funcs) (IsDown program.now kernel.now) marks.items) }
 {
     let edges = graph(alloc, program, true)?;
@@ -108,7 +111,8 @@ fn halves_by(alloc: Global, kernel: &[bool]) -> Result<Vec<Half>, AllocError>
 /// The half of each function: the kernel half has what a list of possible calls leads to from one of the roots, the user
 /// half all else. A call by the kernel's service that calls back isn't possible here; for down stubs it is.
 pub fn slice(alloc: Global, program: &Program, roots: &[u32]) -> Result<Halves, OutOfMemory>
-    requires { AreFunctions program.now roots.now }
+    requires few { HasFewNumbers program.now }
+    requires roots { AreFunctions program.now roots.now }
     ensures { IfOk result (λ halves. AreHalves program.now roots.now halves) }
 {
     let kernel = kernel_marks(alloc, program, roots)?;

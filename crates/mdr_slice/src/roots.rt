@@ -1,13 +1,14 @@
 // The roots: what must stay in the kernel.
 
 ghost use Rattle.std.specs.Prelude.{◌≡◌, ◌↔◌, ◌≤◌, IsTrue, IfOk, length};
+ghost use Rattle.mdr_core.specs.Sound.{HasFewNumbers};
 ghost use Rattle.mdr_paths.specs.Marking.{AreMarks, Tells};
 ghost use Rattle.mdr_slice.specs.Calls.{handlers_of};
 ghost use Rattle.mdr_slice.specs.Graph.{AreRoots, IsRoot};
 
 use crate::graph::{func_at, is_marked};
 use crate::handlers::handlers_of;
-use mdr_core::{Limit, OutOfMemory, Program};
+use mdr_core::{OutOfMemory, Program};
 use mdr_paths::{marked_nodes, marks_of};
 use std::alloc::{AllocError, Global};
 
@@ -38,12 +39,10 @@ fn root_marks(alloc: Global, program: &Program, handlers: &[bool]) -> Result<Vec
 
 /// The functions that are marked `__critical` or that `request_irq` is given, rising.
 pub fn roots_of(alloc: Global, program: &Program) -> Result<Vec<u32>, OutOfMemory>
+    requires { HasFewNumbers program.now }
     ensures { IfOk result (λ roots. AreRoots program.now roots.items) }
 {
     let count = program.funcs.len();
-    if count > 1 << 32 {
-        return Err(Limit::Unmet.past());
-    }
     let names = handlers_of(alloc, program)?;
     let handlers = marks_of(alloc, count, names.as_slice())?;
     let marks = root_marks(alloc, program, handlers.as_slice())?;

@@ -4,7 +4,6 @@ use Rattle.mdr_core.specs.Sound.{IsSound}
 use Rattle.mdr_body.specs.Uses.{first_use}
 use Rattle.mdr_source.specs.declared.outcome.Source.{Source}
 use Rattle.mdr_source.specs.Sources.{Comes}
-use Rattle.mdr_source.proofs.NothingBack.{body_calls_nothing_back}
 use Rattle.mdr_source.proofs.Whose.{come_source}
 use Rattle.mdr_sound.specs.Sources.{IsProgramOf}
 use Rattle.mdr_sound.proofs.Sourced.{sources_sound}
@@ -13,5 +12,4 @@ pub source_sound : (bytes : List ℕ) (source : Source) → Comes bytes (Ok sour
 source_sound bytes source comes =
     let s = come_source bytes source comes in
     let is : IsProgramOf bytes false first_use source.program = record { tokens = s.tokens; tree = source.tree; lexed = s.are_tokens; read = s.reads; typed = s.judged } in
-    sources_sound bytes false first_use source.program is s.types
-    (body_calls_nothing_back (source.program).funcs s.no_back)
+    sources_sound bytes false first_use source.program is s.numbers

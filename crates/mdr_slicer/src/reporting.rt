@@ -3,14 +3,14 @@
 ghost use Rattle.std.specs.Prelude.{◌≡◌, IfOk, OnErr};
 ghost use Rattle.mdr_core.specs.Sound.{IsSound};
 ghost use Rattle.mdr_due.specs.Reads.{WasRead, longest_source};
-ghost use Rattle.mdr_due.specs.Statuses.{HasReadCause};
+ghost use Rattle.mdr_due.specs.Statuses.{ReadCause};
 ghost use Rattle.mdr_slicer.specs.Slicing.{Reports, IsReported};
 
 use crate::sources::source_of;
 use mdr_core::{OutOfMemory, Program};
 use mdr_cut::report_text;
 use mdr_due::{Due, Stage, Status};
-use mdr_outside::Shelf;
+use mdr_outside::{Shelf, ShelfSeen};
 use std::alloc::Global;
 
 /// The report of a program.
@@ -29,7 +29,7 @@ pub fn report<S: Shelf>(alloc: Global, shelf: &mut S, name: &str) -> Result<Due,
     ensures done { IfOk result (λ due. Reports (S.files shelf.old) name.now (S.calls shelf.old) (S.calls shelf.new) due.status due.text.items) }
     ensures part { OnErr result (WasRead (S.files shelf.old) name.now longest_source (S.calls shelf.old) (S.calls shelf.new)) }
     ensures kept { S.files shelf.new ≡ S.files shelf.old }
-    ensures read { IfOk result (λ due. HasReadCause (record { faults = S.faults shelf.old; absent = S.absent shelf.old; long = S.long shelf.old }) (record { faults = S.faults shelf.new; absent = S.absent shelf.new; long = S.long shelf.new }) due.status) }
+    ensures read { IfOk result (λ due. ReadCause (⟦<S as ShelfSeen>⟧.side shelf.old) (⟦<S as ShelfSeen>⟧.side shelf.new) due.status) }
 {
     let source = match source_of(alloc, shelf, name) {
         Ok(Stage::Goes(source)) => source,

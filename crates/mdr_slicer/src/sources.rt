@@ -2,12 +2,12 @@
 
 ghost use Rattle.std.specs.Prelude.{◌≡◌, ◌≤◌, IfOk, OnErr};
 ghost use Rattle.mdr_due.specs.Reads.{WasRead, longest_source};
-ghost use Rattle.mdr_due.specs.Stages.{StageIs, HasStageCause};
+ghost use Rattle.mdr_due.specs.Stages.{StageCause, StageIs};
 ghost use Rattle.mdr_slicer.specs.Slicing.{HasSource, NoSource, IsSourceOf, NoSourceOf};
 
 use mdr_core::OutOfMemory;
 use mdr_due::{Due, Stage, Status, file};
-use mdr_outside::Shelf;
+use mdr_outside::{Shelf, ShelfSeen};
 use mdr_source::{Source, refusal_line, source};
 use std::alloc::Global;
 
@@ -36,7 +36,7 @@ pub fn source_of<S: Shelf>(
     ensures read { IfOk result (StageIs (IsSourceOf (S.files shelf.old) name.now (S.calls shelf.old) (S.calls shelf.new)) (NoSourceOf (S.files shelf.old) name.now (S.calls shelf.old) (S.calls shelf.new))) }
     ensures part { OnErr result (WasRead (S.files shelf.old) name.now longest_source (S.calls shelf.old) (S.calls shelf.new)) }
     ensures kept { S.files shelf.new ≡ S.files shelf.old }
-    ensures cause { IfOk result (HasStageCause (record { faults = S.faults shelf.old; absent = S.absent shelf.old; long = S.long shelf.old }) (record { faults = S.faults shelf.new; absent = S.absent shelf.new; long = S.long shelf.new })) }
+    ensures cause { IfOk result (StageCause (⟦<S as ShelfSeen>⟧.side shelf.old) (⟦<S as ShelfSeen>⟧.side shelf.new)) }
     ensures faults_later { S.faults shelf.old ≤ S.faults shelf.new }
     ensures absent_later { S.absent shelf.old ≤ S.absent shelf.new }
     ensures long_later { S.long shelf.old ≤ S.long shelf.new }

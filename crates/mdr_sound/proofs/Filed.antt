@@ -47,6 +47,6 @@ types_of_files program rules uses items e ranges steps =
     types_formed program rules items f.pieces f.right (file_made _ items program f) ranges steps
 
 pub files_sound : FilesAreSound
-files_sound program rules uses items e ranges proper sound all table back =
+files_sound program rules uses items e ranges proper sound all table numbers =
     let f = file_of _ uses items program e in
-    program_sound program rules items f.pieces f.right (file_made _ items program f) ranges proper all sound table back
+    program_sound program rules items f.pieces f.right (file_made _ items program f) ranges proper all sound table numbers

@@ -32,12 +32,13 @@ use Rattle.mdr_check.specs.declared.variable.Variable.{Variable}
 use Rattle.mdr_check.specs.Files.{behind_item, known_behind, first_known, pieces_behind, body_scope}
 use Rattle.mdr_body.specs.Bodies.{body_rule}
 use Rattle.mdr_body.specs.Statements.{Rules}
+use Rattle.mdr_lower.proofs.PlainForms.{lowered_same}
 use Rattle.mdr_program.specs.declared.parts.Parts.{Parts}
 use Rattle.mdr_program.specs.Parts.{marked, remote, whole, behind_piece, parts_behind, no_parts}
 use Rattle.mdr_program.specs.Occurring.{shape_types, allocated, allocated_in}
 use Rattle.mdr_program.specs.Orders.{IsAmong}
 use Rattle.mdr_sound_code.specs.Knowing.{IsFormed, Knows}
-use Rattle.mdr_sound_bodies.specs.Allocating.{AllocateFormed, AreFormedSteps}
+use Rattle.mdr_sound_bodies.specs.Allocating.{ArePlainFormed, AreFormedSteps}
 use Rattle.mdr_sound_bodies.specs.Within.{KnowsDeclarations}
 use Rattle.mdr_sound_bodies.proofs.AllocatingLines.{allocations_formed}
 use Rattle.mdr_sound_bodies.proofs.Making.{locals_formed}
@@ -61,7 +62,7 @@ use Rattle.mdr_sound.proofs.Viewed.{Comes, OfDefine, OfStruct, OfEnum, OfGlobal,
 
 abbrev IsBodyFormed : Program → Option (List Stmt) → Type 0
 IsBodyFormed program None = Unit {0}
-IsBodyFormed program (Some body) = AllocateFormed program (codes_of body)
+IsBodyFormed program (Some body) = ArePlainFormed program (codes_of body)
 
 -- the types of a function
 record IsFormedFunc (program : Program) (f : Func) : Type 0 where
@@ -171,7 +172,7 @@ module _ (program : Program) (rules : Rules) (items : List Item) (xs : List Piec
       record {
         params = marked_formed program body.objects g.params (heading_formed before known ps h true g e b q low);
         locals = locals_formed program rules scope h nodes body (knows_there known ps scope q st (scope_structs known h)) f;
-        body = (allocations_formed program scope rules (steps scope st.knows)).bodies h nodes body f;
+        body = subst (ArePlainFormed program) (sym (lowered_same body.statements)) ((allocations_formed program scope rules (steps scope st.knows)).bodies h nodes body f);
       }
 
   one_formed : (fs : List Func) (f g : Func) → ((i : ℕ) (f : Func) → slice_get fs i ≡ Some f → IsFormedFunc program f) → IsFormedFunc program f → (i : ℕ) → (slice_get fs i ≡ Some g) ⊎ (f ≡ g) → IsFormedFunc program g
@@ -234,7 +235,7 @@ module _ (program : Program) (rules : Rules) (items : List Item) (xs : List Piec
   func_at : (f : ℕ) (func : Func) → slice_get program.funcs f ≡ Some func → IsFormedFunc program func
   func_at f func e = all_formed.funcs f func (ap (λ fs. slice_get fs f) (sym made.funcs) ∙ e)
 
-  body_at : (f : ℕ) (func : Func) (body : List Stmt) → slice_get program.funcs f ≡ Some func → func.body ≡ Some body → AllocateFormed program (codes_of body)
+  body_at : (f : ℕ) (func : Func) (body : List Stmt) → slice_get program.funcs f ≡ Some func → func.body ≡ Some body → ArePlainFormed program (codes_of body)
   body_at f func body e is = subst (IsBodyFormed program) is (func_at f func e).body
 
   -- each type that occurs in the program of a file without faults is a type of objects

@@ -1,15 +1,16 @@
 -- What is given to an object or to the caller is given as in a sound program.
 use Rattle.std.proofs.Common.{◌≡◌, List, length, Some, subst}
-use Rattle.mdr_core.specs.declared.code.CallForm.{CallForm}
-use Rattle.mdr_core.specs.declared.code.Lval.{Lval}
-use Rattle.mdr_core.specs.declared.code.Step.{Step}
-use Rattle.mdr_core.specs.declared.code.Step.TheVariants as step
+use Rattle.mdr_rich.specs.declared.code.CallForm.{CallForm}
+use Rattle.mdr_rich.specs.declared.code.Lval.{Lval}
+use Rattle.mdr_rich.specs.declared.code.Step.{Step}
+use Rattle.mdr_rich.specs.declared.code.Step.TheVariants as step
 use Rattle.mdr_core.specs.declared.place.Place.{Place}
 use Rattle.mdr_core.specs.declared.program.Program.{Program}
 use Rattle.mdr_core.specs.declared.types.Ty.{Ty}
-use Rattle.mdr_core.specs.Folds.{lvalue_of}
+use Rattle.mdr_rich.specs.Folds.{lvalue_of}
 use Rattle.mdr_core.specs.Types.{Scalar, Becomes, sort_of}
-use Rattle.mdr_core.specs.Typing.{Slot, One, Designates}
+use Rattle.mdr_core.specs.Typing.{Slot, One}
+use Rattle.mdr_rich.specs.Typing.{Designates}
 use Rattle.mdr_faults.specs.declared.fault.FaultKind.TheVariants.{Mismatch}
 use Rattle.mdr_faults.specs.declared.scope.Scope.{Scope}
 use Rattle.mdr_faults.specs.Faults.{Right}

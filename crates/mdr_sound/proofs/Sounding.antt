@@ -13,7 +13,7 @@ use Rattle.mdr_core.specs.declared.types.Ty.{Ty}
 use Rattle.mdr_core.specs.Folds.{codes_of}
 use Rattle.mdr_core.specs.declared.program.Field.{Field}
 use Rattle.mdr_core.specs.Layout.{AreSmall, AreFew, fields_or, fields_of, field_leaves, leaves_below, struct_cells}
-use Rattle.mdr_core.specs.Sound.{IsCount, IsSoundStruct, IsSoundGlobal, IsSoundFunc, IsSound, IsTable}
+use Rattle.mdr_core.specs.Sound.{IsCount, IsSoundStruct, IsSoundGlobal, IsSoundFunc, IsSound, IsTable, HasFewNumbers}
 use Rattle.mdr_core.specs.Typing.{Slot}
 use Rattle.mdr_core.specs.Types.{HasNumber}
 use Rattle.mdr_core.specs.TypeText as occurs
@@ -41,17 +41,17 @@ use Rattle.mdr_program.specs.Parts.{marked, remote, whole, behind_piece, parts_b
 use Rattle.mdr_program.specs.Programs.{global_def, global_defs}
 use Rattle.mdr_program.proofs.Happening.{allocates_in}
 use Rattle.mdr_sound_code.specs.Knowing.{Knows}
-use Rattle.mdr_sound_bodies.specs.Grounded.{AreGrounded}
+use Rattle.mdr_sound_bodies.specs.Grounded.{ArePlainGrounded}
 use Rattle.mdr_sound_bodies.specs.Rules.{AreSoundRules}
 use Rattle.mdr_sound_bodies.specs.Within.{KnowsDeclarations}
 use Rattle.mdr_sound_bodies.specs.Written.{AreNamed, AreProper}
 use Rattle.mdr_sound_bodies.specs.Bodies.{IsMade}
-use Rattle.mdr_sound_bodies.proofs.Making.{made_sound}
+use Rattle.mdr_sound_bodies.proofs.Making.{body_grounded, made_sound}
 use Rattle.mdr_sound.specs.Counting.{Begins}
 use Rattle.mdr_sound.specs.Declared.{IsSoundHeading}
 use Rattle.mdr_sound.specs.Globals.{HasVariables, StandsAmong}
 use Rattle.mdr_sound.specs.Standing.{Stands}
-use Rattle.mdr_sound.specs.Whole.{HasAll, IsMadeOf, CallsNothingBack, AreDefinesInRange, IsBodyProper, AreBodiesProper}
+use Rattle.mdr_sound.specs.Whole.{HasAll, IsMadeOf, AreDefinesInRange, IsBodyProper, AreBodiesProper}
 use Rattle.mdr_sound.proofs.Along.{IsPlace, GoesOn, along, counted_all}
 use Rattle.mdr_sound.proofs.CountedItems.{last_or_before, ruled}
 use Rattle.mdr_sound.proofs.Declaring.{put_named, keep_named, defined_put, declared_keep}
@@ -102,7 +102,7 @@ proper_at (b ∷ bs) more i all = proper_at bs more i all.1
 
 abbrev IsBodyGrounded : Program → Option (List Stmt) → Type 0
 IsBodyGrounded program None = Unit {0}
-IsBodyGrounded program (Some body) = AreGrounded program (codes_of body)
+IsBodyGrounded program (Some body) = ArePlainGrounded program (codes_of body)
 
 -- the types of a function are in the table, and it calls nothing back
 pub record IsPlaced (program : Program) (f : Func) : Type 0 where
@@ -222,7 +222,7 @@ module _ (program : Program) (rules : Rules) (items : List Item) (xs : List Piec
       let scope = body_scope known h in
       let st = function_stands program (body_rule rules) items xs right made ranges known h headed q.stands low in
       let declarations = knows_declarations known ps scope q st (body_scope_structs known h) in
-      let is_made : IsMade program rules scope h nodes g b = record { front = known.scope; tags = body_scope_tags known h; heading_is = headed.listed; body_is = f; named = written.0; proper = written.1; in_table = placed.locals; grounded = placed.body } in
+      let is_made : IsMade program rules scope h nodes g b = record { front = known.scope; tags = body_scope_tags known h; heading_is = headed.listed; body_is = f; named = written.0; proper = written.1; in_table = placed.locals; grounded = body_grounded program b.statements placed.body } in
       let sound = made_sound program rules scope h nodes g b h.name is_critical declarations (sound_rules scope st.knows) is_made in
       whole_sound program h.name is_critical g b (head_sound known ps h headed q low (head_params program b.objects g.params placed.params)) sound.locals sound.body
 
@@ -281,8 +281,8 @@ module _ (program : Program) (rules : Rules) (items : List Item) (xs : List Piec
       let v = global_from program.types program.structs Whole.variables Whole.variables g def (ap (λ gs. slice_get gs g) (sym globals_are) ∙ e) in
       subst (IsSoundGlobal program g) v.2 (all_sound.globals g v.0 v.1 v.1)
 
-  pub func_placed : (f : ℕ) (func : Func) → slice_get program.funcs f ≡ Some func → CallsNothingBack program → IsPlaced program func
-  func_placed f func e back = record {
+  pub func_placed : (f : ℕ) (func : Func) → slice_get program.funcs f ≡ Some func → IsPlaced program func
+  func_placed f func e = record {
     params = λ i p n. all p.ty (occurs.OfParam f i func p e n refl);
     locals = λ i l n object. all l.ty (occurs.OfLocal f i func l e n refl);
     body = by func.body refl;
@@ -290,13 +290,10 @@ module _ (program : Program) (rules : Rules) (items : List Item) (xs : List Piec
     where
       by : (o : Option (List Stmt)) → func.body ≡ o → IsBodyGrounded program o
       by None q = tt
-      by (Some body) q = record {
-        types = λ t m. all t (occurs.OfAllocation f func body e q (allocates_in t (codes_of body) m));
-        no_back = back f func body e q;
-      }
+      by (Some body) q = record { types = λ t m. all t (occurs.OfAllocation f func body e q (allocates_in t (codes_of body) m)) }
 
-  funcs_sound : CallsNothingBack program → (f : ℕ) (func : Func) → slice_get program.funcs f ≡ Some func → IsSoundFunc program func
-  funcs_sound back f func e = all_sound.funcs f func (ap (λ fs. slice_get fs f) (sym made.funcs) ∙ e) (func_placed f func e back)
+  funcs_sound : (f : ℕ) (func : Func) → slice_get program.funcs f ≡ Some func → IsSoundFunc program func
+  funcs_sound f func e = all_sound.funcs f func (ap (λ fs. slice_get fs f) (sym made.funcs) ∙ e) (func_placed f func e)
 
   no_fields : (s : ℕ) → slice_get program.structs s ≡ None → fields_of program.structs s ≡ []
   no_fields s e = ap fields_or e
@@ -318,13 +315,14 @@ module _ (program : Program) (rules : Rules) (items : List Item) (xs : List Piec
   few : AreFew program.structs
   few = record { within = λ s. inside_or_not (λ n. length (fields_of program.structs n) ≤ 64) s (λ less. all_standing.few s (subst (λ n. s < n) (sym structs_many) less)) (λ none. let zero_is : length (fields_of program.structs s) ≡ 0 = ap length (no_fields s none) in omega (arith, zero_is)) }
 
-  -- a program of a file without faults is sound, if its type table is, and it calls nothing back
-  pub program_sound : IsTable program → CallsNothingBack program → IsSound program
-  program_sound table back = record {
+  -- a program of a file without faults is sound, if its type table is, and its numbers are few
+  pub program_sound : IsTable program → HasFewNumbers program → IsSound program
+  program_sound table numbers = record {
     small = small;
     few = few;
     table = table;
     structs = structs_sound;
     globals = globals_sound;
-    funcs = funcs_sound back;
+    funcs = funcs_sound;
+    numbers = numbers;
   }

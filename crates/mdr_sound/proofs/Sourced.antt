@@ -1,5 +1,5 @@
 -- The program of a source is sound: the parts of the law together.
-use Rattle.std.proofs.Common.{◌≡◌, ℕ, zero, suc, ◌≤◌, Bool, List, [], ◌∷◌, length, Some, slice_get, refl, sym, ap, ◌∙◌, subst, IsTrue, ◌⊎◌, inl, inr}
+use Rattle.std.proofs.Common.{◌≡◌, ℕ, zero, suc, ◌≤◌, Bool, List, [], ◌∷◌, length, Some, slice_get, arith, refl, sym, ap, ◌∙◌, subst, IsTrue, ◌⊎◌, inl, inr}
 use Rattle.std.specs.List.{list_all}
 use Rattle.mdr_core.specs.declared.program.Program.{Program}
 use Rattle.mdr_core.specs.declared.types.Ty.{Ty}
@@ -109,7 +109,8 @@ sources_have_tables bytes halves uses program is =
     tables_of_files_are_in_order (body_rule profile_rules) uses (is.tree).items program (words_of (is.tree).items proper) is.typed (formed_pointers program uses (is.tree).items is.typed proper)
 
 pub sources_sound : SourcesAreSound
-sources_sound bytes halves uses program is few back =
+sources_sound bytes halves uses program is numbers =
+    let types = numbers.types in
     let proper = bytes_proper bytes halves is.tokens is.tree is.lexed is.read in
     let items = (is.tree).items in
-    files_sound program profile_rules uses items is.typed (ranges_of items proper) (bodies_of items proper) (λ scope known slots. profile_sound program slots scope known) (has_all program uses items is.typed proper few) (sources_have_tables bytes halves uses program is).table back
+    files_sound program profile_rules uses items is.typed (ranges_of items proper) (bodies_of items proper) (λ scope known slots. profile_sound program slots scope known) (has_all program uses items is.typed proper (omega (arith, types))) (sources_have_tables bytes halves uses program is).table numbers

@@ -32,7 +32,7 @@ module _ (program : Program) (slots : List Slot) (scope : Scope) (names : List L
     pub calls_known : (p : Place) (f : Written) (args : Writtens) (call : TypedCall) → HasNumbers (Written.Call p f args) → TakesNoSlot names (Written.Call p f args) → call_at scope names p f args ≡ Right call → Calls program slots call.form call.result
     unfolding call_at
     calls_known p f args call h t e = record {
-      gives = λ s. call_known program slots scope names knows locals p call s.in_table s.no_back f args h.0 (inside_callee names p f args t) h.1 (inside_arguments names p f args t) e;
+      gives = λ s. call_known program slots scope names knows locals p call s.in_table f args h.0 (inside_callee names p f args t) h.1 (inside_arguments names p f args t) e;
     }
 
     call_source_known : (w : Written) (p : Place) (call : TypedCall) (s : Source) → Calls program slots call.form call.result → call_source p call ≡ Right s → IsKnownSource w s

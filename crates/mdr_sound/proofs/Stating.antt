@@ -1,6 +1,6 @@
 -- Assignments, statements that are expressions, initialisers and returns keep to the rules of sound programs.
 use Rattle.std.proofs.Common.{◌≡◌, ℕ, List, Option, Some, None, subst}
-use Rattle.mdr_core.specs.declared.code.Step.{Step}
+use Rattle.mdr_rich.specs.declared.code.Step.{Step}
 use Rattle.mdr_core.specs.declared.place.Place.{Place}
 use Rattle.mdr_core.specs.declared.program.Program.{Program}
 use Rattle.mdr_core.specs.declared.types.Ty.{Ty}

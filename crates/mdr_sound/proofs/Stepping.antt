@@ -1,44 +1,33 @@
 -- Steps keep to the rules of sound programs, by their forms.
-use Rattle.std.proofs.Common.{◌≡◌, ℕ, true, false, List, Option, Some, refl, sym, ap, ◌∙◌, subst, inl}
-use Rattle.mdr_core.specs.declared.code.CallForm.{CallForm}
-use Rattle.mdr_core.specs.declared.code.Callee.{Callee}
-use Rattle.mdr_core.specs.declared.code.Callee.TheVariants as callee
-use Rattle.mdr_core.specs.declared.code.Expr.{Expr}
-use Rattle.mdr_core.specs.declared.code.Lval.{Lval}
-use Rattle.mdr_core.specs.declared.code.Step.{Step}
-use Rattle.mdr_core.specs.declared.code.Step.TheVariants as step
+use Rattle.std.proofs.Common.{◌≡◌, ℕ, List, Option, Some, refl, sym, ◌∙◌, subst, inl}
+use Rattle.mdr_rich.specs.declared.code.CallForm.{CallForm}
+use Rattle.mdr_rich.specs.declared.code.Expr.{Expr}
+use Rattle.mdr_rich.specs.declared.code.Lval.{Lval}
+use Rattle.mdr_rich.specs.declared.code.Step.{Step}
+use Rattle.mdr_rich.specs.declared.code.Step.TheVariants as step
 use Rattle.mdr_core.specs.declared.program.Program.{Program}
 use Rattle.mdr_core.specs.declared.types.Ty.{Ty}
-use Rattle.mdr_core.specs.Code.{Goal, Code}
-use Rattle.mdr_core.specs.Folds.{code_of, call_of, called_of, goal_of, lvalue_of, term_of}
+use Rattle.mdr_rich.specs.Code.{Goal, Code}
+use Rattle.mdr_rich.specs.Folds.{code_of, call_of, goal_of, lvalue_of, term_of}
 use Rattle.mdr_core.specs.Types.{HasNumber}
-use Rattle.mdr_core.specs.Typing.{Slot, CallGives, GoesTo, IsAssignment, IsTyped, Returns}
-use Rattle.mdr_core.proofs.Coded.{code_is, assign_is, call_is, return_is, return_call_is}
+use Rattle.mdr_core.specs.Typing.{Slot}
+use Rattle.mdr_rich.specs.Typing.{CallGives, GoesTo, IsAssignment, IsTyped, Returns}
+use Rattle.mdr_rich.proofs.Coded.{code_is, assign_is, call_is, return_is, return_call_is}
 use Rattle.mdr_body.specs.Statements.{stmt}
 use Rattle.mdr_program.specs.Occurring.{shape_types}
 use Rattle.mdr_program.specs.Orders.{IsAmong}
-use Rattle.mdr_body.specs.Backs.{is_back}
 use Rattle.mdr_sound_bodies.specs.Grounded.{IsGrounded}
 use Rattle.mdr_sound_bodies.specs.Rules.{IsSoundStep}
 use Rattle.mdr_sound_bodies.proofs.Stating.{step_is}
 
 -- ---- what a call asks of the program
 
--- the type that it names is in the table, and nothing is called back
+-- the type that it names is in the table
 pub record IsSettled (program : Program) (form : CallForm) : Type 0 where
   pub in_table : (t : Ty) → form.shape ≡ Some t → HasNumber program t
-  pub no_back : ◌≡◌ {A = Callee} form.callee (callee.Service 15) → ⊥
-
-not_back : (c : Callee) → is_back (called_of c) ≡ false → ◌≡◌ {A = Callee} c (callee.Service 15) → ⊥
-not_back c h e =
-    let q : true ≡ false = sym (ap (λ (x : Callee). is_back (called_of x)) e) ∙ h in
-    absurd cc
 
 pub settled : (program : Program) (n : ℕ) (goal : Goal) (form : CallForm) → IsGrounded program (Code.Call n goal (call_of form)) → IsSettled program form
-settled program n goal form g = record {
-  in_table = λ t is. g.types t (subst (λ (o : Option Ty). IsAmong t (shape_types o)) (sym is) (inl refl));
-  no_back = not_back form.callee g.no_back;
-}
+settled program n goal form g = record { in_table = λ t is. g.types t (subst (λ (o : Option Ty). IsAmong t (shape_types o)) (sym is) (inl refl)) }
 
 -- what is called takes these arguments and gives a value of the type, if the call is settled
 pub record Calls (program : Program) (slots : List Slot) (form : CallForm) (given : Ty) : Type 0 where

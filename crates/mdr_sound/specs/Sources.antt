@@ -1,8 +1,8 @@
 -- for proofs
 -- The program of a source in which no fault is found is sound.
-use Rattle.std.specs.Prelude.{◌≡◌, ℕ, ◌≤◌, Bool, List, length, Ok}
+use Rattle.std.specs.Prelude.{◌≡◌, ℕ, Bool, List, Ok}
 use Rattle.mdr_core.specs.declared.program.Program.{Program}
-use Rattle.mdr_core.specs.Sound.{IsSound}
+use Rattle.mdr_core.specs.Sound.{HasFewNumbers, IsSound}
 use Rattle.mdr_core.specs.TypeText.{IsOrderedTable}
 use Rattle.mdr_syntax.specs.declared.token.Token.{Token}
 use Rattle.mdr_syntax.specs.declared.tree.Tree.{Tree}
@@ -13,7 +13,6 @@ use Rattle.mdr_check.specs.Uses.{UseRule}
 use Rattle.mdr_body.specs.Bodies.{body_rule}
 use Rattle.mdr_program.specs.Programs.{typed}
 use Rattle.mdr_typing.specs.Profile.{profile_rules}
-use Rattle.mdr_sound.specs.Whole.{CallsNothingBack}
 
 -- the source's tree comes to the program by the rules of types
 pub record IsProgramOf (bytes : List ℕ) (halves : Bool) (uses : UseRule) (program : Program) : Type 0 where
@@ -27,6 +26,6 @@ pub record IsProgramOf (bytes : List ℕ) (halves : Bool) (uses : UseRule) (prog
 abbrev pub SourcesHaveOrderedTables : Type 0
 SourcesHaveOrderedTables = (bytes : List ℕ) (halves : Bool) (uses : UseRule) (program : Program) → IsProgramOf bytes halves uses program → IsOrderedTable program
 
--- the program is sound, if its types have numbers of 32 bits, and it doesn't call back
+-- the program is sound, if its types, globals, structs and functions are few
 abbrev pub SourcesAreSound : Type 0
-SourcesAreSound = (bytes : List ℕ) (halves : Bool) (uses : UseRule) (program : Program) → IsProgramOf bytes halves uses program → length program.types ≤ 4294967296 → CallsNothingBack program → IsSound program
+SourcesAreSound = (bytes : List ℕ) (halves : Bool) (uses : UseRule) (program : Program) → IsProgramOf bytes halves uses program → HasFewNumbers program → IsSound program

@@ -1,10 +1,6 @@
 -- for proofs
 -- A program and the parts of the file that it comes from.
-use Rattle.std.specs.Prelude.{◌≡◌, ℕ, false, List, [], ◌∷◌, Some, slice_get, IsTrue}
-use Rattle.mdr_core.specs.declared.code.Stmt.{Stmt}
-use Rattle.mdr_core.specs.declared.program.Func.{Func}
-use Rattle.mdr_core.specs.Folds.{codes_of}
-use Rattle.mdr_body.specs.Backs.{call_back}
+use Rattle.std.specs.Prelude.{◌≡◌, List, [], ◌∷◌, IsTrue}
 use Rattle.mdr_core.specs.declared.program.Program.{Program}
 use Rattle.mdr_core.specs.declared.types.Ty.{Ty}
 use Rattle.mdr_core.specs.Kinds.{is_in_range}
@@ -28,10 +24,6 @@ pub record IsMadeOf (program : Program) (ps : Parts) : Type 0 where
 -- each type that occurs stands in the type table
 abbrev pub HasAll : Program → Type 0
 HasAll program = (t : Ty) → Occurs program t → HasNumber program t
-
--- no function calls the service that calls back
-abbrev pub CallsNothingBack : Program → Type 0
-CallsNothingBack program = (f : ℕ) (func : Func) (body : List Stmt) → slice_get program.funcs f ≡ Some func → func.body ≡ Some body → call_back (codes_of body) ≡ false
 
 -- ---- what the source is made of
 

@@ -8,7 +8,7 @@ pub fn sources_have_ordered_tables()
     ensures { SourcesHaveOrderedTables }
 {}
 
-/// And its program is sound, if it calls nothing back and its types have numbers of 32 bits.
+/// And its program is sound, if its types, globals, structs and functions are few.
 pub fn sources_are_sound()
     ensures { SourcesAreSound }
 {}

@@ -1,15 +1,17 @@
 -- Code that is joined allocates what its parts allocate.
 use Rattle.std.proofs.Common.{◌≡◌, ⊎_elim, ℕ, List, [], ◌∷◌, ◌++◌, map, Option, refl, sym, ◌∙◌, subst}
 use Rattle.std.specs.Option.{option_map}
-use Rattle.mdr_core.specs.declared.code.Expr.{Expr}
-use Rattle.mdr_core.specs.declared.code.Step.{Step}
-use Rattle.mdr_core.specs.declared.code.Step.TheVariants as step
-use Rattle.mdr_core.specs.declared.code.Stmt.{Stmt}
+use Rattle.mdr_rich.specs.declared.code.Expr.{Expr}
+use Rattle.mdr_rich.specs.declared.code.Step.{Step}
+use Rattle.mdr_rich.specs.declared.code.Step.TheVariants as step
+use Rattle.mdr_rich.specs.declared.code.Stmt.{Stmt}
 use Rattle.mdr_core.specs.declared.program.Program.{Program}
-use Rattle.mdr_core.specs.Code.{Term, Code, Codes, Way}
-use Rattle.mdr_core.specs.Folds.{code_of, codes_of, before, term_of, test_of}
-use Rattle.mdr_core.proofs.Coded.{code_is, declare_is, text_is, if_is, while_is, for_is, return_is, break_is, continue_is, empty_is, block_is}
+use Rattle.mdr_core.specs.Code.{Way}
+use Rattle.mdr_rich.specs.Code.{Term, Code, Codes}
+use Rattle.mdr_rich.specs.Folds.{code_of, codes_of, before, term_of, test_of}
+use Rattle.mdr_rich.proofs.Coded.{code_is, declare_is, text_is, if_is, while_is, for_is, return_is, break_is, continue_is, empty_is, block_is}
 use Rattle.mdr_body.specs.Statements.{stmt}
+use Rattle.mdr_lower.specs.Plain.{plain_code, plain_codes}
 use Rattle.mdr_program.specs.Occurring.{allocated, allocated_in}
 use Rattle.mdr_sound_bodies.specs.Allocating.{AllocatesFormed, AllocateFormed, IsFormedStep}
 use Rattle.mdr_sound_bodies.proofs.Coding.{among_left, among_right, among_one}
@@ -21,16 +23,16 @@ module _ (program : Program) where
   formed_none t m = absurd m
 
   pub formed_then : (c : Code) (cs : Codes) → AllocatesFormed program c → AllocateFormed program cs → AllocateFormed program (Codes.Then c cs)
-  formed_then c cs h k t m = ⊎_elim (h t) (k t) (among_one t (allocated c) (allocated_in cs) m)
+  formed_then c cs h k t m = ⊎_elim (h t) (k t) (among_one t (allocated (plain_code c)) (allocated_in (plain_codes cs)) m)
 
   pub formed_one : (n : ℕ) (s : Step) → IsFormedStep program s → AllocateFormed program (codes_of (stmt n s ∷ []))
   formed_one n s h = formed_then (code_of (stmt n s)) Codes.End (h n) formed_none
 
   formed_head : (c : Code) (cs : Codes) → AllocateFormed program (Codes.Then c cs) → AllocatesFormed program c
-  formed_head c cs h t m = h t (among_left t (allocated c) (allocated_in cs) m)
+  formed_head c cs h t m = h t (among_left t (allocated (plain_code c)) (allocated_in (plain_codes cs)) m)
 
   formed_tail : (c : Code) (cs : Codes) → AllocateFormed program (Codes.Then c cs) → AllocateFormed program cs
-  formed_tail c cs h t m = h t (among_right t (allocated c) (allocated_in cs) m)
+  formed_tail c cs h t m = h t (among_right t (allocated (plain_code c)) (allocated_in (plain_codes cs)) m)
 
   pub formed_joined : (xs ys : List Stmt) → AllocateFormed program (codes_of xs) → AllocateFormed program (codes_of ys) → AllocateFormed program (codes_of (xs ++ ys))
   formed_joined [] ys h k = k
@@ -71,10 +73,10 @@ module _ (program : Program) where
   pub if_formed : (e : Expr) (one other : List Stmt) → AllocateFormed program (codes_of one) → AllocateFormed program (codes_of other) → IsFormedStep program (step.If e one other)
   if_formed e one other h k =
       step_formed (step.If e one other) (λ n. Code.If n (term_of e) (codes_of one) (codes_of other)) (λ n. code_is (stmt n (step.If e one other)) (step.If e one other) refl ∙ if_is n e one other)
-      (λ n t m. ⊎_elim (h t) (k t) (among_one t (allocated_in (codes_of one)) (allocated_in (codes_of other)) m))
+      (λ n t m. ⊎_elim (h t) (k t) (among_one t (allocated_in (plain_codes (codes_of one))) (allocated_in (plain_codes (codes_of other))) m))
 
   loop_formed : (n : ℕ) (e : Term) (next body : Codes) → AllocateFormed program next → AllocateFormed program body → AllocatesFormed program (Code.Loop n e next body)
-  loop_formed n e next body h k t m = ⊎_elim (h t) (k t) (among_one t (allocated_in next) (allocated_in body) m)
+  loop_formed n e next body h k t m = ⊎_elim (h t) (k t) (among_one t (allocated_in (plain_codes next)) (allocated_in (plain_codes body)) m)
 
   pub while_formed : (e : Expr) (body : List Stmt) → AllocateFormed program (codes_of body) → IsFormedStep program (step.While e body)
   while_formed e body h =

@@ -1,13 +1,13 @@
 -- What statements come to allocates objects of types of objects, if what the rules of what stands in them give does.
 use Rattle.std.proofs.Common.{◌≡◌, ℕ, Bool, true, false, List, [], ◌∷◌, ◌++◌, Option, Some, None, subst}
-use Rattle.mdr_core.specs.declared.code.Expr.{Expr}
-use Rattle.mdr_core.specs.declared.code.Step.{Step}
-use Rattle.mdr_core.specs.declared.code.Step.TheVariants as step
-use Rattle.mdr_core.specs.declared.code.Stmt.{Stmt}
+use Rattle.mdr_rich.specs.declared.code.Expr.{Expr}
+use Rattle.mdr_rich.specs.declared.code.Step.{Step}
+use Rattle.mdr_rich.specs.declared.code.Step.TheVariants as step
+use Rattle.mdr_rich.specs.declared.code.Stmt.{Stmt}
 use Rattle.mdr_core.specs.declared.place.Place.{Place}
 use Rattle.mdr_core.specs.declared.program.Program.{Program}
 use Rattle.mdr_core.specs.declared.types.Ty.{Ty}
-use Rattle.mdr_core.specs.Folds.{codes_of}
+use Rattle.mdr_rich.specs.Folds.{codes_of}
 use Rattle.mdr_syntax.specs.declared.tree.Decl.{Decl, out-Decl}
 use Rattle.mdr_syntax.specs.declared.tree.Head.{Head}
 use Rattle.mdr_syntax.specs.declared.tree.Node.{Node}
@@ -138,7 +138,7 @@ module _ (program : Program) where
     simple_gives frame in_loop here t (Line.While p w body) = λ ss e. not_right _ ss e
     simple_gives frame in_loop here t (Line.For p init test next body) = λ ss e. not_right _ ss e
     simple_gives frame in_loop here t (Line.Do p body w) = λ ss e. not_right _ ss e
-    simple_gives frame in_loop here t (Line.Switch p w) = λ ss e. not_right _ ss e
+    simple_gives frame in_loop here t (Line.Switch p w cs) = λ ss e. not_right _ ss e
     simple_gives frame in_loop here t (Line.Return p w) = gives_stated here.number (return_step rules scope frame here p w) (return_gives frame here p w)
     simple_gives frame in_loop here t (Line.Break p) = gives_stated here.number (jumped p in_loop step.Break) (jump_gives p in_loop step.Break (break_formed program))
     simple_gives frame in_loop here t (Line.Continue p) = gives_stated here.number (jumped p in_loop step.Continue) (jump_gives p in_loop step.Continue (continue_formed program))

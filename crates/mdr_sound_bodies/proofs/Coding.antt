@@ -1,20 +1,20 @@
 -- Code that is joined: its types, and what it asks of the type table.
 use Rattle.std.proofs.Common.{◌⊎◌, inl, inr, ⊎_elim, ℕ, ◌≤◌, Bool, true, false, List, [], ◌∷◌, ◌++◌, map, Option, refl, sym, ◌∙◌, subst}
-use Rattle.mdr_core.specs.declared.code.Expr.{Expr}
-use Rattle.mdr_core.specs.declared.code.Step.TheVariants as step
-use Rattle.mdr_core.specs.declared.code.Stmt.{Stmt}
+use Rattle.mdr_rich.specs.declared.code.Expr.{Expr}
+use Rattle.mdr_rich.specs.declared.code.Step.TheVariants as step
+use Rattle.mdr_rich.specs.declared.code.Stmt.{Stmt}
 use Rattle.mdr_core.specs.declared.program.Program.{Program}
 use Rattle.mdr_core.specs.declared.types.Ty.{Ty}
-use Rattle.mdr_core.specs.Code.{Term, Code, Codes}
-use Rattle.mdr_core.specs.Folds.{code_of, codes_of, before, term_of, test_of}
-use Rattle.mdr_core.specs.Typing.{Slot, Has, IsCondition, IsTyped, AreTyped}
-use Rattle.mdr_core.proofs.Coded.{code_is, if_is, while_is, for_is, block_is}
+use Rattle.mdr_rich.specs.Code.{Term, Code, Codes}
+use Rattle.mdr_rich.specs.Folds.{code_of, codes_of, before, term_of, test_of}
+use Rattle.mdr_core.specs.Typing.{Slot, IsCondition}
+use Rattle.mdr_rich.specs.Typing.{Has, IsTyped, AreTyped}
+use Rattle.mdr_rich.proofs.Coded.{code_is, if_is, while_is, for_is, block_is}
 use Rattle.mdr_body.specs.Statements.{stmt}
+use Rattle.mdr_lower.specs.Plain.{plain_code, plain_codes}
 use Rattle.mdr_program.specs.Occurring.{allocated, allocated_in}
 use Rattle.mdr_program.specs.Orders.{IsAmong}
-use Rattle.mdr_body.specs.Backs.{calls_back, call_back}
 use Rattle.mdr_sound_bodies.specs.Grounded.{IsGrounded, AreGrounded}
-use Rattle.mdr_sound_bodies.proofs.Joined.{or_left, or_right, or_both}
 
 -- ---- types of joined lists
 
@@ -36,19 +36,16 @@ module _ (program : Program) where
   -- ---- what code asks of the table, by its parts
 
   pub grounded_head : (c : Code) (cs : Codes) → AreGrounded program (Codes.Then c cs) → IsGrounded program c
-  grounded_head c cs g = record { types = λ t h. g.types t (among_left t (allocated c) (allocated_in cs) h); no_back = or_left (calls_back c) (call_back cs) g.no_back }
+  grounded_head c cs g = record { types = λ t h. g.types t (among_left t (allocated (plain_code c)) (allocated_in (plain_codes cs)) h) }
 
   pub grounded_tail : (c : Code) (cs : Codes) → AreGrounded program (Codes.Then c cs) → AreGrounded program cs
-  grounded_tail c cs g = record { types = λ t h. g.types t (among_right t (allocated c) (allocated_in cs) h); no_back = or_right (calls_back c) (call_back cs) g.no_back }
+  grounded_tail c cs g = record { types = λ t h. g.types t (among_right t (allocated (plain_code c)) (allocated_in (plain_codes cs)) h) }
 
   pub grounded_then : (c : Code) (cs : Codes) → IsGrounded program c → AreGrounded program cs → AreGrounded program (Codes.Then c cs)
-  grounded_then c cs g h = record {
-    types = λ t m. ⊎_elim (g.types t) (h.types t) (among_one t (allocated c) (allocated_in cs) m);
-    no_back = or_both (calls_back c) (call_back cs) g.no_back h.no_back;
-  }
+  grounded_then c cs g h = record { types = λ t m. ⊎_elim (g.types t) (h.types t) (among_one t (allocated (plain_code c)) (allocated_in (plain_codes cs)) m) }
 
   pub grounded_none : AreGrounded program Codes.End
-  grounded_none = record { types = λ t m. absurd m; no_back = refl }
+  grounded_none = record { types = λ t m. absurd m }
 
   pub grounded_left : (xs ys : List Stmt) → AreGrounded program (codes_of (xs ++ ys)) → AreGrounded program (codes_of xs)
   grounded_left [] ys g = grounded_none
@@ -73,18 +70,18 @@ module _ (program : Program) where
 
   if_grounded : (n : ℕ) (e : Term) (a b : Codes) → IsGrounded program (Code.If n e a b) → AreBoth a b
   if_grounded n e a b g = record {
-    first = record { types = λ t h. g.types t (among_left t (allocated_in a) (allocated_in b) h); no_back = or_left (call_back a) (call_back b) g.no_back };
-    second = record { types = λ t h. g.types t (among_right t (allocated_in a) (allocated_in b) h); no_back = or_right (call_back a) (call_back b) g.no_back };
+    first = record { types = λ t h. g.types t (among_left t (allocated_in (plain_codes a)) (allocated_in (plain_codes b)) h) };
+    second = record { types = λ t h. g.types t (among_right t (allocated_in (plain_codes a)) (allocated_in (plain_codes b)) h) };
   }
 
   loop_grounded : (n : ℕ) (e : Term) (a b : Codes) → IsGrounded program (Code.Loop n e a b) → AreBoth a b
   loop_grounded n e a b g = record {
-    first = record { types = λ t h. g.types t (among_left t (allocated_in a) (allocated_in b) h); no_back = or_left (call_back a) (call_back b) g.no_back };
-    second = record { types = λ t h. g.types t (among_right t (allocated_in a) (allocated_in b) h); no_back = or_right (call_back a) (call_back b) g.no_back };
+    first = record { types = λ t h. g.types t (among_left t (allocated_in (plain_codes a)) (allocated_in (plain_codes b)) h) };
+    second = record { types = λ t h. g.types t (among_right t (allocated_in (plain_codes a)) (allocated_in (plain_codes b)) h) };
   }
 
   block_grounded : (a : Codes) → IsGrounded program (Code.Block a) → AreGrounded program a
-  block_grounded a g = record { types = g.types; no_back = g.no_back }
+  block_grounded a g = record { types = g.types }
 
   pub if_parts : (n : ℕ) (e : Expr) (one other : List Stmt) → IsGrounded program (code_of (stmt n (step.If e one other))) → AreBoth (codes_of one) (codes_of other)
   if_parts n e one other g = if_grounded n (term_of e) (codes_of one) (codes_of other) (subst (IsGrounded program) (code_is (stmt n (step.If e one other)) (step.If e one other) refl ∙ if_is n e one other) g)

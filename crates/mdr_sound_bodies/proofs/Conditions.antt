@@ -1,13 +1,14 @@
 -- What a condition comes to is tested by the rules of sound programs.
 use Rattle.std.proofs.Common.{◌≡◌, List, Option, Some, None, refl, subst}
-use Rattle.mdr_core.specs.declared.code.Expr.{Expr}
+use Rattle.mdr_rich.specs.declared.code.Expr.{Expr}
 use Rattle.mdr_core.specs.declared.kind.Kind.TheVariants.{S32}
 use Rattle.mdr_core.specs.declared.place.Place.{Place}
 use Rattle.mdr_core.specs.declared.program.Program.{Program}
 use Rattle.mdr_core.specs.declared.types.Ty.TheVariants as type
 use Rattle.mdr_core.specs.Kinds.{is_in_range}
-use Rattle.mdr_core.specs.Folds.{term_of, test_of}
-use Rattle.mdr_core.specs.Typing.{Slot, Has, IsCondition}
+use Rattle.mdr_rich.specs.Folds.{term_of, test_of}
+use Rattle.mdr_core.specs.Typing.{Slot, IsCondition}
+use Rattle.mdr_rich.specs.Typing.{Has}
 use Rattle.mdr_faults.specs.declared.scope.Scope.{Scope}
 use Rattle.mdr_faults.specs.Faults.{Right}
 use Rattle.mdr_operand.specs.Forms.{condition_at}

@@ -90,7 +90,7 @@ module _ (scope : Scope) (frame : Frame) where
         let b : Here = behind_head scope frame (entered a) init test step body in
         grows_left a _ (grows_on (entered a) b _ (head_grows (entered a) init test step body) (line_grows b false body))
     line_grows a t (Line.Do p body e) = grows_numbered a
-    line_grows a t (Line.Switch p e) = grows_numbered a
+    line_grows a t (Line.Switch p e cs) = grows_numbered a
     line_grows a t (Line.Return p e) = grows_numbered a
     line_grows a t (Line.Break p) = grows_numbered a
     line_grows a t (Line.Continue p) = grows_numbered a
@@ -120,7 +120,7 @@ module _ (scope : Scope) (frame : Frame) where
         let b : Here = behind_head scope frame (entered a) init test step body in
         left_keeps a _ (grows_on (entered a) b _ (head_grows (entered a) init test step body) (line_grows b false body))
     names_keep a t (Line.Do p body e) s h = refl
-    names_keep a t (Line.Switch p e) s h = refl
+    names_keep a t (Line.Switch p e cs) s h = refl
     names_keep a t (Line.Return p e) s h = refl
     names_keep a t (Line.Break p) s h = refl
     names_keep a t (Line.Continue p) s h = refl

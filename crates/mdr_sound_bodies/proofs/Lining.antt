@@ -1,17 +1,18 @@
 -- Statements keep to the rules of sound programs, if the rules of what stands in them do.
 use Rattle.std.proofs.Common.{◌≡◌, ◌⊎◌, ℕ, ◌≤◌, ◌||◌, ◌&&◌, not, Bool, true, false, List, [], length, Option, Ok, refl, sym, subst}
-use Rattle.mdr_core.specs.declared.code.Expr.{Expr}
-use Rattle.mdr_core.specs.declared.code.Step.{Step}
-use Rattle.mdr_core.specs.declared.code.Step.TheVariants as step
-use Rattle.mdr_core.specs.declared.code.Stmt.{Stmt}
+use Rattle.mdr_rich.specs.declared.code.Expr.{Expr}
+use Rattle.mdr_rich.specs.declared.code.Step.{Step}
+use Rattle.mdr_rich.specs.declared.code.Step.TheVariants as step
+use Rattle.mdr_rich.specs.declared.code.Stmt.{Stmt}
 use Rattle.mdr_core.specs.declared.place.Place.{Place}
 use Rattle.mdr_core.specs.declared.program.Program.{Program}
 use Rattle.mdr_core.specs.declared.types.Ty.{Ty}
 use Rattle.mdr_core.specs.declared.types.Ty.TheVariants as type
-use Rattle.mdr_core.specs.Code.{Codes}
-use Rattle.mdr_core.specs.Folds.{code_of, codes_of, term_of}
+use Rattle.mdr_rich.specs.Code.{Codes}
+use Rattle.mdr_rich.specs.Folds.{code_of, codes_of, term_of}
 use Rattle.mdr_core.specs.Types.{Scalar, sort_of}
-use Rattle.mdr_core.specs.Typing.{Slot, Has, IsCondition, IsTyped, AreTyped}
+use Rattle.mdr_core.specs.Typing.{Slot, IsCondition}
+use Rattle.mdr_rich.specs.Typing.{Has, IsTyped, AreTyped}
 use Rattle.mdr_faults.specs.declared.scope.Scope.{Scope}
 use Rattle.mdr_faults.specs.Faults.{Checked, Right, both}
 use Rattle.mdr_operand.specs.Written.{Written, Line, Lines}

@@ -1,13 +1,15 @@
 -- A function that is made of a head and a body keeps to the rules of sound programs.
 use Rattle.std.proofs.Common.{◌≡◌, ℕ, suc, Bool, true, false, List, [], ◌∷◌, ◌++◌, length, map, Some, Ok, refl, ap, sym, ◌∙◌, subst, slice_get}
-use Rattle.mdr_core.specs.declared.code.Stmt.{Stmt}
+use Rattle.mdr_rich.specs.declared.code.Stmt.{Stmt}
 use Rattle.mdr_core.specs.declared.program.Local.{Local}
 use Rattle.mdr_core.specs.declared.program.Program.{Program}
 use Rattle.mdr_core.specs.declared.types.Ty.{Ty}
-use Rattle.mdr_core.specs.Folds.{codes_of}
+use Rattle.mdr_core.specs.Folds.{codes_of as plain_codes_of}
+use Rattle.mdr_rich.specs.Folds.{codes_of}
 use Rattle.mdr_core.specs.Sound.{IsSoundLocal}
 use Rattle.mdr_core.specs.Types.{HasNumber}
-use Rattle.mdr_core.specs.Typing.{Slot, AreTyped, slot_of_param, slot_of_local}
+use Rattle.mdr_core.specs.Typing.{Slot, slot_of_param, slot_of_local, AreTyped as ArePlainTyped}
+use Rattle.mdr_rich.specs.Typing.{AreTyped}
 use Rattle.mdr_syntax.specs.declared.tree.Head.{Head}
 use Rattle.mdr_syntax.specs.declared.tree.Node.{Node}
 use Rattle.mdr_faults.specs.declared.scope.Candidate.{Candidate}
@@ -26,10 +28,13 @@ use Rattle.mdr_body.specs.declared.here.Here.{Here}
 use Rattle.mdr_body.specs.Bodies.{declared_locals, frame_of, body_of, body_by, body_rule}
 use Rattle.mdr_body.specs.Locals.{struct_locks, parameter_taken, first_here}
 use Rattle.mdr_body.specs.Statements.{Rules, lines_behind, lines_made}
+use Rattle.mdr_lower.specs.Lowering.{lowered}
+use Rattle.mdr_lower.proofs.PlainForms.{lowered_same}
+use Rattle.mdr_lower.proofs.Typed.{codes_typed}
 use Rattle.mdr_program.specs.Parts.{marked}
 use Rattle.mdr_sound_code.proofs.Rights.{same_right, after_right, both_right}
 use Rattle.mdr_sound_bodies.specs.Bodies.{BodiesAreSound}
-use Rattle.mdr_sound_bodies.specs.Grounded.{AreGrounded}
+use Rattle.mdr_sound_bodies.specs.Grounded.{AreGrounded, ArePlainGrounded}
 use Rattle.mdr_sound_bodies.specs.Rules.{AreSoundRules}
 use Rattle.mdr_sound_bodies.specs.Within.{KnowsDeclarations, AreDeclared}
 use Rattle.mdr_sound_bodies.specs.Written.{AreNamed, AreProper}
@@ -116,6 +121,16 @@ module _ (program : Program) (rules : Rules) (scope : Scope) (h : Head) (nodes :
       lines_typed program all (length h.params) scope (frame_of scope h) known rules (sound all) g.result (result_told g.result result) (known.results h g.result result) here false ls ss
       (parameters_here program outer scope tags known siblings ls h.params g.params headed.params locals named) proper are grounded made
 
+-- ---- lowered
+
+-- a typed body is lowered to one
+body_lowered : (program : Program) (slots : List Slot) (result : Ty) (ss : List Stmt) → AreTyped program slots result false (codes_of ss) → ArePlainTyped program slots result false (plain_codes_of (lowered ss))
+body_lowered program slots result ss h = subst (ArePlainTyped program slots result false) (sym (lowered_same ss)) (codes_typed program slots result false (codes_of ss) h)
+
+-- what the types of a lowered body ask is what those of the body ask
+pub body_grounded : (program : Program) (ss : List Stmt) → ArePlainGrounded program (plain_codes_of (lowered ss)) → AreGrounded program (codes_of ss)
+body_grounded program ss h = let g = subst (ArePlainGrounded program) (lowered_same ss) h in record { types = g.types }
+
 -- ---- the function
 
 pub rule_right : (rules : Rules) (scope : Scope) (h : Head) (nodes : List Node) (body : Body) → body_rule rules scope h nodes ≡ Right body → IsBodied rules scope (frame_of scope h) (first_here scope (lines_of nodes) h.params) (map (parameter_taken (lines_of nodes)) h.params) (lines_of nodes) body
@@ -130,8 +145,9 @@ made_sound program rules scope h nodes g body name is_critical known sound made 
     let marks = subst (λ os. IsBodied rules scope (frame_of scope h) here os (lines_of nodes) body) b.marks b in
     record {
       locals = made_locals program rules scope h nodes known body here marks (first_from program rules scope h nodes known) made.in_table;
-      body = subst (λ os. AreTyped program (map slot_of_param (marked os 0 g.params) ++ map slot_of_local body.locals) g.result false (codes_of body.statements)) b.marks
-          (made_typed program rules scope h nodes known made.front made.tags g (map (candidate made.front) h.params) body.locals body.statements headed sound made.named made.proper made.grounded b.locals b.statements);
+      body = body_lowered program (map slot_of_param (marked body.objects 0 g.params) ++ map slot_of_local body.locals) g.result body.statements
+          (subst (λ os. AreTyped program (map slot_of_param (marked os 0 g.params) ++ map slot_of_local body.locals) g.result false (codes_of body.statements)) b.marks
+          (made_typed program rules scope h nodes known made.front made.tags g (map (candidate made.front) h.params) body.locals body.statements headed sound made.named made.proper made.grounded b.locals b.statements));
     }
 
 -- the types of a body's locals are types of objects, whatever stands in the type table

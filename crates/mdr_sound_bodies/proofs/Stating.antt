@@ -1,9 +1,9 @@
 -- Statements without parts keep to the rules of sound programs.
 use Rattle.std.proofs.Common.{◌≡◌, ◌⊎◌, inl, inr, ℕ, ◌≤◌, ◌&&◌, not, nat_lt, Bool, true, false, List, [], ◌∷◌, length, Option, Some, None, Ok, IsTrue, refl, sym, ap, ◌∙◌, subst, arith, slice_get}
 use Rattle.std.proofs.lemmas.Option.{none-some, same_Some}
-use Rattle.mdr_core.specs.declared.code.Step.{Step}
-use Rattle.mdr_core.specs.declared.code.Step.TheVariants as step
-use Rattle.mdr_core.specs.declared.code.Stmt.{Stmt}
+use Rattle.mdr_rich.specs.declared.code.Step.{Step}
+use Rattle.mdr_rich.specs.declared.code.Step.TheVariants as step
+use Rattle.mdr_rich.specs.declared.code.Stmt.{Stmt}
 use Rattle.mdr_core.specs.declared.kind.Kind.{Kind}
 use Rattle.mdr_core.specs.declared.kind.Kind.TheVariants.{U8, S8}
 use Rattle.mdr_core.specs.declared.place.Place.{Place}
@@ -11,11 +11,13 @@ use Rattle.mdr_core.specs.declared.program.Program.{Program}
 use Rattle.mdr_core.specs.declared.types.Ty.{Ty, out-Ty, roll-Ty, roll-out-Ty}
 use Rattle.mdr_core.specs.declared.types.Ty.TheOpen.{Ty-F}
 use Rattle.mdr_core.specs.declared.types.Ty.TheVariants as type
-use Rattle.mdr_core.specs.Code.{Code, Codes, Way}
-use Rattle.mdr_core.specs.Folds.{code_of, codes_of, lvalue_of}
+use Rattle.mdr_core.specs.Code.{Way}
+use Rattle.mdr_rich.specs.Code.{Code, Codes}
+use Rattle.mdr_rich.specs.Folds.{code_of, codes_of, lvalue_of}
 use Rattle.mdr_core.specs.Types.{Scalar, is_scalar, sort_of}
-use Rattle.mdr_core.specs.Typing.{Slot, One, Designates, IsLocal, TakesText, IsTyped, AreTyped, extent, slot_of_local}
-use Rattle.mdr_core.proofs.Coded.{code_is, declare_is, text_is, return_is, break_is, continue_is, empty_is, slot_is, object_is}
+use Rattle.mdr_core.specs.Typing.{Slot, One, IsLocal, TakesText, extent, slot_of_local}
+use Rattle.mdr_rich.specs.Typing.{Designates, IsTyped, AreTyped}
+use Rattle.mdr_rich.proofs.Coded.{code_is, declare_is, text_is, return_is, break_is, continue_is, empty_is, slot_is, object_is}
 use Rattle.mdr_syntax.specs.declared.tree.Decl.{Decl, out-Decl}
 use Rattle.mdr_faults.specs.declared.fault.FaultKind.TheVariants.{Mismatch}
 use Rattle.mdr_faults.specs.declared.scope.Object.{Object}
@@ -255,7 +257,7 @@ module _ (program : Program) (slots : List Slot) (base : ℕ) (scope : Scope) (f
   simple_typed here in_loop t b (Line.While p w body) behind ss gives given inside h proper told declared g e = not_right _ ss e
   simple_typed here in_loop t b (Line.For p init test step body) behind ss gives given inside h proper told declared g e = not_right _ ss e
   simple_typed here in_loop t b (Line.Do p body w) behind ss gives given inside h proper told declared g e = not_right _ ss e
-  simple_typed here in_loop t b (Line.Switch p w) behind ss gives given inside h proper told declared g e = not_right _ ss e
+  simple_typed here in_loop t b (Line.Switch p w cs) behind ss gives given inside h proper told declared g e = not_right _ ss e
   simple_typed here in_loop t b (Line.Return p w) behind ss gives given inside h proper told declared g e =
       let right = perhaps_right here _ w h (λ name n. or_left (takes_at name (Line.Return p w)) _ n) proper in
       stated_typed program slots result here.number _ ss b (λ s is. return_sound here p w s gives given h.knows right is) h.number e g

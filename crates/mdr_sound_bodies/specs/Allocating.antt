@@ -1,14 +1,15 @@
 -- for proofs
 -- The types that a body's allocations name are types of objects (C99 6.2.5, paragraph 1).
 use Rattle.std.specs.Prelude.{◌≡◌, ℕ, Bool, List}
-use Rattle.mdr_core.specs.declared.code.Lval.{Lval}
-use Rattle.mdr_core.specs.declared.code.Step.{Step}
-use Rattle.mdr_core.specs.declared.code.Stmt.{Stmt}
+use Rattle.mdr_rich.specs.declared.code.Lval.{Lval}
+use Rattle.mdr_rich.specs.declared.code.Step.{Step}
+use Rattle.mdr_rich.specs.declared.code.Stmt.{Stmt}
 use Rattle.mdr_core.specs.declared.place.Place.{Place}
 use Rattle.mdr_core.specs.declared.program.Program.{Program}
 use Rattle.mdr_core.specs.declared.types.Ty.{Ty}
-use Rattle.mdr_core.specs.Code.{Code, Codes}
-use Rattle.mdr_core.specs.Folds.{code_of, codes_of}
+use Rattle.mdr_core.specs.Code.{Codes as PlainCodes}
+use Rattle.mdr_rich.specs.Code.{Code, Codes}
+use Rattle.mdr_rich.specs.Folds.{code_of, codes_of}
 use Rattle.mdr_syntax.specs.declared.tree.Head.{Head}
 use Rattle.mdr_syntax.specs.declared.tree.Node.{Node}
 use Rattle.mdr_faults.specs.declared.scope.Scope.{Scope}
@@ -20,16 +21,21 @@ use Rattle.mdr_body.specs.declared.here.Frame.{Frame}
 use Rattle.mdr_body.specs.declared.here.Here.{Here}
 use Rattle.mdr_body.specs.Bodies.{body_rule}
 use Rattle.mdr_body.specs.Statements.{Rules, stmt, lines_made}
+use Rattle.mdr_lower.specs.Plain.{plain_code, plain_codes}
 use Rattle.mdr_program.specs.Occurring.{allocated, allocated_in}
 use Rattle.mdr_program.specs.Orders.{IsAmong}
 use Rattle.mdr_sound_code.specs.Knowing.{IsFormed}
 
--- code allocates objects of such types alone
+-- a program's code allocates objects of such types alone
+abbrev pub ArePlainFormed : Program → PlainCodes → Type 0
+ArePlainFormed program cs = (t : Ty) → IsAmong t (allocated_in cs) → IsFormed program t
+
+-- so does code
 abbrev pub AllocatesFormed : Program → Code → Type 0
-AllocatesFormed program c = (t : Ty) → IsAmong t (allocated c) → IsFormed program t
+AllocatesFormed program c = (t : Ty) → IsAmong t (allocated (plain_code c)) → IsFormed program t
 
 abbrev pub AllocateFormed : Program → Codes → Type 0
-AllocateFormed program cs = (t : Ty) → IsAmong t (allocated_in cs) → IsFormed program t
+AllocateFormed program cs = ArePlainFormed program (plain_codes cs)
 
 -- and so does a step, as a statement of any number
 abbrev pub IsFormedStep : Program → Step → Type 0

@@ -4,7 +4,7 @@ use Rattle.std.specs.Prelude.{◌≡◌, ℕ, Bool, true, List, Some, slice_get}
 use Rattle.mdr_core.specs.declared.program.Func.{Func}
 use Rattle.mdr_core.specs.declared.program.Local.{Local}
 use Rattle.mdr_core.specs.declared.program.Program.{Program}
-use Rattle.mdr_core.specs.Folds.{codes_of}
+use Rattle.mdr_rich.specs.Folds.{codes_of}
 use Rattle.mdr_core.specs.Sound.{IsSoundLocal, HasTypedBody}
 use Rattle.mdr_core.specs.Types.{HasNumber}
 use Rattle.mdr_core.specs.Typing.{Slot}

@@ -1,14 +1,15 @@
 -- for proofs
 -- Rules of expressions, assignments and calls whose results keep to the rules of sound programs.
 use Rattle.std.specs.Prelude.{◌≡◌, ℕ, ◌≤◌, Bool, List, length}
-use Rattle.mdr_core.specs.declared.code.Lval.{Lval}
-use Rattle.mdr_core.specs.declared.code.Step.{Step}
+use Rattle.mdr_rich.specs.declared.code.Lval.{Lval}
+use Rattle.mdr_rich.specs.declared.code.Step.{Step}
 use Rattle.mdr_core.specs.declared.place.Place.{Place}
 use Rattle.mdr_core.specs.declared.program.Program.{Program}
 use Rattle.mdr_core.specs.declared.types.Ty.{Ty}
-use Rattle.mdr_core.specs.Folds.{code_of, lvalue_of}
+use Rattle.mdr_rich.specs.Folds.{code_of, lvalue_of}
 use Rattle.mdr_core.specs.Types.{Scalar, sort_of}
-use Rattle.mdr_core.specs.Typing.{Slot, One, Designates, IsTyped}
+use Rattle.mdr_core.specs.Typing.{Slot, One}
+use Rattle.mdr_rich.specs.Typing.{Designates, IsTyped}
 use Rattle.mdr_faults.specs.declared.scope.Scope.{Scope}
 use Rattle.mdr_faults.specs.Faults.{Right}
 use Rattle.mdr_operand.specs.declared.operand.Operand.{Operand}

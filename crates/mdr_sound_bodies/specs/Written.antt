@@ -2,7 +2,7 @@
 -- What the source of a body is made of, beside its form: numbers, names, and statements where no declaration may stand (C99 6.4.4.1, 6.8).
 use Rattle.std.specs.Prelude.{◌≡◌, ℕ, false, List, [], ◌∷◌, Option, Some, None}
 use Rattle.mdr_syntax.specs.declared.tree.Decl.{Decl, out-Decl}
-use Rattle.mdr_operand.specs.Written.{Written, Line, Lines}
+use Rattle.mdr_operand.specs.Written.{Written, Line, Lines, Clauses}
 use Rattle.mdr_body.specs.Simple.{declares}
 use Rattle.mdr_sound_code.specs.Knowing.{HasNumbers}
 
@@ -26,7 +26,7 @@ abbrev pub AreStatements : Lines → Type 0
 AreStatements Lines.End = Unit {0}
 AreStatements (Lines.Then l ls) = IsStatement l × AreStatements ls
 
--- each number is one of its kind, each local has a name, and what is a part of an `if` or a loop is no declaration (6.8.4, 6.8.5)
+-- each number is one of its kind, each local has a name, and what is a part of an `if`, a loop or a clause is no declaration (6.8.1, 6.8.4, 6.8.5)
 abbrev mutual
   pub IsProper : Line → Type 0
   IsProper (Line.Empty p) = Unit {0}
@@ -38,7 +38,7 @@ abbrev mutual
   IsProper (Line.While p e body) = HasNumbers e × (IsStatement body × IsProper body)
   IsProper (Line.For p init test step body) = (AreProper init × PerhapsHasNumbers test) × ((AreStatements step × AreProper step) × (IsStatement body × IsProper body))
   IsProper (Line.Do p body e) = (IsStatement body × IsProper body) × HasNumbers e
-  IsProper (Line.Switch p e) = HasNumbers e
+  IsProper (Line.Switch p e cs) = HasNumbers e × AreProperClauses cs
   IsProper (Line.Return p e) = PerhapsHasNumbers e
   IsProper (Line.Break p) = Unit {0}
   IsProper (Line.Continue p) = Unit {0}
@@ -46,3 +46,7 @@ abbrev mutual
   pub AreProper : Lines → Type 0
   AreProper Lines.End = Unit {0}
   AreProper (Lines.Then l ls) = IsProper l × AreProper ls
+
+  pub AreProperClauses : Clauses → Type 0
+  AreProperClauses Clauses.NoPart = Unit {0}
+  AreProperClauses (Clauses.Part labels ls cs) = (AreStatements ls × AreProper ls) × AreProperClauses cs

@@ -3,20 +3,21 @@ use Rattle.std.specs.Prelude.{◌≡◌, ℕ, Bool, true, false, ◌&&◌, ◌||
 use Rattle.std.specs.Str.{bytes_eq}
 use Rattle.std.proofs.Common.{refl, ap, sym, ◌∙◌, subst}
 use Rattle.std.proofs.lemmas.Slice.Eq.{bytes_eq-Decides}
-use Rattle.mdr_core.specs.declared.code.Expr.{Expr}
-use Rattle.mdr_core.specs.declared.code.Expr.TheOpen.{Lval-F}
-use Rattle.mdr_core.specs.declared.code.Expr.TheVariants as expr
-use Rattle.mdr_core.specs.declared.code.Lval.{Lval, out-Lval, roll-Lval, roll-out-Lval}
-use Rattle.mdr_core.specs.declared.code.Lval.TheVariants as lval
+use Rattle.mdr_rich.specs.declared.code.Expr.{Expr}
+use Rattle.mdr_rich.specs.declared.code.Expr.TheOpen.{Lval-F}
+use Rattle.mdr_rich.specs.declared.code.Expr.TheVariants as expr
+use Rattle.mdr_rich.specs.declared.code.Lval.{Lval, out-Lval, roll-Lval, roll-out-Lval}
+use Rattle.mdr_rich.specs.declared.code.Lval.TheVariants as lval
 use Rattle.mdr_core.specs.declared.place.Place.{Place}
 use Rattle.mdr_core.specs.declared.program.Program.{Program}
 use Rattle.mdr_core.specs.declared.types.Ty.{Ty}
 use Rattle.mdr_core.specs.declared.types.Ty.TheVariants as type
-use Rattle.mdr_core.specs.Code.{Term}
-use Rattle.mdr_core.specs.Folds.{term_of, lvalue_of}
+use Rattle.mdr_rich.specs.Code.{Term}
+use Rattle.mdr_rich.specs.Folds.{term_of, lvalue_of}
 use Rattle.mdr_core.specs.Layout.{chosen}
-use Rattle.mdr_core.specs.Typing.{Slot, One, Has, Designates, HasAddress, IsTarget, IsElement}
-use Rattle.mdr_core.proofs.Coded.{addr_is, decay_is, move_is, deref_is, index_is}
+use Rattle.mdr_core.specs.Typing.{Slot, One, IsTarget, IsElement}
+use Rattle.mdr_rich.specs.Typing.{Has, Designates, HasAddress}
+use Rattle.mdr_rich.proofs.Coded.{addr_is, decay_is, move_is, deref_is, index_is}
 use Rattle.mdr_operand.specs.declared.operator.PrefixOperator.TheVariants as prefix
 use Rattle.mdr_operand.specs.declared.room.LocalName.{LocalName}
 use Rattle.mdr_operand.specs.Forms.{address_by, address_of}

@@ -6,11 +6,12 @@ use Rattle.mdr_core.specs.declared.place.Place.{Place}
 use Rattle.mdr_core.specs.declared.program.Program.{Program}
 use Rattle.mdr_core.specs.declared.types.Ty.{Ty}
 use Rattle.mdr_core.specs.declared.types.Ty.TheVariants as type
-use Rattle.mdr_core.specs.Code.{Term}
-use Rattle.mdr_core.specs.Folds.{term_of}
+use Rattle.mdr_rich.specs.Code.{Term}
+use Rattle.mdr_rich.specs.Folds.{term_of}
 use Rattle.mdr_core.specs.Services.{Service as CoreService, offered, service_numbered}
 use Rattle.mdr_core.specs.Types.{HasNumber}
-use Rattle.mdr_core.specs.Typing.{Slot, NamesHandler, NamesObject}
+use Rattle.mdr_core.specs.Typing.{Slot, NamesObject}
+use Rattle.mdr_rich.specs.Typing.{NamesHandler}
 use Rattle.mdr_call.specs.declared.parts.Argument.{Argument}
 use Rattle.mdr_call.specs.declared.parts.Argument.TheVariants as argument
 use Rattle.mdr_call.specs.declared.parts.TypedCall.{TypedCall}

@@ -2,18 +2,19 @@
 use Rattle.std.specs.Prelude.{◌≡◌, List, Option, Some, None, IsTrue, pos}
 use Rattle.std.proofs.Common.{refl, subst}
 use Rattle.mdr_core.specs.declared.code.BinOp.{BinOp}
-use Rattle.mdr_core.specs.declared.code.Lval.{Lval}
+use Rattle.mdr_rich.specs.declared.code.Lval.{Lval}
 use Rattle.mdr_core.specs.declared.kind.Kind.TheVariants.{S32}
 use Rattle.mdr_core.specs.declared.place.Place.{Place}
 use Rattle.mdr_core.specs.declared.program.Program.{Program}
 use Rattle.mdr_core.specs.declared.types.Ty.{Ty}
 use Rattle.mdr_core.specs.declared.types.Ty.TheVariants as type
 use Rattle.mdr_core.specs.declared.value.Value.TheVariants as value
-use Rattle.mdr_core.specs.Folds.{term_of, lvalue_of}
+use Rattle.mdr_rich.specs.Folds.{term_of, lvalue_of}
 use Rattle.mdr_core.specs.Kinds.{is_in_range}
 use Rattle.mdr_core.specs.Types.{is_scalar}
-use Rattle.mdr_core.specs.Typing.{Slot, IsAssignment}
-use Rattle.mdr_core.proofs.Coded as coded
+use Rattle.mdr_core.specs.Typing.{Slot}
+use Rattle.mdr_rich.specs.Typing.{IsAssignment}
+use Rattle.mdr_rich.proofs.Coded as coded
 use Rattle.mdr_assign.specs.declared.assignment.Assignment.{Assignment}
 use Rattle.mdr_assign.specs.declared.assignment.Destination.{Destination}
 use Rattle.mdr_assign.specs.Assignments.{scalar_object, destination_at, given, plain_at, old_value, compound_at, assigned_by, assigned_at, assignment_rule, one, stepped_by, stepped_at, step_rule}

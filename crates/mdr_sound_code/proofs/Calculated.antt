@@ -3,8 +3,8 @@ use Rattle.std.specs.Prelude.{◌≡◌, Bool, true, false, List}
 use Rattle.std.proofs.Common.{refl, sym, subst}
 use Rattle.mdr_core.specs.declared.code.BinOp.{BinOp}
 use Rattle.mdr_core.specs.declared.code.BinOp.TheVariants.{Add, Sub, Mul, Div, Rem, Shl, Shr, BitAnd, BitOr, BitXor}
-use Rattle.mdr_core.specs.declared.code.Expr.{Expr}
-use Rattle.mdr_core.specs.declared.code.Expr.TheVariants as expr
+use Rattle.mdr_rich.specs.declared.code.Expr.{Expr}
+use Rattle.mdr_rich.specs.declared.code.Expr.TheVariants as expr
 use Rattle.mdr_core.specs.declared.kind.Kind.{Kind}
 use Rattle.mdr_core.specs.declared.kind.Kind.TheVariants.{S64}
 use Rattle.mdr_core.specs.declared.place.Place.{Place}
@@ -12,10 +12,11 @@ use Rattle.mdr_core.specs.declared.program.Program.{Program}
 use Rattle.mdr_core.specs.declared.types.Ty.{Ty}
 use Rattle.mdr_core.specs.declared.types.Ty.TheVariants as type
 use Rattle.mdr_core.specs.Conversions.{common_kind, promoted}
-use Rattle.mdr_core.specs.Folds.{term_of}
+use Rattle.mdr_rich.specs.Folds.{term_of}
 use Rattle.mdr_core.specs.Layout.{chosen}
-use Rattle.mdr_core.specs.Typing.{Slot, Has, RightOperand}
-use Rattle.mdr_core.proofs.Coded as coded
+use Rattle.mdr_core.specs.Typing.{Slot, RightOperand}
+use Rattle.mdr_rich.specs.Typing.{Has}
+use Rattle.mdr_rich.proofs.Coded as coded
 use Rattle.mdr_faults.specs.declared.fault.FaultKind.TheVariants.{Mismatch}
 use Rattle.mdr_faults.specs.declared.scope.Scope.{Scope}
 use Rattle.mdr_faults.specs.Faults.{Right}

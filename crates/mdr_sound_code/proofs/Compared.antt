@@ -2,8 +2,8 @@
 use Rattle.std.specs.Prelude.{◌≡◌, ◌⊎◌, Bool, true, false, ◌||◌, List, IsTrue, Some}
 use Rattle.std.proofs.Common.{inl, inr, refl, sym, subst}
 use Rattle.std.proofs.lemmas.Option.{none-some, same_Some}
-use Rattle.mdr_core.specs.declared.code.Expr.{Expr}
-use Rattle.mdr_core.specs.declared.code.Expr.TheVariants as expr
+use Rattle.mdr_rich.specs.declared.code.Expr.{Expr}
+use Rattle.mdr_rich.specs.declared.code.Expr.TheVariants as expr
 use Rattle.mdr_core.specs.declared.code.RelOp.{RelOp}
 use Rattle.mdr_core.specs.declared.code.RelOp.TheVariants.{Eq, Ne, Lt, Le, Gt, Ge}
 use Rattle.mdr_core.specs.declared.kind.Kind.{Kind}
@@ -17,7 +17,7 @@ use Rattle.mdr_core.specs.Conversions.{common_kind}
 use Rattle.mdr_core.specs.Layout.{chosen}
 use Rattle.mdr_core.specs.Types.{is_pointer, is_pointer_by, is_object_pointer, is_object_pointer_by}
 use Rattle.mdr_core.specs.Typing.{Slot, Compares}
-use Rattle.mdr_core.proofs.Coded as coded
+use Rattle.mdr_rich.proofs.Coded as coded
 use Rattle.mdr_faults.specs.declared.fault.FaultKind.TheVariants.{Mismatch}
 use Rattle.mdr_faults.specs.Faults.{Right}
 use Rattle.mdr_operand.specs.declared.operand.Integer.{Integer}

@@ -2,7 +2,7 @@
 use Rattle.std.specs.Prelude.{◌≡◌, Bool, true, false, List, length, Option, Some, None}
 use Rattle.std.proofs.Common.{refl, ap, sym, ◌∙◌, subst}
 use Rattle.std.proofs.lemmas.Option.{none-some, same_Some}
-use Rattle.mdr_core.specs.declared.code.Expr.{Expr}
+use Rattle.mdr_rich.specs.declared.code.Expr.{Expr}
 use Rattle.mdr_core.specs.declared.kind.Kind.{Kind}
 use Rattle.mdr_core.specs.declared.place.Place.{Place}
 use Rattle.mdr_core.specs.declared.program.Program.{Program}
@@ -12,7 +12,7 @@ use Rattle.mdr_core.specs.declared.types.Ty.TheVariants as type
 use Rattle.mdr_core.specs.Layout.{chosen}
 use Rattle.mdr_core.specs.Types.{Scalar as ScalarSort, is_pointer_by, sort_of}
 use Rattle.mdr_core.specs.Typing.{Slot}
-use Rattle.mdr_core.proofs.Coded.{to_void_is, from_void_is}
+use Rattle.mdr_rich.proofs.Coded.{to_void_is, from_void_is}
 use Rattle.mdr_faults.specs.Alike.{is_alike, are_alike}
 use Rattle.mdr_faults.specs.Faults.{Right}
 use Rattle.mdr_operand.specs.declared.operand.Operand.{Operand}

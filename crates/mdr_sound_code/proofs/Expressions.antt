@@ -1,7 +1,7 @@
 -- What each expression comes to is known.
 use Rattle.std.specs.Prelude.{◌≡◌, ℕ, ◌==◌, Bool, true, false, ◌||◌, List, IsTrue, pos}
 use Rattle.std.proofs.Common.{refl, subst}
-use Rattle.mdr_core.specs.declared.code.Expr.TheVariants as expr
+use Rattle.mdr_rich.specs.declared.code.Expr.TheVariants as expr
 use Rattle.mdr_core.specs.declared.kind.Kind.{Kind}
 use Rattle.mdr_core.specs.declared.place.Place.{Place}
 use Rattle.mdr_core.specs.declared.program.Program.{Program}
@@ -10,7 +10,7 @@ use Rattle.mdr_core.specs.declared.value.Value.TheVariants as value
 use Rattle.mdr_core.specs.Kinds.{is_in_range}
 use Rattle.mdr_core.specs.Layout.{chosen}
 use Rattle.mdr_core.specs.Typing.{Slot}
-use Rattle.mdr_core.proofs.Coded.{lit_is}
+use Rattle.mdr_rich.proofs.Coded.{lit_is}
 use Rattle.mdr_syntax.specs.declared.tree.Base.{Base}
 use Rattle.mdr_faults.specs.declared.scope.Scope.{Scope}
 use Rattle.mdr_faults.specs.Faults.{Checked, Right}

@@ -1,9 +1,9 @@
 -- A call of a function, by its name or through a pointer, is one of the program (C99 6.5.2.2).
 use Rattle.std.proofs.Common.{◌≡◌, ℕ, List, ◌∷◌, length, map, Option, Some, None, refl, ap, sym, ◌∙◌, subst}
 use Rattle.std.proofs.lemmas.Option.{none-some, same_Some}
-use Rattle.mdr_core.specs.declared.code.Callee.{Callee}
-use Rattle.mdr_core.specs.declared.code.Callee.TheVariants as callee
-use Rattle.mdr_core.specs.declared.code.Expr.{Expr}
+use Rattle.mdr_rich.specs.declared.code.Callee.{Callee}
+use Rattle.mdr_rich.specs.declared.code.Callee.TheVariants as callee
+use Rattle.mdr_rich.specs.declared.code.Expr.{Expr}
 use Rattle.mdr_core.specs.declared.place.Place.{Place}
 use Rattle.mdr_core.specs.declared.program.Func.{Func}
 use Rattle.mdr_core.specs.declared.program.Param.{Param}
@@ -11,9 +11,10 @@ use Rattle.mdr_core.specs.declared.program.Program.{Program}
 use Rattle.mdr_core.specs.declared.types.Ty.{Ty, out-Ty}
 use Rattle.mdr_core.specs.declared.types.Ty.TheOpen.{Ty-F}
 use Rattle.mdr_core.specs.declared.types.Ty.TheVariants as type
-use Rattle.mdr_core.specs.Folds.{term_of, call_of}
+use Rattle.mdr_rich.specs.Folds.{term_of, call_of}
 use Rattle.mdr_core.specs.Types.{Scalar as ScalarSort, sort_of}
-use Rattle.mdr_core.specs.Typing.{Slot, CallGives, HaveAll}
+use Rattle.mdr_core.specs.Typing.{Slot}
+use Rattle.mdr_rich.specs.Typing.{CallGives, HaveAll}
 use Rattle.mdr_call.specs.declared.parts.Argument.{Argument}
 use Rattle.mdr_call.specs.declared.parts.Callable.{Callable}
 use Rattle.mdr_call.specs.declared.parts.Handle.{Handle}
@@ -54,6 +55,11 @@ module _ (program : Program) (slots : List Slot) (names : List LocalName) where
   handle_of_known (scalar.Pointer e t) h i q = absurd (none-some h q)
   handle_of_known (scalar.Opaque e) h i q = absurd (none-some h q)
   handle_of_known (scalar.Handle e ts) h i q = subst (λ (x : Handle). IsHandle program slots x.value x.types) (same_Some _ _ q) i
+
+  -- a value that points to a function
+  pub handle_known : (u : Written) (x : Operand) (o : Option Scalar) (h : Handle) → IsKnown program slots names u x → value_of x ≡ o → handle_by o ≡ Some h → IsHandle program slots h.value h.types
+  handle_known u x None h k is q = absurd (none-some h q)
+  handle_known u x (Some v) h k is q = handle_of_known v h (value_known program slots names u x v k is) q
 
   through_known : (u : Written) (x : Operand) (o : Option Scalar) (c : Callable) → IsKnown program slots names u x → value_of x ≡ o → through (handle_by o) ≡ Some c → IsKnownCallable c
   through_known u x None c h is q = absurd (none-some c q)

@@ -1,12 +1,13 @@
 -- Arguments that are known are values of the types of parameters (C99 6.5.2.2).
 use Rattle.std.proofs.Common.{◌≡◌, ℕ, suc, ◌+◌, List, [], ◌∷◌, length, map, Option, Some, slice_get, ◌==◌, arith, ap, ◌∙◌, subst, eqb-true}
-use Rattle.mdr_core.specs.declared.code.Expr.{Expr}
+use Rattle.mdr_rich.specs.declared.code.Expr.{Expr}
 use Rattle.mdr_core.specs.declared.place.Place.{Place}
 use Rattle.mdr_core.specs.declared.program.Program.{Program}
 use Rattle.mdr_core.specs.declared.types.Ty.{Ty}
-use Rattle.mdr_core.specs.Folds.{term_of}
+use Rattle.mdr_rich.specs.Folds.{term_of}
 use Rattle.mdr_core.specs.Types.{Scalar, sort_of}
-use Rattle.mdr_core.specs.Typing.{Slot, HaveAll}
+use Rattle.mdr_core.specs.Typing.{Slot}
+use Rattle.mdr_rich.specs.Typing.{HaveAll}
 use Rattle.mdr_call.specs.declared.parts.Argument.{Argument}
 use Rattle.mdr_call.specs.declared.parts.Argument.TheVariants as argument
 use Rattle.mdr_call.specs.Arguments.{argument_as, argument_for, arguments_from, arguments_as, converted}

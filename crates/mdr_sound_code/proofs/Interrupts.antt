@@ -1,6 +1,6 @@
 -- A `request_irq` is a call of the program: it names a function that takes and gives nothing.
 use Rattle.std.proofs.Common.{◌≡◌, ℕ, Bool, true, false, List, [], ◌∷◌, length, Option, Some, None, slice_get, ◌==◌, arith, refl, ap, sym, ◌∙◌, subst, eqb-true}
-use Rattle.mdr_core.specs.declared.code.Expr.TheVariants as expr
+use Rattle.mdr_rich.specs.declared.code.Expr.TheVariants as expr
 use Rattle.mdr_core.specs.declared.kind.Kind.TheVariants.{S32}
 use Rattle.mdr_core.specs.declared.place.Place.{Place}
 use Rattle.mdr_core.specs.declared.program.Program.{Program}
@@ -11,7 +11,7 @@ use Rattle.mdr_core.specs.declared.value.Value.TheVariants as value
 use Rattle.mdr_core.specs.Services.{Service as CoreService, handler_type}
 use Rattle.mdr_core.specs.Layout.{chosen}
 use Rattle.mdr_core.specs.Typing.{Slot}
-use Rattle.mdr_core.proofs.Coded as coded
+use Rattle.mdr_rich.proofs.Coded as coded
 use Rattle.mdr_call.specs.declared.parts.Argument.{Argument}
 use Rattle.mdr_call.specs.declared.parts.Argument.TheVariants as argument
 use Rattle.mdr_call.specs.declared.parts.TypedCall.{TypedCall}

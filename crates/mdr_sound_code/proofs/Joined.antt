@@ -6,7 +6,7 @@ use Rattle.mdr_core.specs.declared.place.Place.{Place}
 use Rattle.mdr_core.specs.declared.program.Program.{Program}
 use Rattle.mdr_core.specs.declared.types.Ty.TheVariants as type
 use Rattle.mdr_core.specs.Typing.{Slot}
-use Rattle.mdr_core.proofs.Coded as coded
+use Rattle.mdr_rich.proofs.Coded as coded
 use Rattle.mdr_faults.specs.declared.scope.Scope.{Scope}
 use Rattle.mdr_faults.specs.Faults.{Checked, Right}
 use Rattle.mdr_operand.specs.declared.operand.Operand.{Operand}

@@ -2,17 +2,18 @@
 use Rattle.std.specs.Prelude.{◌≡◌, ◌⊎◌, ℕ, Bool, true, false, List, Option, Some, None, Ok, slice_get, IsTrue}
 use Rattle.std.proofs.Common.{inl, inr, refl, ap, sym, ◌∙◌, subst}
 use Rattle.std.proofs.lemmas.Option.{none-some, same_Some}
-use Rattle.mdr_core.specs.declared.code.Lval.{Lval}
-use Rattle.mdr_core.specs.declared.code.Lval.TheVariants as lval
+use Rattle.mdr_rich.specs.declared.code.Lval.{Lval}
+use Rattle.mdr_rich.specs.declared.code.Lval.TheVariants as lval
 use Rattle.mdr_core.specs.declared.place.Place.{Place}
 use Rattle.mdr_core.specs.declared.program.Program.{Program}
 use Rattle.mdr_core.specs.declared.types.Ty.{Ty, out-Ty}
 use Rattle.mdr_core.specs.declared.types.Ty.TheOpen.{Ty-F}
 use Rattle.mdr_core.specs.declared.types.Ty.TheVariants as type
-use Rattle.mdr_core.specs.Folds.{lvalue_of}
+use Rattle.mdr_rich.specs.Folds.{lvalue_of}
 use Rattle.mdr_core.specs.Types.{is_scalar, is_scalar_by}
-use Rattle.mdr_core.specs.Typing.{Slot, One, extent, Designates, HasAddress}
-use Rattle.mdr_core.proofs.Coded.{member_is}
+use Rattle.mdr_core.specs.Typing.{Slot, One, extent}
+use Rattle.mdr_rich.specs.Typing.{Designates, HasAddress}
+use Rattle.mdr_rich.proofs.Coded.{member_is}
 use Rattle.mdr_faults.specs.declared.scope.Member.{Member}
 use Rattle.mdr_faults.specs.declared.scope.Scope.{Scope}
 use Rattle.mdr_faults.specs.declared.scope.StructEntry.{StructEntry}

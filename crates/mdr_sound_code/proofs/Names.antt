@@ -1,14 +1,15 @@
 -- What a name stands for is known (C99 6.5.1).
 use Rattle.std.specs.Prelude.{◌≡◌, ℕ, Bool, true, false, List, Option, Some, None}
 use Rattle.std.proofs.Common.{inr, refl, sym, ◌∙◌, subst}
-use Rattle.mdr_core.specs.declared.code.Lval.TheVariants as lval
+use Rattle.mdr_rich.specs.declared.code.Lval.TheVariants as lval
 use Rattle.mdr_core.specs.declared.place.Place.{Place}
 use Rattle.mdr_core.specs.declared.program.Program.{Program}
 use Rattle.mdr_core.specs.declared.types.Ty.TheVariants as type
 use Rattle.mdr_core.specs.declared.value.Value.TheVariants as value
 use Rattle.mdr_core.specs.Layout.{chosen}
-use Rattle.mdr_core.specs.Typing.{Slot, extent, Designates, HasAddress}
-use Rattle.mdr_core.proofs.Coded.{lit_is, slot_is, object_is, global_is}
+use Rattle.mdr_core.specs.Typing.{Slot, extent}
+use Rattle.mdr_rich.specs.Typing.{Designates, HasAddress}
+use Rattle.mdr_rich.proofs.Coded.{lit_is, slot_is, object_is, global_is}
 use Rattle.mdr_faults.specs.declared.scope.Entity.{Entity}
 use Rattle.mdr_faults.specs.declared.scope.Entity.TheVariants as entity
 use Rattle.mdr_faults.specs.declared.scope.Named.{Named}

@@ -1,13 +1,14 @@
 -- A call of a service, from what that offers, is one of the program.
-use Rattle.std.proofs.Common.{◌≡◌, ℕ, List, [], ◌∷◌, length, map, Option, Some, slice_get, refl, subst}
+use Rattle.std.proofs.Common.{◌≡◌, inl, ℕ, List, [], ◌∷◌, length, map, Option, Some, slice_get, refl, subst}
 use Rattle.std.proofs.lemmas.Option.{none-some, same_Some}
-use Rattle.mdr_core.specs.declared.code.Callee.TheVariants as callee
-use Rattle.mdr_core.specs.declared.code.Expr.{Expr}
+use Rattle.mdr_rich.specs.declared.code.Callee.TheVariants as callee
+use Rattle.mdr_rich.specs.declared.code.Expr.{Expr}
 use Rattle.mdr_core.specs.declared.program.Program.{Program}
 use Rattle.mdr_core.specs.declared.types.Ty.{Ty}
-use Rattle.mdr_core.specs.Folds.{term_of}
+use Rattle.mdr_rich.specs.Folds.{term_of}
 use Rattle.mdr_core.specs.Services.{Service as CoreService, offered, service_numbered}
-use Rattle.mdr_core.specs.Typing.{Slot, HaveAll, NamesHandler, NamesObject}
+use Rattle.mdr_core.specs.Typing.{Slot, NamesObject}
+use Rattle.mdr_rich.specs.Typing.{HaveAll, NamesHandler}
 use Rattle.mdr_call.specs.declared.parts.Argument.{Argument}
 use Rattle.mdr_operand.specs.declared.room.LocalName.{LocalName}
 use Rattle.mdr_sound_code.proofs.FunctionCalls.{IsKnownCall}
@@ -22,7 +23,7 @@ module _ (program : Program) (slots : List Slot) (names : List LocalName) where
       → service_numbered n ≡ Some s → offered s shape format ≡ Some (record { params = params; result = r })
       → HaveAll program slots (map term_of es) params → NamesHandler s (map term_of es) → NamesObject program shape
       → IsKnownCall program slots names (record { form = record { callee = callee.Service n; args = es; shape = shape; format = format }; result = r })
-  service_known s n es shape format params r names offers all names_handler object = record {
+  service_known s n es shape format params r names offers all names_handler object = inl (record {
     service = s;
     names = names;
     signature = record { params = params; result = r };
@@ -31,7 +32,7 @@ module _ (program : Program) (slots : List Slot) (names : List LocalName) where
     handler = names_handler;
     object = object;
     is = refl;
-  }
+  })
 
   -- the first argument is known
   pub first_known : (args : List Argument) (a : Argument) → AreKnownArguments program slots names args → slice_get args 0 ≡ Some a → IsKnownArgument program slots names a

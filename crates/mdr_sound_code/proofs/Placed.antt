@@ -1,13 +1,14 @@
 -- What a name or a member stands for is known: an object or an array by its lvalue.
 use Rattle.std.specs.Prelude.{◌≡◌, ◌⊎◌, ℕ, Bool, true, false, List, IsTrue}
 use Rattle.std.proofs.Common.{inl, refl, sym}
-use Rattle.mdr_core.specs.declared.code.Lval.{Lval}
+use Rattle.mdr_rich.specs.declared.code.Lval.{Lval}
 use Rattle.mdr_core.specs.declared.program.Program.{Program}
 use Rattle.mdr_core.specs.declared.types.Ty.{Ty}
-use Rattle.mdr_core.specs.Folds.{lvalue_of}
+use Rattle.mdr_rich.specs.Folds.{lvalue_of}
 use Rattle.mdr_core.specs.Layout.{chosen}
 use Rattle.mdr_core.specs.Types.{is_scalar}
-use Rattle.mdr_core.specs.Typing.{Slot, extent, Designates, HasAddress}
+use Rattle.mdr_core.specs.Typing.{Slot, extent}
+use Rattle.mdr_rich.specs.Typing.{Designates, HasAddress}
 use Rattle.mdr_faults.specs.declared.scope.Object.{Object}
 use Rattle.mdr_operand.specs.declared.operand.Operand.TheVariants as operand
 use Rattle.mdr_operand.specs.declared.room.LocalName.{LocalName}

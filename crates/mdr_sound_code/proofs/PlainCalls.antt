@@ -1,15 +1,16 @@
 -- A call of a service that takes values alone is one of the program.
 use Rattle.std.proofs.Common.{◌≡◌, inl, inr, ℕ, List, ◌∷◌, length, map, Some, None, refl, subst}
-use Rattle.mdr_core.specs.declared.code.Callee.TheVariants as callee
+use Rattle.mdr_rich.specs.declared.code.Callee.TheVariants as callee
 use Rattle.mdr_core.specs.declared.kind.Kind.TheVariants.{U8, U32}
 use Rattle.mdr_core.specs.declared.place.Place.{Place}
 use Rattle.mdr_core.specs.declared.program.Program.{Program}
 use Rattle.mdr_core.specs.declared.types.Ty.{Ty}
 use Rattle.mdr_core.specs.declared.types.Ty.TheVariants as type
-use Rattle.mdr_core.specs.Code.{Term}
-use Rattle.mdr_core.specs.Folds.{term_of}
+use Rattle.mdr_rich.specs.Code.{Term}
+use Rattle.mdr_rich.specs.Folds.{term_of}
 use Rattle.mdr_core.specs.Services.{Service as CoreService, offered, service_numbered}
-use Rattle.mdr_core.specs.Typing.{Slot, NamesHandler}
+use Rattle.mdr_core.specs.Typing.{Slot}
+use Rattle.mdr_rich.specs.Typing.{NamesHandler}
 use Rattle.mdr_call.specs.declared.parts.Argument.{Argument}
 use Rattle.mdr_call.specs.declared.parts.TypedCall.{TypedCall}
 use Rattle.mdr_call.specs.declared.service.PlainService.{PlainService}

@@ -1,10 +1,10 @@
 -- Prefix forms of what is known (C99 6.5.3).
 use Rattle.std.specs.Prelude.{◌≡◌, ◌⊎◌, ℕ, List, Option, Some, None}
 use Rattle.std.proofs.Common.{inl, inr, refl, ap, sym, subst}
-use Rattle.mdr_core.specs.declared.code.Expr.{Expr}
-use Rattle.mdr_core.specs.declared.code.Expr.TheVariants as expr
-use Rattle.mdr_core.specs.declared.code.Lval.{Lval}
-use Rattle.mdr_core.specs.declared.code.Lval.TheVariants as lval
+use Rattle.mdr_rich.specs.declared.code.Expr.{Expr}
+use Rattle.mdr_rich.specs.declared.code.Expr.TheVariants as expr
+use Rattle.mdr_rich.specs.declared.code.Lval.{Lval}
+use Rattle.mdr_rich.specs.declared.code.Lval.TheVariants as lval
 use Rattle.mdr_core.specs.declared.kind.Kind.TheVariants.{S32}
 use Rattle.mdr_core.specs.declared.place.Place.{Place}
 use Rattle.mdr_core.specs.declared.program.Program.{Program}
@@ -12,9 +12,10 @@ use Rattle.mdr_core.specs.declared.types.Ty.{Ty}
 use Rattle.mdr_core.specs.declared.types.Ty.TheVariants as type
 use Rattle.mdr_core.specs.declared.value.Value.TheVariants as value
 use Rattle.mdr_core.specs.Conversions.{promoted}
-use Rattle.mdr_core.specs.Folds.{lvalue_of}
-use Rattle.mdr_core.specs.Typing.{Slot, One, Designates, HasAddress}
-use Rattle.mdr_core.proofs.Coded.{lit_is, neg_is, flip_is, not_is, deref_is}
+use Rattle.mdr_rich.specs.Folds.{lvalue_of}
+use Rattle.mdr_core.specs.Typing.{Slot, One}
+use Rattle.mdr_rich.specs.Typing.{Designates, HasAddress}
+use Rattle.mdr_rich.proofs.Coded.{lit_is, neg_is, flip_is, not_is, deref_is}
 use Rattle.mdr_faults.specs.Faults.{Checked, Right}
 use Rattle.mdr_operand.specs.declared.operand.Operand.{Operand}
 use Rattle.mdr_operand.specs.declared.operand.Operand.TheVariants as operand

@@ -1,7 +1,5 @@
--- A call of a service is one of the program, but for a call back, which is in no sound program.
+-- A call of a service is one of the program.
 use Rattle.std.proofs.Common.{◌≡◌, List, Some}
-use Rattle.mdr_core.specs.declared.code.Callee.{Callee}
-use Rattle.mdr_core.specs.declared.code.Callee.TheVariants as callee
 use Rattle.mdr_core.specs.declared.place.Place.{Place}
 use Rattle.mdr_core.specs.declared.program.Program.{Program}
 use Rattle.mdr_core.specs.declared.types.Ty.{Ty}
@@ -18,19 +16,19 @@ use Rattle.mdr_operand.specs.declared.room.LocalName.{LocalName}
 use Rattle.mdr_sound_code.proofs.FunctionCalls.{IsKnownCall}
 use Rattle.mdr_sound_code.proofs.GivenArguments.{AreKnownArguments}
 use Rattle.mdr_sound_code.proofs.Allocations.{kzalloc_known, kcalloc_known}
-use Rattle.mdr_sound_code.proofs.CallsBack.{kcall_calls}
+use Rattle.mdr_sound_code.proofs.CallsBack.{kcall_known}
 use Rattle.mdr_sound_code.proofs.Interrupts.{request_irq_known}
 use Rattle.mdr_sound_code.proofs.PlainCalls.{plain_service_known}
 use Rattle.mdr_sound_code.proofs.Printing.{printk_known}
 
 module _ (program : Program) (slots : List Slot) (names : List LocalName) where
   pub service_call_known : (scope : Scope) (p : Place) (args : List Argument) (s : Service) (call : TypedCall) → AreKnownArguments program slots names args
-      → ((t : Ty) → call.form.shape ≡ Some t → HasNumber program t) → (◌≡◌ {A = Callee} call.form.callee (callee.Service 15) → ⊥)
+      → ((t : Ty) → call.form.shape ≡ Some t → HasNumber program t)
       → service_call scope p args s ≡ Right call → IsKnownCall program slots names call
   unfolding service_call
-  service_call_known scope p args service.Kzalloc call h table no_back e = kzalloc_known program slots names scope p call table args h e
-  service_call_known scope p args service.Kcalloc call h table no_back e = kcalloc_known program slots names scope p call table args h e
-  service_call_known scope p args service.Printk call h table no_back e = printk_known program slots names p call args h e
-  service_call_known scope p args service.RequestIrq call h table no_back e = request_irq_known program slots names p call args h e
-  service_call_known scope p args service.Kcall call h table no_back e = absurd (no_back (kcall_calls p call args e))
-  service_call_known scope p args (service.Plain s) call h table no_back e = plain_service_known program slots names p args h call s e
+  service_call_known scope p args service.Kzalloc call h table e = kzalloc_known program slots names scope p call table args h e
+  service_call_known scope p args service.Kcalloc call h table e = kcalloc_known program slots names scope p call table args h e
+  service_call_known scope p args service.Printk call h table e = printk_known program slots names p call args h e
+  service_call_known scope p args service.RequestIrq call h table e = request_irq_known program slots names p call args h e
+  service_call_known scope p args service.Kcall call h table e = kcall_known program slots names p call args h e
+  service_call_known scope p args (service.Plain s) call h table e = plain_service_known program slots names p args h call s e

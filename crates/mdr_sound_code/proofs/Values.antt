@@ -2,9 +2,9 @@
 use Rattle.std.specs.Prelude.{◌≡◌, Bool, true, false, List, length, Some, IsTrue, pos}
 use Rattle.std.proofs.Common.{refl, sym, subst}
 use Rattle.std.proofs.lemmas.Option.{none-some, same_Some}
-use Rattle.mdr_core.specs.declared.code.Expr.{Expr}
-use Rattle.mdr_core.specs.declared.code.Expr.TheVariants as expr
-use Rattle.mdr_core.specs.declared.code.Lval.{Lval}
+use Rattle.mdr_rich.specs.declared.code.Expr.{Expr}
+use Rattle.mdr_rich.specs.declared.code.Expr.TheVariants as expr
+use Rattle.mdr_rich.specs.declared.code.Lval.{Lval}
 use Rattle.mdr_core.specs.declared.kind.Kind.{Kind}
 use Rattle.mdr_core.specs.declared.place.Place.{Place}
 use Rattle.mdr_core.specs.declared.program.Program.{Program}
@@ -12,12 +12,13 @@ use Rattle.mdr_core.specs.declared.types.Ty.{Ty, out-Ty}
 use Rattle.mdr_core.specs.declared.types.Ty.TheOpen.{Ty-F}
 use Rattle.mdr_core.specs.declared.types.Ty.TheVariants as type
 use Rattle.mdr_core.specs.declared.value.Value.TheVariants as value
-use Rattle.mdr_core.specs.Code.{Term}
-use Rattle.mdr_core.specs.Folds.{term_of}
+use Rattle.mdr_rich.specs.Code.{Term}
+use Rattle.mdr_rich.specs.Folds.{term_of}
 use Rattle.mdr_core.specs.Kinds.{is_in_range, is_same_kind}
 use Rattle.mdr_core.specs.Types.{is_scalar, is_scalar_by, is_pointer, is_pointer_by}
-use Rattle.mdr_core.specs.Typing.{Slot, Has, IsCondition}
-use Rattle.mdr_core.proofs.Coded.{lit_is, load_is, decay_is, conv_is}
+use Rattle.mdr_core.specs.Typing.{Slot, IsCondition}
+use Rattle.mdr_rich.specs.Typing.{Has}
+use Rattle.mdr_rich.proofs.Coded.{lit_is, load_is, decay_is, conv_is}
 use Rattle.mdr_core.proofs.Ranges.{in_range-from, least-le-zero, zero-le-greatest}
 use Rattle.mdr_faults.specs.Faults.{Right}
 use Rattle.mdr_operand.specs.declared.operand.Integer.{Integer}

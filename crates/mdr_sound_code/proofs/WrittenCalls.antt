@@ -1,7 +1,5 @@
 -- What a written call comes to is a call of the program (C99 6.5.2.2).
 use Rattle.std.proofs.Common.{◌≡◌, ℕ, Bool, true, false, List, ◌∷◌, Option, Some, None, refl, ap, ◌∙◌, subst}
-use Rattle.mdr_core.specs.declared.code.Callee.{Callee}
-use Rattle.mdr_core.specs.declared.code.Callee.TheVariants as callee
 use Rattle.mdr_core.specs.declared.place.Place.{Place}
 use Rattle.mdr_core.specs.declared.program.Program.{Program}
 use Rattle.mdr_core.specs.declared.types.Ty.{Ty}
@@ -157,9 +155,9 @@ module _ (program : Program) (slots : List Slot) (scope : Scope) (names : List L
 
   -- ---- calls
 
-  module _ (p : Place) (call : TypedCall) (in_table : (t : Ty) → call.form.shape ≡ Some t → HasNumber program t) (no_back : ◌≡◌ {A = Callee} call.form.callee (callee.Service 15) → ⊥) where
+  module _ (p : Place) (call : TypedCall) (in_table : (t : Ty) → call.form.shape ≡ Some t → HasNumber program t) where
     call_by_known : (args : List Argument) (t : Target) → AreKnownArguments program slots names args → IsKnownTarget t → call_by scope p args t ≡ Right call → IsKnownCall program slots names call
-    call_by_known args (target.Service s) h i e = service_call_known program slots names scope p args s call h in_table no_back e
+    call_by_known args (target.Service s) h i e = service_call_known program slots names scope p args s call h in_table e
     call_by_known args (target.Callee x) h i e = function_call_known program slots names p args h call i.0 x i.1 e
 
     pub call_known : (f : Written) (args : Writtens) → HasNumbers f → TakesNoSlot names f → HaveNumbers args → TakeNoSlot names args → call_of (typed scope names) scope p f args ≡ Right call → IsKnownCall program slots names call

@@ -1,15 +1,16 @@
 -- for proofs
 -- What an expression comes to, as something of a program: with the types that the program's own rules give it (C99 6.5).
 use Rattle.std.specs.Prelude.{◌≡◌, ◌⊎◌, ℕ, false, List, length, Some, slice_get, IsTrue}
-use Rattle.mdr_core.specs.declared.code.Expr.{Expr}
-use Rattle.mdr_core.specs.declared.code.Lval.{Lval}
+use Rattle.mdr_rich.specs.declared.code.Expr.{Expr}
+use Rattle.mdr_rich.specs.declared.code.Lval.{Lval}
 use Rattle.mdr_core.specs.declared.program.Func.{Func}
 use Rattle.mdr_core.specs.declared.program.Program.{Program}
 use Rattle.mdr_core.specs.declared.types.Ty.{Ty}
 use Rattle.mdr_core.specs.declared.types.Ty.TheVariants as type
-use Rattle.mdr_core.specs.Folds.{term_of, lvalue_of}
+use Rattle.mdr_rich.specs.Folds.{term_of, lvalue_of}
 use Rattle.mdr_core.specs.Types.{Scalar as ScalarSort, is_scalar, sort_of}
-use Rattle.mdr_core.specs.Typing.{Slot, One, Many, Has, Designates, HasAddress, function_type}
+use Rattle.mdr_core.specs.Typing.{Slot, One, Many, function_type}
+use Rattle.mdr_rich.specs.Typing.{Has, Designates, HasAddress}
 use Rattle.mdr_operand.specs.declared.operand.Operand.{Operand}
 use Rattle.mdr_operand.specs.declared.operand.Operand.TheVariants as operand
 use Rattle.mdr_operand.specs.declared.operand.Scalar.{Scalar}

@@ -2,14 +2,13 @@
 -- What holds of all assignments and calls of a function.
 use Rattle.std.specs.Prelude.{◌≡◌, List, Option, Some}
 use Rattle.mdr_core.specs.declared.code.BinOp.{BinOp}
-use Rattle.mdr_core.specs.declared.code.Callee.{Callee}
-use Rattle.mdr_core.specs.declared.code.Callee.TheVariants as callee
 use Rattle.mdr_core.specs.declared.place.Place.{Place}
 use Rattle.mdr_core.specs.declared.program.Program.{Program}
 use Rattle.mdr_core.specs.declared.types.Ty.{Ty}
-use Rattle.mdr_core.specs.Folds.{call_of, lvalue_of, term_of}
+use Rattle.mdr_rich.specs.Folds.{call_of, lvalue_of, term_of}
 use Rattle.mdr_core.specs.Types.{HasNumber}
-use Rattle.mdr_core.specs.Typing.{Slot, CallGives, IsAssignment}
+use Rattle.mdr_core.specs.Typing.{Slot}
+use Rattle.mdr_rich.specs.Typing.{CallGives, IsAssignment}
 use Rattle.mdr_assign.specs.declared.assignment.Assignment.{Assignment}
 use Rattle.mdr_assign.specs.Assignments.{assignment_rule, step_rule}
 use Rattle.mdr_call.specs.declared.parts.TypedCall.{TypedCall}
@@ -38,11 +37,11 @@ StepsAreKnown = (program : Program) (slots : List Slot) (scope : Scope) (names :
     → step_rule scope p op (typed scope names a) ≡ Right made
     → IsAssignment program slots (lvalue_of made.left) (term_of made.right)
 
--- what a call comes to is one of the program (6.5.2.2), if the type that it names is in the type table. The service that calls back, of number 15, is in no sound program
+-- what a call comes to is one of the program (6.5.2.2), if the type that it names is in the type table
 abbrev pub CallsAreKnown : Type 0
 CallsAreKnown = (program : Program) (slots : List Slot) (scope : Scope) (names : List LocalName) (p : Place) (f : Written) (args : Writtens) (call : TypedCall)
     → Knows program scope → KnowsLocals program slots names
     → HasNumbers f → TakesNoSlot names f → HaveNumbers args → TakeNoSlot names args
     → written_call (typed scope names) scope p f args ≡ Right call
-    → ((t : Ty) → call.form.shape ≡ Some t → HasNumber program t) → (◌≡◌ {A = Callee} call.form.callee (callee.Service 15) → ⊥)
+    → ((t : Ty) → call.form.shape ≡ Some t → HasNumber program t)
     → CallGives program slots (call_of call.form) call.result

@@ -197,16 +197,17 @@ made_of : (types : List Ty) (ps : Parts) → IsMadeOf (with_types types ps) ps
 made_of types ps = record { structs = refl; globals = refl; funcs = refl }
 
 pub halves_sound : HalvesAreSound
-halves_sound bytes halves uses plan program is planned few back =
+halves_sound bytes halves uses plan program is planned numbers =
     let proper = bytes_proper bytes halves is.tokens is.tree is.lexed is.read in
     let items : List Item = (is.tree).items in
     let half = half_of (file_pieces (body_rule profile_rules) uses items) plan program is.typed in
     let ps : Parts = parts_of half.value in
     let tests = tests_of plan ps half.suits in
+    let types : length plan.types ≤ 16777216 = subst (λ (p : Program). length p.types ≤ 16777216) (sym half.made) numbers.types in
     let structs : structs_in plan.types ≡ length ps.structs = eqb-true (structs_in plan.types) (length ps.structs) tests.structs in
     let count = sym (table_structs plan.types planned.table) ∙ structs in
     program_sound program profile_rules items half.value (pieces_right (body_rule profile_rules) uses items half.value half.right)
     (subst (λ (p : Program). IsMadeOf p ps) half.made (made_of plan.types ps)) (ranges_of items proper) (bodies_of items proper)
-    (subst HasAll half.made (has_number plan.types ps few tests.types))
+    (subst HasAll half.made (has_number plan.types ps (omega (arith, types)) tests.types))
     (λ scope known slots. profile_sound program slots scope known)
-    (subst IsTable half.made (is_table plan.types ps planned.table count)) back
+    (subst IsTable half.made (is_table plan.types ps planned.table count)) numbers

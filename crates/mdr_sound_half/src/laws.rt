@@ -3,8 +3,8 @@
 ghost use Rattle.mdr_sound_half.specs.HalfSources.{HalvesAreSound};
 ghost use Rattle.mdr_sound_half.specs.PlanTexts.{PlansThatAreReadArePlanned, PlansHaveFewTypes};
 
-/// Where no fault is found in the text of a user half, its program is sound, if it calls nothing back and its types have
-/// numbers of 32 bits.
+/// Where no fault is found in the text of a user half, its program is sound, if its types, globals,
+/// structs and functions are few.
 pub fn halves_are_sound()
     ensures { HalvesAreSound }
 {}

@@ -31,8 +31,9 @@ use Rattle.mdr_sound_code.specs.Knowing.{Knows}
 use Rattle.mdr_sound_bodies.specs.Bodies.{IsMade}
 use Rattle.mdr_sound_bodies.specs.Rules.{AreSoundRules}
 use Rattle.mdr_sound_bodies.specs.Written.{AreNamed, AreProper}
+use Rattle.mdr_sound_bodies.proofs.Making.{body_grounded}
 use Rattle.mdr_sound.specs.Counting.{Begins}
-use Rattle.mdr_sound.specs.Whole.{HasAll, IsMadeOf, CallsNothingBack, AreDefinesInRange, IsBodyProper, AreBodiesProper}
+use Rattle.mdr_sound.specs.Whole.{HasAll, IsMadeOf, AreDefinesInRange, IsBodyProper, AreBodiesProper}
 use Rattle.mdr_sound.proofs.Along.{GoesOn, along}
 use Rattle.mdr_sound.proofs.Declaring.{defined_put, declared_keep}
 use Rattle.mdr_sound.proofs.Filed.{file_of, file_made}
@@ -62,7 +63,7 @@ module _ (program : Program) (rules : Rules) (items : List Item) (xs : List Piec
       let scope = body_scope known h in
       let st = function_stands program (body_rule rules) items xs right made ranges known h headed q.stands low in
       let declarations = knows_declarations program rules items xs right made ranges proper all sound_rules known ps scope q st (body_scope_structs program rules items xs right made ranges proper all sound_rules known h) in
-      let is_made : IsMade program rules scope h nodes g b = record { front = known.scope; tags = body_scope_tags program rules items xs right made ranges proper all sound_rules known h; heading_is = headed.listed; body_is = f; named = written.0; proper = written.1; in_table = placed.locals; grounded = placed.body } in
+      let is_made : IsMade program rules scope h nodes g b = record { front = known.scope; tags = body_scope_tags program rules items xs right made ranges proper all sound_rules known h; heading_is = headed.listed; body_is = f; named = written.0; proper = written.1; in_table = placed.locals; grounded = body_grounded program b.statements placed.body } in
       bodies_scoped program rules scope h nodes g b h.name is_critical declarations (sound_rules scope st.knows) (plain scope) is_made
 
   record IsScopedFile (known : Known) (ps : Parts) : Type 0 where
@@ -102,8 +103,8 @@ module _ (program : Program) (rules : Rules) (items : List Item) (xs : List Piec
   all_scoped : IsScopedFile Last Whole
   all_scoped = along (body_rule rules) items xs IsScopedFile right scoped_goes_on (record { rests = first_standing program (body_rule rules) items xs right made ranges; funcs = λ i f e. absurd cc })
 
-  funcs_scoped : CallsNothingBack program → (f : ℕ) (func : Func) → slice_get program.funcs f ≡ Some func → IsScopedFunc func
-  funcs_scoped back f func e = all_scoped.funcs f func (ap (λ fs. slice_get fs f) (sym made.funcs) ∙ e) (func_placed program rules items xs right made ranges proper all sound_rules f func e back)
+  funcs_scoped : (f : ℕ) (func : Func) → slice_get program.funcs f ≡ Some func → IsScopedFunc func
+  funcs_scoped f func e = all_scoped.funcs f func (ap (λ fs. slice_get fs f) (sym made.funcs) ∙ e) (func_placed program rules items xs right made ranges proper all sound_rules f func e)
 
   -- ---- the program
 
@@ -115,12 +116,12 @@ module _ (program : Program) (rules : Rules) (items : List Item) (xs : List Piec
   by_func None body h e = absurd (none-some body e)
   by_func (Some func) body h e = by_body func func.body body (h func refl) e
 
-  pub program_scoped : CallsNothingBack program → IsScoped program
+  pub program_scoped : IsScoped program
   unfolding body_of
-  program_scoped back = record { bodies = λ f body e. by_func (slice_get program.funcs f) body (λ func is. funcs_scoped back f func is) e }
+  program_scoped = record { bodies = λ f body e. by_func (slice_get program.funcs f) body (λ func is. funcs_scoped f func is) e }
 
 -- of a file without faults
-pub files_scoped : (program : Program) (rules : Rules) (uses : UseRule) (items : List Item) → typed (body_rule rules) uses items ≡ Right program → AreDefinesInRange items → AreBodiesProper items → ((scope : Scope) → Knows program scope → (slots : List Slot) → AreSoundRules program slots scope rules) → ((scope : Scope) → ArePlainRules scope rules) → HasAll program → CallsNothingBack program → IsScoped program
-files_scoped program rules uses items e ranges proper sound plain all back =
+pub files_scoped : (program : Program) (rules : Rules) (uses : UseRule) (items : List Item) → typed (body_rule rules) uses items ≡ Right program → AreDefinesInRange items → AreBodiesProper items → ((scope : Scope) → Knows program scope → (slots : List Slot) → AreSoundRules program slots scope rules) → ((scope : Scope) → ArePlainRules scope rules) → HasAll program → IsScoped program
+files_scoped program rules uses items e ranges proper sound plain all =
     let f = file_of (body_rule rules) uses items program e in
-    program_scoped program rules items f.pieces f.right (file_made (body_rule rules) items program f) ranges proper all sound plain back
+    program_scoped program rules items f.pieces f.right (file_made (body_rule rules) items program f) ranges proper all sound plain

@@ -1,18 +1,18 @@
 -- Statements name objects only where they live, if what stands in them does.
 use Rattle.std.proofs.Common.{◌≡◌, ◌⊎◌, ℕ, ◌||◌, Bool, true, false, List, [], length, Option, Some, Ok, refl, sym, ◌∙◌, subst}
-use Rattle.mdr_core.specs.declared.code.Expr.{Expr}
-use Rattle.mdr_core.specs.declared.code.Step.{Step}
-use Rattle.mdr_core.specs.declared.code.Step.TheVariants as step
-use Rattle.mdr_core.specs.declared.code.Stmt.{Stmt}
+use Rattle.mdr_rich.specs.declared.code.Expr.{Expr}
+use Rattle.mdr_rich.specs.declared.code.Step.{Step}
+use Rattle.mdr_rich.specs.declared.code.Step.TheVariants as step
+use Rattle.mdr_rich.specs.declared.code.Stmt.{Stmt}
 use Rattle.mdr_core.specs.declared.place.Place.{Place}
 use Rattle.mdr_core.specs.declared.program.Program.{Program}
 use Rattle.mdr_core.specs.declared.types.Ty.{Ty}
 use Rattle.mdr_core.specs.declared.types.Ty.TheVariants as type
-use Rattle.mdr_core.specs.Code.{Code, Codes}
-use Rattle.mdr_core.specs.Folds.{code_of, codes_of, term_of, test_of}
+use Rattle.mdr_rich.specs.Code.{Code, Codes}
+use Rattle.mdr_rich.specs.Folds.{code_of, codes_of, term_of, test_of}
 use Rattle.mdr_core.specs.Types.{Scalar, sort_of}
 use Rattle.mdr_core.specs.Typing.{Slot}
-use Rattle.mdr_core.proofs.Coded.{code_is, if_is, while_is, for_is, block_is}
+use Rattle.mdr_rich.proofs.Coded.{code_is, if_is, while_is, for_is, block_is}
 use Rattle.mdr_faults.specs.declared.scope.Scope.{Scope}
 use Rattle.mdr_faults.specs.Faults.{Checked, Right, both}
 use Rattle.mdr_operand.specs.Written.{Written, Line, Lines}
@@ -21,7 +21,6 @@ use Rattle.mdr_body.specs.declared.here.Here.{Here}
 use Rattle.mdr_body.specs.Locals.{is_taken, entered, numbered}
 use Rattle.mdr_body.specs.Addresses.{takes_in, perhaps_takes, takes_at, takes_along}
 use Rattle.mdr_body.specs.Statements.{Rules, stmt, single, condition, perhaps_condition, appended, pair, head_taken, simple_made, simple_behind, heads_made, heads_behind, steps_made, steps_behind, for_head, behind_head, block_of, as_part, if_of, while_of, for_of, line_behind, perhaps_behind, lines_behind, line_made, perhaps_made, lines_made}
-use Rattle.mdr_scoped.specs.Scopes.{TermScoped, CodesScoped}
 use Rattle.mdr_sound_code.proofs.Rights.{same_right, after_right, both_right}
 use Rattle.mdr_sound_bodies.specs.Grounded.{IsGrounded, AreGrounded}
 use Rattle.mdr_sound_bodies.specs.Rules.{IsRight, AreSoundRules}
@@ -36,6 +35,7 @@ use Rattle.mdr_sound_bodies.proofs.Conditions.{condition_typed, test_typed}
 use Rattle.mdr_sound_bodies.proofs.Stating.{written_right, perhaps_right}
 use Rattle.mdr_sound_bodies.proofs.Heading.{pair_right, tail, told_head, told_line, told_none, steps_same, simple_here, heads_here}
 use Rattle.mdr_sound_bodies.proofs.Lining.{front_of_none, head_right, head_here, head_declared, line_here, part_here}
+use Rattle.mdr_sound_scopes.specs.Named.{TermScoped, CodesScoped}
 use Rattle.mdr_sound_scopes.specs.Plain.{ArePlainRules}
 use Rattle.mdr_sound_scopes.proofs.Hiding.{hidden}
 use Rattle.mdr_sound_scopes.proofs.Living.{Live, live_numbered, live_entered, live_same, knows_hidden, IsStill, Leaves, behinds, behinds_both, scoped_both, scoped_before}

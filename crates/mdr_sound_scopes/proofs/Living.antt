@@ -1,10 +1,10 @@
 -- The objects that live at a place of a body, and behind code.
 use Rattle.std.proofs.Common.{◌≡◌, ℕ, ◌+◌, ◌<◌, ◌||◌, ◌==◌, ◌⊎◌, inl, inr, Bool, true, false, List, [], ◌∷◌, ◌++◌, map, Some, Ok, slice_get, refl, sym, ap, ◌∙◌, arith}
 use Rattle.std.proofs.lemmas.Bool.{eq-eqb, eqb-true, or_cases, or_left, or_right}
-use Rattle.mdr_core.specs.declared.code.Stmt.{Stmt}
+use Rattle.mdr_rich.specs.declared.code.Stmt.{Stmt}
 use Rattle.mdr_core.specs.declared.program.Program.{Program}
-use Rattle.mdr_core.specs.Code.{Code, Codes}
-use Rattle.mdr_core.specs.Folds.{code_of, codes_of, before}
+use Rattle.mdr_rich.specs.Code.{Code, Codes}
+use Rattle.mdr_rich.specs.Folds.{code_of, codes_of, before}
 use Rattle.mdr_core.specs.Layout.{chosen}
 use Rattle.mdr_core.specs.Typing.{Slot, slot_of_local}
 use Rattle.mdr_syntax.specs.declared.tree.Decl.{Decl}
@@ -16,11 +16,12 @@ use Rattle.mdr_operand.specs.declared.room.LocalName.{LocalName}
 use Rattle.mdr_operand.specs.Rooms.{local_named}
 use Rattle.mdr_body.specs.declared.here.Here.{Here}
 use Rattle.mdr_body.specs.Locals.{local_object, local_of, lies_apart, is_own_object, named_local, with_local, entered, numbered}
-use Rattle.mdr_scoped.specs.Scopes.{is_there, is_object, behind, CodeScoped, CodesScoped}
+use Rattle.mdr_scoped.specs.Scopes.{is_there, is_object}
 use Rattle.mdr_sound_code.specs.Knowing.{KnowsLocals}
 use Rattle.mdr_sound_bodies.proofs.Declaring.{IsAt}
 use Rattle.mdr_sound_bodies.proofs.Growing.{Grows}
 use Rattle.mdr_sound_bodies.proofs.Naming.{by_last}
+use Rattle.mdr_sound_scopes.specs.Named.{behind, CodeScoped, CodesScoped}
 use Rattle.mdr_sound_scopes.proofs.Hiding.{hidden, get_hidden, same_shown, known_hidden}
 
 -- ---- a place

@@ -2,11 +2,11 @@
 use Rattle.std.proofs.Common.{◌≡◌, ◌⊎◌, inl, inr, ℕ, zero, suc, ◌+◌, ◌<◌, ◌&&◌, ◌==◌, not, Bool, true, false, List, [], ◌∷◌, ◌++◌, length, map, Some, slice_get, refl, sym, ap, ◌∙◌, subst, arith}
 use Rattle.std.proofs.lemmas.Bool.{eq-eqb, eqb-true, or_cases, or_left, or_right}
 use Rattle.std.proofs.lemmas.Option.{none-some, same_Some, slice_get_within}
-use Rattle.mdr_core.specs.declared.code.Stmt.{Stmt}
+use Rattle.mdr_rich.specs.declared.code.Stmt.{Stmt}
 use Rattle.mdr_core.specs.declared.program.Local.{Local}
 use Rattle.mdr_core.specs.declared.program.Param.{Param}
 use Rattle.mdr_core.specs.declared.program.Program.{Program}
-use Rattle.mdr_core.specs.Folds.{codes_of}
+use Rattle.mdr_rich.specs.Folds.{codes_of}
 use Rattle.mdr_core.specs.Layout.{chosen}
 use Rattle.mdr_core.specs.Typing.{Slot, slot_of_param, slot_of_local}
 use Rattle.mdr_syntax.specs.declared.tree.Decl.{Decl}
@@ -26,8 +26,10 @@ use Rattle.mdr_body.specs.Bodies.{declared_locals, frame_of}
 use Rattle.mdr_body.specs.Locals.{named_local, parameter_taken, parameters_from, first_here}
 use Rattle.mdr_body.specs.Statements.{Rules, lines_behind, lines_made}
 use Rattle.mdr_meaning.specs.Lives.{object_params}
+use Rattle.mdr_lower.specs.Lowering.{lowered}
+use Rattle.mdr_lower.proofs.PlainForms.{lowered_same}
 use Rattle.mdr_program.specs.Parts.{marked}
-use Rattle.mdr_scoped.specs.Scopes.{is_there}
+use Rattle.mdr_scoped.specs.Scopes.{is_there, CodesScoped as ArePlainScoped}
 use Rattle.mdr_sound_code.specs.Knowing.{KnowsLocals}
 use Rattle.mdr_sound_bodies.specs.Grounded.{AreGrounded}
 use Rattle.mdr_sound_bodies.specs.Rules.{AreSoundRules}
@@ -37,6 +39,7 @@ use Rattle.mdr_sound_bodies.proofs.Collecting.{all_declared}
 use Rattle.mdr_sound_bodies.proofs.Entering.{named_stands, parameter_at, parameters_here, params_many, marked_many}
 use Rattle.mdr_sound_bodies.proofs.Making.{IsHeaded, heading_right, rule_right, result_told, mapped_many}
 use Rattle.mdr_sound_bodies.proofs.Scoping.{same_result}
+use Rattle.mdr_sound_scopes.specs.Named.{CodesScoped}
 use Rattle.mdr_sound_scopes.specs.Bodies.{ScopedWith, BodiesAreScoped}
 use Rattle.mdr_sound_scopes.specs.Plain.{ArePlainRules}
 use Rattle.mdr_sound_scopes.proofs.Living.{Live}
@@ -120,8 +123,15 @@ module _ (program : Program) (scope : Scope) (body : Lines) (ds : List Decl) (pa
     fresh = λ i e. let below = below_params params locals 0 i e in omega (arith, below, many);
   }
 
+-- the statements of a body, with these slots
+abbrev AreScoped : List Slot → List Stmt → Type 0
+AreScoped slots ss = CodesScoped slots (object_params 0 slots) (codes_of ss)
+
+body_lowered : (slots : List Slot) (ss : List Stmt) → AreScoped slots ss → ScopedWith slots (Some (lowered ss))
+body_lowered slots ss h = subst (ArePlainScoped slots (object_params 0 slots)) (sym (lowered_same ss)) h
+
 module _ (program : Program) (rules : Rules) (scope : Scope) (h : Head) (nodes : List Node) (known : KnowsDeclarations program scope) where
-  made_scoped : (outer : Scope) → outer.tags ≡ scope.tags → (g : Heading) (siblings : List Candidate) (locals : List Local) (ss : List Stmt) → IsHeaded outer siblings h g → ((slots : List Slot) → AreSoundRules program slots scope rules) → ArePlainRules scope rules → AreNamed h.params → AreProper (lines_of nodes) → AreGrounded program (codes_of ss) → declared_locals (lines_behind scope (frame_of scope h) (first_here scope (lines_of nodes) h.params) (lines_of nodes)).locals ≡ Right locals → lines_made rules scope (frame_of scope h) false (first_here scope (lines_of nodes) h.params) (lines_of nodes) ≡ Right ss → ScopedWith (map slot_of_param (marked (map (parameter_taken (lines_of nodes)) h.params) 0 g.params) ++ map slot_of_local locals) (Some ss)
+  made_scoped : (outer : Scope) → outer.tags ≡ scope.tags → (g : Heading) (siblings : List Candidate) (locals : List Local) (ss : List Stmt) → IsHeaded outer siblings h g → ((slots : List Slot) → AreSoundRules program slots scope rules) → ArePlainRules scope rules → AreNamed h.params → AreProper (lines_of nodes) → AreGrounded program (codes_of ss) → declared_locals (lines_behind scope (frame_of scope h) (first_here scope (lines_of nodes) h.params) (lines_of nodes)).locals ≡ Right locals → lines_made rules scope (frame_of scope h) false (first_here scope (lines_of nodes) h.params) (lines_of nodes) ≡ Right ss → AreScoped (map slot_of_param (marked (map (parameter_taken (lines_of nodes)) h.params) 0 g.params) ++ map slot_of_local locals) ss
   made_scoped outer tags g siblings locals ss headed sound plain named proper grounded declared made =
       let ls : Lines = lines_of nodes in
       let here : Here = first_here scope ls h.params in
@@ -140,5 +150,6 @@ pub bodies_scoped : BodiesAreScoped
 bodies_scoped program rules scope h nodes g body name is_critical known sound plain made =
     let b = rule_right rules scope h nodes body made.body_is in
     let headed = heading_right made.front h g made.heading_is in
-    subst (λ os. ScopedWith (map slot_of_param (marked os 0 g.params) ++ map slot_of_local body.locals) (Some body.statements)) b.marks
-    (made_scoped program rules scope h nodes known made.front made.tags g (map (candidate made.front) h.params) body.locals body.statements headed sound plain made.named made.proper made.grounded b.locals b.statements)
+    body_lowered (map slot_of_param (marked body.objects 0 g.params) ++ map slot_of_local body.locals) body.statements
+    (subst (λ os. AreScoped (map slot_of_param (marked os 0 g.params) ++ map slot_of_local body.locals) body.statements) b.marks
+    (made_scoped program rules scope h nodes known made.front made.tags g (map (candidate made.front) h.params) body.locals body.statements headed sound plain made.named made.proper made.grounded b.locals b.statements))

@@ -1,13 +1,14 @@
 -- What is well typed over the slots that a place knows names only objects that live there.
-use Rattle.std.proofs.Common.{◌≡◌, ℕ, Bool, List, [], ◌∷◌, Option, Some, None}
+use Rattle.std.proofs.Common.{◌≡◌, inl, inr, ℕ, Bool, List, [], ◌∷◌, Option, Some, None}
 use Rattle.mdr_core.specs.declared.code.BinOp.{BinOp}
 use Rattle.mdr_core.specs.declared.code.BinOp.TheVariants.{Add, Sub, Mul, Div, Rem, Shl, Shr, BitAnd, BitOr, BitXor}
 use Rattle.mdr_core.specs.declared.kind.Kind.{Kind}
 use Rattle.mdr_core.specs.declared.program.Program.{Program}
 use Rattle.mdr_core.specs.declared.types.Ty.{Ty}
-use Rattle.mdr_core.specs.Code.{Term, Lvalue, Called, CallOf, Goal, Code}
-use Rattle.mdr_core.specs.Typing.{Slot, Extent, One, Many, Has, Designates, RightOperand, HaveAll, gives_by, CallGives, GoesTo, Returns, IsTyped, int}
-use Rattle.mdr_scoped.specs.Scopes.{TermScoped, LvalueScoped, TermsScoped, CalleeScoped, FormScoped, GoalScoped, OptionScoped, CodeScoped, behind}
+use Rattle.mdr_rich.specs.Code.{Term, Lvalue, Called, CallOf, Goal, Code}
+use Rattle.mdr_core.specs.Typing.{Slot, Extent, One, Many, RightOperand, int}
+use Rattle.mdr_rich.specs.Typing.{Has, Designates, HaveAll, gives_by, CallGives, GoesTo, Returns, IsTyped}
+use Rattle.mdr_sound_scopes.specs.Named.{TermScoped, LvalueScoped, TermsScoped, CalleeScoped, FormScoped, GoalScoped, OptionScoped, CodeScoped, behind}
 use Rattle.mdr_sound_scopes.specs.Plain.{IsPlain}
 use Rattle.mdr_sound_scopes.proofs.Hiding.{hidden, object_there, array_there}
 
@@ -73,7 +74,8 @@ module _ (program : Program) (slots : List Slot) (objects : List ℕ) where
   called_scoped : (c : Called) (call : CallOf) (t : Ty) → gives_by c program Seen call t → CalleeScoped objects c × TermsScoped objects call.args
   called_scoped (Called.Direct f) call t h = (tt, terms_scoped call.args _ (h.call_is).args)
   called_scoped (Called.Through e) call t h = (term_scoped e _ h.pointer, terms_scoped call.args _ (h.call_is).args)
-  called_scoped (Called.Service n) call t h = (tt, terms_scoped call.args _ h.args)
+  called_scoped (Called.Service n) call t (inl h) = (tt, terms_scoped call.args _ h.args)
+  called_scoped (Called.Service n) call t (inr h) = (tt, terms_scoped call.args _ h.args)
 
   form_scoped : (call : CallOf) (t : Ty) → CallGives program Seen call t → FormScoped objects call
   form_scoped call t h = called_scoped call.callee call t h

@@ -1,17 +1,18 @@
 -- Statements without parts name objects only where they live.
 use Rattle.std.proofs.Common.{◌≡◌, ◌⊎◌, ℕ, ◌≤◌, Bool, false, List, [], ◌∷◌, length, Option, Some, None, Ok, refl, sym, ap, ◌∙◌, subst}
-use Rattle.mdr_core.specs.declared.code.Step.{Step}
-use Rattle.mdr_core.specs.declared.code.Step.TheVariants as step
-use Rattle.mdr_core.specs.declared.code.Stmt.{Stmt}
+use Rattle.mdr_rich.specs.declared.code.Step.{Step}
+use Rattle.mdr_rich.specs.declared.code.Step.TheVariants as step
+use Rattle.mdr_rich.specs.declared.code.Stmt.{Stmt}
 use Rattle.mdr_core.specs.declared.place.Place.{Place}
 use Rattle.mdr_core.specs.declared.program.Program.{Program}
 use Rattle.mdr_core.specs.declared.types.Ty.{Ty}
 use Rattle.mdr_core.specs.declared.types.Ty.TheVariants as type
-use Rattle.mdr_core.specs.Code.{Code, Codes, Way}
-use Rattle.mdr_core.specs.Folds.{code_of, codes_of}
+use Rattle.mdr_core.specs.Code.{Way}
+use Rattle.mdr_rich.specs.Code.{Code, Codes}
+use Rattle.mdr_rich.specs.Folds.{code_of, codes_of}
 use Rattle.mdr_core.specs.Types.{Scalar, sort_of}
 use Rattle.mdr_core.specs.Typing.{Slot}
-use Rattle.mdr_core.proofs.Coded.{code_is, declare_is, text_is, return_is, break_is, continue_is, empty_is}
+use Rattle.mdr_rich.proofs.Coded.{code_is, declare_is, text_is, return_is, break_is, continue_is, empty_is}
 use Rattle.mdr_syntax.specs.declared.tree.Decl.{Decl, out-Decl}
 use Rattle.mdr_faults.specs.declared.fault.FaultKind.TheVariants.{Mismatch}
 use Rattle.mdr_faults.specs.declared.scope.Object.{Object}
@@ -25,7 +26,6 @@ use Rattle.mdr_body.specs.declared.here.Here.{Here}
 use Rattle.mdr_body.specs.Locals.{local_object, is_own_object, with_local}
 use Rattle.mdr_body.specs.Addresses.{takes_in, perhaps_takes, takes_at}
 use Rattle.mdr_body.specs.Statements.{Rules, stmt, single, stated, text_of, takes_text, is_single, own_place, initial_by, initial_step, declared_then, local_made, return_by, return_step, simple_made, simple_behind}
-use Rattle.mdr_scoped.specs.Scopes.{behind, CodeScoped, CodesScoped}
 use Rattle.mdr_sound_code.specs.Knowing.{KnowsLocals}
 use Rattle.mdr_sound_code.proofs.Rights.{not_right, same_right, after_right, chosen_right, refused_right}
 use Rattle.mdr_sound_bodies.specs.Grounded.{IsGrounded, AreGrounded}
@@ -37,6 +37,7 @@ use Rattle.mdr_sound_bodies.proofs.Coding.{grounded_head, grounded_tail}
 use Rattle.mdr_sound_bodies.proofs.Declaring.{IsAt, local_at}
 use Rattle.mdr_sound_bodies.proofs.Going.{here_local}
 use Rattle.mdr_sound_bodies.proofs.Stating.{jump_right, return_sound, initial_sound, perhaps_right, written_right}
+use Rattle.mdr_sound_scopes.specs.Named.{behind, CodeScoped, CodesScoped}
 use Rattle.mdr_sound_scopes.specs.Plain.{IsPlain, IsPlainStep, ArePlainRules}
 use Rattle.mdr_sound_scopes.proofs.Hiding.{hidden}
 use Rattle.mdr_sound_scopes.proofs.Living.{Live, none_declared, knows_hidden, live_local, at_hidden, IsStill, Leaves, behinds}
@@ -179,7 +180,7 @@ module _ (program : Program) (slots : List Slot) (base : ℕ) (scope : Scope) (f
   simple_leaves here objects in_loop t (Line.While p w body) rest ss live h proper told declared g e = not_right _ ss e
   simple_leaves here objects in_loop t (Line.For p init test next body) rest ss live h proper told declared g e = not_right _ ss e
   simple_leaves here objects in_loop t (Line.Do p body w) rest ss live h proper told declared g e = not_right _ ss e
-  simple_leaves here objects in_loop t (Line.Switch p w) rest ss live h proper told declared g e = not_right _ ss e
+  simple_leaves here objects in_loop t (Line.Switch p w cs) rest ss live h proper told declared g e = not_right _ ss e
   simple_leaves here objects in_loop t (Line.Return p w) rest ss live h proper told declared g e =
       let right = perhaps_right program slots base scope frame known rules (sound slots) result here _ w h (λ name n. or_left (takes_at name (Line.Return p w)) _ n) proper in
       let seen = knows_hidden program slots here objects h.knows live in

@@ -1,15 +1,15 @@
 -- What the profile's rules of assignments, calls, initialisers and returns give are plain steps.
 use Rattle.std.proofs.Common.{ℕ, List, Option, Some, None, refl, ◌∙◌, subst}
-use Rattle.mdr_core.specs.declared.code.CallForm.{CallForm}
-use Rattle.mdr_core.specs.declared.code.Expr.{Expr}
-use Rattle.mdr_core.specs.declared.code.Lval.{Lval}
-use Rattle.mdr_core.specs.declared.code.Step.{Step}
-use Rattle.mdr_core.specs.declared.code.Step.TheVariants as step
+use Rattle.mdr_rich.specs.declared.code.CallForm.{CallForm}
+use Rattle.mdr_rich.specs.declared.code.Expr.{Expr}
+use Rattle.mdr_rich.specs.declared.code.Lval.{Lval}
+use Rattle.mdr_rich.specs.declared.code.Step.{Step}
+use Rattle.mdr_rich.specs.declared.code.Step.TheVariants as step
 use Rattle.mdr_core.specs.declared.place.Place.{Place}
 use Rattle.mdr_core.specs.declared.types.Ty.{Ty}
-use Rattle.mdr_core.specs.Code.{Code, Goal}
-use Rattle.mdr_core.specs.Folds.{call_of, goal_of, lvalue_of, term_of}
-use Rattle.mdr_core.proofs.Coded.{code_is, assign_is, call_is, return_is, return_call_is}
+use Rattle.mdr_rich.specs.Code.{Code, Goal}
+use Rattle.mdr_rich.specs.Folds.{call_of, goal_of, lvalue_of, term_of}
+use Rattle.mdr_rich.proofs.Coded.{code_is, assign_is, call_is, return_is, return_call_is}
 use Rattle.mdr_faults.specs.declared.scope.Scope.{Scope}
 use Rattle.mdr_faults.specs.Faults.{Checked, Right, after}
 use Rattle.mdr_operand.specs.declared.operand.Operand.{Operand}

@@ -1,3 +1,4 @@
 pub mod Plain
+pub mod Named
 pub mod Bodies
 pub mod Sources

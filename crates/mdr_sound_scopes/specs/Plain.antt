@@ -1,12 +1,12 @@
 -- for proofs
 -- Rules of expressions, assignments and calls whose steps declare nothing and have no statements inside (C99 6.8.3).
 use Rattle.std.specs.Prelude.{◌≡◌, ℕ, List}
-use Rattle.mdr_core.specs.declared.code.Lval.{Lval}
-use Rattle.mdr_core.specs.declared.code.Step.{Step}
+use Rattle.mdr_rich.specs.declared.code.Lval.{Lval}
+use Rattle.mdr_rich.specs.declared.code.Step.{Step}
 use Rattle.mdr_core.specs.declared.place.Place.{Place}
 use Rattle.mdr_core.specs.declared.types.Ty.{Ty}
-use Rattle.mdr_core.specs.Code.{Code}
-use Rattle.mdr_core.specs.Folds.{code_of}
+use Rattle.mdr_rich.specs.Code.{Code}
+use Rattle.mdr_rich.specs.Folds.{code_of}
 use Rattle.mdr_faults.specs.declared.scope.Scope.{Scope}
 use Rattle.mdr_faults.specs.Faults.{Checked, Right}
 use Rattle.mdr_operand.specs.declared.room.LocalName.{LocalName}

@@ -6,7 +6,7 @@ use Rattle.mdr_core.specs.declared.code.Step.TheVariants as step
 use Rattle.mdr_core.specs.Code.{Code}
 use Rattle.mdr_core.specs.Folds.{code_list, before, code_of, codes_of}
 use Rattle.mdr_core.proofs.Coded.{code_is, for_is}
-use Rattle.mdr_body.specs.Backs.{calls_back, call_back}
+use Rattle.mdr_core.specs.Backs.{calls_back, call_back}
 
 or_nothing : (b : Bool) → (b || false) ≡ b
 or_nothing true = refl

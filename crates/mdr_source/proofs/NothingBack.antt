@@ -3,7 +3,7 @@ use Rattle.std.proofs.Common.{◌≡◌, ℕ, zero, suc, Bool, true, false, ◌|
 use Rattle.mdr_core.specs.declared.code.Stmt.{Stmt}
 use Rattle.mdr_core.specs.declared.program.Func.{Func}
 use Rattle.mdr_core.specs.Folds.{codes_of}
-use Rattle.mdr_body.specs.Backs.{call_back}
+use Rattle.mdr_core.specs.Backs.{call_back}
 use Rattle.mdr_source.specs.Backs.{body_calls_back, functions_call_back}
 
 pub none_of : (a b : Bool) → (a || b) ≡ false → (a ≡ false) × (b ≡ false)

@@ -2,6 +2,7 @@
 use Rattle.std.proofs.Common.{◌≡◌, refl, ◌≤◌, ◌<◌, arith, ℕ, Bool, true, false, List, length, slice_get, inl, inr, Option, Some, None, Result, Ok, Err}
 use Rattle.std.specs.Prelude.{◌⊎◌, nat_lt}
 use Rattle.mdr_core.specs.declared.program.Program.{Program}
+use Rattle.mdr_core.specs.Sound.{HasFewNumbers}
 use Rattle.mdr_syntax.specs.declared.error.LexError.{LexError}
 use Rattle.mdr_syntax.specs.declared.error.LexError.TheVariants as lex
 use Rattle.mdr_syntax.specs.declared.token.Token.{Token}
@@ -24,12 +25,12 @@ use Rattle.mdr_source.proofs.Lexed.{IsTold, tokens_told}
 
 -- ---- a tree
 
--- a program with more types than 32 bits number
+-- a program whose types, globals, structs or functions aren't few
 record Large (c : Checked Program) : Type 0 where
   program : Program
   is : c ≡ Right program
   no_back : functions_call_back program.funcs ≡ false
-  types : 4294967296 < length program.types
+  many : HasFewNumbers program → ⊥
 
 data Judgement (c : Checked Program) : Type 0 where
   come : (r : Result Program Refusal) → Judged c r → Judgement c
@@ -42,9 +43,26 @@ within n m = by_test (nat_lt m n) refl
     by_test true e = inr (grind (arith, e))
     by_test false e = inl (grind (arith, e))
 
-right_judged : (program : Program) → functions_call_back program.funcs ≡ false → ((length program.types ≤ 4294967296) ⊎ (4294967296 < length program.types)) → Judgement (Right program)
+not_over : (n : ℕ) → n ≤ 16777216 → 16777216 < n → ⊥
+not_over n h k = omega (arith, h, k)
+
+-- each number is small, or one isn't
+few_or_not : (program : Program) → HasFewNumbers program ⊎ (HasFewNumbers program → ⊥)
+few_or_not program = by (within (length program.types) 16777216) (within (length program.globals) 16777216) (within (length program.structs) 16777216) (within (length program.funcs) 16777216)
+  where
+    Small : ℕ → Type 0
+    Small n = (n ≤ 16777216) ⊎ (16777216 < n)
+
+    by : Small (length program.types) → Small (length program.globals) → Small (length program.structs) → Small (length program.funcs) → HasFewNumbers program ⊎ (HasFewNumbers program → ⊥)
+    by (inl t) (inl g) (inl s) (inl f) = inl (record { types = t; globals = g; structs = s; funcs = f })
+    by (inr t) g s f = inr (λ few. not_over (length program.types) few.types t)
+    by (inl t) (inr g) s f = inr (λ few. not_over (length program.globals) few.globals g)
+    by (inl t) (inl g) (inr s) f = inr (λ few. not_over (length program.structs) few.structs s)
+    by (inl t) (inl g) (inl s) (inr f) = inr (λ few. not_over (length program.funcs) few.funcs f)
+
+right_judged : (program : Program) → functions_call_back program.funcs ≡ false → HasFewNumbers program ⊎ (HasFewNumbers program → ⊥) → Judgement (Right program)
 right_judged program b (inl h) = Judgement.come _ (Judged.right program refl b h)
-right_judged program b (inr h) = Judgement.large (record { program = program; is = refl; no_back = b; types = h })
+right_judged program b (inr h) = Judgement.large (record { program = program; is = refl; no_back = b; many = h })
 
 judgement : (c : Checked Program) → Judgement c
 judgement (Wrong fs) = Judgement.come _ (Judged.fault (first fs) (first_is_in fs, first_is_least fs))
@@ -52,7 +70,7 @@ judgement (Right program) = by_test (functions_call_back program.funcs) refl
   where
     by_test : (t : Bool) → functions_call_back program.funcs ≡ t → Judgement (Right program)
     by_test true e = Judgement.come _ (Judged.back program refl e)
-    by_test false e = right_judged program e (within (length program.types) 4294967296)
+    by_test false e = right_judged program e (few_or_not program)
 
 data Meaning (tree : Tree) : Type 0 where
   come : (r : Result Program Refusal) → Means tree r → Meaning tree
@@ -78,7 +96,7 @@ data Outcome (bytes : List ℕ) : Type 0 where
 tree_outcome : (bytes : List ℕ) (ts : List Token) (tree : Tree) → tokens_of bytes ≡ Ok ts → Reads false ts tree → Meaning tree → Outcome bytes
 tree_outcome bytes ts tree e r (Meaning.come (Ok program) m) = Outcome.come _ (Comes.tokens ts e (Reading.right tree program r m))
 tree_outcome bytes ts tree e r (Meaning.come (Err x) m) = Outcome.come _ (Comes.tokens ts e (Reading.refused tree x r m))
-tree_outcome bytes ts tree e r (Meaning.large b l) = Outcome.large (record { tokens = ts; are_tokens = e; tree = tree; reads = r; built = b; program = l.program; judged = l.is; no_back = l.no_back; types = l.types })
+tree_outcome bytes ts tree e r (Meaning.large b l) = Outcome.large (record { tokens = ts; are_tokens = e; tree = tree; reads = r; built = b; program = l.program; judged = l.is; no_back = l.no_back; many = l.many })
 
 fault_outcome : (bytes : List ℕ) (ts : List Token) (n : ℕ) → tokens_of bytes ≡ Ok ts → FirstFault false ts n → Outcome bytes
 fault_outcome bytes ts n e f = by_token (slice_get ts n) refl

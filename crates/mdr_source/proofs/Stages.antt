@@ -1,9 +1,10 @@
 -- What a source comes to, from one stage to the next.
-use Rattle.std.proofs.Common.{◌≡◌, refl, sym, subst, ap, ◌∙◌, ◌≤◌, ℕ, Bool, true, false, List, length, Some, Result, Ok, Err}
+use Rattle.std.proofs.Common.{◌≡◌, refl, sym, subst, ap, ◌∙◌, ◌↔◌, ℕ, Bool, true, false, List, Some, Result, Ok, Err}
 use Rattle.std.specs.Prelude.{IfOk, MatchResult}
 use Rattle.mdr_core.specs.declared.memory_error.OutOfMemory.{OutOfMemory}
 use Rattle.mdr_core.specs.declared.program.Func.{Func}
 use Rattle.mdr_core.specs.declared.program.Program.{Program}
+use Rattle.mdr_core.specs.Sound.{HasFewNumbers}
 use Rattle.mdr_syntax.specs.declared.token.Token.{Token}
 use Rattle.mdr_parse.specs.declared.error.ParseError.{ParseError}
 use Rattle.mdr_parse.specs.declared.error.ParseError.TheVariants as parse
@@ -16,22 +17,22 @@ use Rattle.mdr_source.specs.Sources.{refused_as, Judged, Reading}
 
 -- ---- programs
 
--- what is said of a program with so many types that perhaps calls back
-abbrev Settled : (count : ℕ) → (back : Bool) → Program → Result Program Refusal → Type 0
-Settled count back program r = MatchResult r (λ p. (p ≡ program) × (back ≡ false) × (count ≤ 4294967296)) (λ e. (e ≡ refusal.Unbuilt) × (back ≡ true))
+-- what is said of a program whose numbers are few or not, and that perhaps calls back
+abbrev Settled : (few : Bool) → (back : Bool) → Program → Result Program Refusal → Type 0
+Settled few back program r = MatchResult r (λ p. (p ≡ program) × (back ≡ false) × (few ≡ true)) (λ e. (e ≡ refusal.Unbuilt) × (back ≡ true))
 
-judged_by : (program : Program) (count : ℕ) (back : Bool) → count ≡ length program.types → back ≡ functions_call_back program.funcs
-    → (r : Result Program Refusal) → Settled count back program r → Judged (Right program) r
-judged_by program count back n b (Ok p) (e, f, m) =
-    subst (λ q. Judged (Right program) (Ok q)) (sym e) (Judged.right program refl (sym b ∙ f) (subst (λ k. k ≤ 4294967296) n m))
-judged_by program count back n b (Err e) (d, t) =
+judged_by : (program : Program) (few back : Bool) → (few ≡ true) ↔ HasFewNumbers program → back ≡ functions_call_back program.funcs
+    → (r : Result Program Refusal) → Settled few back program r → Judged (Right program) r
+judged_by program few back n b (Ok p) (e, f, m) =
+    subst (λ q. Judged (Right program) (Ok q)) (sym e) (Judged.right program refl (sym b ∙ f) (n.0 m))
+judged_by program few back n b (Err e) (d, t) =
     subst (λ x. Judged (Right program) (Err x)) (sym d) (Judged.back program refl (sym b ∙ t))
 
-pub kept_program : (program : Program) (o : Result (Result Program Refusal) OutOfMemory) (count : ℕ) (back : Bool) (fs : List Func)
-    → fs ≡ program.funcs → count ≡ length program.types → back ≡ functions_call_back fs
-    → IfOk o (Settled count back program) → IfOk o (Judged (Right program))
-kept_program program (Ok r) count back fs e n b s = judged_by program count back n (b ∙ ap functions_call_back e) r s
-kept_program program (Err x) count back fs e n b s = tt
+pub kept_program : (program : Program) (o : Result (Result Program Refusal) OutOfMemory) (few back : Bool) (fs : List Func)
+    → fs ≡ program.funcs → (few ≡ true) ↔ HasFewNumbers program → back ≡ functions_call_back fs
+    → IfOk o (Settled few back program) → IfOk o (Judged (Right program))
+kept_program program (Ok r) few back fs e n b s = judged_by program few back n (b ∙ ap functions_call_back e) r s
+kept_program program (Err x) few back fs e n b s = tt
 
 -- ---- tokens
 

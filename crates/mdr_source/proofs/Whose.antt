@@ -11,7 +11,7 @@ use Rattle.mdr_source.specs.Sources.{Judged, Means, Reading, Comes, IsSource, ty
 
 judged_source : (bytes : List ℕ) (ts : List Token) (tree : Tree) (program : Program) → tokens_of bytes ≡ Ok ts → Reads false ts tree → waits tree.items ≡ false
     → Judged (typed_tree tree) (Ok program) → IsSource bytes (record { tree = tree; program = program })
-judged_source bytes ts tree _ e r w (Judged.right program d b n) = record { tokens = ts; are_tokens = e; reads = r; built = w; judged = d; no_back = b; types = n }
+judged_source bytes ts tree _ e r w (Judged.right program d b n) = record { tokens = ts; are_tokens = e; reads = r; built = w; judged = d; no_back = b; numbers = n }
 
 meant_source : (bytes : List ℕ) (ts : List Token) (tree : Tree) (program : Program) → tokens_of bytes ≡ Ok ts → Reads false ts tree
     → Means tree (Ok program) → IsSource bytes (record { tree = tree; program = program })
@@ -24,4 +24,4 @@ pub come_source : (bytes : List ℕ) (source : Source) → Comes bytes (Ok sourc
 come_source bytes source (Comes.tokens ts e m) = read_source bytes ts source e m
 
 pub source_comes : (bytes : List ℕ) (source : Source) → IsSource bytes source → Comes bytes (Ok source)
-source_comes bytes source s = Comes.tokens s.tokens s.are_tokens (Reading.right source.tree source.program s.reads (Means.built s.built (Judged.right source.program s.judged s.no_back s.types)))
+source_comes bytes source s = Comes.tokens s.tokens s.are_tokens (Reading.right source.tree source.program s.reads (Means.built s.built (Judged.right source.program s.judged s.no_back s.numbers)))

@@ -4,7 +4,7 @@ use Rattle.std.specs.Prelude.{◌||◌, Bool, false, List, [], ◌∷◌, Option
 use Rattle.mdr_core.specs.declared.code.Stmt.{Stmt}
 use Rattle.mdr_core.specs.declared.program.Func.{Func}
 use Rattle.mdr_core.specs.Folds.{codes_of}
-use Rattle.mdr_body.specs.Backs.{call_back}
+use Rattle.mdr_core.specs.Backs.{call_back}
 
 -- in a function's body
 abbrev pub body_calls_back : Option (List Stmt) → Bool

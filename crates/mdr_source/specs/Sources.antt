@@ -1,8 +1,9 @@
 -- believed
 -- What the bytes of a source come to: its tree and its program, or the one thing for which it is refused. Stage by stage, with one constructor for each reason.
-use Rattle.std.specs.Prelude.{◌≡◌, ◌≤◌, ◌<◌, ℕ, true, false, List, length, Option, Some, None, slice_get, Result, Ok, Err}
+use Rattle.std.specs.Prelude.{◌≡◌, ℕ, true, false, List, Option, Some, None, slice_get, Result, Ok, Err}
 use Rattle.mdr_core.specs.declared.place.Place.{Place}
 use Rattle.mdr_core.specs.declared.program.Program.{Program}
+use Rattle.mdr_core.specs.Sound.{HasFewNumbers}
 use Rattle.mdr_syntax.specs.declared.error.LexError.TheVariants as lex
 use Rattle.mdr_syntax.specs.declared.token.Token.{Token}
 use Rattle.mdr_syntax.specs.declared.tree.Tree.{Tree}
@@ -34,11 +35,11 @@ refused_as (parse.NotInProfile p word) = Some (refusal.NotInProfile p word)
 refused_as (parse.Expected p) = Some (refusal.Expected p)
 refused_as parse.OutOfMemory = None
 
--- a tree of built forms whose types are judged. The program of one that is right numbers its types with 32 bits: a larger one finds no memory
+-- a tree of built forms whose types are judged. The program of one that is right has few types, globals, structs and functions: a larger one finds no memory
 pub data Judged (c : Checked Program) : Result Program Refusal → Type 0 where
   fault : (f : Fault) → IsFirst f c → Judged c (Err (refusal.Fault f))
   back : (program : Program) → c ≡ Right program → functions_call_back program.funcs ≡ true → Judged c (Err refusal.Unbuilt)
-  right : (program : Program) → c ≡ Right program → functions_call_back program.funcs ≡ false → length program.types ≤ 4294967296 → Judged c (Ok program)
+  right : (program : Program) → c ≡ Right program → functions_call_back program.funcs ≡ false → HasFewNumbers program → Judged c (Ok program)
 
 -- a tree
 pub data Means (tree : Tree) : Result Program Refusal → Type 0 where
@@ -70,9 +71,9 @@ pub record IsSource (bytes : List ℕ) (source : Source) : Type 0 where
   pub built : waits source.tree.items ≡ false
   pub judged : typed_tree source.tree ≡ Right source.program
   pub no_back : functions_call_back source.program.funcs ≡ false
-  pub types : length source.program.types ≤ 4294967296
+  pub numbers : HasFewNumbers source.program
 
--- the program of bytes would be right, and has more types than 32 bits number
+-- the program of bytes would be right, and its types, globals, structs or functions aren't few
 pub record IsTooLarge (bytes : List ℕ) : Type 0 where
   pub tokens : List Token
   pub are_tokens : tokens_of bytes ≡ Ok tokens
@@ -82,4 +83,4 @@ pub record IsTooLarge (bytes : List ℕ) : Type 0 where
   pub program : Program
   pub judged : typed_tree tree ≡ Right program
   pub no_back : functions_call_back program.funcs ≡ false
-  pub types : 4294967296 < length program.types
+  pub many : HasFewNumbers program → ⊥

@@ -64,7 +64,7 @@ abbrev mutual
   line_waits (Line.While p e body) = part_waits e || line_waits body
   line_waits (Line.For p init test step body) = lines_wait init || (perhaps_part_waits test || (lines_wait step || line_waits body))
   line_waits (Line.Do p body e) = true
-  line_waits (Line.Switch p e) = true
+  line_waits (Line.Switch p e cs) = true
   line_waits (Line.Return p e) = perhaps_whole_waits e
   line_waits (Line.Break p) = false
   line_waits (Line.Continue p) = false

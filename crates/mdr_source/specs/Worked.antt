@@ -3,7 +3,7 @@
 use Rattle.std.specs.Prelude.{ℕ, List, [], ◌∷◌, Some, codes}
 use Rattle.mdr_core.specs.declared.kind.Kind.TheVariants.{S32}
 use Rattle.mdr_core.specs.declared.place.Place.{Place}
-use Rattle.mdr_operand.specs.Written.{Written, Writtens, Line, Lines}
+use Rattle.mdr_operand.specs.Written.{Written, Writtens, Line, Lines, Clauses}
 
 abbrev pub here : Place
 here = record { line = 1; column = 1 }
@@ -46,4 +46,4 @@ unbuilt =
     Line.Plain here behind ∷ Line.Plain here in_front ∷ Line.Plain here (call (with (call Writtens.End))) ∷ assign (codes "=") (Written.Binary here (codes "+") (call Writtens.End) one) ∷ assign (codes "+=") (call Writtens.End)
     ∷ Line.Return here (Some (Written.Prefix here (codes "-") (call Writtens.End))) ∷ assign (codes "=") behind ∷ assign (codes "=") in_front
     ∷ Line.If here (call Writtens.End) (Line.Empty here) Lines.End ∷ Line.While here behind (Line.Empty here) ∷ assign (codes "=") choice
-    ∷ Line.Do here (Line.Empty here) x ∷ Line.Switch here x ∷ []
+    ∷ Line.Do here (Line.Empty here) x ∷ Line.Switch here x Clauses.NoPart ∷ []

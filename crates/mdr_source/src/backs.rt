@@ -2,7 +2,7 @@
 
 ghost use Rattle.std.specs.Prelude.{◌≡◌, ◌||◌};
 ghost use Rattle.mdr_core.specs.Folds.{called_of, code_of, codes_of};
-ghost use Rattle.mdr_body.specs.Backs.{is_back, calls_back, call_back};
+ghost use Rattle.mdr_core.specs.Backs.{is_back, calls_back, call_back};
 ghost use Rattle.mdr_source.specs.Backs.{body_calls_back, functions_call_back};
 
 use mdr_core::{Callee, Func, Items, Step, Stmt};

@@ -1,6 +1,6 @@
 // The tree and the program of a source, or the one thing for which it is refused.
 
-ghost use Rattle.std.specs.Prelude.{◌≡◌, ◌≤◌, true, false, List, IfOk, MatchResult, Some, Err};
+ghost use Rattle.std.specs.Prelude.{◌≡◌, true, false, List, IfOk, MatchResult, Some, Err};
 ghost use Rattle.mdr_core.specs.declared.program.Program.{Program as AnyProgram};
 ghost use Rattle.mdr_syntax.specs.declared.token.Token.{Token as OneToken};
 ghost use Rattle.mdr_grammar.specs.Grammar.{Reads};
@@ -13,7 +13,7 @@ use crate::outcome::Source;
 use crate::refusal::Refusal;
 use crate::unbuilt::waits;
 use mdr_body::Rule;
-use mdr_core::{Limit, OutOfMemory, Program};
+use mdr_core::{Limit, OutOfMemory, Program, has_few_numbers};
 use mdr_express::left_over;
 use mdr_faults::Fault;
 use mdr_parse::{ParseError, parse};
@@ -22,23 +22,20 @@ use mdr_syntax::{LexError, Token, Tree, tokens};
 use mdr_typing::ProfileRules;
 use std::alloc::Global;
 
-/// The most types that 32 bits number.
-const MOST_TYPES: usize = 0x1_0000_0000;
-
 // ---- programs
 
-/// A program that has so many types, and perhaps calls back.
+/// A program that perhaps calls back, and whose types, globals, structs and functions are few or not.
 fn settled<P: Drop>(
-    types: usize,
+    is_few: bool,
     is_back: bool,
     program: P,
 ) -> Result<Result<P, Refusal>, OutOfMemory>
-    ensures { IfOk result (λ r. MatchResult r (λ p. (p ≡ program) × (is_back ≡ false) × (types ≤ 4294967296)) (λ e. (e ≡ refusal.Unbuilt) × (is_back ≡ true))) }
+    ensures { IfOk result (λ r. MatchResult r (λ p. (p ≡ program) × (is_back ≡ false) × (is_few ≡ true)) (λ e. (e ≡ refusal.Unbuilt) × (is_back ≡ true))) }
 {
     if is_back {
         return Ok(Err(Refusal::Unbuilt));
     }
-    if types > MOST_TYPES {
+    if !is_few {
         return Err(Limit::Parts.past());
     }
     Ok(Ok(program))
@@ -48,7 +45,8 @@ fn kept(program: Program) -> Result<Result<Program, Refusal>, OutOfMemory>
     ensures { IfOk result (Judged (Right program)) }
 {
     let is_back = functions_call_back(program.funcs.as_slice());
-    settled(program.types.len(), is_back, program)
+    let is_few = has_few_numbers(&program);
+    settled(is_few, is_back, program)
 }
 
 fn judged(found: Result<Program, Fault>) -> Result<Result<Program, Refusal>, OutOfMemory>

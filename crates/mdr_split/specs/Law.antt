@@ -68,7 +68,7 @@ pub record IsOneMemory (d : Driver) (script : Bound) (budget : ℕ) : Type 0 whe
       × IsHonest d [] (split_run d script budget (read answers)).sent answers
       × ((split_run d script budget (read answers)).pending ≡ Over end k)
 
--- the law for every sound program in which each function has a body, with its plan, every script whose commands fit it and every budget. In a sound program no code calls back through the kernel: that service isn't built
+-- the law for every sound program in which each function has a body, with its plan, every script whose commands fit it and every budget. A function of the user half that kernel code calls back gives nothing in both runs: that isn't built, and no source is accepted that calls back
 abbrev pub SplitIsOneMemory : Type 0
 SplitIsOneMemory =
     (program : Program) (plan : Plan) (script : Bound) (budget : ℕ) → IsSound program → HaveBodies program → IsPlanOf program plan → IsScript program script

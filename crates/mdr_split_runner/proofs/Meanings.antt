@@ -47,7 +47,7 @@ use Rattle.mdr_watched.specs.Watched.{watched}
 -- ---- a source and its texts
 
 pub is_cut : (bytes : List ℕ) (source : Source) (plan : Plan) (texts : Texts) → HasSource bytes source → IsCutInto source plan texts → IsCut bytes source plan
-is_cut bytes source plan texts h c = record { source_is = come_source bytes source h.comes; plan_is = c.plan_is; short = c.short }
+is_cut bytes source plan texts h c = record { source_is = come_source bytes source h.comes; plan_is = c.plan_is }
 
 pub has_texts : (source : Source) (plan : Plan) (texts : Texts) (answer : LoadAnswer) → IsCutInto source plan texts → HasTexts source plan (loaded_with texts.user texts.plan answer)
 has_texts source plan texts answer c =

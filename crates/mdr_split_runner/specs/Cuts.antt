@@ -3,11 +3,9 @@
 use Rattle.mdr_core.specs.declared.plan.Plan.{Plan}
 use Rattle.mdr_cut.specs.declared.texts.Texts.{Texts}
 use Rattle.mdr_cut.specs.Cuts.{AreTexts, IsPlanOf}
-use Rattle.mdr_honest.specs.Loading.{HasShortNumbers}
 use Rattle.mdr_source.specs.declared.outcome.Source.{Source}
 
--- the source's plan, and the texts of its halves and of the plan; and the plan's text can name its globals and functions
+-- the source's plan, and the texts of its halves and of the plan
 pub record IsCutInto (source : Source) (plan : Plan) (texts : Texts) : Type 0 where
   pub plan_is : IsPlanOf source.program plan
   pub are_texts : AreTexts source.tree source.program texts
-  pub short : HasShortNumbers source.program

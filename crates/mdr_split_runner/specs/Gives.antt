@@ -2,7 +2,7 @@
 -- What functions give that run a script over two halves, by what lies outside before and after.
 use Rattle.std.specs.Prelude.{ℕ, List}
 use Rattle.mdr_due.specs.declared.due.Due.{Due}
-use Rattle.mdr_due.specs.Statuses.{HasReadCause}
+use Rattle.mdr_due.specs.Statuses.{ReadCause}
 use Rattle.mdr_source.specs.declared.outcome.Source.{Source}
 use Rattle.mdr_split_runner.specs.declared.manner.SplitManner.{SplitManner}
 use Rattle.mdr_split_runner.specs.Sides.{Change}
@@ -23,4 +23,4 @@ SplitPartBy source_name script_name ticks c = SplitRunsPart c.before.shelf.files
 -- a status that tells of a file comes only where its count of reads rose
 abbrev pub ReadCauseBy : Change → Due → Type 0
 ReadCauseBy c due =
-    HasReadCause (record { faults = c.before.shelf.faults; absent = c.before.shelf.absent; long = c.before.shelf.long }) (record { faults = c.after.shelf.faults; absent = c.after.shelf.absent; long = c.after.shelf.long }) due.status
+    ReadCause c.before.shelf c.after.shelf due.status

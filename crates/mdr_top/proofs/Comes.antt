@@ -131,21 +131,18 @@ module _ (words : List (List ℕ)) (files : Files) (loaded : Option Loaded) (es 
   run_comes (OfFiles name script_name) (way.Split manner) s text e c = split_comes name script_name manner s text e c
 
   made_comes : (recipe : Recipe) (s : Status) (text : List ℕ) → command_of words ≡ Some (Generate recipe) → MadeAnswered recipe loaded es s text → Comes words files loaded es s
-  made_comes recipe s text e (MadeAnswered.no_source n) = subst (Comes words files loaded es) (sym n.status_is) (IsRefused.no_made recipe e n.refusal n.comes)
-  made_comes recipe s text e (MadeAnswered.no_script source h n) =
-      subst (Comes words files loaded es) (sym n.status_is) (IsScriptRefused.made (record { recipe = recipe; command = e; source = source; has = h; line = n.line; kind = n.kind; refused = n.refused }))
-  made_comes recipe s text e (MadeAnswered.ran source script h b due) =
-      let ended : EndsWith source.program due.plan due.texts script budget loaded es s = outcome_ends source.program due.plan due.texts script budget loaded es due.outcome s due.ran (told_status recipe source.program es due.outcome s text due.told) in
+  made_comes recipe s text e m =
+      let ended : EndsWith m.source.program m.due.plan m.due.texts m.script budget loaded es s = outcome_ends m.source.program m.due.plan m.due.texts m.script budget loaded es m.due.outcome s m.due.ran (told_status recipe m.source.program es m.due.outcome s text m.due.told) in
       subst (Comes words files loaded es) (sym ended.status_is) (end_comes ended.end (IsEnd.made (record {
         recipe = recipe;
         command = e;
-        source = source;
-        script = script;
-        has = h;
-        bound = b;
-        plan = due.plan;
-        texts = due.texts;
-        cut = due.cut;
+        source = m.source;
+        script = m.script;
+        has = m.has;
+        bound = m.bound;
+        plan = m.due.plan;
+        texts = m.due.texts;
+        cut = m.due.cut;
         ends = record { end = ended.end; ends = ended.ends; status_is = refl };
       })))
 

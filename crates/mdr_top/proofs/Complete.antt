@@ -1,6 +1,7 @@
 -- Where nothing outside fails, what is accepted runs to its end.
 use Rattle.std.proofs.Common.{◌≡◌, ℕ, ◌<◌, ◌≤◌, ◌⊎◌, inl, inr, Bool, List, [], length, Option, Some, None, Result, Ok, Err, refl, sym, ap, ◌∙◌, subst, arith}
 use Rattle.std.proofs.lemmas.Bool.{le-ltb}
+use Rattle.mdr_due.specs.Statuses.{ReadCause}
 use Rattle.mdr_due.specs.declared.status.Status.{Status}
 use Rattle.mdr_due.specs.declared.status.Status.TheVariants as status
 use Rattle.mdr_due.specs.Reads.{Files, longest_source, longest_script}
@@ -16,7 +17,7 @@ use Rattle.mdr_source.proofs.OneThing.{one_thing}
 use Rattle.mdr_split_runner.specs.declared.manner.SplitManner.{SplitManner}
 use Rattle.mdr_split_runner.specs.Means.{while_watched}
 use Rattle.mdr_top.specs.Comes.{IsUntakenDue, IsBoundDue, IsSizedDue, IsScriptDue, IsRunDue, IsFileDue, IsDueFor, IsDueOrFault, IsExact}
-use Rattle.mdr_top.specs.Cuts.{WroteCause, WriteCause, ReadCause}
+use Rattle.mdr_top.specs.Cuts.{WroteCause, WriteCause}
 use Rattle.mdr_top.specs.Accepted.{AreAccepted, over_two_halves}
 use Rattle.mdr_top.specs.Headline.{MeansBy, Means, MeansWhereHonest, Rests, RestsHere, EndsAsMeant, EndsWhereAccepted, Completes}
 use Rattle.mdr_top.specs.Outside.{Outside}

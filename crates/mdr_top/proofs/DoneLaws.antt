@@ -10,7 +10,7 @@ use Rattle.mdr_gen.specs.Generator.{driver_text, lines_from}
 use Rattle.mdr_generated.proofs.Steps.{told_status}
 use Rattle.mdr_generated.specs.declared.recipe.Recipe.{Recipe}
 use Rattle.mdr_generated.specs.Generated.{budget, IsTold}
-use Rattle.mdr_generated.specs.Generates.{Generates, GeneratesOver, IsGenerated}
+use Rattle.mdr_generated.specs.Generates.{IsGenerated}
 use Rattle.mdr_honest.specs.Honest.{IsHonest}
 use Rattle.mdr_model.specs.declared.outcome.End.{End}
 use Rattle.mdr_model.specs.declared.outcome.End.TheVariants as ends
@@ -75,10 +75,9 @@ ran_so (OfFiles name script_name) (way.Whole manner) before after s text d = who
 ran_so (OfFiles name script_name) (way.Split manner) before after s text d = split_so before.shelf.files name script_name manner before.shelf.calls after.shelf.calls before.far after.far s text d
 
 made_so : (recipe : Recipe) (far far' : FarSide) (s : Status) (text : List ℕ) → IsGenerated recipe far far' s text → MadeAnswered recipe far'.loaded far'.exchanges s text
-made_so recipe far far' s text (Generates.no_source n same) = MadeAnswered.no_source n
-made_so recipe far far' s text (Generates.over source h (GeneratesOver.no_script n same)) = MadeAnswered.no_script source h n
-made_so recipe far far' s text (Generates.over source h (GeneratesOver.ran script b run)) =
-    MadeAnswered.ran source script h b (record { plan = run.run.plan; texts = run.run.texts; cut = run.run.cut; outcome = run.outcome; ran = run.run.ran; told = run.told })
+made_so recipe far far' s text g =
+    let run = g.over.run in
+    record { source = g.source; script = g.over.script; has = g.has; bound = g.over.bound; due = record { plan = run.run.plan; texts = run.run.texts; cut = run.run.cut; outcome = run.outcome; ran = run.run.ran; told = run.told } }
 
 answered_so : (words : List (List ℕ)) (before after : Sides) (s : Status) (text : List ℕ) → Done words before after s text → Answered words before.shelf.files after.far.loaded after.far.exchanges s text
 answered_so words before after s text (Done.usage e same is t) = Answered.usage e is t
@@ -159,11 +158,9 @@ module _ (words : List (List ℕ)) (before after : Outside) (s : Status) where
 
   -- over an honest far side no answer is refused
   made_never : (recipe : Recipe) (text : List ℕ) → IsGenerated recipe before.sides.far after.sides.far s text → IsHonest after.sides.far.loaded after.sides.far.exchanges → s ≢ status.Marshal
-  made_never recipe text (Generates.no_source n same) honest = λ e. let no : status.SourceRefused ≡ status.Marshal = sym n.status_is ∙ e in Prim.cc
-  made_never recipe text (Generates.over source h (GeneratesOver.no_script n same)) honest = λ e. let no : status.ScriptRefused ≡ status.Marshal = sym n.status_is ∙ e in Prim.cc
-  made_never recipe text (Generates.over source h (GeneratesOver.ran script b run)) honest = λ e. never
-      (outcome_means driver_text (lines_from recipe.seed recipe.size) source run.run.plan run.run.texts script budget after.sides.far.exchanges h b run.run.cut after.sides.far.loaded run.outcome honest run.run.ran)
-      (sym (told_status recipe source.program after.sides.far.exchanges run.outcome s text run.told) ∙ e)
+  made_never recipe text g honest = λ e. never
+      (outcome_means driver_text (lines_from recipe.seed recipe.size) g.source g.over.run.run.plan g.over.run.run.texts g.over.script budget after.sides.far.exchanges g.has g.over.bound g.over.run.run.cut after.sides.far.loaded g.over.run.outcome honest g.over.run.run.ran)
+      (sym (told_status recipe g.source.program after.sides.far.exchanges g.over.run.outcome s text g.over.run.told) ∙ e)
     where
       fails : (end : End) → IsFarFault end → status_of end ≡ status.Marshal → ⊥
       fails ends.Ok f is = f
@@ -171,9 +168,9 @@ module _ (words : List (List ℕ)) (before after : Outside) (s : Status) where
       fails (ends.Refused exchange cause number) f is = f
       fails (ends.FarFault exchange) f is = Prim.cc
 
-      never : IsFarFault run.outcome.end ⊎ IsMeant source.program run.run.plan script budget after.sides.far.exchanges run.outcome → status_of run.outcome.end ≡ status.Marshal → ⊥
-      never (inl f) is = fails run.outcome.end f is
-      never (inr m) is = own_never run.outcome.end m.own is
+      never : IsFarFault g.over.run.outcome.end ⊎ IsMeant g.source.program g.over.run.run.plan g.over.script budget after.sides.far.exchanges g.over.run.outcome → status_of g.over.run.outcome.end ≡ status.Marshal → ⊥
+      never (inl f) is = fails g.over.run.outcome.end f is
+      never (inr m) is = own_never g.over.run.outcome.end m.own is
 
   made_means : (recipe : Recipe) (text : List ℕ) → command_of words ≡ Some (Generate recipe) → IsGenerated recipe before.sides.far after.sides.far s text → IsHonest after.sides.far.loaded after.sides.far.exchanges → MeansIt
   made_means recipe text e made honest = record { never = made_never recipe text made honest; means = λ source_name script_name manner named is. absurd (no_made (command_of words) recipe (OfFiles source_name script_name) (way.Split manner) e named) }
@@ -266,27 +263,25 @@ failed_never (ends.FarFault exchange) s f so (inr is) = let no : status.FarFault
 
 module _ (words : List (List ℕ)) (before after : Outside) (s : Status) (honest : IsHonest after.sides.far.loaded after.sides.far.exchanges) (is : (s ≡ status.Done) ⊎ (s ≡ status.Stopped)) where
   made_by : (text : List ℕ) → IsWritten before.out after.out text → (recipe : Recipe) → command_of words ≡ Some (Generate recipe) → IsGenerated recipe before.sides.far after.sides.far s text → MadeMeansBy words before after s
-  made_by text adds recipe e (Generates.no_source n same) = absurd (not_early s (subst IsEarly (sym n.status_is) tt) is)
-  made_by text adds recipe e (Generates.over source h (GeneratesOver.no_script n same)) = absurd (not_early s (subst IsEarly (sym n.status_is) tt) is)
-  made_by text adds recipe e (Generates.over source h (GeneratesOver.ran script b run)) =
-      of (outcome_means driver_text (lines_from recipe.seed recipe.size) source run.run.plan run.run.texts script budget after.sides.far.exchanges h b run.run.cut after.sides.far.loaded run.outcome honest run.run.ran)
+  made_by text adds recipe e g =
+      of (outcome_means driver_text (lines_from recipe.seed recipe.size) g.source g.over.run.run.plan g.over.run.run.texts g.over.script budget after.sides.far.exchanges g.has g.over.bound g.over.run.run.cut after.sides.far.loaded g.over.run.outcome honest g.over.run.run.ran)
     where
-      of : IsFarFault run.outcome.end ⊎ IsMeant source.program run.run.plan script budget after.sides.far.exchanges run.outcome → MadeMeansBy words before after s
-      of (inl f) = absurd (failed_never run.outcome.end s f (told_status recipe source.program after.sides.far.exchanges run.outcome s text run.told) is)
+      of : IsFarFault g.over.run.outcome.end ⊎ IsMeant g.source.program g.over.run.run.plan g.over.script budget after.sides.far.exchanges g.over.run.outcome → MadeMeansBy words before after s
+      of (inl f) = absurd (failed_never g.over.run.outcome.end s f (told_status recipe g.source.program after.sides.far.exchanges g.over.run.outcome s text g.over.run.told) is)
       of (inr m) = record {
         recipe = recipe;
         command = e;
-        source = source;
-        script = script;
-        has = h;
-        bound = b;
-        plan = run.run.plan;
-        texts = run.run.texts;
-        cut = run.run.cut;
+        source = g.source;
+        script = g.over.script;
+        has = g.has;
+        bound = g.over.bound;
+        plan = g.over.run.run.plan;
+        texts = g.over.run.run.texts;
+        cut = g.over.run.run.cut;
         text = text;
         printed = adds;
-        told = subst (λ (o : Outcome). IsTold recipe source.program after.sides.far.exchanges o s text) m.outcome run.told;
-        messages = subst (λ (o : Outcome). 2 * length after.sides.far.exchanges ≤ 4 * o.ticks + 6 * (watched source.program run.run.plan script budget).world.kept.calls) m.outcome m.messages;
+        told = subst (λ (o : Outcome). IsTold recipe g.source.program after.sides.far.exchanges o s text) m.outcome g.over.run.told;
+        messages = subst (λ (o : Outcome). 2 * length after.sides.far.exchanges ≤ 4 * o.ticks + 6 * (watched g.source.program g.over.run.run.plan g.over.script budget).world.kept.calls) m.outcome m.messages;
       }
 
   done_made : (text : List ℕ) → IsWritten before.out after.out text → (recipe : Recipe) → command_of words ≡ Some (Generate recipe) → Done words before.sides after.sides s text → MadeMeansBy words before after s

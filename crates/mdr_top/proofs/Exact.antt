@@ -3,6 +3,7 @@ use Rattle.std.proofs.Common.{◌≡◌, ℕ, ◌<◌, ◌⊎◌, inl, inr, Bool
 use Rattle.std.specs.Prelude.{IfSome, IsSomeAnd}
 use Rattle.std.proofs.lemmas.Bool.{lt-ltb, le-ltb}
 use Rattle.mdr_core.specs.declared.program.Program.{Program}
+use Rattle.mdr_due.specs.Statuses.{ReadCause}
 use Rattle.mdr_due.specs.declared.status.Status.{Status}
 use Rattle.mdr_due.specs.declared.status.Status.TheVariants as status
 use Rattle.mdr_due.specs.Reads.{Files, longest_source, longest_script}
@@ -21,7 +22,7 @@ use Rattle.mdr_script.specs.declared.script_error.ScriptKind.{ScriptKind}
 use Rattle.mdr_source.specs.declared.outcome.Source.{Source}
 use Rattle.mdr_top.specs.Answers.{Unread, Untaken, IsTaken, CutAnswered, ScriptAnswered, FileAnswered, WholeDue, SplitDue, WayDue, RunAnswered, MadeAnswered, TranscriptDue, VerifyAnswered, Answered, Prints, HoldTexts, AreTaken, UntakenTexts, TextsAnswered}
 use Rattle.mdr_top.specs.Comes.{IsUntakenDue, IsTakenDue, IsCutDue, IsBoundDue, IsSizedDue, IsScriptDue, IsRunDue, IsFileDue, IsWholeDue, WayEnds, IsDueOf, IsMadeDue, IsTranscriptDue, IsVerifyDue, IsDueFor, IsDueOrFault, IsExact, CutCompletes, WholeCompletes, IsNoTextDue, IsTextDue, AreTextsDue, AreUntakenDue, AreTakenDue, IsTextsDue}
-use Rattle.mdr_top.specs.Cuts.{IsSplit, IsCut, CutCause, WroteCause, WriteCause, ReadCause}
+use Rattle.mdr_top.specs.Cuts.{IsSplit, IsCut, CutCause, WroteCause, WriteCause}
 use Rattle.mdr_top.specs.declared.words.Cutting.{Cutting}
 use Rattle.mdr_top.specs.declared.words.Cutting.TheVariants as cutting
 use Rattle.mdr_top.specs.declared.words.Way.{Way}
@@ -102,12 +103,13 @@ module _ (words : List (List ℕ)) (f : List ℕ → Option (List ℕ)) (loaded 
       run_due (λ program bound. IsOfRun s) (SplitDue manner loaded es s text) name script_name (λ source script due. run_status source.program due.plan due.texts script manner.ticks loaded es s due.report due.ran) c
 
   made_due : (recipe : Recipe) → MadeAnswered recipe loaded es s text → IsMadeDue recipe s
-  made_due recipe (MadeAnswered.no_source n) = IsMadeDue.refused n.refusal n.comes n.status_is
-  made_due recipe (MadeAnswered.no_script source h n) =
-      IsMadeDue.accepted source h.comes (subst (λ (given : Result Bound (ℕ × ScriptKind)). IsBoundDue (λ bound. IsOfRun s) given s) (sym n.refused) n.status_is)
-  made_due recipe (MadeAnswered.ran source script h b due) =
-      IsMadeDue.accepted source h.comes (subst (λ (given : Result Bound (ℕ × ScriptKind)). IsBoundDue (λ bound. IsOfRun s) given s) (sym b)
-      (subst IsOfRun (sym (told_status recipe source.program es due.outcome s text due.told)) (end_status due.outcome.end)))
+  made_due recipe m = record {
+    source = m.source;
+    script = m.script;
+    comes = m.has.comes;
+    bound = m.bound;
+    ends = subst IsOfRun (sym (told_status recipe m.source.program es m.due.outcome s text m.due.told)) (end_status m.due.outcome.end);
+  }
 
   transcript_due : (name : List ℕ) (source : Source) (script : Bound) → TranscriptDue (Some f) name s text source script → (s ≡ status.ReadFault) ⊎ IsTranscriptDue source script (f name) s
   transcript_due name source script (TranscriptDue.unread (Unread.missing r e t)) = inr (IsTranscriptDue.missing r e)

@@ -14,7 +14,7 @@ use Rattle.mdr_runner.specs.Runs.{status_of}
 
 -- none tells of a file
 pub made_reads : (recipe : Recipe) (far far' : FarSide) (s : Status) (text : List ℕ) → IsGenerated recipe far far' s text → (before after : Counts) → HasReadCause before after s
-made_reads recipe far far' s text d before after = generated_holds (HasReadCause before after) tt tt of recipe driver_text (lines_from recipe.seed recipe.size) far far' s text d
+made_reads recipe far far' s text d before after = generated_holds (HasReadCause before after) of recipe driver_text (lines_from recipe.seed recipe.size) far far' s text d
   where
     of : (end : End) → HasReadCause before after (status_of end)
     of ends.Ok = tt
@@ -24,7 +24,7 @@ made_reads recipe far far' s text d before after = generated_holds (HasReadCause
 
 -- and none is a write fault
 pub made_unwritten : (recipe : Recipe) (far far' : FarSide) (s : Status) (text : List ℕ) → IsGenerated recipe far far' s text → s ≢ status.WriteFault
-made_unwritten recipe far far' s text d = generated_holds (λ x. x ≢ status.WriteFault) (λ e. Prim.cc) (λ e. Prim.cc) of recipe driver_text (lines_from recipe.seed recipe.size) far far' s text d
+made_unwritten recipe far far' s text d = generated_holds (λ x. x ≢ status.WriteFault) of recipe driver_text (lines_from recipe.seed recipe.size) far far' s text d
   where
     of : (end : End) → status_of end ≢ status.WriteFault
     of ends.Ok = λ e. Prim.cc

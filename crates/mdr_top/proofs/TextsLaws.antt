@@ -19,7 +19,6 @@ use Rattle.mdr_halves_runner.specs.Runs.{HalvesRuns}
 use Rattle.mdr_halves_runner.specs.Sources.{HasHalves, IsSourceIn, NoSourceIn, NoHalves}
 use Rattle.mdr_halves_runner.proofs.Honest.{halves_mean}
 use Rattle.mdr_honest.specs.Honest.{IsHonest}
-use Rattle.mdr_honest.specs.Loading.{HasShortNumbers}
 use Rattle.mdr_outside.specs.Calls.{ShelfCall, Read, and_then}
 use Rattle.mdr_outside.specs.declared.far.Exchange.{Exchange}
 use Rattle.mdr_outside.specs.declared.far.Loaded.{Loaded}
@@ -197,7 +196,6 @@ module _ (f : List ℕ → Option (List ℕ)) (names : TextNames) (source_name s
       cut = record {
         plan_is = subst (λ (p : Program). IsPlanOf p due.plan) one.programs due.cut.plan_is;
         are_texts = texts_moved source.tree split.source.tree split.source.program due.texts one.trees (subst (λ (p : Program). AreTexts source.tree p due.texts) one.programs due.cut.are_texts);
-        short = subst HasShortNumbers one.programs due.cut.short;
       };
       report = due.report;
       ran = subst (λ (p : Program). Ran p due.plan due.texts script texts_manner.ticks loaded es s due.report) one.programs due.ran;

@@ -109,11 +109,13 @@ pub record MadeDue (recipe : Recipe) (loaded : Option Loaded) (es : List Exchang
   pub ran : RanTo source.program plan texts script budget loaded es outcome
   pub told : IsTold recipe source.program es outcome s text
 
--- the driver and the script that the seed makes are run over the driver's two halves, where they are a source and a script
-pub data MadeAnswered (recipe : Recipe) (loaded : Option Loaded) (es : List Exchange) (s : Status) (text : List ℕ) : Type 0 where
-  no_source : NoSource driver_text s text → MadeAnswered recipe loaded es s text
-  no_script : (source : Source) → HasSource driver_text source → NoScript source.program (lines_from recipe.seed recipe.size) s text → MadeAnswered recipe loaded es s text
-  ran : (source : Source) (script : Bound) → HasSource driver_text source → HasScript source.program (lines_from recipe.seed recipe.size) script → MadeDue recipe loaded es s text source script → MadeAnswered recipe loaded es s text
+-- the driver and the script that the seed makes are a source and a script, and are run over the driver's two halves
+pub record MadeAnswered (recipe : Recipe) (loaded : Option Loaded) (es : List Exchange) (s : Status) (text : List ℕ) : Type 0 where
+  pub source : Source
+  pub script : Bound
+  pub has : HasSource driver_text source
+  pub bound : HasScript source.program (lines_from recipe.seed recipe.size) script
+  pub due : MadeDue recipe loaded es s text source script
 
 -- ---- a transcript
 

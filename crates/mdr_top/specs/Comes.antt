@@ -130,7 +130,6 @@ pub record IsNoRun (words : List (List ℕ)) (files : Files) : Type 0 where
 pub data IsRefused (words : List (List ℕ)) (files : Files) : Type 0 where
   no_cut : IsNoCut words files → IsRefused words files
   no_run : IsNoRun words files → IsRefused words files
-  no_made : (recipe : Recipe) → command_of words ≡ Some (Generate recipe) → (refusal : Refusal) → ComesTo driver_text (Err refusal) → IsRefused words files
 
 -- a line of the script is none of a script's, or doesn't suit the program
 pub record IsNoScript (words : List (List ℕ)) (files : Files) : Type 0 where
@@ -228,19 +227,8 @@ pub record IsMadeEnd (words : List (List ℕ)) (loaded : Option Loaded) (es : Li
   pub cut : IsCutInto source plan texts
   pub ends : SplitEndsWith source.program plan texts script budget loaded es s
 
--- a line of its script is refused
-pub record IsNoMadeScript (words : List (List ℕ)) : Type 0 where
-  pub recipe : Recipe
-  pub command : command_of words ≡ Some (Generate recipe)
-  pub source : Source
-  pub has : HasSource driver_text source
-  pub line : ℕ
-  pub kind : ScriptKind
-  pub refused : script_for source.program (lines_from recipe.seed recipe.size) ≡ Err (line, kind)
-
 pub data IsScriptRefused (words : List (List ℕ)) (files : Files) : Type 0 where
   of_file : IsNoScript words files → IsScriptRefused words files
-  made : IsNoMadeScript words → IsScriptRefused words files
   of_texts : IsNoTextsScript words files → IsScriptRefused words files
 
 -- ---- each status
@@ -368,10 +356,13 @@ WayEnds (way.Split manner) s = λ program bound. IsOfRun s
 abbrev pub IsDueOf : Inputs → (List ℕ → Option (List ℕ)) → (Ends : Program → Bound → Type 0) → Status → Type 0
 IsDueOf (OfFiles source_name script_name) f Ends s = IsFileDue Ends (f source_name) (f script_name) s
 
--- what the driver and the script of a seed give
-pub data IsMadeDue (recipe : Recipe) (s : Status) : Type 0 where
-  refused : (refusal : Refusal) → ComesTo driver_text (Err refusal) → s ≡ status.SourceRefused → IsMadeDue recipe s
-  accepted : (source : Source) → ComesTo driver_text (Ok source) → IsBoundDue (λ bound. IsOfRun s) (script_for source.program (lines_from recipe.seed recipe.size)) s → IsMadeDue recipe s
+-- what the driver and the script of a seed give, which are a source and a script: how a run ends
+pub record IsMadeDue (recipe : Recipe) (s : Status) : Type 0 where
+  pub source : Source
+  pub script : Bound
+  pub comes : ComesTo driver_text (Ok source)
+  pub bound : HasScript source.program (lines_from recipe.seed recipe.size) script
+  pub ends : IsOfRun s
 
 -- what a transcript's file gives, where a script is run over a source: it is what is printed of the one run over an honest far side that never fails, or it isn't
 pub data IsTranscriptDue (source : Source) (script : Bound) (transcript : Option (List ℕ)) (s : Status) : Type 0 where

@@ -3,14 +3,12 @@
 use Rattle.std.specs.Prelude.{◌≡◌, ℕ, ◌⊎◌, List, codes, Option, Some, None, slice_get}
 use Rattle.mdr_outside.specs.Calls.{ShelfCall}
 use Rattle.mdr_outside.specs.Count.{Rose}
-use Rattle.mdr_outside.specs.Sides.{ShelfSide}
 use Rattle.mdr_cut.specs.declared.texts.Texts.{Texts}
 use Rattle.mdr_cut.specs.Cuts.{AreTexts}
 use Rattle.mdr_due.specs.declared.status.Status.{Status}
 use Rattle.mdr_due.specs.declared.status.Status.TheVariants as status
 use Rattle.mdr_due.specs.Lines.{file_line}
 use Rattle.mdr_due.specs.Reads.{Files, WasRead, longest_source}
-use Rattle.mdr_due.specs.Statuses.{HasReadCause}
 use Rattle.mdr_source.specs.declared.outcome.Source.{Source}
 use Rattle.mdr_slicer.specs.Outputs.{NamedBytes, outputs, length_lines}
 use Rattle.mdr_slicer.specs.Slicing.{Splits, SplitsPart, Reports, IsReported}
@@ -77,10 +75,3 @@ WroteCause (Some (RunTexts names script_name)) before after = ⊥
 -- a write fault comes only where the output's count of faults rose, or where texts are written the shelf's of failed writes
 abbrev pub WriteCause : (words : List (List ℕ)) → (before after : Outside) → Status → Type 0
 WriteCause words before after s = s ≡ status.WriteFault → Rose before.out.faults after.out.faults ⊎ WroteCause (command_of words) before.sides.shelf.unwritten after.sides.shelf.unwritten
-
--- ---- why a status comes that tells of a file
-
--- it comes only where its count of reads rose
-abbrev pub ReadCause : (before after : ShelfSide) → Status → Type 0
-ReadCause before after s =
-    HasReadCause (record { faults = before.faults; absent = before.absent; long = before.long }) (record { faults = after.faults; absent = after.absent; long = after.long }) s

@@ -1,10 +1,11 @@
 // What is due for the words.
 
 ghost use Rattle.std.specs.Prelude.{◌≡◌, IfOk, OnErr, map, string_bytes};
+ghost use Rattle.mdr_due.specs.Statuses.{ReadCause};
 ghost use Rattle.mdr_outside.specs.Count.{Rose};
 ghost use Rattle.mdr_due.specs.declared.status.Status.TheVariants as status;
 ghost use Rattle.mdr_top.specs.Words.{command_of};
-ghost use Rattle.mdr_top.specs.Cuts.{ReadCause, WroteCause};
+ghost use Rattle.mdr_top.specs.Cuts.{WroteCause};
 ghost use Rattle.mdr_top.specs.Done.{DoneBy, PartBy};
 
 use crate::cutting::cut;

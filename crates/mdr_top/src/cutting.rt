@@ -1,8 +1,9 @@
 // A source that is cut.
 
 ghost use Rattle.std.specs.Prelude.{◌≡◌, IfOk, OnErr};
+ghost use Rattle.mdr_due.specs.Statuses.{ReadCause};
 ghost use Rattle.mdr_due.specs.declared.status.Status.TheVariants as status;
-ghost use Rattle.mdr_top.specs.Cuts.{CutDone, CutPart, CutCause, IsOfCut, ReadCause};
+ghost use Rattle.mdr_top.specs.Cuts.{CutDone, CutPart, CutCause, IsOfCut};
 
 use crate::words::Cutting;
 use mdr_core::OutOfMemory;

@@ -1,10 +1,10 @@
 // The run of a script over the two halves of a source.
 
 ghost use Rattle.std.specs.Prelude.{◌≡◌, ◌≢◌, IfOk, OnErr};
+ghost use Rattle.mdr_due.specs.Statuses.{ReadCause};
 ghost use Rattle.mdr_due.specs.declared.status.Status.TheVariants as status;
 ghost use Rattle.mdr_outside.specs.Count.{Rose};
 ghost use Rattle.mdr_split_runner.specs.Gives.{SplitPartBy, SplitRunsBy};
-ghost use Rattle.mdr_top.specs.Cuts.{ReadCause};
 
 use mdr_core::OutOfMemory;
 use mdr_due::Due;

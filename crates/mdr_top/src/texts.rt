@@ -1,10 +1,10 @@
 // The run of a script over two halves, from their texts.
 
 ghost use Rattle.std.specs.Prelude.{◌≡◌, ◌≢◌, IfOk, OnErr, map, option_map, string_bytes};
+ghost use Rattle.mdr_due.specs.Statuses.{ReadCause};
 ghost use Rattle.mdr_due.specs.declared.status.Status.TheVariants as status;
 ghost use Rattle.mdr_halves_runner.specs.Names.{names_in};
 ghost use Rattle.mdr_outside.specs.Count.{Rose};
-ghost use Rattle.mdr_top.specs.Cuts.{ReadCause};
 ghost use Rattle.mdr_top.specs.Done.{DoneBy, PartBy};
 ghost use Rattle.mdr_top.specs.Words.{command_of, is_halves, texts_command, texts_of};
 

@@ -1,6 +1,7 @@
 // The top call.
 
 ghost use Rattle.std.specs.Prelude.{◌≡◌, ◌≤◌, length, drop, map, string_bytes, ◌⊎◌, None};
+ghost use Rattle.mdr_due.specs.Statuses.{ReadCause};
 ghost use Rattle.mdr_outside.specs.Calls.{and_then};
 ghost use Rattle.mdr_outside.specs.Count.{Rose};
 ghost use Rattle.mdr_outside.specs.Sink.{Takes, wrote};
@@ -9,7 +10,7 @@ ghost use Rattle.mdr_due.specs.declared.status.Status.TheVariants as status;
 ghost use Rattle.mdr_split_runner.specs.Ends.{FailedLast};
 ghost use Rattle.mdr_top.specs.Answers.{Prints};
 ghost use Rattle.mdr_top.specs.Done.{Does};
-ghost use Rattle.mdr_top.specs.Cuts.{ReadCause, WriteCause};
+ghost use Rattle.mdr_top.specs.Cuts.{WriteCause};
 ghost use Rattle.mdr_top.specs.Headline.{MeansWhereHonest, Completes};
 ghost use Rattle.mdr_top.specs.Comes.{Comes, IsExact, CutCompletes, WholeCompletes};
 ghost use Rattle.mdr_top.specs.Made.{MadeMeans};

@@ -1,8 +1,8 @@
 // A transcript that is held against a run.
 
 ghost use Rattle.std.specs.Prelude.{◌≡◌, ◌≢◌, IfOk, OnErr};
+ghost use Rattle.mdr_due.specs.Statuses.{ReadCause};
 ghost use Rattle.mdr_due.specs.declared.status.Status.TheVariants as status;
-ghost use Rattle.mdr_top.specs.Cuts.{ReadCause};
 ghost use Rattle.mdr_verifier.specs.Verifies.{Verifies, VerifiesPart};
 
 use mdr_core::OutOfMemory;

@@ -1,9 +1,9 @@
 // The run of a script over a source, in the way that is asked for.
 
 ghost use Rattle.std.specs.Prelude.{◌≡◌, ◌≢◌, IfOk, OnErr};
+ghost use Rattle.mdr_due.specs.Statuses.{ReadCause};
 ghost use Rattle.mdr_due.specs.declared.status.Status.TheVariants as status;
 ghost use Rattle.mdr_outside.specs.Count.{Rose};
-ghost use Rattle.mdr_top.specs.Cuts.{ReadCause};
 ghost use Rattle.mdr_top.specs.Done.{RunDoneBy, RunPartBy};
 ghost use Rattle.mdr_top.specs.Words.{OfFiles};
 

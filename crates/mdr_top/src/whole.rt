@@ -1,9 +1,9 @@
 // The run of a script on one memory.
 
 ghost use Rattle.std.specs.Prelude.{◌≡◌, ◌≢◌, IfOk, OnErr};
+ghost use Rattle.mdr_due.specs.Statuses.{ReadCause};
 ghost use Rattle.mdr_due.specs.declared.status.Status.TheVariants as status;
 ghost use Rattle.mdr_runner.specs.Runs.{Runs, RunsPart};
-ghost use Rattle.mdr_top.specs.Cuts.{ReadCause};
 ghost use Rattle.mdr_top.specs.Wholes.{IsOfWhole};
 
 use mdr_core::OutOfMemory;

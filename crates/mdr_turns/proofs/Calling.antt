@@ -49,6 +49,8 @@ module _ (d : Driver) (w : World) (k : Kernel) (script : List Command) (go : Ker
   kernel_begins (command.Call f args) e = rw e refl
   kernel_begins (command.Idle n) e = refl
   kernel_begins (command.Show g) e = refl
+  kernel_begins (command.Poke serial index n) e = refl
+  kernel_begins (command.Say text) e = refl
 
 -- a command of the user half was done
 pub user_commanded : (d : Driver) (f : ℕ) (args : List Value) (begun_at : ℕ) (l : Ledger) (w w1 : Driven) (script : List Command) (go : Kernel → Pending) (p : CodePending) → is_user d.plan f ≡ true → w.program ≡ d.program → w1 ≡ driver w.program (begun w.program f args w.world)

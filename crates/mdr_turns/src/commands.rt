@@ -114,5 +114,7 @@ pub(crate) fn command<'a>(
         }
         Command::Idle(_) => kernel_command(alloc, watch, command, between),
         Command::Show(_) => kernel_command(alloc, watch, command, between),
+        Command::Poke(_, _, _) => kernel_command(alloc, watch, command, between),
+        Command::Say(_) => kernel_command(alloc, watch, command, between),
     }
 }

@@ -1,9 +1,9 @@
 -- believed
 -- The rules of the profile for the expressions, assignments and calls in a body (C99 6.5, 6.7.8, 6.8.3, 6.8.6.4).
 use Rattle.std.specs.Prelude.{ℕ, List, None}
-use Rattle.mdr_core.specs.declared.code.Lval.{Lval}
-use Rattle.mdr_core.specs.declared.code.Step.{Step}
-use Rattle.mdr_core.specs.declared.code.Step.TheVariants as step
+use Rattle.mdr_rich.specs.declared.code.Lval.{Lval}
+use Rattle.mdr_rich.specs.declared.code.Step.{Step}
+use Rattle.mdr_rich.specs.declared.code.Step.TheVariants as step
 use Rattle.mdr_core.specs.declared.place.Place.{Place}
 use Rattle.mdr_core.specs.declared.types.Ty.{Ty}
 use Rattle.mdr_faults.specs.declared.fault.FaultKind.TheVariants.{Mismatch}

@@ -1,11 +1,11 @@
 -- believed
 -- What stands behind `=` and `return`: a value, or a call whose value goes there (C99 6.5.16, 6.7.8, 6.8.6.4).
 use Rattle.std.specs.Prelude.{List, Option, Some, None}
-use Rattle.mdr_core.specs.declared.code.CallForm.{CallForm}
-use Rattle.mdr_core.specs.declared.code.Expr.{Expr}
-use Rattle.mdr_core.specs.declared.code.Lval.{Lval}
-use Rattle.mdr_core.specs.declared.code.Step.{Step}
-use Rattle.mdr_core.specs.declared.code.Step.TheVariants as step
+use Rattle.mdr_rich.specs.declared.code.CallForm.{CallForm}
+use Rattle.mdr_rich.specs.declared.code.Expr.{Expr}
+use Rattle.mdr_rich.specs.declared.code.Lval.{Lval}
+use Rattle.mdr_rich.specs.declared.code.Step.{Step}
+use Rattle.mdr_rich.specs.declared.code.Step.TheVariants as step
 use Rattle.mdr_core.specs.declared.place.Place.{Place}
 use Rattle.mdr_core.specs.declared.types.Ty.{Ty}
 use Rattle.mdr_core.specs.Layout.{chosen}

@@ -20,10 +20,11 @@ use mdr_assign::{
     told_instead,
 };
 use mdr_call::TypedCall;
-use mdr_core::{Name, OutOfMemory, Place, Step};
+use mdr_core::{Name, OutOfMemory, Place};
 use mdr_express::{both_made, expression};
 use mdr_faults::{Fault, FaultKind, Scope, both, mismatch};
 use mdr_operand::{AssignmentOperator, LocalName, Operand, assignment_operator, both_given_up};
+use mdr_rich::Step;
 use mdr_syntax::{Form, FormWhat};
 use std::alloc::{AllocError, Global};
 

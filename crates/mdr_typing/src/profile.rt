@@ -11,10 +11,11 @@ use crate::assigning::{assigned, called};
 use crate::source::{Source, right_side, source_returned, source_stored};
 use mdr_assign::told_instead;
 use mdr_body::Typing;
-use mdr_core::{Lval, OutOfMemory, Place, Step, Ty};
+use mdr_core::{OutOfMemory, Place, Ty};
 use mdr_express::{expression, left_over};
 use mdr_faults::{Fault, Scope};
 use mdr_operand::{LocalName, Operand};
+use mdr_rich::{Lval, Step};
 use mdr_syntax::Form;
 use std::alloc::{AllocError, Global};
 

@@ -1,8 +1,8 @@
 // What stands behind `=` and `return`: a value, or a call whose value goes there (C99 6.5.16, 6.7.8, 6.8.6.4).
 
 ghost use Rattle.std.specs.Prelude.{◌≡◌, IfOk, map};
-ghost use Rattle.mdr_core.specs.declared.code.CallForm.{CallForm};
-ghost use Rattle.mdr_core.specs.declared.code.Expr.{Expr};
+ghost use Rattle.mdr_rich.specs.declared.code.CallForm.{CallForm};
+ghost use Rattle.mdr_rich.specs.declared.code.Expr.{Expr};
 ghost use Rattle.mdr_faults.specs.Faults.{Checked, told, after};
 ghost use Rattle.mdr_operand.specs.declared.operand.Operand.{Operand};
 ghost use Rattle.mdr_operand.specs.Written.{Written, written_of, written_what, written_list};
@@ -15,10 +15,11 @@ use crate::becoming::becomes;
 use crate::calls::call_at;
 use mdr_assign::told_instead;
 use mdr_call::TypedCall;
-use mdr_core::{CallForm, Expr, Lval, OutOfMemory, Place, Step, Ty};
+use mdr_core::{OutOfMemory, Place, Ty};
 use mdr_express::expression;
 use mdr_faults::{Fault, FaultKind, Scope, is_void};
 use mdr_operand::{LocalName, Operand, converted_at, given_up, out_of_memory};
+use mdr_rich::{CallForm, Expr, Lval, Step};
 use mdr_syntax::{Form, FormWhat};
 use std::alloc::{AllocError, Global};
 

@@ -1,7 +1,7 @@
 // One message.
 
 ghost use Rattle.std.specs.Prelude.{◌≡◌, [], ◌∷◌, ◌++◌, List, Ok, IfOk, OnOk};
-ghost use Rattle.mdr_core.specs.Sound.{IsSound};
+ghost use Rattle.mdr_core.specs.Sound.{HasFewNumbers, IsSound};
 ghost use Rattle.mdr_model.specs.declared.message.Message.TheVariants as message_is;
 ghost use Rattle.mdr_model.specs.KernelState.{Reading};
 ghost use Rattle.mdr_split.specs.User.{user_reply};
@@ -22,6 +22,7 @@ use std::alloc::Global;
 
 /// The state before any message.
 pub fn begins(alloc: Global, program: &Program, plan: &Plan) -> Result<State, OutOfMemory>
+    requires { HasFewNumbers program.now }
     ensures { IfOk result (λ s. Follows (driver_of program.now plan.now) [] s) }
 {
     let _ = plan;

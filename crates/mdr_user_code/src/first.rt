@@ -1,12 +1,13 @@
 // The memory in which a run begins.
 
-ghost use Rattle.std.specs.Prelude.{◌≡◌, IfOk};
+ghost use Rattle.std.specs.Prelude.{◌≡◌, ◌≤◌, IfOk, length};
+ghost use Rattle.mdr_core.specs.Sound.{HasFewNumbers};
 ghost use Rattle.mdr_meaning.specs.Bodies.{known_of};
 ghost use Rattle.mdr_meaning.specs.Numbers.{is_same_type, number_in};
 ghost use Rattle.mdr_plain.specs.Storage.{first_memory, global_block, global_blocks};
 
 use crate::values::wires_of;
-use mdr_core::{GlobalDef, Items, Limit, OutOfMemory, Program, Ty, same_type};
+use mdr_core::{GlobalDef, Items, OutOfMemory, Program, Ty, same_type};
 use mdr_model::{BirthKind, MemoryBlock, New};
 use std::alloc::Global;
 
@@ -19,7 +20,8 @@ fn is_same_type(a: &Ty, b: &Ty) -> bool
 /// The first place of a type in a list; behind its end where it isn't there.
 #[tactic(auto, unfolding(mdr_meaning::specs::Numbers::number_in))]
 fn number_in(types: &[Ty], ty: &Ty) -> usize
-    ensures { result ≡ number_in types.now ty.now }
+    ensures number { result ≡ number_in types.now ty.now }
+    ensures within { result ≤ length types.now }
 {
     for i in 0..types.len() {
         if is_same_type(&types[i], ty) {
@@ -29,25 +31,25 @@ fn number_in(types: &[Ty], ty: &Ty) -> usize
     types.len()
 }
 
-fn number_fits(number: usize) -> Result<u32, OutOfMemory>
-    ensures { IfOk result (λ n. n ≡ number) }
+/// The number of a type in a table of few; behind its end where it isn't there.
+fn number_of(types: &[Ty], ty: &Ty) -> u32
+    requires { length types.now ≤ 16777216 }
+    ensures { result ≡ number_in types.now ty.now }
 {
-    match u32::try_from(number) {
-        Ok(n) => Ok(n),
-        Err(_) => Err(Limit::Unmet.past()),
-    }
+    number_in(types, ty) as u32
 }
 
-fn global_born(program: &Program, serial: u64, global: &GlobalDef) -> Result<New, OutOfMemory>
-    ensures { IfOk result (λ n. n ≡ (global_block (known_of program.now) serial global.now).born) }
+fn global_born(program: &Program, serial: u64, global: &GlobalDef) -> New
+    requires { length program.now.types ≤ 16777216 }
+    ensures { result ≡ (global_block (known_of program.now) serial global.now).born }
 {
-    let ty = number_fits(number_in(program.types.as_slice(), &global.ty))?;
-    Ok(New {
+    let ty = number_of(program.types.as_slice(), &global.ty);
+    New {
         serial,
         kind: BirthKind::Static,
         ty,
         count: global.count,
-    })
+    }
 }
 
 fn global_block(
@@ -56,11 +58,13 @@ fn global_block(
     serial: u64,
     global: &GlobalDef,
 ) -> Result<MemoryBlock, OutOfMemory>
+    requires { length program.now.types ≤ 16777216 }
     ensures { IfOk result (λ b. b ≡ global_block (known_of program.now) serial global.now) }
 {
+    let cells = wires_of(alloc, global.init.as_slice())?;
     Ok(MemoryBlock {
-        born: global_born(program, serial, global)?,
-        cells: wires_of(alloc, global.init.as_slice())?,
+        born: global_born(program, serial, global),
+        cells,
     })
 }
 
@@ -69,6 +73,7 @@ fn global_blocks(
     program: &Program,
     globals: &[GlobalDef],
 ) -> Result<Vec<MemoryBlock>, OutOfMemory>
+    requires { length program.now.types ≤ 16777216 }
     ensures { IfOk result (λ m. m.items ≡ global_blocks (known_of program.now) 0 globals.now) }
 {
     let mut blocks = Vec::new(alloc);
@@ -84,6 +89,7 @@ pub(crate) fn first_memory(
     alloc: Global,
     program: &Program,
 ) -> Result<Items<MemoryBlock>, OutOfMemory>
+    requires { HasFewNumbers program.now }
     ensures { IfOk result (λ m. m ≡ first_memory (known_of program.now)) }
 {
     let blocks = global_blocks(alloc, program, program.globals.as_slice())?;

@@ -3,7 +3,7 @@
 ghost use Rattle.std.specs.Prelude.{◌≡◌, IfOk, OnErr};
 ghost use Rattle.mdr_core.specs.Sound.{IsSound};
 ghost use Rattle.mdr_due.specs.Reads.{WasRead};
-ghost use Rattle.mdr_due.specs.Statuses.{Counts, HasReadCause};
+ghost use Rattle.mdr_due.specs.Statuses.{Counts, HasReadCause, ReadCause};
 ghost use Rattle.mdr_verifier.specs.Judged.{IsJudged};
 ghost use Rattle.mdr_verifier.specs.Verifies.{longest_transcript, VerifiesRun, VerifiesOver, VerifiesOverPart, Verifies, VerifiesPart};
 
@@ -12,7 +12,7 @@ use mdr_bound::Bound;
 use mdr_core::OutOfMemory;
 use mdr_due::{Due, Stage, file};
 use mdr_far::LocalFar;
-use mdr_outside::{Far, Shelf};
+use mdr_outside::{Far, Shelf, ShelfSeen};
 use mdr_runner::script_of;
 use mdr_slicer::source_of;
 use mdr_source::Source;
@@ -72,7 +72,7 @@ fn verified_run<S: Shelf>(
     ensures done { IfOk result (λ due. VerifiesRun (S.files shelf.old) source.now script.now name.now (S.calls shelf.old) (S.calls shelf.new) due.status due.text.items) }
     ensures part { OnErr result (WasRead (S.files shelf.old) name.now longest_transcript (S.calls shelf.old) (S.calls shelf.new)) }
     ensures kept { S.files shelf.new ≡ S.files shelf.old }
-    ensures read { IfOk result (λ due. HasReadCause (record { faults = S.faults shelf.old; absent = S.absent shelf.old; long = S.long shelf.old }) (record { faults = S.faults shelf.new; absent = S.absent shelf.new; long = S.long shelf.new }) due.status) }
+    ensures read { IfOk result (λ due. ReadCause (⟦<S as ShelfSeen>⟧.side shelf.old) (⟦<S as ShelfSeen>⟧.side shelf.new) due.status) }
 {
     let bytes = match file(alloc, shelf, name, LONGEST_TRANSCRIPT) {
         Ok(Stage::Goes(bytes)) => bytes,
@@ -94,7 +94,7 @@ fn verified_over<S: Shelf>(
     ensures done { IfOk result (λ due. VerifiesOver (S.files shelf.old) source.now script_name.now name.now (S.calls shelf.old) (S.calls shelf.new) due.status due.text.items) }
     ensures part { OnErr result (VerifiesOverPart (S.files shelf.old) source.now script_name.now name.now (S.calls shelf.old) (S.calls shelf.new)) }
     ensures kept { S.files shelf.new ≡ S.files shelf.old }
-    ensures read { IfOk result (λ due. HasReadCause (record { faults = S.faults shelf.old; absent = S.absent shelf.old; long = S.long shelf.old }) (record { faults = S.faults shelf.new; absent = S.absent shelf.new; long = S.long shelf.new }) due.status) }
+    ensures read { IfOk result (λ due. ReadCause (⟦<S as ShelfSeen>⟧.side shelf.old) (⟦<S as ShelfSeen>⟧.side shelf.new) due.status) }
 {
     let script = match script_of(alloc, shelf, &source.program, script_name) {
         Ok(Stage::Goes(script)) => script,
@@ -119,7 +119,7 @@ pub fn verified<S: Shelf>(
     ensures done { IfOk result (λ due. Verifies (S.files shelf.old) source_name.now script_name.now name.now (S.calls shelf.old) (S.calls shelf.new) due.status due.text.items) }
     ensures part { OnErr result (VerifiesPart (S.files shelf.old) source_name.now script_name.now name.now (S.calls shelf.old) (S.calls shelf.new)) }
     ensures kept { S.files shelf.new ≡ S.files shelf.old }
-    ensures read { IfOk result (λ due. HasReadCause (record { faults = S.faults shelf.old; absent = S.absent shelf.old; long = S.long shelf.old }) (record { faults = S.faults shelf.new; absent = S.absent shelf.new; long = S.long shelf.new }) due.status) }
+    ensures read { IfOk result (λ due. ReadCause (⟦<S as ShelfSeen>⟧.side shelf.old) (⟦<S as ShelfSeen>⟧.side shelf.new) due.status) }
 {
     let source = match source_of(alloc, shelf, source_name) {
         Ok(Stage::Goes(source)) => source,

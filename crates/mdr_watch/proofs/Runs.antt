@@ -84,6 +84,8 @@ module _ (d : Driver) (w : World) where
   kernel_does (command.Call f args) e = rw e refl
   kernel_does (command.Idle n) e = refl
   kernel_does (command.Show g) e = refl
+  kernel_does (command.Poke serial index n) e = refl
+  kernel_does (command.Say text) e = refl
 
 pub kernel_for : (d : Driver) (code : KernelCode) (c : Command) (e : Worked) (w w1 : World) → code ≡ kernel_of d → IsKernel d.plan c → worked_as e w1 ≡ plainly_does code c w → WorkedFor e w1 (does d (held d) c w)
 kernel_for d code c e w w1 is k so = worked_for e w1 _ (so ∙ ap (λ x. plainly_does x c w) is ∙ kernel_does d w c k)

@@ -33,6 +33,8 @@ abbrev pub IsKernel : Plan → Command → Type 0
 IsKernel plan (command.Call f args) = is_user plan f ≡ false
 IsKernel plan (command.Idle n) = Unit {0}
 IsKernel plan (command.Show g) = Unit {0}
+IsKernel plan (command.Poke serial index n) = Unit {0}
+IsKernel plan (command.Say text) = Unit {0}
 
 -- the bodies of the user half, and what stands around them in an upcall
 abbrev pub user_side : Upcall → Side

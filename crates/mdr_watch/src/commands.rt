@@ -134,6 +134,8 @@ fn do_watched<'a>(
         }
         Command::Idle(_) => kernel_command(alloc, watch, world, command),
         Command::Show(_) => kernel_command(alloc, watch, world, command),
+        Command::Poke(_, _, _) => kernel_command(alloc, watch, world, command),
+        Command::Say(_) => kernel_command(alloc, watch, world, command),
     }
 }
 

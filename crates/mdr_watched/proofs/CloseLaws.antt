@@ -100,6 +100,8 @@ module _ (d : Driver) where
   does_leaves (command.Call f args) w e = called_leaves (is_user d.plan f) f _ _ e
   does_leaves (command.Idle n) w e = keeps_leaves _ (idle_keeps_all (HasSets 0) (sets_kept 0) d n w e)
   does_leaves (command.Show g) w e = record { by = λ y w' e'. subst (λ (u : World). length u.views ≡ 0) (same_world tt y _ w' e') e }
+  does_leaves (command.Poke serial index n) w e = record { by = λ y w' e'. subst (λ (u : World). length u.views ≡ 0) (same_world tt y _ w' e') e }
+  does_leaves (command.Say text) w e = record { by = λ y w' e'. subst (λ (u : World). length u.views ≡ 0) (same_world tt y _ w' e') e }
 
   not_ok : {X : Type 0} (kind : StopKind) (at : Option At) → ends.Stop kind at ≡ ends.Ok → X
   not_ok kind at e = absurd cc

@@ -28,7 +28,7 @@ use Rattle.mdr_plain.specs.Gate.{due}
 use Rattle.mdr_plain.specs.Plain.{never}
 use Rattle.mdr_plain.specs.Locks.{acquire, acquired, changed, lock_in, release, released, taken_as, with_lock}
 use Rattle.mdr_plain.specs.Running.{Before, Crossing, Setting, all_cells, call, handled, interrupts, nothing, run}
-use Rattle.mdr_plain.specs.Scripts.{Finish, and_then, begin, begun, called_by, commands, idle, in_place, returned}
+use Rattle.mdr_plain.specs.Scripts.{Finish, and_then, begin, begun, called_by, commands, idle, in_place, poked_value, put_if, returned}
 use Rattle.mdr_plain.specs.Services.{allocated, as_now, as_served, fails_now, freed, freed_by, gives, gives_none, is_no_block, register_read, register_written, requested, served, served_by, stops, was_read, when_changed, with_device}
 use Rattle.mdr_plain.specs.Storage.{accesses, births, born, deaths, died, died_at, new_of, next_serial, remembers, with_memory}
 use Rattle.mdr_plain.specs.World.{World, Kept, Ran, Ended, Stopped, Work, advanced, after, left, then, given, counted, noted}
@@ -108,6 +108,12 @@ module _ (P : World → Type 0) (kept : IsKept P) where
   pub deaths_keep : (ps : List Wire) (w : World) → P w → P (deaths ps w)
   deaths_keep [] w e = e
   deaths_keep (p ∷ ps) w e = deaths_keep ps (died_at p w) (died_at_keeps p w e)
+
+  -- ---- a cell is written, if it is
+
+  put_if_keeps : (o : Option Wire) (c : Cell) (w : World) → P w → P (with_memory w (put_if o c w.memory))
+  put_if_keeps None c w e = e
+  put_if_keeps (Some v) c w e = kept.put w c v e
 
   -- ---- services
 
@@ -273,6 +279,8 @@ module _ (P : World → Type 0) (kept : IsKept P) where
         does_keeps (command.Call f args) w e = called_keeps (is_user d.plan f) f _ _ (begun_keeps f args w e)
         does_keeps (command.Idle n) w e = idle_keeps_all n w e
         does_keeps (command.Show g) w e = so (kept.keeping w _ e)
+        does_keeps (command.Poke serial index n) w e = so (put_if_keeps (poked_value (cell_at w.memory (record { serial = serial; index = index })) n) (record { serial = serial; index = index }) w e)
+        does_keeps (command.Say text) w e = so (kept.keeping w _ e)
 
         and_then_keeps : (r : Work) (go : World → Finish) → Keeps r → ((w : World) → P w → P (go w).world) → P (and_then r go).world
         and_then_keeps (Ended x w) go a each = each w a.at_end

@@ -18,7 +18,7 @@ use crate::idling::idle;
 use crate::interrupts::{Interrupts, interrupt};
 use mdr_core::{Items, OutOfMemory, Value};
 use mdr_model::Command;
-use mdr_services::{note_call, note_idle, note_return, show};
+use mdr_services::{note_call, note_idle, note_return, say, show};
 use mdr_world::World;
 use std::alloc::Global;
 
@@ -100,6 +100,33 @@ fn show_command(
     Ok(Worked::Done)
 }
 
+/// An integer is put into a cell that holds one.
+#[tactic(auto, unfolding(mdr_plain::specs::Scripts::begin))]
+fn poke_command(code: Code, world: &mut World, serial: u64, index: u32, n: i128) -> Worked
+    requires same { world.old.program ≡ code.program.now }
+    ensures kept { world.new.program ≡ code.entry.program.now }
+    ensures worked { worked_as result world.new.world ≡ does (driver_code code.entry) (command.Poke serial index n) world.old.world }
+{
+    world.poke(serial, index, n);
+    Worked::Done
+}
+
+/// A line is noted.
+#[tactic(auto, unfolding(mdr_plain::specs::Scripts::begin))]
+fn say_command(
+    alloc: Global,
+    code: Code,
+    world: &mut World,
+    text: &[u8],
+) -> Result<Worked, OutOfMemory>
+    requires same { world.old.program ≡ code.program.now }
+    ensures kept { OnOk result (world.new.program ≡ code.entry.program.now) }
+    ensures worked { IfOk result (λ e. worked_as e world.new.world ≡ does (driver_code code.entry) (command.Say text.now) world.old.world) }
+{
+    say(alloc, world, text)?;
+    Ok(Worked::Done)
+}
+
 /// A command is done.
 pub fn do_command(
     alloc: Global,
@@ -116,6 +143,8 @@ pub fn do_command(
         Command::Call(func, args) => call_command(alloc, code, world, *func, args.as_slice()),
         Command::Idle(ticks) => idle_command(alloc, code, world, *ticks),
         Command::Show(global) => show_command(alloc, code, world, *global),
+        Command::Poke(serial, index, n) => Ok(poke_command(code, world, *serial, *index, *n)),
+        Command::Say(text) => say_command(alloc, code, world, text.as_slice()),
     }
 }
 

@@ -3,6 +3,7 @@ mod FirstLaws
 pub mod GateLaws
 pub mod HandleLaws
 pub mod LockLaws
+mod PokeLaws
 pub mod ReachLaws
 pub mod RunLaws
 pub mod SpinLaws

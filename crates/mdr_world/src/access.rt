@@ -8,6 +8,7 @@ ghost use Rattle.mdr_mem.specs.Contents.{cell_in, is_handle};
 ghost use Rattle.mdr_meaning.specs.Values.{natural_of, wire_of, wire_view};
 ghost use Rattle.mdr_model.specs.Memory.{cell_at, cell_of, everywhere, loaded, loaded_cell, loaded_value, normal, put, reached_by, stored};
 ghost use Rattle.mdr_model.specs.Sets.{cells_from};
+ghost use Rattle.mdr_plain.specs.Scripts.{poked_memory, poked_value};
 ghost use Rattle.mdr_plain.specs.Storage.{byte_at, bytes_from, cells_read, fresh, number_in, read};
 ghost use Rattle.mdr_world.specs.Reaching.{with_memory};
 ghost use Rattle.mdr_meaning.specs.declared.wire.Wire.TheVariants as wire;
@@ -180,6 +181,76 @@ pub fn set_first(blocks: &mut Blocks, serial: u64, integer: Integer) -> bool
             true
         }
         None => false,
+    }
+}
+
+// ---- an integer where one is held
+
+/// What is put where a value is held: an integer, where one of a kind is held that has it.
+fn poked_value(held: Value, n: i128) -> Option<Integer>
+    ensures { option_map integer_wire result ≡ poked_value (Some (wire_of held)) n }
+{
+    match held {
+        Value::Int(kind, _) => {
+            if kind.contains(n) {
+                Some(Integer { kind, number: n })
+            } else {
+                None
+            }
+        }
+        Value::Null => None,
+        Value::Ptr(_) => None,
+        Value::Dead => None,
+        Value::Fn(_) => None,
+        Value::Lock(_) => None,
+        Value::NoValue => None,
+    }
+}
+
+fn poked_in(values: &[Value], cell: usize, n: i128) -> Option<Integer>
+    ensures { option_map integer_wire result ≡ poked_value (option_map wire_of (slice_get values.now cell)) n }
+{
+    match item(values, cell) {
+        Some(held) => poked_value(held, n),
+        None => None,
+    }
+}
+
+/// What is put into a block's cell.
+fn poked_cell(blocks: &Blocks, block: Block, cell: u32, n: i128) -> Option<Integer>
+    requires { IsTrue (is_handle blocks.now.handles block) }
+    ensures { option_map integer_wire result ≡ poked_value (cell_at blocks.now.memory (cell_in block cell)) n }
+{
+    poked_in(blocks.cells(block), cell as usize, n)
+}
+
+/// Puts an integer into a block's cell.
+#[tactic(auto, unfolding(mdr_mem::specs::Contents::current))]
+fn put_integer(blocks: &mut Blocks, block: Block, cell: u32, integer: Integer)
+    requires { IsTrue (is_handle blocks.old.handles block) }
+    ensures { blocks.new ≡ with_memory (put blocks.old.memory (cell_in block cell) (integer_wire integer)) blocks.old }
+{
+    blocks.put(block, cell as u64, Value::Int(integer.kind, integer.number));
+}
+
+fn poke_block(blocks: &mut Blocks, block: Block, cell: u32, n: i128)
+    requires { IsTrue (is_handle blocks.old.handles block) }
+    ensures { blocks.new ≡ with_memory (poked_memory (cell_in block cell) n blocks.old.memory) blocks.old }
+{
+    match poked_cell(blocks, block, cell, n) {
+        Some(integer) => put_integer(blocks, block, cell, integer),
+        None => (),
+    }
+}
+
+/// Puts an integer into a cell of the block with this serial, where the cell holds one of a kind that has it.
+pub fn poke(blocks: &mut Blocks, serial: u64, index: u32, n: i128)
+    ensures { blocks.new ≡ with_memory (poked_memory (record { serial = serial; index = index }) n blocks.old.memory) blocks.old }
+{
+    let _in_order = blocks.births();
+    match blocks.find(serial) {
+        Some(block) => poke_block(blocks, block, index, n),
+        None => (),
     }
 }
 

@@ -1,6 +1,7 @@
 // The globals as they are born.
 
-ghost use Rattle.std.specs.Prelude.{◌≡◌, IfOk, map};
+ghost use Rattle.std.specs.Prelude.{◌≡◌, ◌≤◌, IfOk, length, map};
+ghost use Rattle.mdr_core.specs.Sound.{HasFewNumbers};
 ghost use Rattle.mdr_mem.specs.Contents.{births_in, wire_in};
 ghost use Rattle.mdr_meaning.specs.Bodies.{known_of};
 ghost use Rattle.mdr_meaning.specs.Numbers.{is_same_type, number_in};
@@ -26,7 +27,8 @@ fn is_same_type(a: &Ty, b: &Ty) -> bool
 /// The first place of a type in a list; behind its end where it isn't there.
 #[tactic(auto, unfolding(mdr_meaning::specs::Numbers::number_in))]
 fn number_in(types: &[Ty], ty: &Ty) -> usize
-    ensures { result ≡ number_in types.now ty.now }
+    ensures number { result ≡ number_in types.now ty.now }
+    ensures within { result ≤ length types.now }
 {
     for i in 0..types.len() {
         if is_same_type(&types[i], ty) {
@@ -36,13 +38,12 @@ fn number_in(types: &[Ty], ty: &Ty) -> usize
     types.len()
 }
 
-fn number_fits(number: usize) -> Result<u32, OutOfMemory>
-    ensures { IfOk result (λ n. n ≡ number) }
+/// The number of a type in a table of few; behind its end where it isn't there.
+fn number_of(types: &[Ty], ty: &Ty) -> u32
+    requires { length types.now ≤ 16777216 }
+    ensures { result ≡ number_in types.now ty.now }
 {
-    match u32::try_from(number) {
-        Ok(n) => Ok(n),
-        Err(_) => Err(Limit::Unmet.past()),
-    }
+    number_in(types, ty) as u32
 }
 
 /// A pointer with the slot of its block, which was born before.
@@ -88,14 +89,15 @@ fn global_born(
     program: &Program,
     global: &GlobalDef,
 ) -> Result<(), OutOfMemory>
-    requires { IsCounted storage.old }
+    requires few { length program.now.types ≤ 16777216 }
+    requires counted { IsCounted storage.old }
     ensures counted { IsCounted storage.new }
     ensures memory { OnOk result (storage.new.blocks.memory ≡ storage.old.blocks.memory ++ global_block (known_of program.now) (births_in storage.old.lives) global.now ∷ []) }
     ensures lives { OnOk result (storage.new.lives ≡ storage.old.lives ++ birth_of (global_block (known_of program.now) (births_in storage.old.lives) global.now) ∷ []) }
 {
     let first = all_placed(&storage.blocks, alloc, global.init.as_slice())?;
     let shape = Shape {
-        ty: number_fits(number_in(program.types.as_slice(), &global.ty))?,
+        ty: number_of(program.types.as_slice(), &global.ty),
         count: global.count,
     };
     storage.add(alloc, BirthKind::Static, shape, first.as_slice())?;
@@ -103,6 +105,7 @@ fn global_born(
 }
 
 fn all_born(alloc: Global, program: &Program, globals: &[GlobalDef]) -> Result<Storage, OutOfMemory>
+    requires { length program.now.types ≤ 16777216 }
     ensures counted { IfOk result (λ s. IsCounted s) }
     ensures memory { IfOk result (λ s. s.blocks.memory ≡ global_blocks (known_of program.now) 0 globals.now) }
     ensures lives { IfOk result (λ s. s.lives ≡ map birth_of s.blocks.memory) }
@@ -118,6 +121,7 @@ fn all_born(alloc: Global, program: &Program, globals: &[GlobalDef]) -> Result<S
 /// memory.
 #[tactic(auto, unfolding(mdr_plain::specs::Storage::first_memory))]
 pub fn first_storage(alloc: Global, program: &Program) -> Result<Storage, OutOfMemory>
+    requires { HasFewNumbers program.now }
     ensures counted { IfOk result (λ s. IsCounted s) }
     ensures memory { IfOk result (λ s. s.blocks.memory ≡ first_memory (known_of program.now)) }
     ensures lives { IfOk result (λ s. s.lives ≡ map birth_of s.blocks.memory) }

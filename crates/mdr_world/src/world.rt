@@ -16,7 +16,7 @@ ghost use Rattle.mdr_plain.specs.Atomic.{is_atomic};
 ghost use Rattle.mdr_plain.specs.Gate.{due, is_open};
 ghost use Rattle.mdr_plain.specs.Locks.{acquire, is_locked, release};
 ghost use Rattle.mdr_plain.specs.Running.{handling, interrupted};
-ghost use Rattle.mdr_plain.specs.Scripts.{block_cells, first_world};
+ghost use Rattle.mdr_plain.specs.Scripts.{block_cells, first_world, poked};
 ghost use Rattle.mdr_plain.specs.Services.{asked_once_more, fails_now, with_device, with_handler};
 ghost use Rattle.mdr_plain.specs.Storage.{births, born, deaths, died, died_at, new_of, pointer_to, remembers};
 ghost use Rattle.mdr_plain.specs.World.{advanced, noted};
@@ -484,6 +484,14 @@ impl<'a> World<'a> {
         ensures { self.new ≡ driver self.old.program (record self.old.world { views = open_views false }) }
     {
         self.in_user = false;
+    }
+
+    /// Puts an integer into a cell of the block with a serial, where the cell holds an integer of a kind that has it. Else
+    /// nothing is done.
+    pub fn poke(&mut self, serial: u64, index: u32, n: i128)
+        ensures { self.new ≡ driver self.old.program (poked serial index n self.old.world) }
+    {
+        access::poke(&mut self.storage.blocks, serial, index, n);
     }
 
     /// Puts an integer into the first cell of a block, where that is done at once.

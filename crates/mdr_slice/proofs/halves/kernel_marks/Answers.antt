@@ -7,5 +7,5 @@ use Rattle.mdr_slice.proofs.halves.kernel_marks.Goals as goal
 
 pub returns : goal.returns
 returns c =
-    chains_told _ _ _ _ _ (steps_of c.args.program.now c.args.roots.now _ c.requires c.in_ok-edges.ensures) _
+    chains_told _ _ _ _ _ (steps_of c.args.program.now c.args.roots.now _ c.requires.roots c.in_ok-edges.ensures) _
     (subst (λ xs. AreReached (map vec_items xs) c.args.roots.now c.in_ok-marks.marks.items) c.as_slice.ensures.value c.in_ok-marks.ensures)

@@ -1,6 +1,6 @@
 use Rattle.std.proofs.Common.{◌≡◌, drop}
 use Rattle.mdr_core.specs.Folds.{codes_of}
-use Rattle.mdr_body.specs.Backs.{call_back}
+use Rattle.mdr_core.specs.Backs.{call_back}
 use Rattle.mdr_source.proofs.backs.+calls_back.Given as goal
 
 abbrev pub invariant-call_back-loop-statement : goal.invariant-call_back-loop-statement

@@ -16,3 +16,6 @@ returns-clause-done g c =
 pub returns-clause-part : goal.returns-clause-part
 returns-clause-part g c =
     err_weaker c.run_shown-due.result _ _ (λ part. ran_part c.in-Ok-Goes.script (gone _ _ c.in-Ok-Goes.field-0 c.in-Ok-Goes.script c.in-Ok-Goes.field-0-is c.in-Ok-Goes.ensures.read) part) c.run_shown-due.ensures.part
+
+pub script_of-requires : goal.script_of-requires
+script_of-requires g c = c.requires.numbers

@@ -24,3 +24,6 @@ returns-clause-part g c =
 pub returns-clause-read : goal.returns-clause-read
 returns-clause-read g c =
     IfOk-weaker c.verified_run-due.result _ _ (λ due cause. since _ _ _ due.status c.script_of.ensures.faults_later c.script_of.ensures.absent_later c.script_of.ensures.long_later cause) c.verified_run-due.ensures.read
+
+pub script_of-requires : goal.script_of-requires
+script_of-requires g c = c.requires.numbers

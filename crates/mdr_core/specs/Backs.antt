@@ -1,7 +1,11 @@
 -- believed
--- Statements that call the service that calls back, which isn't built yet (C99 6.5.2.2).
-use Rattle.std.specs.Prelude.{◌==◌, ◌||◌, Bool, false}
+-- Statements that call the service that calls back (C99 6.5.2.2), and programs that don't.
+use Rattle.std.specs.Prelude.{◌≡◌, ◌==◌, ◌||◌, ℕ, Bool, false, List, Some, slice_get}
+use Rattle.mdr_core.specs.declared.code.Stmt.{Stmt}
+use Rattle.mdr_core.specs.declared.program.Func.{Func}
+use Rattle.mdr_core.specs.declared.program.Program.{Program}
 use Rattle.mdr_core.specs.Code.{Called, Code, Codes}
+use Rattle.mdr_core.specs.Folds.{codes_of}
 
 -- the service that calls back has the number 15
 abbrev pub is_back : Called → Bool
@@ -25,3 +29,7 @@ abbrev mutual
   pub call_back : Codes → Bool
   call_back Codes.End = false
   call_back (Codes.Then c cs) = calls_back c || call_back cs
+
+-- no function of the program calls it
+abbrev pub CallsNothingBack : Program → Type 0
+CallsNothingBack program = (f : ℕ) (func : Func) (body : List Stmt) → slice_get program.funcs f ≡ Some func → func.body ≡ Some body → call_back (codes_of body) ≡ false

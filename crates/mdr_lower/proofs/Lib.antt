@@ -1,0 +1,2 @@
+pub mod PlainForms
+pub mod Typed

@@ -1,0 +1,18 @@
+use Rattle.std.proofs.Common.{sym, ◌∙◌}
+use Rattle.mdr_world.proofs.BlockLaws.{none-born}
+use Rattle.mdr_world.proofs.HandleLaws.{dead, is_found, serial_found}
+use Rattle.mdr_world.proofs.PokeLaws.{none_poked, poked_by_serial}
+use Rattle.mdr_world.proofs.access.poke.Goals as goal
+
+pub poke_block-requires : goal.poke_block-requires
+poke_block-requires c = is_found c.args.blocks.now.handles c.args.serial c.in-Some.block (sym c.find.ensures ∙ c.in-Some.is)
+
+pub returns-in-Some : goal.returns-in-Some
+returns-in-Some c =
+    poked_by_serial c.args.blocks.now c.poke_block.new.blocks c.args.serial c.in-Some.block.serial c.args.index c.args.n
+    (serial_found c.args.blocks.now.handles c.args.serial c.in-Some.block (sym c.find.ensures ∙ c.in-Some.is)) c.poke_block.ensures
+
+pub returns-in-None : goal.returns-in-None
+returns-in-None c =
+    none_poked c.args.blocks.now (record { serial = c.args.serial; index = c.args.index }) c.args.n
+    (none-born c.args.blocks.now.memory c.args.serial (dead c.args.blocks.now c.births-in_order.ensures.in_order c.args.serial (sym c.find.ensures ∙ c.in-None.is)))
