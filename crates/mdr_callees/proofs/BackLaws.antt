@@ -7,7 +7,7 @@ use Rattle.mdr_core.specs.Backs.{CallsNothingBack, call_back, calls_back, is_bac
 use Rattle.mdr_core.specs.Code.{Term, Called, CallOf, Code, Codes}
 use Rattle.mdr_core.specs.Typing.{Slot, slots_of}
 use Rattle.mdr_slice.specs.Calls.{all_calls, body_code, calls}
-use Rattle.mdr_slice.specs.Graph.{IsRow, KernelCallReaches, MayCall, reaches_by}
+use Rattle.mdr_slice.specs.Graph.{IsRow, KernelCallReaches, MayCall, OneReaches, reaches_by}
 use Rattle.mdr_callees.specs.Callees.{OneGraphWhereNothingCallsBack}
 
 not_both : {b : Bool} → b ≡ true → b ≡ false → ⊥

@@ -1,6 +1,6 @@
 -- protocol
 -- The driver that is watched.
-use Rattle.std.specs.Prelude.{◌≡◌, false, length, List, [], Result}
+use Rattle.std.specs.Prelude.{◌≡◌, false, length, ℕ, List, [], Result}
 use Rattle.mdr_core.specs.declared.plan.Key.{Key}
 use Rattle.mdr_core.specs.declared.plan.Plan.{Plan}
 use Rattle.mdr_events.specs.declared.event.Asked.{Asked as Question}
