@@ -13,7 +13,7 @@ pub fn bytes_come_to_one_thing()
     ensures { (bytes : List ℕ) (r s : Result Source Refusal) → Comes bytes r → Comes bytes s → r ≡ s }
 {}
 
-/// Bytes come to something, unless their program has more types than 32 bits number.
+/// Bytes come to something, unless the types, globals, structs or functions of their program are too many.
 pub fn bytes_come_to_something()
     ensures { (bytes : List ℕ) → ((r : Result Source Refusal) × Comes bytes r) ⊎ IsTooLarge bytes }
 {}
