@@ -5,7 +5,6 @@ use Rattle.mdr_core.specs.declared.plan.Key.{Key}
 use Rattle.mdr_core.specs.declared.plan.Half.{Half}
 use Rattle.mdr_core.specs.declared.plan.Half.TheVariants.{Kernel, User}
 use Rattle.mdr_core.specs.declared.plan.Plan.{Plan}
-use Rattle.mdr_syntax.specs.declared.tree.Tree.{Tree}
 use Rattle.mdr_paths.specs.Numbers.{numbers}
 use Rattle.mdr_paths.proofs.NodeLists.{same_nodes}
 use Rattle.mdr_slice.specs.declared.halves.Halves.{Halves}
@@ -16,8 +15,7 @@ use Rattle.mdr_access.specs.KeyOrder.{keys}
 use Rattle.mdr_access.specs.Keys.{AreKeys, IsPlan}
 use Rattle.mdr_half.specs.Halves.{kernel_text, user_text}
 use Rattle.mdr_half.specs.Plans.{calls_text, plan_text}
-use Rattle.mdr_cut.specs.declared.texts.Texts.{Texts}
-use Rattle.mdr_cut.specs.Cuts.{AreTexts, IsPlanOf, IsReport, PlanIsDetermined, ReportIsDetermined, TextsAreDetermined}
+use Rattle.mdr_cut.specs.Cuts.{PlanIsDetermined, ReportIsDetermined, TextsAreDetermined}
 
 -- ---- lists of one length
 

@@ -17,17 +17,11 @@ use Rattle.mdr_parse.specs.declared.error.ParseError.TheVariants as parse
 use Rattle.mdr_parse.specs.Parsing.{Parses}
 use Rattle.mdr_faults.specs.declared.fault.Fault.{Fault}
 use Rattle.mdr_faults.specs.Faults.{Checked, Right, IsFirst}
-use Rattle.mdr_plan.specs.declared.plan_error.PlanError.{PlanError}
-use Rattle.mdr_plan.specs.declared.plan_error.PlanError.TheVariants as planning
 use Rattle.mdr_plan.specs.declared.plan_error.PlanKind.{PlanKind}
-use Rattle.mdr_plan.specs.Texts.{Fails, IsFault, IsPlanText}
+use Rattle.mdr_plan.specs.Texts.{IsFault, IsPlanText}
 use Rattle.mdr_plan.proofs.Running.{no_fault}
 use Rattle.mdr_source.specs.Backs.{functions_call_back}
 use Rattle.mdr_half_source.specs.Loads.{AreRefused, Loads}
-use Rattle.mdr_half_source.specs.declared.misfit.Misfit.{Misfit}
-use Rattle.mdr_half_source.specs.declared.misfit.Misfit.TheVariants as misfit
-use Rattle.mdr_half_source.specs.declared.outcome.HalfSource.{HalfSource}
-use Rattle.mdr_half_source.specs.Halves.{ComeTo}
 use Rattle.mdr_half_source.specs.Stages.{Finds, HasHalf, IsFaulty, IsFound, IsMissing, IsNone, IsSmall, Judged, Reading, typed_half}
 
 -- ---- programs

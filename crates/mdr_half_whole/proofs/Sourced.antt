@@ -8,7 +8,7 @@ use Rattle.mdr_core.specs.Layout.{chosen}
 use Rattle.mdr_syntax.specs.declared.tree.Item.{Item}
 use Rattle.mdr_syntax.specs.declared.tree.ItemWhat.{ItemWhat}
 use Rattle.mdr_syntax.specs.declared.tree.ItemWhat.TheVariants as item
-use Rattle.mdr_faults.specs.Faults.{Checked, Right, Wrong, Faults, One, both, each}
+use Rattle.mdr_faults.specs.Faults.{Right, Wrong, Faults, One, both, each}
 use Rattle.mdr_headings.specs.declared.function.Declared.{Declared}
 use Rattle.mdr_headings.specs.Functions.{defines_by, has_body, is_body_by, is_defined}
 use Rattle.mdr_roundtrip.specs.Itemised.{is_shaped_head, is_shaped_item, is_shaped_what}

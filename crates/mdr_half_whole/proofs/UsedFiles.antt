@@ -19,13 +19,13 @@ use Rattle.mdr_faults.specs.declared.scope.Scope.{Scope}
 use Rattle.mdr_faults.specs.declared.scope.StructEntry.{StructEntry}
 use Rattle.mdr_faults.specs.Declarations.{number_constant}
 use Rattle.mdr_faults.specs.Enums.{behind_enumerator, behind_enumerators, constant_means, value_behind}
-use Rattle.mdr_faults.specs.Faults.{Checked, Right, Wrong, Faults, One, both, each, told}
+use Rattle.mdr_faults.specs.Faults.{Right, Wrong, Faults, One, both, each, told}
 use Rattle.mdr_faults.specs.Scopes.{entity_among, entity_named, or_else}
 use Rattle.mdr_headings.specs.declared.function.Declared.{Declared}
 use Rattle.mdr_headings.specs.declared.head.Heading.{Heading}
-use Rattle.mdr_headings.specs.Functions.{behind_function, declared_unless, function_declared, function_means, functions_behind, is_defined, is_taken, with_function_unless}
+use Rattle.mdr_headings.specs.Functions.{behind_function, declared_unless, function_declared, functions_behind, is_defined, is_taken, with_function_unless}
 use Rattle.mdr_headings.specs.Heads.{heading}
-use Rattle.mdr_headings.specs.Source.{before_first, defined_constant, defines_behind, defines_from, signature, with_struct_if}
+use Rattle.mdr_headings.specs.Source.{before_first, defined_constant, defines_behind, defines_from, with_struct_if}
 use Rattle.mdr_body.specs.Bodies.{body_rule}
 use Rattle.mdr_typing.specs.Profile.{profile_rules}
 use Rattle.mdr_check.specs.declared.file.Known.{Known}

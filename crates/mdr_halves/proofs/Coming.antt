@@ -1,5 +1,5 @@
 -- What the text that is printed of a tree comes to.
-use Rattle.std.proofs.Common.{◌≡◌, ℕ, false, List, Result, Ok, Err, refl, sym, ap, subst, ◌∙◌}
+use Rattle.std.proofs.Common.{◌≡◌, false, List, Result, Ok, Err, sym, ap, subst, ◌∙◌}
 use Rattle.mdr_grammar.specs.Grammar.{Reads}
 use Rattle.mdr_grammar.proofs.Exact.{one_tree, no_tree}
 use Rattle.mdr_print.specs.Items.{printed}

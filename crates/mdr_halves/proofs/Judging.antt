@@ -1,9 +1,8 @@
 -- What a tree means doesn't depend on its places.
 use Rattle.std.proofs.Common.{◌≡◌, ℕ, Bool, true, false, List, Result, Ok, Err, refl, sym, ap, subst, ◌∙◌}
-use Rattle.mdr_core.specs.declared.program.Func.{Func}
 use Rattle.mdr_core.specs.declared.program.Program.{Program}
 use Rattle.mdr_faults.specs.declared.fault.Fault.{Fault}
-use Rattle.mdr_faults.specs.Faults.{Checked, Right, Wrong, Faults, IsFirst, first}
+use Rattle.mdr_faults.specs.Faults.{Checked, Right, IsFirst, first}
 use Rattle.mdr_faults.proofs.Least.{first_is_in, first_is_least}
 use Rattle.mdr_placeless.specs.Alike.{AreAlike}
 use Rattle.mdr_placeless.proofs.Programs.{programs_alike, right_same}
@@ -12,7 +11,7 @@ use Rattle.mdr_source.specs.declared.outcome.Source.{Source}
 use Rattle.mdr_source.specs.declared.refusal.Refusal.{Refusal}
 use Rattle.mdr_source.specs.declared.refusal.Refusal.TheVariants as refusals
 use Rattle.mdr_source.specs.Backs.{functions_call_back}
-use Rattle.mdr_source.specs.Sources.{Comes, IsSource, Judged, Means, typed_tree}
+use Rattle.mdr_source.specs.Sources.{Comes, Judged, Means, typed_tree}
 use Rattle.mdr_source.specs.Unbuilt.{waits}
 use Rattle.mdr_source.proofs.Whose.{come_source}
 use Rattle.mdr_syntax.specs.declared.tree.Tree.{Tree}

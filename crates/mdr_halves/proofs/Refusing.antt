@@ -1,5 +1,5 @@
 -- Texts that are refused are those of no source, and those of a source tell its program.
-use Rattle.std.proofs.Common.{◌≡◌, ℕ, false, true, List, [], ◌∷◌, ◌++◌, Result, Ok, Err, refl, sym, ap, subst, ◌∙◌}
+use Rattle.std.proofs.Common.{◌≡◌, ℕ, false, true, List, [], ◌∷◌, ◌++◌, Result, Ok, Err, sym, ap, subst, ◌∙◌}
 use Rattle.mdr_core.specs.declared.plan.Half.{Half}
 use Rattle.mdr_core.specs.declared.plan.Half.TheVariants.{Kernel, User}
 use Rattle.mdr_core.specs.declared.program.Program.{Program}
@@ -9,7 +9,6 @@ use Rattle.mdr_cut.proofs.Determined.{texts_are_determined}
 use Rattle.mdr_grammar.specs.Grammar.{Reads}
 use Rattle.mdr_grammar.proofs.Exact.{no_tree}
 use Rattle.mdr_half.specs.Halves.{half_tree, kernel_tree, user_tree}
-use Rattle.mdr_half.specs.Joins.{joined}
 use Rattle.mdr_print.specs.Items.{printed}
 use Rattle.mdr_roundtrip.specs.Again.{IsPrintedAsSource}
 use Rattle.mdr_roundtrip.specs.Itemised.{unplaced_tree}
@@ -17,7 +16,6 @@ use Rattle.mdr_roundtrip.proofs.Lexemes.{tokens_are_lexed}
 use Rattle.mdr_roundtrip.proofs.PrintedTrees.{printed_alike}
 use Rattle.mdr_roundtrip.proofs.ShapingSources.{sources_are_shaped}
 use Rattle.mdr_source.specs.declared.outcome.Source.{Source}
-use Rattle.mdr_source.specs.Sources.{IsSource, Means}
 use Rattle.mdr_source.proofs.Whose.{come_source}
 use Rattle.mdr_syntax.specs.declared.error.LexError.{LexError}
 use Rattle.mdr_syntax.specs.declared.token.Token.{Token}
@@ -31,7 +29,7 @@ use Rattle.mdr_verify.specs.Verdicts.{IsOtherLine, first_line}
 use Rattle.mdr_halves.specs.declared.mismatch.Mismatch.{Mismatch}
 use Rattle.mdr_halves.specs.Reads.{IsHalf, IsUnread}
 use Rattle.mdr_halves.specs.Joins.{tree_with, AreJoined, AreTextsOf}
-use Rattle.mdr_halves.specs.Laws.{AreSame, RefusedTextsAreOfNone, TextsAreOfOne}
+use Rattle.mdr_halves.specs.Laws.{RefusedTextsAreOfNone, TextsAreOfOne}
 use Rattle.mdr_halves.specs.Whole.{IsOther, Come}
 use Rattle.mdr_halves.proofs.Judging.{IsErr, IsRight, meaning_right, not_refused, right_moved, same_program, source_right}
 use Rattle.mdr_halves.proofs.Placing.{texts_moved}

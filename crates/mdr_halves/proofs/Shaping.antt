@@ -1,7 +1,6 @@
 -- The tree that two halves are joined to can be printed, and has the shape of a source's.
 use Rattle.std.proofs.Common.{◌≡◌, ℕ, Bool, true, false, List, [], ◌∷◌, Result, Ok, Err, refl, sym, ap, ◌∙◌}
 use Rattle.std.specs.List.{list_all}
-use Rattle.mdr_grammar.specs.Grammar.{Reads}
 use Rattle.mdr_half.specs.declared.joining.Part.{Part}
 use Rattle.mdr_half.specs.declared.joining.Part.TheVariants.{Here, There, Both}
 use Rattle.mdr_half.specs.Joins.{are_alike, part_of, remote_of, whole_by, whole_item, joined_item, behind_joined, joined_from, joined}

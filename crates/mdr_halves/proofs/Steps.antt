@@ -1,6 +1,5 @@
 -- What three texts come to, from one stage to the next.
 use Rattle.std.proofs.Common.{◌≡◌, ℕ, true, false, List, Option, Some, None, Result, Ok, Err, refl, sym, ap, subst, ◌∙◌}
-use Rattle.mdr_core.specs.declared.program.Program.{Program}
 use Rattle.mdr_cut.specs.declared.texts.Texts.{Texts}
 use Rattle.mdr_cut.specs.Cuts.{AreTexts}
 use Rattle.mdr_body.specs.Uses.{first_use}
@@ -23,16 +22,15 @@ use Rattle.mdr_syntax.specs.declared.tree.Item.{Item}
 use Rattle.mdr_syntax.specs.declared.tree.Tree.{Tree}
 use Rattle.mdr_syntax.specs.Gives.{Fails}
 use Rattle.mdr_syntax.specs.Tokens.{tokens_of}
-use Rattle.mdr_verify.specs.Verdicts.{FirstOtherLine, IsOtherLine}
 use Rattle.mdr_halves.specs.declared.mismatch.Mismatch.{Mismatch}
 use Rattle.mdr_halves.specs.declared.mismatch.Which.{Which}
 use Rattle.mdr_halves.specs.declared.mismatch.Which.TheVariants as which
 use Rattle.mdr_halves.specs.Reads.{lexing_line, parsing_line, IsFaultOn, IsHalf, IsUnread}
-use Rattle.mdr_halves.specs.Joins.{tree_with, AreJoined, AreTextsOf}
+use Rattle.mdr_halves.specs.Joins.{tree_with, AreJoined}
 use Rattle.mdr_halves.specs.Stages.{AreRead, IsRead, TreesJoin, IsJoinedText, Joining, OtherIn, FirstOther, IsCompared}
 use Rattle.mdr_halves.specs.Whole.{at, IsOther, Come}
 use Rattle.mdr_halves.proofs.Coming.{source_same, text_refused}
-use Rattle.mdr_halves.proofs.Judging.{IsErr, source_means}
+use Rattle.mdr_halves.proofs.Judging.{source_means}
 use Rattle.mdr_halves.proofs.Placing.{texts_moved}
 use Rattle.mdr_halves.proofs.Shaping.{joined_again}
 

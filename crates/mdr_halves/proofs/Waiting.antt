@@ -3,7 +3,7 @@ use Rattle.std.proofs.Common.{◌≡◌, ℕ, Bool, List, [], ◌∷◌, Option,
 use Rattle.std.specs.Prelude.{◌||◌, codes}
 use Rattle.std.specs.Str.{bytes_eq}
 use Rattle.mdr_core.specs.Layout.{chosen}
-use Rattle.mdr_operand.specs.Written.{Written, Writtens, Line, Lines, lines_of}
+use Rattle.mdr_operand.specs.Written.{Written, Writtens, Line, Lines}
 use Rattle.mdr_placeless.proofs.Lines.{AreLine, AreLines, lines_both}
 use Rattle.mdr_placeless.proofs.Scopes.{Perhaps}
 use Rattle.mdr_placeless.proofs.Scopes.Perhaps.{Nones, Somes}

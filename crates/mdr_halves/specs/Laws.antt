@@ -1,9 +1,7 @@
 -- for proofs
 -- What three texts are refused for, and what they have in common with the source that they are of.
 use Rattle.std.specs.Prelude.{◌≡◌, Err}
-use Rattle.mdr_core.specs.declared.plan.Plan.{Plan}
 use Rattle.mdr_cut.specs.declared.texts.Texts.{Texts}
-use Rattle.mdr_cut.specs.Cuts.{IsPlanOf}
 use Rattle.mdr_roundtrip.specs.Itemised.{unplaced_tree}
 use Rattle.mdr_source.specs.declared.outcome.Source.{Source}
 use Rattle.mdr_halves.specs.declared.mismatch.Mismatch.{Mismatch}

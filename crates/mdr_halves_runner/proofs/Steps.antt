@@ -1,5 +1,5 @@
 -- The stages of a run from texts.
-use Rattle.std.proofs.Common.{◌≡◌, ℕ, List, sym, ◌∙◌, subst}
+use Rattle.std.proofs.Common.{◌≡◌, ℕ, List, subst}
 use Rattle.mdr_cut.specs.declared.texts.Texts.{Texts}
 use Rattle.mdr_due.specs.declared.due.Stage.{Stage}
 use Rattle.mdr_due.specs.declared.due.Stage.TheVariants as stage
@@ -8,13 +8,12 @@ use Rattle.mdr_due.specs.Reads.{Files, IsRead, UnreadBy, WasRead}
 use Rattle.mdr_due.specs.Stages.{StageIs}
 use Rattle.mdr_outside.specs.Calls.{ShelfCall}
 use Rattle.mdr_outside.specs.declared.shelf.ReadAnswer.{ReadAnswer}
-use Rattle.mdr_outside.specs.declared.shelf.ReadAnswer.TheVariants as reads
 use Rattle.mdr_outside.specs.Sides.{FarSide}
 use Rattle.mdr_source.specs.declared.outcome.Source.{Source}
 use Rattle.mdr_split_runner.specs.declared.manner.SplitManner.{SplitManner}
 use Rattle.mdr_split_runner.specs.SplitRuns.{SplitRunsOver, SplitRunsOverPart}
 use Rattle.mdr_halves_runner.specs.Names.{TextNames}
-use Rattle.mdr_halves_runner.specs.Reads.{longest_text, AreRead, NoTexts, TextsPart}
+use Rattle.mdr_halves_runner.specs.Reads.{AreRead}
 use Rattle.mdr_halves_runner.specs.Runs.{HalvesRuns, HalvesPart}
 use Rattle.mdr_halves_runner.specs.Sources.{HasHalves, NoHalves, IsSourceIn, NoSourceIn}
 

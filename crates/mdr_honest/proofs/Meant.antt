@@ -2,7 +2,6 @@
 use Rattle.std.proofs.Common.{◌≡◌, ℕ, List, [], ◌∷◌, ◌++◌, Option, Some, None, sym, ap, ◌∙◌, subst}
 use Rattle.std.specs.Prelude.{IfSome}
 use Rattle.mdr_core.specs.declared.plan.Plan.{Plan}
-use Rattle.mdr_core.specs.declared.program.Program.{Program}
 use Rattle.mdr_half.specs.Halves.{user_text}
 use Rattle.mdr_outside.specs.declared.far.Exchange.{Exchange}
 use Rattle.mdr_outside.specs.declared.far.Loaded.{Loaded}
@@ -21,7 +20,6 @@ use Rattle.mdr_honest.specs.Honest.{IsHonestSince}
 use Rattle.mdr_half_source.specs.Loads.{Loads}
 use Rattle.mdr_honest.specs.Loading.{AreItsHalf}
 use Rattle.mdr_honest.specs.Meanings.{HasTexts, RunIsMeaning}
-use Rattle.mdr_honest.specs.Scripts.{IsScriptFor}
 use Rattle.mdr_honest.proofs.Taken.{its_plan, source_bodies, source_sound, texts_are_loaded}
 use Rattle.mdr_honest.proofs.FittingScripts.{scripts_fit}
 

@@ -19,7 +19,7 @@ use Rattle.mdr_rich.specs.declared.code.Step.{Step as RichStep}
 use Rattle.mdr_rich.specs.declared.code.Step.TheOpen.{Step-F}
 use Rattle.mdr_rich.specs.declared.code.Step.TheFolds.{ind-Stmt, map-Step, fold-roll-Step, fold_out-Stmt}
 use Rattle.mdr_rich.specs.declared.code.Stmt.{Stmt as RichStmt}
-use Rattle.mdr_rich.specs.Code.{Term as RichTerm, Lvalue as RichLvalue, Code as RichCode, Codes as RichCodes}
+use Rattle.mdr_rich.specs.Code.{Term as RichTerm, Lvalue as RichLvalue, Code as RichCode}
 use Rattle.mdr_rich.specs.Folds.{term_layer, lvalue_layer, term_of as rich_term_of, lvalue_of as rich_lvalue_of, called_of as rich_called_of, call_of as rich_call_of, goal_of as rich_goal_of, test_of as rich_test_of, code_list as rich_code_list, before as rich_before, step_layer as rich_step_layer, stmt_layer as rich_stmt_layer, code_of as rich_code_of, codes_of as rich_codes_of}
 use Rattle.mdr_rich.proofs.Coded.{numbered as rich_numbered}
 use Rattle.mdr_lower.specs.Lowering.{expr_layer, lval_layer, lowered_expr, lowered_lval, lowered_callee, lowered_call, step_layer, stmt_layer, lowered_step, lowered_stmt, lowered}

@@ -1,8 +1,8 @@
 -- for proofs
 -- The code of a source's bodies and that of a program as plain data: the same forms.
-use Rattle.std.specs.Prelude.{ℕ, List, map, Option}
+use Rattle.std.specs.Prelude.{map}
 use Rattle.std.specs.Option.{option_map}
-use Rattle.mdr_core.specs.Code.{Term, Lvalue, Called, CallOf, Goal, Way, Code, Codes}
+use Rattle.mdr_core.specs.Code.{Term, Lvalue, Called, CallOf, Goal, Code, Codes}
 use Rattle.mdr_rich.specs.Code.{Term as RichTerm, Lvalue as RichLvalue, Called as RichCalled, CallOf as RichCall, Goal as RichGoal, Code as RichCode, Codes as RichCodes}
 
 abbrev mutual

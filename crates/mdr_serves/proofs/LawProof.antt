@@ -4,7 +4,6 @@ use Rattle.std.specs.Prelude.{is_some}
 use Rattle.mdr_callees.specs.Callees.{uses_by}
 use Rattle.mdr_core.specs.declared.program.Program.{Program}
 use Rattle.mdr_core.specs.declared.types.Shape.{Shape}
-use Rattle.mdr_core.specs.Sound.{IsSound}
 use Rattle.mdr_holds.proofs.Scripts.{commands_leave}
 use Rattle.mdr_holds.proofs.States.{states_hold}
 use Rattle.mdr_holds.specs.Holding.{Holds, first_knowledge}

@@ -1,5 +1,5 @@
 -- The program of a source that isn't refused is sound.
-use Rattle.std.proofs.Common.{◌≡◌, ℕ, false, List, Ok}
+use Rattle.std.proofs.Common.{ℕ, false, List, Ok}
 use Rattle.mdr_core.specs.Sound.{IsSound}
 use Rattle.mdr_body.specs.Uses.{first_use}
 use Rattle.mdr_source.specs.declared.outcome.Source.{Source}

@@ -1,10 +1,10 @@
 -- The program of a source is sound: the parts of the law together.
-use Rattle.std.proofs.Common.{◌≡◌, ℕ, zero, suc, ◌≤◌, Bool, List, [], ◌∷◌, length, Some, slice_get, arith, refl, sym, ap, ◌∙◌, subst, IsTrue, ◌⊎◌, inl, inr}
+use Rattle.std.proofs.Common.{◌≡◌, ℕ, zero, suc, ◌≤◌, List, [], ◌∷◌, length, Some, slice_get, arith, sym, ap, ◌∙◌, subst, IsTrue}
 use Rattle.std.specs.List.{list_all}
 use Rattle.mdr_core.specs.declared.program.Program.{Program}
 use Rattle.mdr_core.specs.declared.types.Ty.{Ty}
 use Rattle.mdr_core.specs.Sound.{IsObjectSort}
-use Rattle.mdr_core.specs.Types.{Wrong, HasNumber, is_pointer, sort_of}
+use Rattle.mdr_core.specs.Types.{HasNumber, sort_of}
 use Rattle.mdr_core.specs.TypeText.{Occurs}
 use Rattle.mdr_syntax.specs.Bytes.{is_name_byte}
 use Rattle.mdr_syntax.specs.declared.tree.Item.{Item}
@@ -17,19 +17,19 @@ use Rattle.mdr_body.specs.Bodies.{body_rule}
 use Rattle.mdr_program.specs.Parts.{parts_of}
 use Rattle.mdr_program.specs.Programs.{made, program_of, typed}
 use Rattle.mdr_typing.specs.Profile.{profile_rules}
-use Rattle.mdr_type_text.specs.Apart.{AreNamed, IsFormed}
+use Rattle.mdr_type_text.specs.Apart.{AreNamed}
 use Rattle.mdr_type_table.specs.Tabled.{HasFormedPointers}
 use Rattle.mdr_type_table.proofs.Tabled.{types_that_occur_have_numbers}
 use Rattle.mdr_file_names.specs.FileNames.{struct_name, HaveWords}
 use Rattle.mdr_file_names.proofs.WholeFiles.{structs_are_named, tables_of_files_are_in_order}
 use Rattle.mdr_sound.specs.Whole.{HasAll, IsDefineInRange, AreDefinesInRange, IsBodyProper, AreBodiesProper}
-use Rattle.mdr_sound.proofs.Filed.{IsFile, file_of, types_of_files, files_sound}
+use Rattle.mdr_sound.proofs.Filed.{file_of, types_of_files, files_sound}
 use Rattle.mdr_sound.proofs.Sorts.{not_wrong}
 use Rattle.mdr_sound.specs.ProperSources.{IsProperItem, AreProperItems}
 use Rattle.mdr_sound.proofs.Itemising.{bytes_proper}
 use Rattle.mdr_sound.proofs.Allocating.{profile_formed}
 use Rattle.mdr_sound.proofs.Stating.{profile_sound}
-use Rattle.mdr_sound.specs.Sources.{IsProgramOf, SourcesHaveOrderedTables, SourcesAreSound}
+use Rattle.mdr_sound.specs.Sources.{SourcesHaveOrderedTables, SourcesAreSound}
 
 -- ---- what the grammar gives
 

@@ -18,7 +18,6 @@ use Rattle.mdr_faults.specs.declared.scope.Scope.{Scope}
 use Rattle.mdr_faults.specs.Faults.{Right, again}
 use Rattle.mdr_faults.specs.Scopes.{entity_named}
 use Rattle.mdr_operand.specs.declared.operand.Operand.{Operand}
-use Rattle.mdr_operand.specs.declared.operand.Operand.TheVariants as operand
 use Rattle.mdr_operand.specs.declared.room.LocalName.{LocalName}
 use Rattle.mdr_operand.specs.Rooms.{local_named}
 use Rattle.mdr_operand.specs.Written.{Written}

@@ -4,7 +4,6 @@ use Rattle.std.specs.List.{list_all}
 use Rattle.std.proofs.lemmas.Option.{slice_get_within}
 use Rattle.mdr_core.specs.declared.kind.Kind.{Kind}
 use Rattle.mdr_core.specs.declared.kind.Kind.TheVariants.{U8, U16, U32, U64, S8, S16, S32, S64}
-use Rattle.mdr_core.specs.declared.plan.Plan.{Plan}
 use Rattle.mdr_core.specs.declared.program.GlobalDef.{GlobalDef}
 use Rattle.mdr_core.specs.declared.program.Program.{Program}
 use Rattle.mdr_core.specs.declared.program.StructDef.{StructDef}
@@ -12,7 +11,7 @@ use Rattle.mdr_core.specs.declared.types.Ty.{Ty, out-Ty}
 use Rattle.mdr_core.specs.declared.types.Ty.TheOpen.{Ty-F}
 use Rattle.mdr_core.specs.declared.types.Ty.TheVariants as type
 use Rattle.mdr_core.specs.Sound.{IsObjectSort, IsTable}
-use Rattle.mdr_core.specs.Types.{HasNumber, first_types, is_pointer_by, sort_of}
+use Rattle.mdr_core.specs.Types.{first_types, is_pointer_by, sort_of}
 use Rattle.mdr_core.specs.TypeText.{Occurs, OfField, OfGlobal, OfParam, OfLocal, OfAllocation}
 use Rattle.mdr_syntax.specs.declared.tree.Item.{Item}
 use Rattle.mdr_faults.specs.Alike.{is_alike}

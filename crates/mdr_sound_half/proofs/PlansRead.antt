@@ -14,11 +14,11 @@ use Rattle.mdr_plan.specs.declared.line.Line.TheVariants as line
 use Rattle.mdr_plan.specs.declared.line.Stage.{Stage}
 use Rattle.mdr_plan.specs.declared.line.Stage.TheVariants as stage
 use Rattle.mdr_plan.specs.declared.reader.Reader.{Reader}
-use Rattle.mdr_plan.specs.Lines.{takes_types, takes_ups, takes_keys, ends, is_kernel, is_user_half, is_next_user, is_there, IsNext, Reads}
+use Rattle.mdr_plan.specs.Lines.{takes_types, takes_ups, takes_keys, ends, is_kernel, is_user_half, is_next_user, is_there, IsNext}
 use Rattle.mdr_plan.specs.Naming.{is_new}
 use Rattle.mdr_plan.specs.Steps.{Reached, after, first_type, key_added, with_key}
 use Rattle.mdr_plan.specs.Steps.Reached.{Begun, Then}
-use Rattle.mdr_plan.specs.Texts.{IsPlanText, is_done}
+use Rattle.mdr_plan.specs.Texts.{is_done}
 use Rattle.mdr_plan.proofs.TypesRead.{both}
 use Rattle.mdr_check_half.specs.Planned.{IsPlanned}
 use Rattle.mdr_sound_half.specs.PlanTexts.{PlansThatAreReadArePlanned, PlansHaveFewTypes}

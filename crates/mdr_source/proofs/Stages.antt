@@ -1,5 +1,5 @@
 -- What a source comes to, from one stage to the next.
-use Rattle.std.proofs.Common.{◌≡◌, refl, sym, subst, ap, ◌∙◌, ◌↔◌, ℕ, Bool, true, false, List, Some, Result, Ok, Err}
+use Rattle.std.proofs.Common.{◌≡◌, refl, sym, subst, ap, ◌∙◌, ◌↔◌, Bool, true, false, List, Some, Result, Ok, Err}
 use Rattle.std.specs.Prelude.{IfOk, MatchResult}
 use Rattle.mdr_core.specs.declared.memory_error.OutOfMemory.{OutOfMemory}
 use Rattle.mdr_core.specs.declared.program.Func.{Func}

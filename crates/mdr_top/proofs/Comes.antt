@@ -23,11 +23,11 @@ use Rattle.mdr_split_runner.specs.declared.manner.SplitManner.{SplitManner}
 use Rattle.mdr_split_runner.specs.Cuts.{IsCutInto}
 use Rattle.mdr_split_runner.specs.Ends.{EndsWith, FailedLast}
 use Rattle.mdr_split_runner.proofs.Endings.{fails_last, outcome_ends, split_runs_end}
-use Rattle.mdr_top.specs.Answers.{Unread, Untaken, IsTaken, CutAnswered, ScriptAnswered, FileAnswered, WholeDue, SplitDue, WayDue, RunAnswered, MadeAnswered, TranscriptDue, VerifyAnswered, Answered, Prints, HoldTexts, AreTaken, UntakenTexts, TextsAnswered}
+use Rattle.mdr_top.specs.Answers.{Unread, Untaken, IsTaken, CutAnswered, ScriptAnswered, FileAnswered, WholeDue, SplitDue, WayDue, RunAnswered, MadeAnswered, TranscriptDue, VerifyAnswered, Answered, Prints, UntakenTexts, TextsAnswered}
 use Rattle.mdr_verifier.proofs.Said.{said_exactly}
 use Rattle.mdr_verifier.specs.Laws.{IsExactly}
 use Rattle.mdr_verifier.specs.Verifies.{longest_transcript}
-use Rattle.mdr_top.specs.Comes.{AreNamed, IsRunFor, WasJudged, IsWanted, IsRunSource, IsRefused, IsNoScript, IsScriptRefused, WasCut, IsWholeEnd, IsSplitEnd, IsEnd, IsDone, IsStopped, Comes, IsText, AreRefused, IsNoTextsScript, IsTextsEnd}
+use Rattle.mdr_top.specs.Comes.{AreNamed, IsRunFor, WasJudged, IsWanted, IsRunSource, IsRefused, IsNoScript, IsScriptRefused, WasCut, IsWholeEnd, IsEnd, IsDone, IsStopped, Comes, IsText, AreRefused, IsNoTextsScript}
 use Rattle.mdr_split_runner.specs.Reports.{Ran}
 use Rattle.mdr_cut.specs.declared.texts.Texts.{Texts}
 use Rattle.mdr_cut.proofs.Determined.{texts_are_determined}

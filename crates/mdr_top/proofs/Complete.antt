@@ -5,6 +5,7 @@ use Rattle.mdr_due.specs.Statuses.{ReadCause}
 use Rattle.mdr_due.specs.declared.status.Status.{Status}
 use Rattle.mdr_due.specs.declared.status.Status.TheVariants as status
 use Rattle.mdr_due.specs.Reads.{Files, longest_source, longest_script}
+use Rattle.mdr_generated.specs.declared.recipe.Recipe.{Recipe}
 use Rattle.mdr_outside.specs.Count.{Rose}
 use Rattle.mdr_runner.specs.Scripts.{script_for}
 use Rattle.mdr_runner.proofs.Stages.{outcome_own}
@@ -16,10 +17,11 @@ use Rattle.mdr_source.specs.Sources.{Comes}
 use Rattle.mdr_source.proofs.OneThing.{one_thing}
 use Rattle.mdr_split_runner.specs.declared.manner.SplitManner.{SplitManner}
 use Rattle.mdr_split_runner.specs.Means.{while_watched}
-use Rattle.mdr_top.specs.Comes.{IsUntakenDue, IsBoundDue, IsSizedDue, IsScriptDue, IsRunDue, IsFileDue, IsDueFor, IsDueOrFault, IsExact}
+use Rattle.mdr_top.specs.Comes.{IsUntakenDue, IsBoundDue, IsSizedDue, IsScriptDue, IsRunDue, IsFileDue, IsMadeDue, IsDueFor, IsDueOrFault, IsExact, MadeExactly}
 use Rattle.mdr_top.specs.Cuts.{WroteCause, WriteCause}
 use Rattle.mdr_top.specs.Accepted.{AreAccepted, over_two_halves}
 use Rattle.mdr_top.specs.Headline.{MeansBy, Means, MeansWhereHonest, Rests, RestsHere, EndsAsMeant, EndsWhereAccepted, Completes}
+use Rattle.mdr_top.specs.Made.{MadeCompletes, MadeMeans, MadeMeansBy}
 use Rattle.mdr_top.specs.Outside.{Outside}
 use Rattle.mdr_top.specs.Splits.{IsOfRun}
 use Rattle.mdr_top.specs.declared.words.Way.{Way}
@@ -184,3 +186,23 @@ module _ (words : List (List ℕ)) (before after : Outside) (s : Status) (means 
 pub completes : (words : List (List ℕ)) (before after : Outside) (s : Status) → IsExact words before.sides.shelf.files s → MeansWhereHonest words before after s → ReadCause before.sides.shelf after.sides.shelf s → WriteCause words before after s
     → (s ≡ status.FarFault → Rose before.sides.far.faults after.sides.far.faults) → Completes words before after s
 completes words before after s exact means cause wrote fails rests far_rest honest = ends_so words before after s (means honest) cause wrote fails rests far_rest before.sides.shelf.files refl exact
+
+-- ---- a seed
+
+pub made_completes : (words : List (List ℕ)) (before after : Outside) (s : Status) → MadeExactly words s → MadeMeans words before after s → MeansWhereHonest words before after s → WriteCause words before after s
+    → (s ≡ status.FarFault → Rose before.sides.far.faults after.sides.far.faults) → MadeCompletes words before after s
+made_completes words before after s exact made means wrote fails rests far_rest honest recipe named = of (exact recipe named)
+  where
+    by_status : Ended s → (s ≡ status.OutOfMemory) ⊎ MadeMeansBy words before after s
+    by_status (Ended.itself is) = inr (made honest recipe named is)
+    by_status (Ended.refused is) = absurd ((means honest).never is)
+    by_status (Ended.failed is) = absurd (far_rest (fails is))
+
+    by_cause : Rose before.out.faults after.out.faults ⊎ ⊥ → ⊥
+    by_cause (inl r) = rests r
+    by_cause (inr none) = none
+
+    of : (s ≡ status.WriteFault) ⊎ ((s ≡ status.OutOfMemory) ⊎ IsMadeDue recipe s) → (s ≡ status.OutOfMemory) ⊎ MadeMeansBy words before after s
+    of (inl is) = absurd (by_cause (subst (λ (c : Option Task). Rose before.out.faults after.out.faults ⊎ WroteCause c before.sides.shelf.unwritten after.sides.shelf.unwritten) named (wrote is)))
+    of (inr (inl is)) = inl is
+    of (inr (inr due)) = by_status (ended s due.ends)

@@ -40,7 +40,6 @@ use Rattle.mdr_split_runner.specs.Sides.{Sides}
 use Rattle.mdr_top.specs.Outside.{Outside}
 use Rattle.mdr_top.specs.Wholes.{WholeMeansBy, IsOfWhole}
 use Rattle.mdr_top.specs.Words.{Inputs, OfFiles, Task, Cut, Run, Generate, Verify, command_of, RunTexts, texts_manner}
-use Rattle.mdr_halves_runner.specs.Means.{HalvesMean}
 use Rattle.mdr_halves_runner.specs.Names.{TextNames}
 use Rattle.mdr_halves_runner.specs.Runs.{HalvesRuns}
 use Rattle.mdr_halves_runner.proofs.Honest.{halves_mean}

@@ -21,7 +21,7 @@ use Rattle.mdr_bound.specs.declared.bound.Bound.{Bound}
 use Rattle.mdr_script.specs.declared.script_error.ScriptKind.{ScriptKind}
 use Rattle.mdr_source.specs.declared.outcome.Source.{Source}
 use Rattle.mdr_top.specs.Answers.{Unread, Untaken, IsTaken, CutAnswered, ScriptAnswered, FileAnswered, WholeDue, SplitDue, WayDue, RunAnswered, MadeAnswered, TranscriptDue, VerifyAnswered, Answered, Prints, HoldTexts, AreTaken, UntakenTexts, TextsAnswered}
-use Rattle.mdr_top.specs.Comes.{IsUntakenDue, IsTakenDue, IsCutDue, IsBoundDue, IsSizedDue, IsScriptDue, IsRunDue, IsFileDue, IsWholeDue, WayEnds, IsDueOf, IsMadeDue, IsTranscriptDue, IsVerifyDue, IsDueFor, IsDueOrFault, IsExact, CutCompletes, WholeCompletes, IsNoTextDue, IsTextDue, AreTextsDue, AreUntakenDue, AreTakenDue, IsTextsDue}
+use Rattle.mdr_top.specs.Comes.{IsUntakenDue, IsTakenDue, IsCutDue, IsBoundDue, IsSizedDue, IsScriptDue, IsRunDue, IsFileDue, IsWholeDue, WayEnds, IsDueOf, IsMadeDue, IsTranscriptDue, IsVerifyDue, IsDueFor, IsDueOrFault, IsExact, CutCompletes, MadeExactly, WholeCompletes, IsNoTextDue, IsTextDue, AreTextsDue, AreUntakenDue, AreTakenDue, IsTextsDue}
 use Rattle.mdr_top.specs.Cuts.{IsSplit, IsCut, CutCause, WroteCause, WriteCause}
 use Rattle.mdr_top.specs.declared.words.Cutting.{Cutting}
 use Rattle.mdr_top.specs.declared.words.Cutting.TheVariants as cutting
@@ -30,7 +30,7 @@ use Rattle.mdr_top.specs.declared.words.Way.TheVariants as way
 use Rattle.mdr_top.specs.Headline.{Rests, RestsHere}
 use Rattle.mdr_top.specs.Outside.{Outside}
 use Rattle.mdr_top.specs.Splits.{IsOfRun}
-use Rattle.mdr_top.specs.Words.{Inputs, OfFiles, Task, Cut, Run, Generate, Verify, command_of, RunTexts, texts_manner}
+use Rattle.mdr_top.specs.Words.{Inputs, OfFiles, Task, Cut, Run, command_of, texts_manner}
 use Rattle.mdr_verifier.proofs.Said.{said_exactly}
 use Rattle.mdr_verifier.specs.Verifies.{longest_transcript}
 use Rattle.mdr_top.proofs.SplitLaws.{end_status, run_status}
@@ -38,6 +38,16 @@ use Rattle.mdr_cut.specs.declared.texts.Texts.{Texts}
 use Rattle.mdr_halves.proofs.Refusing.{refused_are_none}
 use Rattle.mdr_halves_runner.specs.Names.{TextNames}
 use Rattle.mdr_halves_runner.specs.Reads.{longest_text}
+
+-- what a seed gives
+made_due : (loaded : Option Loaded) (es : List Exchange) (s : Status) (text : List ℕ) (recipe : Recipe) → MadeAnswered recipe loaded es s text → IsMadeDue recipe s
+made_due loaded es s text recipe m = record {
+  source = m.source;
+  script = m.script;
+  comes = m.has.comes;
+  bound = m.bound;
+  ends = subst IsOfRun (sym (told_status recipe m.source.program es m.due.outcome s text m.due.told)) (end_status m.due.outcome.end);
+}
 
 module _ (words : List (List ℕ)) (f : List ℕ → Option (List ℕ)) (loaded : Option Loaded) (es : List Exchange) (s : Status) (text : List ℕ) where
   -- a source that isn't taken, or whose file couldn't be read
@@ -102,15 +112,6 @@ module _ (words : List (List ℕ)) (f : List ℕ → Option (List ℕ)) (loaded 
   ran_due (OfFiles name script_name) (way.Split manner) c =
       run_due (λ program bound. IsOfRun s) (SplitDue manner loaded es s text) name script_name (λ source script due. run_status source.program due.plan due.texts script manner.ticks loaded es s due.report due.ran) c
 
-  made_due : (recipe : Recipe) → MadeAnswered recipe loaded es s text → IsMadeDue recipe s
-  made_due recipe m = record {
-    source = m.source;
-    script = m.script;
-    comes = m.has.comes;
-    bound = m.bound;
-    ends = subst IsOfRun (sym (told_status recipe m.source.program es m.due.outcome s text m.due.told)) (end_status m.due.outcome.end);
-  }
-
   transcript_due : (name : List ℕ) (source : Source) (script : Bound) → TranscriptDue (Some f) name s text source script → (s ≡ status.ReadFault) ⊎ IsTranscriptDue source script (f name) s
   transcript_due name source script (TranscriptDue.unread (Unread.missing r e t)) = inr (IsTranscriptDue.missing r e)
   transcript_due name source script (TranscriptDue.unread (Unread.long r e t)) = inr (of (f name) refl r)
@@ -174,7 +175,7 @@ module _ (words : List (List ℕ)) (f : List ℕ → Option (List ℕ)) (loaded 
   answered_due (Answered.usage e is t) = inr (inr (inr (subst (λ (c : Option Task). IsDueFor c f s) (sym e) is)))
   answered_due (Answered.cut how name e c) = subst (λ (d : Option Task). IsDueOrFault (IsDueFor d f s) s) (sym e) (cut_due how name c)
   answered_due (Answered.ran inputs in_way e c) = subst (λ (d : Option Task). IsDueOrFault (IsDueFor d f s) s) (sym e) (ran_due inputs in_way c)
-  answered_due (Answered.made recipe e c) = subst (λ (d : Option Task). IsDueOrFault (IsDueFor d f s) s) (sym e) (inr (inr (inr (made_due recipe c))))
+  answered_due (Answered.made recipe e c) = subst (λ (d : Option Task). IsDueOrFault (IsDueFor d f s) s) (sym e) (inr (inr (inr (made_due loaded es s text recipe c))))
   answered_due (Answered.verified name script_name transcript_name e c) = subst (λ (d : Option Task). IsDueOrFault (IsDueFor d f s) s) (sym e) (verify_due name script_name transcript_name c)
   answered_due (Answered.texts names script_name e c) = subst (λ (d : Option Task). IsDueOrFault (IsDueFor d f s) s) (sym e) (all_texts_due names script_name c)
 
@@ -203,6 +204,23 @@ usage_comes words before after s (Prints.whole text a w) none = of a
     of (Answered.texts names script_name e c) = absurd (Prim.cc)
 usage_comes words before after s (Prints.cut due text is a c) none = inr (inl is)
 usage_comes words before after s (Prints.nothing is same) none = inr (inr is)
+
+-- words that ask for a seed
+one_recipe : (command : Option Task) (recipe other : Recipe) → command ≡ Some (Generate recipe) → command ≡ Some (Generate other) → recipe ≡ other
+one_recipe command recipe other e d = Prim.cc
+
+pub made_exactly : (words : List (List ℕ)) (before after : Outside) (s : Status) → Prints words before after s → MadeExactly words s
+made_exactly words before after s (Prints.whole text a w) recipe named = inr (inr (of a))
+  where
+    of : Answered words before.sides.shelf.files after.sides.far.loaded after.sides.far.exchanges s text → IsMadeDue recipe s
+    of (Answered.usage e is t) = absurd (Prim.cc)
+    of (Answered.cut how name e c) = absurd (Prim.cc)
+    of (Answered.ran inputs in_way e c) = absurd (Prim.cc)
+    of (Answered.made other e c) = subst (λ (r : Recipe). IsMadeDue r s) (one_recipe (command_of words) other recipe e named) (made_due after.sides.far.loaded after.sides.far.exchanges s text other c)
+    of (Answered.verified name script_name transcript_name e c) = absurd (Prim.cc)
+    of (Answered.texts names script_name e c) = absurd (Prim.cc)
+made_exactly words before after s (Prints.cut due text is a c) recipe named = inl is
+made_exactly words before after s (Prints.nothing is same) recipe named = inr (inl is)
 
 -- ---- where nothing outside fails
 

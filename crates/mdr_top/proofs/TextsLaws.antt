@@ -12,13 +12,11 @@ use Rattle.mdr_halves.specs.Joins.{AreTextsOf}
 use Rattle.mdr_halves.specs.Laws.{AreSame}
 use Rattle.mdr_halves.proofs.Placing.{texts_moved}
 use Rattle.mdr_halves.proofs.Refusing.{refused_are_none, texts_of_one}
-use Rattle.mdr_halves_runner.specs.Means.{HalvesMean, HalvesMeanBy}
+use Rattle.mdr_halves_runner.specs.Means.{HalvesMeanBy}
 use Rattle.mdr_halves_runner.specs.Names.{TextNames}
 use Rattle.mdr_halves_runner.specs.Reads.{AreRead, NoTexts, longest_text}
 use Rattle.mdr_halves_runner.specs.Runs.{HalvesRuns}
-use Rattle.mdr_halves_runner.specs.Sources.{HasHalves, IsSourceIn, NoSourceIn, NoHalves}
-use Rattle.mdr_halves_runner.proofs.Honest.{halves_mean}
-use Rattle.mdr_honest.specs.Honest.{IsHonest}
+use Rattle.mdr_halves_runner.specs.Sources.{IsSourceIn, NoSourceIn}
 use Rattle.mdr_outside.specs.Calls.{ShelfCall, Read, and_then}
 use Rattle.mdr_outside.specs.declared.far.Exchange.{Exchange}
 use Rattle.mdr_outside.specs.declared.far.Loaded.{Loaded}
@@ -27,7 +25,6 @@ use Rattle.mdr_outside.specs.Shelf.{ReadsFrom}
 use Rattle.mdr_outside.specs.Sides.{FarSide}
 use Rattle.mdr_runner.specs.Scripts.{NoScript, NoScriptOf, HasScript}
 use Rattle.mdr_source.specs.declared.outcome.Source.{Source}
-use Rattle.mdr_split_runner.specs.Cuts.{IsCutInto}
 use Rattle.mdr_split_runner.specs.Reports.{Ran}
 use Rattle.mdr_split_runner.specs.SplitRuns.{SplitRunsOver}
 use Rattle.mdr_top.specs.Answers.{Unread, HoldTexts, IsTaken, AreTaken, Untaken, UntakenTexts, ScriptAnswered, SplitDue, TextsAnswered, Answered, Prints}
@@ -37,7 +34,7 @@ use Rattle.mdr_top.specs.Flags.{with_words}
 use Rattle.mdr_top.specs.Headline.{AreTold}
 use Rattle.mdr_top.specs.Outside.{Outside}
 use Rattle.mdr_top.specs.Splits.{IsOfRun}
-use Rattle.mdr_top.specs.Texts.{texts_read, TextsMeanBy, AreSplitFrom, split_words, PrintsAsSplit}
+use Rattle.mdr_top.specs.Texts.{TextsMeanBy, AreSplitFrom, split_words, PrintsAsSplit}
 use Rattle.mdr_top.specs.Words.{OfFiles, Inputs, Task, Cut, Run, RunTexts, Generate, Verify, texts_of, texts_command, command_of, texts_manner}
 use Rattle.mdr_top.specs.Writing.{IsWritten}
 use Rattle.mdr_top.proofs.CutLaws.{unread_so}

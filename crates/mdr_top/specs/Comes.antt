@@ -393,6 +393,10 @@ IsDueOrFault Due s = (s ≡ status.ReadFault) ⊎ ((s ≡ status.WriteFault) ⊎
 abbrev pub IsExact : List (List ℕ) → Files → Status → Type 0
 IsExact words files s = IfSome files (λ f. IsDueOrFault (IsDueFor (command_of words) f s) s)
 
+-- where a seed is asked for, whatever the files are, its driver and its script are a source and a script and the status is one of a run over two halves, but a write may fail, and memory may be wanting
+abbrev pub MadeExactly : List (List ℕ) → Status → Type 0
+MadeExactly words s = (recipe : Recipe) → command_of words ≡ Some (Generate recipe) → (s ≡ status.WriteFault) ⊎ ((s ≡ status.OutOfMemory) ⊎ IsMadeDue recipe s)
+
 -- where a source is cut, over files that are told, the status is what its bytes give, or memory was wanting, where no read fails and no write
 abbrev pub CutCompletes : List (List ℕ) → (before after : Outside) → Status → Type 0
 CutCompletes words before after s =

@@ -16,6 +16,7 @@ use Rattle.mdr_source.specs.declared.outcome.Source.{Source}
 use Rattle.mdr_split_runner.specs.Cuts.{IsCutInto}
 use Rattle.mdr_split_runner.specs.Means.{meant}
 use Rattle.mdr_watched.specs.Watched.{watched}
+use Rattle.mdr_top.specs.Headline.{Rests}
 use Rattle.mdr_top.specs.Outside.{Outside}
 use Rattle.mdr_top.specs.Words.{Generate, command_of}
 use Rattle.mdr_top.specs.Writing.{IsWritten}
@@ -40,3 +41,9 @@ pub record MadeMeansBy (words : List (List ℕ)) (before after : Outside) (s : S
 abbrev pub MadeMeans : List (List ℕ) → (before after : Outside) → Status → Type 0
 MadeMeans words before after s =
     IsHonest after.sides.far.loaded after.sides.far.exchanges → (recipe : Recipe) → command_of words ≡ Some (Generate recipe) → (s ≡ status.Done) ⊎ (s ≡ status.Stopped) → MadeMeansBy words before after s
+
+-- it does one of the two, or memory was wanting, where no write fails and the far side is honest and never fails
+abbrev pub MadeCompletes : List (List ℕ) → (before after : Outside) → Status → Type 0
+MadeCompletes words before after s =
+    Rests before.out.faults after.out.faults → Rests before.sides.far.faults after.sides.far.faults → IsHonest after.sides.far.loaded after.sides.far.exchanges → (recipe : Recipe) → command_of words ≡ Some (Generate recipe)
+    → (s ≡ status.OutOfMemory) ⊎ MadeMeansBy words before after s

@@ -12,8 +12,8 @@ ghost use Rattle.mdr_top.specs.Answers.{Prints};
 ghost use Rattle.mdr_top.specs.Done.{Does};
 ghost use Rattle.mdr_top.specs.Cuts.{WriteCause};
 ghost use Rattle.mdr_top.specs.Headline.{MeansWhereHonest, Completes};
-ghost use Rattle.mdr_top.specs.Comes.{Comes, IsExact, CutCompletes, WholeCompletes};
-ghost use Rattle.mdr_top.specs.Made.{MadeMeans};
+ghost use Rattle.mdr_top.specs.Comes.{Comes, IsExact, CutCompletes, MadeExactly, WholeCompletes};
+ghost use Rattle.mdr_top.specs.Made.{MadeCompletes, MadeMeans};
 ghost use Rattle.mdr_top.specs.Wholes.{WholeMeans};
 ghost use Rattle.mdr_top.specs.Texts.{PrintsAsSplit, TextsMean};
 ghost use Rattle.mdr_top.specs.Words.{command_of};
@@ -100,10 +100,12 @@ pub fn run<S: Shelf, O: Sink, F: Far>(
     ensures as_split { PrintsAsSplit (map string_bytes words.now.items) (⟦<(S, O, F) as Seen>⟧.at (shelf.old, out.old, far.old)) (⟦<(S, O, F) as Seen>⟧.at (shelf.new, out.new, far.new)) result }
     ensures comes { Comes (map string_bytes words.now.items) (S.files shelf.old) (F.loaded far.new) (F.exchanges far.new) result }
     ensures exact { IsExact (map string_bytes words.now.items) (S.files shelf.old) result }
+    ensures made_exact { MadeExactly (map string_bytes words.now.items) result }
     ensures usage { command_of (map string_bytes words.now.items) ≡ None → (result ≡ status.Usage) ⊎ ((result ≡ status.WriteFault) ⊎ (result ≡ status.OutOfMemory)) }
     ensures complete { Completes (map string_bytes words.now.items) (⟦<(S, O, F) as Seen>⟧.at (shelf.old, out.old, far.old)) (⟦<(S, O, F) as Seen>⟧.at (shelf.new, out.new, far.new)) result }
     ensures cut_complete { CutCompletes (map string_bytes words.now.items) (⟦<(S, O, F) as Seen>⟧.at (shelf.old, out.old, far.old)) (⟦<(S, O, F) as Seen>⟧.at (shelf.new, out.new, far.new)) result }
     ensures whole_complete { WholeCompletes (map string_bytes words.now.items) (⟦<(S, O, F) as Seen>⟧.at (shelf.old, out.old, far.old)) (⟦<(S, O, F) as Seen>⟧.at (shelf.new, out.new, far.new)) result }
+    ensures made_complete { MadeCompletes (map string_bytes words.now.items) (⟦<(S, O, F) as Seen>⟧.at (shelf.old, out.old, far.old)) (⟦<(S, O, F) as Seen>⟧.at (shelf.new, out.new, far.new)) result }
 {
     printed(alloc, words, shelf, out, far)
 }

@@ -8,7 +8,7 @@ use Rattle.mdr_model.specs.declared.message.Told.{Told}
 use Rattle.mdr_model.specs.Copies.{tells}
 use Rattle.mdr_plain.specs.World.{World, done}
 use Rattle.mdr_split.specs.Kernel.{answers, called, comes_back}
-use Rattle.mdr_split.specs.State.{Noted, Open, Pending, Waits}
+use Rattle.mdr_split.specs.State.{Noted, Open, Waits}
 use Rattle.mdr_turns.specs.declared.state.Ledger.{Ledger}
 use Rattle.mdr_turns.specs.declared.state.Open.{Open as CodeOpen}
 use Rattle.mdr_turns.specs.declared.state.Pending.{Pending as CodePending}

@@ -36,11 +36,11 @@ fn results_of(
     service: u32,
     args: &[Wire],
     results: &[Value],
-    open: &mut Open,
+    upcall: &mut Open,
 ) -> Result<Items<Wire>, OutOfMemory>
     ensures wires { IfOk result (λ ws. ws ≡ wires_of results.now) }
-    ensures counted { IfOk result (λ _. (at : AnyPlace) (shapes : List AnyShape) (bytes : List ℕ) → upcall_of open.new ≡ counted (asked_for service at args.now shapes bytes) (wires_of results.now) (upcall_of open.old)) }
-    ensures done { IfOk result (λ _. open.new.done ≡ open.old.done) }
+    ensures counted { IfOk result (λ _. (at : AnyPlace) (shapes : List AnyShape) (bytes : List ℕ) → upcall_of upcall.new ≡ counted (asked_for service at args.now shapes bytes) (wires_of results.now) (upcall_of upcall.old)) }
+    ensures done { IfOk result (λ _. upcall.new.done ≡ upcall.old.done) }
 {
     let wires = wires_of(alloc, results)?;
     let now = entered_after(
@@ -48,9 +48,9 @@ fn results_of(
         service,
         args,
         wires.as_slice(),
-        open.entered.as_slice(),
+        upcall.entered.as_slice(),
     )?;
-    open.entered = now;
+    upcall.entered = now;
     Ok(wires)
 }
 

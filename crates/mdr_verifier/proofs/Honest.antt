@@ -4,24 +4,21 @@ use Rattle.mdr_core.specs.declared.plan.Plan.{Plan}
 use Rattle.mdr_core.specs.declared.program.Program.{Program}
 use Rattle.mdr_cut.proofs.Determined.{plan_is_determined}
 use Rattle.mdr_cut.specs.declared.texts.Texts.{Texts}
-use Rattle.mdr_due.specs.declared.status.Status.{Status}
 use Rattle.mdr_due.specs.declared.status.Status.TheVariants as status
 use Rattle.mdr_exchanges.proofs.Turns.{first_of, run_is}
 use Rattle.mdr_exchanges.specs.Meanings.{Honest}
-use Rattle.mdr_exchanges.specs.Runs.{IsRun, answers_of, finish_of, run_over, sent_of}
+use Rattle.mdr_exchanges.specs.Runs.{IsRun, answers_of, finish_of, run_over}
 use Rattle.mdr_half.specs.Halves.{user_text}
 use Rattle.mdr_half.specs.Plans.{plan_text}
 use Rattle.mdr_half_source.specs.Loads.{Loads}
 use Rattle.mdr_honest.proofs.Taken.{texts_are_loaded, texts_are_taken}
 use Rattle.mdr_honest.specs.Honest.{IsHonest, IsHonestLoad, IsHonestSince}
-use Rattle.mdr_honest.specs.Loading.{AreItsHalf, IsCut}
+use Rattle.mdr_honest.specs.Loading.{AreItsHalf}
 use Rattle.mdr_honest.specs.Meanings.{HasTexts}
-use Rattle.mdr_model.specs.declared.outcome.End.{End}
 use Rattle.mdr_model.specs.declared.outcome.End.TheVariants as ends
 use Rattle.mdr_model.specs.Text.{text}
 use Rattle.mdr_outside.specs.declared.far.Exchange.{Exchange}
 use Rattle.mdr_outside.specs.declared.far.LoadAnswer.TheVariants as loads
-use Rattle.mdr_outside.specs.declared.far.Loaded.{Loaded}
 use Rattle.mdr_outside.specs.Far.{loaded_with}
 use Rattle.mdr_plain.specs.declared.outcome.Outcome.{Outcome}
 use Rattle.mdr_plain.specs.Outcome.{outcome_of}

@@ -6,7 +6,6 @@ use Rattle.mdr_exchanges.specs.Runs.{answers_of, sent_of, then_answers}
 use Rattle.mdr_model.specs.Bytes.{readings}
 use Rattle.mdr_model.specs.declared.command.Command.{Command}
 use Rattle.mdr_model.specs.declared.message.Message.{Message}
-use Rattle.mdr_model.specs.declared.outcome.End.{End}
 use Rattle.mdr_model.specs.Reading.{reading_of}
 use Rattle.mdr_model.specs.Text.{text}
 use Rattle.mdr_outside.specs.declared.far.Exchange.{Exchange}

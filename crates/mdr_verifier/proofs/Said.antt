@@ -1,12 +1,10 @@
 -- A transcript is verified exactly where it is what is printed.
-use Rattle.std.proofs.Common.{◌≡◌, ◌↔◌, ℕ, ◌+◌, true, List, [], ◌∷◌, ◌++◌, length, refl, sym, ap, ◌∙◌, subst}
+use Rattle.std.proofs.Common.{◌≡◌, ◌↔◌, ℕ, ◌+◌, true, List, [], ◌∷◌, ◌++◌, length, sym, ap, ◌∙◌, subst}
 use Rattle.mdr_due.specs.declared.status.Status.{Status}
 use Rattle.mdr_due.specs.declared.status.Status.TheVariants as status
 use Rattle.mdr_exchanges.specs.Runs.{answers_of, sent_of}
 use Rattle.mdr_outside.specs.declared.far.Exchange.{Exchange}
-use Rattle.mdr_bound.specs.declared.bound.Bound.{Bound}
-use Rattle.mdr_source.specs.declared.outcome.Source.{Source}
-use Rattle.mdr_split_runner.specs.Messages.{messages_shown, with_messages}
+use Rattle.mdr_split_runner.specs.Messages.{with_messages}
 use Rattle.mdr_verify.specs.declared.transcript.Transcript.{Transcript}
 use Rattle.mdr_verify.specs.declared.verdict.Verdict.{Verdict}
 use Rattle.mdr_verify.specs.declared.verdict.Verdict.TheVariants as verdict
@@ -14,7 +12,7 @@ use Rattle.mdr_verify.specs.Transcripts.{AreInTurn, IsTranscript, count_text, me
 use Rattle.mdr_verify.specs.Verdicts.{IsVerdict}
 use Rattle.mdr_verifier.proofs.Honest.{honest_runs_are_one}
 use Rattle.mdr_verifier.proofs.Lines.{shown_so}
-use Rattle.mdr_verifier.specs.Judged.{Differs, IsJudged, IsSaid, verdict_status}
+use Rattle.mdr_verifier.specs.Judged.{Differs, IsSaid, verdict_status}
 use Rattle.mdr_verifier.specs.Laws.{AreOne, IsExactly, VerifiedTranscriptsArePrinted}
 
 not_verified : {A : Type 0} (s : Status) → s ≡ status.NotVerified → s ≡ status.Done → A

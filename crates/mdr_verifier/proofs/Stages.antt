@@ -4,7 +4,6 @@ use Rattle.std.specs.Prelude.{IsTrue}
 use Rattle.mdr_due.specs.declared.status.Status.{Status}
 use Rattle.mdr_due.specs.declared.status.Status.TheVariants as status
 use Rattle.mdr_due.specs.Reads.{Files, IsRead, WasRead}
-use Rattle.mdr_due.specs.Statuses.{Counts, HasReadCause}
 use Rattle.mdr_honest.specs.Honest.{IsHonest}
 use Rattle.mdr_outside.specs.Calls.{ShelfCall}
 use Rattle.mdr_outside.specs.declared.far.Exchange.{Exchange}
@@ -17,8 +16,8 @@ use Rattle.mdr_source.specs.declared.outcome.Source.{Source}
 use Rattle.mdr_split_runner.specs.SplitRuns.{IsSplitRun}
 use Rattle.mdr_verify.specs.declared.verdict.Verdict.{Verdict}
 use Rattle.mdr_verify.specs.declared.verdict.Verdict.TheVariants as verdict
-use Rattle.mdr_verifier.specs.Judged.{Differs, IsJudged, IsSaid, Says, verdict_status}
-use Rattle.mdr_verifier.specs.Runs.{IsHonestRun, budget}
+use Rattle.mdr_verifier.specs.Judged.{Differs, IsJudged, IsSaid, verdict_status}
+use Rattle.mdr_verifier.specs.Runs.{budget}
 use Rattle.mdr_verifier.specs.Verifies.{Verifies, VerifiesOver, VerifiesOverPart, VerifiesPart, VerifiesRun, longest_transcript}
 
 -- ---- what is printed

@@ -1,9 +1,9 @@
 use Rattle.std.proofs.Common.{map}
 use Rattle.std.specs.Prelude.{string_bytes}
 use Rattle.mdr_top.proofs.DoneLaws.{prints_so, does_made, does_mean, does_run, does_tell, texts_are_meant}
-use Rattle.mdr_top.proofs.Complete.{completes}
+use Rattle.mdr_top.proofs.Complete.{completes, made_completes}
 use Rattle.mdr_top.proofs.Comes.{comes_last, prints_comes}
-use Rattle.mdr_top.proofs.Exact.{cut_completes, prints_exactly, usage_comes, whole_completes}
+use Rattle.mdr_top.proofs.Exact.{cut_completes, made_exactly, prints_exactly, usage_comes, whole_completes}
 use Rattle.mdr_top.proofs.TextsLaws.{prints_as_split}
 use Rattle.mdr_top.proofs.top.run.Goals as goal
 
@@ -37,6 +37,9 @@ returns-clause-comes g c = prints_comes _ _ _ _ (prints_so _ _ _ _ c.printed.ens
 pub returns-clause-exact : goal.returns-clause-exact
 returns-clause-exact g c = prints_exactly _ _ _ _ (prints_so _ _ _ _ c.printed.ensures.does)
 
+pub returns-clause-made_exact : goal.returns-clause-made_exact
+returns-clause-made_exact g c = made_exactly (map string_bytes c.args.words.now.items) _ _ _ (prints_so (map string_bytes c.args.words.now.items) _ _ _ c.printed.ensures.does)
+
 pub returns-clause-usage : goal.returns-clause-usage
 returns-clause-usage g c = λ none. usage_comes _ _ _ _ (prints_so _ _ _ _ c.printed.ensures.does) none
 
@@ -49,3 +52,8 @@ returns-clause-cut_complete g c = cut_completes (map string_bytes c.args.words.n
 
 pub returns-clause-whole_complete : goal.returns-clause-whole_complete
 returns-clause-whole_complete g c = whole_completes (map string_bytes c.args.words.now.items) _ _ _ (prints_exactly (map string_bytes c.args.words.now.items) _ _ _ (prints_so (map string_bytes c.args.words.now.items) _ _ _ c.printed.ensures.does)) c.printed.ensures.read_cause c.printed.ensures.write_cause
+
+pub returns-clause-made_complete : goal.returns-clause-made_complete
+returns-clause-made_complete g c =
+    made_completes (map string_bytes c.args.words.now.items) _ _ _ (made_exactly (map string_bytes c.args.words.now.items) _ _ _ (prints_so (map string_bytes c.args.words.now.items) _ _ _ c.printed.ensures.does))
+    (λ honest recipe named is. does_made _ _ _ _ honest is recipe named c.printed.ensures.does) (λ honest. does_mean _ _ _ _ c.printed.ensures.does honest) c.printed.ensures.write_cause c.printed.ensures.far_cause
