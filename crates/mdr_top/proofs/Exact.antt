@@ -30,7 +30,7 @@ use Rattle.mdr_top.specs.declared.words.Way.TheVariants as way
 use Rattle.mdr_top.specs.Headline.{Rests, RestsHere}
 use Rattle.mdr_top.specs.Outside.{Outside}
 use Rattle.mdr_top.specs.Splits.{IsOfRun}
-use Rattle.mdr_top.specs.Words.{Inputs, OfFiles, Task, Cut, Run, command_of, texts_manner}
+use Rattle.mdr_top.specs.Words.{Inputs, OfFiles, Task, Cut, Run, Generate, command_of, texts_manner}
 use Rattle.mdr_verifier.proofs.Said.{said_exactly}
 use Rattle.mdr_verifier.specs.Verifies.{longest_transcript}
 use Rattle.mdr_top.proofs.SplitLaws.{end_status, run_status}
