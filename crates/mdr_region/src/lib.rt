@@ -2,7 +2,7 @@
 //! and holes that touch are one.
 //!
 //! `Region` promises room: it is for a side of a run that takes a message whole or not at all. `RegionBlocks` is the same
-//! memory under the contract of the plain memory, to stand where `Blocks` stands. No program uses them yet.
+//! memory under the contract of the plain memory, to stand where `Blocks` stands.
 #![tactic(auto)]
 
 mod holes;

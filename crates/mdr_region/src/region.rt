@@ -1,8 +1,8 @@
 // A memory in one pool of cells.
 
-ghost use Rattle.std.specs.Prelude.{◌≡◌, ◌<◌, ◌≤◌, ◌-◌, [], None, IsTrue, IsSome, IsOk, IfOk, OnOk, OnErr, length};
+ghost use Rattle.std.specs.Prelude.{◌≡◌, ◌<◌, ◌≤◌, ◌-◌, ℕ, [], None, IsTrue, IsSome, IsOk, IfOk, OnOk, OnErr, length, map, slice_get};
 ghost use Rattle.mdr_model.specs.Memory.{cell_at};
-ghost use Rattle.mdr_mem.specs.Contents.{is_handle, cell_in, births_in, after_birth, after_death, after_store};
+ghost use Rattle.mdr_mem.specs.Contents.{is_handle, cell_in, births_in, after_birth, after_death, after_store, wire_in};
 ghost use Rattle.mdr_region.specs.Layout.{laid, layout_of};
 ghost use Rattle.mdr_region.specs.Blocks.{IsBlock};
 
@@ -78,6 +78,24 @@ impl Region {
         ensures { IsBlock (laid self.now.contents.lives).marks b.serial result.0 result.1 }
     {
         self.rows.place(b)
+    }
+
+    /// What was put into the block's cells. A pointer whose handle isn't alive is a dead one.
+    pub fn cells(&self, b: Block) -> &[Value]
+        requires { IsTrue (is_handle self.now.contents.handles b) }
+        ensures { (index : ℕ) → cell_at self.now.contents.memory (cell_in b index) ≡ slice_get (map (wire_in self.now.contents.handles) result.now) index }
+    {
+        self.rows.cells(b)
+    }
+
+    /// Puts a value into the cell, and leaves what is promised. Past the end of the block nothing is done.
+    pub fn put(&mut self, b: Block, cell: u64, v: Value)
+        requires { IsTrue (is_handle self.old.contents.handles b) }
+        ensures stored { self.new.contents ≡ after_store b cell v self.old.contents }
+        ensures cells { self.new.cells ≡ self.old.cells }
+        ensures births { self.new.births ≡ self.old.births }
+    {
+        self.rows.store(b, cell, v);
     }
 }
 

@@ -2,7 +2,7 @@
 //! pointer: by the kernel's serial, and by the user half's own block. Objects may point to one another in any way,
 //! round in a circle too: a pair speaks of one object and one block, and of no pointer in them.
 //!
-//! It stands beside all other crates. It is for a user half that keeps its objects at places of its own.
+//! It is for a user half that keeps its objects at places of its own.
 #![tactic(auto)]
 
 mod key;

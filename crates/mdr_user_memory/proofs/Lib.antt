@@ -1,0 +1,13 @@
+pub mod HandleLaws
+pub mod ValueLaws
+pub mod TwinLaws
+pub mod NowLaws
+pub mod WithinLaws
+pub mod StepLaws
+pub mod MessageLaws
+pub mod KeptLaws
+pub mod OpeningLaws
+pub mod ByteLaws
+pub mod QuickLaws
+pub mod LoopLaws
+pub mod LookingLaws

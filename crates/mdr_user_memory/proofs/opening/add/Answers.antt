@@ -1,0 +1,17 @@
+use Rattle.std.proofs.Common.{refl, ◌∙◌}
+use Rattle.mdr_track.specs.Tracked.{pairs_of}
+use Rattle.mdr_user_memory.specs.declared.newborn.Newborn.{Newborn}
+use Rattle.mdr_user_memory.specs.Paired.{told_all}
+use Rattle.mdr_user_memory.proofs.OpeningLaws.{added}
+use Rattle.mdr_user_memory.proofs.StepLaws.{linked_moved, moved_from}
+use Rattle.mdr_user_memory.proofs.opening.add.Goals as goal
+
+pub bear-requires-clause-linked : goal.bear-requires-clause-linked
+bear-requires-clause-linked c = linked_moved c.make_room.ensures.contents c.make_room.ensures.pairs c.requires
+
+pub returns-in-Ok : goal.returns-in-Ok
+returns-in-Ok c =
+    let x : Newborn = record { born = c.args.block.now.born; first = c.in_ok-first.first } in
+    moved_from c.make_room.ensures.contents c.make_room.ensures.pairs
+    (added c.args.block.now x c.make_room.new.region.contents c.bear.new.region.contents (pairs_of c.make_room.new.pairs) (pairs_of c.bear.new.pairs) refl
+    ((λ i. told_all (c.make_room.ensures.contents i).handles (c.make_room.ensures.pairs i) c.in_ok-first.first) ∙ (c.in_ok-first.ensures ∙ c.as_slice.ensures)) c.in-Ok.ensures.fits.new c.bear.ensures.moves)

@@ -1,0 +1,6 @@
+pub mod Paired
+pub mod Copied
+pub mod Spots
+pub mod Taking
+pub mod Within
+pub mod Kept

@@ -1,0 +1,129 @@
+// Blocks of one's own for those of a copy.
+
+ghost use Rattle.std.specs.Prelude.{◌≡◌, ◌<◌, ◌≤◌, ◌++◌, ◌∷◌, [], length, IfOk, IsTrue, OnOk};
+ghost use Rattle.mdr_model.specs.Memory.{Memory};
+ghost use Rattle.mdr_mem.specs.Contents.{wire_in};
+ghost use Rattle.mdr_track.specs.Tracked.{pairs_of};
+ghost use Rattle.mdr_user_memory.specs.Paired.{IsLinked, Paired, is_paired, told, told_all};
+ghost use Rattle.mdr_user_memory.specs.Taking.{FitsOne, Moves};
+
+use crate::newborn::Newborn;
+use crate::release::given_up;
+use crate::steps::bear;
+use crate::values::value_of;
+use mdr_core::{Items, Limit, OutOfMemory, Value};
+use mdr_model::{MemoryBlock, Wire};
+use mdr_region::Region;
+use mdr_track::Tracker;
+use std::alloc::Global;
+
+/// A memory and its pairs.
+#[derive(Drop)]
+pub struct Twins {
+    pub region: Region,
+    pub pairs: Tracker,
+}
+
+/// Whether a value is no pointer, or one to a block that is paired.
+fn is_paired(pairs: &Tracker, wire: Wire) -> bool
+    ensures { result ≡ is_paired (pairs_of pairs.now) wire }
+{
+    match wire {
+        Wire::Ptr(view) => pairs.user_of(view.serial).is_some(),
+        Wire::Int(_, _) => true,
+        Wire::Null => true,
+        Wire::Dead => true,
+        Wire::Fn(_) => true,
+        Wire::Lock(_) => true,
+        Wire::NoValue => true,
+    }
+}
+
+/// A value of the copy, as it is put into a cell. A pointer to a block that isn't paired fails.
+fn placed(region: &Region, pairs: &Tracker, wire: Wire) -> Result<Value, OutOfMemory>
+    requires { IsLinked region.now.contents (pairs_of pairs.now) }
+    ensures { IfOk result (λ v. told region.now.contents.handles (pairs_of pairs.now) (wire_in region.now.contents.handles v) ≡ wire) }
+{
+    if is_paired(pairs, wire) {
+        Ok(pairs.addressed(value_of(wire)))
+    } else {
+        Err(Limit::Unmet.past())
+    }
+}
+
+fn all_placed(
+    alloc: Global,
+    region: &Region,
+    pairs: &Tracker,
+    wires: &[Wire],
+) -> Result<Items<Value>, OutOfMemory>
+    requires { IsLinked region.now.contents (pairs_of pairs.now) }
+    ensures { IfOk result (λ vs. told_all region.now.contents.handles (pairs_of pairs.now) vs ≡ wires.now) }
+{
+    let mut values = Items::new(alloc);
+    for wire in wires {
+        values.push(placed(region, pairs, *wire)?)?;
+    }
+    Ok(values)
+}
+
+/// Whether a block has as many cells as one may have.
+fn is_sized(new: &Newborn) -> bool
+    ensures { IsTrue result → (0 < length new.now.first) × (length new.now.first ≤ 65536) }
+{
+    let cells = new.first.len();
+    0 < cells && cells <= 65536
+}
+
+/// Makes room for one more.
+fn make_room(region: &mut Region, pairs: &mut Tracker, new: &Newborn) -> Result<(), OutOfMemory>
+    ensures contents { region.new.contents ≡ region.old.contents }
+    ensures pairs { pairs_of pairs.new ≡ pairs_of pairs.old }
+    ensures fits { OnOk result (FitsOne new.now (pairs_of pairs.new) region.new.cells region.new.births pairs.new.room) }
+{
+    if !is_sized(new) {
+        return Err(Limit::Unmet.past());
+    }
+    if pairs.user_of(new.born.serial).is_some() {
+        return Err(Limit::Unmet.past());
+    }
+    region.reserve(new.first.len() as u64, 1)?;
+    pairs.reserve(1)?;
+    Ok(())
+}
+
+/// A block more at the end of the copy.
+fn add(
+    region: &mut Region,
+    pairs: &mut Tracker,
+    alloc: Global,
+    block: &MemoryBlock,
+) -> Result<(), OutOfMemory>
+    requires { IsLinked region.old.contents (pairs_of pairs.old) }
+    ensures { OnOk result (Moves (λ (m : Memory). m ++ block.now ∷ []) region.old.contents (pairs_of pairs.old) region.new.contents (pairs_of pairs.new)) }
+{
+    let first = all_placed(alloc, region, pairs, block.cells.as_slice())?;
+    let new = Newborn {
+        born: block.born,
+        first,
+    };
+    match make_room(region, pairs, &new) {
+        Ok(()) => {
+            bear(region, pairs, alloc, &new);
+            Ok(())
+        }
+        Err(error) => given_up(error, new),
+    }
+}
+
+/// A memory that goes with a copy.
+pub(crate) fn twins_of(alloc: Global, copy: &[MemoryBlock]) -> Result<Twins, OutOfMemory>
+    ensures { IfOk result (λ t. Paired copy.now t.region.contents (pairs_of t.pairs)) }
+{
+    let mut region = Region::new(alloc);
+    let mut pairs = Tracker::new(alloc);
+    for block in copy {
+        add(&mut region, &mut pairs, alloc, block)?;
+    }
+    Ok(Twins { region, pairs })
+}
