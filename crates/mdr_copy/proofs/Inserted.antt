@@ -1,7 +1,7 @@
 -- A block in its place, and new blocks one after another.
-use Rattle.std.proofs.Common.{◌≡◌, ℕ, suc, ◌+◌, ◌-◌, ◌<◌, ◌≤◌, Bool, true, false, cond, List, [], ◌∷◌, length, drop, take, get_or, refl, sym, ap, ◌∙◌, arith}
+use Rattle.std.proofs.Common.{◌≡◌, ℕ, suc, ◌+◌, ◌-◌, ◌<◌, ◌≤◌, Bool, true, false, cond, List, [], ◌∷◌, length, drop, get_or, refl, sym, ap, ◌∙◌, arith}
 use Rattle.std.specs.Prelude.{nat_lt, nat_le}
-use Rattle.std.specs.List.{prefix_len, insert}
+use Rattle.std.specs.List.{insert}
 use Rattle.std.proofs.Math.Seq.{drop-length}
 use Rattle.std.proofs.lemmas.List.{at_drop_more}
 use Rattle.mdr_core.specs.declared.program.Program.{Program}
@@ -11,20 +11,14 @@ use Rattle.mdr_model.specs.Memory.{Memory, zero_block}
 use Rattle.mdr_model.specs.Copies.{inserted, with_news}
 use Rattle.mdr_copy.specs.InPlaces.{place_for}
 
--- how many blocks from the front on have smaller serials, before they are counted
-abbrev run_of : Memory → ℕ → ℕ
-run_of m serial = prefix_len (λ (b : MemoryBlock). nat_lt b.born.serial serial) m
-
 one_more : (n : ℕ) → 1 + n ≡ suc n
 one_more n = omega arith
 
 place_behind : (b : MemoryBlock) (m : Memory) (serial : ℕ) → nat_lt b.born.serial serial ≡ true → place_for (b ∷ m) serial ≡ suc (place_for m serial)
-place_behind b m serial e =
-    ap (λ (t : Bool). length (take (cond t (1 + run_of m serial) 0) (b ∷ m))) e
-    ∙ ap (λ (n : ℕ). length (take n (b ∷ m))) (one_more (run_of m serial))
+place_behind b m serial e = ap (λ (t : Bool). cond t (1 + place_for m serial) 0) e ∙ one_more (place_for m serial)
 
 place_here : (b : MemoryBlock) (m : Memory) (serial : ℕ) → nat_lt b.born.serial serial ≡ false → place_for (b ∷ m) serial ≡ 0
-place_here b m serial e = ap (λ (t : Bool). length (take (cond t (1 + run_of m serial) 0) (b ∷ m))) e
+place_here b m serial e = ap (λ (t : Bool). cond t (1 + place_for m serial) 0) e
 
 pub place_inside : (m : Memory) (serial : ℕ) → place_for m serial ≤ length m
 place_inside [] serial = omega arith

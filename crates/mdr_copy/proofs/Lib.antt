@@ -1,5 +1,8 @@
 pub mod Passing
+pub mod Searches
 pub mod Places
+pub mod Orders
+pub mod CellSearches
 pub mod Rows
 pub mod Stores
 mod Joined

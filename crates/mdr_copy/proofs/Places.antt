@@ -1,95 +1,77 @@
 -- Where a block stands in a memory, and what is there.
-use Rattle.std.proofs.Common.{◌≡◌, ℕ, suc, ◌+◌, ◌<◌, ◌≤◌, ◌⊎◌, inl, inr, Bool, true, false, cond, not, [], ◌∷◌, length, Some, None, refl, sym, ◌∙◌, ap, arith, get_or}
-use Rattle.std.specs.Prelude.{◌==◌, nat_lt, slice_get, slice_set, position}
-use Rattle.std.specs.List.{position_or_len}
+use Rattle.std.proofs.Common.{◌≡◌, ℕ, zero, suc, ◌<◌, ◌≤◌, Bool, true, false, cond, List, [], ◌∷◌, length, Option, Some, None, refl, sym, ◌∙◌, ap, arith, get_or}
+use Rattle.std.specs.Prelude.{◌==◌, nat_lt, slice_get, slice_set}
+use Rattle.std.proofs.lemmas.Bool.Decides.{nat_tests}
 use Rattle.mdr_meaning.specs.declared.wire.Wire.{Wire}
 use Rattle.mdr_model.specs.declared.memory.MemoryBlock.{MemoryBlock}
 use Rattle.mdr_model.specs.declared.memory.Cell.{Cell}
-use Rattle.mdr_model.specs.Memory.{Memory, put}
-use Rattle.std.proofs.lemmas.Option.{slice_get_read}
-use Rattle.std.proofs.lemmas.Bool.{lt-ltb}
-use Rattle.std.proofs.lemmas.Bool.Decides.{leb_tells}
+use Rattle.mdr_model.specs.declared.message.New.{New}
+use Rattle.mdr_model.specs.Memory.{Memory, born_at, cell_at, put}
+use Rattle.mdr_copy.specs.InPlaces.{is_below}
+use Rattle.mdr_copy.specs.Searches.{IsNowhere, IsFirstAt, IsSearchable}
+use Rattle.mdr_copy.specs.Serials.{RiseFrom, Rise, is_block}
 
--- the block with this serial
-abbrev pub is_it : ℕ → MemoryBlock → Bool
-is_it serial b = b.born.serial == serial
+-- ---- blocks in order can be searched
 
-abbrev pub place : ℕ → Memory → ℕ
-place serial m = position_or_len (is_it serial) m
+no_smaller : (serial least : ℕ) (m : Memory) → RiseFrom least m → nat_lt least serial ≡ false → IsNowhere (is_below serial) m
+no_smaller serial least [] h l = tt
+no_smaller serial least (b ∷ m) h l = let g = h.0 in let e : nat_lt b.born.serial serial ≡ false = grind (arith, nat_tests) in (e, no_smaller serial b.born.serial m h.1 e)
+
+no_equal : (serial least : ℕ) (m : Memory) → RiseFrom least m → serial < least → IsNowhere (is_block serial) m
+no_equal serial least [] h l = tt
+no_equal serial least (b ∷ m) h l = let g = h.0 in ((grind (arith, nat_tests)), no_equal serial b.born.serial m h.1 (omega (arith, g, l)))
+
+smaller_isnt : (a serial : ℕ) → nat_lt a serial ≡ true → (a == serial) ≡ false
+smaller_isnt a serial e = grind (arith, nat_tests)
+
+greater : (a serial : ℕ) → nat_lt a serial ≡ false → (a == serial) ≡ false → serial < a
+greater a serial e f = grind (arith, nat_tests)
+
+searchable_from : (serial least : ℕ) (m : Memory) → RiseFrom least m → IsSearchable (is_below serial) (is_block serial) m
+searchable_from serial least [] h = tt
+searchable_from serial least (b ∷ m) h =
+    (smaller_isnt b.born.serial serial
+    , (λ e. no_smaller serial b.born.serial m h.1 e
+    , (λ e f. no_equal serial b.born.serial m h.1 (greater b.born.serial serial e f)
+    , searchable_from serial b.born.serial m h.1)))
+
+pub searchable : (serial : ℕ) (m : Memory) → Rise m → IsSearchable (is_below serial) (is_block serial) m
+searchable serial m h = searchable_from serial 0 m h
+
+-- ---- what is there
+
+pub born_there : (serial : ℕ) (m : Memory) (i : ℕ) (b : MemoryBlock) → IsFirstAt (is_block serial) m i → b ≡ get_or m i b → Some b.born ≡ born_at m serial
+unfolding born_at
+born_there serial [] i b h e = absurd h
+born_there serial (x ∷ m) zero b h e = ap (λ (y : MemoryBlock). Some y.born) e ∙ sym (ap (λ (t : Bool). cond t (Some x.born) (born_at m serial)) h)
+born_there serial (x ∷ m) (suc i) b h e = born_there serial m i b h.1 e ∙ sym (ap (λ (t : Bool). cond t (Some x.born) (born_at m serial)) h.0)
+
+pub born_nowhere : (serial : ℕ) (m : Memory) → IsNowhere (is_block serial) m → None ≡ born_at m serial
+unfolding born_at
+born_nowhere serial [] h = refl
+born_nowhere serial (x ∷ m) h = born_nowhere serial m h.1 ∙ sym (ap (λ (t : Bool). cond t (Some x.born) (born_at m serial)) h.0)
+
+pub cell_there : (c : Cell) (m : Memory) (i : ℕ) (b : MemoryBlock) → IsFirstAt (is_block c.serial) m i → b ≡ get_or m i b → slice_get b.cells c.index ≡ cell_at m c
+unfolding cell_at
+cell_there c [] i b h e = absurd h
+cell_there c (x ∷ m) zero b h e = ap (λ (y : MemoryBlock). slice_get y.cells c.index) e ∙ sym (ap (λ (t : Bool). cond t (slice_get x.cells c.index) (cell_at m c)) h)
+cell_there c (x ∷ m) (suc i) b h e = cell_there c m i b h.1 e ∙ sym (ap (λ (t : Bool). cond t (slice_get x.cells c.index) (cell_at m c)) h.0)
+
+pub cell_nowhere : (c : Cell) (m : Memory) → IsNowhere (is_block c.serial) m → None ≡ cell_at m c
+unfolding cell_at
+cell_nowhere c [] h = refl
+cell_nowhere c (x ∷ m) h = cell_nowhere c m h.1 ∙ sym (ap (λ (t : Bool). cond t (slice_get x.cells c.index) (cell_at m c)) h.0)
 
 abbrev pub with_cell : MemoryBlock → ℕ → Wire → MemoryBlock
 with_cell b index v = record b { cells = slice_set b.cells index v }
 
-one_more : (n : ℕ) → 1 + n ≡ suc n
-one_more n = omega arith
-
-put_there : (m : Memory) (c : Cell) (v : Wire) (b : MemoryBlock) → slice_get m (place c.serial m) ≡ Some b → put m c v ≡ slice_set m (place c.serial m) (with_cell b c.index v)
+pub put_there : (c : Cell) (v : Wire) (m : Memory) (i : ℕ) (b : MemoryBlock) → IsFirstAt (is_block c.serial) m i → b ≡ get_or m i b → slice_set m i (with_cell b c.index v) ≡ put m c v
 unfolding put
-put_there [] c v b e = absurd (Prim.cc)
-put_there (x ∷ m) c v b e = of (x.born.serial == c.serial) refl e (put_there m c v b)
-  where
-    of : (t : Bool) → (x.born.serial == c.serial) ≡ t → slice_get (x ∷ m) (cond (not t) (1 + place c.serial m) 0) ≡ Some b
-        → (slice_get m (place c.serial m) ≡ Some b → put m c v ≡ slice_set m (place c.serial m) (with_cell b c.index v))
-        → cond t (with_cell x c.index v ∷ m) (x ∷ put m c v) ≡ slice_set (x ∷ m) (cond (not t) (1 + place c.serial m) 0) (with_cell b c.index v)
-    of true t h later = let same : x ≡ b = Prim.cc in ap (λ (y : MemoryBlock). with_cell y c.index v ∷ m) same
-    of false t h later =
-        let there : slice_get m (place c.serial m) ≡ Some b = rw one_more at h in
-        ap (λ (m' : Memory). x ∷ m') (later there) ∙ sym (ap (λ (n : ℕ). slice_set (x ∷ m) n (with_cell b c.index v)) (one_more (place c.serial m)))
+put_there c v [] i b h e = absurd h
+put_there c v (x ∷ m) zero b h e = ap (λ (y : MemoryBlock). with_cell y c.index v ∷ m) e ∙ sym (ap (λ (t : Bool). cond t (with_cell x c.index v ∷ m) (x ∷ put m c v)) h)
+put_there c v (x ∷ m) (suc i) b h e = ap (λ (m' : Memory). x ∷ m') (put_there c v m i b h.1 e) ∙ sym (ap (λ (t : Bool). cond t (with_cell x c.index v ∷ m) (x ∷ put m c v)) h.0)
 
--- no block has the serial
-further : (n k : ℕ) → nat_lt (1 + n) (suc k) ≡ nat_lt n k
-further n k = ap (λ (m : ℕ). nat_lt m (suc k)) (one_more n) ∙ of (leb_tells (suc n) k) (leb_tells (suc (suc n)) (suc k))
-  where
-    of : ((nat_lt n k ≡ true) × (suc n ≤ k)) ⊎ ((nat_lt n k ≡ false) × (k < suc n)) → ((nat_lt (suc n) (suc k) ≡ true) × (suc (suc n) ≤ suc k)) ⊎ ((nat_lt (suc n) (suc k) ≡ false) × (suc k < suc (suc n)))
-        → nat_lt (suc n) (suc k) ≡ nat_lt n k
-    of (inl x) (inl y) = y.0 ∙ sym x.0
-    of (inr x) (inr y) = y.0 ∙ sym x.0
-    of (inl x) (inr y) = absurd (clash (suc n) k x.1 y.1)
-      where
-        clash : (a b : ℕ) → a ≤ b → suc b < suc a → ⊥
-        clash a b h l = omega arith
-    of (inr x) (inl y) = absurd (clash n k x.1 y.1)
-      where
-        clash : (a b : ℕ) → b < suc a → suc (suc a) ≤ suc b → ⊥
-        clash a b h l = omega arith
-
-none_put : (m : Memory) (c : Cell) (v : Wire) → nat_lt (place c.serial m) (length m) ≡ false → put m c v ≡ m
+pub put_nowhere : (c : Cell) (v : Wire) (m : Memory) → IsNowhere (is_block c.serial) m → m ≡ put m c v
 unfolding put
-none_put [] c v e = refl
-none_put (x ∷ m) c v e = of (x.born.serial == c.serial) e (none_put m c v)
-  where
-    of : (t : Bool) → nat_lt (cond (not t) (1 + place c.serial m) 0) (suc (length m)) ≡ false → (nat_lt (place c.serial m) (length m) ≡ false → put m c v ≡ m)
-        → cond t (with_cell x c.index v ∷ m) (x ∷ put m c v) ≡ x ∷ m
-    of true h later = absurd (zero_below (length m) h)
-      where
-        zero_below : (n : ℕ) → nat_lt 0 (suc n) ≡ false → ⊥
-        zero_below n q = differ (sym (lt-ltb 0 (suc n) (omega arith)) ∙ q)
-          where
-            differ : true ≡ false → ⊥
-            differ d = cc
-    of false h later = ap (λ (m' : Memory). x ∷ m') (later (sym (further (place c.serial m) (length m)) ∙ h))
-
--- ---- what a search for the block gives
-
-found_place : (serial : ℕ) (m : Memory) (i : ℕ) → Some i ≡ position (is_it serial) m → i ≡ place serial m
-found_place serial m i e = of (nat_lt (place serial m) (length m)) e
-  where
-    of : (t : Bool) → Some i ≡ cond t (Some (place serial m)) None → i ≡ place serial m
-    of true h = Prim.cc
-    of false h = absurd (Prim.cc)
-
-no_place : (serial : ℕ) (m : Memory) → None ≡ position (is_it serial) m → nat_lt (place serial m) (length m) ≡ false
-no_place serial m e = of (nat_lt (place serial m) (length m)) e
-  where
-    of : (t : Bool) → None ≡ cond t (Some (place serial m)) None → t ≡ false
-    of true h = absurd (Prim.cc)
-    of false h = refl
-
-pub put_found : (m : Memory) (c : Cell) (v : Wire) (i : ℕ) (b : MemoryBlock) → Some i ≡ position (is_it c.serial) m → i < length m → b ≡ get_or m i b → slice_set m i (with_cell b c.index v) ≡ put m c v
-put_found m c v i b e inside is =
-    let at : i ≡ place c.serial m = found_place c.serial m i e in
-    let there : slice_get m (place c.serial m) ≡ Some b = ap (λ (n : ℕ). slice_get m n) (sym at) ∙ slice_get_read m (length m) i b refl inside is in
-    ap (λ (n : ℕ). slice_set m n (with_cell b c.index v)) at ∙ sym (put_there m c v b there)
-
-pub put_nothing : (m : Memory) (c : Cell) (v : Wire) → None ≡ position (is_it c.serial) m → m ≡ put m c v
-put_nothing m c v e = sym (none_put m c v (no_place c.serial m e))
+put_nowhere c v [] h = refl
+put_nowhere c v (x ∷ m) h = ap (λ (m' : Memory). x ∷ m') (put_nowhere c v m h.1) ∙ sym (ap (λ (t : Bool). cond t (with_cell x c.index v ∷ m) (x ∷ put m c v)) h.0)

@@ -3,14 +3,14 @@
 ghost use Rattle.std.specs.Prelude.{◌≡◌, map, IfOk};
 ghost use Rattle.mdr_model.specs.Memory.{normal};
 
-use crate::store::is_live;
+use crate::store::{RisingBlocks, is_live};
 use mdr_core::{Items, OutOfMemory};
-use mdr_model::{MemoryBlock, Wire};
+use mdr_model::Wire;
 use std::alloc::Global;
 
 /// A value as it is kept and sent: a pointer whose block isn't live is a dead one.
 #[tactic(auto, unfolding(mdr_model::specs::Memory::normal))]
-pub fn normal(memory: &[MemoryBlock], value: Wire) -> Wire
+pub fn normal(memory: &RisingBlocks, value: Wire) -> Wire
     ensures { result ≡ normal memory.now value }
 {
     match value {
@@ -28,7 +28,7 @@ pub fn normal(memory: &[MemoryBlock], value: Wire) -> Wire
 /// The same of a list of values.
 pub fn normals(
     alloc: Global,
-    memory: &[MemoryBlock],
+    memory: &RisingBlocks,
     values: &[Wire],
 ) -> Result<Items<Wire>, OutOfMemory>
     ensures { IfOk result (λ vs. vs ≡ map (normal memory.now) values.now) }

@@ -6,10 +6,10 @@ ghost use Rattle.mdr_model.specs.Copies.{held, run_from, changed_cells, changed_
 
 use crate::runs::runs_of_cells;
 use crate::sets::put_run;
-use crate::store::held;
+use crate::store::{RisingBlocks, held};
 use crate::values::is_same;
 use mdr_core::{Items, OutOfMemory};
-use mdr_model::{Cell, MemoryBlock, Run, SetRun, Wire};
+use mdr_model::{Cell, Run, SetRun, Wire};
 use std::alloc::Global;
 
 /// The cells whose value differs from the agreed one.
@@ -17,8 +17,8 @@ use std::alloc::Global;
 fn changed_cells(
     alloc: Global,
     cells: &[Cell],
-    agreed: &[MemoryBlock],
-    now: &[MemoryBlock],
+    agreed: &RisingBlocks,
+    now: &RisingBlocks,
 ) -> Result<Vec<Cell>, OutOfMemory>
     ensures { IfOk result (λ changed. changed.items ≡ changed_cells cells.now agreed.now now.now) }
 {
@@ -33,7 +33,7 @@ fn changed_cells(
 
 fn all_held(
     alloc: Global,
-    memory: &[MemoryBlock],
+    memory: &RisingBlocks,
     cells: &[Cell],
 ) -> Result<Items<Wire>, OutOfMemory>
     ensures { IfOk result (λ values. values ≡ map (held memory.now) cells.now) }
@@ -50,8 +50,8 @@ fn all_held(
 pub(crate) fn changed_values(
     alloc: Global,
     cells: &[Cell],
-    agreed: &[MemoryBlock],
-    now: &[MemoryBlock],
+    agreed: &RisingBlocks,
+    now: &RisingBlocks,
 ) -> Result<Items<Wire>, OutOfMemory>
     ensures { IfOk result (λ values. values ≡ changed_values cells.now agreed.now now.now) }
 {
@@ -60,7 +60,7 @@ pub(crate) fn changed_values(
 }
 
 /// What the cells of a run hold. A run that goes over the last index that a cell can have fails.
-fn values_of(alloc: Global, memory: &[MemoryBlock], run: SetRun) -> Result<Items<Wire>, OutOfMemory>
+fn values_of(alloc: Global, memory: &RisingBlocks, run: SetRun) -> Result<Items<Wire>, OutOfMemory>
     ensures { IfOk result (λ values. values ≡ map (held memory.now) (cells_of_run run)) }
 {
     let mut cells = Vec::new(alloc);
@@ -68,7 +68,7 @@ fn values_of(alloc: Global, memory: &[MemoryBlock], run: SetRun) -> Result<Items
     all_held(alloc, memory, cells.as_slice())
 }
 
-fn run_from(alloc: Global, memory: &[MemoryBlock], run: SetRun) -> Result<Run, OutOfMemory>
+fn run_from(alloc: Global, memory: &RisingBlocks, run: SetRun) -> Result<Run, OutOfMemory>
     ensures { IfOk result (λ told. told ≡ run_from memory.now run) }
 {
     Ok(Run {
@@ -80,7 +80,7 @@ fn run_from(alloc: Global, memory: &[MemoryBlock], run: SetRun) -> Result<Run, O
 
 fn runs_from(
     alloc: Global,
-    memory: &[MemoryBlock],
+    memory: &RisingBlocks,
     runs: &[SetRun],
 ) -> Result<Items<Run>, OutOfMemory>
     ensures { IfOk result (λ told. told ≡ map (run_from memory.now) runs.now) }
@@ -98,8 +98,8 @@ fn runs_from(
 pub fn changes(
     alloc: Global,
     cells: &[Cell],
-    agreed: &[MemoryBlock],
-    now: &[MemoryBlock],
+    agreed: &RisingBlocks,
+    now: &RisingBlocks,
 ) -> Result<Items<Run>, OutOfMemory>
     ensures { IfOk result (λ runs. runs ≡ changes cells.now agreed.now now.now) }
 {

@@ -2,6 +2,7 @@
 
 ghost use Rattle.std.specs.Prelude.{◌≡◌, IfOk};
 
+use crate::store::RisingBlocks;
 use mdr_core::{Items, OutOfMemory};
 use mdr_model::MemoryBlock;
 use std::alloc::Global;
@@ -24,4 +25,12 @@ pub fn copied(alloc: Global, memory: &[MemoryBlock]) -> Result<Vec<MemoryBlock>,
         copy.push(copied_block(alloc, block)?)?;
     }
     Ok(copy)
+}
+
+/// The same of a memory in order.
+pub fn copy_of(alloc: Global, memory: &RisingBlocks) -> Result<RisingBlocks, OutOfMemory>
+    ensures { IfOk result (λ copy. copy ≡ memory.now) }
+{
+    let blocks = copied(alloc, memory.as_slice())?;
+    Ok(RisingBlocks::of(blocks))
 }

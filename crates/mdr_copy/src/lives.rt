@@ -3,10 +3,10 @@
 ghost use Rattle.std.specs.Prelude.{◌≡◌, [], ◌∷◌, ◌++◌, map, OnOk, IfOk};
 ghost use Rattle.mdr_model.specs.Values.{names_block};
 ghost use Rattle.mdr_model.specs.Memory.{swept, swept_block, killed, zero_block};
-ghost use Rattle.mdr_copy.specs.InPlaces.{place_for};
 ghost use Rattle.mdr_model.specs.Copies.{inserted, without, with_news};
 
 use crate::cell_types::cell_zero;
+use crate::store::RisingBlocks;
 use mdr_core::{Items, OutOfMemory, Program};
 use mdr_model::{MemoryBlock, New, Wire};
 use std::alloc::Global;
@@ -68,18 +68,30 @@ fn killed(
     Ok(out)
 }
 
+/// The same of a memory in order.
+fn without_one(
+    alloc: Global,
+    serial: u64,
+    memory: &RisingBlocks,
+) -> Result<RisingBlocks, OutOfMemory>
+    ensures { IfOk result (λ m. m ≡ killed serial memory.now) }
+{
+    let left = killed(alloc, serial, memory.as_slice())?;
+    Ok(RisingBlocks::of(left))
+}
+
 /// The copy without the blocks that died. It fails only where the memory for it is missing.
 #[tactic(auto, unfolding(mdr_model::specs::Copies::without))]
 pub fn without(
     alloc: Global,
     deaths: &[u64],
-    copy: Vec<MemoryBlock>,
-) -> Result<Vec<MemoryBlock>, OutOfMemory>
-    ensures { IfOk result (λ m. m.items ≡ without deaths.now copy.items) }
+    copy: RisingBlocks,
+) -> Result<RisingBlocks, OutOfMemory>
+    ensures { IfOk result (λ m. m ≡ without deaths.now copy) }
 {
     let mut left = copy;
     for serial in deaths {
-        left = killed(alloc, *serial, left.as_slice())?;
+        left = without_one(alloc, *serial, &left)?;
     }
     Ok(left)
 }
@@ -104,33 +116,16 @@ fn zero_block(alloc: Global, program: &Program, new: New) -> Result<MemoryBlock,
     })
 }
 
-/// How many blocks stand before the place of a serial.
-fn place_for(copy: &[MemoryBlock], serial: u64) -> usize
-    ensures { result ≡ place_for copy.now serial }
-{
-    copy.iter().take_while(|b| b.born.serial < serial).count()
-}
-
-/// Puts a block into its place: the serials of a copy rise.
-#[tactic(auto, using(crate::proofs::Inserted::in_its_place, crate::proofs::Inserted::place_inside))]
-fn insert(copy: &mut Vec<MemoryBlock>, block: MemoryBlock) -> Result<(), OutOfMemory>
-    ensures { OnOk result (copy.new.items ≡ inserted block copy.old.items) }
-{
-    let place = place_for(copy.as_slice(), block.born.serial);
-    copy.insert(place, block)?;
-    Ok(())
-}
-
 fn put_new(
     alloc: Global,
     program: &Program,
     new: New,
-    copy: &mut Vec<MemoryBlock>,
+    copy: &mut RisingBlocks,
 ) -> Result<(), OutOfMemory>
-    ensures { OnOk result (copy.new.items ≡ inserted (zero_block program.now new) copy.old.items) }
+    ensures { OnOk result (copy.new ≡ inserted (zero_block program.now new) copy.old) }
 {
     let block = zero_block(alloc, program, new)?;
-    insert(copy, block)
+    copy.insert(block)
 }
 
 /// Puts the new blocks into their places, the last first.
@@ -138,9 +133,9 @@ pub(crate) fn put_news(
     alloc: Global,
     program: &Program,
     news: &[New],
-    copy: &mut Vec<MemoryBlock>,
+    copy: &mut RisingBlocks,
 ) -> Result<(), OutOfMemory>
-    ensures { OnOk result (copy.new.items ≡ with_news program.now news.now copy.old.items) }
+    ensures { OnOk result (copy.new ≡ with_news program.now news.now copy.old) }
 {
     let mut i = news.len();
     while i > 0 {

@@ -3,7 +3,7 @@
 ghost use Rattle.std.specs.Prelude.{◌≡◌, ◌∷◌, [], ◌++◌, reverse, OnOk, IfOk};
 ghost use Rattle.mdr_model.specs.Sets.{begins_behind, joined, runs_of_cells};
 
-use mdr_core::{Items, Limit, OutOfMemory};
+use mdr_core::{Items, Limit, OutOfMemory, below};
 use mdr_model::{Cell, SetRun};
 use std::alloc::Global;
 
@@ -29,10 +29,8 @@ fn put_before(out: &mut Vec<SetRun>, cell: Cell, next: SetRun) -> Result<(), Out
     ensures { OnOk result (reverse out.new.items ≡ joined cell (next ∷ reverse out.old.items)) }
 {
     if begins_behind(cell, next) {
-        match next.len.checked_add(1) {
-            Some(len) => put(out, cell, len),
-            None => Err(Limit::Cells.past()),
-        }
+        below(next.len as u64, Limit::Cells)?;
+        put(out, cell, next.len + 1)
     } else {
         out.push(next)?;
         put(out, cell, 1)

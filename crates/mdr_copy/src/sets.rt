@@ -1,28 +1,11 @@
 // Sets of cells.
 
 ghost use Rattle.std.specs.Prelude.{◌≡◌, ◌++◌, OnOk, IfOk};
-ghost use Rattle.mdr_model.specs.Sets.{is_in, cells_of_run, cells_of_runs};
+ghost use Rattle.mdr_model.specs.Sets.{cells_of_run, cells_of_runs};
 
-use mdr_core::{Items, Limit, OutOfMemory};
+use mdr_core::{Items, OutOfMemory};
 use mdr_model::{Cell, SetRun};
 use std::alloc::Global;
-
-/// Whether a set has the cell of a block at an index.
-#[tactic(auto, unfolding(mdr_model::specs::Sets::is_in))]
-pub fn is_in_at(cells: &[Cell], serial: u64, index: usize) -> bool
-    ensures { result ≡ is_in cells.now (record { serial = serial; index = index }) }
-{
-    cells
-        .iter()
-        .any(|c| serial == c.serial && index == c.index as usize)
-}
-
-/// Whether a set has a cell.
-pub fn is_in(cells: &[Cell], cell: Cell) -> bool
-    ensures { result ≡ is_in cells.now cell }
-{
-    is_in_at(cells, cell.serial, cell.index as usize)
-}
 
 /// Adds the cells of a run. One that goes over the last index that a cell can have fails.
 pub(crate) fn put_run(out: &mut Vec<Cell>, run: SetRun) -> Result<(), OutOfMemory>
@@ -34,7 +17,7 @@ pub(crate) fn put_run(out: &mut Vec<Cell>, run: SetRun) -> Result<(), OutOfMemor
                 serial: run.serial,
                 index,
             })?,
-            None => return Err(Limit::Unmet.past()),
+            None => return Err(OutOfMemory::unmet()),
         }
     }
     Ok(())

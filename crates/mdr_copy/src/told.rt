@@ -1,13 +1,16 @@
 // What a message of the kernel half tells of memory, and the agreed copy after it.
 
 ghost use Rattle.std.specs.Prelude.{◌≡◌, ◌++◌, ◌&&◌, not, OnOk, IfOk};
+ghost use Rattle.std.specs.List.Sorted.{IsNonDecreasing};
+ghost use Rattle.mdr_copy.specs.Namings.{is_listed, news_by};
 ghost use Rattle.mdr_model.specs.Memory.{is_live};
-ghost use Rattle.mdr_model.specs.Copies.{is_named, died, news_of, changed_values, with_news, agreed_after, tells};
+ghost use Rattle.mdr_model.specs.Copies.{died, news_of, changed_values, with_news, agreed_after, tells};
 
 use crate::changed::{changed_values, changes};
-use crate::lives::{names_block, put_news, without};
+use crate::lives::{put_news, without};
+use crate::naming::{is_listed, named_in_order};
 use crate::runs::runs_of_cells;
-use crate::store::{is_live, put_runs};
+use crate::store::{RisingBlocks, is_live, put_runs};
 use mdr_core::{Items, OutOfMemory, Program};
 use mdr_model::{Cell, MemoryBlock, New, Told, Wire};
 use std::alloc::Global;
@@ -17,7 +20,7 @@ use std::alloc::Global;
 fn died(
     alloc: Global,
     copy: &[MemoryBlock],
-    memory: &[MemoryBlock],
+    memory: &RisingBlocks,
 ) -> Result<Items<u64>, OutOfMemory>
     ensures { IfOk result (λ d. d ≡ died copy.now memory.now) }
 {
@@ -30,31 +33,27 @@ fn died(
     Ok(Items::from_vec(out))
 }
 
-fn is_named(values: &[Wire], serial: u64) -> bool
-    ensures { result ≡ is_named values.now serial }
+fn is_news(copy: &RisingBlocks, named: &[u64], serial: u64) -> bool
+    requires { IsNonDecreasing named.now }
+    ensures { result ≡ (not (is_live copy.now serial) && is_listed named.now serial) }
 {
-    values.iter().any(|v| names_block(serial, *v))
+    !is_live(copy, serial) && is_listed(named, serial)
 }
 
-fn is_news(copy: &[MemoryBlock], values: &[Wire], serial: u64) -> bool
-    ensures { result ≡ (not (is_live copy.now serial) && is_named values.now serial) }
-{
-    !is_live(copy, serial) && is_named(values, serial)
-}
-
-/// The live blocks that some value names and the copy hasn't.
-#[tactic(auto, unfolding(mdr_model::specs::Copies::news_of))]
+/// The live blocks that are named and the copy hasn't.
+#[tactic(auto, unfolding(crate::specs::Namings::news_by))]
 fn news_of(
     alloc: Global,
-    copy: &[MemoryBlock],
-    values: &[Wire],
+    copy: &RisingBlocks,
+    named: &[u64],
     memory: &[MemoryBlock],
 ) -> Result<Items<New>, OutOfMemory>
-    ensures { IfOk result (λ n. n ≡ news_of copy.now values.now memory.now) }
+    requires { IsNonDecreasing named.now }
+    ensures { IfOk result (λ n. n ≡ news_by copy.now (is_listed named.now) memory.now) }
 {
     let mut out = Vec::new(alloc);
     for block in memory {
-        if is_news(copy, values, block.born.serial) {
+        if is_news(copy, named, block.born.serial) {
             out.push(block.born)?;
         }
     }
@@ -75,8 +74,8 @@ fn all_values(
     alloc: Global,
     view: &[Cell],
     values: &[Wire],
-    left: &[MemoryBlock],
-    memory: &[MemoryBlock],
+    left: &RisingBlocks,
+    memory: &RisingBlocks,
 ) -> Result<Vec<Wire>, OutOfMemory>
     ensures { IfOk result (λ all. all.items ≡ values.now ++ changed_values view.now left.now memory.now) }
 {
@@ -92,13 +91,15 @@ fn told_news(
     alloc: Global,
     view: &[Cell],
     values: &[Wire],
-    left: &[MemoryBlock],
-    memory: &[MemoryBlock],
+    left: &RisingBlocks,
+    memory: &RisingBlocks,
 ) -> Result<Items<New>, OutOfMemory>
     ensures { IfOk result (λ n. n ≡ news_of left.now (values.now ++ changed_values view.now left.now memory.now) memory.now) }
 {
     let all = all_values(alloc, view, values, left, memory)?;
-    news_of(alloc, left, all.as_slice(), memory)
+    let serials = named_in_order(alloc, all.as_slice())?;
+    let news = news_of(alloc, left, serials.as_slice(), memory.as_slice())?;
+    Ok(news)
 }
 
 /// The copy with the new blocks, which are zero. It fails only where the memory for them is missing.
@@ -106,9 +107,9 @@ pub fn with_news(
     alloc: Global,
     program: &Program,
     news: &[New],
-    left: Vec<MemoryBlock>,
-) -> Result<Vec<MemoryBlock>, OutOfMemory>
-    ensures { IfOk result (λ m. m.items ≡ with_news program.now news.now left.items) }
+    left: RisingBlocks,
+) -> Result<RisingBlocks, OutOfMemory>
+    ensures { IfOk result (λ m. m ≡ with_news program.now news.now left) }
 {
     let mut begun = left;
     put_news(alloc, program, news, &mut begun)?;
@@ -123,18 +124,18 @@ pub fn tells(
     program: &Program,
     view: &[Cell],
     values: &[Wire],
-    copy: Items<MemoryBlock>,
-    memory: &[MemoryBlock],
-) -> Result<(Told, Items<MemoryBlock>), OutOfMemory>
+    copy: RisingBlocks,
+    memory: &RisingBlocks,
+) -> Result<(Told, RisingBlocks), OutOfMemory>
     ensures what { IfOk result (λ t. t.0 ≡ tells program.now view.now values.now copy memory.now) }
     ensures agreed { IfOk result (λ t. t.1 ≡ agreed_after program.now (tells program.now view.now values.now copy memory.now) copy) }
 {
     let shown = runs_of_cells(alloc, view)?;
     let deaths = died(alloc, copy.as_slice(), memory)?;
-    let left = without(alloc, deaths.as_slice(), copy.into_vec())?;
-    let news = told_news(alloc, view, values, left.as_slice(), memory)?;
+    let left = without(alloc, deaths.as_slice(), copy)?;
+    let news = told_news(alloc, view, values, &left, memory)?;
     let mut agreed = with_news(alloc, program, news.as_slice(), left)?;
-    let runs = changes(alloc, view, agreed.as_slice(), memory)?;
+    let runs = changes(alloc, view, &agreed, memory)?;
     put_runs(&mut agreed, runs.as_slice());
     let told = Told {
         deaths,
@@ -142,5 +143,5 @@ pub fn tells(
         view: shown,
         runs,
     };
-    Ok((told, Items::from_vec(agreed)))
+    Ok((told, agreed))
 }

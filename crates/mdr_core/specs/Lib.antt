@@ -16,3 +16,4 @@ pub mod Types
 pub mod Typing
 pub mod Views
 pub mod Worked
+pub mod Limits

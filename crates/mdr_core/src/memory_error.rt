@@ -2,8 +2,9 @@
 
 use std::alloc::{AllocError, AllocFailed};
 
-/// Memory was wanting. It is told apart from every other refusal. A value comes from three places alone: an allocator
-/// that refused, a `Limit` that would be passed, and an error of another type that said the same (`passed_on`).
+/// Memory was wanting. It is told apart from every other refusal. A value comes from these places alone: an allocator
+/// that refused, a limit that would be passed (`limits`, or a `Limit`), an error of another type that said the same
+/// (`passed_on`), and what can't happen though no contract says so yet (`unmet`).
 #[derive(Clone, Copy, Debug)]
 pub struct OutOfMemory {
     _own: (),
@@ -26,6 +27,11 @@ impl OutOfMemory {
     pub fn passed_on() -> OutOfMemory {
         OutOfMemory { _own: () }
     }
+
+    /// What no run of a source's program does, though the contracts don't say so yet.
+    pub fn unmet() -> OutOfMemory {
+        OutOfMemory { _own: () }
+    }
 }
 
 /// What a run or a text can have too much of to be held. `docs/LIMITS.md` has the numbers, and why no source of a
@@ -38,7 +44,7 @@ pub enum Limit {
     Calls,
     /// Allocations that a run counts: 2^64.
     Allocations,
-    /// Messages that a run counts: 2^64.
+    /// Messages that a run counts: 2^64 - 2.
     Messages,
     /// Births of blocks in a memory: 2^64.
     Births,
@@ -48,14 +54,16 @@ pub enum Limit {
     Cells,
     /// Bytes of a text: 2^32 - 1.
     Bytes,
-    /// Types, globals, structs or functions of a program: 2^24. Its locals or fields: 2^32.
+    /// Types, globals, structs or functions of a program: 2^24.
     Parts,
+    /// Locals of a function, fields of a struct, or items of a source: 2^32.
+    Fields,
     /// What a message can't spell: a list of 2^31 items, or a number past its kind.
     Items,
     /// Blocks of a source inside one another: 2^64.
     Deep,
-    /// What no run of a source's program does, though the contracts don't say so yet.
-    Unmet,
+    /// Functions that are active at a time: 2^32 - 1.
+    Active,
 }
 
 impl Limit {

@@ -8,6 +8,7 @@ use Rattle.mdr_events.specs.declared.event.Event.{Event}
 use Rattle.mdr_events.specs.declared.event.Event.TheVariants as event
 use Rattle.mdr_events.specs.Events.{asked_as}
 use Rattle.mdr_events.specs.Held.{Held}
+use Rattle.mdr_events.specs.Ready.{IsOpen, IsReady, takes_answers, takes_value}
 use Rattle.mdr_events.specs.Running.{RunsTo, WantsTick}
 use Rattle.mdr_events.specs.Steps.{Goes, Ended, Stopped, Asks, Crosses}
 use Rattle.mdr_events.specs.Values.{wires_of}
@@ -19,3 +20,11 @@ RanTo a side h m ticks (event.Cross c) h' m' left = RunsTo a side h m ticks (Cro
 RanTo a side h m ticks (event.Service q) h' m' left = RunsTo a side h m ticks (Asks (asked_as q)) h' m' left
 RanTo a side h m ticks (event.Stop kind at) h' m' left = RunsTo a side h m ticks (Stopped kind at) h' m' left
 RanTo a side h m ticks (event.TicksOut at) h' m' left = (left ≡ 0) × RunsTo a side h m ticks Goes h' m' left × WantsTick side h' at h'.frame.here.depth
+
+-- what it leaves, where it began ready: work that goes on, or that waits for the answers to its question
+abbrev pub LeavesAt : Event → Held → Type 0
+LeavesAt (event.Done v) h = Unit {0}
+LeavesAt (event.Cross c) h = IsOpen takes_value h
+LeavesAt (event.Service q) h = IsOpen (takes_answers (asked_as q)) h
+LeavesAt (event.Stop kind at) h = Unit {0}
+LeavesAt (event.TicksOut at) h = IsReady h

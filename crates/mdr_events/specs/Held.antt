@@ -34,9 +34,9 @@ pub data Front : Type 0 where
   Fills : (params : List ℕ) (pointers : List Wire) → Front
   -- the object of a local was born
   Born : (slot : ℕ) (pointer : Wire) → Front
-  -- a question is open, and its answer is a call's value, the parameters' pointers, a local's pointer, or nothing
+  -- a question is open, and its answer is a call's value, so many pointers to parameters, a local's pointer, or nothing
   WaitsValue : (number : ℕ) (goal : Goal) → Front
-  WaitsParams : Front
+  WaitsParams : (count : ℕ) → Front
   WaitsObject : (slot : ℕ) → Front
   WaitsDeath : (flow : Flow) → Front
 
@@ -75,7 +75,7 @@ module _ (side : Side) where
   front_of (Fills is ps) here l go k = fills (in_here here 0) is ps l (λ l'. go l' k)
   front_of (Born i p) here l go k = go (with_object i p l) k
   front_of (WaitsValue n goal) here l go k = Tree.Waits (λ rs. keep side.known here (in_here here n) goal (first_of rs) l (on_ends go k))
-  front_of WaitsParams here l go k = Tree.Waits (λ ps. fills (in_here here 0) (object_params 0 here.slots) ps l (λ l'. go l' k))
+  front_of (WaitsParams count) here l go k = Tree.Waits (λ ps. fills (in_here here 0) (object_params 0 here.slots) ps l (λ l'. go l' k))
   front_of (WaitsObject i) here l go k = Tree.Waits (λ ps. go (with_object i (first_of ps) l) k)
   front_of (WaitsDeath flow) here l go k = Tree.Waits (λ results. k flow l)
 

@@ -2,6 +2,7 @@ pub mod Values
 pub mod Outcomes
 pub mod Integers
 pub mod Held
+pub mod Ready
 pub mod Steps
 pub mod Running
 pub mod Events

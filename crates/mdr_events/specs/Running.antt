@@ -12,7 +12,8 @@ use Rattle.mdr_meaning.specs.Tree.{Tree}
 use Rattle.mdr_meaning.specs.Values.{first_of}
 use Rattle.mdr_meaning.specs.Walk.{Accesses, walk}
 use Rattle.mdr_events.specs.Held.{Front, Runs, Unwinds, Comes, Enters, Fills, Born, WaitsValue, WaitsParams, WaitsObject, WaitsDeath, Item, Base, Held, tree}
-use Rattle.mdr_events.specs.Steps.{holds, child, Came, Goes, after, IsSame, Steps, Ticks}
+use Rattle.mdr_events.specs.Ready.{IsReady, is_waiting}
+use Rattle.mdr_events.specs.Steps.{holds, child, Came, Goes, Leaves, after, IsSame, Steps, Ticks}
 
 -- ---- a function is started over whatever is held
 
@@ -29,16 +30,9 @@ FunctionsAreStarted =
 
 -- ---- a question is answered
 
-abbrev pub is_waiting : Front → Bool
-is_waiting (WaitsValue n goal) = true
-is_waiting WaitsParams = true
-is_waiting (WaitsObject i) = true
-is_waiting (WaitsDeath flow) = true
-is_waiting _ = false
-
 abbrev pub answered : Front → Here → List Wire → Front
 answered (WaitsValue n goal) here results = Comes n goal (first_of results)
-answered WaitsParams here results = Fills (object_params 0 here.slots) results
+answered (WaitsParams count) here results = Fills (object_params 0 here.slots) results
 answered (WaitsObject i) here results = Born i (first_of results)
 answered (WaitsDeath flow) here results = Unwinds flow
 answered front here results = front
@@ -77,10 +71,12 @@ StatementsWantTicks =
 
 -- ---- runs
 
--- a walk with so many ticks, however many more there are, comes to this with so many left, however many more there are in the tree
+-- a walk with so many ticks, however many more there are, comes to this with so many left, however many more there are in the tree. What is held then is ready
+-- again, or open to the answers
 pub record RunsTo {M : Type 0} (a : Accesses M) (side : Side) (h : Held) (m : M) (ticks : ℕ) (came : Came) (h' : Held) (m' : M) (left : ℕ) : Type 0 where
   pub fewer : left ≤ ticks
   pub by : (f n r : ℕ) → ticks + r ≤ f → walk a (ticks + n) (tree side f h (ticks + r)) m ≡ after a side f came h' m' (left + n) (left + r)
+  pub leaves : IsReady h → Leaves came h'
 
 -- runs are made of steps
 pub record RunsAreMade {M : Type 0} (a : Accesses M) (side : Side) (h : Held) (m : M) (ticks : ℕ) : Type 0 where

@@ -9,6 +9,7 @@ use Rattle.mdr_meaning.specs.Sides.{Side, Here, Locals, Flow, Ends}
 use Rattle.mdr_meaning.specs.Tree.{Asked, Tree}
 use Rattle.mdr_meaning.specs.Walk.{Reached, Accesses, Walked, walked, walk}
 use Rattle.mdr_events.specs.Held.{Front, Runs, Unwinds, Item, Held, tree}
+use Rattle.mdr_events.specs.Ready.{IsOpen, IsReady, takes_answers, takes_value}
 
 -- ---- work that is held
 
@@ -52,6 +53,14 @@ after a side f (Stopped kind at) h m n r = walked (Reached.Stopped kind at) m n
 after a side f (Asks asked) h m n r = walked (Reached.Asks asked (child (tree side f h r))) m n
 after a side f (Crosses at func args depth) h m n r = walked (Reached.Crosses at func args depth (λ v. child (tree side f h r) (v ∷ []))) m n
 
+-- what it leaves: work that goes on, or that waits for the answers. Nothing goes on behind a stop, and behind an end what was there before the start does
+abbrev pub Leaves : Came → Held → Type 0
+Leaves Goes h = IsReady h
+Leaves (Ended v) h = Unit {0}
+Leaves (Stopped kind at) h = Unit {0}
+Leaves (Asks asked) h = IsOpen (takes_answers asked) h
+Leaves (Crosses at func args depth) h = IsOpen takes_value h
+
 -- a result that goes on, or stops
 abbrev pub came_by : {A : Type 0} → At → Result A StopKind → Came
 came_by at (Ok x) = Goes
@@ -64,14 +73,17 @@ held_after (Err kind) here more items = holds Runs here (record { slots = []; bo
 
 -- ---- steps, for every number of ticks, and every fuel that goes as far
 
--- two kinds of held work stand for one tree
+-- two kinds of held work stand for one tree, and the second is ready where the first is
 pub record IsSame (side : Side) (h h' : Held) : Type 0 where
   pub by : (f r : ℕ) → tree side f h r ≡ tree side f h' r
+  pub ready : IsReady h → IsReady h'
 
 -- a step that takes no tick
 pub record Steps {M : Type 0} (a : Accesses M) (side : Side) (h : Held) (m : M) (came : Came) (h' : Held) (m' : M) : Type 0 where
   pub by : (f n r : ℕ) → r ≤ f → walk a n (tree side f h r) m ≡ after a side f came h' m' n r
+  pub leaves : IsReady h → Leaves came h'
 
 -- one that takes a tick
 pub record Ticks {M : Type 0} (a : Accesses M) (side : Side) (h : Held) (m : M) (came : Came) (h' : Held) (m' : M) : Type 0 where
   pub by : (f n r : ℕ) → suc r ≤ f → walk a (suc n) (tree side f h (suc r)) m ≡ after a side f came h' m' n r
+  pub leaves : IsReady h → Leaves came h'

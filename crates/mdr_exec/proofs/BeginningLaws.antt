@@ -31,7 +31,7 @@ use Rattle.mdr_exec.proofs.StepLaws.{statements_step}
 
 block_same : (side : Side) (here : Here) (l : Locals) (more : Codes) (items : List Item) (body : Codes) → IsSame side (holds Runs here l (Codes.Then (Code.Block body) more) items) (holds_block here l more items body)
 unfolding bare tree carry means
-block_same side here l more items body = record { by = λ f r. refl }
+block_same side here l more items body = record { by = λ f r. refl; ready = λ r. record { calm = refl; started = r.started } }
 
 module _ (program : Program) (m : Machine) where
   abbrev here : Here
@@ -81,7 +81,7 @@ module _ (program : Program) (m : Machine) where
 
     -- what it held when it stopped is no matter
     stopped_in : (code : Code) (kind : StopKind) (n : ℕ) (h held : Held) → is_running m.front ≡ true → Stands code → Comes code (Stopped kind (in_here here n)) h → Ticks a side (held_of program m) memory (Stopped kind (in_here here n)) held memory
-    stopped_in code kind n h held runs is law = moved_in code (Stopped kind (in_here here n)) held held runs is refl (record { by = λ f k r less. law.by f k r less })
+    stopped_in code kind n h held runs is law = moved_in code (Stopped kind (in_here here n)) held held runs is refl (record { by = λ f k r less. law.by f k r less; leaves = λ r. tt })
 
     module _ (known_is : side.known ≡ known_of program) (e : Term) (x : Result Wire StopKind) (value_is : x ≡ value_of a memory (known_of program) locals.slots e) where
       value_so : value_of a memory side.known locals.slots e ≡ x

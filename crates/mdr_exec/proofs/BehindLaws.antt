@@ -101,12 +101,13 @@ module _ (side : Side) (here : Here) (slots outer : List Wire) (after : Codes) (
 
   past : IsSame side (over (Scope outer ∷ [])) (holds Runs here (record { slots = slots; born = outer }) after items)
   unfolding bare tree carry means
-  past = record { by = λ f r. refl }
+  past = record { by = λ f r. refl; ready = λ r. record { calm = refl; started = r.started } }
 
   again : (n : ℕ) (e : Term) (body : Codes)
       → IsSame side (over (Scope outer ∷ Around n e Codes.End body ∷ [])) (holds Runs here (record { slots = slots; born = outer }) (Codes.Then (Code.Loop n e Codes.End body) after) items)
   unfolding bare tree carry means
   again n e body = record {
+    ready = λ r. record { calm = refl; started = r.started };
     by = λ f r. ap (λ (k : Next). cut r (stmt side (means side f) here (Code.Loop n e Codes.End body) (record { slots = slots; born = outer }) k))
         (nothing_more side (means side f) here (on_ends (stmts side (means side f) here after) (carry side (means side (suc f)) here items)));
   }

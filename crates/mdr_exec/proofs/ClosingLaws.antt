@@ -16,7 +16,7 @@ use Rattle.mdr_meaning.specs.Sides.{Side, Here, Locals, Flow, Ends, Breaks, Cont
 use Rattle.mdr_meaning.specs.Walk.{Reached, Accesses, walk, walked}
 use Rattle.std.proofs.lemmas.List.{reverse-append}
 use Rattle.mdr_events.specs.Held.{Unwinds, WaitsDeath, Item, Scope, Held, carry, bare, tree}
-use Rattle.mdr_events.specs.Steps.{holds, child, Came, Goes, Ended, Stopped, Asks, Crosses, after, IsSame, Steps}
+use Rattle.mdr_events.specs.Steps.{holds, child, Came, Goes, Ended, Stopped, Asks, Crosses, Leaves, after, IsSame, Steps}
 use Rattle.mdr_events.specs.Values.{wires_of}
 use Rattle.mdr_exec.specs.declared.frame.Flow.{Flow as Leaving}
 use Rattle.mdr_exec.specs.declared.frame.Suspended.{Suspended}
@@ -39,8 +39,8 @@ module _ {M : Type 0} (a : Accesses M) (side : Side) where
   after_same h1 h2 s (Asks asked) m f n r = ap (λ t. walked (Reached.Asks asked (child t)) m n) (s.by f r)
   after_same h1 h2 s (Crosses at func args depth) m f n r = ap (λ t. walked (Reached.Crosses at func args depth (λ v. child t (v ∷ []))) m n) (s.by f r)
 
-  pub steps_same : (h h1 h2 : Held) (m m' : M) (came : Came) → Steps a side h m came h1 m' → IsSame side h1 h2 → Steps a side h m came h2 m'
-  steps_same h h1 h2 m m' came p s = record { by = λ f n r fewer. p.by f n r fewer ∙ after_same h1 h2 s came m' f n r }
+  pub steps_same : (h h1 h2 : Held) (m m' : M) (came : Came) → Steps a side h m came h1 m' → IsSame side h1 h2 → (Leaves came h1 → Leaves came h2) → Steps a side h m came h2 m'
+  steps_same h h1 h2 m m' came p s left = record { by = λ f n r fewer. p.by f n r fewer ∙ after_same h1 h2 s came m' f n r; leaves = λ r. left (p.leaves r) }
 
 -- the objects of a block are dead, and the block is still to be left
 module _ (side : Side) (here : Here) (slots : List Wire) (ahead : Codes) (items : List Item) where
@@ -49,16 +49,16 @@ module _ (side : Side) (here : Here) (slots : List Wire) (ahead : Codes) (items 
 
   unwinds_so : (flow : Flow) (outer : List Wire) → is_return flow ≡ false → IsSame side (holds (Unwinds flow) here (holding outer) ahead items) (holds (Unwinds flow) here (holding []) ahead (Scope outer ∷ items))
   unfolding bare tree carry
-  unwinds_so Ends outer h = record { by = λ f r. refl }
-  unwinds_so Breaks outer h = record { by = λ f r. refl }
-  unwinds_so Continues outer h = record { by = λ f r. refl }
+  unwinds_so Ends outer h = record { by = λ f r. refl; ready = λ r. record { calm = r.calm; started = r.started } }
+  unwinds_so Breaks outer h = record { by = λ f r. refl; ready = λ r. record { calm = r.calm; started = r.started } }
+  unwinds_so Continues outer h = record { by = λ f r. refl; ready = λ r. record { calm = r.calm; started = r.started } }
   unwinds_so (Returns v) outer h = absurd (cc h)
 
   waits_so : (flow : Flow) (outer : List Wire) → is_return flow ≡ false → IsSame side (holds (WaitsDeath flow) here (holding outer) ahead items) (holds (WaitsDeath flow) here (holding []) ahead (Scope outer ∷ items))
   unfolding bare tree carry
-  waits_so Ends outer h = record { by = λ f r. refl }
-  waits_so Breaks outer h = record { by = λ f r. refl }
-  waits_so Continues outer h = record { by = λ f r. refl }
+  waits_so Ends outer h = record { by = λ f r. refl; ready = λ r. record { calm = r.calm; started = r.started } }
+  waits_so Breaks outer h = record { by = λ f r. refl; ready = λ r. record { calm = r.calm; started = r.started } }
+  waits_so Continues outer h = record { by = λ f r. refl; ready = λ r. record { calm = r.calm; started = r.started } }
   waits_so (Returns v) outer h = absurd (cc h)
 
   left_so : (asks : Bool) (ps : List Wire) (flow : Flow) (outer : List Wire) → is_return flow ≡ false
@@ -67,6 +67,12 @@ module _ (side : Side) (here : Here) (slots : List Wire) (ahead : Codes) (items 
   left_so false (p ∷ ps) flow outer h = unwinds_so flow outer h
   left_so true (p ∷ ps) flow outer h = waits_so flow outer h
 
+  left_open : (asks : Bool) (ps : List Wire) (flow : Flow) (outer : List Wire) → Leaves (dying_came asks (in_here here 0) ps) (holds (dying_front asks ps flow) here (holding outer) ahead items)
+      → Leaves (dying_came asks (in_here here 0) ps) (holds (dying_front asks ps flow) here (holding []) ahead (Scope outer ∷ items))
+  left_open asks [] flow outer r = record { calm = refl; started = r.started }
+  left_open false (p ∷ ps) flow outer r = record { calm = refl; started = r.started }
+  left_open true (p ∷ ps) flow outer r = record { takes_them = refl; started = r.started }
+
 module _ {M : Type 0} (a : Accesses M) (side : Side) (here : Here) (slots born : List Wire) (ahead : Codes) (m : M) where
   left_block : (flow : Flow) (outer : List Wire) (items : List Item) → is_return flow ≡ false
       → Steps a side (holds (Unwinds flow) here (record { slots = slots; born = born }) ahead (Scope outer ∷ items)) m (dying_came side.asks (in_here here 0) born)
@@ -74,6 +80,7 @@ module _ {M : Type 0} (a : Accesses M) (side : Side) (here : Here) (slots born :
   left_block flow outer items h =
       let law = work_goes_on a side here (record { slots = slots; born = born }) ahead items m in
       steps_same a side _ _ _ m (dying_memory a side.asks born m) (dying_came side.asks (in_here here 0) born) (law.scope_left flow outer h) (left_so side here slots ahead items side.asks born flow outer h)
+      (left_open side here slots ahead items side.asks born flow outer)
 
   pub dies_at : (flow : Flow) (items : List Item) → DiesAt flow items
       → Steps a side (holds (Unwinds flow) here (record { slots = slots; born = born }) ahead items) m (dying_came side.asks (in_here here 0) born)
@@ -192,7 +199,7 @@ module _ (m : Machine) (flow : Leaving) (s : Suspended) (below : List Suspended)
       → (program : Program) (side : Side) → IsSame side (held_of program m) (held_of program (record { side = m.side; front = front.Comes value; top = s.frame; below = below; used = m.used }))
   unfolding held_of below_of around bare tree carry
   called_back is outside none last waits gives program side =
-      rw (is, outside, none, last, reverse-append below (s ∷ []), waits, gives) (record { by = λ f r. rw (none_died (returned (flow_as flow))) refl })
+      rw (is, outside, none, last, reverse-append below (s ∷ []), waits, gives) (record { by = λ f r. rw (none_died (returned (flow_as flow))) refl; ready = λ r. record { calm = refl; started = r.started } })
 
   pub start_ended : (b : Before) → m.front ≡ front.Unwinds flow → m.top.path ≡ [] → m.top.born ≡ [] → m.below ≡ below ++ s ∷ [] → s.until ≡ until.Started b → wire_of value ≡ returned (flow_as flow)
       → (program : Program) (side : Side) → Finishes side (held_of program m) (wire_of value) (held_of program (record { side = m.side; front = b; top = s.frame; below = below; used = m.used }))

@@ -64,4 +64,4 @@ module _ (program : Program) (m : Machine) where
     pub stops_in : (kind : StopKind) (at : At) (h held : Held) (memory' : M) → Ticks a side (holds Runs (here_in program m) locals_of (Codes.Then code ahead_of) items_of) memory (Stopped kind at) h memory'
         → Ticks a side (held_of program m) memory (Stopped kind at) held memory'
     stops_in kind at h held memory' law =
-        subst (λ x. Ticks a side x memory (Stopped kind at) held memory') (sym (stands program m code runs is)) (record { by = λ f n r less. law.by f n r less })
+        subst (λ x. Ticks a side x memory (Stopped kind at) held memory') (sym (stands program m code runs is)) (record { by = λ f n r less. law.by f n r less; leaves = λ r. tt })

@@ -66,7 +66,7 @@ module _ (program : Program) (m : Machine) where
     -- what it held when it stopped is no matter
     kept_stops : (goal : Goal) (v : Wire) (kind : StopKind) (memory' : M) (held : Held) → ComesHere n goal v → keep_of a side.known (here_in program m) goal v locals_now memory ≡ did (Err kind) memory'
         → Steps a side (held_of program m) memory (Stopped kind (in_here (here_in program m) n)) held memory'
-    kept_stops goal v kind memory' held comes is = record { by = λ f q r less. (kept goal v (did (Err kind) memory') comes is).by f q r less }
+    kept_stops goal v kind memory' held comes is = record { by = λ f q r less. (kept goal v (did (Err kind) memory') comes is).by f q r less; leaves = λ r. tt }
 
     module _ (known : side.known ≡ known_of program) where
       into_is : (p : Lvalue) (v : Wire) (x : Result Wire StopKind) → received_as program m.top p v ≡ x

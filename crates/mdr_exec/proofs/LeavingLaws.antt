@@ -114,35 +114,36 @@ module _ (side : Side) (here : Here) (slots : List Wire) (ahead : Codes) (items 
   plain_left : (flow : Flow) (born outer : List Wire) (after : Codes) → NoneDies flow born
       → IsSame side (holds (Unwinds flow) here (with born) ahead (Scope outer ∷ Rest after ∷ items)) (holds (front_after flow) here (with (passed_on flow outer born)) after items)
   unfolding bare tree carry
-  plain_left Ends born outer after h = rw h (record { by = λ f r. refl })
-  plain_left Breaks born outer after h = rw h (record { by = λ f r. refl })
-  plain_left Continues born outer after h = rw h (record { by = λ f r. refl })
-  plain_left (Returns v) born outer after h = record { by = λ f r. refl }
+  plain_left Ends born outer after h = rw h (record { by = λ f r. refl; ready = λ r. record { calm = refl; started = r.started } })
+  plain_left Breaks born outer after h = rw h (record { by = λ f r. refl; ready = λ r. record { calm = refl; started = r.started } })
+  plain_left Continues born outer after h = rw h (record { by = λ f r. refl; ready = λ r. record { calm = refl; started = r.started } })
+  plain_left (Returns v) born outer after h = record { by = λ f r. refl; ready = λ r. record { calm = refl; started = r.started } }
 
   turned_round : (code : Option Code) → Looped code → (born outer : List Wire) (after : Codes) → born ≡ []
       → IsSame side (holds (Unwinds Ends) here (with born) ahead (ends_with part.Body outer code ++ Rest after ∷ items)) (holds Runs here (with outer) (part_of part.Step code) (ends_with part.Step [] code ++ Rest after ∷ items))
   unfolding bare tree carry
-  turned_round _ (The n e step body) born outer after h = rw h (record { by = λ f r. refl })
+  turned_round _ (The n e step body) born outer after h = rw h (record { by = λ f r. refl; ready = λ r. record { calm = refl; started = r.started } })
 
   turned_on : (code : Option Code) → Looped code → (born outer : List Wire) (after : Codes) → born ≡ []
       → IsSame side (holds (Unwinds Continues) here (with born) ahead (ends_with part.Body outer code ++ Rest after ∷ items)) (holds Runs here (with outer) (part_of part.Step code) (ends_with part.Step [] code ++ Rest after ∷ items))
   unfolding bare tree carry
-  turned_on _ (The n e step body) born outer after h = rw h (record { by = λ f r. refl })
+  turned_on _ (The n e step body) born outer after h = rw h (record { by = λ f r. refl; ready = λ r. record { calm = refl; started = r.started } })
 
   broken : (code : Option Code) → Looped code → (born outer : List Wire) (after : Codes) → born ≡ []
       → IsSame side (holds (Unwinds Breaks) here (with born) ahead (ends_with part.Body outer code ++ Rest after ∷ items)) (holds Runs here (with outer) after items)
   unfolding bare tree carry
-  broken _ (The n e step body) born outer after h = rw h (record { by = λ f r. refl })
+  broken _ (The n e step body) born outer after h = rw h (record { by = λ f r. refl; ready = λ r. record { calm = refl; started = r.started } })
 
   returned_from : (code : Option Code) → Looped code → (v : Wire) (born outer : List Wire) (after : Codes)
       → IsSame side (holds (Unwinds (Returns v)) here (with born) ahead (ends_with part.Body outer code ++ Rest after ∷ items)) (holds (Unwinds (Returns v)) here (with (outer ++ born)) after items)
   unfolding bare tree carry
-  returned_from _ (The n e step body) v born outer after = record { by = λ f r. refl }
+  returned_from _ (The n e step body) v born outer after = record { by = λ f r. refl; ready = λ r. record { calm = refl; started = r.started } }
 
   stepped_again : (code : Code) (l : Locals) (after : Codes)
       → IsSame side (holds (Unwinds Ends) here l ahead (Rest (Codes.Then code Codes.End) ∷ Rest after ∷ items)) (holds Runs here l (Codes.Then code after) items)
   unfolding bare tree carry means
   stepped_again code l after = record {
+    ready = λ r. record { calm = refl; started = r.started };
     by = λ f r. ap (λ (k : Next). cut r (stmt side (means side f) here code l k)) (nothing_more side (means side f) here (on_ends (stmts side (means side f) here after) (carry side (means side (suc f)) here items)));
   }
 
@@ -150,9 +151,9 @@ module _ (side : Side) (here : Here) (slots : List Wire) (ahead : Codes) (items 
       → IsSame side (holds (Unwinds flow) here l ahead (Rest codes ∷ Rest after ∷ items)) (holds (front_after flow) here l after items)
   unfolding bare tree carry
   step_passed Ends l codes after h = absurd (cc h)
-  step_passed Breaks l codes after h = record { by = λ f r. refl }
-  step_passed Continues l codes after h = record { by = λ f r. refl }
-  step_passed (Returns v) l codes after h = record { by = λ f r. refl }
+  step_passed Breaks l codes after h = record { by = λ f r. refl; ready = λ r. record { calm = refl; started = r.started } }
+  step_passed Continues l codes after h = record { by = λ f r. refl; ready = λ r. record { calm = refl; started = r.started } }
+  step_passed (Returns v) l codes after h = record { by = λ f r. refl; ready = λ r. record { calm = refl; started = r.started } }
 
 -- ---- what a machine holds
 
@@ -258,12 +259,12 @@ held_round m path next born none is e program p n b =
 -- ---- the innermost list of statements
 
 same_then : (side : Side) (h1 h2 h3 : Held) → IsSame side h1 h2 → IsSame side h2 h3 → IsSame side h1 h3
-same_then side h1 h2 h3 p q = record { by = λ f r. p.by f r ∙ q.by f r }
+same_then side h1 h2 h3 p q = record { by = λ f r. p.by f r ∙ q.by f r; ready = λ r. q.ready (p.ready r) }
 
 -- what follows in a block that is left is no matter
 ahead_forgotten : (side : Side) (flow : Flow) (here : Here) (l : Locals) (ahead : Codes) (items : List Item) → IsSame side (holds (Unwinds flow) here l ahead items) (holds (Unwinds flow) here l Codes.End items)
 unfolding bare tree
-ahead_forgotten side flow here l ahead items = record { by = λ f r. refl }
+ahead_forgotten side flow here l ahead items = record { by = λ f r. refl; ready = λ r. record { calm = refl; started = r.started } }
 
 module _ (program : Program) (m : Machine) (path : List Position) where
   -- the machine at another place

@@ -8,6 +8,7 @@ pub mod UnwindingLaws
 pub mod RunningLaws
 pub mod PlaceLaws
 pub mod MachineLaws
+pub mod ReadyLaws
 pub mod StartLaws
 pub mod StartedLaws
 pub mod PathLaws

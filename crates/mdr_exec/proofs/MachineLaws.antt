@@ -9,7 +9,8 @@ use Rattle.mdr_meaning.specs.Lives.{object_params}
 use Rattle.mdr_meaning.specs.Sides.{Side}
 use Rattle.mdr_meaning.specs.Tree.{Tree}
 use Rattle.mdr_events.specs.Held.{Front, Fills, bare, carry, tree}
-use Rattle.mdr_events.specs.Running.{answered, is_waiting}
+use Rattle.mdr_events.specs.Ready.{is_waiting}
+use Rattle.mdr_events.specs.Running.{answered}
 use Rattle.mdr_events.specs.Steps.{child}
 use Rattle.mdr_events.specs.Values.{wires_of}
 use Rattle.mdr_exec.specs.declared.frame.Side.{Side as Here}
@@ -35,7 +36,7 @@ pub nothing_held : (program : Program) (s : Here) (path : List Position) (slots 
 unfolding tree bare held_of below_of around carry cut
 nothing_held program s path slots born below u p q side f r = rw (p, q) refl
 
-still_waits : (program : Program) (frame : Running) (b : Before) → waits b ≡ true → is_waiting (front_in program frame b) ≡ true
+pub still_waits : (program : Program) (frame : Running) (b : Before) → waits b ≡ true → is_waiting (front_in program frame b) ≡ true
 still_waits program frame front.WaitsValue h = refl
 still_waits program frame (front.WaitsParams room) h = refl
 still_waits program frame (front.WaitsObject i) h = refl

@@ -139,7 +139,7 @@ module _ (program : Program) (m : Machine) where
     call_stops kind held err goal stands =
         let law : Ticks a side (held_of program m) memory (Stopped kind at_call) (calling (here_in program m) (locals_of program m) (ahead_of program m) (items_of program m) n goal (Err kind)) memory =
         call_law (Err kind) (ap (called_as program) err) goal stands in
-        record { by = λ f q t less. law.by f q t less }
+        record { by = λ f q t less. law.by f q t less; leaves = λ r. tt }
 
   -- at most 256 functions are active
   module _ {M : Type 0} (a : Accesses M) (memory : M) (side : Side) (f : ℕ) (vs : List Wire) where

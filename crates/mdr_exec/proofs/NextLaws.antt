@@ -21,7 +21,7 @@ pub ran_out : (m : Machine) → is_running m.front ≡ true → (program : Progr
     → IsSame side (held_of program m) (held_of program (record { side = m.side; front = front.Unwinds flow.Ends; top = m.top; below = m.below; used = m.used }))
 unfolding held_of bare tree carry means
 ran_out m runs program side none =
-    rw (running_is m.front runs, none_stands (block_of program m.top) m.top.next none) (record { by = λ f r. refl })
+    rw (running_is m.front runs, none_stands (block_of program m.top) m.top.next none) (record { by = λ f r. refl; ready = λ r. record { calm = refl; started = r.started } })
 
 pub object_taken : (m : Machine) (i : ℕ) (p : Value) (slots born : List Value) → m.front ≡ front.Born i p → slots ≡ slice_set m.top.slots i p → born ≡ m.top.born ++ p ∷ []
     → (program : Program) (side : Side)
@@ -34,4 +34,4 @@ pub object_taken : (m : Machine) (i : ℕ) (p : Value) (slots born : List Value)
     }))
 unfolding held_of bare tree carry
 object_taken m i p slots born is set more program side =
-    rw (is, set, wires_set m.top.slots i p, wires_more m.top.born born p (wire_of p) more refl) (record { by = λ f r. refl })
+    rw (is, set, wires_set m.top.slots i p, wires_more m.top.born born p (wire_of p) more refl) (record { by = λ f r. refl; ready = λ r. record { calm = refl; started = r.started } })

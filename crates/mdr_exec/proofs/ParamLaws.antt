@@ -19,7 +19,7 @@ use Rattle.mdr_meaning.specs.Numbers.{Numbered}
 use Rattle.mdr_meaning.specs.Sides.{Locals, Side, in_here}
 use Rattle.mdr_meaning.specs.Values.{wire_of}
 use Rattle.mdr_meaning.specs.Walk.{Accesses}
-use Rattle.mdr_events.specs.Held.{Enters, Fills, Held}
+use Rattle.mdr_events.specs.Held.{Enters, Fills, WaitsParams, Held}
 use Rattle.mdr_events.specs.Outcomes.{when_made}
 use Rattle.mdr_events.specs.Steps.{holds, Goes, Asks, came_by, Steps}
 use Rattle.mdr_events.specs.Values.{wires_of}
@@ -178,12 +178,13 @@ module _ (program : Program) (m : Machine) where
         (subst (λ xs. Steps a side (holds Enters (here_in program m) locals_here behind_here (held_of program m).items) memory (entering_came side.asks (in_here (here_in program m) 0) xs)
         (holds (entering_front a side.asks xs (object_params 0 (here_in program m).slots) memory) (here_in program m) locals_here behind_here (held_of program m).items) (entering_memory a side.asks xs memory)) (sym is) law))
 
-    pub params_asked : (shapes : List Shape64) (room : Vec Value Heap) (e : Outcome) → came_with e ≡ Asks (asked_for 13 (record { func = m.top.func; stmt = 0 }) [] shapes []) → side.asks ≡ true → SlotsHere side shapes → (shapes ≡ [] → ⊥)
+    pub params_asked : (shapes : List Shape64) (room : Vec Value Heap) (e : Outcome) → came_with e ≡ Asks (asked_for 13 (record { func = m.top.func; stmt = 0 }) [] shapes []) → length room.items ≡ length shapes → side.asks ≡ true → SlotsHere side shapes → (shapes ≡ [] → ⊥)
         → Steps a side (held_of program m) memory (came_with e) (held_of program (fronted (front.WaitsParams room))) memory
     unfolding held_of here_of
-    params_asked [] room e told asks is some = absurd (some refl)
-    params_asked (s ∷ shapes) room e told asks is some =
-        subst (λ x. Steps a side (held_of program m) memory x (held_of program (fronted (front.WaitsParams room))) memory) (sym told) (begun (s ∷ shapes) true is asks)
+    params_asked [] room e told as_many asks is some = absurd (some refl)
+    params_asked (s ∷ shapes) room e told as_many asks is some =
+        subst (λ x. Steps a side (held_of program m) memory x (held_of program (fronted (front.WaitsParams room))) memory) (sym told)
+        (subst (λ k. Steps a side (held_of program m) memory (Asks (asked_for 13 (record { func = m.top.func; stmt = 0 }) [] (s ∷ shapes) [])) (holds (WaitsParams k) (here_in program m) locals_here behind_here (held_of program m).items) memory) (sym as_many) (begun (s ∷ shapes) true is asks))
 
     pub params_born : (shapes : List Shape64) (pointers : List Value) (memory' : M) → wires_of pointers ≡ (a.birth memory shapes).pointers → memory' ≡ (a.birth memory shapes).memory → side.asks ≡ false → SlotsHere side shapes
         → (shapes ≡ [] → ⊥) → Steps a side (held_of program m) memory Goes (held_of program (fronted (front.Fills pointers))) memory'
@@ -288,4 +289,4 @@ module _ {M : Type 0} (a : Accesses M) (program : Program) (m : Machine) (memory
   pub params_stopped : (kind : StopKind) (e : Outcome) (held : Held) → e ≡ outcome.Stop kind (record { func = m.top.func; stmt = 0 }) → r ≡ Err kind → Steps a side (filling program m pointers) memory (came_with e) held memory'
   unfolding here_of
   params_stopped kind e held told err =
-      subst (λ x. Steps a side (filling program m pointers) memory (came_with x) held memory') (sym told) (record { by = λ f n t less. (fills_law (Err kind) err).by f n t less })
+      subst (λ x. Steps a side (filling program m pointers) memory (came_with x) held memory') (sym told) (record { by = λ f n t less. (fills_law (Err kind) err).by f n t less; leaves = λ r. tt })

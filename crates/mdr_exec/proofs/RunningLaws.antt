@@ -13,7 +13,8 @@ use Rattle.mdr_meaning.specs.Walk.{Accesses, walk}
 use Rattle.mdr_meaning.proofs.AlikeLaws.{started_alike}
 use Rattle.mdr_meaning.proofs.CutLaws.{cut_alike, cut_cut}
 use Rattle.mdr_events.specs.Held.{Frame, Front, Runs, Unwinds, Comes, Enters, Fills, Born, WaitsValue, WaitsParams, WaitsObject, WaitsDeath, Item, Held, carry, bare, tree}
-use Rattle.mdr_events.specs.Running.{FunctionsAreStarted, QuestionsAreAnswered, StatementsWantTicks, RunsTo, RunsAreMade, answered, is_waiting, started_over}
+use Rattle.mdr_events.specs.Running.{FunctionsAreStarted, QuestionsAreAnswered, StatementsWantTicks, RunsTo, RunsAreMade, answered, started_over}
+use Rattle.mdr_events.specs.Ready.{is_waiting}
 use Rattle.mdr_events.specs.Steps.{child, Came, Goes, IsSame, Steps, Ticks}
 
 -- ---- started
@@ -37,7 +38,7 @@ answer_is : (side : Side) (frame : Frame) (items : List Item) (results : List Wi
     → tree side f (record { frame = frame; front = answered front frame.here results; items = items }) r ≡ child (tree side f (record { frame = frame; front = front; items = items }) r) results
 unfolding tree bare cut
 answer_is side frame items results (WaitsValue n goal) h f r = refl
-answer_is side frame items results WaitsParams h f r = refl
+answer_is side frame items results (WaitsParams count) h f r = refl
 answer_is side frame items results (WaitsObject i) h f r = refl
 answer_is side frame items results (WaitsDeath flow) h f r = refl
 answer_is side frame items results Runs h f r = absurd (cc h)
@@ -76,13 +77,14 @@ module _ {M : Type 0} (a : Accesses M) (side : Side) (h : Held) (m : M) (ticks :
   further h1 h2 m1 m2 left left2 came p q = record {
     fewer = let x : left ≤ ticks = p.fewer in let y : left2 ≤ left = q.fewer in omega (arith, x, y);
     by = λ f n r less. let x : left ≤ ticks = p.fewer in let enough : left + r ≤ f = omega (arith, x, less) in p.by f n r less ∙ q.by f n r enough;
+    leaves = λ r. q.leaves (p.leaves r);
   }
 
   by_same : (h1 h2 : Held) (m1 : M) (left : ℕ) → IsSame side h1 h2 → RunsTo a side h1 m1 left Goes h2 m1 left
-  by_same h1 h2 m1 left s = record { fewer = le_refl left; by = λ f n r less. ap (λ t. walk a (left + n) t m1) (s.by f (left + r)) }
+  by_same h1 h2 m1 left s = record { fewer = le_refl left; by = λ f n r less. ap (λ t. walk a (left + n) t m1) (s.by f (left + r)); leaves = s.ready }
 
   by_step : (h1 h2 : Held) (m1 m2 : M) (left : ℕ) (came : Came) → Steps a side h1 m1 came h2 m2 → RunsTo a side h1 m1 left came h2 m2 left
-  by_step h1 h2 m1 m2 left came s = record { fewer = le_refl left; by = λ f n r less. s.by f (left + n) (left + r) less }
+  by_step h1 h2 m1 m2 left came s = record { fewer = le_refl left; by = λ f n r less. s.by f (left + n) (left + r) less; leaves = s.leaves }
 
   by_tick : (h1 h2 : Held) (m1 m2 : M) (left : ℕ) (came : Came) → Ticks a side h1 m1 came h2 m2 → RunsTo a side h1 m1 (suc left) came h2 m2 left
   by_tick h1 h2 m1 m2 left came s = record {
@@ -92,11 +94,12 @@ module _ {M : Type 0} (a : Accesses M) (side : Side) (h : Held) (m : M) (ticks :
         let two : suc left + r ≡ suc (left + r) = omega arith in
         let enough : suc (left + r) ≤ f = omega (arith, less) in
         ap (λ x. walk a x (tree side f h1 (suc left + r)) m1) one ∙ ap (λ x. walk a (suc (left + n)) (tree side f h1 x) m1) two ∙ s.by f (left + n) (left + r) enough;
+    leaves = s.leaves;
   }
 
   pub runs_are_made : RunsAreMade a side h m ticks
   runs_are_made = record {
-    begins = record { fewer = le_refl ticks; by = λ f n r less. refl };
+    begins = record { fewer = le_refl ticks; by = λ f n r less. refl; leaves = λ r. r };
     same = λ h1 h2 m1 left p s. further h1 h2 m1 m1 left left Goes p (by_same h1 h2 m1 left s);
     step = λ h1 h2 m1 m2 left came p s. further h1 h2 m1 m2 left left came p (by_step h1 h2 m1 m2 left came s);
     tick = λ h1 h2 m1 m2 left came p s. further h1 h2 m1 m2 (suc left) left came p (by_tick h1 h2 m1 m2 left came s);

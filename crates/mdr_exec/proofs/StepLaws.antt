@@ -18,7 +18,8 @@ use Rattle.mdr_meaning.specs.Tree.{Tree}
 use Rattle.mdr_meaning.specs.Values.{first_of, is_true}
 use Rattle.mdr_meaning.specs.Walk.{Accesses, on_access, walk}
 use Rattle.mdr_events.specs.Held.{Runs, Born, WaitsObject, Item, Held, carry, bare, tree, loop_again}
-use Rattle.mdr_events.specs.Steps.{Left, holds, holds_after, held_after, Goes, Asks, after, came_by, IsSame, Ticks}
+use Rattle.mdr_events.specs.Ready.{IsReady, is_started, is_waiting}
+use Rattle.mdr_events.specs.Steps.{Left, holds, holds_after, held_after, front_after, Goes, Asks, Leaves, after, came_by, IsSame, Ticks}
 use Rattle.mdr_exec.specs.Calling.{Calling, Entering, Crossing, Asking, called_of, calling_tree, entered}
 use Rattle.mdr_exec.specs.Effects.{Did, ended, assigned, returned_by, texts_of, Does}
 use Rattle.mdr_exec.specs.Evaluation.{value_of}
@@ -27,6 +28,17 @@ use Rattle.mdr_exec.proofs.AgainLaws.{turns_again, enters_again, cut_births, cut
 use Rattle.mdr_exec.proofs.CallingLaws.{comes_to_call}
 use Rattle.mdr_exec.proofs.EffectLaws.{does_assign, does_end, does_return, does_texts}
 use Rattle.mdr_exec.proofs.EvaluationLaws.{passes_value}
+
+-- a statement that ends leaves work that goes on
+calm_after : (flow : Flow) → is_waiting (front_after flow) ≡ false
+calm_after Ends = refl
+calm_after Breaks = refl
+calm_after Continues = refl
+calm_after (Returns v) = refl
+
+pub leaves_after : (x : Result Left StopKind) (at : At) (here : Here) (more : Codes) (items : List Item) → is_started items ≡ true → Leaves (came_by at x) (held_after x here more items)
+leaves_after (Ok left) at here more items s = record { calm = calm_after left.flow; started = s }
+leaves_after (Err kind) at here more items s = tt
 
 module _ {M : Type 0} (a : Accesses M) (side : Side) where
   -- what follows a statement
@@ -63,19 +75,26 @@ module _ {M : Type 0} (a : Accesses M) (side : Side) where
   does_ticks here l code n more items m w d is does = record {
     by = λ f q r fewer.
         ap (λ t. walk a (suc q) (cut (suc r) t) m) (is f) ∙ does.by q r (λ x. next_of f here more items x.flow x.locals) ∙ finishes (in_here here n) here more items d f q r;
+    leaves = λ r. leaves_after d.result (in_here here n) here more items r.started;
   }
 
   -- a tick, and then a value that goes on or stops
   value_ticks : (here : Here) (l : Locals) (code : Code) (n : ℕ) (more : Codes) (items : List Item) (m : M) (e : Term) (k : ℕ → Wire → Tree) (held : Result Wire StopKind → Held)
       → ((f : ℕ) → bare side f (holds Runs here l (Codes.Then code more) items) ≡ Tree.Tick (in_here here n) here.depth (value side.known (in_here here n) l.slots e (k f)))
       → ((f r : ℕ) → suc r ≤ f → (v : Wire) → cut r (k f v) ≡ tree side f (held (Ok v)) r)
+      → ((v : Wire) → is_started items ≡ true → IsReady (held (Ok v)))
       → Ticks a side (holds Runs here l (Codes.Then code more) items) m (came_by (in_here here n) (value_of a m side.known l.slots e)) (held (value_of a m side.known l.slots e)) m
   unfolding tree cut walk
-  value_ticks here l code n more items m e k held is then = record {
+  value_ticks here l code n more items m e k held is then goes = record {
     by = λ f q r fewer.
         ap (λ t. walk a (suc q) (cut (suc r) t) m) (is f) ∙ (passes_value a m (in_here here n) side.known l.slots e).by q r (k f)
         ∙ by_result f q r fewer (value_of a m side.known l.slots e);
+    leaves = λ r. left_by r.started (value_of a m side.known l.slots e);
   } where
+    left_by : is_started items ≡ true → (x : Result Wire StopKind) → Leaves (came_by (in_here here n) x) (held x)
+    left_by s (Ok v) = goes v s
+    left_by s (Err kind) = tt
+
     by_result : (f q r : ℕ) → suc r ≤ f → (x : Result Wire StopKind)
         → on_access x (in_here here n) m q (λ v. walk a q (cut r (k f v)) m) ≡ after a side f (came_by (in_here here n) x) (held x) m q r
     by_result f q r fewer (Ok v) = ap (λ t. walk a q t m) (then f r fewer v)
@@ -107,6 +126,7 @@ module _ {M : Type 0} (a : Accesses M) (side : Side) where
       by = λ f q r fewer.
           ap (λ t. walk a (suc q) (cut (suc r) (Tree.Tick (in_here here n) here.depth t)) m)
           (object_is (means side f) i (slice_get here.slots i) s false (next_of f here more items) is object h);
+      leaves = λ r. record { calm = refl; started = r.started };
     }
 
     asks : (i : ℕ) (s : Slot) → slice_get here.slots i ≡ Some s → s.object ≡ true → side.asks ≡ true
@@ -117,6 +137,7 @@ module _ {M : Type 0} (a : Accesses M) (side : Side) where
       by = λ f q r fewer.
           ap (λ t. walk a (suc q) (cut (suc r) (Tree.Tick (in_here here n) here.depth t)) m)
           (object_is (means side f) i (slice_get here.slots i) s true (next_of f here more items) is object h);
+      leaves = λ r. record { takes_them = refl; started = r.started };
     }
 
     puts_text : (i : ℕ) (bytes : List ℕ) → IsDone a side here l more items m n (Code.Text n i bytes) (texts_of a (characters (slice_get here.slots i)) (slot_of l.slots i) 0 bytes l m)
@@ -145,7 +166,7 @@ module _ {M : Type 0} (a : Accesses M) (side : Side) where
 
     enters : (body : Codes) → IsSame side (holds Runs here l (Codes.Then (Code.Block body) more) items) (holds_block here l more items body)
     unfolding bare means tree carry
-    enters body = record { by = λ f r. refl }
+    enters body = record { by = λ f r. refl; ready = λ r. record { calm = refl; started = r.started } }
 
     branch_is : (f r : ℕ) (one other : Codes) (b : Bool)
         → cut r (in_block side here (chosen b (stmts side (means side f) here one) (stmts side (means side f) here other)) l (next_of f here more items))
@@ -160,7 +181,7 @@ module _ {M : Type 0} (a : Accesses M) (side : Side) where
     branches e one other =
         value_ticks here l (Code.If n e one other) n more items m e
         (λ f v. in_block side here (chosen (is_true v) (stmts side (means side f) here one) (stmts side (means side f) here other)) l (next_of f here more items))
-        (branched here l more items one other) (λ f. refl) (λ f r fewer v. branch_is f r one other (is_true v))
+        (branched here l more items one other) (λ f. refl) (λ f r fewer v. branch_is f r one other (is_true v)) (λ v s. record { calm = refl; started = s })
 
     turn_is : (f r : ℕ) → suc r ≤ f → (e : Term) (step body : Codes) (b : Bool)
         → cut r (chosen b (turn side (means side f) here (means side f here (loop_again n e step body)) (stmts side (means side f) here step) (stmts side (means side f) here body)) leaves l (next_of f here more items))
@@ -169,13 +190,17 @@ module _ {M : Type 0} (a : Accesses M) (side : Side) where
     turn_is f r fewer e step body true = turns_again side f here n e step body (next_of f here more items) r fewer (record { slots = l.slots; born = [] }) l.born
     turn_is f r fewer e step body false = refl
 
+    turn_ready : (n : ℕ) (e : Term) (step body : Codes) (b : Bool) → is_started items ≡ true → IsReady (chosen b (holds_turn here l more items n e step body) (holds Runs here l more items))
+    turn_ready n e step body true s = record { calm = refl; started = s }
+    turn_ready n e step body false s = record { calm = refl; started = s }
+
     turns : (e : Term) (step body : Codes)
         → Ticks a side (holds Runs here l (Codes.Then (Code.Loop n e step body) more) items) m (came_by (in_here here n) (value_of a m side.known l.slots e)) (turned here l more items n e step body (value_of a m side.known l.slots e)) m
     unfolding bare means
     turns e step body =
         value_ticks here l (Code.Loop n e step body) n more items m e
         (λ f v. chosen (is_true v) (turn side (means side f) here (means side f here (loop_again n e step body)) (stmts side (means side f) here step) (stmts side (means side f) here body)) leaves l (next_of f here more items))
-        (turned here l more items n e step body) (λ f. refl) (λ f r fewer v. turn_is f r fewer e step body (is_true v))
+        (turned here l more items n e step body) (λ f. refl) (λ f r fewer v. turn_is f r fewer e step body (is_true v)) (λ v. turn_ready n e step body (is_true v))
 
     -- what the statement that called goes on with
     abbrev kept : ℕ → Goal → Wire → Tree
@@ -195,6 +220,12 @@ module _ {M : Type 0} (a : Accesses M) (side : Side) where
     call_is goal f q r fewer (Ok (Asking asked)) = refl
     call_is goal f q r fewer (Err kind) = refl
 
+    call_leaves : (goal : Goal) (x : Result Calling StopKind) → is_started items ≡ true → Leaves (call_came here (in_here here n) x) (calling here l more items n goal x)
+    call_leaves goal (Ok (Entering g vs body)) s = record { calm = refl; started = s }
+    call_leaves goal (Ok (Crossing g vs)) s = record { takes_them = refl; started = s }
+    call_leaves goal (Ok (Asking asked)) s = record { takes_them = refl; started = s }
+    call_leaves goal (Err kind) s = tt
+
     calls : (goal : Goal) (form : CallOf)
         → Ticks a side (holds Runs here l (Codes.Then (Code.Call n goal form) more) items) m
         (call_came here (in_here here n) (called_of a side here m (in_here here n) form l.slots form.callee))
@@ -204,6 +235,7 @@ module _ {M : Type 0} (a : Accesses M) (side : Side) where
       by = λ f q r fewer.
           (comes_to_call a side (means side f) here m (in_here here n) l.slots form form.callee).by q r (kept f goal)
           ∙ call_is goal f q r fewer (called_of a side here m (in_here here n) form l.slots form.callee);
+      leaves = λ r. call_leaves goal (called_of a side here m (in_here here n) form l.slots form.callee) r.started;
     }
 
     pub statements_step : StatementsStep a side here l more items m n

@@ -115,10 +115,10 @@ module _ {M : Type 0} (a : Accesses M) (program : Program) (m : Machine) (memory
       let made : put_of a (known_of program) p v locals_in memory ≡ did (Err kind) memory' =
       put (wires_of m.top.born) ∙ ap (λ x. did (when_made x (with_slots slots (wires_of m.top.born))) memory') err in
       let done : assigned a side.known p e locals_in memory ≡ did (Err kind) memory' = valued_so side e (Ok v) value_is known ∙ ap (λ d. after_did d (ended Ends)) made in
-      record { by = λ f k q less. (assigned_so side n e (did (Err kind) memory') done at).by f k q less }
+      record { by = λ f k q less. (assigned_so side n e (did (Err kind) memory') done at).by f k q less; leaves = λ r. tt }
 
   pub value_stops : (kind : StopKind) (held : Held)
       → (side : Side) (n : ℕ) (e : Term) → Err kind ≡ value_of a memory (known_of program) (wires_of m.top.slots) e → side.known ≡ known_of program → code_at (block_of program m.top) m.top.next ≡ Some (Code.Assign n p e)
       → Ticks a side (held_of program m) memory (Stopped kind (in_here (here_in program m) n)) held memory
   value_stops kind held side n e value_is known at =
-      record { by = λ f k q less. (assigned_so side n e (did (Err kind) memory) (valued_so side e (Err kind) value_is known) at).by f k q less }
+      record { by = λ f k q less. (assigned_so side n e (did (Err kind) memory) (valued_so side e (Err kind) value_is known) at).by f k q less; leaves = λ r. tt }

@@ -87,7 +87,7 @@ dies_inside program m flow p h =
 
 -- a step that takes none
 pub same_steps : {M : Type 0} (a : Accesses M) (memory : M) (side : Side) (h h' : Held) → IsSame side h h' → Steps a side h memory Goes h' memory
-same_steps a memory side h h' s = record { by = λ f n r fewer. ap (λ t. walk a n t memory) (s.by f r) }
+same_steps a memory side h h' s = record { by = λ f n r fewer. ap (λ t. walk a n t memory) (s.by f r); leaves = s.ready }
 
 pub list_steps : {M : Type 0} (a : Accesses M) (memory : M) (program : Program) (m : Machine) (flow : Leaving) (p : Position) (held : Held) → m.front ≡ front.Unwinds flow
     → ((side : Side) → IsSame side (leaves_list program m (flow_as flow) p) held) → (side : Side) → Steps a side (held_of program (inside m p)) memory Goes held memory
@@ -132,7 +132,7 @@ function_dies_at m flow outside started program = rw outside (end_dies program f
 
 pub finish_steps : {M : Type 0} (a : Accesses M) (memory : M) (side : Side) (h h' : Held) (v : Wire) → Finishes side h v h' → Steps a side h memory (Ended v) h' memory
 unfolding walk
-finish_steps a memory side h h' v s = record { by = λ f n r fewer. ap (λ t. walk a n t memory) (s.by f r) }
+finish_steps a memory side h h' v s = record { by = λ f n r fewer. ap (λ t. walk a n t memory) (s.by f r); leaves = λ r. tt }
 
 module _ {M : Type 0} (a : Accesses M) (program : Program) (m : Machine) (path : List Position) (memory memory' : M) (r : Left) (held : Held) where
   pub put_back : (p : Position) → m.top.path ≡ path ++ p ∷ []

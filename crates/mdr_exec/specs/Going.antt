@@ -1,9 +1,8 @@
 -- protocol
 -- What a step comes to, and what a run does.
-use Rattle.std.specs.Prelude.{ℕ, Bool, true, ◌==◌, length, Option, Some, None}
+use Rattle.std.specs.Prelude.{ℕ, Option, Some, None}
 use Rattle.mdr_meaning.specs.Sides.{Side}
 use Rattle.mdr_meaning.specs.Walk.{Accesses}
-use Rattle.mdr_events.specs.declared.event.Asked.{Asked as Question}
 use Rattle.mdr_events.specs.declared.event.Event.{Event}
 use Rattle.mdr_events.specs.declared.event.Event.TheVariants as event
 use Rattle.mdr_events.specs.Held.{Held}
@@ -11,14 +10,11 @@ use Rattle.mdr_events.specs.Running.{RunsTo, WantsTick}
 use Rattle.mdr_events.specs.Steps.{Goes}
 use Rattle.mdr_exec.specs.declared.event.Outcome.{Outcome}
 use Rattle.mdr_exec.specs.declared.event.Outcome.TheVariants as outcome
-use Rattle.mdr_exec.specs.declared.frame.Front.{Front as Before}
-use Rattle.mdr_exec.specs.declared.frame.Front.TheVariants as front
 use Rattle.mdr_exec.specs.declared.go.Ran.{Ran}
 use Rattle.mdr_exec.specs.declared.go.Ran.TheVariants as ran
 use Rattle.mdr_exec.specs.declared.turn.Stepped.{Stepped}
 use Rattle.mdr_exec.specs.declared.turn.Stepped.TheVariants as stepped
 use Rattle.mdr_exec.specs.Events.{came_with}
-use Rattle.mdr_exec.specs.Holding.{waits}
 
 -- ---- steps
 
@@ -44,15 +40,3 @@ ran_as (outcome.Done v) = event.Done v
 ran_as (outcome.Cross c) = event.Cross c
 ran_as (outcome.Service q) = event.Service q
 ran_as (outcome.Stop kind at) = event.Stop kind at
-
--- ---- questions
-
--- a machine waits for the answers, with room for a pointer to each object
-abbrev pub has_room : Question → Before → Bool
-has_room q (front.WaitsParams room) = length room.items == length q.shapes
-has_room q b = waits b
-
-abbrev pub is_open : Event → Before → Bool
-is_open (event.Cross c) b = waits b
-is_open (event.Service q) b = has_room q b
-is_open e b = true

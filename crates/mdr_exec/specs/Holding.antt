@@ -14,6 +14,7 @@ use Rattle.mdr_meaning.specs.Sides as sides
 use Rattle.mdr_meaning.specs.Sides.{Here, Locals}
 use Rattle.mdr_meaning.specs.Values.{wire_of}
 use Rattle.mdr_events.specs.Held.{Frame, Front, Runs, Unwinds, Comes, Enters, Fills, Born, WaitsValue, WaitsParams, WaitsObject, WaitsDeath, Item, Rest, Scope, Around, Caller, Base, Held, loop_again}
+use Rattle.mdr_events.specs.Ready.{is_started}
 use Rattle.mdr_events.specs.Running.{number_of}
 use Rattle.mdr_events.specs.Values.{wires_of}
 use Rattle.mdr_exec.specs.declared.frame.Flow.{Flow as Ended}
@@ -100,7 +101,7 @@ module _ (program : Program) where
   front_in f (front.Fills ps) = Fills (object_params 0 (slots_by (slice_get program.funcs f.func))) (wires_of ps)
   front_in f (front.Born i p) = Born i (wire_of p)
   front_in f front.WaitsValue = WaitsValue (number_at (code_of_frame f)) (goal_at (code_of_frame f))
-  front_in f (front.WaitsParams room) = WaitsParams
+  front_in f (front.WaitsParams room) = WaitsParams (length room.items)
   front_in f (front.WaitsObject i) = WaitsObject i
   front_in f (front.WaitsDeath flow) = WaitsDeath (flow_as flow)
 
@@ -133,6 +134,12 @@ waits _ = false
 abbrev pub FitQuestion : Before → List Value → Type 0
 FitQuestion (front.WaitsParams room) results = length results ≡ length room.items
 FitQuestion _ results = Unit {0}
+
+-- a machine in which a function was started waits for such answers
+pub record Takes (program : Program) (m : Machine) (results : List Value) : Type 0 where
+  pub waiting : waits m.front ≡ true
+  pub fit : FitQuestion m.front results
+  pub started : is_started (held_of program m).items ≡ true
 
 -- ---- a list of the statement that comes next is entered
 

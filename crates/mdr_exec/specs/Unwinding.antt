@@ -1,6 +1,6 @@
 -- protocol
 -- How held work goes on where no statement runs: blocks, loops and functions are left, and what comes before the statements is done.
-use Rattle.std.specs.Prelude.{◌≡◌, ℕ, Bool, true, false, List, [], ◌∷◌, ◌++◌, Result, Ok, Err}
+use Rattle.std.specs.Prelude.{◌≡◌, ℕ, Bool, true, false, List, [], ◌∷◌, ◌++◌, length, Result, Ok, Err}
 use Rattle.mdr_core.specs.declared.place.At.{At}
 use Rattle.mdr_core.specs.declared.stop.StopKind.{StopKind}
 use Rattle.mdr_core.specs.Code.{Term, Goal, Codes}
@@ -50,7 +50,7 @@ entering_came true at (s ∷ shapes) = Asks (asked_for 13 at [] (s ∷ shapes) [
 abbrev pub entering_front : {M : Type 0} → Accesses M → (asks : Bool) → List Shape64 → (params : List ℕ) → M → Front
 entering_front a asks [] params m = Fills params []
 entering_front a false (s ∷ shapes) params m = Fills params (a.birth m (s ∷ shapes)).pointers
-entering_front a true (s ∷ shapes) params m = WaitsParams
+entering_front a true (s ∷ shapes) params m = WaitsParams (length (s ∷ shapes))
 
 abbrev pub entering_memory : {M : Type 0} → Accesses M → (asks : Bool) → List Shape64 → M → M
 entering_memory a asks [] m = m

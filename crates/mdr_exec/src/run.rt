@@ -8,6 +8,7 @@ ghost use Rattle.mdr_meaning.specs.Sides.{Body, Side as AnySide, framed};
 ghost use Rattle.mdr_meaning.specs.Tree.{Tree};
 ghost use Rattle.mdr_meaning.specs.Values.{wire_of};
 ghost use Rattle.mdr_events.specs.Held.{tree};
+ghost use Rattle.mdr_events.specs.Ready.{IsReady, is_started};
 ghost use Rattle.mdr_events.specs.Running.{answered};
 ghost use Rattle.mdr_events.specs.Steps.{child};
 ghost use Rattle.mdr_events.specs.Values.{wires_of};
@@ -85,7 +86,8 @@ impl Machine {
     pub fn resume(&mut self, results: &[Value])
         requires waiting { waits self.old.front ≡ true }
         requires fit { FitQuestion self.old.front results.now }
-        ensures { (program : AnyProgram) (side : AnySide) (f r : ℕ) → tree side f (held_of program self.new) r ≡ child (tree side f (held_of program self.old) r) (wires_of results.now) }
+        ensures goes_on { (program : AnyProgram) (side : AnySide) (f r : ℕ) → tree side f (held_of program self.new) r ≡ child (tree side f (held_of program self.old) r) (wires_of results.now) }
+        ensures ready { (program : AnyProgram) → is_started (held_of program self.old).items ≡ true → IsReady (held_of program self.new) }
     {
         let front = mem::replace(&mut self.front, Front::Runs);
         self.front = answered(front, results);
@@ -103,7 +105,8 @@ impl Machine {
     ) -> Result<(), AllocError>
         requires body { (body : Body) × (body_of program.now func ≡ Some body) }
         requires depth { depth < 4294967295 }
-        ensures { OnOk result ((side : AnySide) → side.own func ≡ body_of program.now func → (f r : ℕ) → r ≤ f → tree side f (held_of program.now self.new) r ≡ cut r (started side (f + 1) func (wires_of args.now) depth (tree side f (held_of program.now self.old) r))) }
+        ensures begins { OnOk result ((side : AnySide) → side.own func ≡ body_of program.now func → (f r : ℕ) → r ≤ f → tree side f (held_of program.now self.new) r ≡ cut r (started side (f + 1) func (wires_of args.now) depth (tree side f (held_of program.now self.old) r))) }
+        ensures ready { OnOk result (IsReady (held_of program.now self.new)) }
     {
         let slots = slots_of(alloc, program, func, args)?;
         let top = Frame {

@@ -8,6 +8,7 @@ ghost use Rattle.mdr_exec.specs.declared.frame.Front.TheVariants as front;
 ghost use Rattle.mdr_meaning.specs.Bodies.{known_of};
 ghost use Rattle.mdr_meaning.specs.Lives.{asked_for};
 ghost use Rattle.mdr_meaning.specs.Sides.{Side as AnySide};
+ghost use Rattle.mdr_events.specs.Ready.{IsReady};
 ghost use Rattle.mdr_events.specs.Running.{is_block};
 ghost use Rattle.mdr_events.specs.Steps.{Asks};
 ghost use Rattle.mdr_events.specs.Values.{wires_of};
@@ -31,7 +32,7 @@ use crate::places::{Standing, Turn};
 use crate::statement::{do_statement, do_turn};
 use crate::turning::run_integers;
 use crate::unwind::{Left, unwind};
-use mdr_core::{At, Half, Items, Limit, OutOfMemory, Program, Step, Stmt, Value};
+use mdr_core::{At, Half, Items, OutOfMemory, Program, Step, Stmt, Value};
 use mdr_events::{Asked, Memory};
 use std::alloc::Global;
 use std::mem;
@@ -195,12 +196,10 @@ fn step_back<C: Memory>(
     flow: Flow,
     left: u64,
 ) -> Result<Stepped, OutOfMemory>
-    requires { machine.old.front ≡ front.Unwinds flow }
+    requires unwinds { machine.old.front ≡ front.Unwinds flow }
+    requires started { machine.old.below ≡ [] → ⊥ }
     ensures { IfOk result (λ r. (side : AnySide) → side.asks ≡ asks_on machine.old.side → SteppedTo C.accesses side (held_of program.now machine.old) memory.old left r (held_of program.now machine.new) memory.new) }
 {
-    if machine.below.is_empty() {
-        return Err(Limit::Unmet.past());
-    }
     let at = At {
         func: machine.top.func,
         stmt: 0,
@@ -278,7 +277,7 @@ fn step_born<C: Memory>(
     Ok(Stepped::Goes(left))
 }
 
-/// One step: a statement with its tick, or what takes none. Where a question is open there is none.
+/// One step: a statement with its tick, or what takes none.
 pub(crate) fn step<C: Memory>(
     machine: &mut Machine,
     alloc: Global,
@@ -287,7 +286,8 @@ pub(crate) fn step<C: Memory>(
     memory: &mut C,
     left: u64,
 ) -> Result<Stepped, OutOfMemory>
-    requires { IsSound program.now }
+    requires program { IsSound program.now }
+    requires ready { IsReady (held_of program.now machine.old) }
     ensures { IfOk result (λ r. SteppedTo C.accesses (side_in machine.old.side halves.now program.now) (held_of program.now machine.old) memory.old left r (held_of program.now machine.new) memory.new) }
 {
     match &machine.front {
@@ -319,7 +319,9 @@ pub(crate) fn step<C: Memory>(
             let stepped = step_born(machine, memory, slot, pointer, left)?;
             Ok(stepped)
         }
-        Front::WaitsValue | Front::WaitsParams(_) | Front::WaitsObject(_) | Front::WaitsDeath(_) =>
-            Err(Limit::Unmet.past()),
+        Front::WaitsValue => unreachable!(),
+        Front::WaitsParams(_) => unreachable!(),
+        Front::WaitsObject(_) => unreachable!(),
+        Front::WaitsDeath(_) => unreachable!(),
     }
 }

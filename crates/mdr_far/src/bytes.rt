@@ -8,7 +8,7 @@ ghost use Rattle.mdr_model.specs.Text.{text};
 ghost use Rattle.mdr_msg.specs.WellFormed.{IsMessage};
 ghost use Rattle.mdr_over_bytes.specs.OverBytes.{IsHonestReply};
 ghost use Rattle.mdr_split.specs.User.{user_reply};
-ghost use Rattle.mdr_user_code.specs.Standing.{Follows, IsFit};
+ghost use Rattle.mdr_user_code.specs.Standing.{Follows, IsFit, Opens};
 ghost use Rattle.mdr_watched.specs.Driver.{driver_of};
 
 use mdr_core::{OutOfMemory, Plan, Program};
@@ -34,6 +34,7 @@ fn told(
 ) -> Result<Message, OutOfMemory>
     requires sound { IsSound program.now }
     requires fit { IsFit plan.now program.now }
+    requires opens { Opens (driver_of program.now plan.now) state.old }
     ensures reply { IfOk result (λ r. (before : List Reading) → Follows (driver_of program.now plan.now) before state.old → r ≡ user_reply (driver_of program.now plan.now) before reading) }
     ensures follows { OnOk result ((before : List Reading) → Follows (driver_of program.now plan.now) before state.old → Follows (driver_of program.now plan.now) (before ++ reading ∷ []) state.new) }
 {
@@ -60,6 +61,7 @@ pub(crate) fn reply_to(
 ) -> Result<Vec<u8>, OutOfMemory>
     requires sound { IsSound program.now }
     requires fit { IsFit plan.now program.now }
+    requires opens { Opens (driver_of program.now plan.now) state.old }
     ensures reply { IfOk result (λ r. (before : List (List ℕ)) → Follows (driver_of program.now plan.now) (readings before) state.old → IsHonestReply (driver_of program.now plan.now) before bytes.now r.items) }
     ensures follows { OnOk result ((before : List (List ℕ)) → Follows (driver_of program.now plan.now) (readings before) state.old → Follows (driver_of program.now plan.now) (readings (before ++ bytes.now ∷ [])) state.new) }
 {

@@ -16,7 +16,7 @@ use crate::bytes::reply_to;
 use crate::load_error::LoadError;
 use crate::release::{given_up, put};
 use crate::source::source;
-use mdr_core::{Items, Limit, OutOfMemory, Plan, Program};
+use mdr_core::{Items, OutOfMemory, Plan, Program};
 use mdr_half_source::HalfSource;
 use mdr_outside::Exchange;
 use mdr_user_code::{State, begins};
@@ -121,7 +121,7 @@ impl UserHalf {
         ensures held { IfOk result (λ reply. self.old.is_lost ≡ false) }
     {
         let Some(mut state) = self.state.take() else {
-            return Err(Limit::Unmet.past());
+            return Err(OutOfMemory::unmet());
         };
         let reply = reply_to(alloc, &self.program, &self.plan, &mut state, bytes);
         match recorded(alloc, &mut self.exchanges, bytes, reply) {

@@ -1,10 +1,10 @@
 // Types that are made of others (C99 6.7.5), and copies of types and names.
 
-ghost use Rattle.std.specs.Prelude.{◌≡◌, IfOk};
+ghost use Rattle.std.specs.Prelude.{◌≡◌, ◌<◌, IfOk, MatchResult};
 ghost use Rattle.mdr_core.specs.Types.{is_scalar};
 ghost use Rattle.mdr_faults.specs.Declarations.{pointer_to, starred, is_void};
 
-use mdr_core::{Boxed, Items, Limit, Name, OutOfMemory, Ty};
+use mdr_core::{Boxed, Items, Limit, Name, OutOfMemory, Ty, within};
 use std::alloc::{AllocError, Global};
 
 /// The same bytes once more.
@@ -88,10 +88,8 @@ pub fn is_void(ty: &Ty) -> bool
 
 /// A number of 32 bits. A source with more of anything is too large to be held.
 pub fn small(n: usize) -> Result<u32, OutOfMemory>
-    ensures { IfOk result (λ m. m ≡ n) }
+    ensures { MatchResult result (λ m. m ≡ n) (λ e. 4294967295 < n) }
 {
-    match u32::try_from(n) {
-        Ok(n) => Ok(n),
-        Err(_) => Err(Limit::Parts.past()),
-    }
+    within(n as u64, Limit::Fields)?;
+    Ok(n as u32)
 }

@@ -15,23 +15,25 @@ use crate::arguments::fault;
 use crate::places::Places;
 use crate::values::fits;
 use crate::views::is_view;
-use mdr_copy::{Extent, born_at, cell_type, extent_of, follows_maybe, is_in_at, is_live};
+use mdr_copy::{
+    CellList, Extent, RisingBlocks, born_at, cell_type, extent_of, follows_maybe, is_live,
+};
 use mdr_core::{Program, RefuseKind};
-use mdr_model::{Cell, Fault, MemoryBlock, New, Run, Wire};
+use mdr_model::{Fault, New, Run, Wire};
 
 /// Whether cells that follow one another lie in a set.
-fn lies_in(view: &[Cell], serial: u64, first: u32, values: &[Wire]) -> bool
+fn lies_in(view: &CellList, serial: u64, first: u32, values: &[Wire]) -> bool
     ensures { result ≡ list_all (λ x. is_in view.now x.cell) (numbered serial first values.now) }
 {
     for (i, _) in values.iter().enumerate() {
-        if !is_in_at(view, serial, first as usize + i) {
+        if !view.has(serial, first as usize + i) {
             return false;
         }
     }
     true
 }
 
-fn is_known(paired: &[MemoryBlock], value: Wire) -> bool
+fn is_known(paired: &RisingBlocks, value: Wire) -> bool
     ensures { result ≡ is_known paired.now value }
 {
     match value {
@@ -41,13 +43,13 @@ fn is_known(paired: &[MemoryBlock], value: Wire) -> bool
     }
 }
 
-fn are_known(paired: &[MemoryBlock], values: &[Wire]) -> bool
+fn are_known(paired: &RisingBlocks, values: &[Wire]) -> bool
     ensures { result ≡ list_all (is_known paired.now) values.now }
 {
     values.iter().all(|v| is_known(paired, *v))
 }
 
-fn are_views(program: &Program, memory: &[MemoryBlock], values: &[Wire]) -> bool
+fn are_views(program: &Program, memory: &RisingBlocks, values: &[Wire]) -> bool
     requires { IsSound program.now }
     ensures { result ≡ list_all (is_view program.now memory.now) values.now }
 {
@@ -106,7 +108,7 @@ fn fit_cells(places: Places, run: &Run) -> bool
 #[tactic(auto, unfolding(mdr_split::specs::Legal::run_fault))]
 fn run_fault(
     places: Places,
-    view: &[Cell],
+    view: &CellList,
     before: Option<Extent>,
     number: u64,
     run: &Run,
@@ -132,7 +134,7 @@ fn run_fault(
 
 /// The first fault of the runs of a message: they rise without overlap, lie in the visible cells, their pointers are views
 /// of known blocks, and their values fit the cells.
-pub fn runs_fault(places: Places, view: &[Cell], runs: &[Run]) -> Option<Fault>
+pub fn runs_fault(places: Places, view: &CellList, runs: &[Run]) -> Option<Fault>
     requires { IsSound places.program.now }
     ensures { result ≡ runs_fault (places_of places.entry) view.now None 0 runs.now }
 {

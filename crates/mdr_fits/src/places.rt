@@ -1,7 +1,7 @@
 // What values are judged by.
 
+use mdr_copy::RisingBlocks;
 use mdr_core::Program;
-use mdr_model::MemoryBlock;
 
 /// The functions whose addresses may be passed.
 #[derive(Clone, Copy)]
@@ -18,6 +18,6 @@ pub enum Passes<'a> {
 pub struct Places<'a> {
     pub program: &'a Program,
     pub passes: Passes<'a>,
-    pub paired: &'a [MemoryBlock],
-    pub memory: &'a [MemoryBlock],
+    pub paired: &'a RisingBlocks,
+    pub memory: &'a RisingBlocks,
 }

@@ -5,9 +5,9 @@ ghost use Rattle.mdr_core.specs.Sound.{IsSound};
 ghost use Rattle.mdr_meaning.specs.Fit.{view_of};
 ghost use Rattle.mdr_split.specs.Fits.{is_view, is_view_of, is_view_of_maybe};
 
-use mdr_copy::born_at;
+use mdr_copy::{RisingBlocks, born_at};
 use mdr_core::{Block, Program, Shape, View, view_ok};
-use mdr_model::{MemoryBlock, New, Wire, WireView};
+use mdr_model::{New, Wire, WireView};
 
 fn view_of(view: WireView) -> View
     ensures { result ≡ view_of view }
@@ -56,7 +56,7 @@ pub(crate) fn is_view_by(program: &Program, block: Option<New>, view: WireView) 
 }
 
 /// Whether a value, where it is a pointer, is a view of its block as that was born. The time is that of `view_ok`.
-pub fn is_view(program: &Program, memory: &[MemoryBlock], value: Wire) -> bool
+pub fn is_view(program: &Program, memory: &RisingBlocks, value: Wire) -> bool
     requires { IsSound program.now }
     ensures { result ≡ is_view program.now memory.now value }
 {

@@ -11,7 +11,7 @@ ghost use Rattle.mdr_generated.specs.Generates.{GeneratesOver, GeneratesOverPart
 use crate::answering::told;
 use crate::recipe::Recipe;
 use mdr_bound::Bound;
-use mdr_core::{Limit, OutOfMemory};
+use mdr_core::OutOfMemory;
 use mdr_due::{Due, Stage};
 use mdr_gen::generate;
 use mdr_outside::{Far, FarSeen};
@@ -60,7 +60,7 @@ fn ran_over<F: Far>(
         Ok(Stage::Goes(script)) => script,
         Ok(Stage::Ends(due)) => {
             drop(due);
-            return Err(Limit::Unmet.past());
+            return Err(OutOfMemory::unmet());
         }
         Err(error) => return Err(error),
     };
@@ -86,7 +86,7 @@ fn ran_of<F: Far>(
         Ok(Stage::Goes(source)) => source,
         Ok(Stage::Ends(due)) => {
             drop(due);
-            return Err(Limit::Unmet.past());
+            return Err(OutOfMemory::unmet());
         }
         Err(error) => return Err(error),
     };

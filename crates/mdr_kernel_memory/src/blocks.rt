@@ -3,8 +3,8 @@
 ghost use Rattle.std.specs.Prelude.{◌≡◌, IfOk, Some, map, option_map, slice_get};
 ghost use Rattle.mdr_mem.specs.Contents.{current, wire_in};
 
-use mdr_copy::wire_of;
-use mdr_core::{Items, Limit, OutOfMemory, Value};
+use mdr_copy::{RisingBlocks, wire_of};
+use mdr_core::{Items, OutOfMemory, Value};
 use mdr_mem::{Blocks, Cells};
 use mdr_model::{MemoryBlock, Wire};
 use mdr_world::World;
@@ -49,7 +49,7 @@ fn cells_at(blocks: &Blocks, alloc: Global, place: usize) -> Result<Items<Wire>,
 {
     match blocks.cells_at(place) {
         Some(cells) => wires_now(blocks, alloc, cells),
-        None => Err(Limit::Unmet.past()),
+        None => Err(OutOfMemory::unmet()),
     }
 }
 
@@ -61,26 +61,35 @@ fn block_at(blocks: &Blocks, alloc: Global, place: usize) -> Result<MemoryBlock,
             let cells = cells_at(blocks, alloc, place)?;
             Ok(MemoryBlock { born, cells })
         }
-        None => Err(Limit::Unmet.past()),
+        None => Err(OutOfMemory::unmet()),
     }
 }
 
-fn all_blocks(blocks: &Blocks, alloc: Global) -> Result<Items<MemoryBlock>, OutOfMemory>
-    ensures { IfOk result (λ m. m ≡ blocks.now.memory) }
+fn all_blocks(blocks: &Blocks, alloc: Global) -> Result<Vec<MemoryBlock>, OutOfMemory>
+    ensures { IfOk result (λ m. m.items ≡ blocks.now.memory) }
 {
     let live = blocks.live() as usize;
-    let mut memory = Items::new(alloc);
+    let mut memory = Vec::new(alloc);
     for place in 0..live {
         memory.push(block_at(blocks, alloc, place)?)?;
     }
     Ok(memory)
 }
 
+/// The same in the order of their births, in which serials rise.
+fn in_order(blocks: &Blocks, alloc: Global) -> Result<RisingBlocks, OutOfMemory>
+    ensures { IfOk result (λ m. m ≡ blocks.now.memory) }
+{
+    let memory = all_blocks(blocks, alloc)?;
+    let _in_order = blocks.births();
+    Ok(RisingBlocks::of(memory))
+}
+
 /// The live blocks, with what their cells hold now, in the order of their births.
-pub fn snapshot(alloc: Global, world: &World) -> Result<Items<MemoryBlock>, OutOfMemory>
+pub fn snapshot(alloc: Global, world: &World) -> Result<RisingBlocks, OutOfMemory>
     ensures { IfOk result (λ m. m ≡ world.now.world.memory) }
 {
     let blocks = world.blocks();
-    let memory = all_blocks(blocks, alloc)?;
+    let memory = in_order(blocks, alloc)?;
     Ok(memory)
 }

@@ -7,7 +7,8 @@ ghost use Rattle.mdr_model.specs.declared.memory.Cell.{Cell};
 ghost use Rattle.mdr_watched.specs.Views.{living};
 
 use mdr_cells::{CellName, CellSet};
-use mdr_core::{Items, Limit, OutOfMemory};
+use mdr_copy::CellList;
+use mdr_core::{Items, OutOfMemory};
 use mdr_model::Cell;
 use mdr_world::World;
 use std::alloc::Global;
@@ -29,7 +30,7 @@ fn cell_named(name: CellName) -> Result<Cell, OutOfMemory>
             serial: name.serial,
             index,
         }),
-        Err(_) => Err(Limit::Unmet.past()),
+        Err(_) => Err(OutOfMemory::unmet()),
     }
 }
 
@@ -71,10 +72,10 @@ pub fn visible_cells(
     alloc: Global,
     world: &World,
     set: &CellSet,
-) -> Result<Items<Cell>, OutOfMemory>
+) -> Result<CellList, OutOfMemory>
     ensures { IfOk result (λ cs. cs ≡ living world.now.world.memory set.now) }
 {
     let names = set.names();
     let view = living_cells(alloc, world, names)?;
-    Ok(view)
+    Ok(CellList::of(view))
 }

@@ -5,16 +5,16 @@ ghost use Rattle.mdr_watched.specs.Views.{top};
 
 use crate::blocks::snapshot;
 use crate::cells::visible_cells;
-use mdr_core::{Items, OutOfMemory};
-use mdr_model::{Cell, MemoryBlock};
+use mdr_copy::{CellList, RisingBlocks};
+use mdr_core::OutOfMemory;
 use mdr_watch::Guarded;
 use std::alloc::Global;
 
 /// The live blocks of a run in which an upcall is open, and the cells that user code may touch.
 #[derive(Drop)]
 pub struct Moment {
-    pub memory: Items<MemoryBlock>,
-    pub view: Items<Cell>,
+    pub memory: RisingBlocks,
+    pub view: CellList,
 }
 
 /// The blocks and the cells as they are now.

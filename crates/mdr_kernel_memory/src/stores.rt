@@ -7,7 +7,7 @@ ghost use Rattle.mdr_model.specs.Memory.{normal, put};
 ghost use Rattle.mdr_kernel_memory.specs.Holding.{cell_in, holding, pointer_to};
 
 use crate::values::value_of;
-use mdr_core::{Block, Limit, OutOfMemory, Value, View};
+use mdr_core::{Block, OutOfMemory, Value, View};
 use mdr_events::Memory;
 use mdr_model::{Run, Wire};
 use mdr_world::World;
@@ -47,12 +47,12 @@ fn put_value(world: &mut World, serial: u64, index: u32, value: Value) -> Result
     ensures { OnOk result (world.new ≡ holding (put world.old.world.memory (cell_in serial index) (wire_of value)) world.old) }
 {
     if !is_settled(world, value) {
-        return Err(Limit::Unmet.past());
+        return Err(OutOfMemory::unmet());
     }
     let pointer = pointer_to(world, serial, index);
     match world.store(pointer, value) {
         Ok(()) => Ok(()),
-        Err(_) => Err(Limit::Unmet.past()),
+        Err(_) => Err(OutOfMemory::unmet()),
     }
 }
 
@@ -63,7 +63,7 @@ fn put_wire(world: &mut World, serial: u64, index: usize, wire: Wire) -> Result<
     let value = value_of(world, wire);
     match u32::try_from(index) {
         Ok(index) => put_value(world, serial, index, value),
-        Err(_) => Err(Limit::Unmet.past()),
+        Err(_) => Err(OutOfMemory::unmet()),
     }
 }
 

@@ -1,7 +1,7 @@
 // Where the kernel half waits.
 
+use mdr_copy::{CellList, RisingBlocks};
 use mdr_core::{Plan, Program};
-use mdr_model::{Cell, MemoryBlock};
 
 /// Where the kernel half waits for an answer, as far as an answer is judged by it: the driver and its plan, the functions
 /// whose addresses its program takes, the agreed copy, the memory, the cells that user code may touch, the function that
@@ -11,9 +11,9 @@ pub struct Standing<'a> {
     pub program: &'a Program,
     pub plan: &'a Plan,
     pub passes: &'a [u32],
-    pub agreed: &'a [MemoryBlock],
-    pub memory: &'a [MemoryBlock],
-    pub view: &'a [Cell],
+    pub agreed: &'a RisingBlocks,
+    pub memory: &'a RisingBlocks,
+    pub view: &'a CellList,
     pub func: u32,
     pub entered: &'a [u64],
     pub exchanges: u64,

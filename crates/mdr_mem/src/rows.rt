@@ -10,7 +10,7 @@ ghost use Rattle.mdr_mem.specs.RowsView.{contents_of, AreSound};
 
 use crate::cells::Life;
 use crate::search::{forget, place_of};
-use mdr_core::{Block, Items, Limit, OutOfMemory, Shape, Value};
+use mdr_core::{Block, Items, Limit, OutOfMemory, Shape, Value, below};
 use mdr_model::{BirthKind, New};
 use slab::Slab;
 use std::alloc::Global;
@@ -96,14 +96,11 @@ impl Rows {
         ensures serial { IfOk result (λ b. b.serial ≡ self.now.births) }
         ensures more { OnOk result (self.now.births < 2 ^ 64 - 1) }
     {
-        let Ok(slot) = u32::try_from(self.held.vacant_key()) else {
-            return Err(Limit::Blocks.past());
-        };
-        if self.births == u64::MAX {
-            return Err(Limit::Births.past());
-        }
+        let slot = self.held.vacant_key();
+        below(slot as u64, Limit::Blocks)?;
+        below(self.births, Limit::Births)?;
         Ok(Block {
-            slot,
+            slot: slot as u32,
             serial: self.births,
         })
     }

@@ -33,7 +33,7 @@ pub enum Seen {
     Null,
     Dead,
     /// A cell of an object.
-    At(u32, u32),
+    At(u64, u64),
     Fn(u32),
     Free,
     Held,

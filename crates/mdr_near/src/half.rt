@@ -12,7 +12,7 @@ ghost use Rattle.mdr_outside.specs.Far.{IsLoaded};
 
 use crate::whole::run_whole;
 use mdr_bound::Bound;
-use mdr_core::{Limit, OutOfMemory, Plan, Program};
+use mdr_core::{OutOfMemory, Plan, Program};
 use mdr_model::MemoryBlock;
 use mdr_outside::Far;
 use mdr_plain::Outcome;
@@ -60,7 +60,7 @@ impl<'a> KernelHalf<'a> {
         ensures { IfOk result (λ h. h ≡ record { program = program.now; plan = plan.now; is_fresh = true; memory = []; messages = 0 }) }
     {
         if !is_fit(Watch { program, plan }) {
-            return Err(Limit::Unmet.past());
+            return Err(OutOfMemory::unmet());
         }
         Ok(KernelHalf {
             program,

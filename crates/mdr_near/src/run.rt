@@ -13,7 +13,7 @@ ghost use Rattle.mdr_watch.specs.Watching.{IsFit, driver_in};
 use crate::turn::{Turn, first, turned};
 use mdr_bound::Bound;
 use mdr_copy::copied;
-use mdr_core::{Limit, OutOfMemory};
+use mdr_core::{Limit, OutOfMemory, spent};
 use mdr_model::{End, MemoryBlock};
 use mdr_outside::Far;
 use mdr_turns::Pending;
@@ -69,7 +69,9 @@ pub(crate) fn run_script<'a, F: Far>(
     ensures faults_later { F.faults far.old ≤ F.faults far.new }
 {
     let mut pending = first(alloc, watch, script, ticks)?;
-    for _turn in 0..u64::MAX {
+    let mut turns: u64 = 0;
+    while turns < u64::MAX {
+        turns += 1;
         if let Err(error) = hold(alloc, &pending, memory) {
             drop(pending);
             return Err(error);
@@ -88,5 +90,5 @@ pub(crate) fn run_script<'a, F: Far>(
         }
     }
     drop(pending);
-    Err(Limit::Turns.past())
+    Err(spent(turns, Limit::Turns))
 }

@@ -9,7 +9,7 @@ ghost use Rattle.mdr_outside.specs.Calls.{Sends, and_then};
 ghost use Rattle.mdr_outside.specs.Count.{Rose};
 ghost use Rattle.mdr_outside.specs.Far.{IsLoaded};
 
-use mdr_core::{Limit, OutOfMemory};
+use mdr_core::{Limit, OutOfMemory, within};
 use mdr_model::{Fault, Message};
 use mdr_msg::{reading_of, spelled};
 use mdr_outside::{DeliverAnswer, Far};
@@ -41,7 +41,8 @@ pub(crate) fn send<F: Far>(
     ensures faults_later { F.faults far.old ≤ F.faults far.new }
 {
     let bytes = bytes_of(alloc, message)?;
-    let both = messages.checked_add(2).ok_or(Limit::Messages.past())?;
+    within(*messages, Limit::Messages)?;
+    let both = *messages + 2;
     *messages += 1;
     match far.deliver(alloc, bytes.as_slice()) {
         DeliverAnswer::Ok(reply) => {

@@ -216,3 +216,11 @@ module _ (program : Program) (touched : List Key) (s : Contents) (serial : ℕ) 
 
   pub held_none : (o : Option Held) → o ≡ None → MatchOption o (born_at s.memory serial ≡ None) (λ x. IsHeld program touched s x) → born_at s.memory serial ≡ None
   held_none o e k = subst (λ x. MatchOption x (born_at s.memory serial ≡ None) (λ y. IsHeld program touched s y)) e k
+
+  -- what was looked up last
+  pub last_of : (o : Option Held) → MatchOption o (born_at s.memory serial ≡ None) (λ x. IsHeld program touched s x) → MatchOption o (Unit {0}) (λ x. IsHeld program touched s x)
+  last_of None h = tt
+  last_of (Some x) h = h
+
+  pub last_some : (o : Option Held) (h : Held) → o ≡ Some h → MatchOption o (Unit {0}) (λ x. IsHeld program touched s x) → IsHeld program touched s h
+  last_some o h e k = subst (λ x. MatchOption x (Unit {0}) (λ y. IsHeld program touched s y)) e k

@@ -29,7 +29,7 @@ use Rattle.mdr_paths.proofs.NodeLists.{none_in}
 use Rattle.mdr_reach.specs.declared.held.Held.{Held}
 use Rattle.mdr_reach.specs.declared.lengths.Siblings.TheVariants as siblings
 use Rattle.mdr_reach.specs.declared.rows.Around.TheVariants as around
-use Rattle.mdr_reach.specs.Marks.{AreMarked, IsHeld, counts_at, entered, led, siblings_of, with_cell}
+use Rattle.mdr_reach.specs.Marks.{AreMarked, IsHeld, IsNoPointer, counts_at, entered, led, siblings_of, with_cell}
 use Rattle.mdr_reach.specs.Spots.{around_of}
 use Rattle.mdr_reach.proofs.EnterLaws.{dead_counts, joins_not, marks_more, none_enters, same_marks}
 use Rattle.mdr_reach.proofs.ExtentLaws.{fields_are}
@@ -302,3 +302,15 @@ pub item_at : {X : Type 0} (xs : List X) (i : ℕ) (x : X) → slice_get xs i �
 item_at [] i x e = absurd cc
 item_at (y ∷ xs) zero x e = let same : y ≡ x = cc in sym same
 item_at (y ∷ xs) (suc i) x e = item_at xs i x e
+
+-- what is no pointer leads nowhere
+pub nowhere : (program : Program) (touched : List Key) (m : Memory) (born : New) (index : ℕ) (k : Option Key) (v : Wire) → IsNoPointer v → none ≡ extent_by program touched m born index k v
+unfolding extent
+nowhere program touched m born index None v h = refl
+nowhere program touched m born index (Some k) (wire.Ptr p) h = absurd h
+nowhere program touched m born index (Some k) (wire.Int kind n) h = refl
+nowhere program touched m born index (Some k) wire.Null h = refl
+nowhere program touched m born index (Some k) wire.Dead h = refl
+nowhere program touched m born index (Some k) (wire.Fn f) h = refl
+nowhere program touched m born index (Some k) (wire.Lock t) h = refl
+nowhere program touched m born index (Some k) wire.NoValue h = refl

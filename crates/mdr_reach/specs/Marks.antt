@@ -14,6 +14,8 @@ use Rattle.mdr_extents.specs.CellOrder.{IsBefore, cells}
 use Rattle.mdr_extents.specs.Extent as extents
 use Rattle.mdr_extents.specs.Extent.{Elements, Fails, first_of, is_empty, up_to}
 use Rattle.mdr_extents.specs.Reaching.{Failing, Roots, beginning, cells_led, counts, extent_at, first_failing, graph, own_cells, root_cells, visible as visible_now}
+use Rattle.mdr_meaning.specs.declared.wire.Wire.{Wire}
+use Rattle.mdr_meaning.specs.declared.wire.Wire.TheVariants as wire
 use Rattle.mdr_meaning.specs.declared.wire.WireView.{WireView}
 use Rattle.mdr_meaning.specs.Pointers.{size}
 use Rattle.mdr_meaning.specs.Values.{wire_of}
@@ -86,6 +88,11 @@ is_around_touched (Some around.Nothing) alone = alone
 is_around_touched (Some (around.Field s f touched)) alone = touched
 
 -- ---- extents
+
+-- the value points nowhere
+abbrev pub IsNoPointer : Wire → Type 0
+IsNoPointer (wire.Ptr p) = ⊥
+IsNoPointer _ = Unit {0}
 
 abbrev pub extent_of : Extent → extents.Extent
 extent_of (extent.Elements n) = Elements n

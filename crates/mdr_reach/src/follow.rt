@@ -1,18 +1,19 @@
 // Where marked cells lead.
 
-ghost use Rattle.std.specs.Prelude.{◌≡◌, ◌<◌, IfOk, None, OnOk, Some, length, map, not, slice_get};
+ghost use Rattle.std.specs.Prelude.{◌≡◌, ◌<◌, false, IfOk, MatchOption, None, OnOk, Some, length, map, not, slice_get};
 ghost use Rattle.mdr_cells.specs.Names.{cell_of, named};
 ghost use Rattle.mdr_core.specs.declared.plan.Key.TheVariants as key;
 ghost use Rattle.mdr_extents.specs.Around.{ann_of, global_ann, key_of, struct_start};
 ghost use Rattle.mdr_extents.specs.Extent.{cells_in, has_failed};
 ghost use Rattle.mdr_extents.specs.Reaching.{extent_at, extent_by, root_extent};
 ghost use Rattle.mdr_meaning.specs.Values.{wire_of};
+ghost use Rattle.mdr_model.specs.Memory.{born_at};
 ghost use Rattle.mdr_reach.specs.Answers.{root_of, roots_of};
-ghost use Rattle.mdr_reach.specs.Marks.{IsHeld, counts_at, entered, entered_in, extent_of, failing_in, led, passed_in};
+ghost use Rattle.mdr_reach.specs.Marks.{IsHeld, IsNoPointer, counts_at, entered, entered_in, extent_of, failing_in, led, passed_in};
 ghost use Rattle.mdr_reach.specs.Spots.{AreLayouts};
 
 use crate::extent::{Extent, value_extent};
-use crate::held::{Held, around, block_at, offset, value_at};
+use crate::held::{Held, around, offset, value_at};
 use crate::lengths::Siblings;
 use crate::marks::enter_extent;
 use crate::roots::Root;
@@ -54,8 +55,8 @@ fn start(scene: Scene<'_>, h: Held<'_>, index: u64) -> u64
     }
 }
 
-/// The extent of a pointer in a cell.
-fn extent_in_cell(
+/// The extent of a pointer in a cell, by what stands around the cell.
+fn extent_around(
     scene: Scene<'_>,
     h: Held<'_>,
     index: u64,
@@ -81,6 +82,39 @@ fn extent_in_cell(
     }
 }
 
+fn is_pointer(value: Value) -> bool
+    ensures { result ≡ false → IsNoPointer (wire_of value) }
+{
+    match value {
+        Value::Ptr(_) => true,
+        Value::Int(_, _) => false,
+        Value::Null => false,
+        Value::Dead => false,
+        Value::Fn(_) => false,
+        Value::Lock(_) => false,
+        Value::NoValue => false,
+    }
+}
+
+/// The extent of what a cell holds. What is no pointer leads nowhere, whatever stands around it.
+fn extent_in_cell(
+    scene: Scene<'_>,
+    h: Held<'_>,
+    index: u64,
+    value: Value,
+) -> Result<Extent, OutOfMemory>
+    requires layouts { AreLayouts scene.program.now scene.touched.now scene.layouts.now }
+    requires held { IsHeld scene.program.now scene.touched.now scene.blocks.now h }
+    ensures { IfOk result (λ e. extent_of e ≡ extent_by scene.entry.program.now scene.entry.touched.now scene.entry.blocks.now.memory h.entry.born index (key_of scene.entry.program.now h.entry.born index) (wire_of value)) }
+{
+    if is_pointer(value) {
+        let extent = extent_around(scene, h, index, value)?;
+        Ok(extent)
+    } else {
+        Ok(Extent::Elements(0))
+    }
+}
+
 /// Marks the cells that a cell of a block leads to. Whether its pointer doesn't fail.
 fn follow_in(
     scene: Scene<'_>,
@@ -103,17 +137,20 @@ fn follow_in(
     }
 }
 
-/// Marks the cells that a cell leads to. Whether its pointer doesn't fail.
+/// Marks the cells that a cell leads to, by its block. Whether its pointer doesn't fail.
 pub(crate) fn follow(
     scene: Scene<'_>,
     marked: &mut IndexSet<CellName>,
     name: CellName,
+    block: Option<Held<'_>>,
 ) -> Result<bool, OutOfMemory>
     requires layouts { AreLayouts scene.program.now scene.touched.now scene.layouts.now }
+    requires held { MatchOption block (born_at scene.blocks.now.memory name.serial ≡ None) (λ x. IsHeld scene.program.now scene.touched.now scene.blocks.now x) }
+    requires serial { MatchOption block (Unit {0}) (λ x. x.born.serial ≡ name.serial) }
     ensures whole { IfOk result (λ t. t ≡ not (has_failed (extent_at scene.entry.program.now scene.entry.touched.now scene.entry.blocks.now.memory (cell_of name)))) }
     ensures marked { OnOk result (named marked.new.keys ≡ entered (counts_at scene.entry.program.now scene.entry.touched.now scene.entry.blocks.now.memory) (named marked.old.keys) (led scene.entry.program.now scene.entry.touched.now scene.entry.blocks.now.memory (cell_of name))) }
 {
-    match block_at(scene, name.serial)? {
+    match block {
         Some(h) => {
             let whole = follow_in(scene, marked, h, name.index)?;
             Ok(whole)

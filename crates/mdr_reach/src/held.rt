@@ -115,6 +115,47 @@ pub(crate) fn block_at<'a>(scene: Scene<'a>, serial: u64) -> Result<Option<Held<
     }
 }
 
+fn has_serial(h: Held<'_>, serial: u64) -> bool
+    ensures { IsTrue result → h.entry.born.serial ≡ serial }
+{
+    h.born.serial == serial
+}
+
+/// The live block with a serial, which may be this one.
+fn this_or_other<'a>(
+    scene: Scene<'a>,
+    h: Held<'a>,
+    serial: u64,
+) -> Result<Option<Held<'a>>, OutOfMemory>
+    requires layouts { AreLayouts scene.program.now scene.touched.now scene.layouts.now }
+    requires held { IsHeld scene.program.now scene.touched.now scene.blocks.now h }
+    ensures held { IfOk result (λ o. MatchOption o (born_at scene.entry.blocks.now.memory serial ≡ None) (λ x. IsHeld scene.entry.program.now scene.entry.touched.now scene.entry.blocks.now x)) }
+    ensures serial { IfOk result (λ o. MatchOption o (Unit {0}) (λ x. x.born.serial ≡ serial)) }
+{
+    if has_serial(h, serial) {
+        Ok(Some(h))
+    } else {
+        block_at(scene, serial)
+    }
+}
+
+/// The live block with a serial, which may be the one that was looked up last: cells of a block mostly follow one another.
+pub(crate) fn block_behind<'a>(
+    scene: Scene<'a>,
+    last: Option<Held<'a>>,
+    serial: u64,
+) -> Result<Option<Held<'a>>, OutOfMemory>
+    requires layouts { AreLayouts scene.program.now scene.touched.now scene.layouts.now }
+    requires last { MatchOption last (Unit {0}) (λ x. IsHeld scene.program.now scene.touched.now scene.blocks.now x) }
+    ensures held { IfOk result (λ o. MatchOption o (born_at scene.entry.blocks.now.memory serial ≡ None) (λ x. IsHeld scene.entry.program.now scene.entry.touched.now scene.entry.blocks.now x)) }
+    ensures serial { IfOk result (λ o. MatchOption o (Unit {0}) (λ x. x.born.serial ≡ serial)) }
+{
+    match last {
+        Some(h) => this_or_other(scene, h, serial),
+        None => block_at(scene, serial),
+    }
+}
+
 /// An item of so many lists like this one, one after another.
 fn in_elements<T: Copy>(element: &[T], count: u32, index: u64) -> Option<T>
     ensures { result ≡ slice_get (repeated count element.now) index }

@@ -1,6 +1,6 @@
 // Cells that are marked as visible, in the order in which they are met.
 
-ghost use Rattle.std.specs.Prelude.{◌≡◌, ◌==◌, ◌||◌, ◌+◌, ◌*◌, ◌++◌, ◌∷◌, [], Bool, IfOk, OnOk, length, nat_lt, not};
+ghost use Rattle.std.specs.Prelude.{◌≡◌, ◌==◌, ◌||◌, ◌+◌, ◌*◌, ◌++◌, ◌∷◌, [], Bool, IfOk, MatchOption, None, OnOk, length, nat_lt, not};
 ghost use Rattle.mdr_cells.specs.Names.{cell_of, named};
 ghost use Rattle.mdr_core.specs.Layout.{chosen};
 ghost use Rattle.mdr_extents.specs.CellOrder.{cells};
@@ -8,13 +8,14 @@ ghost use Rattle.mdr_extents.specs.Extent.{Elements, cells_in, has_failed};
 ghost use Rattle.mdr_meaning.specs.Pointers.{size};
 ghost use Rattle.mdr_meaning.specs.Values.{wire_of};
 ghost use Rattle.mdr_model.specs.declared.memory.Cell.{Cell};
+ghost use Rattle.mdr_model.specs.Memory.{born_at};
 ghost use Rattle.mdr_model.specs.Sets.{cells_from};
 ghost use Rattle.mdr_paths.specs.Paths.{is_in};
 ghost use Rattle.mdr_reach.specs.Marks.{AreMarked, IsHeld, counts_at, entered, extent_of, with_cell};
 ghost use Rattle.mdr_reach.specs.Spots.{AreLayouts};
 
 use crate::extent::{Extent, element_size};
-use crate::held::{Held, block_at, counts};
+use crate::held::{Held, block_at, block_behind, counts};
 use crate::numbers::{product, sum};
 use crate::scene::Scene;
 use indexmap::IndexSet;
@@ -157,16 +158,18 @@ pub(crate) fn enter_extent(
     }
 }
 
-/// Marks a cell by its name, if it counts.
+/// Marks a cell by its name and block, if it counts.
 fn enter_name(
     scene: Scene<'_>,
     marked: &mut IndexSet<CellName>,
     name: CellName,
+    block: Option<Held<'_>>,
 ) -> Result<(), OutOfMemory>
-    requires { AreLayouts scene.program.now scene.touched.now scene.layouts.now }
+    requires held { MatchOption block (born_at scene.blocks.now.memory name.serial ≡ None) (λ x. IsHeld scene.program.now scene.touched.now scene.blocks.now x) }
+    requires serial { MatchOption block (Unit {0}) (λ x. x.born.serial ≡ name.serial) }
     ensures { OnOk result (named marked.new.keys ≡ with_cell (counts_at scene.entry.program.now scene.entry.touched.now scene.entry.blocks.now.memory) (named marked.old.keys) (cell_of name)) }
 {
-    match block_at(scene, name.serial)? {
+    match block {
         Some(h) => {
             enter(scene, marked, h, name.index)?;
             Ok(())
@@ -185,8 +188,11 @@ pub(crate) fn enter_names(
     requires { AreLayouts scene.program.now scene.touched.now scene.layouts.now }
     ensures { OnOk result (named marked.new.keys ≡ entered (counts_at scene.entry.program.now scene.entry.touched.now scene.entry.blocks.now.memory) (named marked.old.keys) (named names.now)) }
 {
+    let mut last = None;
     for name in names {
-        enter_name(scene, marked, *name)?;
+        let block = block_behind(scene, last, name.serial)?;
+        enter_name(scene, marked, *name, block)?;
+        last = block;
     }
     Ok(())
 }

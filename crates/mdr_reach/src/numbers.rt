@@ -2,7 +2,7 @@
 
 ghost use Rattle.std.specs.Prelude.{◌≡◌, ◌+◌, ◌*◌, IfOk};
 
-use mdr_core::{Limit, OutOfMemory};
+use mdr_core::OutOfMemory;
 
 /// A number as a field, a struct or a global has one.
 pub(crate) fn small(number: usize) -> Result<u32, OutOfMemory>
@@ -10,7 +10,7 @@ pub(crate) fn small(number: usize) -> Result<u32, OutOfMemory>
 {
     match u32::try_from(number) {
         Ok(n) => Ok(n),
-        Err(_) => Err(Limit::Unmet.past()),
+        Err(_) => Err(OutOfMemory::unmet()),
     }
 }
 
@@ -19,7 +19,7 @@ pub(crate) fn sum(a: u64, b: u64) -> Result<u64, OutOfMemory>
 {
     match a.checked_add(b) {
         Some(n) => Ok(n),
-        None => Err(Limit::Unmet.past()),
+        None => Err(OutOfMemory::unmet()),
     }
 }
 
@@ -28,6 +28,6 @@ pub(crate) fn product(a: u64, b: u64) -> Result<u64, OutOfMemory>
 {
     match a.checked_mul(b) {
         Some(n) => Ok(n),
-        None => Err(Limit::Unmet.past()),
+        None => Err(OutOfMemory::unmet()),
     }
 }

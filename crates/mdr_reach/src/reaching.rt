@@ -13,6 +13,7 @@ ghost use Rattle.mdr_reach.specs.Spots.{AreLayouts};
 
 use crate::failing::Failing;
 use crate::follow::enter_roots;
+use crate::held::block_behind;
 use crate::layouts::layouts_of;
 use crate::least::follow_on;
 use crate::marks::{enter_names, marked_globals};
@@ -57,10 +58,13 @@ fn reached(
     let _in_order = scene.blocks.births();
     let mut marked = marked;
     let mut failing = None;
+    let mut last = None;
     let mut i = 0;
     while i < marked.len() {
         let name = name_at(&marked, i);
-        failing = follow_on(scene, &mut marked, name, failing)?;
+        let block = block_behind(scene, last, name.serial)?;
+        failing = follow_on(scene, &mut marked, name, block, failing)?;
+        last = block;
         i += 1;
     }
     Ok(unless_failing(marked, failing))

@@ -99,9 +99,9 @@ fn put_cell(
         Seen::Dead => put_word(out, "dead"),
         Seen::At(object, cell) => {
             put_word(out, "@")?;
-            put_number(alloc, out, u64::from(object))?;
+            put_number(alloc, out, object)?;
             put_word(out, "+")?;
-            put_number(alloc, out, u64::from(cell))
+            put_number(alloc, out, cell)
         }
         Seen::Fn(func) => {
             put_word(out, "&")?;

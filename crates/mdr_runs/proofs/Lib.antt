@@ -2,6 +2,7 @@ pub mod Around
 pub mod Walked
 pub mod Standing
 pub mod Seeing
+pub mod Many
 pub mod Stand
 pub mod EndsAnywhere
 pub mod Ends

@@ -11,7 +11,7 @@ ghost use Rattle.mdr_services.specs.Serving.{served_as};
 
 use crate::answer::{Served, nothing, one};
 use crate::arguments::natural;
-use mdr_core::{Kind, Limit, OutOfMemory, StopKind, Value};
+use mdr_core::{Kind, OutOfMemory, StopKind, Value};
 use mdr_plain::Happened;
 use mdr_world::World;
 use std::alloc::Global;
@@ -60,7 +60,7 @@ fn word_of(number: u128) -> Result<u32, OutOfMemory>
     if number < 4294967296 {
         Ok(number as u32)
     } else {
-        Err(Limit::Unmet.past())
+        Err(OutOfMemory::unmet())
     }
 }
 

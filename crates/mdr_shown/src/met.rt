@@ -4,7 +4,7 @@ ghost use Rattle.std.specs.Prelude.{◌≡◌, ◌++◌, [], ◌∷◌, length, 
 ghost use Rattle.mdr_plain.specs.Outcome.{first_serials, is_among, object_number, with_block};
 ghost use Rattle.mdr_shown.specs.Met.{AreNumbered};
 
-use mdr_core::{Limit, OutOfMemory};
+use mdr_core::OutOfMemory;
 use std::alloc::Global;
 use std::collections::HashMap;
 
@@ -12,7 +12,7 @@ use std::collections::HashMap;
 #[derive(Drop)]
 pub struct Met {
     pub serials: Vec<u64>,
-    pub numbers: HashMap<u64, u32>,
+    pub numbers: HashMap<u64, u64>,
 }
 
 fn none(alloc: Global) -> Met
@@ -33,14 +33,11 @@ fn is_met(met: &Met, serial: u64) -> bool
     met.numbers.contains_key(&serial)
 }
 
-/// An object's number. There may be more blocks than numbers.
-fn small(number: usize) -> Result<u32, OutOfMemory>
-    ensures { IfOk result (λ n. n ≡ number) }
+/// How many blocks these are.
+fn count_of(serials: &[u64]) -> u64
+    ensures { result ≡ length serials.now }
 {
-    match u32::try_from(number) {
-        Ok(n) => Ok(n),
-        Err(_) => Err(Limit::Unmet.past()),
-    }
+    serials.len() as u64
 }
 
 /// Adds a block that was not met before.
@@ -51,7 +48,7 @@ fn add(met: &mut Met, serial: u64) -> Result<(), OutOfMemory>
     ensures serials { OnOk result (met.new.serials.items ≡ met.old.serials.items ++ serial ∷ []) }
 {
     met.serials.push(serial)?;
-    let number = small(met.serials.as_slice().len())?;
+    let number = count_of(met.serials.as_slice());
     met.numbers.insert(serial, number)?;
     Ok(())
 }
@@ -89,7 +86,7 @@ pub fn serial_at(met: &Met, i: u64) -> Option<u64>
 }
 
 /// The number of the object that is a block.
-pub fn number_of(met: &Met, serial: u64) -> u32
+pub fn number_of(met: &Met, serial: u64) -> u64
     requires { AreNumbered met.now }
     ensures { result ≡ object_number met.now.serials.items serial }
 {

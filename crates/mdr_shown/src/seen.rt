@@ -11,7 +11,7 @@ ghost use Rattle.mdr_plain.specs.Outcome.{seen_of};
 ghost use Rattle.mdr_shown.specs.Met.{AreNumbered};
 
 use crate::met::{Met, number_of};
-use mdr_core::{Items, Limit, LockState, OutOfMemory, Program, Value, View, cells_of};
+use mdr_core::{Items, LockState, OutOfMemory, Program, Value, View, cells_of};
 use mdr_model::Seen;
 use std::alloc::Global;
 
@@ -37,43 +37,38 @@ fn size_of(program: &Program, ty: u32) -> u32
     }
 }
 
-/// The cell of its block that a pointer points to. Its number may be too large.
-fn cell_of(program: &Program, view: View) -> Result<u32, OutOfMemory>
+/// The cell of its block that a pointer points to.
+fn cell_of(program: &Program, view: View) -> u64
     requires { IsSound program.now }
-    ensures { IfOk result (λ cell. cell ≡ position program.now (wire_view view)) }
+    ensures { result ≡ position program.now (wire_view view) }
 {
     if view.index == 0 {
-        return Ok(view.first);
+        return view.first as u64;
     }
-    let cell = view.first as u64 + view.index as u64 * size_of(program, view.ty) as u64;
-    match u32::try_from(cell) {
-        Ok(small) => Ok(small),
-        Err(_) => Err(Limit::Unmet.past()),
-    }
+    view.first as u64 + view.index as u64 * size_of(program, view.ty) as u64
 }
 
-fn seen_pointer(program: &Program, met: &Met, view: View) -> Result<Seen, OutOfMemory>
+fn seen_pointer(program: &Program, met: &Met, view: View) -> Seen
     requires sound { IsSound program.now }
     requires numbered { AreNumbered met.now }
-    ensures { IfOk result (λ s. s ≡ seen_of program.now met.now.serials.items (wire.Ptr (wire_view view))) }
+    ensures { result ≡ seen_of program.now met.now.serials.items (wire.Ptr (wire_view view)) }
 {
-    let cell = cell_of(program, view)?;
-    Ok(Seen::At(number_of(met, view.block.serial), cell))
+    Seen::At(number_of(met, view.block.serial), cell_of(program, view))
 }
 
 /// A cell's value.
-fn seen(program: &Program, met: &Met, value: Value) -> Result<Seen, OutOfMemory>
+fn seen(program: &Program, met: &Met, value: Value) -> Seen
     requires sound { IsSound program.now }
     requires numbered { AreNumbered met.now }
-    ensures { IfOk result (λ s. s ≡ seen_of program.now met.now.serials.items (wire_of value)) }
+    ensures { result ≡ seen_of program.now met.now.serials.items (wire_of value) }
 {
     match value {
-        Value::Int(_, n) => Ok(Seen::Int(n)),
-        Value::Null | Value::NoValue => Ok(Seen::Null),
+        Value::Int(_, n) => Seen::Int(n),
+        Value::Null | Value::NoValue => Seen::Null,
         Value::Ptr(view) => seen_pointer(program, met, view),
-        Value::Dead => Ok(Seen::Dead),
-        Value::Fn(func) => Ok(Seen::Fn(func)),
-        Value::Lock(state) => Ok(lock_seen(state)),
+        Value::Dead => Seen::Dead,
+        Value::Fn(func) => Seen::Fn(func),
+        Value::Lock(state) => lock_seen(state),
     }
 }
 
@@ -90,7 +85,7 @@ pub fn seen_cells(
 {
     let mut cells = Vec::with_capacity(alloc, values.len())?;
     for value in values {
-        cells.push(seen(program, met, *value)?)?;
+        cells.push(seen(program, met, *value))?;
     }
     Ok(Items::from_vec(cells))
 }

@@ -9,7 +9,7 @@ ghost use Rattle.mdr_turns.specs.States.{ChangesVisible, IsActive, agreed_with, 
 
 use crate::state::{Active, Ledger};
 use mdr_copy::put_runs;
-use mdr_core::{Items, OutOfMemory};
+use mdr_core::OutOfMemory;
 use mdr_kernel_memory::apply;
 use mdr_model::Run;
 
@@ -22,10 +22,10 @@ fn agreed_applied(ledger: Ledger, runs: &[Run]) -> Ledger
         exchanges,
         passes,
     } = ledger;
-    let mut copy = agreed.into_vec();
+    let mut copy = agreed;
     put_runs(&mut copy, runs);
     Ledger {
-        agreed: Items::from_vec(copy),
+        agreed: copy,
         exchanges,
         passes,
     }

@@ -16,10 +16,10 @@ ghost use Rattle.mdr_turns.specs.States.{IsActive, StandsFor, begins, kernel_wit
 
 use crate::seeing::seen;
 use crate::state::{Active, Ledger, Open, Pending, Seen, Waiting};
-use mdr_copy::{tells, wire_of};
-use mdr_core::{Items, Limit, OutOfMemory, Program, Value};
+use mdr_copy::{RisingBlocks, tells, wire_of};
+use mdr_core::{Items, Limit, OutOfMemory, Program, Value, below};
 use mdr_kernel_memory::wires_of;
-use mdr_model::{Cell, MemoryBlock, Message, Told, Wire};
+use mdr_model::{Cell, Message, Told, Wire};
 use mdr_watch::{Guarded, Watch};
 use std::alloc::Global;
 
@@ -28,18 +28,16 @@ fn tell(
     alloc: Global,
     program: &Program,
     view: &[Cell],
-    memory: &[MemoryBlock],
+    memory: &RisingBlocks,
     values: &[Wire],
     ledger: &mut Ledger,
 ) -> Result<Told, OutOfMemory>
     ensures told { IfOk result (λ t. t ≡ tells program.now view.now values.now ledger.old.agreed memory.now) }
     ensures kept { IfOk result (λ t. ledger.new ≡ sent_with program.now t ledger.old) }
 {
-    let more = ledger
-        .exchanges
-        .checked_add(1)
-        .ok_or(Limit::Messages.past())?;
-    let agreed = std::mem::replace(&mut ledger.agreed, Items::new(alloc));
+    below(ledger.exchanges, Limit::Messages)?;
+    let more = ledger.exchanges + 1;
+    let agreed = std::mem::replace(&mut ledger.agreed, RisingBlocks::new(alloc));
     let (told, left) = tells(alloc, program, view, values, agreed, memory)?;
     ledger.agreed = left;
     ledger.exchanges = more;
@@ -62,7 +60,7 @@ fn call_message(
 {
     let args = wires_of(alloc, args)?;
     let view = seen.view.as_slice();
-    let memory = seen.memory.as_slice();
+    let memory = &seen.memory;
     let told = tell(alloc, program, view, memory, args.as_slice(), ledger)?;
     Ok(Message::Call {
         func,
@@ -147,7 +145,7 @@ fn back_message(
     ensures kept { IfOk result (λ m. ledger.new ≡ sent_with program.now (told_by program.now seen.now (value ∷ []) ledger.old) ledger.old) }
 {
     let view = seen.view.as_slice();
-    let memory = seen.memory.as_slice();
+    let memory = &seen.memory;
     let told = tell(alloc, program, view, memory, &[value], ledger)?;
     Ok(Message::Back {
         rest: seen.tally.rest,
@@ -206,7 +204,7 @@ fn answer_message(
     ensures is { IfOk result (λ m. m ≡ message.Answer results (told_unseen program.now seen.now results ledger.old).deaths (told_unseen program.now seen.now results ledger.old).news) }
     ensures kept { IfOk result (λ m. ledger.new ≡ sent_with program.now (told_unseen program.now seen.now results ledger.old) ledger.old) }
 {
-    let memory = seen.memory.as_slice();
+    let memory = &seen.memory;
     let told = tell(alloc, program, &[], memory, results.as_slice(), ledger)?;
     Ok(Message::Answer {
         results,

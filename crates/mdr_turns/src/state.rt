@@ -3,8 +3,9 @@
 ghost use Rattle.std.specs.Prelude.{◌≡◌};
 ghost use Rattle.mdr_turns.specs.States.{IsSeen, kernel_of};
 
+use mdr_copy::{CellList, RisingBlocks};
 use mdr_core::Items;
-use mdr_model::{Cell, End, MemoryBlock, Message};
+use mdr_model::{End, MemoryBlock, Message};
 use mdr_watch::Guarded;
 use mdr_world::World;
 
@@ -21,8 +22,8 @@ pub(crate) struct Tally {
 #[derive(Drop)]
 pub(crate) struct Seen<'a> {
     pub(crate) guarded: Guarded<'a>,
-    pub(crate) memory: Items<MemoryBlock>,
-    pub(crate) view: Items<Cell>,
+    pub(crate) memory: RisingBlocks,
+    pub(crate) view: CellList,
     pub(crate) tally: Tally,
 }
 
@@ -30,7 +31,7 @@ pub(crate) struct Seen<'a> {
 /// addresses the program takes.
 #[derive(Drop)]
 pub(crate) struct Ledger {
-    pub(crate) agreed: Items<MemoryBlock>,
+    pub(crate) agreed: RisingBlocks,
     pub(crate) exchanges: u64,
     pub(crate) passes: Items<u32>,
 }

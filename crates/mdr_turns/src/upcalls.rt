@@ -16,7 +16,7 @@ ghost use Rattle.mdr_turns.specs.States.{IsBetween, kernel_with};
 use crate::sending::call_told;
 use crate::state::{Between, Ledger, Pending};
 use mdr_cells::CellSet;
-use mdr_core::{At, Limit, OutOfMemory, StopKind, Value};
+use mdr_core::{At, OutOfMemory, StopKind, Value};
 use mdr_model::End;
 use mdr_watch::{Guarded, Upcall, Watch, first_set};
 use mdr_world::World;
@@ -62,7 +62,7 @@ pub(crate) fn calls<'a>(
 {
     if between.world.is_in_user() {
         drop(between);
-        return Err(Limit::Unmet.past());
+        return Err(OutOfMemory::unmet());
     }
     match first_set(alloc, Upcall { watch, func }, args, &between.world) {
         Ok(Ok(set)) => {

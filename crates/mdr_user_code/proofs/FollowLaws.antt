@@ -17,30 +17,32 @@ use Rattle.mdr_split.proofs.FuelLaws.{reply_with_fuel, same_deliver, user_after-
 use Rattle.mdr_watched.specs.Driver.{Driver, driver_of}
 use Rattle.mdr_user_code.specs.declared.opening.Opening.TheVariants as opening
 use Rattle.mdr_user_code.specs.declared.opening.Turn.{Turn}
+use Rattle.mdr_user_code.specs.declared.state.Awaits.{Awaits}
 use Rattle.mdr_user_code.specs.declared.state.Awaits.TheVariants as awaits
 use Rattle.mdr_user_code.specs.declared.state.State.{State}
 use Rattle.mdr_user_code.specs.Opening.{func_for, opening_for, opens_as, tree_for}
 use Rattle.mdr_user_code.specs.Replying.{Proceeds}
-use Rattle.mdr_user_code.specs.Standing.{Follows, Replies, cut_delivered, cut_user, kept_by, replies_so, user_of, work_by, held_in}
+use Rattle.mdr_user_code.specs.Standing.{Follows, Opens, Replies, opens_by, cut_delivered, cut_user, kept_by, replies_so, user_of, work_by, held_in}
 use Rattle.mdr_user_code.proofs.OpeningLaws.{opens_is, rest_is}
 
 -- ---- one message
 
-pub replies_refused : (d : Driver) (s : State) (m reply : Message) (reason : ℕ) → reply ≡ message.Refuse reason → opening_for d s m ≡ opening.Refuses reason → Replies d s (Ok m) reply s
+pub replies_refused : (d : Driver) (s : State) (m reply : Message) (reason : ℕ) → Opens d s → reply ≡ message.Refuse reason → opening_for d s m ≡ opening.Refuses reason → Replies d s (Ok m) reply s
 unfolding deliver
-replies_refused d s m reply reason same e = record {
+replies_refused d s m reply reason opens same e = record {
   kept = omega arith;
+  opens = opens;
   by = λ fuel more fits.
       ap (λ (o : Opened). cut_delivered more (done (user_of d fuel s) o)) (opens_is d fuel s m ∙ ap (opens_as (tree_for d fuel s m) (func_for s m)) e)
       ∙ ap (λ (r : Message). cut_delivered more (replies_so d fuel r s)) (sym same);
 }
 
-unread : (d : Driver) (s : State) (f : Fault) → Replies d s (Err f) (message.Refuse 1) s
+unread : (d : Driver) (s : State) (f : Fault) → Opens d s → Replies d s (Err f) (message.Refuse 1) s
 unfolding deliver
-unread d s f = record { kept = omega arith; by = λ fuel more fits. refl }
+unread d s f opens = record { kept = omega arith; opens = opens; by = λ fuel more fits. refl }
 
-pub replies_unread : (d : Driver) (s : State) (x : Reading) (f : Fault) (reply : Message) → x ≡ Err f → reply ≡ message.Refuse 1 → Replies d s x reply s
-replies_unread d s x f reply is same = subst (λ y. Replies d s y reply s) (sym is) (subst (λ r. Replies d s (Err f) r s) (sym same) (unread d s f))
+pub replies_unread : (d : Driver) (s : State) (x : Reading) (f : Fault) (reply : Message) → Opens d s → x ≡ Err f → reply ≡ message.Refuse 1 → Replies d s x reply s
+replies_unread d s x f reply opens is same = subst (λ y. Replies d s y reply s) (sym is) (subst (λ r. Replies d s (Err f) r s) (sym same) (unread d s f opens))
 
 pub replies_goes : (d : Driver) (s s' : State) (m : Message) (turn : Turn) (reply : Message) → opening_for d s m ≡ opening.Goes turn → Proceeds d s m turn reply s' → Replies d s (Ok m) reply s'
 unfolding deliver
@@ -48,6 +50,7 @@ replies_goes d s s' m turn reply e p =
     let rest : turn.rest ≤ kept_by s.awaits + granted (Ok m) = rest_is d s turn m e in
     record {
       kept = le_trans p.kept rest;
+      opens = p.opens;
       by = λ fuel more fits.
           ap (λ (o : Opened). cut_delivered more (done (user_of d fuel s) o)) (opens_is d fuel s m ∙ ap (opens_as (tree_for d fuel s m) (func_for s m)) e)
           ∙ p.by fuel more (omega (arith, rest, fits));
@@ -59,6 +62,7 @@ pub begins_so : (program : Program) (plan : Plan) (s : State) → s.agreed ≡ f
 unfolding user_after first_user user_side allowance
 begins_so program plan s agreed entered none = record {
   kept = let zero : kept_by s.awaits ≡ 0 = ap kept_by none in omega (arith, zero);
+  opens = subst (λ (a : Awaits). opens_by a (held_in (driver_of program plan) s)) (sym none) tt;
   by = λ fuel more fits.
       let d : Driver = driver_of program plan in
       λ i. cut_user more (record { agreed = sym agreed i; entered = sym entered i; work = work_by (sym none i) s.func s.view (child (bare d.user fuel (held_in d s))) });
@@ -87,6 +91,7 @@ module _ (d : Driver) (before : List Reading) (s s' : State) (x : Reading) (repl
   unfolding user_after
   follows_on = record {
     kept = let one = follows.kept in let two = replies.kept in omega (arith, all_granted, one, two);
+    opens = replies.opens;
     by = λ fuel more fits.
         ap (cut_user more) (user_after-append d (suc fuel) (first_user d) before (x ∷ []))
         ∙ ap (λ (y : Delivered). y.user) (delivered_so fuel more (omega (arith, all_granted, fits)));

@@ -8,3 +8,4 @@ mod KeyLaws
 mod ByteLaws
 mod GrownLaws
 mod QuickLaws
+mod FirstLaws

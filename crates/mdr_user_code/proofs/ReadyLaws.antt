@@ -1,43 +1,59 @@
 -- A machine that is made ready holds what a message runs.
-use Rattle.std.proofs.Common.{◌≡◌, ℕ, suc, ◌+◌, ◌≤◌, true, List, [], ◌∷◌, Some, slice_get, sym, ◌∙◌, ap, subst, arith}
+use Rattle.std.proofs.Common.{◌≡◌, ℕ, suc, ◌+◌, ◌≤◌, Bool, true, false, ◌&&◌, nat_le, List, [], ◌∷◌, length, Option, Some, slice_get, refl, sym, ◌∙◌, ap, subst, leb-true, arith}
 use Rattle.mdr_core.specs.declared.plan.Plan.{Plan}
 use Rattle.mdr_core.specs.declared.program.Program.{Program}
 use Rattle.mdr_events.specs.declared.event.Event.{Event}
 use Rattle.mdr_core.specs.declared.plan.Half.{Half}
 use Rattle.mdr_events.specs.Going.{RanTo}
-use Rattle.mdr_events.specs.Held.{bare, tree}
+use Rattle.mdr_events.specs.Held.{Held, bare, tree}
+use Rattle.mdr_events.specs.Ready.{IsOpen, IsReady, is_started, takes_answers, takes_value}
 use Rattle.mdr_events.specs.Steps.{child}
 use Rattle.mdr_exec.specs.declared.frame.Machine.{Machine}
 use Rattle.mdr_exec.specs.declared.frame.Side.TheVariants as which
 use Rattle.mdr_exec.specs.Halves.{side_in}
-use Rattle.mdr_exec.specs.Holding.{held_of}
+use Rattle.mdr_exec.specs.Holding.{FitQuestion, held_of, waits}
+use Rattle.mdr_exec.proofs.ReadyLaws.{answers_fit, answers_wait, value_fits, value_waits}
 use Rattle.mdr_meaning.specs.declared.wire.Wire.{Wire}
 use Rattle.mdr_core.specs.declared.code.Stmt.{Stmt}
 use Rattle.mdr_core.specs.declared.program.Func.{Func}
+use Rattle.mdr_core.specs.declared.value.Value.{Value}
+use Rattle.mdr_core.specs.Layout.{chosen}
+use Rattle.mdr_core.specs.Services.{service_numbered}
+use Rattle.mdr_events.specs.Values.{wires_of}
+use Rattle.mdr_meaning.specs.declared.shape.Shape64.{Shape64}
 use Rattle.mdr_meaning.specs.Bodies.{body_by, body_from, body_of, started}
 use Rattle.mdr_meaning.specs.Cut.{cut}
 use Rattle.mdr_meaning.specs.Sides.{Body, Side}
-use Rattle.mdr_meaning.specs.Tree.{Tree}
+use Rattle.mdr_meaning.specs.Tree.{Asked, Tree}
 use Rattle.mdr_model.specs.declared.message.Message.{Message}
 use Rattle.mdr_model.specs.declared.message.Message.TheVariants as message
 use Rattle.mdr_model.specs.declared.message.New.{New}
 use Rattle.mdr_model.specs.declared.message.Told.{Told}
+use Rattle.mdr_model.specs.Memory.{Memory}
+use Rattle.mdr_split.specs.Services.{are_different, are_given_by, are_new, is_new, leaving, results_fit, serials_of}
+use Rattle.mdr_split.specs.User.{objects_fit}
 use Rattle.mdr_watched.specs.Driver.{Driver, driver_of, is_user}
+use Rattle.mdr_user_code.specs.declared.opening.Opening.TheVariants as opening
 use Rattle.mdr_user_code.specs.declared.opening.Turn.{Turn}
+use Rattle.mdr_user_code.specs.declared.sight.Sight.{Sight}
+use Rattle.mdr_user_code.specs.declared.state.Awaits.{Awaits}
+use Rattle.mdr_user_code.specs.declared.state.Awaits.TheVariants as awaits
+use Rattle.mdr_user_code.specs.declared.state.Question.{Question}
 use Rattle.mdr_user_code.specs.declared.state.State.{State}
 use Rattle.mdr_user_code.specs.Copied.{Copied, copy_accesses}
-use Rattle.mdr_user_code.specs.Opening.{func_for, tree_for}
+use Rattle.mdr_user_code.specs.Opening.{answer_by, answer_copy, answered_by, back_by, call_sight, downcall, func_for, is_answered, is_idle, may_enter, opening_for, opening_of, renewed, tree_for, where_so}
 use Rattle.mdr_user_code.specs.Replying.{IsResumed, IsStarted, Prepared, Proceeds, Resumed, RunReplies}
-use Rattle.mdr_user_code.specs.Standing.{IsFit, held_in}
+use Rattle.mdr_user_code.specs.Standing.{IsFit, Opens, asked_of, held_in, opens_by}
 use Rattle.mdr_user_code.proofs.RunLaws.{cut_child}
 use Rattle.mdr_user_code.proofs.Sides.{user_body, user_is}
 
 -- a function is started in a machine that held nothing
-pub started_is : (program : Program) (plan : Plan) (func depth : ℕ) (args passed : List Wire) (m0 m : Machine) → IsFit plan program → is_user plan func ≡ true → passed ≡ args
+pub started_is : (program : Program) (plan : Plan) (func depth : ℕ) (args passed : List Wire) (m0 m : Machine) → IsReady (held_of program m) → IsFit plan program → is_user plan func ≡ true → passed ≡ args
     → ((p : Program) (side : Side) (f r : ℕ) → tree side f (held_of p m0) r ≡ Tree.Idle)
     → ((side : Side) → side.own func ≡ body_of program func → (f r : ℕ) → r ≤ f → tree side f (held_of program m) r ≡ cut r (started side (f + 1) func passed depth (tree side f (held_of program m0) r)))
     → IsStarted (driver_of program plan) func args depth m
-started_is program plan func depth args passed m0 m fit user same none is = record {
+started_is program plan func depth args passed m0 m ready fit user same none is = record {
+  ready = ready;
   by = λ f r less.
       let next : f + 1 ≡ suc f = omega arith in
       is (driver_of program plan).user (user_body program plan fit func user) f r less
@@ -49,6 +65,7 @@ started_is program plan func depth args passed m0 m fit user same none is = reco
 pub prepared_call : (d : Driver) (s s' : State) (func depth rest : ℕ) (args passed : List Wire) (told : Told) → passed ≡ args → s'.func ≡ func → IsStarted d func passed depth s'.machine → Prepared d s (message.Call func depth rest args told) s'
 prepared_call d s s' func depth rest args passed told same named is = record {
   func = named;
+  ready = is.ready;
   holds = λ f r less. is.by f r less ∙ ap (λ (vs : List Wire). cut r (started d.user (suc f) func vs depth Tree.Idle)) same;
 }
 
@@ -56,15 +73,15 @@ resumed : (d : Driver) (s s' : State) (results : List Wire) → IsResumed result
 unfolding tree
 resumed d s s' results is f r = is.by d.program d.user f r ∙ sym (cut_child r (bare d.user f (held_in d s)) results)
 
-pub prepared_back : (d : Driver) (s s' : State) (m : Message) (rest : ℕ) (v : Wire) (told : Told) → m ≡ message.Back rest v told → Resumed (v ∷ []) s s' → Prepared d s m s'
-prepared_back d s s' m rest v told same is =
-    let p : Prepared d s (message.Back rest v told) s' = record { func = is.func; holds = λ f r less. resumed d s s' (v ∷ []) is.machine f r } in
+pub prepared_back : (d : Driver) (s s' : State) (m : Message) (rest : ℕ) (v : Wire) (told : Told) → is_started (held_in d s).items ≡ true → m ≡ message.Back rest v told → Resumed (v ∷ []) s s' → Prepared d s m s'
+prepared_back d s s' m rest v told started same is =
+    let p : Prepared d s (message.Back rest v told) s' = record { func = is.func; holds = λ f r less. resumed d s s' (v ∷ []) is.machine f r; ready = is.machine.ready d.program started } in
     subst (λ x. Prepared d s x s') (sym same) p
 
-pub prepared_answer : (d : Driver) (s s' : State) (m : Message) (results passed : List Wire) (deaths : List ℕ) (news : List New) → m ≡ message.Answer results deaths news → passed ≡ results → Resumed passed s s' → Prepared d s m s'
-prepared_answer d s s' m results passed deaths news same given is =
+pub prepared_answer : (d : Driver) (s s' : State) (m : Message) (results passed : List Wire) (deaths : List ℕ) (news : List New) → is_started (held_in d s).items ≡ true → m ≡ message.Answer results deaths news → passed ≡ results → Resumed passed s s' → Prepared d s m s'
+prepared_answer d s s' m results passed deaths news started same given is =
     let p : Prepared d s (message.Answer results deaths news) s' =
-    record { func = is.func; holds = λ f r less. resumed d s s' passed is.machine f r ∙ ap (λ (vs : List Wire). cut r (child (bare d.user f (held_in d s)) vs)) given } in
+    record { func = is.func; holds = λ f r less. resumed d s s' passed is.machine f r ∙ ap (λ (vs : List Wire). cut r (child (bare d.user f (held_in d s)) vs)) given; ready = is.machine.ready d.program started } in
     subst (λ x. Prepared d s x s') (sym same) p
 
 -- user code goes on
@@ -76,6 +93,7 @@ proceeds d s s1 s2 s' m turn reply p same run =
     (subst (λ (x : State). RunReplies d (held_in d x) x.func x.entered turn.rest turn.sight.view turn.sight.copy reply s') same run) in
     record {
       kept = r.kept;
+      opens = r.opens;
       by = λ fuel more fits. r.by fuel more (tree_for d fuel s m) fits (p.holds fuel (turn.rest + more) fits);
     }
 
@@ -90,3 +108,107 @@ ran_user program plan fit halves are m m' c c' ticks e left ran =
 pub its_body : (program : Program) (func : ℕ) (f : Func) (body : List Stmt) → slice_get program.funcs func ≡ Some f → f.body ≡ Some body → (x : Body) × (body_of program func ≡ Some x)
 unfolding body_of
 its_body program func f body there has = (_, ap body_from there ∙ ap (body_by f) has)
+
+-- ---- a message that was accepted
+
+-- it is no reply
+pub not_accepted : (d : Driver) (s : State) (m m' : Message) (turn : Turn) → m ≡ m' → opening_for d s m' ≡ opening.Refuses 2 → opening_for d s m ≡ opening.Goes turn → ⊥
+not_accepted d s m m' turn same refused goes = cc (ap (opening_for d s) same, refused, goes)
+
+called_where : (idle may : Bool) (rest : ℕ) (entered : List ℕ) (sight : Option Sight) (turn : Turn) → chosen idle (opening_of rest entered (where_so may sight)) (opening.Refuses 2) ≡ opening.Goes turn → may ≡ true
+called_where true true rest entered sight turn h = refl
+called_where true false rest entered sight turn h = absurd (cc h)
+called_where false may rest entered sight turn h = absurd (cc h)
+
+called_so : (d : Driver) (s : State) (m : Message) (func depth rest : ℕ) (args : List Wire) (told : Told) (turn : Turn) → m ≡ message.Call func depth rest args told → opening_for d s m ≡ opening.Goes turn → may_enter d.plan func depth ≡ true
+unfolding opening_for call_sight
+called_so d s m func depth rest args told turn same goes =
+    called_where (is_idle s.awaits) (may_enter d.plan func depth) rest s.entered _ turn (sym (ap (opening_for d s) same) ∙ goes)
+
+left_holds : (x y : Bool) → x && y ≡ true → x ≡ true
+left_holds true y h = refl
+left_holds false y h = absurd (cc h)
+
+right_holds : (x y : Bool) → x && y ≡ true → y ≡ true
+right_holds true y h = h
+right_holds false y h = absurd (cc h)
+
+-- a call is of a function of the user half, with few active before it
+pub called_user : (d : Driver) (s : State) (m : Message) (func depth rest : ℕ) (args : List Wire) (told : Told) (turn : Turn) → m ≡ message.Call func depth rest args told → opening_for d s m ≡ opening.Goes turn → is_user d.plan func ≡ true
+called_user d s m func depth rest args told turn same goes = left_holds (is_user d.plan func) (nat_le depth 255) (called_so d s m func depth rest args told turn same goes)
+
+pub called_shallow : (d : Driver) (s : State) (m : Message) (func depth rest : ℕ) (args : List Wire) (told : Told) (turn : Turn) → m ≡ message.Call func depth rest args told → opening_for d s m ≡ opening.Goes turn → depth ≤ 255
+called_shallow d s m func depth rest args told turn same goes = leb-true depth 255 (right_holds (is_user d.plan func) (nat_le depth 255) (called_so d s m func depth rest args told turn same goes))
+
+-- the end of a call across is awaited
+back_where : (d : Driver) (s : State) (a : Awaits) (rest : ℕ) (v : Wire) (told : Told) (turn : Turn) (h : Held) → back_by d s (downcall a) rest v told ≡ opening.Goes turn → opens_by a h → IsOpen takes_value h
+back_where d s awaits.Nothing rest v told turn h goes o = absurd (cc goes)
+back_where d s (awaits.Back func) rest v told turn h goes o = o
+back_where d s (awaits.Answer question left) rest v told turn h goes o = absurd (cc goes)
+
+pub back_awaited : (d : Driver) (s : State) (m : Message) (rest : ℕ) (v : Wire) (told : Told) (turn : Turn) → m ≡ message.Back rest v told → opening_for d s m ≡ opening.Goes turn → Opens d s → IsOpen takes_value (held_in d s)
+unfolding opening_for
+back_awaited d s m rest v told turn same goes o = back_where d s s.awaits rest v told turn (held_in d s) (sym (ap (opening_for d s) same) ∙ goes) o
+
+-- answers are awaited, and these are as many
+pub record AreAwaited (h : Held) (results : List Wire) : Type 0 where
+  pub asked : Asked
+  pub waiting : IsOpen (takes_answers asked) h
+  pub many : asked.service ≡ 13 → length results ≡ length asked.shapes
+
+new_many : (news : List New) (shapes : List Shape64) (results : List Wire) → are_new news shapes results ≡ true → length results ≡ length shapes
+new_many news [] [] h = refl
+new_many news [] (v ∷ vs) h = absurd (cc h)
+new_many news (s ∷ shapes) [] h = absurd (cc h)
+new_many news (s ∷ shapes) (v ∷ vs) h = ap suc (new_many news shapes vs (right_holds (is_new news s v) (are_new news shapes vs) h))
+
+as_many_fit : (asked : Asked) (news : List New) (results : List Wire) → results_fit asked news results ≡ true → asked.service ≡ 13 → length results ≡ length asked.shapes
+unfolding results_fit
+as_many_fit asked news results fits is =
+    let enters : (are_new news asked.shapes results && are_different (serials_of results)) ≡ true = sym (ap (λ n. are_given_by (service_numbered n) news asked.shapes results) is) ∙ fits in
+    new_many news asked.shapes results (left_holds (are_new news asked.shapes results) (are_different (serials_of results)) enters)
+
+answered_where : (d : Driver) (s : State) (q : Question) (left : ℕ) (deaths : List ℕ) (news : List New) (turn : Turn) (fits : Bool) (copy : Option Memory) → answered_by d s q left deaths news (where_so fits copy) ≡ opening.Goes turn → fits ≡ true
+answered_where d s q left deaths news turn true copy h = refl
+answered_where d s q left deaths news turn false copy h = absurd (cc h)
+
+answer_where : (d : Driver) (s : State) (a : Awaits) (results : List Wire) (deaths : List ℕ) (news : List New) (turn : Turn) (h : Held) → answer_by d s a results deaths news ≡ opening.Goes turn → opens_by a h → AreAwaited h results
+unfolding answer_copy
+answer_where d s awaits.Nothing results deaths news turn h goes o = absurd (cc goes)
+answer_where d s (awaits.Back func) results deaths news turn h goes o = absurd (cc goes)
+answer_where d s (awaits.Answer q left) results deaths news turn h goes o = record {
+  asked = asked_of q;
+  waiting = o;
+  many = as_many_fit (asked_of q) news results
+      (right_holds (objects_fit (leaving q.service q.args) deaths s.entered) (results_fit (asked_of q) news results)
+      (answered_where d s q left deaths news turn (is_answered q s.entered results deaths news) (renewed d.program s.agreed deaths news) goes));
+}
+
+pub answer_awaited : (d : Driver) (s : State) (m : Message) (results : List Wire) (deaths : List ℕ) (news : List New) (turn : Turn) → m ≡ message.Answer results deaths news → opening_for d s m ≡ opening.Goes turn → Opens d s
+    → AreAwaited (held_in d s) results
+unfolding opening_for
+answer_awaited d s m results deaths news turn same goes o = answer_where d s s.awaits results deaths news turn (held_in d s) (sym (ap (opening_for d s) same) ∙ goes) o
+
+-- so they fit the machine
+pub back_waits : (d : Driver) (s : State) → IsOpen takes_value (held_in d s) → waits s.machine.front ≡ true
+unfolding held_of
+back_waits d s o = value_waits d.program s.machine.top s.machine.front o.takes_them
+
+pub back_fits : (d : Driver) (s : State) → IsOpen takes_value (held_in d s) → (vs : List Value) → FitQuestion s.machine.front vs
+unfolding held_of
+back_fits d s o vs = value_fits d.program s.machine.top s.machine.front vs o.takes_them
+
+pub answer_waits : (d : Driver) (s : State) (results : List Wire) → AreAwaited (held_in d s) results → waits s.machine.front ≡ true
+unfolding held_of
+answer_waits d s results a = let o = a.waiting in answers_wait d.program s.machine.top a.asked s.machine.front o.takes_them
+
+pub answer_fits : (d : Driver) (s : State) (results : List Wire) → AreAwaited (held_in d s) results → (vs : List Value) → length vs ≡ length results → FitQuestion s.machine.front vs
+unfolding held_of
+answer_fits d s results a vs same = let o = a.waiting in answers_fit d.program s.machine.top a.asked s.machine.front vs o.takes_them (λ is. same ∙ a.many is)
+
+wires_many : (vs : List Value) → length (wires_of vs) ≡ length vs
+wires_many [] = refl
+wires_many (v ∷ vs) = ap suc (wires_many vs)
+
+pub as_many : (vs values : List Value) (results : List Wire) → vs ≡ values → wires_of values ≡ results → length vs ≡ length results
+as_many vs values results same is = ap length same ∙ sym (wires_many values) ∙ ap length is

@@ -5,14 +5,16 @@ use Rattle.mdr_core.specs.declared.stop.StopKind.TheVariants as stop
 use Rattle.mdr_events.specs.declared.event.Event.{Event}
 use Rattle.mdr_events.specs.declared.event.Event.TheVariants as event
 use Rattle.mdr_events.specs.Events.{asked_as}
-use Rattle.mdr_events.specs.Going.{RanTo}
+use Rattle.mdr_events.specs.Going.{LeavesAt, RanTo}
 use Rattle.mdr_events.specs.Held.{Held, bare, tree}
+use Rattle.mdr_events.specs.Ready.{IsReady}
 use Rattle.mdr_events.specs.Running.{RunsTo}
 use Rattle.mdr_events.specs.Steps as came
 use Rattle.mdr_events.specs.Steps.{Came, after, child}
 use Rattle.mdr_events.specs.Values.{wires_of}
 use Rattle.mdr_exec.specs.declared.frame.Machine.{Machine}
 use Rattle.mdr_exec.specs.Holding.{held_of}
+use Rattle.mdr_exec.proofs.ReadyLaws.{ran_leaves}
 use Rattle.mdr_meaning.specs.declared.wire.Wire.{Wire}
 use Rattle.mdr_meaning.specs.Cut.{cut}
 use Rattle.mdr_meaning.specs.Sides.{Side}
@@ -32,7 +34,7 @@ use Rattle.mdr_watched.specs.Driver.{Driver}
 use Rattle.mdr_user_code.specs.declared.state.State.{State}
 use Rattle.mdr_user_code.specs.Copied.{Copied, copied, copy_accesses}
 use Rattle.mdr_user_code.specs.Replying.{RunReplies, awaits_as, settled, told_as}
-use Rattle.mdr_user_code.specs.Standing.{cut_delivered, held_in, kept_by, replies_so}
+use Rattle.mdr_user_code.specs.Standing.{cut_delivered, held_in, kept_by, opens_by, replies_so}
 use Rattle.mdr_user_code.proofs.CopiedWalks.{copied_walked, walks}
 
 -- ---- what follows answers
@@ -142,10 +144,19 @@ module _ (d : Driver) (h : Held) (s : State) (view : List Cell) (rest : ℕ) (co
   kept_is (event.Cross call) = omega arith
   kept_is (event.TicksOut at) = omega arith
 
-  pub run_replies : (e : Event) (reply : Message) → s.machine.used ≤ rest → RanTo copy_accesses d.user h (copied view copy) rest e (held_in d s) c left → reply ≡ told_as s.machine.used c.memory (changes c.view copy c.memory) e
+  -- the machine waits for what is awaited
+  opens_behind : (e : Event) → LeavesAt e (held_in d s) → opens_by (awaits_as left e) (held_in d s)
+  opens_behind (event.Done v) o = tt
+  opens_behind (event.Stop kind at) o = tt
+  opens_behind (event.Service q) o = o
+  opens_behind (event.Cross call) o = o
+  opens_behind (event.TicksOut at) o = tt
+
+  pub run_replies : (e : Event) (reply : Message) → IsReady h → s.machine.used ≤ rest → RanTo copy_accesses d.user h (copied view copy) rest e (held_in d s) c left → reply ≡ told_as s.machine.used c.memory (changes c.view copy c.memory) e
       → RunReplies d h s.func s.entered rest view copy reply (settled s rest copy c e)
-  run_replies e reply few ran is = record {
+  run_replies e reply ready few ran is = record {
     kept = kept_is e;
+    opens = opens_behind e (ran_leaves copy_accesses d.user h (held_in d s) (copied view copy) c rest e left ready ran);
     by = λ fuel more t fits same.
         let back : rest - left ≡ s.machine.used = omega (arith, few) in
         replies e ran fuel more t fits same
@@ -154,10 +165,10 @@ module _ (d : Driver) (h : Held) (s : State) (view : List Cell) (rest : ℕ) (co
   }
 
 -- a message's run
-pub run_from : (d : Driver) (s s' : State) (m : Machine) (view : List Cell) (rest : ℕ) (copy : Memory) (c0 c : Copied) (e : Event) (reply : Message) → c0 ≡ copied view copy → m.used ≤ rest
+pub run_from : (d : Driver) (s s' : State) (m : Machine) (view : List Cell) (rest : ℕ) (copy : Memory) (c0 c : Copied) (e : Event) (reply : Message) → IsReady (held_in d s) → c0 ≡ copied view copy → m.used ≤ rest
     → RanTo copy_accesses d.user (held_in d s) c0 rest e (held_of d.program m) c (rest - m.used) → reply ≡ told_as m.used c.memory (changes c.view copy c.memory) e → s' ≡ settled (record s { machine = m }) rest copy c e
     → RunReplies d (held_in d s) s.func s.entered rest view copy reply s'
-run_from d s s' m view rest copy c0 c e reply begun few ran told is =
+run_from d s s' m view rest copy c0 c e reply ready begun few ran told is =
     let r : RanTo copy_accesses d.user (held_in d s) (copied view copy) rest e (held_of d.program m) c (rest - m.used) =
     subst (λ (x : Copied). RanTo copy_accesses d.user (held_in d s) x rest e (held_of d.program m) c (rest - m.used)) begun ran in
-    subst (λ (x : State). RunReplies d (held_in d s) s.func s.entered rest view copy reply x) (sym is) (run_replies d (held_in d s) (record s { machine = m }) view rest copy c e reply few r told)
+    subst (λ (x : State). RunReplies d (held_in d s) s.func s.entered rest view copy reply x) (sym is) (run_replies d (held_in d s) (record s { machine = m }) view rest copy c e reply ready few r told)

@@ -1,19 +1,17 @@
 -- protocol
 -- The reply of an event, and what is open behind it.
-use Rattle.std.specs.Prelude.{◌≡◌, ◌≤◌, ℕ, suc, ◌+◌, ◌-◌, ◌==◌, Bool, List, map, length}
+use Rattle.std.specs.Prelude.{◌≡◌, ◌≤◌, ℕ, suc, ◌+◌, ◌-◌, true, List, map}
 use Rattle.mdr_core.specs.declared.program.Program.{Program}
 use Rattle.mdr_core.specs.declared.stop.StopKind.TheVariants as stop
-use Rattle.mdr_core.specs.declared.value.Value.{Value}
 use Rattle.mdr_events.specs.declared.event.Asked.{Asked as Service}
 use Rattle.mdr_events.specs.declared.event.Event.{Event}
 use Rattle.mdr_events.specs.declared.event.Event.TheVariants as event
 use Rattle.mdr_events.specs.Held.{Held, tree}
+use Rattle.mdr_events.specs.Ready.{IsReady, is_started}
 use Rattle.mdr_events.specs.Steps.{child}
 use Rattle.mdr_events.specs.Values.{wires_of}
-use Rattle.mdr_exec.specs.declared.frame.Front.{Front}
-use Rattle.mdr_exec.specs.declared.frame.Front.TheVariants as front
 use Rattle.mdr_exec.specs.declared.frame.Machine.{Machine}
-use Rattle.mdr_exec.specs.Holding.{held_of, waits}
+use Rattle.mdr_exec.specs.Holding.{held_of}
 use Rattle.mdr_meaning.specs.declared.wire.Wire.{Wire}
 use Rattle.mdr_meaning.specs.Bodies.{started}
 use Rattle.mdr_meaning.specs.Cut.{cut}
@@ -37,30 +35,29 @@ use Rattle.mdr_user_code.specs.declared.state.Question.{Question}
 use Rattle.mdr_user_code.specs.declared.state.State.{State}
 use Rattle.mdr_user_code.specs.Copied.{Copied}
 use Rattle.mdr_user_code.specs.Opening.{func_for, tree_for}
-use Rattle.mdr_user_code.specs.Standing.{cut_delivered, held_in, kept_by, replies_so}
+use Rattle.mdr_user_code.specs.Standing.{Opens, cut_delivered, held_in, kept_by, replies_so}
 
 -- ---- the machine is made ready
 
 -- a function was started in a machine that held nothing
 pub record IsStarted (d : Driver) (func : ℕ) (args : List Wire) (depth : ℕ) (m : Machine) : Type 0 where
   pub by : (fuel r : ℕ) → r ≤ fuel → tree d.user fuel (held_of d.program m) r ≡ cut r (started d.user (suc fuel) func args depth Tree.Idle)
+  pub ready : IsReady (held_of d.program m)
 
 -- a question is answered
 pub record IsResumed (results : List Wire) (m m' : Machine) : Type 0 where
   pub by : (program : Program) (side : Side) (fuel r : ℕ) → tree side fuel (held_of program m') r ≡ child (tree side fuel (held_of program m) r) results
+  pub ready : (program : Program) → is_started (held_of program m).items ≡ true → IsReady (held_of program m')
 
 pub record Resumed (results : List Wire) (s s' : State) : Type 0 where
   pub func : s'.func ≡ s.func
   pub machine : IsResumed results s.machine s'.machine
 
-abbrev pub is_ready : Front → List Value → Bool
-is_ready (front.WaitsParams room) results = length results == length room.items
-is_ready f results = waits f
-
 -- the machine holds what a message runs
 pub record Prepared (d : Driver) (s : State) (m : Message) (s' : State) : Type 0 where
   pub func : s'.func ≡ func_for s m
   pub holds : (fuel r : ℕ) → r ≤ fuel → tree d.user fuel (held_in d s') r ≡ cut r (tree_for d fuel s m)
+  pub ready : IsReady (held_in d s')
 
 -- ---- what is told
 
@@ -93,12 +90,14 @@ settled s rest copy c e = record s {
 
 -- what is held runs with so many ticks over a copy, whatever ticks later messages grant
 pub record RunReplies (d : Driver) (held : Held) (stub : ℕ) (entered : List ℕ) (rest : ℕ) (view : List Cell) (copy : Memory) (reply : Message) (s' : State) : Type 0 where
+  pub opens : Opens d s'
   pub kept : kept_by s'.awaits ≤ rest
   pub by : (fuel more : ℕ) (t : Tree) → rest + more ≤ fuel → tree d.user fuel held (rest + more) ≡ cut (rest + more) t
       → cut_delivered more (replied_to stub entered view rest copy (walk (guarded view) rest t copy)) ≡ cut_delivered more (replies_so d fuel reply s')
 
 -- user code goes on with a message
 pub record Proceeds (d : Driver) (s : State) (m : Message) (turn : Turn) (reply : Message) (s' : State) : Type 0 where
+  pub opens : Opens d s'
   pub kept : kept_by s'.awaits ≤ turn.rest
   pub by : (fuel more : ℕ) → turn.rest + more ≤ fuel
       → cut_delivered more (replied_to (func_for s m) turn.entered turn.sight.view turn.rest turn.sight.copy (walk (guarded turn.sight.view) turn.rest (tree_for d fuel s m) turn.sight.copy))

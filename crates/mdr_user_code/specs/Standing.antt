@@ -4,6 +4,7 @@ use Rattle.std.specs.Prelude.{◌≡◌, ℕ, suc, ◌+◌, ◌≤◌, List, [],
 use Rattle.mdr_core.specs.declared.plan.Plan.{Plan}
 use Rattle.mdr_core.specs.declared.program.Program.{Program}
 use Rattle.mdr_events.specs.Held.{Held, bare}
+use Rattle.mdr_events.specs.Ready.{IsOpen, takes_answers, takes_value}
 use Rattle.mdr_events.specs.Steps.{child}
 use Rattle.mdr_exec.specs.Holding.{held_of}
 use Rattle.mdr_meaning.specs.declared.wire.Wire.{Wire}
@@ -45,6 +46,15 @@ held_in d s = held_of d.program s.machine
 abbrev pub user_of : Driver → (fuel : ℕ) → State → User
 user_of d fuel s = record { agreed = s.agreed; entered = s.entered; work = work_by s.awaits s.func s.view (child (bare d.user fuel (held_in d s))) }
 
+-- the machine waits for what is awaited
+abbrev pub opens_by : Awaits → Held → Type 0
+opens_by awaits.Nothing h = Unit {0}
+opens_by (awaits.Back func) h = IsOpen takes_value h
+opens_by (awaits.Answer question left) h = IsOpen (takes_answers (asked_of question)) h
+
+abbrev pub Opens : Driver → State → Type 0
+Opens d s = opens_by s.awaits (held_in d s)
+
 -- the ticks that an answer goes on with
 abbrev pub kept_by : Awaits → ℕ
 kept_by awaits.Nothing = 0
@@ -73,6 +83,7 @@ replies_so d fuel reply s = record { reply = reply; user = user_of d fuel s }
 -- the reply to a message, and what is open after it, whatever ticks later messages grant
 pub record Replies (d : Driver) (s : State) (x : Reading) (reply : Message) (s' : State) : Type 0 where
   pub kept : kept_by s'.awaits ≤ kept_by s.awaits + granted x
+  pub opens : Opens d s'
   pub by : (fuel more : ℕ) → kept_by s.awaits + granted x + more ≤ fuel → cut_delivered more (deliver d (suc fuel) (user_of d fuel s) x) ≡ cut_delivered more (replies_so d fuel reply s')
 
 -- ---- messages in turn
@@ -80,4 +91,5 @@ pub record Replies (d : Driver) (s : State) (x : Reading) (reply : Message) (s' 
 -- what is open after messages, whatever ticks later ones grant
 pub record Follows (d : Driver) (before : List Reading) (s : State) : Type 0 where
   pub kept : kept_by s.awaits ≤ allowance before
+  pub opens : Opens d s
   pub by : (fuel more : ℕ) → allowance before + more ≤ fuel → cut_user more (user_after d (suc fuel) (first_user d) before) ≡ cut_user more (user_of d fuel s)

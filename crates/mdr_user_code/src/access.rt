@@ -1,6 +1,6 @@
 // What the user half's code does to cells that it may touch.
 
-ghost use Rattle.std.specs.Prelude.{◌≡◌, nat_lt, slice_get, OnErr};
+ghost use Rattle.std.specs.Prelude.{◌≡◌, nat_lt, OnErr};
 ghost use Rattle.mdr_events.specs.Outcomes.{when_made, wired};
 ghost use Rattle.mdr_meaning.specs.declared.wire.Wire.TheVariants as wire;
 ghost use Rattle.mdr_meaning.specs.Values.{wire_of, wire_view};
@@ -10,9 +10,9 @@ ghost use Rattle.mdr_plain.specs.Storage.{fresh};
 ghost use Rattle.mdr_user_code.specs.Spots.{cell_in, spot_in};
 
 use crate::values::value_of;
-use mdr_copy::{is_in_at, is_live, normal, put, wire_of};
+use mdr_copy::{CellList, RisingBlocks, held_at, is_live, normal, put, wire_of};
 use mdr_core::{StopKind, Value, View};
-use mdr_model::{Cell, MemoryBlock, Wire};
+use mdr_model::Wire;
 
 /// A cell, whose index has no bound of 32 bits.
 #[derive(Clone, Copy)]
@@ -22,7 +22,7 @@ pub struct Spot {
 }
 
 /// The tests of an access in their order.
-fn reached_view(view: &[Cell], memory: &[MemoryBlock], p: View) -> Result<Spot, StopKind>
+fn reached_view(view: &CellList, memory: &RisingBlocks, p: View) -> Result<Spot, StopKind>
     ensures { spot_in result ≡ reached_by (is_live memory.now p.block.serial) (nat_lt p.index p.count) (is_in view.now (cell_of (wire_view p))) (cell_of (wire_view p)) }
 {
     let index = p.first as usize + p.index as usize;
@@ -30,7 +30,7 @@ fn reached_view(view: &[Cell], memory: &[MemoryBlock], p: View) -> Result<Spot, 
         Err(StopKind::Dead)
     } else if p.index >= p.count {
         Err(StopKind::Bounds)
-    } else if !is_in_at(view, p.block.serial, index) {
+    } else if !view.has(p.block.serial, index) {
         Err(StopKind::Annotation)
     } else {
         Ok(Spot {
@@ -42,7 +42,7 @@ fn reached_view(view: &[Cell], memory: &[MemoryBlock], p: View) -> Result<Spot, 
 
 /// The cell that an access through a pointer touches.
 #[tactic(auto, unfolding(mdr_model::specs::Memory::reached))]
-fn reached(view: &[Cell], memory: &[MemoryBlock], pointer: Value) -> Result<Spot, StopKind>
+fn reached(view: &CellList, memory: &RisingBlocks, pointer: Value) -> Result<Spot, StopKind>
     ensures { spot_in result ≡ reached (is_in view.now) memory.now (wire_of pointer) }
 {
     match pointer {
@@ -56,23 +56,11 @@ fn reached(view: &[Cell], memory: &[MemoryBlock], pointer: Value) -> Result<Spot
     }
 }
 
-fn cell_of(block: &MemoryBlock, index: usize) -> Option<Wire>
-    ensures { result ≡ slice_get block.now.cells index }
-{
-    block.cells.as_slice().get(index).copied()
-}
-
 /// What a cell holds, where its block is live and has it.
-#[tactic(auto, unfolding(mdr_model::specs::Memory::cell_at))]
-pub(crate) fn held_at(memory: &[MemoryBlock], spot: Spot) -> Option<Wire>
+pub(crate) fn held_in(memory: &RisingBlocks, spot: Spot) -> Option<Wire>
     ensures { result ≡ cell_at memory.now (cell_in spot) }
 {
-    for block in memory {
-        if block.born.serial == spot.serial {
-            return cell_of(block, spot.index);
-        }
-    }
-    None
+    held_at(memory, spot.serial, spot.index)
 }
 
 /// A dead pointer isn't loaded.
@@ -97,21 +85,21 @@ fn loaded_cell(held: Option<Wire>) -> Result<Value, StopKind>
 /// What is loaded through a pointer.
 #[tactic(auto, unfolding(mdr_model::specs::Memory::loaded))]
 pub(crate) fn loaded(
-    view: &[Cell],
-    memory: &[MemoryBlock],
+    view: &CellList,
+    memory: &RisingBlocks,
     pointer: Value,
 ) -> Result<Value, StopKind>
     ensures { wired result ≡ loaded (is_in view.now) memory.now (wire_of pointer) }
 {
     match reached(view, memory, pointer) {
-        Ok(spot) => loaded_cell(held_at(memory, spot)),
+        Ok(spot) => loaded_cell(held_in(memory, spot)),
         Err(kind) => Err(kind),
     }
 }
 
 /// A value as it is now: a pointer whose block isn't live is a dead one.
 #[tactic(auto, unfolding(mdr_model::specs::Memory::normal))]
-fn value_now(memory: &[MemoryBlock], value: Value) -> Value
+fn value_now(memory: &RisingBlocks, value: Value) -> Value
     ensures { wire_of result ≡ normal memory.now (wire_of value) }
 {
     match value {
@@ -128,13 +116,13 @@ fn value_now(memory: &[MemoryBlock], value: Value) -> Value
 
 /// What a local's value is when it is read.
 #[tactic(auto, unfolding(mdr_plain::specs::Storage::fresh))]
-pub(crate) fn fresh(memory: &[MemoryBlock], value: Value) -> Result<Value, StopKind>
+pub(crate) fn fresh(memory: &RisingBlocks, value: Value) -> Result<Value, StopKind>
     ensures { wired result ≡ fresh memory.now (wire_of value) }
 {
     loadable(value_now(memory, value))
 }
 
-fn put_now(memory: &mut [MemoryBlock], spot: Spot, value: Wire)
+fn put_now(memory: &mut RisingBlocks, spot: Spot, value: Wire)
     ensures { memory.new ≡ put memory.old (cell_in spot) (normal memory.old value) }
 {
     let kept = normal(memory, value);
@@ -144,8 +132,8 @@ fn put_now(memory: &mut [MemoryBlock], spot: Spot, value: Wire)
 /// A value is stored through a pointer.
 #[tactic(auto, unfolding(mdr_model::specs::Memory::stored))]
 pub(crate) fn stored(
-    view: &[Cell],
-    memory: &mut [MemoryBlock],
+    view: &CellList,
+    memory: &mut RisingBlocks,
     pointer: Value,
     value: Value,
 ) -> Result<(), StopKind>

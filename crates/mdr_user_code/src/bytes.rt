@@ -8,10 +8,9 @@ ghost use Rattle.mdr_model.specs.Sets.{cells_from, is_in};
 ghost use Rattle.mdr_plain.specs.Storage.{byte_at, number_in, read};
 ghost use Rattle.mdr_user_code.specs.Spots.{bytes_if};
 
-use crate::access::{Spot, held_at};
-use mdr_copy::{is_in_at, is_live};
+use mdr_copy::{CellList, RisingBlocks, held_at, is_live};
 use mdr_core::{Items, StopKind, Value, View};
-use mdr_model::{Cell, MemoryBlock, Wire};
+use mdr_model::Wire;
 use std::alloc::{AllocError, Global};
 
 /// A byte. A number that none is answers want of memory: what is read as bytes holds no such number.
@@ -39,7 +38,7 @@ fn byte_in(held: Option<Wire>) -> Result<u8, AllocError>
 }
 
 fn bytes_from(
-    memory: &[MemoryBlock],
+    memory: &RisingBlocks,
     alloc: Global,
     serial: u64,
     first: usize,
@@ -50,25 +49,19 @@ fn bytes_from(
 {
     let mut bytes = Items::new(alloc);
     for i in 0..count {
-        let held = held_at(
-            memory,
-            Spot {
-                serial,
-                index: first + i as usize,
-            },
-        );
+        let held = held_at(memory, serial, first + i as usize);
         bytes.push(byte_in(held)?)?;
     }
     Ok(bytes)
 }
 
 /// Whether cells that follow one another may be touched.
-fn lie_in(view: &[Cell], serial: u64, first: usize, count: u32) -> bool
+fn lie_in(view: &CellList, serial: u64, first: usize, count: u32) -> bool
     requires { first ≤ 8589934592 }
     ensures { result ≡ list_all (is_in view.now) (cells_from serial first count) }
 {
     for i in 0..count {
-        if !is_in_at(view, serial, first + i as usize) {
+        if !view.has(serial, first + i as usize) {
             return false;
         }
     }
@@ -83,8 +76,8 @@ fn has_room(p: View, count: u64) -> bool
 }
 
 fn bytes_if(
-    view: &[Cell],
-    memory: &[MemoryBlock],
+    view: &CellList,
+    memory: &RisingBlocks,
     alloc: Global,
     p: View,
     count: u32,
@@ -100,8 +93,8 @@ fn bytes_if(
 }
 
 fn read_view(
-    view: &[Cell],
-    memory: &[MemoryBlock],
+    view: &CellList,
+    memory: &RisingBlocks,
     alloc: Global,
     p: View,
     count: u64,
@@ -120,8 +113,8 @@ fn read_view(
 /// So many bytes from a pointer on, as one access.
 #[tactic(auto, unfolding(mdr_plain::specs::Storage::read))]
 pub(crate) fn read(
-    view: &[Cell],
-    memory: &[MemoryBlock],
+    view: &CellList,
+    memory: &RisingBlocks,
     alloc: Global,
     pointer: Value,
     count: u64,

@@ -6,8 +6,10 @@ ghost use Rattle.mdr_model.specs.declared.message.Message.TheVariants as message
 ghost use Rattle.mdr_model.specs.KernelState.{Reading};
 ghost use Rattle.mdr_split.specs.User.{user_reply};
 ghost use Rattle.mdr_watched.specs.Driver.{driver_of};
+ghost use Rattle.mdr_user_code.specs.declared.opening.Opening.TheVariants as opening;
+ghost use Rattle.mdr_user_code.specs.Opening.{opening_for};
 ghost use Rattle.mdr_user_code.specs.Replying.{Proceeds};
-ghost use Rattle.mdr_user_code.specs.Standing.{Follows, IsFit, Replies, driver_in};
+ghost use Rattle.mdr_user_code.specs.Standing.{Follows, IsFit, Opens, Replies, driver_in};
 
 use crate::first::first_memory;
 use crate::opening::{Opening, Turn, opens};
@@ -15,6 +17,7 @@ use crate::ready::prepare;
 use crate::running::run;
 use crate::scene::Scene;
 use crate::state::{Awaits, State};
+use mdr_copy::CellList;
 use mdr_core::{Items, OutOfMemory, Plan, Program};
 use mdr_exec::{Machine, Side};
 use mdr_model::{Fault, Message};
@@ -33,7 +36,7 @@ pub fn begins(alloc: Global, program: &Program, plan: &Plan) -> Result<State, Ou
         machine: Machine::new(alloc, Side::User),
         func: 0,
         entered,
-        view: Items::new(alloc),
+        view: CellList::of(Items::new(alloc)),
         awaits: Awaits::Nothing,
     })
 }
@@ -55,6 +58,8 @@ fn proceed(
 ) -> Result<Message, OutOfMemory>
     requires sound { IsSound scene.program.now }
     requires fit { IsFit scene.plan.now scene.program.now }
+    requires opens { Opens (driver_in scene) state.old }
+    requires goes { opening_for (driver_in scene) state.old message.now ≡ opening.Goes turn }
     ensures { IfOk result (λ r. Proceeds (driver_in scene.entry) state.old message.now turn r state.new) }
 {
     prepare(alloc, scene, state, message)?;
@@ -76,6 +81,7 @@ fn deliver(
 ) -> Result<Message, OutOfMemory>
     requires sound { IsSound scene.program.now }
     requires fit { IsFit scene.plan.now scene.program.now }
+    requires opens { Opens (driver_in scene) state.old }
     ensures { IfOk result (λ r. Replies (driver_in scene.entry) state.old (Ok message.now) r state.new) }
 {
     let opening = opens(alloc, scene, state, message)?;
@@ -96,6 +102,7 @@ fn reply_to(
 ) -> Result<Message, OutOfMemory>
     requires sound { IsSound scene.program.now }
     requires fit { IsFit scene.plan.now scene.program.now }
+    requires opens { Opens (driver_in scene) state.old }
     ensures { IfOk result (λ r. Replies (driver_in scene.entry) state.old message.now r state.new) }
 {
     match message {
@@ -114,6 +121,7 @@ pub fn delivered(
 ) -> Result<Message, OutOfMemory>
     requires sound { IsSound program.now }
     requires fit { IsFit plan.now program.now }
+    requires opens { Opens (driver_of program.now plan.now) state.old }
     ensures reply { IfOk result (λ r. (before : List Reading) → Follows (driver_of program.now plan.now) before state.old → r ≡ user_reply (driver_of program.now plan.now) before message.now) }
     ensures follows { OnOk result ((before : List Reading) → Follows (driver_of program.now plan.now) before state.old → Follows (driver_of program.now plan.now) (before ++ message.now ∷ []) state.new) }
 {

@@ -7,7 +7,8 @@ ghost use Rattle.mdr_meaning.specs.Numbers.{is_same_type, number_in};
 ghost use Rattle.mdr_plain.specs.Storage.{first_memory, global_block, global_blocks};
 
 use crate::values::wires_of;
-use mdr_core::{GlobalDef, Items, OutOfMemory, Program, Ty, same_type};
+use mdr_copy::RisingBlocks;
+use mdr_core::{GlobalDef, OutOfMemory, Program, Ty, same_type};
 use mdr_model::{BirthKind, MemoryBlock, New};
 use std::alloc::Global;
 
@@ -88,10 +89,10 @@ fn global_blocks(
 pub(crate) fn first_memory(
     alloc: Global,
     program: &Program,
-) -> Result<Items<MemoryBlock>, OutOfMemory>
+) -> Result<RisingBlocks, OutOfMemory>
     requires { HasFewNumbers program.now }
     ensures { IfOk result (λ m. m ≡ first_memory (known_of program.now)) }
 {
     let blocks = global_blocks(alloc, program, program.globals.as_slice())?;
-    Ok(Items::from_vec(blocks))
+    Ok(RisingBlocks::of(blocks))
 }

@@ -10,9 +10,9 @@ ghost use Rattle.mdr_model.specs.User.{still_live};
 ghost use Rattle.mdr_split.specs.User.{cells_of_news};
 
 use crate::keys::is_touched;
-use mdr_copy::is_live;
-use mdr_core::{Items, Key, Limit, OutOfMemory, Program, cells_of};
-use mdr_model::{Cell, MemoryBlock, New};
+use mdr_copy::{CellList, RisingBlocks, is_live};
+use mdr_core::{Items, Key, OutOfMemory, Program, cells_of};
+use mdr_model::{Cell, New};
 use std::alloc::Global;
 
 fn product(a: u32, b: u32) -> Option<u32>
@@ -83,7 +83,7 @@ fn put_own(
 {
     match size_of(program, block) {
         Some(size) => put_all_touched(out, program, touched, block, size),
-        None => Err(Limit::Unmet.past()),
+        None => Err(OutOfMemory::unmet()),
     }
 }
 
@@ -106,7 +106,7 @@ fn put_news(
 /// The visible cells that are left when blocks died.
 fn still_live(
     alloc: Global,
-    copy: &[MemoryBlock],
+    copy: &RisingBlocks,
     seen: &[Cell],
 ) -> Result<Items<Cell>, OutOfMemory>
     ensures { IfOk result (λ left. left ≡ filter (still_live copy.now) seen.now) }
@@ -125,14 +125,14 @@ pub(crate) fn visible_after(
     alloc: Global,
     program: &Program,
     touched: &[Key],
-    copy: &[MemoryBlock],
+    copy: &RisingBlocks,
     news: &[New],
     seen: &[Cell],
-) -> Result<Items<Cell>, OutOfMemory>
+) -> Result<CellList, OutOfMemory>
     requires { IsSound program.now }
     ensures { IfOk result (λ cells. cells ≡ filter (still_live copy.now) seen.now ++ cells_of_news program.now touched.now news.now) }
 {
     let mut cells = still_live(alloc, copy, seen)?;
     put_news(&mut cells, program, touched, news)?;
-    Ok(cells)
+    Ok(CellList::of(cells))
 }

@@ -6,18 +6,19 @@ ghost use Rattle.mdr_user_code.specs.Copied.{copied};
 use crate::access::{fresh, loaded, stored};
 use crate::bytes::read;
 use crate::quick::{first_integer, set_first_integer};
+use mdr_copy::{CellList, RisingBlocks};
 use mdr_core::{Items, StopKind, Value};
 use mdr_events::{Integer, Memory};
 use mdr_meaning::Shape64;
-use mdr_model::{Cell, MemoryBlock};
+use mdr_model::Cell;
 use std::alloc::{AllocError, Global};
 use std::marker::Model;
 
 /// The user half's copy of memory, and the cells that its code may touch.
 #[derive(Drop)]
 pub struct UserMemory {
-    blocks: Vec<MemoryBlock>,
-    view: Items<Cell>,
+    blocks: RisingBlocks,
+    view: CellList,
 }
 
 impl Model for UserMemory {
@@ -25,29 +26,35 @@ impl Model for UserMemory {
 
     ghost Value = { Copied };
 
-    ghost view = { λ s. copied s.view s.blocks.items };
+    ghost view = { λ s. copied s.view s.blocks };
 }
 
 impl UserMemory {
-    pub fn new(blocks: Vec<MemoryBlock>, view: Items<Cell>) -> UserMemory
-        ensures { result ≡ copied view blocks.items }
+    pub fn new(blocks: RisingBlocks, view: CellList) -> UserMemory
+        ensures { result ≡ copied view blocks }
     {
         UserMemory { blocks, view }
     }
 
-    pub fn blocks(&self) -> &[MemoryBlock]
+    pub fn blocks(&self) -> &RisingBlocks
         ensures { result.now ≡ self.now.memory }
     {
-        self.blocks.as_slice()
+        &self.blocks
     }
 
-    pub fn view(&self) -> &[Cell]
+    pub fn view(&self) -> &CellList
+        ensures { result.now ≡ self.now.view }
+    {
+        &self.view
+    }
+
+    pub fn cells(&self) -> &[Cell]
         ensures { result.now ≡ self.now.view }
     {
         self.view.as_slice()
     }
 
-    pub fn into_view(self) -> Items<Cell>
+    pub fn into_view(self) -> CellList
         ensures { result ≡ self.view }
     {
         self.view
@@ -60,15 +67,15 @@ impl Memory for UserMemory {
     ghost accesses = { copy_accesses };
 
     fn load(&self, pointer: Value) -> Result<Value, StopKind> {
-        loaded(self.view.as_slice(), self.blocks.as_slice(), pointer)
+        loaded(&self.view, &self.blocks, pointer)
     }
 
     fn fresh(&self, pointer: Value) -> Result<Value, StopKind> {
-        fresh(self.blocks.as_slice(), pointer)
+        fresh(&self.blocks, pointer)
     }
 
     fn store(&mut self, pointer: Value, value: Value) -> Result<(), StopKind> {
-        stored(self.view.as_slice(), &mut self.blocks, pointer, value)
+        stored(&self.view, &mut self.blocks, pointer, value)
     }
 
     fn first(&self, serial: u64) -> Option<Integer> {
@@ -76,7 +83,7 @@ impl Memory for UserMemory {
     }
 
     fn set_first(&mut self, serial: u64, integer: Integer) -> bool {
-        set_first_integer(self.view.as_slice(), &mut self.blocks, serial, integer)
+        set_first_integer(&self.view, &mut self.blocks, serial, integer)
     }
 
     fn read(
@@ -85,18 +92,12 @@ impl Memory for UserMemory {
         pointer: Value,
         count: u64,
     ) -> Result<Result<Items<u8>, StopKind>, AllocError> {
-        read(
-            self.view.as_slice(),
-            self.blocks.as_slice(),
-            alloc,
-            pointer,
-            count,
-        )
+        read(&self.view, &self.blocks, alloc, pointer, count)
     }
 
-    /// User code asks for births by a service. So here none is made, and the answer is want of memory.
-    fn birth(&mut self, _alloc: Global, _shapes: &[Shape64]) -> Result<Items<Value>, AllocError> {
-        Err(AllocError)
+    /// User code asks for births by a service, so none is made here.
+    fn birth(&mut self, alloc: Global, _shapes: &[Shape64]) -> Result<Items<Value>, AllocError> {
+        Ok(Items::new(alloc))
     }
 
     /// So it does for deaths.

@@ -12,9 +12,10 @@ use crate::objects::objects_fit;
 use crate::scene::Scene;
 use crate::sight::{Sight, back_sight, call_sight, renewed, touched};
 use crate::state::{Awaits, Question, State};
+use mdr_copy::RisingBlocks;
 use mdr_core::{Items, OutOfMemory};
 use mdr_fits::{entered_behind, leaving, results_fit};
-use mdr_model::{MemoryBlock, Message, New, Told, Wire};
+use mdr_model::{Message, New, Told, Wire};
 use std::alloc::Global;
 
 /// User code that goes on: its ticks, the blocks that came in an answer to service 13 and live, and what it sees.
@@ -85,7 +86,7 @@ fn open_call(
         return Ok(Opening::Refuses(2));
     }
     let entered = Items::from_slice(alloc, state.entered.as_slice())?;
-    let copy = state.agreed.as_slice();
+    let copy = &state.agreed;
     let lives = state.entered.as_slice();
     let sight = call_sight(alloc, scene, copy, lives, func, depth, args, told)?;
     Ok(opening_of(rest, entered, sight))
@@ -104,7 +105,7 @@ fn back(
     ensures { IfOk result (λ o. o ≡ opening_of rest state.now.entered (back_sight (driver_in scene.entry) state.now.agreed state.now.func state.now.entered func value told.now)) }
 {
     let entered = Items::from_slice(alloc, state.entered.as_slice())?;
-    let copy = state.agreed.as_slice();
+    let copy = &state.agreed;
     let lives = state.entered.as_slice();
     let sight = back_sight(alloc, scene, copy, state.func, lives, func, value, told)?;
     Ok(opening_of(rest, entered, sight))
@@ -157,7 +158,7 @@ fn answer_copy(
     results: &[Wire],
     deaths: &Items<u64>,
     news: &Items<New>,
-) -> Result<Option<Items<MemoryBlock>>, OutOfMemory>
+) -> Result<Option<RisingBlocks>, OutOfMemory>
     ensures { IfOk result (λ c. c ≡ answer_copy (driver_in scene.entry) state.now question.now results.now deaths.now news.now) }
 {
     let lives = state.entered.as_slice();
@@ -171,7 +172,7 @@ fn answer_copy(
     )? {
         return Ok(None);
     }
-    let copy = renewed(alloc, scene.program, state.agreed.as_slice(), deaths, news)?;
+    let copy = renewed(alloc, scene.program, &state.agreed, deaths, news)?;
     Ok(copy)
 }
 
@@ -181,7 +182,7 @@ fn grown_sight(
     alloc: Global,
     scene: Scene,
     state: &State,
-    copy: Items<MemoryBlock>,
+    copy: RisingBlocks,
     news: &[New],
 ) -> Result<Sight, OutOfMemory>
     requires { IsSound scene.program.now }
@@ -189,7 +190,7 @@ fn grown_sight(
 {
     let keys = touched(scene.plan, state.func);
     let seen = state.view.as_slice();
-    let view = visible_after(alloc, scene.program, keys, copy.as_slice(), news, seen)?;
+    let view = visible_after(alloc, scene.program, keys, &copy, news, seen)?;
     Ok(Sight { view, copy })
 }
 
@@ -201,7 +202,7 @@ fn answer_turn(
     left: u64,
     deaths: &[u64],
     news: &[New],
-    copy: Items<MemoryBlock>,
+    copy: RisingBlocks,
 ) -> Result<Turn, OutOfMemory>
     requires { IsSound scene.program.now }
     ensures { IfOk result (λ t. t ≡ answer_turn (driver_in scene.entry) state.now question.now left deaths.now news.now copy) }

@@ -5,11 +5,10 @@ ghost use Rattle.mdr_events.specs.Integers.{FirstBecomes, FirstIs, integer_wire}
 ghost use Rattle.mdr_model.specs.Memory.{put};
 ghost use Rattle.mdr_user_code.specs.Copied.{copied, copy_accesses};
 
-use crate::access::{Spot, held_at};
 use crate::memory::UserMemory;
-use mdr_copy::{is_in_at, is_live, put};
+use mdr_copy::{CellList, RisingBlocks, held_at, is_live, put};
 use mdr_events::Integer;
-use mdr_model::{Cell, MemoryBlock, Wire};
+use mdr_model::Wire;
 
 /// The integer that a cell holds.
 fn integer_in(held: Option<Wire>) -> Option<Integer>
@@ -25,13 +24,13 @@ fn integer_in(held: Option<Wire>) -> Option<Integer>
 pub(crate) fn first_integer(memory: &UserMemory, serial: u64) -> Option<Integer>
     ensures { IfSome result (λ n. FirstIs copy_accesses memory.now serial n) }
 {
-    if !is_in_at(memory.view(), serial, 0) {
+    if !memory.view().has(serial, 0) {
         return None;
     }
-    integer_in(held_at(memory.blocks(), Spot { serial, index: 0 }))
+    integer_in(held_at(memory.blocks(), serial, 0))
 }
 
-fn put_first(memory: &mut [MemoryBlock], serial: u64, integer: Integer)
+fn put_first(memory: &mut RisingBlocks, serial: u64, integer: Integer)
     ensures { memory.new ≡ put memory.old (record { serial = serial; index = 0 }) (integer_wire integer) }
 {
     put(memory, serial, 0, Wire::Int(integer.kind, integer.number));
@@ -39,15 +38,15 @@ fn put_first(memory: &mut [MemoryBlock], serial: u64, integer: Integer)
 
 /// Puts an integer there, where the block lives and that cell may be touched.
 pub(crate) fn set_first_integer(
-    view: &[Cell],
-    memory: &mut [MemoryBlock],
+    view: &CellList,
+    memory: &mut RisingBlocks,
     serial: u64,
     integer: Integer,
 ) -> bool
     ensures done { result ≡ true → FirstBecomes copy_accesses (copied view.now memory.old) serial integer (copied view.now memory.new) }
     ensures kept { result ≡ false → memory.new ≡ memory.old }
 {
-    if !is_in_at(view, serial, 0) {
+    if !view.has(serial, 0) {
         return false;
     }
     if !is_live(memory, serial) {

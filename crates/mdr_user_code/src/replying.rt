@@ -13,10 +13,10 @@ use crate::memory::UserMemory;
 use crate::sight::told_copy;
 use crate::state::{Awaits, Question, State};
 use crate::values::wires_of;
-use mdr_copy::{changes, normal, normals, wire_of};
+use mdr_copy::{RisingBlocks, changes, normal, normals, wire_of};
 use mdr_core::{Items, OutOfMemory, StopKind, Value};
 use mdr_events::{Asked, Crossing, Event};
-use mdr_model::{MemoryBlock, Message, Run, Wire};
+use mdr_model::{Message, Run, Wire};
 use std::alloc::Global;
 
 /// A stop's number, from 1.
@@ -47,7 +47,7 @@ fn stop_number(kind: StopKind) -> u32
 /// Values as messages carry them.
 fn told_values(
     alloc: Global,
-    memory: &[MemoryBlock],
+    memory: &RisingBlocks,
     values: &[Value],
 ) -> Result<Items<Wire>, OutOfMemory>
     ensures { IfOk result (λ vs. vs ≡ map (normal memory.now) (wires_of values.now)) }
@@ -61,7 +61,7 @@ fn told_values(
 fn ask(
     alloc: Global,
     ticks: u64,
-    memory: &[MemoryBlock],
+    memory: &RisingBlocks,
     runs: Items<Run>,
     asked: &Asked,
 ) -> Result<Message, OutOfMemory>
@@ -82,7 +82,7 @@ fn ask(
 fn call_down(
     alloc: Global,
     ticks: u64,
-    memory: &[MemoryBlock],
+    memory: &RisingBlocks,
     runs: Items<Run>,
     crossing: &Crossing,
 ) -> Result<Message, OutOfMemory>
@@ -102,7 +102,7 @@ fn call_down(
 fn tell(
     alloc: Global,
     ticks: u64,
-    memory: &[MemoryBlock],
+    memory: &RisingBlocks,
     runs: Items<Run>,
     event: &Event,
 ) -> Result<Message, OutOfMemory>
@@ -157,7 +157,7 @@ fn awaits_behind(alloc: Global, event: &Event, left: u64) -> Result<Awaits, OutO
 }
 
 /// Puts a value in place of another.
-fn put<T: Drop>(place: &mut T, value: T)
+pub(crate) fn put<T: Drop>(place: &mut T, value: T)
     ensures { place.new ≡ value }
 {
     *place = value;
@@ -178,7 +178,7 @@ pub(crate) fn settle(
     alloc: Global,
     state: &mut State,
     rest: u64,
-    copy: Items<MemoryBlock>,
+    copy: RisingBlocks,
     memory: UserMemory,
     event: &Event,
 ) -> Result<Message, OutOfMemory>
@@ -187,7 +187,7 @@ pub(crate) fn settle(
     ensures state { OnOk result (state.new ≡ settled state.old rest copy memory event.now) }
 {
     let used = state.machine.used();
-    let runs = changes(alloc, memory.view(), copy.as_slice(), memory.blocks())?;
+    let runs = changes(alloc, memory.cells(), &copy, memory.blocks())?;
     keep(alloc, state, event, rest - used)?;
     state.agreed = told_copy(copy, runs.as_slice());
     let reply = tell(alloc, used, memory.blocks(), runs, event)?;

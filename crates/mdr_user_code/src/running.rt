@@ -3,6 +3,7 @@
 ghost use Rattle.std.specs.Prelude.{◌≡◌, ◌≤◌, ◌-◌, IfOk, OnOk};
 ghost use Rattle.mdr_core.specs.Sound.{IsSound};
 ghost use Rattle.mdr_events.specs.Going.{RanTo};
+ghost use Rattle.mdr_events.specs.Ready.{IsReady};
 ghost use Rattle.mdr_exec.specs.Holding.{held_of};
 ghost use Rattle.mdr_user_code.specs.Copied.{copy_accesses};
 ghost use Rattle.mdr_user_code.specs.Replying.{RunReplies};
@@ -13,7 +14,7 @@ use crate::replying::settle;
 use crate::scene::Scene;
 use crate::sight::Sight;
 use crate::state::State;
-use mdr_copy::copied;
+use mdr_copy::copy_of;
 use mdr_core::OutOfMemory;
 use mdr_events::Event;
 use mdr_exec::{Machine, Side};
@@ -30,6 +31,7 @@ fn go(
 ) -> Result<Event, OutOfMemory>
     requires sound { IsSound scene.program.now }
     requires fit { IsFit scene.plan.now scene.program.now }
+    requires ready { IsReady (held_of scene.program.now machine.old) }
     ensures ran { IfOk result (λ e. RanTo copy_accesses (driver_in scene.entry).user (held_of scene.entry.program.now machine.old) memory.old ticks e (held_of scene.entry.program.now machine.new) memory.new (ticks - machine.new.used)) }
     ensures used { OnOk result (machine.new.used ≤ ticks) }
 {
@@ -49,10 +51,11 @@ pub(crate) fn run(
 ) -> Result<Message, OutOfMemory>
     requires sound { IsSound scene.program.now }
     requires fit { IsFit scene.plan.now scene.program.now }
+    requires ready { IsReady (held_of scene.program.now state.old.machine) }
     ensures { IfOk result (λ r. RunReplies (driver_in scene.entry) (held_in (driver_in scene.entry) state.old) state.old.func state.old.entered rest sight.view sight.copy r state.new) }
 {
     let Sight { view, copy } = sight;
-    let blocks = copied(alloc, copy.as_slice())?;
+    let blocks = copy_of(alloc, &copy)?;
     let mut memory = UserMemory::new(blocks, view);
     let event = go(&mut state.machine, alloc, scene, &mut memory, rest)?;
     let reply = settle(alloc, state, rest, copy, memory, &event)?;

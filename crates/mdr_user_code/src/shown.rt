@@ -9,9 +9,9 @@ ghost use Rattle.mdr_model.specs.Sets.{cells_of_run, rises_after};
 ghost use Rattle.mdr_split.specs.User.{may_show, view_fits};
 
 use crate::keys::counts_in;
-use mdr_copy::{Extent, born_at, follows_maybe};
+use mdr_copy::{Extent, RisingBlocks, born_at, follows_maybe};
 use mdr_core::{Key, Program};
-use mdr_model::{MemoryBlock, SetRun};
+use mdr_model::SetRun;
 
 fn extent_of_cells(run: SetRun) -> Extent
     ensures { set_run result ≡ run }
@@ -39,7 +39,7 @@ fn rise(runs: &[SetRun]) -> bool
 }
 
 /// Whether user code may touch each cell of a run.
-fn all_count(program: &Program, touched: &[Key], copy: &[MemoryBlock], run: SetRun) -> bool
+fn all_count(program: &Program, touched: &[Key], copy: &RisingBlocks, run: SetRun) -> bool
     requires { IsSound program.now }
     ensures { result ≡ list_all (counts program.now touched.now copy.now) (cells_of_run run) }
 {
@@ -52,14 +52,14 @@ fn all_count(program: &Program, touched: &[Key], copy: &[MemoryBlock], run: SetR
     true
 }
 
-fn may_show(program: &Program, touched: &[Key], copy: &[MemoryBlock], run: SetRun) -> bool
+fn may_show(program: &Program, touched: &[Key], copy: &RisingBlocks, run: SetRun) -> bool
     requires { IsSound program.now }
     ensures { result ≡ may_show program.now touched.now copy.now run }
 {
     0 < run.len && all_count(program, touched, copy, run)
 }
 
-fn all_may_show(program: &Program, touched: &[Key], copy: &[MemoryBlock], view: &[SetRun]) -> bool
+fn all_may_show(program: &Program, touched: &[Key], copy: &RisingBlocks, view: &[SetRun]) -> bool
     requires { IsSound program.now }
     ensures { result ≡ list_all (may_show program.now touched.now copy.now) view.now }
 {
@@ -73,7 +73,7 @@ fn all_may_show(program: &Program, touched: &[Key], copy: &[MemoryBlock], view: 
 pub(crate) fn view_fits(
     program: &Program,
     touched: &[Key],
-    copy: &[MemoryBlock],
+    copy: &RisingBlocks,
     view: &[SetRun],
 ) -> bool
     requires { IsSound program.now }

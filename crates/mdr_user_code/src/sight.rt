@@ -14,17 +14,19 @@ ghost use Rattle.mdr_user_code.specs.Standing.{driver_in};
 use crate::objects::objects_fit;
 use crate::scene::Scene;
 use crate::shown::view_fits;
-use mdr_copy::{cells_of_runs, copied, deaths_fit, news_fit, put_runs, with_news, without};
+use mdr_copy::{
+    CellList, RisingBlocks, cells_of_runs, copy_of, deaths_fit, news_fit, put_runs, with_news, without,
+};
 use mdr_core::{Half, Items, Key, OutOfMemory, Plan, Program, Ty};
 use mdr_fits::{Passes, Places, args_fault, fits_result, runs_fault};
-use mdr_model::{Cell, MemoryBlock, New, Run, Told, Wire};
+use mdr_model::{New, Run, Told, Wire};
 use std::alloc::Global;
 
 /// The cells that user code may touch from now on, and the agreed copy.
 #[derive(Drop)]
 pub struct Sight {
-    pub view: Items<Cell>,
-    pub copy: Items<MemoryBlock>,
+    pub view: CellList,
+    pub copy: RisingBlocks,
 }
 
 /// Whether a function is of the user half.
@@ -55,7 +57,7 @@ fn may_enter(plan: &Plan, func: u32, depth: u32) -> bool
 }
 
 /// What values are judged by.
-fn places<'a>(program: &'a Program, copy: &'a [MemoryBlock]) -> Places<'a>
+fn places<'a>(program: &'a Program, copy: &'a RisingBlocks) -> Places<'a>
     ensures is { places_of result ≡ places_in program.now copy.now }
     ensures program { result.program.now ≡ program.now }
 {
@@ -68,7 +70,7 @@ fn places<'a>(program: &'a Program, copy: &'a [MemoryBlock]) -> Places<'a>
 }
 
 /// Whether arguments fit the parameters of a function.
-fn args_fit(program: &Program, copy: &[MemoryBlock], func: u32, args: &[Wire]) -> bool
+fn args_fit(program: &Program, copy: &RisingBlocks, func: u32, args: &[Wire]) -> bool
     requires { IsSound program.now }
     ensures { result ≡ args_fit program.now copy.now func args.now }
 {
@@ -79,7 +81,7 @@ fn args_fit(program: &Program, copy: &[MemoryBlock], func: u32, args: &[Wire]) -
 }
 
 /// Whether a value fits the result of a function.
-fn result_fits(program: &Program, copy: &[MemoryBlock], func: u32, value: Wire) -> bool
+fn result_fits(program: &Program, copy: &RisingBlocks, func: u32, value: Wire) -> bool
     requires { IsSound program.now }
     ensures { result ≡ result_fits program.now copy.now func value }
 {
@@ -91,7 +93,7 @@ fn result_fits(program: &Program, copy: &[MemoryBlock], func: u32, value: Wire) 
 
 /// Whether the values of a message fit the visible cells.
 #[tactic(auto, unfolding(mdr_split::specs::User::runs_fit))]
-fn runs_fit(scene: Scene, copy: &[MemoryBlock], cells: &[Cell], runs: &[Run]) -> bool
+fn runs_fit(scene: Scene, copy: &RisingBlocks, cells: &CellList, runs: &[Run]) -> bool
     requires { IsSound scene.program.now }
     ensures { result ≡ runs_fit (driver_in scene.entry) copy.now cells.now runs.now }
 {
@@ -103,31 +105,31 @@ fn runs_fit(scene: Scene, copy: &[MemoryBlock], cells: &[Cell], runs: &[Run]) ->
 pub(crate) fn renewed(
     alloc: Global,
     program: &Program,
-    copy: &[MemoryBlock],
+    copy: &RisingBlocks,
     deaths: &Items<u64>,
     news: &Items<New>,
-) -> Result<Option<Items<MemoryBlock>>, OutOfMemory>
+) -> Result<Option<RisingBlocks>, OutOfMemory>
     ensures { IfOk result (λ left. left ≡ renewed program.now copy.now deaths.now news.now) }
 {
     if !deaths_fit(program, copy, deaths.as_slice()) {
         return Ok(None);
     }
-    let own = copied(alloc, copy)?;
+    let own = copy_of(alloc, copy)?;
     let left = without(alloc, deaths.as_slice(), own)?;
-    if !news_fit(program, left.as_slice(), news.as_slice()) {
+    if !news_fit(program, &left, news.as_slice()) {
         return Ok(None);
     }
     let more = with_news(alloc, program, news.as_slice(), left)?;
-    Ok(Some(Items::from_vec(more)))
+    Ok(Some(more))
 }
 
 /// The copy with the values that are told.
-pub(crate) fn told_copy(copy: Items<MemoryBlock>, runs: &[Run]) -> Items<MemoryBlock>
+pub(crate) fn told_copy(copy: RisingBlocks, runs: &[Run]) -> RisingBlocks
     ensures { result ≡ put_runs runs.now copy }
 {
-    let mut blocks = copy.into_vec();
-    put_runs(&mut blocks, runs);
-    Items::from_vec(blocks)
+    let mut copy = copy;
+    put_runs(&mut copy, runs);
+    copy
 }
 
 /// The visible cells, and the copy with the values that are told, where they fit.
@@ -135,7 +137,7 @@ fn shown(
     alloc: Global,
     scene: Scene,
     stub: u32,
-    copy: Items<MemoryBlock>,
+    copy: RisingBlocks,
     told: &Told,
 ) -> Result<Option<Sight>, OutOfMemory>
     requires { IsSound scene.program.now }
@@ -144,11 +146,12 @@ fn shown(
     let view = told.view.as_slice();
     let runs = told.runs.as_slice();
     let keys = touched(scene.plan, stub);
-    if !view_fits(scene.program, keys, copy.as_slice(), view) {
+    if !view_fits(scene.program, keys, &copy, view) {
         return Ok(None);
     }
-    let cells = cells_of_runs(alloc, view)?;
-    if !runs_fit(scene, copy.as_slice(), cells.as_slice(), runs) {
+    let told_cells = cells_of_runs(alloc, view)?;
+    let cells = CellList::of(told_cells);
+    if !runs_fit(scene, &copy, &cells, runs) {
         return Ok(None);
     }
     Ok(Some(Sight {
@@ -161,7 +164,7 @@ fn shown(
 fn called(
     alloc: Global,
     scene: Scene,
-    copy: Items<MemoryBlock>,
+    copy: RisingBlocks,
     func: u32,
     args: &[Wire],
     told: &Told,
@@ -169,7 +172,7 @@ fn called(
     requires { IsSound scene.program.now }
     ensures { IfOk result (λ s. s ≡ called (driver_in scene.entry) copy func args.now told.now) }
 {
-    if !args_fit(scene.program, copy.as_slice(), func, args) {
+    if !args_fit(scene.program, &copy, func, args) {
         return Ok(None);
     }
     let sight = shown(alloc, scene, func, copy, told)?;
@@ -181,7 +184,7 @@ fn called(
 pub(crate) fn call_sight(
     alloc: Global,
     scene: Scene,
-    copy: &[MemoryBlock],
+    copy: &RisingBlocks,
     entered: &[u64],
     func: u32,
     depth: u32,
@@ -210,7 +213,7 @@ pub(crate) fn call_sight(
 fn returned(
     alloc: Global,
     scene: Scene,
-    copy: Items<MemoryBlock>,
+    copy: RisingBlocks,
     stub: u32,
     func: u32,
     value: Wire,
@@ -219,7 +222,7 @@ fn returned(
     requires { IsSound scene.program.now }
     ensures { IfOk result (λ s. s ≡ returned (driver_in scene.entry) copy stub func value told.now) }
 {
-    if !result_fits(scene.program, copy.as_slice(), func, value) {
+    if !result_fits(scene.program, &copy, func, value) {
         return Ok(None);
     }
     let sight = shown(alloc, scene, stub, copy, told)?;
@@ -231,7 +234,7 @@ fn returned(
 pub(crate) fn back_sight(
     alloc: Global,
     scene: Scene,
-    copy: &[MemoryBlock],
+    copy: &RisingBlocks,
     stub: u32,
     entered: &[u64],
     func: u32,

@@ -1,9 +1,10 @@
 // What the user half keeps between messages.
 
+use mdr_copy::{CellList, RisingBlocks};
 use mdr_core::{At, Items};
 use mdr_exec::Machine;
 use mdr_meaning::Shape64;
-use mdr_model::{Cell, MemoryBlock, Wire};
+use mdr_model::Wire;
 
 /// A service that was asked for.
 #[derive(Drop)]
@@ -29,10 +30,10 @@ pub enum Awaits {
 /// the blocks that came in an answer to service 13 and live, the visible cells, and what is awaited.
 #[derive(Drop)]
 pub struct State {
-    pub(crate) agreed: Items<MemoryBlock>,
+    pub(crate) agreed: RisingBlocks,
     pub(crate) machine: Machine,
     pub(crate) func: u32,
     pub(crate) entered: Items<u64>,
-    pub(crate) view: Items<Cell>,
+    pub(crate) view: CellList,
     pub(crate) awaits: Awaits,
 }

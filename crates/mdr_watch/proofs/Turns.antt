@@ -13,14 +13,16 @@ use Rattle.mdr_events.specs.declared.event.Crossing.{Crossing as Call}
 use Rattle.mdr_events.specs.declared.event.Event.{Event}
 use Rattle.mdr_events.specs.declared.event.Event.TheVariants as event
 use Rattle.mdr_events.specs.Events.{asked_as}
-use Rattle.mdr_events.specs.Going.{RanTo}
+use Rattle.mdr_events.specs.Going.{LeavesAt, RanTo}
 use Rattle.mdr_events.specs.Held.{tree}
+use Rattle.mdr_events.specs.Ready.{IsReady}
 use Rattle.mdr_events.specs.Steps.{child}
 use Rattle.mdr_events.specs.Values.{wires_of}
 use Rattle.mdr_exec.specs.declared.frame.Machine.{Machine}
 use Rattle.mdr_exec.specs.declared.frame.Side.TheVariants as which
 use Rattle.mdr_exec.specs.Halves.{side_in}
-use Rattle.mdr_exec.specs.Holding.{held_of}
+use Rattle.mdr_exec.specs.Holding.{Takes, held_of}
+use Rattle.mdr_exec.proofs.ReadyLaws.{ran_leaves, takes_all}
 use Rattle.mdr_meaning.specs.declared.wire.Wire.{Wire}
 use Rattle.mdr_meaning.specs.Bodies.{body_by, body_from, body_of, started}
 use Rattle.mdr_meaning.specs.Cut.{cut}
@@ -31,16 +33,18 @@ use Rattle.mdr_meaning.specs.Walk.{Walked, walk, walked}
 use Rattle.mdr_model.specs.Memory.{normal}
 use Rattle.mdr_plain.specs.Laws.{GivesNoTicks}
 use Rattle.mdr_plain.specs.Running.{nothing, run}
-use Rattle.mdr_plain.specs.Storage.{accesses}
+use Rattle.mdr_plain.specs.Storage.{accesses, next_serial}
 use Rattle.mdr_plain.specs.World.{World, Ran, Ended, Stopped, after, left}
 use Rattle.mdr_runs.specs.Around.{IsSeenBy, KeepsTicks, StandsIn, answered_in}
 use Rattle.mdr_runs.proofs.EndsAnywhere.{budget_ends, crossing_ends, service_ends, stop_ends, value_ends}
+use Rattle.mdr_runs.proofs.Many.{as_many_behind}
 use Rattle.mdr_runs.proofs.Standing.{run_stands, tick_stands}
 use Rattle.mdr_services.specs.declared.answer.Served.{Served}
 use Rattle.mdr_services.specs.declared.answer.Served.TheVariants as served_is
 use Rattle.mdr_services.specs.Serving.{served_as}
 use Rattle.mdr_viewed.proofs.Ticks.{user_code_keeps_ticks}
-use Rattle.mdr_watched.specs.Views.{may_touch}
+use Rattle.mdr_watched.specs.Driver.{touched_by}
+use Rattle.mdr_watched.specs.Views.{gained, may_touch}
 use Rattle.mdr_world.specs.Driven.{Driven, Ticks}
 use Rattle.mdr_world.proofs.WalkLaws.{drivers_walk}
 use Rattle.mdr_whole.specs.declared.ending.Gave.{Gave}
@@ -93,15 +97,15 @@ module _ (u : Upcall) where
 
   -- ---- runs
 
-  pub began : (m m' : Machine) (d d' : Driven) (e : Event) (left : ℕ) → d.program ≡ prog → RanTo guarded_accesses (user_side u) (held_in u m) d 0 e (held_in u m') d' left → Began u m d m' e d'
-  began m m' d d' e left same ran = λ fuel enough.
-      let w = run_stands (around_user u) nothing keeps nothing_gives guarded_accesses world_in program_of prog seen (user_side u) (held_in u m) (held_in u m') d d' e left fuel same enough ran in
-      record { stands = w.stands; same = w.same }
+  pub began : (m m' : Machine) (d d' : Driven) (e : Event) (rest : ℕ) → d.program ≡ prog → IsReady (held_in u m) → RanTo guarded_accesses (user_side u) (held_in u m) d 0 e (held_in u m') d' rest → Began u m d m' e d'
+  began m m' d d' e rest same ready ran = λ fuel enough.
+      let w = run_stands (around_user u) nothing keeps nothing_gives guarded_accesses world_in program_of prog seen (user_side u) (held_in u m) (held_in u m') d d' e rest fuel same enough ran in
+      record { stands = w.stands; same = w.same; left = ran_leaves guarded_accesses (user_side u) (held_in u m) (held_in u m') d d' 0 e rest ready ran }
 
-  pub passed : (m m' : Machine) (d d' : Driven) (e : Event) (left : ℕ) → d.program ≡ prog → RanTo guarded_accesses (user_side u) (held_in u m) d 1 e (held_in u m') d' left → Passed u m d m' e d'
-  passed m m' d d' e left same ran = λ fuel all at w s n.
-      let x = tick_stands (around_user u) nothing keeps nothing_gives guarded_accesses world_in program_of prog seen (user_side u) (held_in u m) (held_in u m') at w w d d' e left fuel n.left all same s refl n.one n.counted ran in
-      record { stands = x.stands; same = x.same }
+  pub passed : (m m' : Machine) (d d' : Driven) (e : Event) (rest : ℕ) → d.program ≡ prog → IsReady (held_in u m) → RanTo guarded_accesses (user_side u) (held_in u m) d 1 e (held_in u m') d' rest → Passed u m d m' e d'
+  passed m m' d d' e rest same ready ran = λ fuel all at w s n.
+      let x = tick_stands (around_user u) nothing keeps nothing_gives guarded_accesses world_in program_of prog seen (user_side u) (held_in u m) (held_in u m') at w w d d' e rest fuel n.left all same s refl n.one n.counted ran in
+      record { stands = x.stands; same = x.same; left = ran_leaves guarded_accesses (user_side u) (held_in u m) (held_in u m') d d' 1 e rest ready ran }
 
   -- ---- a tick
 
@@ -139,6 +143,13 @@ module _ (u : Upcall) where
           is = ap (λ r. after r (answered_in (around_user u) (user_side u) nothing fuel (held_in u m))) ended ∙ x.stands.is;
           enough = at_most fuel d.world _ d1.world (ap left (sym ended)) (keeps.serves (asked_as q) d.world) x.stands.enough;
         })
+
+    -- as many answers as it asks for
+    pub takes_served : (q : Question) (s : Served) (results : List Value) (d1 : Driven) → s ≡ served_is.Done results → served_as s q.at d1.world ≡ (around_user u).serves (asked_as q) d.world
+        → LeavesAt (event.Service q) (held_in u m) → Takes prog m results
+    takes_served q s results d1 is so o =
+        takes_all prog m (asked_as q) results o
+        (as_many_behind prog (asked_as q) d.world d1.world (gained prog (touched_by u.watch.plan.now u.func) (next_serial d.world)) results (sym (ap (λ y. served_as y q.at d1.world) is) ∙ so))
 
     pub served_out : (q : Question) (s : Served) (kind : StopKind) (d1 : Driven) (m' : Machine) → s ≡ served_is.Stop kind → d1.program ≡ prog → served_as s q.at d1.world ≡ (around_user u).serves (asked_as q) d.world
         → GoesOn u m (event.Service q) d m' (next.Gave (gave.Stopped kind (Some q.at))) d1
@@ -205,9 +216,10 @@ module _ (u : Upcall) (m0 : Machine) (d0 : Driven) where
 
 pub is_started : (u : Upcall) (args : List Wire) (m0 m : Machine) → ((f r : ℕ) → tree (user_side u) f (held_in u m0) r ≡ Tree.Idle) → (user_side u).own u.func ≡ body_of (program_in u) u.func
     → ((side : Side) → side.own u.func ≡ body_of (program_in u) u.func → (f r : ℕ) → r ≤ f → tree side f (held_in u m) r ≡ cut r (started side (f + 1) u.func args 0 (tree side f (held_in u m0) r)))
-    → IsStarted u args m
-is_started u args m0 m none own is = record {
+    → IsReady (held_in u m) → IsStarted u args m
+is_started u args m0 m none own is ready = record {
   by = λ f r less. is (user_side u) own f r less ∙ ap (λ t. cut r (started (user_side u) (f + 1) u.func args 0 t)) (none f r);
+  ready = ready;
 }
 
 pub its_body : (program : Program) (func : ℕ) (f : Func) (body : List Stmt) → slice_get program.funcs func ≡ Some f → f.body ≡ Some body → (x : Body) × (body_of program func ≡ Some x)

@@ -5,8 +5,9 @@ use Rattle.mdr_core.specs.declared.place.At.{At}
 use Rattle.mdr_core.specs.declared.program.Program.{Program}
 use Rattle.mdr_events.specs.declared.event.Event.{Event}
 use Rattle.mdr_events.specs.declared.event.Event.TheVariants as event
-use Rattle.mdr_events.specs.Going.{RanTo}
+use Rattle.mdr_events.specs.Going.{LeavesAt, RanTo}
 use Rattle.mdr_events.specs.Held.{Held, tree}
+use Rattle.mdr_events.specs.Ready.{IsReady}
 use Rattle.mdr_exec.specs.declared.frame.Machine.{Machine}
 use Rattle.mdr_exec.specs.Holding.{held_of}
 use Rattle.mdr_meaning.specs.declared.wire.Wire.{Wire}
@@ -44,11 +45,13 @@ RanIn u machine d ticks e machine' d' =
 -- the function of the upcall was started in a machine that held nothing
 pub record IsStarted (u : Upcall) (args : List Wire) (machine : Machine) : Type 0 where
   pub by : (f r : ℕ) → r ≤ f → tree (user_side u) f (held_in u machine) r ≡ cut r (started (user_side u) (f + 1) u.func args 0 Tree.Idle)
+  pub ready : IsReady (held_in u machine)
 
--- a machine came to an event in an upcall: what follows is what all of it does
+-- a machine came to an event in an upcall: what follows is what all of it does, and it goes on by itself or waits for the answers
 pub record StandsAt (u : Upcall) (fuel : ℕ) (all : Ran Wire) (machine : Machine) (e : Event) (d : Driven) : Type 0 where
   pub stands : StandsIn (around_user u) (user_side u) nothing fuel all (held_in u machine) e d.world
   pub same : d.program ≡ program_in u
+  pub left : LeavesAt e (held_in u machine)
 
 -- it came to the next event, or it gave what all of it gives
 abbrev pub NextAt : (u : Upcall) (fuel : ℕ) (all : Ran Wire) (machine : Machine) (n : Next) (d : Driven) → Type 0

@@ -3,8 +3,11 @@
 ghost use Rattle.std.specs.Prelude.{◌≡◌, IfOk, OnOk};
 ghost use Rattle.mdr_core.specs.Sound.{IsSound};
 ghost use Rattle.mdr_events.specs.declared.event.Event.TheVariants as event;
+ghost use Rattle.mdr_events.specs.Going.{LeavesAt};
+ghost use Rattle.mdr_events.specs.Ready.{IsReady};
 ghost use Rattle.mdr_events.specs.Values.{wires_of};
-ghost use Rattle.mdr_whole.specs.Ending.{fits, gave_as};
+ghost use Rattle.mdr_exec.specs.Holding.{Takes, held_of};
+ghost use Rattle.mdr_whole.specs.Ending.{gave_as};
 ghost use Rattle.mdr_watch.specs.Going.{Began, GoesOn, GoesOnWith, Passed, RanIn, user_does};
 ghost use Rattle.mdr_watch.specs.Watching.{IsFit};
 
@@ -12,9 +15,9 @@ use crate::asks::ask;
 use crate::downcalls::downcall;
 use crate::guarded::Guarded;
 use crate::watch::Upcall;
-use mdr_core::{At, Limit, OutOfMemory, StopKind, Value};
+use mdr_core::{At, Limit, OutOfMemory, StopKind, Value, spent};
 use mdr_events::{Asked, Crossing, Event};
-use mdr_exec::{Front, Machine, Side};
+use mdr_exec::{Machine, Side};
 use mdr_services::Served;
 use mdr_whole::{Gave, Next};
 use std::alloc::Global;
@@ -29,6 +32,7 @@ fn go(
 ) -> Result<Event, OutOfMemory>
     requires sound { IsSound upcall.watch.program.now }
     requires fit { IsFit upcall.watch }
+    requires ready { IsReady (held_of upcall.watch.program.now machine.old) }
     ensures { IfOk result (λ e. RanIn upcall.entry machine.old guarded.old ticks e machine.new guarded.new) }
 {
     machine.side = Side::User;
@@ -47,6 +51,7 @@ fn begin(
     requires sound { IsSound upcall.watch.program.now }
     requires fit { IsFit upcall.watch }
     requires same { guarded.old.program ≡ upcall.watch.program.now }
+    requires ready { IsReady (held_of upcall.watch.program.now machine.old) }
     ensures { IfOk result (λ e. Began upcall.entry machine.old guarded.old machine.new e guarded.new) }
 {
     let event = go(machine, alloc, upcall, guarded, 0)?;
@@ -63,6 +68,7 @@ fn go_on(
     requires sound { IsSound upcall.watch.program.now }
     requires fit { IsFit upcall.watch }
     requires same { guarded.old.program ≡ upcall.watch.program.now }
+    requires ready { IsReady (held_of upcall.watch.program.now machine.old) }
     ensures { IfOk result (λ e. Passed upcall.entry machine.old guarded.old machine.new e guarded.new) }
 {
     let event = go(machine, alloc, upcall, guarded, 1)?;
@@ -80,6 +86,7 @@ fn tick(
     requires sound { IsSound upcall.watch.program.now }
     requires fit { IsFit upcall.watch }
     requires same { guarded.old.program ≡ upcall.watch.program.now }
+    requires ready { IsReady (held_of upcall.watch.program.now machine.old) }
     ensures { IfOk result (λ n. GoesOn upcall.entry machine.old (event.TicksOut at) guarded.old machine.new n guarded.new) }
 {
     if guarded.tick() {
@@ -87,24 +94,6 @@ fn tick(
         return Ok(Next::Came(event));
     }
     Ok(Next::Gave(Gave::Stopped(StopKind::Ticks, Some(at))))
-}
-
-/// Whether a machine waits for so many answers.
-fn fits(front: &Front, results: &[Value]) -> bool
-    ensures { result ≡ fits front.now results.now }
-{
-    match front {
-        Front::WaitsParams(room) => results.len() == room.len(),
-        Front::WaitsValue => true,
-        Front::WaitsObject(_) => true,
-        Front::WaitsDeath(_) => true,
-        Front::Runs => false,
-        Front::Unwinds(_) => false,
-        Front::Comes(_) => false,
-        Front::Enters => false,
-        Front::Fills(_) => false,
-        Front::Born(_, _) => false,
-    }
 }
 
 /// Goes on with the answers of the question that is open.
@@ -118,11 +107,9 @@ fn resume(
     requires sound { IsSound upcall.watch.program.now }
     requires fit { IsFit upcall.watch }
     requires same { guarded.old.program ≡ upcall.watch.program.now }
+    requires takes { Takes upcall.watch.program.now machine.old results.now }
     ensures { IfOk result (λ n. GoesOnWith upcall.entry (wires_of results.now) machine.old guarded.old machine.new n guarded.new) }
 {
-    if !fits(&machine.front, results) {
-        return Err(Limit::Unmet.past());
-    }
     machine.resume(results);
     let event = begin(machine, alloc, upcall, guarded)?;
     Ok(Next::Came(event))
@@ -139,6 +126,7 @@ fn answer(
     requires sound { IsSound upcall.watch.program.now }
     requires fit { IsFit upcall.watch }
     requires same { guarded.old.program ≡ upcall.watch.program.now }
+    requires waiting { LeavesAt (event.Service asked.now) (held_of upcall.watch.program.now machine.old) }
     ensures { IfOk result (λ n. GoesOn upcall.entry machine.old (event.Service asked.now) guarded.old machine.new n guarded.new) }
 {
     let served = ask(alloc, upcall, guarded, asked)?;
@@ -159,6 +147,7 @@ fn cross(
     requires sound { IsSound upcall.watch.program.now }
     requires fit { IsFit upcall.watch }
     requires same { guarded.old.program ≡ upcall.watch.program.now }
+    requires waiting { LeavesAt (event.Cross crossing.now) (held_of upcall.watch.program.now machine.old) }
     ensures { IfOk result (λ n. GoesOn upcall.entry machine.old (event.Cross crossing.now) guarded.old machine.new n guarded.new) }
 {
     let gave = downcall(alloc, upcall, guarded, crossing)?;
@@ -179,6 +168,7 @@ fn follow(
     requires sound { IsSound upcall.watch.program.now }
     requires fit { IsFit upcall.watch }
     requires same { guarded.old.program ≡ upcall.watch.program.now }
+    requires left { LeavesAt event.now (held_of upcall.watch.program.now machine.old) }
     ensures { IfOk result (λ n. GoesOn upcall.entry machine.old event.now guarded.old machine.new n guarded.new) }
 {
     match event {
@@ -201,6 +191,7 @@ fn follow_up(
     requires sound { IsSound upcall.watch.program.now }
     requires fit { IsFit upcall.watch }
     requires same { guarded.old.program ≡ upcall.watch.program.now }
+    requires left { LeavesAt event (held_of upcall.watch.program.now machine.old) }
     ensures { IfOk result (λ n. GoesOn upcall.entry machine.old event guarded.old machine.new n guarded.new) }
 {
     let next = follow(machine, alloc, upcall, guarded, &event);
@@ -218,11 +209,14 @@ pub(crate) fn run(
     requires sound { IsSound upcall.watch.program.now }
     requires fit { IsFit upcall.watch }
     requires same { guarded.old.program ≡ upcall.watch.program.now }
+    requires ready { IsReady (held_of upcall.watch.program.now machine.old) }
     ensures kept { OnOk result (guarded.new.program ≡ upcall.entry.watch.program.now) }
     ensures gave { IfOk result (λ g. gave_as g guarded.new.world ≡ user_does upcall.entry guarded.old.world.clock.rest machine.old guarded.old.world) }
 {
     let mut event = begin(machine, alloc, upcall, guarded)?;
-    for _turn in 0..u64::MAX {
+    let mut turns: u64 = 0;
+    while turns < u64::MAX {
+        turns += 1;
         let next = follow_up(machine, alloc, upcall, guarded, event)?;
         match next {
             Next::Came(other) => event = other,
@@ -230,5 +224,5 @@ pub(crate) fn run(
         }
     }
     drop(event);
-    Err(Limit::Turns.past())
+    Err(spent(turns, Limit::Turns))
 }

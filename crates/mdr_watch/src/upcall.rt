@@ -1,12 +1,15 @@
 // A function of the user half is called.
 
-ghost use Rattle.std.specs.Prelude.{◌≡◌, [], Some, IfOk, IsTrue};
+ghost use Rattle.std.specs.Prelude.{◌≡◌, [], Some, true, IfOk, IsTrue};
 ghost use Rattle.mdr_core.specs.Sound.{IsSound};
+ghost use Rattle.mdr_events.specs.Ready.{IsReady};
 ghost use Rattle.mdr_events.specs.Values.{wires_of};
+ghost use Rattle.mdr_exec.specs.Holding.{held_of};
 ghost use Rattle.mdr_meaning.specs.Bodies.{body_of};
 ghost use Rattle.mdr_meaning.specs.Sides.{Body};
 ghost use Rattle.mdr_reach.specs.Answers.{answered};
 ghost use Rattle.mdr_viewed.specs.Viewed.{IsOlder};
+ghost use Rattle.mdr_watched.specs.Driver.{is_user};
 ghost use Rattle.mdr_watched.specs.Order.{AreLive};
 ghost use Rattle.mdr_watched.specs.Watched.{closing, held, upcall as up};
 ghost use Rattle.mdr_watch.specs.Going.{IsStarted, user_does};
@@ -17,9 +20,9 @@ use crate::guarded::Guarded;
 use crate::next::Closed;
 use crate::roots::entry_roots;
 use crate::turn::run;
-use crate::watch::{Upcall, func_at, is_user, touched};
+use crate::watch::{Upcall, func_at, touched};
 use mdr_cells::CellSet;
-use mdr_core::{At, Limit, OutOfMemory, Program, StopKind, Value};
+use mdr_core::{At, OutOfMemory, Program, StopKind, Value};
 use mdr_exec::{Machine, Side};
 use mdr_reach::{Failing, visible};
 use mdr_whole::Gave;
@@ -42,14 +45,12 @@ fn has_body(program: &Program, func: u32) -> bool
 
 /// A machine in which the function was started, as the first one that is active.
 fn started(alloc: Global, upcall: Upcall, args: &[Value]) -> Result<Machine, OutOfMemory>
-    requires { IsFit upcall.watch }
+    requires fit { IsFit upcall.watch }
+    requires user { is_user upcall.watch.plan.now upcall.func ≡ true }
     ensures { IfOk result (λ m. IsStarted upcall.entry (wires_of args.now) m) }
 {
-    if !is_user(upcall.watch.plan, upcall.func) {
-        return Err(Limit::Unmet.past());
-    }
     if !has_body(upcall.watch.program, upcall.func) {
-        return Err(Limit::Unmet.past());
+        return Err(OutOfMemory::unmet());
     }
     let mut machine = Machine::new(alloc, Side::User);
     machine.start(alloc, upcall.watch.program, upcall.func, args, 0)?;
@@ -66,6 +67,7 @@ fn run_out<'a>(
     requires sound { IsSound upcall.watch.program.now }
     requires fit { IsFit upcall.watch }
     requires same { guarded.program ≡ upcall.watch.program.now }
+    requires ready { IsReady (held_of upcall.watch.program.now machine) }
     ensures kept { IfOk result (λ r. r.world.program ≡ upcall.entry.watch.program.now) }
     ensures gave { IfOk result (λ r. GaveFor r.gave r.world.world (closing (user_does upcall.entry guarded.entry.world.clock.rest machine guarded.entry.world))) }
 {
@@ -95,6 +97,7 @@ fn enter<'a>(
 ) -> Result<Closed<'a>, OutOfMemory>
     requires sound { IsSound upcall.watch.program.now }
     requires fit { IsFit upcall.watch }
+    requires user { is_user upcall.watch.plan.now upcall.func ≡ true }
     requires same { world.program ≡ upcall.watch.program.now }
     requires alone { world.world.views ≡ [] }
     requires live { AreLive world.world.memory set }
@@ -144,13 +147,14 @@ pub(crate) fn call_user<'a>(
 ) -> Result<Closed<'a>, OutOfMemory>
     requires sound { IsSound upcall.watch.program.now }
     requires fit { IsFit upcall.watch }
+    requires user { is_user upcall.watch.plan.now upcall.func ≡ true }
     requires same { world.program ≡ upcall.watch.program.now }
     ensures kept { IfOk result (λ r. r.world.program ≡ upcall.entry.watch.program.now) }
     ensures gave { IfOk result (λ r. GaveFor r.gave r.world.world (up (driver_in upcall.entry.watch) (held (driver_in upcall.entry.watch)) upcall.entry.func (wires_of args.now) world.entry.world)) }
 {
     if world.is_in_user() {
         drop(world);
-        return Err(Limit::Unmet.past());
+        return Err(OutOfMemory::unmet());
     }
     match first_set(alloc, upcall, args, &world) {
         Ok(Ok(set)) => enter(alloc, upcall, args, set, world),

@@ -10,7 +10,7 @@ ghost use Rattle.mdr_whole.specs.Ending.{end_of};
 use crate::commands::{Did, do_commands};
 use crate::watch::{Watch, is_fit};
 use mdr_bound::Bound;
-use mdr_core::{Limit, OutOfMemory, Plan, Program};
+use mdr_core::{OutOfMemory, Plan, Program};
 use mdr_model::End;
 use mdr_plain::Outcome;
 use mdr_shown::outcome;
@@ -53,7 +53,7 @@ pub fn run_watched(
 {
     let watch = Watch { program, plan };
     if !is_fit(watch) {
-        return Err(Limit::Unmet.past());
+        return Err(OutOfMemory::unmet());
     }
     let world = World::new(alloc, program, script, ticks)?;
     let did = do_commands(alloc, watch, world, script.commands.as_slice())?;

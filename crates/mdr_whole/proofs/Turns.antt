@@ -1,27 +1,30 @@
 -- A machine in a driver that runs goes from event to event.
-use Rattle.std.proofs.Common.{◌≡◌, ℕ, ◌+◌, ◌≤◌, Bool, true, false, List, Option, Some, ◌-◌, slice_get, refl, sym, ◌∙◌, ap, arith, subst, le_refl}
-use Rattle.std.proofs.lemmas.Bool.{eqb-true}
+use Rattle.std.proofs.Common.{◌≡◌, ℕ, ◌+◌, ◌≤◌, Bool, true, false, List, [], ◌∷◌, Option, Some, None, is_some, suc, ◌-◌, refl, sym, ◌∙◌, ap, arith, subst, le_refl}
 use Rattle.mdr_core.specs.declared.place.At.{At}
-use Rattle.mdr_core.specs.declared.code.Stmt.{Stmt}
-use Rattle.mdr_core.specs.declared.program.Func.{Func}
 use Rattle.mdr_core.specs.declared.program.Program.{Program}
 use Rattle.mdr_core.specs.declared.stop.StopKind.{StopKind}
 use Rattle.mdr_core.specs.declared.stop.StopKind.TheVariants as stop
+use Rattle.mdr_core.specs.declared.types.Ty.TheVariants.{Void}
+use Rattle.mdr_core.specs.Layout.{chosen}
 use Rattle.mdr_core.specs.declared.value.Value.{Value}
+use Rattle.mdr_core.specs.declared.value.Value.TheVariants as value
 use Rattle.mdr_events.specs.declared.event.Asked.{Asked as Question}
+use Rattle.mdr_events.specs.declared.event.Crossing.{Crossing as Call}
 use Rattle.mdr_events.specs.declared.event.Event.{Event}
 use Rattle.mdr_events.specs.declared.event.Event.TheVariants as event
 use Rattle.mdr_events.specs.Events.{asked_as}
-use Rattle.mdr_events.specs.Going.{RanTo}
+use Rattle.mdr_events.specs.Going.{LeavesAt, RanTo}
 use Rattle.mdr_events.specs.Held.{tree}
+use Rattle.mdr_events.specs.Ready.{IsReady}
 use Rattle.mdr_events.specs.Steps.{child}
 use Rattle.mdr_events.specs.Values.{wires_of}
-use Rattle.mdr_exec.specs.declared.frame.Front.{Front}
-use Rattle.mdr_exec.specs.declared.frame.Front.TheVariants as front
 use Rattle.mdr_exec.specs.declared.frame.Machine.{Machine}
-use Rattle.mdr_exec.specs.Holding.{FitQuestion, held_of, waits}
+use Rattle.mdr_exec.specs.Holding.{Takes, held_of}
+use Rattle.mdr_exec.proofs.ReadyLaws.{ran_leaves, takes_all, takes_one}
 use Rattle.mdr_meaning.specs.declared.wire.Wire.{Wire}
-use Rattle.mdr_meaning.specs.Bodies.{body_by, body_from, body_of, started}
+use Rattle.mdr_meaning.specs.declared.wire.Wire.TheVariants as wire
+use Rattle.mdr_meaning.specs.Bodies.{body_of, means, started}
+use Rattle.mdr_meaning.specs.Calls.{goes_to}
 use Rattle.mdr_meaning.specs.Cut.{cut}
 use Rattle.mdr_meaning.specs.Sides.{Body, Side}
 use Rattle.mdr_meaning.specs.Tree.{Tree}
@@ -29,15 +32,18 @@ use Rattle.mdr_meaning.specs.Values.{wire_of}
 use Rattle.mdr_meaning.specs.Walk.{Walked, walked}
 use Rattle.mdr_model.specs.Memory.{normal}
 use Rattle.mdr_plain.specs.Laws.{GivesNoTicks}
-use Rattle.mdr_plain.specs.Plain.{whole}
-use Rattle.mdr_plain.specs.Running.{Before, all_cells, call, handled, interrupts}
+use Rattle.mdr_plain.specs.Plain.{never, whole}
+use Rattle.mdr_plain.specs.Running.{Before, all_cells, call, handled, in_kernel, interrupts, run}
 use Rattle.mdr_plain.specs.Services.{served}
-use Rattle.mdr_plain.specs.World.{World, Stopped, advanced}
-use Rattle.mdr_runs.specs.Following.{Stands, goes_on, tried_by}
+use Rattle.mdr_plain.specs.World.{World, Ended, Stopped, advanced, after, left}
+use Rattle.mdr_runs.specs.Around.{KeepsTicks}
+use Rattle.mdr_runs.specs.Following.{Stands, answered, goes_on, runs, tried_by}
 use Rattle.mdr_runs.specs.Laws.{Went}
 use Rattle.mdr_runs.specs.Seen.{IsSeen}
 use Rattle.mdr_runs.proofs.Ends.{budgets_end, services_end, stops_end, tries_end, values_end}
-use Rattle.mdr_runs.proofs.Stand.{calls_are_started, runs_stand, services_are_answered, ticks_stand}
+use Rattle.mdr_runs.proofs.Around.{at_most, kernel_keeps_ticks}
+use Rattle.mdr_runs.proofs.Many.{as_many}
+use Rattle.mdr_runs.proofs.Stand.{calls_are_started, runs_stand, ticks_stand}
 use Rattle.mdr_runs.proofs.Tries.{tries_give_none}
 use Rattle.mdr_world.specs.Driven.{Driven, NoneIsDue, Ticks, driven_accesses, driver}
 use Rattle.mdr_world.proofs.WalkLaws.{drivers_walk}
@@ -50,8 +56,8 @@ use Rattle.mdr_whole.specs.declared.ending.Worked.{Worked}
 use Rattle.mdr_whole.specs.declared.ending.Worked.TheVariants as worked
 use Rattle.mdr_whole.specs.declared.next.Next.{Next}
 use Rattle.mdr_whole.specs.declared.next.Next.TheVariants as next
-use Rattle.mdr_whole.specs.Ending.{fits, gave_as, worked_as}
-use Rattle.mdr_whole.specs.Going.{Began, Counted, Follows, GoesOn, GoesOnWith, IsCalm, IsStarted, NextAt, Passed, RanThrough, StandsAt, machine_does}
+use Rattle.mdr_whole.specs.Ending.{gave_as, worked_as}
+use Rattle.mdr_whole.specs.Going.{Began, Counted, Follows, GoesOn, GoesOnWith, IsCalm, IsStarted, NextAt, Passed, RanThrough, StandsAt, Waits, machine_does}
 use Rattle.mdr_whole.proofs.Calm.{at_clock, runs_through}
 
 -- ---- a driver that runs is seen as its world
@@ -70,19 +76,19 @@ seen = record {
 
 -- ---- a machine's runs
 
-module _ (program : Program) (side : Side) (m m' : Machine) (d d' : Driven) (e : Event) (left : ℕ) (same : d.program ≡ program) where
-  pub began : RanTo driven_accesses side (held_of program m) d 0 e (held_of program m') d' left → Began program side m d m' e d'
+module _ (program : Program) (side : Side) (m m' : Machine) (d d' : Driven) (e : Event) (rest : ℕ) (same : d.program ≡ program) (ready : IsReady (held_of program m)) where
+  pub began : RanTo driven_accesses side (held_of program m) d 0 e (held_of program m') d' rest → Began program side m d m' e d'
   began ran = λ before gives fuel enough.
       let w = subst (λ p. Went world_in program_in p side before fuel (goes_on p side before fuel (held_of program m) d.world) (held_of program m') e d') same
-      (runs_stand driven_accesses world_in program_in seen side before gives (held_of program m) (held_of program m') d d' e left fuel enough ran) in
-      record { stands = w.stands; same = w.same }
+      (runs_stand driven_accesses world_in program_in seen side before gives (held_of program m) (held_of program m') d d' e rest fuel enough ran) in
+      record { stands = w.stands; same = w.same; left = ran_leaves driven_accesses side (held_of program m) (held_of program m') d d' 0 e rest ready ran }
 
-  pub passed : RanTo driven_accesses side (held_of program m) d 1 e (held_of program m') d' left → Passed program side m d m' e d'
+  pub passed : RanTo driven_accesses side (held_of program m) d 1 e (held_of program m') d' rest → Passed program side m d m' e d'
   passed ran = λ before gives fuel all at w t n.
       let s = subst (λ p. Stands p side before fuel all (held_of program m) (event.TicksOut at) t.earlier) (sym same) t.wanted in
       let x = subst (λ p. Went world_in program_in p side before fuel all (held_of program m') e d') same
-      (ticks_stand driven_accesses world_in program_in seen side before gives (held_of program m) (held_of program m') at t.earlier w d d' e left fuel n.left all s t.tried n.one n.counted ran) in
-      record { stands = x.stands; same = x.same }
+      (ticks_stand driven_accesses world_in program_in seen side before gives (held_of program m) (held_of program m') at t.earlier w d d' e rest fuel n.left all s t.tried n.one n.counted ran) in
+      record { stands = x.stands; same = x.same; left = ran_leaves driven_accesses side (held_of program m) (held_of program m') d d' 1 e rest ready ran }
 
 -- ---- all ticks that are left
 
@@ -95,10 +101,10 @@ calm_while false program side w none = λ j d w' same is. refl
 spent_is : (ticks used : ℕ) → used ≤ ticks → ticks - (ticks - used) ≡ used
 spent_is ticks used less = let l : used ≤ ticks = less in omega (arith, l)
 
-pub ran_through : (program : Program) (side : Side) (m m' : Machine) (d d1 d2 : Driven) (e : Event) (ticks used : ℕ) → d.program ≡ program → ticks ≡ d.world.clock.rest → used ≤ ticks
+pub ran_through : (program : Program) (side : Side) (m m' : Machine) (d d1 d2 : Driven) (e : Event) (ticks used : ℕ) → d.program ≡ program → IsReady (held_of program m) → ticks ≡ d.world.clock.rest → used ≤ ticks
     → RanTo driven_accesses side (held_of program m) d ticks e (held_of program m') d1 (ticks - used)
     → d2 ≡ driver d1.program (record d1.world { clock = advanced used d1.world.clock }) → RanThrough program side m d m' e d2
-ran_through program side m m' d d1 d2 e ticks used same all_ticks less ran counts = λ before gives fuel all at calm s.
+ran_through program side m m' d d1 d2 e ticks used same ready all_ticks less ran counts = λ before gives fuel all at calm s.
     let enough : ticks ≤ d.world.clock.rest = (let h : ticks ≡ d.world.clock.rest = all_ticks in omega (arith, h)) in
     let before_it : Stands d.program side before fuel all (held_of program m) (event.TicksOut at) d.world = subst (λ p. Stands p side before fuel all (held_of program m) (event.TicksOut at) d.world) (sym same) s.stands in
     let t = runs_through driven_accesses world_in program_in seen side before gives d (held_of program m) (held_of program m') d1 e at ticks (ticks - used) fuel all calm enough before_it ran in
@@ -109,6 +115,7 @@ ran_through program side m m' d d1 d2 e ticks used same all_ticks less ran count
     record {
       stands = subst (λ w. Stands program side before fuel all (held_of program m') e w) (sym (ap world_in counts)) of_program;
       same = ap program_in counts ∙ t.same ∙ same;
+      left = ran_leaves driven_accesses side (held_of program m) (held_of program m') d d1 ticks e (ticks - used) ready ran;
     }
 
 -- ---- a tick
@@ -161,55 +168,46 @@ module _ (tries : Bool) (program : Program) (side : Side) (at : At) (m : Machine
 
 -- ---- a service
 
-pub fits_waits : (b : Front) (results : List Value) → fits b results ≡ true → waits b ≡ true
-fits_waits front.WaitsValue results h = refl
-fits_waits (front.WaitsParams room) results h = refl
-fits_waits (front.WaitsObject i) results h = refl
-fits_waits (front.WaitsDeath flow) results h = refl
-fits_waits front.Runs results h = h
-fits_waits (front.Unwinds flow) results h = h
-fits_waits (front.Comes v) results h = h
-fits_waits front.Enters results h = h
-fits_waits (front.Fills ps) results h = h
-fits_waits (front.Born i p) results h = h
-
-pub fits_question : (b : Front) (results : List Value) → fits b results ≡ true → FitQuestion b results
-fits_question front.WaitsValue results h = tt
-fits_question (front.WaitsParams room) results h = eqb-true _ _ h
-fits_question (front.WaitsObject i) results h = tt
-fits_question (front.WaitsDeath flow) results h = tt
-fits_question front.Runs results h = tt
-fits_question (front.Unwinds flow) results h = tt
-fits_question (front.Comes v) results h = tt
-fits_question front.Enters results h = tt
-fits_question (front.Fills ps) results h = tt
-fits_question (front.Born i p) results h = tt
-
 pub resumed : (program : Program) (side : Side) (results : List Wire) (m m1 m' : Machine) (d d' : Driven) (e : Event)
     → ((f r : ℕ) → tree side f (held_of program m1) r ≡ child (tree side f (held_of program m) r) results)
     → Began program side m1 d m' e d' → GoesOnWith program side results m d m' e d'
-resumed program side results m m1 m' d d' e answer b = λ before gives fuel all g.
-    let a = services_are_answered program side before (held_of program m) (held_of program m1) g.asked g.earlier d.world results fuel all g.waiting g.gave answer in
-    subst (λ x. StandsAt program side before fuel x m' e d') a.is (b before gives fuel a.enough)
+resumed program side results m m1 m' d d' e answer b = λ before gives fuel all w.
+    subst (λ x. StandsAt program side before fuel x m' e d') (ap (λ t. runs program before t d.world) (answer fuel fuel) ∙ w.is) (b before gives fuel w.enough)
+
+least : (fuel : ℕ) (w w1 w2 : World) → w1 ≡ w2 → w1.clock.rest ≤ w.clock.rest → w.clock.rest ≤ fuel → w2.clock.rest ≤ fuel
+least fuel w w1 w2 same less enough = subst (λ (x : World). x.clock.rest ≤ fuel) same (at_most w1.clock.rest w.clock.rest fuel less enough)
 
 module _ (program : Program) (side : Side) (m : Machine) (q : Question) (d : Driven) (same : d.program ≡ program) where
+  keeps : KeepsTicks (in_kernel program never)
+  keeps = kernel_keeps_ticks program
+
   gave_results : (s : Served) (d1 : Driven) → served_as s q.at d1.world ≡ served d.program (asked_as q) d.world → served_as s q.at d1.world ≡ served program (asked_as q) d.world
   gave_results s d1 is = is ∙ ap (λ p. served p (asked_as q) d.world) same
 
   pub served_on : (s : Served) (results : List Value) (d1 d' : Driven) (m' : Machine) (e : Event) → s ≡ served_is.Done results → served_as s q.at d1.world ≡ served d.program (asked_as q) d.world
       → GoesOnWith program side (wires_of results) m d1 m' e d' → (before : Before) → GivesNoTicks before → GoesOn program side before m (event.Service q) d m' (next.Came e) d'
   served_on s results d1 d' m' e is so g = λ before gives fuel all x.
+      let ended : Ended (wires_of results) d1.world ≡ served program (asked_as q) d.world = sym (ap (λ y. served_as y q.at d1.world) is) ∙ gave_results s d1 so in
       g before gives fuel all (record {
-        asked = q;
-        earlier = d.world;
-        waiting = x.stands;
-        gave = sym (ap (λ y. served_as y q.at d1.world) is) ∙ gave_results s d1 so;
+        is = ap (λ r. after r (answered program side before fuel (held_of program m))) ended ∙ x.stands.is;
+        enough = least fuel d.world _ d1.world (ap left (sym ended)) (keeps.serves (asked_as q) d.world) x.stands.enough;
       })
+
+  -- as many answers as it asks for
+  pub takes_served : (s : Served) (results : List Value) (d1 : Driven) → s ≡ served_is.Done results → served_as s q.at d1.world ≡ served d.program (asked_as q) d.world → LeavesAt (event.Service q) (held_of program m) → Takes program m results
+  takes_served s results d1 is so o = takes_all program m (asked_as q) results o (as_many program (asked_as q) d.world d1.world results (sym (ap (λ y. served_as y q.at d1.world) is) ∙ gave_results s d1 so))
 
   pub served_out : (s : Served) (kind : StopKind) (d1 : Driven) (m' : Machine) → s ≡ served_is.Stop kind → d1.program ≡ program → served_as s q.at d1.world ≡ served d.program (asked_as q) d.world
       → (before : Before) → GivesNoTicks before → GoesOn program side before m (event.Service q) d m' (next.Gave (gave.Stopped kind (Some q.at))) d1
   served_out s kind d1 m' is kept so = λ before gives fuel all x.
       (services_end program side before fuel all (held_of program m) q kind d.world d1.world x.stands (sym (ap (λ y. served_as y q.at d1.world) is) ∙ gave_results s d1 so), kept)
+
+-- ---- a call of what isn't among the code that runs
+
+-- it gives nothing
+pub crossed_on : (program : Program) (side : Side) (m : Machine) (c : Call) (d d' : Driven) (m' : Machine) (e : Event) → GoesOnWith program side (wires_of (value.NoValue ∷ [])) m d m' e d'
+    → (before : Before) → GivesNoTicks before → GoesOn program side before m (event.Cross c) d m' (next.Came e) d'
+crossed_on program side m c d d' m' e g = λ before gives fuel all x. g before gives fuel all (record { is = x.stands.is; enough = x.stands.enough })
 
 -- ---- an event
 
@@ -225,8 +223,8 @@ module _ (tries : Bool) (program : Program) (side : Side) (m : Machine) (e : Eve
   stopped_out kind at is = λ fuel all s.
       (stops_end program side first fuel all (held_of program m) kind at d.world (subst (λ x. Stands program side first fuel all (held_of program m) x d.world) is s.stands), s.same)
 
-  pub service_on : (q : Question) (m' : Machine) (n : Next) (d' : Driven) → e ≡ event.Service q → ((before : Before) → GivesNoTicks before → GoesOn program side before m (event.Service q) d m' n d') → GoesOn program side first m e d m' n d'
-  service_on q m' n d' is g = subst (λ x. GoesOn program side first m x d m' n d') (sym is) (g first (tries_give_none tries program side))
+  pub asked_on : (e' : Event) (m' : Machine) (n : Next) (d' : Driven) → e ≡ e' → ((before : Before) → GivesNoTicks before → GoesOn program side before m e' d m' n d') → GoesOn program side first m e d m' n d'
+  asked_on e' m' n d' is g = subst (λ x. GoesOn program side first m x d m' n d') (sym is) (g first (tries_give_none tries program side))
 
   pub tick_on : (at : At) (m' : Machine) (n : Next) (d' : Driven) → e ≡ event.TicksOut at → GoesOn program side first m (event.TicksOut at) d m' n d' → GoesOn program side first m e d m' n d'
   tick_on at m' n d' is g = subst (λ x. GoesOn program side first m x d m' n d') (sym is) g
@@ -275,11 +273,39 @@ call_is_run tries program side func args depth m g d d' s is =
 pub is_started : (program : Program) (side : Side) (func : ℕ) (args : List Wire) (depth : ℕ) (m0 m : Machine)
     → ((f r : ℕ) → tree side f (held_of program m0) r ≡ Tree.Idle)
     → side.own func ≡ body_of program func → ((side : Side) → side.own func ≡ body_of program func → (f r : ℕ) → r ≤ f → tree side f (held_of program m) r ≡ cut r (started side (f + 1) func args depth (tree side f (held_of program m0) r)))
-    → IsStarted program side func args depth m
-is_started program side func args depth m0 m none own is = record {
+    → IsReady (held_of program m) → IsStarted program side func args depth m
+is_started program side func args depth m0 m none own is ready = record {
   by = λ f r less. is side own f r less ∙ ap (λ t. cut r (started side (f + 1) func args depth t)) (none f r);
+  ready = ready;
 }
 
-pub its_body : (program : Program) (func : ℕ) (f : Func) (body : List Stmt) → slice_get program.funcs func ≡ Some f → f.body ≡ Some body → (x : Body) × (body_of program func ≡ Some x)
-unfolding body_of
-its_body program func f body there has = (_, ap body_from there ∙ ap (body_by f) has)
+-- ---- functions that run here, and the others
+
+pub its_own : (own : Bool) (o : Option Body) → own ≡ true → is_some o ≡ is_some (chosen own o None)
+its_own true o h = refl
+its_own false o h = absurd (cc h)
+
+pub not_own : (own : Bool) (o : Option Body) → own ≡ false → false ≡ is_some (chosen own o None)
+not_own false o h = refl
+not_own true o h = absurd (cc h)
+
+pub there_here : (own : Bool) (o : Option Body) → is_some (chosen own o None) ≡ true → (x : Body) × (o ≡ Some x)
+there_here true (Some body) h = (body, refl)
+there_here true None h = absurd (cc h)
+there_here false o h = absurd (cc h)
+
+pub own_here : (own : Bool) (o : Option Body) → is_some (chosen own o None) ≡ true → chosen own o None ≡ o
+own_here true o h = refl
+own_here false o h = absurd (cc h)
+
+none_here : (o : Option Body) → is_some o ≡ false → ◌≡◌ {A = Option Body} o None
+none_here None h = refl
+none_here (Some body) h = absurd (cc h)
+
+-- one that doesn't run gives nothing
+pub gives_nothing : (program : Program) (side : Side) (rule : Before) (func : ℕ) (args : List Wire) (depth : ℕ) (w : World) → is_some (side.own func) ≡ false
+    → Ended wire.NoValue w ≡ call (whole program side) rule func args depth w
+unfolding call started run normal
+gives_nothing program side rule func args depth w none =
+    sym (ap (λ o. run (in_kernel program never) rule (goes_to side (means side (suc w.clock.rest)) (record { func = func; depth = depth; slots = []; result = Void }) (record { func = func; stmt = 0 }) func args o (λ v. Tree.Done v Tree.Idle)) w)
+    (none_here (side.own func) none))

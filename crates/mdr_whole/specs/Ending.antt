@@ -1,10 +1,5 @@
 -- protocol
 -- What work in a run comes to, as definitions have it.
-use Rattle.std.specs.Prelude.{Bool, List, ◌==◌, length}
-use Rattle.mdr_core.specs.declared.value.Value.{Value}
-use Rattle.mdr_exec.specs.declared.frame.Front.{Front}
-use Rattle.mdr_exec.specs.declared.frame.Front.TheVariants as front
-use Rattle.mdr_exec.specs.Holding.{waits}
 use Rattle.mdr_meaning.specs.declared.wire.Wire.{Wire}
 use Rattle.mdr_meaning.specs.Values.{wire_of}
 use Rattle.mdr_model.specs.declared.outcome.End.{End}
@@ -33,8 +28,3 @@ end_of (worked.Stopped kind at) = ends.Stop kind at
 
 abbrev pub finished : Worked → World → Finish
 finished e w = finish (end_of e) w
-
--- a machine waits for so many answers
-abbrev pub fits : Front → List Value → Bool
-fits (front.WaitsParams room) results = length results == length room.items
-fits b results = waits b

@@ -3,12 +3,11 @@
 use Rattle.std.specs.Prelude.{◌≡◌, ◌+◌, ◌-◌, ◌≤◌, ℕ, suc, List, Bool}
 use Rattle.mdr_core.specs.declared.place.At.{At}
 use Rattle.mdr_core.specs.declared.program.Program.{Program}
-use Rattle.mdr_events.specs.declared.event.Asked.{Asked as Question}
 use Rattle.mdr_events.specs.declared.event.Event.{Event}
 use Rattle.mdr_events.specs.declared.event.Event.TheVariants as event
-use Rattle.mdr_events.specs.Events.{asked_as}
-use Rattle.mdr_events.specs.Going.{RanTo}
+use Rattle.mdr_events.specs.Going.{LeavesAt, RanTo}
 use Rattle.mdr_events.specs.Held.{Held, tree}
+use Rattle.mdr_events.specs.Ready.{IsReady}
 use Rattle.mdr_exec.specs.declared.frame.Machine.{Machine}
 use Rattle.mdr_exec.specs.Halves.{side_in}
 use Rattle.mdr_exec.specs.Holding.{held_of}
@@ -20,9 +19,8 @@ use Rattle.mdr_meaning.specs.Tree.{Tree}
 use Rattle.mdr_plain.specs.Laws.{GivesNoTicks}
 use Rattle.mdr_plain.specs.Plain.{whole}
 use Rattle.mdr_plain.specs.Running.{Before, KernelCode}
-use Rattle.mdr_plain.specs.Services.{served}
-use Rattle.mdr_plain.specs.World.{World, Clock, Kept, Ran, Ended, advanced, done}
-use Rattle.mdr_runs.specs.Following.{Stands, goes_on, tried_by}
+use Rattle.mdr_plain.specs.World.{World, Clock, Kept, Ran, advanced, done}
+use Rattle.mdr_runs.specs.Following.{Stands, answered, goes_on, tried_by}
 use Rattle.mdr_world.specs.Driven.{Driven, driven_accesses}
 use Rattle.mdr_whole.specs.declared.code.Code.{Code}
 use Rattle.mdr_whole.specs.declared.next.Next.{Next}
@@ -60,11 +58,13 @@ RanIn c machine d ticks e machine' d' =
 -- a function was started in a machine that held nothing
 pub record IsStarted (program : Program) (side : Side) (func : ℕ) (args : List Wire) (depth : ℕ) (machine : Machine) : Type 0 where
   pub by : (f r : ℕ) → r ≤ f → tree side f (held_of program machine) r ≡ cut r (started side (f + 1) func args depth Tree.Idle)
+  pub ready : IsReady (held_of program machine)
 
--- a machine came to an event in a driver that runs: what follows is what all of it does
+-- a machine came to an event in a driver that runs: what follows is what all of it does, and it goes on by itself or waits for the answers
 pub record StandsAt (program : Program) (side : Side) (before : Before) (fuel : ℕ) (all : Ran Wire) (machine : Machine) (e : Event) (d : Driven) : Type 0 where
   pub stands : Stands program side before fuel all (held_of program machine) e d.world
   pub same : d.program ≡ program
+  pub left : LeavesAt e (held_of program machine)
 
 -- it came to the next event, or it gave what all of it gives
 abbrev pub NextAt : (program : Program) (side : Side) (before : Before) (fuel : ℕ) (all : Ran Wire) (machine : Machine) (n : Next) (d : Driven) → Type 0
@@ -124,14 +124,12 @@ abbrev pub GoesOnAnyhow : Code → Machine → Event → Driven → Machine → 
 GoesOnAnyhow c machine e d machine' n d' =
     (before : Before) → GivesNoTicks before → GoesOn c.program.now (side_of c) before machine e d machine' n d'
 
--- a service gave this, and its question waits for the answers
-pub record Gives (program : Program) (side : Side) (before : Before) (fuel : ℕ) (all : Ran Wire) (machine : Machine) (results : List Wire) (w : World) : Type 0 where
-  pub asked : Question
-  pub earlier : World
-  pub waiting : Stands program side before fuel all (held_of program machine) (event.Service asked) earlier
-  pub gave : Ended results w ≡ served program (asked_as asked) earlier
+-- what follows these answers of the question that is open is what all of it does
+pub record Waits (program : Program) (side : Side) (before : Before) (fuel : ℕ) (all : Ran Wire) (machine : Machine) (results : List Wire) (w : World) : Type 0 where
+  pub is : answered program side before fuel (held_of program machine) results w ≡ all
+  pub enough : w.clock.rest ≤ fuel
 
 -- it is answered
 abbrev pub GoesOnWith : Program → Side → List Wire → Machine → Driven → Machine → Event → Driven → Type 0
 GoesOnWith program side results machine d machine' e d' =
-    (before : Before) → GivesNoTicks before → (fuel : ℕ) (all : Ran Wire) → Gives program side before fuel all machine results d.world → StandsAt program side before fuel all machine' e d'
+    (before : Before) → GivesNoTicks before → (fuel : ℕ) (all : Ran Wire) → Waits program side before fuel all machine results d.world → StandsAt program side before fuel all machine' e d'

@@ -1,11 +1,12 @@
 // A function of a driver is called in a world.
 
-ghost use Rattle.std.specs.Prelude.{◌≡◌, Some, IfOk, OnOk, IsTrue, option_copied, slice_get};
+ghost use Rattle.std.specs.Prelude.{◌≡◌, true, IfOk, OnOk, is_some, option_copied, slice_get};
 ghost use Rattle.mdr_core.specs.Sound.{IsSound};
+ghost use Rattle.mdr_events.specs.Ready.{IsReady};
 ghost use Rattle.mdr_events.specs.Values.{wires_of};
 ghost use Rattle.mdr_exec.specs.Halves.{is_kernel, is_own};
+ghost use Rattle.mdr_exec.specs.Holding.{held_of};
 ghost use Rattle.mdr_meaning.specs.Bodies.{body_of};
-ghost use Rattle.mdr_meaning.specs.Sides.{Body};
 ghost use Rattle.mdr_plain.specs.Running.{call};
 ghost use Rattle.mdr_whole.specs.Ending.{gave_as};
 ghost use Rattle.mdr_whole.specs.Going.{IsStarted, does_in, driver_code, side_of, tried_in};
@@ -14,7 +15,7 @@ use crate::before::Before;
 use crate::code::Code;
 use crate::ending::Gave;
 use crate::turn::run;
-use mdr_core::{Func, Half, Limit, OutOfMemory, Program, Value};
+use mdr_core::{Func, Half, Limit, OutOfMemory, Program, Value, below};
 use mdr_exec::{Machine, Side};
 use mdr_world::World;
 use std::alloc::Global;
@@ -28,7 +29,7 @@ fn func_at<'a>(program: &'a Program, func: u32) -> Option<&'a Func>
 /// Whether a function has a body.
 #[tactic(auto, unfolding(mdr_meaning::specs::Bodies::body_of))]
 fn has_body(program: &Program, func: u32) -> bool
-    ensures { IsTrue result → (body : Body) × (body_of program.now func ≡ Some body) }
+    ensures { result ≡ is_some (body_of program.now func) }
 {
     match func_at(program, func) {
         Some(func) => match &func.body {
@@ -61,9 +62,19 @@ fn is_own(side: Side, kernel: bool) -> bool
 
 /// Whether a function is one of those that run.
 fn is_among(code: Code, func: u32) -> bool
-    ensures { IsTrue result → (side_of code.entry).own func ≡ body_of code.entry.program.now func }
+    ensures { result ≡ is_own code.entry.side (is_kernel code.entry.halves.now func) }
 {
     is_own(code.side, is_kernel(code.halves, func))
+}
+
+/// Whether a function is one of those that run, and has a body.
+fn runs_here(code: Code, func: u32) -> bool
+    ensures { result ≡ is_some ((side_of code.entry).own func) }
+{
+    if is_among(code, func) {
+        return has_body(code.program, func);
+    }
+    false
 }
 
 /// A machine in which a function was started, with so many active before it.
@@ -74,17 +85,10 @@ fn started(
     args: &[Value],
     depth: u32,
 ) -> Result<Machine, OutOfMemory>
+    requires { is_some ((side_of code).own func) ≡ true }
     ensures { IfOk result (λ m. IsStarted code.entry.program.now (side_of code.entry) func (wires_of args.now) depth m) }
 {
-    if !is_among(code, func) {
-        return Err(Limit::Unmet.past());
-    }
-    if !has_body(code.program, func) {
-        return Err(Limit::Unmet.past());
-    }
-    if depth == u32::MAX {
-        return Err(Limit::Unmet.past());
-    }
+    below(depth as u64, Limit::Active)?;
     let mut machine = Machine::new(alloc, code.side);
     machine.start(alloc, code.program, func, args, depth)?;
     Ok(machine)
@@ -99,6 +103,7 @@ fn run_out<B: Before>(
 ) -> Result<Gave, OutOfMemory>
     requires sound { IsSound code.program.now }
     requires same { world.old.program ≡ code.program.now }
+    requires ready { IsReady (held_of code.program.now machine) }
     ensures kept { OnOk result (world.new.program ≡ code.entry.program.now) }
     ensures gave { IfOk result (λ g. gave_as g world.new.world ≡ does_in B.tries code.entry machine world.old.world) }
 {
@@ -108,8 +113,8 @@ fn run_out<B: Before>(
     gave
 }
 
-/// Calls a function, with so many active before it. A function that isn't one of those that run, or that has no body,
-/// answers want of memory, and so does a call of one that isn't.
+/// Calls a function, with so many active before it. One that isn't one of those that run, or that has no body, gives
+/// nothing.
 #[tactic(auto, unfolding(mdr_plain::specs::Running::call))]
 pub fn call<B: Before>(
     alloc: Global,
@@ -124,6 +129,9 @@ pub fn call<B: Before>(
     ensures kept { OnOk result (world.new.program ≡ code.entry.program.now) }
     ensures gave { IfOk result (λ g. gave_as g world.new.world ≡ call (driver_code code.entry) (tried_in B.tries code.entry) func (wires_of args.now) depth world.old.world) }
 {
+    if !runs_here(code, func) {
+        return Ok(Gave::Value(Value::NoValue));
+    }
     let machine = started(alloc, code, func, args, depth)?;
     let gave = run_out::<B>(alloc, code, world, machine)?;
     Ok(gave)

@@ -3,18 +3,21 @@
 ghost use Rattle.std.specs.Prelude.{◌≡◌, ◌≤◌, IfOk, OnOk, IsTrue};
 ghost use Rattle.mdr_core.specs.Sound.{IsSound};
 ghost use Rattle.mdr_events.specs.declared.event.Event.TheVariants as event;
+ghost use Rattle.mdr_events.specs.Going.{LeavesAt};
+ghost use Rattle.mdr_events.specs.Ready.{IsReady};
 ghost use Rattle.mdr_events.specs.Values.{wires_of};
+ghost use Rattle.mdr_exec.specs.Holding.{Takes, held_of};
 ghost use Rattle.mdr_world.specs.Driven.{NoneIsDue};
-ghost use Rattle.mdr_whole.specs.Ending.{fits, gave_as};
+ghost use Rattle.mdr_whole.specs.Ending.{gave_as};
 ghost use Rattle.mdr_whole.specs.Going.{Began, Follows, GoesOnAnyhow, GoesOnIn, GoesOnWith, Passed, RanIn, RanThrough, does_in, side_of};
 
 use crate::before::Before;
 use crate::code::Code;
 use crate::ending::{Gave, Worked};
 use crate::next::Next;
-use mdr_core::{At, Items, Limit, OutOfMemory, StopKind, Value};
-use mdr_events::{Asked, Event};
-use mdr_exec::{Front, Machine};
+use mdr_core::{At, Items, Limit, OutOfMemory, StopKind, Value, spent};
+use mdr_events::{Asked, Crossing, Event};
+use mdr_exec::Machine;
 use mdr_services::{Served, serve};
 use mdr_world::World;
 use std::alloc::Global;
@@ -28,7 +31,8 @@ fn go(
     world: &mut World,
     ticks: u64,
 ) -> Result<Event, OutOfMemory>
-    requires { IsSound code.program.now }
+    requires sound { IsSound code.program.now }
+    requires ready { IsReady (held_of code.program.now machine.old) }
     ensures ran { IfOk result (λ e. RanIn code.entry machine.old world.old ticks e machine.new world.new) }
     ensures used { OnOk result (machine.new.used ≤ ticks) }
 {
@@ -46,6 +50,7 @@ fn begin(
 ) -> Result<Event, OutOfMemory>
     requires sound { IsSound code.program.now }
     requires same { world.old.program ≡ code.program.now }
+    requires ready { IsReady (held_of code.program.now machine.old) }
     ensures { IfOk result (λ e. Began code.entry.program.now (side_of code.entry) machine.old world.old machine.new e world.new) }
 {
     let event = go(machine, alloc, code, world, 0)?;
@@ -61,6 +66,7 @@ fn go_on(
 ) -> Result<Event, OutOfMemory>
     requires sound { IsSound code.program.now }
     requires same { world.old.program ≡ code.program.now }
+    requires ready { IsReady (held_of code.program.now machine.old) }
     ensures { IfOk result (λ e. Passed code.entry.program.now (side_of code.entry) machine.old world.old machine.new e world.new) }
 {
     let event = go(machine, alloc, code, world, 1)?;
@@ -77,6 +83,7 @@ fn pass(
 ) -> Result<Next, OutOfMemory>
     requires sound { IsSound code.program.now }
     requires same { world.old.program ≡ code.program.now }
+    requires ready { IsReady (held_of code.program.now machine.old) }
     ensures { IfOk result (λ n. Follows code.entry.program.now (side_of code.entry) at machine.old world.old machine.new n world.new) }
 {
     if world.tick() {
@@ -95,6 +102,7 @@ fn run_through(
 ) -> Result<Event, OutOfMemory>
     requires sound { IsSound code.program.now }
     requires same { world.old.program ≡ code.program.now }
+    requires ready { IsReady (held_of code.program.now machine.old) }
     ensures { IfOk result (λ e. RanThrough code.entry.program.now (side_of code.entry) machine.old world.old machine.new e world.new) }
 {
     let ticks = world.rest();
@@ -123,6 +131,7 @@ fn tick<B: Before>(
 ) -> Result<Next, OutOfMemory>
     requires sound { IsSound code.program.now }
     requires same { world.old.program ≡ code.program.now }
+    requires ready { IsReady (held_of code.program.now machine.old) }
     ensures { IfOk result (λ n. GoesOnIn B.tries code.entry machine.old (event.TicksOut at) world.old machine.new n world.new) }
 {
     if is_calm(world) {
@@ -137,25 +146,7 @@ fn tick<B: Before>(
     }
 }
 
-/// Whether a machine waits for so many answers.
-fn fits(front: &Front, results: &[Value]) -> bool
-    ensures { result ≡ fits front.now results.now }
-{
-    match front {
-        Front::WaitsParams(room) => results.len() == room.len(),
-        Front::WaitsValue => true,
-        Front::WaitsObject(_) => true,
-        Front::WaitsDeath(_) => true,
-        Front::Runs => false,
-        Front::Unwinds(_) => false,
-        Front::Comes(_) => false,
-        Front::Enters => false,
-        Front::Fills(_) => false,
-        Front::Born(_, _) => false,
-    }
-}
-
-/// Goes on with what a service gave.
+/// Goes on with the answers of the question that is open.
 fn resume(
     machine: &mut Machine,
     alloc: Global,
@@ -165,11 +156,9 @@ fn resume(
 ) -> Result<Event, OutOfMemory>
     requires sound { IsSound code.program.now }
     requires same { world.old.program ≡ code.program.now }
+    requires takes { Takes code.program.now machine.old results.now }
     ensures { IfOk result (λ e. GoesOnWith code.entry.program.now (side_of code.entry) (wires_of results.now) machine.old world.old machine.new e world.new) }
 {
-    if !fits(&machine.front, results) {
-        return Err(Limit::Unmet.past());
-    }
     machine.resume(results);
     let event = begin(machine, alloc, code, world)?;
     Ok(event)
@@ -185,6 +174,7 @@ fn answer(
 ) -> Result<Next, OutOfMemory>
     requires sound { IsSound code.program.now }
     requires same { world.old.program ≡ code.program.now }
+    requires waiting { LeavesAt (event.Service asked.now) (held_of code.program.now machine.old) }
     ensures { IfOk result (λ n. GoesOnAnyhow code.entry machine.old (event.Service asked.now) world.old machine.new n world.new) }
 {
     let served = serve(alloc, world, asked)?;
@@ -197,7 +187,24 @@ fn answer(
     }
 }
 
-/// What follows an event. Functions that aren't among those that run aren't called.
+/// A function is called that isn't among those that run: it gives nothing.
+fn cross(
+    machine: &mut Machine,
+    alloc: Global,
+    code: Code,
+    world: &mut World,
+    crossing: &Crossing,
+) -> Result<Next, OutOfMemory>
+    requires sound { IsSound code.program.now }
+    requires same { world.old.program ≡ code.program.now }
+    requires waiting { LeavesAt (event.Cross crossing.now) (held_of code.program.now machine.old) }
+    ensures { IfOk result (λ n. GoesOnAnyhow code.entry machine.old (event.Cross crossing.now) world.old machine.new n world.new) }
+{
+    let event = resume(machine, alloc, code, world, &[Value::NoValue])?;
+    Ok(Next::Came(event))
+}
+
+/// What follows an event. A function that isn't among those that run gives nothing.
 fn follow<B: Before>(
     machine: &mut Machine,
     alloc: Global,
@@ -207,6 +214,7 @@ fn follow<B: Before>(
 ) -> Result<Next, OutOfMemory>
     requires sound { IsSound code.program.now }
     requires same { world.old.program ≡ code.program.now }
+    requires left { LeavesAt event.now (held_of code.program.now machine.old) }
     ensures { IfOk result (λ n. GoesOnIn B.tries code.entry machine.old event.now world.old machine.new n world.new) }
 {
     match event {
@@ -214,7 +222,7 @@ fn follow<B: Before>(
         Event::Stop(kind, at) => Ok(Next::Gave(Gave::Stopped(*kind, Some(*at)))),
         Event::Service(asked) => answer(machine, alloc, code, world, asked),
         Event::TicksOut(at) => tick::<B>(machine, alloc, code, world, *at),
-        Event::Cross(_) => Err(Limit::Unmet.past()),
+        Event::Cross(crossing) => cross(machine, alloc, code, world, crossing),
     }
 }
 
@@ -228,6 +236,7 @@ fn follow_up<B: Before>(
 ) -> Result<Next, OutOfMemory>
     requires sound { IsSound code.program.now }
     requires same { world.old.program ≡ code.program.now }
+    requires left { LeavesAt event (held_of code.program.now machine.old) }
     ensures { IfOk result (λ n. GoesOnIn B.tries code.entry machine.old event world.old machine.new n world.new) }
 {
     let next = follow::<B>(machine, alloc, code, world, &event);
@@ -244,11 +253,14 @@ pub(crate) fn run<B: Before>(
 ) -> Result<Gave, OutOfMemory>
     requires sound { IsSound code.program.now }
     requires same { world.old.program ≡ code.program.now }
+    requires ready { IsReady (held_of code.program.now machine.old) }
     ensures kept { OnOk result (world.new.program ≡ code.entry.program.now) }
     ensures gave { IfOk result (λ g. gave_as g world.new.world ≡ does_in B.tries code.entry machine.old world.old.world) }
 {
     let mut event = begin(machine, alloc, code, world)?;
-    for _turn in 0..u64::MAX {
+    let mut turns: u64 = 0;
+    while turns < u64::MAX {
+        turns += 1;
         let next = follow_up::<B>(machine, alloc, code, world, event)?;
         match next {
             Next::Came(other) => event = other,
@@ -256,5 +268,5 @@ pub(crate) fn run<B: Before>(
         }
     }
     drop(event);
-    Err(Limit::Turns.past())
+    Err(spent(turns, Limit::Turns))
 }

@@ -6,7 +6,7 @@ ghost use Rattle.mdr_core.specs.Sound.{IsSound};
 ghost use Rattle.mdr_meaning.specs.Values.{wire_of};
 ghost use Rattle.mdr_model.specs.Memory.{zero_of};
 
-use mdr_core::{Items, Limit, OutOfMemory, Program, Shape, Value, cells_of, zero_of};
+use mdr_core::{Items, OutOfMemory, Program, Shape, Value, cells_of, zero_of};
 use mdr_model::Shape64;
 use std::alloc::Global;
 
@@ -59,7 +59,7 @@ pub fn shape_of(shape: Shape64) -> Result<Shape, OutOfMemory>
             ty: shape.ty,
             count,
         }),
-        Err(_) => Err(Limit::Unmet.past()),
+        Err(_) => Err(OutOfMemory::unmet()),
     }
 }
 
@@ -69,11 +69,11 @@ pub fn zeros(alloc: Global, program: &Program, shape: Shape) -> Result<Items<Val
     ensures { IfOk result (λ vs. map wire_of vs ≡ map zero_of (repeated shape.count (cells_at program.now shape.ty))) }
 {
     if shape.ty as usize >= program.types.len() {
-        return Err(Limit::Unmet.past());
+        return Err(OutOfMemory::unmet());
     }
     let element = element(alloc, program, shape.ty)?;
     if !is_small(element.len(), shape.count as u64) {
-        return Err(Limit::Unmet.past());
+        return Err(OutOfMemory::unmet());
     }
     repeated(alloc, shape.count, element.as_slice())
 }

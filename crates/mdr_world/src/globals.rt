@@ -13,7 +13,7 @@ ghost use Rattle.std.specs.Prelude.{◌++◌, ◌∷◌, [], OnOk};
 
 use crate::handles::handle;
 use crate::storage::Storage;
-use mdr_core::{GlobalDef, Items, Limit, OutOfMemory, Program, Shape, Ty, Value, View, same_type};
+use mdr_core::{GlobalDef, Items, OutOfMemory, Program, Shape, Ty, Value, View, same_type};
 use mdr_mem::{Blocks, Cells};
 use mdr_model::BirthKind;
 use std::alloc::Global;
@@ -59,7 +59,7 @@ fn placed_view(blocks: &Blocks, p: View) -> Result<Value, OutOfMemory>
             count: p.count,
             index: p.index,
         })),
-        None => Err(Limit::Unmet.past()),
+        None => Err(OutOfMemory::unmet()),
     }
 }
 

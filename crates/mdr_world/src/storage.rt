@@ -7,7 +7,7 @@ ghost use Rattle.mdr_model.specs.Memory.{killed};
 ghost use Rattle.mdr_world.specs.Stored.{IsCounted};
 
 use crate::lives::Lives;
-use mdr_core::{Block, Limit, OutOfMemory, Shape, Value};
+use mdr_core::{Block, OutOfMemory, Shape, Value};
 use mdr_mem::{Blocks, Cells};
 use mdr_model::BirthKind;
 use std::alloc::Global;
@@ -47,10 +47,10 @@ impl Storage {
         ensures lives { OnOk result (self.new.lives ≡ self.old.lives ++ life.Birth (length first.now) ∷ []) }
     {
         if first.is_empty() {
-            return Err(Limit::Unmet.past());
+            return Err(OutOfMemory::unmet());
         }
         if first.len() > 65536 {
-            return Err(Limit::Unmet.past());
+            return Err(OutOfMemory::unmet());
         }
         let block = self.blocks.birth(alloc, kind, shape, first)?;
         self.lives = with_birth(&self.lives, first.len() as u32);

@@ -29,7 +29,7 @@ use crate::spinning::is_any_spinning;
 use crate::storage::Storage;
 use crate::{access, locks};
 use mdr_bound::Bound;
-use mdr_core::{Block, Items, Limit, OutOfMemory, Program, StopKind, Value, View};
+use mdr_core::{Block, Items, Limit, OutOfMemory, Program, StopKind, Value, View, below};
 use mdr_device::Device;
 use mdr_events::Integer;
 use mdr_mem::{Blocks, Cells};
@@ -145,9 +145,7 @@ impl<'a> World<'a> {
         ensures begun { OnOk result (self.new ≡ driver self.old.program (noted event (counted_call self.old.world))) }
         ensures as_before { OnErr result (self.new ≡ self.old) }
     {
-        if self.calls == u64::MAX {
-            return Err(Limit::Calls.past());
-        }
+        below(self.calls, Limit::Calls)?;
         self.events.push(event)?;
         self.calls += 1;
         Ok(())
@@ -195,7 +193,7 @@ impl<'a> World<'a> {
         ensures as_before { OnErr result (self.new ≡ self.old) }
     {
         if ticks > self.rest {
-            return Err(Limit::Unmet.past());
+            return Err(OutOfMemory::unmet());
         }
         self.rest -= ticks;
         self.ticks += ticks;
@@ -302,9 +300,7 @@ impl<'a> World<'a> {
         ensures asked { OnOk result (self.new ≡ driver self.old.program (asked_once_more self.old.world)) }
         ensures as_before { OnErr result (self.new ≡ self.old) }
     {
-        if self.allocations == u64::MAX {
-            return Err(Limit::Allocations.past());
-        }
+        below(self.allocations, Limit::Allocations)?;
         self.allocations += 1;
         Ok(())
     }

@@ -16,4 +16,4 @@ unread_so m calls calls' es es' n n' sent bytes same called added count =
 
 pub returns-in_err-reading-in-Ok-clause-broke : goal.returns-in_err-reading-in-Ok-clause-broke
 returns-in_err-reading-in-Ok-clause-broke g c =
-    on_err _ _ (unread_so c.args.message _ _ _ _ c.args.messages.now c.in_ok-both.both c.as_slice.result.now c.in-Ok.reply (c.as_slice.ensures.value ∙ c.in_ok-bytes.ensures.written) c.in-Ok.ensures.called c.in-Ok.ensures.exchanged (search rules))
+    on_err _ _ (unread_so c.args.message _ _ _ _ c.args.messages.now (c.args.messages.now + 2) c.as_slice.result.now c.in-Ok.reply (c.as_slice.ensures.value ∙ c.in_ok-bytes.ensures.written) c.in-Ok.ensures.called c.in-Ok.ensures.exchanged (search rules))

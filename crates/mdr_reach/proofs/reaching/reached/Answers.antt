@@ -1,17 +1,25 @@
 use Rattle.std.proofs.Common.{arith, take}
 use Rattle.mdr_cells.specs.Names.{cell_of, named}
 use Rattle.mdr_reach.specs.Marks.{counts_in, graph_in, led_in}
+use Rattle.mdr_reach.proofs.BlockLaws.{last_of}
 use Rattle.mdr_reach.proofs.WorkLaws.{all_rising, counted_is, edges_are, followed_more, found_all, named_at, named_count, named_past, next_turn, turn_less}
 use Rattle.mdr_reach.proofs.reaching.reached.Goals as goal
 
+pub loop-i-init : goal.loop-i-init
+loop-i-init c = (λ roots had. had, tt)
+
+pub block_behind-requires-clause-last : goal.block_behind-requires-clause-last
+block_behind-requires-clause-last c = c.loop-i.invariant.1
+
 pub loop-i-preserved : goal.loop-i-preserved
-loop-i-preserved c roots had =
+loop-i-preserved c =
+    (λ roots had.
     let program = c.args.scene.program.now in
     let touched = c.args.scene.touched.now in
     let m = c.args.scene.blocks.now.memory in
     let rising = c.births-in_order.ensures.in_order.rises in
     let name = c.name_at-name.result in
-    let before = c.loop-i.invariant roots had in
+    let before = c.loop-i.invariant.0 roots had in
     next_turn (graph_in c.args.scene) roots (named c.follow_on.new.marked.keys) c.loop-i.i c.in_ok-failing.failing
     (followed_more (graph_in c.args.scene) (counts_in c.args.scene) (counted_is program touched m rising) roots (named c.loop-i.marked.keys) (named c.follow_on.new.marked.keys) (led_in c.args.scene (cell_of name)) c.loop-i.i (cell_of name)
     c.loop-i.failing c.in_ok-failing.failing
@@ -19,6 +27,7 @@ loop-i-preserved c roots had =
     (c.in_ok-failing.ensures.least (take c.loop-i.i (named c.loop-i.marked.keys)) before.least)
     (edges_are program touched m rising (cell_of name))
     c.in_ok-failing.ensures.marked before)
+    , last_of c.args.scene.program.now c.args.scene.touched.now c.args.scene.blocks.now c.name_at-name.result.serial c.in_ok-block.block c.in_ok-block.ensures.held)
 
 pub loop-i-smaller : goal.loop-i-smaller
 loop-i-smaller c =
@@ -33,4 +42,4 @@ returns c roots had =
     let m = c.args.scene.blocks.now.memory in
     let rising = c.births-in_order.ensures.in_order.rises in
     found_all (graph_in c.args.scene) (counts_in c.args.scene) (counted_is program touched m rising) roots (all_rising program touched m rising) c.loop-i.marked c.loop-i.i c.loop-i.failing c.unless_failing.result
-    (named_past c.loop-i.marked.keys c.loop-i.i (omega (arith, c.len.ensures.len, c.loop-i-test.false))) (c.loop-i.invariant roots had) c.unless_failing.ensures
+    (named_past c.loop-i.marked.keys c.loop-i.i (omega (arith, c.len.ensures.len, c.loop-i-test.false))) (c.loop-i.invariant.0 roots had) c.unless_failing.ensures

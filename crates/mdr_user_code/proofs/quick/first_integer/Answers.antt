@@ -11,5 +11,5 @@ returns c =
     IfSome_then c.integer_in.result c.integer_in.ensures
     (λ n e.
     loads-first c.args.memory.now.view c.args.memory.now.memory c.args.serial n
-    (ap (λ (xs : List Cell). is_in xs (record { serial = c.args.serial; index = 0 })) (sym c.view.ensures) ∙ sym c.is_in_at.ensures ∙ c.if-not-is_in_at.false)
+    (ap (λ (xs : List Cell). is_in xs (record { serial = c.args.serial; index = 0 })) (sym c.view.ensures) ∙ sym c.has.ensures ∙ c.if-not-has.false)
     (ap (λ (m : Memory). cell_at m (record { serial = c.args.serial; index = 0 })) (sym c.blocks-2.ensures) ∙ sym c.held_at.ensures ∙ e))

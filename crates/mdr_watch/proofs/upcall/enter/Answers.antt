@@ -8,3 +8,6 @@ returns-in-Ok-clause-gave c =
     IfOk-weaker c.run_out.result _ _
     (λ r h. ran_entered c.args.upcall (wires_of c.args.args.now) c.args.set c.in-Ok.machine r.gave c.args.world.program c.args.world.world c.new-guarded.result r.world c.in-Ok.ensures c.new-guarded.ensures h)
     c.run_out.ensures.gave
+
+pub run_out-requires-clause-ready : goal.run_out-requires-clause-ready
+run_out-requires-clause-ready c = c.in-Ok.ensures.ready

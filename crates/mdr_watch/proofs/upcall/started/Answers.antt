@@ -1,4 +1,3 @@
-use Rattle.std.proofs.Common.{◌∙◌, sym}
 use Rattle.mdr_events.specs.Values.{wires_of}
 use Rattle.mdr_watch.specs.Going.{program_in}
 use Rattle.mdr_watch.specs.Watching.{user_side}
@@ -9,4 +8,4 @@ use Rattle.mdr_watch.proofs.upcall.started.Goals as goal
 pub returns : goal.returns
 returns c =
     is_started c.args.upcall (wires_of c.args.args.now) c.new-machine.result c.start.new.self (λ f r. c.new-machine.ensures (program_in c.args.upcall) (user_side c.args.upcall) f r)
-    (user_body (program_in c.args.upcall) c.args.upcall.watch.plan.now c.requires c.args.upcall.func (sym c.is_user.ensures ∙ c.if-not-is_user.false)) c.in_ok-start.ensures
+    (user_body (program_in c.args.upcall) c.args.upcall.watch.plan.now c.requires.fit c.args.upcall.func c.requires.user) c.in_ok-start.ensures.begins c.in_ok-start.ensures.ready

@@ -5,10 +5,10 @@ use Rattle.mdr_exec.specs.Holding.{held_of}
 use Rattle.mdr_exec.proofs.TurnLaws.{run_answers, run_wants}
 use Rattle.mdr_exec.proofs.frame.Machine.go.Goals as goal
 
-pub returns-in_ok-answer-in-Came-clause-ran : goal.returns-in_ok-answer-in-Came-clause-ran
-returns-in_ok-answer-in-Came-clause-ran g c =
+pub returns-in-Came-clause-ran : goal.returns-in-Came-clause-ran
+returns-in-Came-clause-ran g c =
     run_answers g.C.Memory.accesses (side_in c.args.self.now.side c.args.halves.now c.args.program.now) c.args.program.now (held_of c.args.program.now c.args.self.now) c.run_on.new.machine c.args.memory.now c.run_on.new.memory c.args.ticks
-    (c.args.ticks - c.in-Came.left) (stepped_as c.in_ok-ran.ran) c.in-Came.event c.in-Came.left c.event_of.result c.in_ok-answer-in-Came.answer (ap stepped_as c.in-Came.is) c.in_ok-ran.ensures.ran refl c.event_of.ensures c.in_ok-answer-in-Came.ensures.0
+    (c.args.ticks - c.in-Came.left) (stepped_as c.in_ok-ran.ran) c.in-Came.event c.in-Came.left c.event_of.result c.event_of.result (ap stepped_as c.in-Came.is) c.in_ok-ran.ensures.ran refl c.event_of.ensures refl
 
 pub returns-in-Wants-clause-ran : goal.returns-in-Wants-clause-ran
 returns-in-Wants-clause-ran g c =

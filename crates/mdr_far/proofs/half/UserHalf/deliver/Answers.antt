@@ -36,3 +36,10 @@ returns-in-Ok-clause-refused c = λ reason refused more last.
     (at_ok c.reply_to-reply.result c.in-Ok.reply c.in-Ok.ensures.ok.0 (λ r. (before : List (List ℕ)) → Follows d (readings before) c.in-Some.state → IsHonestReply d before c.args.bytes.now r.items) c.reply_to-reply.ensures.reply (sent_of es) follows)
     refused more last
     ∙ ap (λ (h : HalfState). user_reply_to_bytes (driver_in h) (sent_of h.exchanges ++ more) last) c.self.view_is
+
+pub reply_to-reply-requires-clause-opens : goal.reply_to-reply-requires-clause-opens
+reply_to-reply-requires-clause-opens c =
+    let d = driver_of c.self.inside.program c.self.inside.plan in
+    let es = c.self.inside.exchanges in
+    let follows = at_some (λ (s : State). Follows d (readings (sent_of es)) s) c.self.inside.state c.in-Some.state (sym c.take.ensures.value ∙ c.in-Some.is) c.self.invariant.follows in
+    follows.opens
