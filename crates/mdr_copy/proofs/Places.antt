@@ -29,11 +29,16 @@ greater a serial e f = grind (arith, nat_tests)
 
 searchable_from : (serial least : ℕ) (m : Memory) → RiseFrom least m → IsSearchable (is_below serial) (is_block serial) m
 searchable_from serial least [] h = tt
-searchable_from serial least (b ∷ m) h =
-    (smaller_isnt b.born.serial serial
-    , (λ e. no_smaller serial b.born.serial m h.1 e
-    , (λ e f. no_equal serial b.born.serial m h.1 (greater b.born.serial serial e f)
-    , searchable_from serial b.born.serial m h.1)))
+searchable_from serial least (b ∷ m) h = (
+  smaller_isnt b.born.serial serial,
+  (
+    λ e. no_smaller serial b.born.serial m h.1 e,
+    (
+      λ e f. no_equal serial b.born.serial m h.1 (greater b.born.serial serial e f),
+      searchable_from serial b.born.serial m h.1,
+    ),
+  ),
+)
 
 pub searchable : (serial : ℕ) (m : Memory) → Rise m → IsSearchable (is_below serial) (is_block serial) m
 searchable serial m h = searchable_from serial 0 m h

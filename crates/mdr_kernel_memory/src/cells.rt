@@ -68,11 +68,7 @@ fn living_cells(
 }
 
 /// The cells of a set whose blocks live, in their order.
-pub fn visible_cells(
-    alloc: Global,
-    world: &World,
-    set: &CellSet,
-) -> Result<CellList, OutOfMemory>
+pub fn visible_cells(alloc: Global, world: &World, set: &CellSet) -> Result<CellList, OutOfMemory>
     ensures { IfOk result (λ cs. cs ≡ living world.now.world.memory set.now) }
 {
     let names = set.names();

@@ -86,10 +86,7 @@ fn global_blocks(
 
 /// The globals, born in their order, so that a global's serial is its number.
 #[tactic(auto, unfolding(mdr_plain::specs::Storage::first_memory))]
-pub(crate) fn first_memory(
-    alloc: Global,
-    program: &Program,
-) -> Result<RisingBlocks, OutOfMemory>
+pub(crate) fn first_memory(alloc: Global, program: &Program) -> Result<RisingBlocks, OutOfMemory>
     requires { HasFewNumbers program.now }
     ensures { IfOk result (λ m. m ≡ first_memory (known_of program.now)) }
 {

@@ -104,11 +104,7 @@ fn put_news(
 }
 
 /// The visible cells that are left when blocks died.
-fn still_live(
-    alloc: Global,
-    copy: &RisingBlocks,
-    seen: &[Cell],
-) -> Result<Items<Cell>, OutOfMemory>
+fn still_live(alloc: Global, copy: &RisingBlocks, seen: &[Cell]) -> Result<Items<Cell>, OutOfMemory>
     ensures { IfOk result (λ left. left ≡ filter (still_live copy.now) seen.now) }
 {
     let mut left = Items::new(alloc);

@@ -15,7 +15,8 @@ use crate::objects::objects_fit;
 use crate::scene::Scene;
 use crate::shown::view_fits;
 use mdr_copy::{
-    CellList, RisingBlocks, cells_of_runs, copy_of, deaths_fit, news_fit, put_runs, with_news, without,
+    CellList, RisingBlocks, cells_of_runs, copy_of, deaths_fit, news_fit, put_runs, with_news,
+    without,
 };
 use mdr_core::{Half, Items, Key, OutOfMemory, Plan, Program, Ty};
 use mdr_fits::{Passes, Places, args_fault, fits_result, runs_fault};

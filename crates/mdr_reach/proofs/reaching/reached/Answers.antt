@@ -12,22 +12,23 @@ pub block_behind-requires-clause-last : goal.block_behind-requires-clause-last
 block_behind-requires-clause-last c = c.loop-i.invariant.1
 
 pub loop-i-preserved : goal.loop-i-preserved
-loop-i-preserved c =
-    (λ roots had.
-    let program = c.args.scene.program.now in
-    let touched = c.args.scene.touched.now in
-    let m = c.args.scene.blocks.now.memory in
-    let rising = c.births-in_order.ensures.in_order.rises in
-    let name = c.name_at-name.result in
-    let before = c.loop-i.invariant.0 roots had in
-    next_turn (graph_in c.args.scene) roots (named c.follow_on.new.marked.keys) c.loop-i.i c.in_ok-failing.failing
-    (followed_more (graph_in c.args.scene) (counts_in c.args.scene) (counted_is program touched m rising) roots (named c.loop-i.marked.keys) (named c.follow_on.new.marked.keys) (led_in c.args.scene (cell_of name)) c.loop-i.i (cell_of name)
-    c.loop-i.failing c.in_ok-failing.failing
-    (named_at c.loop-i.marked.keys c.loop-i.i name c.name_at-name.ensures)
-    (c.in_ok-failing.ensures.least (take c.loop-i.i (named c.loop-i.marked.keys)) before.least)
-    (edges_are program touched m rising (cell_of name))
-    c.in_ok-failing.ensures.marked before)
-    , last_of c.args.scene.program.now c.args.scene.touched.now c.args.scene.blocks.now c.name_at-name.result.serial c.in_ok-block.block c.in_ok-block.ensures.held)
+loop-i-preserved c = (
+  λ roots had.
+      let program = c.args.scene.program.now in
+      let touched = c.args.scene.touched.now in
+      let m = c.args.scene.blocks.now.memory in
+      let rising = c.births-in_order.ensures.in_order.rises in
+      let name = c.name_at-name.result in
+      let before = c.loop-i.invariant.0 roots had in
+      next_turn (graph_in c.args.scene) roots (named c.follow_on.new.marked.keys) c.loop-i.i c.in_ok-failing.failing
+      (followed_more (graph_in c.args.scene) (counts_in c.args.scene) (counted_is program touched m rising) roots (named c.loop-i.marked.keys) (named c.follow_on.new.marked.keys) (led_in c.args.scene (cell_of name)) c.loop-i.i (cell_of name)
+      c.loop-i.failing c.in_ok-failing.failing
+      (named_at c.loop-i.marked.keys c.loop-i.i name c.name_at-name.ensures)
+      (c.in_ok-failing.ensures.least (take c.loop-i.i (named c.loop-i.marked.keys)) before.least)
+      (edges_are program touched m rising (cell_of name))
+      c.in_ok-failing.ensures.marked before),
+  last_of c.args.scene.program.now c.args.scene.touched.now c.args.scene.blocks.now c.name_at-name.result.serial c.in_ok-block.block c.in_ok-block.ensures.held,
+)
 
 pub loop-i-smaller : goal.loop-i-smaller
 loop-i-smaller c =
