@@ -4,6 +4,7 @@ pub mod Standing
 pub mod Seeing
 pub mod Stand
 pub mod EndsAnywhere
+pub mod Pausing
 pub mod Ends
 pub mod Tries
 pub mod Commands
