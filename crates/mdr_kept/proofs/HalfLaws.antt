@@ -28,7 +28,7 @@ use Rattle.mdr_watched.specs.Watched.{closing, may_not, returns_to}
 use Rattle.mdr_kept.specs.Strict.{asks, call_alone, called, goes_down, handled_alone, in_user, is_any_gone, is_gone, now, run_alive, tries, unless}
 use Rattle.mdr_kept.proofs.EvenLaws.{Both, Ends, Even, Leads, all_alive, deaths_alike, deaths_rest, due_alike, ended, even_noted, even_rest, fewer, leads_after, leads_unless, never_ends, normal_alive, normal_like, served_leads}
 use Rattle.mdr_kept.proofs.GoesLaws.{Goes, after_after, goes_ask, goes_birth, goes_born, goes_death, goes_fresh, goes_load, goes_read, goes_stop, goes_store, goes_tick}
-use Rattle.mdr_kept.proofs.LikeLaws.{AreLike, Like, Same, same_list}
+use Rattle.mdr_kept.proofs.LikeLaws.{AreLike, Like, same_list}
 use Rattle.mdr_kept.proofs.PartLaws.{Absent, IsFar, IsPart, Rules, Shared, starts_alike}
 
 same_part : (o : Option Body) → IsPart o o
