@@ -18,7 +18,7 @@ use Rattle.mdr_meaning.specs.Asking.{serves, serves_by}
 use Rattle.mdr_meaning.specs.Bodies.{means, started}
 use Rattle.mdr_meaning.specs.Calls.{put, stores, received, keep, function_of, enters, goes_to, deep, direct, through, call_by}
 use Rattle.mdr_meaning.specs.Expressions.{given, gives, loads, place, read, slot_of, value, values}
-use Rattle.mdr_meaning.specs.Spaced.{CrossingsAreSpaced, Spaced}
+use Rattle.mdr_callees.specs.Spaced.{CrossingsAreSpaced, Spaced}
 use Rattle.mdr_meaning.specs.Lives.{after_deaths, births, births_by, closes, deaths, deaths_by, ends, fills, in_block, object_params, param_shapes, returned, shape_of, with_object}
 use Rattle.mdr_meaning.specs.Named.{named_type}
 use Rattle.mdr_meaning.specs.Numbers.{Numbered}
