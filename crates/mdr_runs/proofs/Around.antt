@@ -163,10 +163,10 @@ module _ (s : Setting) (before : Before) (keeps : KeepsTicks s) (gives : GivesNo
   pub runs_keep_ticks : (t : Tree) (w : World) → (left (run s before t w)).clock.rest ≤ w.clock.rest
   runs_keep_ticks t w = runs_at_most w.clock.rest t w (le_refl w.clock.rest)
 
-  no_tick : {A : Type 0} (q : ℕ) (w' : World) → suc q ≡ w'.clock.rest → w'.clock.rest ≤ 0 → A
+  pub no_tick : {A : Type 0} (q : ℕ) (w' : World) → suc q ≡ w'.clock.rest → w'.clock.rest ≤ 0 → A
   no_tick q w' is none = absurd (let e : suc q ≡ w'.clock.rest = is in let f : w'.clock.rest ≤ 0 = none in omega (arith, e, f))
 
-  fewer : (q r : ℕ) (w' w'' : World) → suc q ≡ w'.clock.rest → w'.clock.rest ≤ suc r → w''.clock.rest ≤ q → w''.clock.rest ≤ r
+  pub fewer : (q r : ℕ) (w' w'' : World) → suc q ≡ w'.clock.rest → w'.clock.rest ≤ suc r → w''.clock.rest ≤ q → w''.clock.rest ≤ r
   fewer q r w' w'' is less least =
       let e : suc q ≡ w'.clock.rest = is in let f : w'.clock.rest ≤ suc r = less in let g : w''.clock.rest ≤ q = least in omega (arith, e, f, g)
 
