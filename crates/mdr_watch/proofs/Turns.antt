@@ -86,7 +86,7 @@ module _ (u : Upcall) where
   prog = program_in u
 
   keeps : KeepsTicks (around_user u)
-  keeps = user_code_keeps_ticks (driver_in u.watch) u.func
+  keeps = user_code_keeps_ticks.user (driver_in u.watch) u.func may_not user_code_keeps_ticks.may_not
 
   seen : IsSeenBy (accesses prog may_touch) guarded_accesses world_in program_of prog
   seen = record {
