@@ -16,7 +16,8 @@ use crate::layouts::layouts_of;
 use crate::scene::Scene;
 use mdr_cells::{CellName, CellSet};
 use mdr_core::{Key, OutOfMemory, Program};
-use mdr_mem::{Blocks, Cells};
+use mdr_mem::Cells;
+use mdr_region::RegionBlocks;
 use std::alloc::Global;
 
 /// The set, with a cell that comes after all others.
@@ -105,7 +106,7 @@ pub fn gained(
     alloc: Global,
     program: &Program,
     touched: &[Key],
-    blocks: &Blocks,
+    blocks: &RegionBlocks,
     set: CellSet,
     next: u64,
 ) -> Result<CellSet, OutOfMemory>

@@ -18,8 +18,9 @@ use crate::lists::item;
 use crate::rows::{Around, Row};
 use crate::scene::Scene;
 use mdr_core::{Block, Key, Program, Value};
-use mdr_mem::{Blocks, Cells};
+use mdr_mem::Cells;
 use mdr_model::New;
+use mdr_region::RegionBlocks;
 
 /// A live block: how it was born, the cells of an element, whether the key of a cell that no struct is around is among
 /// those that may be touched, and what was put into its cells.
@@ -33,7 +34,7 @@ pub struct Held<'a> {
 
 /// What was put into a cell, as it is now.
 #[tactic(auto, unfolding(mdr_mem::specs::Contents::current))]
-pub(crate) fn held_now(blocks: &Blocks, v: Value) -> Value
+pub(crate) fn held_now(blocks: &RegionBlocks, v: Value) -> Value
     ensures { result ≡ current blocks.now.handles v }
 {
     match v {
@@ -49,7 +50,7 @@ pub(crate) fn held_now(blocks: &Blocks, v: Value) -> Value
 }
 
 /// How the block was born.
-fn born_of(blocks: &Blocks, b: Block) -> New
+fn born_of(blocks: &RegionBlocks, b: Block) -> New
     requires { IsTrue (is_handle blocks.now.handles b) }
     ensures { born_at blocks.now.memory b.serial ≡ Some result }
 {

@@ -27,6 +27,7 @@ use Rattle.mdr_outside.specs.declared.shelf.ReadAnswer.{ReadAnswer}
 use Rattle.mdr_outside.specs.Far.{loaded_with}
 use Rattle.mdr_outside.specs.Sides.{FarSide}
 use Rattle.mdr_plain.specs.declared.outcome.Outcome.{Outcome}
+use Rattle.mdr_plain.specs.World.{World}
 use Rattle.mdr_runner.specs.Runs.{IsOutcome, IsRun, status_of}
 use Rattle.mdr_runner.specs.Scripts.{HasScript, NoScriptOf, bound_by}
 use Rattle.mdr_bound.specs.declared.bound.Bound.{Bound}
@@ -38,6 +39,7 @@ use Rattle.mdr_source.proofs.Whose.{come_source}
 use Rattle.mdr_source.specs.declared.outcome.Source.{Source}
 use Rattle.mdr_split_runner.proofs.Steps.{nothing_end}
 use Rattle.mdr_split_runner.specs.Cuts.{IsCutInto}
+use Rattle.mdr_split_runner.specs.Layouts.{with_lines, world_left}
 use Rattle.mdr_split_runner.specs.declared.manner.SplitManner.{SplitManner}
 use Rattle.mdr_split_runner.specs.Means.{IsMeaning, SplitMeans, SplitRunsMean, meant, while_watched}
 use Rattle.mdr_split_runner.specs.Reports.{Began, Ran, RanTo, Reported}
@@ -110,6 +112,7 @@ module _ (law : RunIsMeaning) (taken : TextsOfSourcesAreTaken) (bytes lines : Li
       of (inr m) = inr (record {
         reported = subst (λ (o : Outcome). Reported source.program o s text) m.outcome g.reported;
         own = subst (λ (o : Outcome). IsOwn o.end) m.outcome m.own;
+        world = m.world;
         messages = subst (λ (o : Outcome). 2 * length es ≤ 4 * o.ticks + 6 * (watched source.program plan script ticks).world.kept.calls) m.outcome m.messages;
       })
 
@@ -126,6 +129,13 @@ module _ (law : RunIsMeaning) (taken : TextsOfSourcesAreTaken) (bytes lines : Li
       of (inr m) = inr (record { held = is; meaning = m })
   ran_means loaded s text honest (Ran.refused cause is r) = absurd (texts_taken (loads.Refused cause) (subst (λ (l : Option Loaded). IsHonest l es) is honest))
   ran_means loaded s text honest (Ran.failed is r) = inl (r.status_is ∙ ap status_of (nothing_end source.program script ticks (ends.FarFault 0)))
+
+-- so what stands behind the report tells of the state in which the run on one memory ends
+pub left_as_meant : (manner : SplitManner) (program : Program) (plan : Plan) (texts : Texts) (script : Bound) (loaded : Option Loaded) (es : List Exchange) (s : Status) (report text : List ℕ)
+    → loaded ≡ Some (loaded_with texts.user texts.plan loads.Ok) → IsMeaning program plan script manner.ticks es s report → text ≡ with_lines manner es (world_left program plan script manner.ticks loaded es) report
+    → text ≡ with_lines manner es (watched program plan script manner.ticks).world report
+left_as_meant manner program plan texts script loaded es s report text held m shown =
+    shown ∙ ap (λ (w : World). with_lines manner es w report) (ap (λ (l : Option Loaded). world_left program plan script manner.ticks l es) held ∙ m.world)
 
 -- what is meant is what the run on one memory is reported as
 pub same_report : (source : Source) (plan : Plan) (texts : Texts) (script : Bound) (ticks : ℕ) (s : Status) (text : List ℕ) → IsCutInto source plan texts → Reported source.program (meant source.program plan script ticks) s text
@@ -201,7 +211,7 @@ module _ (files : Files) (source_name script_name : List ℕ) (manner : SplitMan
           cut = r.run.cut;
           held = m.held;
           report = r.report;
-          shown = r.shown;
+          shown = left_as_meant manner source.program r.run.plan r.run.texts script far'.loaded far'.exchanges s r.report text m.held m.meaning r.shown;
           meaning = m.meaning;
           same = same_report source r.run.plan r.run.texts script manner.ticks s r.report r.run.cut m.meaning.reported;
         };

@@ -7,6 +7,7 @@ use Rattle.mdr_cut.specs.declared.texts.Texts.{Texts}
 use Rattle.mdr_due.specs.declared.status.Status.{Status}
 use Rattle.mdr_due.specs.declared.status.Status.TheVariants as status
 use Rattle.mdr_due.specs.Reads.{Files}
+use Rattle.mdr_exchanges.specs.Runs.{run_over}
 use Rattle.mdr_honest.specs.Honest.{IsHonest}
 use Rattle.mdr_model.specs.Law.{IsOwn}
 use Rattle.mdr_outside.specs.Calls.{ShelfCall}
@@ -24,27 +25,30 @@ use Rattle.mdr_bound.specs.declared.bound.Bound.{Bound}
 use Rattle.mdr_slicer.specs.Slicing.{IsSourceOf}
 use Rattle.mdr_source.specs.declared.outcome.Source.{Source}
 use Rattle.mdr_split_runner.specs.Cuts.{IsCutInto}
+use Rattle.mdr_split_runner.specs.Layouts.{with_lines}
 use Rattle.mdr_split_runner.specs.declared.manner.SplitManner.{SplitManner}
-use Rattle.mdr_split_runner.specs.Messages.{with_messages}
 use Rattle.mdr_split_runner.specs.Reports.{Reported}
 use Rattle.mdr_split_runner.specs.SplitRuns.{SplitRuns}
+use Rattle.mdr_split.specs.AnyAnswers.{kernel_in}
+use Rattle.mdr_watched.specs.Driver.{driver_of}
 use Rattle.mdr_watched.specs.Watched.{watched}
 
 -- the outcome of the run on one memory whose user half is held to its annotations
 abbrev pub meant : Program → Plan → Bound → (ticks : ℕ) → Outcome
 meant program plan script ticks = outcome_of program (watched program plan script ticks)
 
--- its status and report, within 4 messages for each tick and 6 for each command that called a function
+-- its status and report, and the state in which it ends, within 4 messages for each tick and 6 for each command that called a function
 pub record IsMeaning (program : Program) (plan : Plan) (script : Bound) (ticks : ℕ) (es : List Exchange) (s : Status) (text : List ℕ) : Type 0 where
   pub reported : Reported program (meant program plan script ticks) s text
   pub own : IsOwn (meant program plan script ticks).end
+  pub world : (kernel_in (run_over (driver_of program plan) script ticks es).pending).world ≡ (watched program plan script ticks).world
   pub messages : 2 * length es ≤ 4 * (meant program plan script ticks).ticks + 6 * (watched program plan script ticks).world.kept.calls
 
 -- the manner of that run
 abbrev pub while_watched : (ticks : ℕ) → Manner
 while_watched ticks = record { ticks = ticks; watched = true }
 
--- these very reads gave the source and the script, the far side holds the texts that the source is cut into, and what is due is what they mean, and what the same run on one memory is reported as; behind it stand the lines of the messages, where they are asked for
+-- these very reads gave the source and the script, the far side holds the texts that the source is cut into, and what is due is what they mean, and what the same run on one memory is reported as; behind it stand, where they are asked for, the lines of the messages, and that of the layout of the same run on one memory
 pub record SplitMeansBy (files : Files) (source_name script_name : List ℕ) (manner : SplitManner) (old new : List ShelfCall) (loaded : Option Loaded) (es : List Exchange) (s : Status) (text : List ℕ) : Type 0 where
   pub source : Source
   pub script : Bound
@@ -56,7 +60,7 @@ pub record SplitMeansBy (files : Files) (source_name script_name : List ℕ) (ma
   pub cut : IsCutInto source plan texts
   pub held : loaded ≡ Some (loaded_with texts.user texts.plan loads.Ok)
   pub report : List ℕ
-  pub shown : text ≡ with_messages manner.wire es report
+  pub shown : text ≡ with_lines manner es (watched source.program plan script manner.ticks).world report
   pub meaning : IsMeaning source.program plan script manner.ticks es s report
   pub same : IsRun source.program script (while_watched manner.ticks) s report
 
