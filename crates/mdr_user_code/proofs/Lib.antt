@@ -2,9 +2,9 @@ mod Sides
 mod CopiedWalks
 mod RunLaws
 mod OpeningLaws
+mod TidingLaws
+mod FirstLaws
 mod ReadyLaws
-mod FollowLaws
+pub mod FollowLaws
 mod KeyLaws
-mod ByteLaws
 mod GrownLaws
-mod QuickLaws

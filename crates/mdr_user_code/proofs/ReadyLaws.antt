@@ -22,10 +22,12 @@ use Rattle.mdr_model.specs.declared.message.Message.{Message}
 use Rattle.mdr_model.specs.declared.message.Message.TheVariants as message
 use Rattle.mdr_model.specs.declared.message.New.{New}
 use Rattle.mdr_model.specs.declared.message.Told.{Told}
+use Rattle.mdr_model.specs.Memory.{Memory}
+use Rattle.mdr_user_memory.specs.Kept.{Kept}
 use Rattle.mdr_watched.specs.Driver.{Driver, driver_of, is_user}
 use Rattle.mdr_user_code.specs.declared.opening.Turn.{Turn}
 use Rattle.mdr_user_code.specs.declared.state.State.{State}
-use Rattle.mdr_user_code.specs.Copied.{Copied, copy_accesses}
+use Rattle.mdr_user_memory.specs.Copied.{Copied, copy_accesses}
 use Rattle.mdr_user_code.specs.Opening.{func_for, tree_for}
 use Rattle.mdr_user_code.specs.Replying.{IsResumed, IsStarted, Prepared, Proceeds, Resumed, RunReplies}
 use Rattle.mdr_user_code.specs.Standing.{IsFit, held_in}
@@ -46,8 +48,9 @@ started_is program plan func depth args passed m0 m fit user same none is = reco
       ∙ ap (λ (vs : List Wire). cut r (started (driver_of program plan).user (suc f) func vs depth Tree.Idle)) same;
 }
 
-pub prepared_call : (d : Driver) (s s' : State) (func depth rest : ℕ) (args passed : List Wire) (told : Told) → passed ≡ args → s'.func ≡ func → IsStarted d func passed depth s'.machine → Prepared d s (message.Call func depth rest args told) s'
-prepared_call d s s' func depth rest args passed told same named is = record {
+pub prepared_call : (d : Driver) (s s' : State) (func depth rest : ℕ) (args passed : List Wire) (told : Told) → passed ≡ args → s'.memory ≡ s.memory → s'.func ≡ func → IsStarted d func passed depth s'.machine → Prepared d s (message.Call func depth rest args told) s'
+prepared_call d s s' func depth rest args passed told same stays named is = record {
+  memory = stays;
   func = named;
   holds = λ f r less. is.by f r less ∙ ap (λ (vs : List Wire). cut r (started d.user (suc f) func vs depth Tree.Idle)) same;
 }
@@ -58,22 +61,24 @@ resumed d s s' results is f r = is.by d.program d.user f r ∙ sym (cut_child r 
 
 pub prepared_back : (d : Driver) (s s' : State) (m : Message) (rest : ℕ) (v : Wire) (told : Told) → m ≡ message.Back rest v told → Resumed (v ∷ []) s s' → Prepared d s m s'
 prepared_back d s s' m rest v told same is =
-    let p : Prepared d s (message.Back rest v told) s' = record { func = is.func; holds = λ f r less. resumed d s s' (v ∷ []) is.machine f r } in
+    let p : Prepared d s (message.Back rest v told) s' = record { memory = is.memory; func = is.func; holds = λ f r less. resumed d s s' (v ∷ []) is.machine f r } in
     subst (λ x. Prepared d s x s') (sym same) p
 
 pub prepared_answer : (d : Driver) (s s' : State) (m : Message) (results passed : List Wire) (deaths : List ℕ) (news : List New) → m ≡ message.Answer results deaths news → passed ≡ results → Resumed passed s s' → Prepared d s m s'
 prepared_answer d s s' m results passed deaths news same given is =
     let p : Prepared d s (message.Answer results deaths news) s' =
-    record { func = is.func; holds = λ f r less. resumed d s s' passed is.machine f r ∙ ap (λ (vs : List Wire). cut r (child (bare d.user f (held_in d s)) vs)) given } in
+    record { memory = is.memory; func = is.func; holds = λ f r less. resumed d s s' passed is.machine f r ∙ ap (λ (vs : List Wire). cut r (child (bare d.user f (held_in d s)) vs)) given } in
     subst (λ x. Prepared d s x s') (sym same) p
 
--- user code goes on
-pub proceeds : (d : Driver) (s s1 s2 s' : State) (m : Message) (turn : Turn) (reply : Message) → Prepared d s m s1 → s2 ≡ record s1 { entered = turn.entered }
-    → RunReplies d (held_in d s2) s2.func s2.entered turn.rest turn.sight.view turn.sight.copy reply s' → Proceeds d s m turn reply s'
-proceeds d s s1 s2 s' m turn reply p same run =
+-- user code goes on, behind a state that holds the message's copy
+pub proceeds : (d : Driver) (s s1 s2 s' : State) (k : Kept) (m : Message) (turn : Turn) (reply : Message) → Prepared d s m s1 → s2 ≡ record s1 { memory = k; entered = turn.entered } → k.agreed ≡ turn.sight.copy
+    → RunReplies d (held_in d s2) s2.func s2.entered turn.rest turn.sight.view s2.memory.agreed reply s' → Proceeds d s m turn reply s'
+proceeds d s s1 s2 s' k m turn reply p same copy run =
+    let q : RunReplies d (held_in d s1) s1.func turn.entered turn.rest turn.sight.view k.agreed reply s' =
+    subst (λ (x : State). RunReplies d (held_in d x) x.func x.entered turn.rest turn.sight.view x.memory.agreed reply s') same run in
     let r : RunReplies d (held_in d s1) (func_for s m) turn.entered turn.rest turn.sight.view turn.sight.copy reply s' =
     subst (λ (f : ℕ). RunReplies d (held_in d s1) f turn.entered turn.rest turn.sight.view turn.sight.copy reply s') p.func
-    (subst (λ (x : State). RunReplies d (held_in d x) x.func x.entered turn.rest turn.sight.view turn.sight.copy reply s') same run) in
+    (subst (λ (a : Memory). RunReplies d (held_in d s1) s1.func turn.entered turn.rest turn.sight.view a reply s') copy q) in
     record {
       kept = r.kept;
       by = λ fuel more fits. r.by fuel more (tree_for d fuel s m) fits (p.holds fuel (turn.rest + more) fits);

@@ -71,6 +71,7 @@ fn start(
     depth: u32,
 ) -> Result<(), OutOfMemory>
     requires { IsFit scene.plan.now scene.program.now }
+    ensures memory { OnOk result (state.new.memory ≡ state.old.memory) }
     ensures func { OnOk result (state.new.func ≡ func) }
     ensures started { OnOk result (IsStarted (driver_in scene.entry) func args.now depth state.new.machine) }
 {

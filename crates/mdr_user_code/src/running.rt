@@ -4,28 +4,28 @@ ghost use Rattle.std.specs.Prelude.{◌≡◌, ◌≤◌, ◌-◌, IfOk, OnOk};
 ghost use Rattle.mdr_core.specs.Sound.{IsSound};
 ghost use Rattle.mdr_events.specs.Going.{RanTo};
 ghost use Rattle.mdr_exec.specs.Holding.{held_of};
-ghost use Rattle.mdr_user_code.specs.Copied.{copy_accesses};
+ghost use Rattle.mdr_user_memory.specs.Copied.{copy_accesses};
 ghost use Rattle.mdr_user_code.specs.Replying.{RunReplies};
 ghost use Rattle.mdr_user_code.specs.Standing.{IsFit, driver_in, held_in};
 
-use crate::memory::UserMemory;
+use crate::release::given_up;
 use crate::replying::settle;
 use crate::scene::Scene;
-use crate::sight::Sight;
 use crate::state::State;
-use mdr_copy::copied;
-use mdr_core::OutOfMemory;
+use mdr_core::{Items, OutOfMemory};
 use mdr_events::Event;
 use mdr_exec::{Machine, Side};
-use mdr_model::Message;
+use mdr_model::{Cell, Message};
+use mdr_user_memory::{SeenMemory, UserMemory};
 use std::alloc::Global;
+use std::mem;
 
 /// Runs a machine with so many ticks, on the code of the user half.
 fn go(
     machine: &mut Machine,
     alloc: Global,
     scene: Scene,
-    memory: &mut UserMemory,
+    memory: &mut SeenMemory,
     ticks: u64,
 ) -> Result<Event, OutOfMemory>
     requires sound { IsSound scene.program.now }
@@ -45,16 +45,20 @@ pub(crate) fn run(
     scene: Scene,
     state: &mut State,
     rest: u64,
-    sight: Sight,
+    view: Items<Cell>,
 ) -> Result<Message, OutOfMemory>
     requires sound { IsSound scene.program.now }
     requires fit { IsFit scene.plan.now scene.program.now }
-    ensures { IfOk result (λ r. RunReplies (driver_in scene.entry) (held_in (driver_in scene.entry) state.old) state.old.func state.old.entered rest sight.view sight.copy r state.new) }
+    ensures { IfOk result (λ r. RunReplies (driver_in scene.entry) (held_in (driver_in scene.entry) state.old) state.old.func state.old.entered rest view state.old.memory.agreed r state.new) }
 {
-    let Sight { view, copy } = sight;
-    let blocks = copied(alloc, copy.as_slice())?;
-    let mut memory = UserMemory::new(blocks, view);
-    let event = go(&mut state.machine, alloc, scene, &mut memory, rest)?;
-    let reply = settle(alloc, state, rest, copy, memory, &event)?;
-    Ok(reply)
+    state.memory.is_paired();
+    let memory = mem::replace(&mut state.memory, UserMemory::new(alloc));
+    let mut seen = memory.seen(view);
+    match go(&mut state.machine, alloc, scene, &mut seen, rest) {
+        Ok(event) => {
+            let reply = settle(alloc, state, rest, seen, &event)?;
+            Ok(reply)
+        }
+        Err(error) => given_up(error, seen),
+    }
 }

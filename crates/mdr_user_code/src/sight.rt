@@ -122,7 +122,7 @@ pub(crate) fn renewed(
 }
 
 /// The copy with the values that are told.
-pub(crate) fn told_copy(copy: Items<MemoryBlock>, runs: &[Run]) -> Items<MemoryBlock>
+fn told_copy(copy: Items<MemoryBlock>, runs: &[Run]) -> Items<MemoryBlock>
     ensures { result ≡ put_runs runs.now copy }
 {
     let mut blocks = copy.into_vec();

@@ -1,9 +1,12 @@
 // What the user half keeps between messages.
 
+ghost use Rattle.std.specs.Prelude.{◌≡◌};
+
 use mdr_core::{At, Items};
 use mdr_exec::Machine;
 use mdr_meaning::Shape64;
-use mdr_model::{Cell, MemoryBlock, Wire};
+use mdr_model::{Cell, Wire};
+use mdr_user_memory::UserMemory;
 
 /// A service that was asked for.
 #[derive(Drop)]
@@ -25,14 +28,23 @@ pub enum Awaits {
     Answer(Question, u64),
 }
 
-/// What the user half keeps between messages: the agreed copy, the code that waits, the function that the open upcall called,
-/// the blocks that came in an answer to service 13 and live, the visible cells, and what is awaited.
+/// What the user half keeps between messages: its memory with the agreed copy, the code that waits, the function that the open
+/// upcall called, the blocks that came in an answer to service 13 and live, the visible cells, and what is awaited.
 #[derive(Drop)]
 pub struct State {
-    pub(crate) agreed: Items<MemoryBlock>,
+    pub(crate) memory: UserMemory,
     pub(crate) machine: Machine,
     pub(crate) func: u32,
     pub(crate) entered: Items<u64>,
     pub(crate) view: Items<Cell>,
     pub(crate) awaits: Awaits,
+}
+
+impl State {
+    /// Lends the user half's memory, with the agreed copy.
+    pub fn memory(&self) -> &UserMemory
+        ensures { result.now ≡ self.now.memory }
+    {
+        &self.memory
+    }
 }
