@@ -20,7 +20,7 @@ use Rattle.mdr_events.specs.Steps.{child}
 use Rattle.mdr_events.specs.Values.{wires_of}
 use Rattle.mdr_exec.specs.declared.frame.Machine.{Machine}
 use Rattle.mdr_exec.specs.Holding.{Takes, held_of}
-use Rattle.mdr_exec.proofs.ReadyLaws.{ran_leaves, takes_all, takes_one}
+use Rattle.mdr_exec.proofs.ReadyLaws.{ran_leaves, takes_all}
 use Rattle.mdr_meaning.specs.declared.wire.Wire.{Wire}
 use Rattle.mdr_meaning.specs.declared.wire.Wire.TheVariants as wire
 use Rattle.mdr_meaning.specs.Bodies.{body_of, means, started}
@@ -56,7 +56,7 @@ use Rattle.mdr_whole.specs.declared.ending.Worked.TheVariants as worked
 use Rattle.mdr_whole.specs.declared.next.Next.{Next}
 use Rattle.mdr_whole.specs.declared.next.Next.TheVariants as next
 use Rattle.mdr_whole.specs.Ending.{gave_as, worked_as}
-use Rattle.mdr_whole.specs.Going.{Began, Counted, Follows, GoesOn, GoesOnWith, IsCalm, IsStarted, NextAt, Passed, RanThrough, StandsAt, Waits, machine_does}
+use Rattle.mdr_whole.specs.Going.{Began, Counted, Follows, GoesOn, GoesOnWith, IsCalm, IsStarted, NextAt, Passed, RanThrough, StandsAt, machine_does}
 use Rattle.mdr_whole.proofs.Calm.{at_clock, runs_through}
 
 -- ---- a driver that runs is seen as its world
