@@ -7,7 +7,6 @@ use Rattle.mdr_cut.specs.declared.texts.Texts.{Texts}
 use Rattle.mdr_due.specs.declared.status.Status.{Status}
 use Rattle.mdr_due.specs.declared.status.Status.TheVariants as status
 use Rattle.mdr_due.specs.Reads.{Files}
-use Rattle.mdr_exchanges.specs.Runs.{run_over}
 use Rattle.mdr_honest.specs.Honest.{IsHonest}
 use Rattle.mdr_model.specs.Law.{IsOwn}
 use Rattle.mdr_outside.specs.Calls.{ShelfCall}
@@ -29,19 +28,16 @@ use Rattle.mdr_split_runner.specs.Layouts.{with_lines}
 use Rattle.mdr_split_runner.specs.declared.manner.SplitManner.{SplitManner}
 use Rattle.mdr_split_runner.specs.Reports.{Reported}
 use Rattle.mdr_split_runner.specs.SplitRuns.{SplitRuns}
-use Rattle.mdr_split.specs.AnyAnswers.{kernel_in}
-use Rattle.mdr_watched.specs.Driver.{driver_of}
 use Rattle.mdr_watched.specs.Watched.{watched}
 
 -- the outcome of the run on one memory whose user half is held to its annotations
 abbrev pub meant : Program → Plan → Bound → (ticks : ℕ) → Outcome
 meant program plan script ticks = outcome_of program (watched program plan script ticks)
 
--- its status and report, and the state in which it ends, within 4 messages for each tick and 6 for each command that called a function
+-- its status and report, within 4 messages for each tick and 6 for each command that called a function
 pub record IsMeaning (program : Program) (plan : Plan) (script : Bound) (ticks : ℕ) (es : List Exchange) (s : Status) (text : List ℕ) : Type 0 where
   pub reported : Reported program (meant program plan script ticks) s text
   pub own : IsOwn (meant program plan script ticks).end
-  pub world : (kernel_in (run_over (driver_of program plan) script ticks es).pending).world ≡ (watched program plan script ticks).world
   pub messages : 2 * length es ≤ 4 * (meant program plan script ticks).ticks + 6 * (watched program plan script ticks).world.kept.calls
 
 -- the manner of that run

@@ -16,9 +16,9 @@ use Rattle.mdr_slicer.specs.Slicing.{IsSourceOf, NoSourceOf}
 use Rattle.mdr_source.specs.declared.outcome.Source.{Source}
 use Rattle.mdr_split_runner.specs.Cuts.{IsCutInto}
 use Rattle.mdr_split_runner.specs.declared.manner.SplitManner.{SplitManner}
-use Rattle.mdr_split_runner.specs.Layouts.{with_lines, world_left}
+use Rattle.mdr_split_runner.specs.Layouts.{with_lines}
 use Rattle.mdr_split_runner.specs.Loads.{LoadedOnce, LoadedPart}
-use Rattle.mdr_split_runner.specs.Reports.{Ran, RanTo}
+use Rattle.mdr_split_runner.specs.Reports.{Ran, RanTo, world_left}
 
 -- ---- a source and a script
 

@@ -1,6 +1,7 @@
 // The line that shows the layout of a run's memory.
 
-ghost use Rattle.std.specs.Prelude.{◌≡◌, ◌++◌, OnOk, IfOk, decimal};
+ghost use Rattle.std.specs.Prelude.{◌≡◌, ◌++◌, OnOk, IfOk, codes, decimal};
+ghost use Rattle.mdr_model.specs.Report.{newline};
 ghost use Rattle.mdr_split_runner.specs.Layouts.{layout_line, with_layout};
 ghost use Rattle.mdr_split_runner.specs.Messages.{with_messages};
 
@@ -18,15 +19,22 @@ fn put_places(alloc: Global, out: &mut Vec<u8>, places: u64) -> Result<(), OutOf
     put_word(out, digits.as_str())
 }
 
+/// How many places there are, to the end of the line.
+fn put_top(alloc: Global, out: &mut Vec<u8>, top: u64) -> Result<(), OutOfMemory>
+    ensures { OnOk result (out.new.items ≡ out.old.items ++ (codes " " ++ (decimal top ++ newline))) }
+{
+    put_word(out, " ")?;
+    put_places(alloc, out, top)?;
+    put_newline(out)
+}
+
 /// The line of a layout: how many places are used, and how many there are.
 fn put_layout(alloc: Global, out: &mut Vec<u8>, layout: (u64, u64)) -> Result<(), OutOfMemory>
     ensures { OnOk result (out.new.items ≡ out.old.items ++ layout_line layout) }
 {
     put_word(out, "region ")?;
     put_places(alloc, out, layout.0)?;
-    put_word(out, " ")?;
-    put_places(alloc, out, layout.1)?;
-    put_newline(out)
+    put_top(alloc, out, layout.1)
 }
 
 /// What is due, with the line of the layout behind its text.

@@ -10,9 +10,8 @@ ghost use Rattle.mdr_outside.specs.Far.{IsLoaded};
 ghost use Rattle.mdr_plain.specs.Scripts.{first_world};
 ghost use Rattle.mdr_region.specs.Layout.{places_of};
 ghost use Rattle.mdr_split.specs.AnyAnswers.{kernel_in};
-ghost use Rattle.mdr_split_runner.specs.Layouts.{world_left};
 ghost use Rattle.mdr_split_runner.specs.Loads.{LoadedOnce, LoadedPart, SentPart};
-ghost use Rattle.mdr_split_runner.specs.Reports.{RanTo, nothing_ran};
+ghost use Rattle.mdr_split_runner.specs.Reports.{RanTo, nothing_ran, world_left};
 ghost use Rattle.mdr_watched.specs.Driver.{driver_of};
 
 use crate::cutting::Cut;

@@ -26,8 +26,8 @@ use Rattle.mdr_slicer.specs.Slicing.{HasSource, NoSource}
 use Rattle.mdr_source.specs.declared.outcome.Source.{Source}
 use Rattle.mdr_split_runner.specs.Cuts.{IsCutInto}
 use Rattle.mdr_split_runner.specs.declared.manner.SplitManner.{SplitManner}
-use Rattle.mdr_split_runner.specs.Layouts.{with_lines, world_left}
-use Rattle.mdr_split_runner.specs.Reports.{Ran, RanTo}
+use Rattle.mdr_split_runner.specs.Layouts.{with_lines}
+use Rattle.mdr_split_runner.specs.Reports.{Ran, RanTo, world_left}
 use Rattle.mdr_verifier.specs.Judged.{IsJudged}
 use Rattle.mdr_verifier.specs.Verifies.{longest_transcript}
 use Rattle.mdr_top.specs.declared.words.Cutting.{Cutting}
