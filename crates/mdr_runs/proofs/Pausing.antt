@@ -1,5 +1,5 @@
 -- Code that is run up to its next call of the other half comes to what it comes to where it is run to its end.
-use Rattle.std.proofs.Common.{◌≡◌, ℕ, zero, suc, ◌-◌, ◌≤◌, List, Option, Some, Result, Ok, Err, refl, sym, ap, arith}
+use Rattle.std.proofs.Common.{◌≡◌, ℕ, zero, suc, ◌-◌, ◌≤◌, Some, Result, Ok, Err, refl, sym, ap, arith}
 use mathlib.Core.Path.{fun_ext}
 use Rattle.mdr_core.specs.declared.place.At.{At}
 use Rattle.mdr_core.specs.declared.stop.StopKind.{StopKind}
@@ -8,7 +8,7 @@ use Rattle.mdr_meaning.specs.Cut.{cut}
 use Rattle.mdr_meaning.specs.Tree.{Tree}
 use Rattle.mdr_meaning.proofs.CutLaws.{cut_cut}
 use Rattle.mdr_plain.specs.Laws.{GivesNoTicks}
-use Rattle.mdr_plain.specs.Running.{Before, Setting, Went, Gave, Calls, gave_after, gave_counted, gave_given, goes, run}
+use Rattle.mdr_plain.specs.Running.{Before, Setting, Went, Calls, gave_after, gave_counted, gave_given, goes, run}
 use Rattle.mdr_plain.specs.World.{World, Ran, Ended, Stopped, Work, advanced, after, counted, given, left, then}
 use Rattle.mdr_runs.specs.Around.{KeepsTicks}
 use Rattle.mdr_runs.specs.Pausing.{EachSettingPauses, finishes}
