@@ -71,6 +71,7 @@ module _ (program : Program) (plan : Plan) (script : Bound) (budget : ℕ) (es :
       let ticks : o.ticks ≡ k.world.clock.ticks = ap (λ (x : Outcome). x.ticks) is ∙ ticks_of program (finish end k.world) in
       record {
         outcome = is ∙ w.outcome;
+        world = ap (λ (x : Kernel). x.world) kernel ∙ w.world;
         own = subst (λ (x : Outcome). IsOwn x.end) (sym is) (owns program (finish end k.world) w.own);
         messages = omega (arith, w.messages, exchanged, messages, calls, ticks);
       }

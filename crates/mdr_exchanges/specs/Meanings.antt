@@ -15,16 +15,18 @@ use Rattle.mdr_bound.specs.declared.bound.Bound.{Bound}
 use Rattle.mdr_split.specs.Law.{HaveBodies, IsPlanOf}
 use Rattle.mdr_watched.specs.Driver.{Driver, driver_of}
 use Rattle.mdr_watched.specs.Watched.{watched}
-use Rattle.mdr_exchanges.specs.Runs.{IsFarFault, IsRun}
+use Rattle.mdr_split.specs.AnyAnswers.{kernel_in}
+use Rattle.mdr_exchanges.specs.Runs.{IsFarFault, IsRun, run_over}
 
 -- each reply that was got is the user half's reply to the messages so far, and has a spelling
 abbrev pub Honest : Driver → (before : List (List ℕ)) → List Exchange → Type 0
 Honest d before [] = Unit {0}
 Honest d before (e ∷ es) = IfSome e.got (λ reply. IsHonestReply d before e.sent reply) × Honest d (before ++ e.sent ∷ []) es
 
--- the outcome of the watched run on one memory, reached within 4 messages for each tick and 6 for each command that called a function
+-- the outcome of the watched run on one memory, and the state in which it ends, reached within 4 messages for each tick and 6 for each command that called a function
 pub record IsMeant (program : Program) (plan : Plan) (script : Bound) (budget : ℕ) (es : List Exchange) (o : Outcome) : Type 0 where
   pub outcome : o ≡ outcome_of program (watched program plan script budget)
+  pub world : (kernel_in (run_over (driver_of program plan) script budget es).pending).world ≡ (watched program plan script budget).world
   pub own : IsOwn o.end
   pub messages : 2 * length es ≤ 4 * o.ticks + 6 * (watched program plan script budget).world.kept.calls
 

@@ -18,7 +18,7 @@ use Rattle.mdr_split_runner.specs.declared.manner.SplitManner.{SplitManner}
 use Rattle.mdr_split_runner.specs.Means.{meant}
 use Rattle.mdr_split_runner.specs.Reports.{Ran}
 use Rattle.mdr_split_runner.specs.SplitRuns.{IsShownRun, SplitRunsOver}
-use Rattle.mdr_split_runner.proofs.Meanings.{IsEarly, IsMeantSo, no_script_early, not_early, own_never, ran_means, same_report, unread_early}
+use Rattle.mdr_split_runner.proofs.Meanings.{IsEarly, IsMeantSo, lines_so, no_script_early, not_early, own_never, ran_means, same_report, unread_early}
 use Rattle.mdr_runner.specs.Scripts.{IsScriptOf}
 use Rattle.mdr_halves_runner.specs.Means.{HalvesMean, HalvesRunsMean}
 use Rattle.mdr_halves_runner.specs.Names.{TextNames}
@@ -67,7 +67,7 @@ module _ (files : Files) (names : TextNames) (script_name : List ℕ) (manner : 
           cut = cut;
           held = m.held;
           report = r.report;
-          shown = r.shown;
+          shown = lines_so manner far'.exchanges r.report text _ _ r.shown m.world;
           meaning = m.meaning;
           same = same_report source r.run.plan i.texts script manner.ticks s r.report cut m.meaning.reported;
         };

@@ -18,8 +18,9 @@ use Rattle.mdr_runner.specs.Scripts.{IsScriptOf}
 use Rattle.mdr_source.specs.declared.outcome.Source.{Source}
 use Rattle.mdr_split_runner.specs.Cuts.{IsCutInto}
 use Rattle.mdr_split_runner.specs.declared.manner.SplitManner.{SplitManner}
+use Rattle.mdr_split_runner.specs.Layouts.{with_lines}
 use Rattle.mdr_split_runner.specs.Means.{IsMeaning, while_watched}
-use Rattle.mdr_split_runner.specs.Messages.{with_messages}
+use Rattle.mdr_watched.specs.Watched.{watched}
 use Rattle.mdr_halves_runner.specs.Names.{TextNames}
 use Rattle.mdr_halves_runner.specs.Runs.{HalvesRuns}
 use Rattle.mdr_halves_runner.specs.Sources.{IsSourceIn}
@@ -35,7 +36,7 @@ pub record HalvesMeanBy (files : Files) (names : TextNames) (script_name : List 
   pub cut : IsCutInto source plan source_is.texts
   pub held : loaded ≡ Some (loaded_with source_is.texts.user source_is.texts.plan loads.Ok)
   pub report : List ℕ
-  pub shown : text ≡ with_messages manner.wire es report
+  pub shown : text ≡ with_lines manner es (watched source.program plan script manner.ticks).world report
   pub meaning : IsMeaning source.program plan script manner.ticks es s report
   pub same : IsRun source.program script (while_watched manner.ticks) s report
 

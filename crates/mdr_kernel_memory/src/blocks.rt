@@ -5,14 +5,15 @@ ghost use Rattle.mdr_mem.specs.Contents.{current, wire_in};
 
 use mdr_copy::{RisingBlocks, wire_of};
 use mdr_core::{Items, OutOfMemory, Value};
-use mdr_mem::{Blocks, Cells};
+use mdr_mem::Cells;
 use mdr_model::{MemoryBlock, Wire};
+use mdr_region::RegionBlocks;
 use mdr_world::World;
 use std::alloc::Global;
 
 /// What was put into a cell, as it is now.
 #[tactic(auto, unfolding(mdr_mem::specs::Contents::current))]
-fn value_now(blocks: &Blocks, v: Value) -> Value
+fn value_now(blocks: &RegionBlocks, v: Value) -> Value
     ensures { result ≡ current blocks.now.handles v }
 {
     match v {
@@ -27,13 +28,17 @@ fn value_now(blocks: &Blocks, v: Value) -> Value
     }
 }
 
-fn wire_now(blocks: &Blocks, v: Value) -> Wire
+fn wire_now(blocks: &RegionBlocks, v: Value) -> Wire
     ensures { result ≡ wire_in blocks.now.handles v }
 {
     wire_of(value_now(blocks, v))
 }
 
-fn wires_now(blocks: &Blocks, alloc: Global, cells: &[Value]) -> Result<Items<Wire>, OutOfMemory>
+fn wires_now(
+    blocks: &RegionBlocks,
+    alloc: Global,
+    cells: &[Value],
+) -> Result<Items<Wire>, OutOfMemory>
     ensures { IfOk result (λ ws. ws ≡ map (wire_in blocks.now.handles) cells.now) }
 {
     let mut wires = Items::new(alloc);
@@ -44,7 +49,7 @@ fn wires_now(blocks: &Blocks, alloc: Global, cells: &[Value]) -> Result<Items<Wi
 }
 
 /// What the cells hold of the block at this place among those that live.
-fn cells_at(blocks: &Blocks, alloc: Global, place: usize) -> Result<Items<Wire>, OutOfMemory>
+fn cells_at(blocks: &RegionBlocks, alloc: Global, place: usize) -> Result<Items<Wire>, OutOfMemory>
     ensures { IfOk result (λ ws. option_map (λ b. b.cells) (slice_get blocks.now.memory place) ≡ Some ws) }
 {
     match blocks.cells_at(place) {
@@ -53,7 +58,7 @@ fn cells_at(blocks: &Blocks, alloc: Global, place: usize) -> Result<Items<Wire>,
     }
 }
 
-fn block_at(blocks: &Blocks, alloc: Global, place: usize) -> Result<MemoryBlock, OutOfMemory>
+fn block_at(blocks: &RegionBlocks, alloc: Global, place: usize) -> Result<MemoryBlock, OutOfMemory>
     ensures { IfOk result (λ b. slice_get blocks.now.memory place ≡ Some b) }
 {
     match blocks.born_at(place) {
@@ -65,7 +70,7 @@ fn block_at(blocks: &Blocks, alloc: Global, place: usize) -> Result<MemoryBlock,
     }
 }
 
-fn all_blocks(blocks: &Blocks, alloc: Global) -> Result<Vec<MemoryBlock>, OutOfMemory>
+fn all_blocks(blocks: &RegionBlocks, alloc: Global) -> Result<Vec<MemoryBlock>, OutOfMemory>
     ensures { IfOk result (λ m. m.items ≡ blocks.now.memory) }
 {
     let live = blocks.live() as usize;
@@ -77,7 +82,7 @@ fn all_blocks(blocks: &Blocks, alloc: Global) -> Result<Vec<MemoryBlock>, OutOfM
 }
 
 /// The same in the order of their births, in which serials rise.
-fn in_order(blocks: &Blocks, alloc: Global) -> Result<RisingBlocks, OutOfMemory>
+fn in_order(blocks: &RegionBlocks, alloc: Global) -> Result<RisingBlocks, OutOfMemory>
     ensures { IfOk result (λ m. m ≡ blocks.now.memory) }
 {
     let memory = all_blocks(blocks, alloc)?;

@@ -3,7 +3,6 @@ pub mod WalkLaws
 pub mod AlikeLaws
 pub mod FuelLaws
 pub mod FewLaws
-pub mod SpacedLaws
 pub mod WorkedProofs
 pub mod StopProofs
 pub mod NumberLaws

@@ -16,7 +16,6 @@ pub mod Statements
 pub mod Bodies
 pub mod Fuel
 pub mod Few
-pub mod Spaced
 pub mod Within
 pub mod Fit
 pub mod Fair

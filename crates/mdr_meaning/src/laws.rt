@@ -7,7 +7,6 @@ ghost use Rattle.mdr_meaning.specs.Few.{QuestionsAreFew};
 ghost use Rattle.mdr_meaning.specs.Fuel.{FuelIsNoMatter, StartedFuelIsNoMatter, UserTreesAreEqual};
 ghost use Rattle.mdr_meaning.specs.Numbers.{ProgramsAreNumbered};
 ghost use Rattle.mdr_meaning.specs.Placed.{TreesArePlaced};
-ghost use Rattle.mdr_meaning.specs.Spaced.{CrossingsAreSpaced};
 ghost use Rattle.mdr_meaning.specs.Walk.{WalksCut, WalksGoOn};
 ghost use Rattle.mdr_meaning.specs.Within.{AllKeepToIt};
 
@@ -41,12 +40,6 @@ pub fn user_trees_are_equal()
 /// A started function asks at most two questions before its first tick, and two more for each tick.
 pub fn questions_are_few()
     ensures { QuestionsAreFew }
-{}
-
-/// A function with a body is started with no call of the other half before its first tick, and with one at most for each
-/// tick; each is made with more functions active than before the function was, and with 255 at most.
-pub fn crossings_are_spaced()
-    ensures { CrossingsAreSpaced }
 {}
 
 /// Each type of a program's table has its number there, which no other type has.

@@ -16,6 +16,7 @@ use Rattle.mdr_plain.specs.Outcome.{outcome_of}
 use Rattle.mdr_plain.specs.Scripts.{finish}
 use Rattle.mdr_plain.specs.World.{World}
 use Rattle.mdr_bound.specs.declared.bound.Bound.{Bound}
+use Rattle.mdr_region.specs.Layout.{places_of}
 use Rattle.mdr_split.specs.AnyAnswers.{kernel_in}
 use Rattle.mdr_split.specs.State.{Kernel}
 use Rattle.mdr_watch.specs.Leaving.{with_views}
@@ -59,6 +60,10 @@ module _ (program : Program) (plan : Plan) (script : Bound) (budget : ℕ) (es :
   -- so is the memory
   pub leaves_memory : (memory : Memory) → EndsSo → memory ≡ w.memory → memory ≡ (kernel_in (run_over d script budget es).pending).world.memory
   leaves_memory memory e is = is ∙ sym (ap (λ (x : World). x.memory) e.left.world) ∙ sym (ap (λ (k : Kernel). k.world.memory) e.ended.kernel)
+
+  -- and its layout
+  pub leaves_layout : (layout : ℕ × ℕ) → EndsSo → layout ≡ places_of w.lives → layout ≡ places_of (kernel_in (run_over d script budget es).pending).world.lives
+  leaves_layout layout e is = is ∙ ap places_of (sym (ap (λ (x : World). x.lives) e.left.world) ∙ sym (ap (λ (k : Kernel). k.world.lives) e.ended.kernel))
 
   pub leaves_as_before : (o : Outcome) (memory : Memory) → EndsSo → o ≡ outcome_of program (finish end w) → memory ≡ w.memory → IsAsBefore d script budget es memory o.end
   leaves_as_before o memory e shown is =

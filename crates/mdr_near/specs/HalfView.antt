@@ -6,7 +6,7 @@ use Rattle.mdr_near.specs.HalfState.{HalfState}
 use Rattle.mdr_near.specs.declared.half.KernelHalf.TheInside.{Inside}
 
 abbrev pub half_state : Inside → HalfState
-half_state s = record { program = s.program.now; plan = s.plan.now; is_fresh = s.is_fresh; memory = s.memory.items; messages = s.messages }
+half_state s = record { program = s.program.now; plan = s.plan.now; is_fresh = s.is_fresh; memory = s.memory.items; messages = s.messages; layout = s.layout }
 
 -- the program is sound, the plan has a half for each function, and before the run no memory is held and no message was sent
 pub record IsKept (s : Inside) : Type 0 where

@@ -9,8 +9,9 @@ ghost use Rattle.mdr_exchanges.specs.Runs.{IsFarFault, IsRun, sent_of};
 ghost use Rattle.mdr_near.specs.HalfState.{IsLeft, driver_held};
 ghost use Rattle.mdr_outside.specs.Count.{Rose};
 ghost use Rattle.mdr_outside.specs.Far.{IsLoaded};
+ghost use Rattle.mdr_region.specs.Layout.{places_of};
 
-use crate::whole::run_whole;
+use crate::whole::{Shown, run_whole};
 use mdr_bound::Bound;
 use mdr_core::{OutOfMemory, Plan, Program};
 use mdr_model::MemoryBlock;
@@ -28,6 +29,7 @@ pub struct KernelHalf<'a> {
     is_fresh: bool,
     memory: Vec<MemoryBlock>,
     messages: u64,
+    layout: (u64, u64),
 }
 
 impl<'a> Model for KernelHalf<'a> {
@@ -57,7 +59,7 @@ impl<'a> KernelHalf<'a> {
         plan: &'a Plan,
     ) -> Result<KernelHalf<'a>, OutOfMemory>
         requires { IsSound program.now }
-        ensures { IfOk result (λ h. h ≡ record { program = program.now; plan = plan.now; is_fresh = true; memory = []; messages = 0 }) }
+        ensures { IfOk result (λ h. h ≡ record { program = program.now; plan = plan.now; is_fresh = true; memory = []; messages = 0; layout = places_of [] }) }
     {
         if !is_fit(Watch { program, plan }) {
             return Err(OutOfMemory::unmet());
@@ -68,6 +70,7 @@ impl<'a> KernelHalf<'a> {
             is_fresh: true,
             memory: Vec::new(alloc),
             messages: 0,
+            layout: (0, 0),
         })
     }
 
@@ -103,7 +106,7 @@ impl<'a> KernelHalf<'a> {
             program: self.program,
             plan: self.plan,
         };
-        let outcome = run_whole(
+        let Shown { outcome, layout } = run_whole(
             alloc,
             watch,
             script,
@@ -112,6 +115,7 @@ impl<'a> KernelHalf<'a> {
             &mut self.memory,
             &mut self.messages,
         )?;
+        self.layout = layout;
         Ok(outcome)
     }
 
@@ -120,6 +124,14 @@ impl<'a> KernelHalf<'a> {
         ensures { result ≡ self.now.messages }
     {
         self.messages
+    }
+
+    /// How many places of the memory are used, and how many there are. Before the run, and where memory was wanting in it,
+    /// there is none.
+    pub fn layout(&self) -> (u64, u64)
+        ensures { result ≡ self.now.layout }
+    {
+        self.layout
     }
 
     /// Lends the memory's blocks, of which there are none before the run.

@@ -9,6 +9,7 @@ ghost use Rattle.mdr_outside.specs.Count.{Rose};
 ghost use Rattle.mdr_outside.specs.Far.{IsLoaded};
 ghost use Rattle.mdr_plain.specs.Outcome.{outcome_of};
 ghost use Rattle.mdr_plain.specs.Scripts.{finish};
+ghost use Rattle.mdr_region.specs.Layout.{places_of};
 ghost use Rattle.mdr_split.specs.AnyAnswers.{kernel_in};
 ghost use Rattle.mdr_watch.specs.Watching.{IsFit, driver_in};
 
@@ -24,27 +25,42 @@ use mdr_watch::Watch;
 use mdr_world::World;
 use std::alloc::Global;
 
-/// What a run shows, and the memory that it leaves.
+/// What a run shows, and how many places of its memory are used then, and how many there are.
+#[derive(Drop)]
+pub(crate) struct Shown {
+    pub(crate) outcome: Outcome,
+    pub(crate) layout: (u64, u64),
+}
+
+/// The same, and the memory that the run leaves.
 #[derive(Drop)]
 struct Left {
     outcome: Outcome,
     memory: Vec<MemoryBlock>,
+    layout: (u64, u64),
 }
 
 /// What is shown of a run that ended so, and its memory. Its events are taken.
 fn left_in(alloc: Global, end: End, world: &mut World) -> Result<Left, OutOfMemory>
     ensures outcome { IfOk result (λ l. l.outcome ≡ outcome_of world.old.program (finish end world.old.world)) }
     ensures memory { IfOk result (λ l. l.memory.items ≡ world.old.world.memory) }
+    ensures layout { IfOk result (λ l. l.layout ≡ places_of world.old.world.lives) }
 {
+    let layout = world.layout();
     let memory = snapshot(alloc, world)?.into_vec();
     let outcome = outcome(alloc, world, end)?;
-    Ok(Left { outcome, memory })
+    Ok(Left {
+        outcome,
+        memory,
+        layout,
+    })
 }
 
 /// What is shown of a run that ended so, and its memory.
 fn left_by(alloc: Global, end: End, world: World) -> Result<Left, OutOfMemory>
     ensures outcome { IfOk result (λ l. l.outcome ≡ outcome_of world.entry.program (finish end world.entry.world)) }
     ensures memory { IfOk result (λ l. l.memory.items ≡ world.entry.world.memory) }
+    ensures layout { IfOk result (λ l. l.layout ≡ places_of world.entry.world.lives) }
 {
     let mut world = world;
     let left = left_in(alloc, end, &mut world);
@@ -52,7 +68,7 @@ fn left_by(alloc: Global, end: End, world: World) -> Result<Left, OutOfMemory>
     left
 }
 
-/// Runs a script, and gives what the run shows. It leaves its memory, and counts its messages.
+/// Runs a script, and gives what the run shows and where its memory lies. It leaves its memory, and counts its messages.
 pub(crate) fn run_whole<F: Far>(
     alloc: Global,
     watch: Watch,
@@ -61,21 +77,22 @@ pub(crate) fn run_whole<F: Far>(
     far: &mut F,
     memory: &mut Vec<MemoryBlock>,
     messages: &mut u64,
-) -> Result<Outcome, OutOfMemory>
+) -> Result<Shown, OutOfMemory>
     requires sound { IsSound watch.program.now }
     requires fit { IsFit watch }
     requires memory { memory.old.items ≡ [] }
     requires messages { messages.old ≡ 0 }
     requires loaded { IsLoaded (F.loaded far.old) }
     requires fresh { F.exchanges far.old ≡ [] }
-    ensures run { IfOk result (IsRun (driver_in watch.entry) script.now ticks (F.exchanges far.new)) }
+    ensures run { IfOk result (λ s. IsRun (driver_in watch.entry) script.now ticks (F.exchanges far.new) s.outcome) }
     ensures cells { IfOk result (λ _. memory.new.items ≡ (kernel_in (run_over (driver_in watch.entry) script.now ticks (F.exchanges far.new)).pending).world.memory) }
+    ensures layout { IfOk result (λ s. s.layout ≡ places_of (kernel_in (run_over (driver_in watch.entry) script.now ticks (F.exchanges far.new)).pending).world.lives) }
     ensures counted { IfOk result (λ _. messages.new ≡ length (F.exchanges far.new) + length (answers_of (F.exchanges far.new))) }
-    ensures before { IfOk result (λ o. IsAsBefore (driver_in watch.entry) script.now ticks (F.exchanges far.new) memory.new.items o.end) }
-    ensures few { IfOk result (λ o. AreFew (driver_in watch.entry) script.now ticks (F.exchanges far.new) messages.new o.ticks) }
+    ensures before { IfOk result (λ s. IsAsBefore (driver_in watch.entry) script.now ticks (F.exchanges far.new) memory.new.items s.outcome.end) }
+    ensures few { IfOk result (λ s. AreFew (driver_in watch.entry) script.now ticks (F.exchanges far.new) messages.new s.outcome.ticks) }
     ensures called { IfOk result (λ _. F.calls far.new ≡ F.calls far.old ++ sends (sent_of (F.exchanges far.new))) }
     ensures stopped { OnErr result (IsStopped (driver_in watch.entry) script.now ticks (F.calls far.old) (F.calls far.new) (F.exchanges far.new) memory.new.items messages.new) }
-    ensures fault { IfOk result (λ o. IsFarFault o.end → Rose (F.faults far.old) (F.faults far.new)) }
+    ensures fault { IfOk result (λ s. IsFarFault s.outcome.end → Rose (F.faults far.old) (F.faults far.new)) }
     ensures loaded { IfOk result (λ _. F.loaded far.new ≡ F.loaded far.old) }
     ensures faults_later { F.faults far.old ≤ F.faults far.new }
 {
@@ -83,7 +100,8 @@ pub(crate) fn run_whole<F: Far>(
     let Left {
         outcome,
         memory: left,
+        layout,
     } = left_by(alloc, end, world)?;
     *memory = left;
-    Ok(outcome)
+    Ok(Shown { outcome, layout })
 }

@@ -78,6 +78,17 @@ module _ (counts : Cell → Bool) where
   pub enters_first : (serial : ℕ) (xs : List Cell) (first end count : ℕ) → end ≡ first + count → entered counts xs (cells_from serial first (end - first)) ≡ entered counts xs (cells_from serial first count)
   enters_first serial xs first end count e = let same : end - first ≡ count = omega (arith, e) in ap (λ n. entered counts xs (cells_from serial first n)) same
 
+  -- cells behind some of them don't count
+  pub enters_some : (serial : ℕ) (xs : List Cell) (first count k : ℕ) → k ≤ count → ((index : ℕ) → first + k ≤ index → counts (record { serial = serial; index = index }) ≡ false)
+      → entered counts xs (cells_from serial first k) ≡ entered counts xs (cells_from serial first count)
+  unfolding entered cells_from
+  enters_some serial xs first zero zero h out = refl
+  enters_some serial xs first zero (suc k) h out = absurd (omega (arith, h))
+  enters_some serial xs first (suc count) zero h out =
+      enters_some serial xs (suc first) count zero (omega arith) (λ index l. out index (omega (arith, l)))
+      ∙ ap (λ ys. entered counts ys (cells_from serial (suc first) count)) (joins_not xs (record { serial = serial; index = first }) (out first (omega arith)))
+  enters_some serial xs first (suc count) (suc k) h out = enters_some serial (with_cell counts xs (record { serial = serial; index = first })) (suc first) count k (omega (arith, h)) (λ index l. out index (omega (arith, l)))
+
   -- ---- members
 
   one_in : (xs : List Cell) (c : Cell) → is_in cells (xs ++ c ∷ []) c ≡ true

@@ -16,7 +16,8 @@ use crate::layouts::layouts_of;
 use crate::scene::Scene;
 use mdr_cells::{CellName, CellSet};
 use mdr_core::{Key, OutOfMemory, Program};
-use mdr_mem::{Blocks, Cells};
+use mdr_mem::Cells;
+use mdr_region::RegionBlocks;
 use std::alloc::Global;
 
 /// The set, with a cell that comes after all others.
@@ -73,7 +74,7 @@ fn with_serial(scene: Scene<'_>, set: CellSet, serial: u64) -> Result<CellSet, O
     requires older { IsOlder serial set }
     ensures { IfOk result (λ all. all ≡ set ++ cells_born scene.entry.program.now scene.entry.touched.now serial scene.entry.blocks.now.memory) }
 {
-    match block_at(scene, serial)? {
+    match block_at(scene, serial) {
         Some(h) => {
             let all = with_block(scene, set, h)?;
             Ok(all)
@@ -105,7 +106,7 @@ pub fn gained(
     alloc: Global,
     program: &Program,
     touched: &[Key],
-    blocks: &Blocks,
+    blocks: &RegionBlocks,
     set: CellSet,
     next: u64,
 ) -> Result<CellSet, OutOfMemory>

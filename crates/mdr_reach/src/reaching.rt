@@ -22,7 +22,8 @@ use crate::scene::Scene;
 use indexmap::IndexSet;
 use mdr_cells::{CellName, CellSet};
 use mdr_core::{Key, OutOfMemory, Program, Value};
-use mdr_mem::{Blocks, Cells};
+use mdr_mem::Cells;
+use mdr_region::RegionBlocks;
 use std::alloc::Global;
 
 /// The marked cell with a number.
@@ -62,7 +63,7 @@ fn reached(
     let mut i = 0;
     while i < marked.len() {
         let name = name_at(&marked, i);
-        let block = block_behind(scene, last, name.serial)?;
+        let block = block_behind(scene, last, name.serial);
         failing = follow_on(scene, &mut marked, name, block, failing)?;
         last = block;
         i += 1;
@@ -145,7 +146,7 @@ pub fn visible(
     alloc: Global,
     program: &Program,
     touched: &[Key],
-    blocks: &Blocks,
+    blocks: &RegionBlocks,
     known: &CellSet,
     roots: &[Root],
     passed: &[Value],

@@ -2,7 +2,7 @@
 
 use crate::layouts::Layouts;
 use mdr_core::{Key, Program};
-use mdr_mem::Blocks;
+use mdr_region::RegionBlocks;
 
 /// A program and the keys that may be touched, with the table of these, and the memory.
 #[derive(Clone, Copy)]
@@ -10,5 +10,5 @@ pub struct Scene<'a> {
     pub program: &'a Program,
     pub touched: &'a [Key],
     pub layouts: &'a Layouts,
-    pub blocks: &'a Blocks,
+    pub blocks: &'a RegionBlocks,
 }

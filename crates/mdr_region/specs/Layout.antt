@@ -1,4 +1,4 @@
--- protocol
+-- believed
 -- Which places are used after births and deaths.
 use Rattle.std.specs.Prelude.{ℕ, zero, suc, ◌+◌, Bool, true, false, cond, ◌==◌, List, [], ◌∷◌, ◌++◌, map, length, drop, replicate, Option, Some, None}
 use Rattle.mdr_mem.specs.declared.cells.Life.{Life}
@@ -66,3 +66,7 @@ pub record Layout : Type 0 where
 
 abbrev pub layout_of : List Life → Layout
 layout_of lives = record { taken = used (laid lives).marks; top = length (laid lives).marks }
+
+-- both numbers
+abbrev pub places_of : List Life → ℕ × ℕ
+places_of lives = ((layout_of lives).taken, (layout_of lives).top)

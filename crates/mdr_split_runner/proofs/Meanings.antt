@@ -7,7 +7,7 @@ use Rattle.mdr_cut.specs.declared.texts.Texts.{Texts}
 use Rattle.mdr_due.specs.declared.status.Status.{Status}
 use Rattle.mdr_due.specs.declared.status.Status.TheVariants as status
 use Rattle.mdr_due.specs.Reads.{Files, IsUnread}
-use Rattle.mdr_exchanges.specs.Runs.{IsFarFault}
+use Rattle.mdr_exchanges.specs.Runs.{IsFarFault, run_over}
 use Rattle.mdr_half.specs.Halves.{user_text}
 use Rattle.mdr_half.specs.Plans.{plan_text}
 use Rattle.mdr_honest.specs.Honest.{IsHonest, IsHonestLoad, IsHonestSince}
@@ -27,6 +27,7 @@ use Rattle.mdr_outside.specs.declared.shelf.ReadAnswer.{ReadAnswer}
 use Rattle.mdr_outside.specs.Far.{loaded_with}
 use Rattle.mdr_outside.specs.Sides.{FarSide}
 use Rattle.mdr_plain.specs.declared.outcome.Outcome.{Outcome}
+use Rattle.mdr_plain.specs.World.{World}
 use Rattle.mdr_runner.specs.Runs.{IsOutcome, IsRun, status_of}
 use Rattle.mdr_runner.specs.Scripts.{HasScript, NoScriptOf, bound_by}
 use Rattle.mdr_bound.specs.declared.bound.Bound.{Bound}
@@ -38,10 +39,13 @@ use Rattle.mdr_source.proofs.Whose.{come_source}
 use Rattle.mdr_source.specs.declared.outcome.Source.{Source}
 use Rattle.mdr_split_runner.proofs.Steps.{nothing_end}
 use Rattle.mdr_split_runner.specs.Cuts.{IsCutInto}
+use Rattle.mdr_split_runner.specs.Layouts.{with_lines}
 use Rattle.mdr_split_runner.specs.declared.manner.SplitManner.{SplitManner}
 use Rattle.mdr_split_runner.specs.Means.{IsMeaning, SplitMeans, SplitRunsMean, meant, while_watched}
-use Rattle.mdr_split_runner.specs.Reports.{Began, Ran, RanTo, Reported}
+use Rattle.mdr_split_runner.specs.Reports.{Began, Ran, RanTo, Reported, world_left}
 use Rattle.mdr_split_runner.specs.SplitRuns.{SplitRuns}
+use Rattle.mdr_split.specs.AnyAnswers.{kernel_in}
+use Rattle.mdr_watched.specs.Driver.{driver_of}
 use Rattle.mdr_watched.specs.Watched.{watched}
 
 -- ---- a source and its texts
@@ -101,31 +105,44 @@ module _ (law : RunIsMeaning) (taken : TextsOfSourcesAreTaken) (bytes lines : Li
   outcome_means loaded o honest (RanTo.refused cause is same) = absurd (texts_taken (loads.Refused cause) (subst (λ (l : Option Loaded). IsHonest l es) is honest))
   outcome_means loaded o honest (RanTo.failed is same) = inl (subst IsFarFault (sym (ap (λ (x : Outcome). x.end) same ∙ nothing_end source.program script ticks (ends.FarFault 0))) tt)
 
-  began_means : (s : Status) (text : List ℕ) → IsHonest (Some (held_with loads.Ok)) es → Began source.program plan script ticks es s text → (s ≡ status.FarFault) ⊎ IsMeaning source.program plan script ticks es s text
+  -- what is reported is what is meant, and the run ends in the state in which the run on one memory ends
+  record IsLeftSo (s : Status) (text : List ℕ) : Type 0 where
+    meaning : IsMeaning source.program plan script ticks es s text
+    world : (kernel_in (run_over (driver_of source.program plan) script ticks es).pending).world ≡ (watched source.program plan script ticks).world
+
+  began_means : (s : Status) (text : List ℕ) → IsHonest (Some (held_with loads.Ok)) es → Began source.program plan script ticks es s text → (s ≡ status.FarFault) ⊎ IsLeftSo s text
   began_means s text honest g =
       of (law bytes lines source plan script ticks (held_with loads.Ok) es g.outcome (is_cut bytes source plan texts h c) (is_script source.program lines script b) (has_texts source plan texts loads.Ok c) honest g.run_is)
     where
-      of : IsFarFault g.outcome.end ⊎ IsMeant source.program plan script ticks es g.outcome → (s ≡ status.FarFault) ⊎ IsMeaning source.program plan script ticks es s text
+      of : IsFarFault g.outcome.end ⊎ IsMeant source.program plan script ticks es g.outcome → (s ≡ status.FarFault) ⊎ IsLeftSo s text
       of (inl f) = inl (g.reported.status_is ∙ fails g.outcome.end f)
       of (inr m) = inr (record {
-        reported = subst (λ (o : Outcome). Reported source.program o s text) m.outcome g.reported;
-        own = subst (λ (o : Outcome). IsOwn o.end) m.outcome m.own;
-        messages = subst (λ (o : Outcome). 2 * length es ≤ 4 * o.ticks + 6 * (watched source.program plan script ticks).world.kept.calls) m.outcome m.messages;
+        meaning = record {
+          reported = subst (λ (o : Outcome). Reported source.program o s text) m.outcome g.reported;
+          own = subst (λ (o : Outcome). IsOwn o.end) m.outcome m.own;
+          messages = subst (λ (o : Outcome). 2 * length es ≤ 4 * o.ticks + 6 * (watched source.program plan script ticks).world.kept.calls) m.outcome m.messages;
+        };
+        world = m.world;
       })
 
-  -- the far side failed, or it was loaded with the texts, and what is reported is what is meant
+  -- the far side failed, or it was loaded with the texts, what is reported is what is meant, and so is what is left
   pub record IsMeantSo (loaded : Option Loaded) (s : Status) (text : List ℕ) : Type 0 where
     pub held : loaded ≡ Some (held_with loads.Ok)
     pub meaning : IsMeaning source.program plan script ticks es s text
+    pub world : world_left source.program plan script ticks loaded es ≡ (watched source.program plan script ticks).world
 
   pub ran_means : (loaded : Option Loaded) (s : Status) (text : List ℕ) → IsHonest loaded es → Ran source.program plan texts script ticks loaded es s text → (s ≡ status.FarFault) ⊎ IsMeantSo loaded s text
   ran_means loaded s text honest (Ran.began is g) = of (began_means s text (subst (λ (l : Option Loaded). IsHonest l es) is honest) g)
     where
-      of : (s ≡ status.FarFault) ⊎ IsMeaning source.program plan script ticks es s text → (s ≡ status.FarFault) ⊎ IsMeantSo loaded s text
+      of : (s ≡ status.FarFault) ⊎ IsLeftSo s text → (s ≡ status.FarFault) ⊎ IsMeantSo loaded s text
       of (inl e) = inl e
-      of (inr m) = inr (record { held = is; meaning = m })
+      of (inr m) = inr (record { held = is; meaning = m.meaning; world = ap (λ (l : Option Loaded). world_left source.program plan script ticks l es) is ∙ m.world })
   ran_means loaded s text honest (Ran.refused cause is r) = absurd (texts_taken (loads.Refused cause) (subst (λ (l : Option Loaded). IsHonest l es) is honest))
   ran_means loaded s text honest (Ran.failed is r) = inl (r.status_is ∙ ap status_of (nothing_end source.program script ticks (ends.FarFault 0)))
+
+-- what stands behind a report, by another name of the state
+pub lines_so : (manner : SplitManner) (es : List Exchange) (report text : List ℕ) (w w' : World) → text ≡ with_lines manner es w report → w ≡ w' → text ≡ with_lines manner es w' report
+lines_so manner es report text w w' shown same = shown ∙ ap (λ (x : World). with_lines manner es x report) same
 
 -- what is meant is what the run on one memory is reported as
 pub same_report : (source : Source) (plan : Plan) (texts : Texts) (script : Bound) (ticks : ℕ) (s : Status) (text : List ℕ) → IsCutInto source plan texts → Reported source.program (meant source.program plan script ticks) s text
@@ -201,7 +218,7 @@ module _ (files : Files) (source_name script_name : List ℕ) (manner : SplitMan
           cut = r.run.cut;
           held = m.held;
           report = r.report;
-          shown = r.shown;
+          shown = lines_so manner far'.exchanges r.report text _ _ r.shown m.world;
           meaning = m.meaning;
           same = same_report source r.run.plan r.run.texts script manner.ticks s r.report r.run.cut m.meaning.reported;
         };

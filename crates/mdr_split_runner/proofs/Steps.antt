@@ -8,7 +8,8 @@ use Rattle.mdr_due.specs.declared.status.Status.{Status}
 use Rattle.mdr_due.specs.declared.status.Status.TheVariants as status
 use Rattle.mdr_due.specs.Reads.{Files, WasRead, longest_script}
 use Rattle.mdr_due.specs.Statuses.{Counts, HasReadCause}
-use Rattle.mdr_exchanges.specs.Runs.{IsFarFault}
+use Rattle.mdr_exchanges.specs.Runs.{IsFarFault, run_over}
+use Rattle.mdr_meaning.specs.Bodies.{known_of}
 use Rattle.mdr_model.specs.declared.outcome.End.{End}
 use Rattle.mdr_model.specs.declared.outcome.End.TheVariants as ends
 use Rattle.mdr_outside.specs.Calls.{ShelfCall}
@@ -19,15 +20,20 @@ use Rattle.mdr_outside.specs.Far.{loaded_with}
 use Rattle.mdr_outside.specs.Sides.{FarSide}
 use Rattle.mdr_plain.specs.declared.outcome.Outcome.{Outcome}
 use Rattle.mdr_plain.specs.Outcome.{outcome_of}
+use Rattle.mdr_plain.specs.Scripts.{first_world}
+use Rattle.mdr_region.specs.Layout.{places_of}
 use Rattle.mdr_runner.specs.Runs.{status_of}
 use Rattle.mdr_runner.specs.Scripts.{IsScriptOf, NoScriptOf}
 use Rattle.mdr_bound.specs.declared.bound.Bound.{Bound}
 use Rattle.mdr_slicer.specs.Slicing.{IsSourceOf}
 use Rattle.mdr_source.specs.declared.outcome.Source.{Source}
+use Rattle.mdr_split.specs.AnyAnswers.{kernel_in}
 use Rattle.mdr_split_runner.specs.declared.manner.SplitManner.{SplitManner}
+use Rattle.mdr_split_runner.specs.Layouts.{with_layout}
 use Rattle.mdr_split_runner.specs.Messages.{with_messages}
-use Rattle.mdr_split_runner.specs.Reports.{Ran, RanTo, Reported, nothing_ran}
-use Rattle.mdr_split_runner.specs.SplitRuns.{IsShownRun, IsSplitOutcome, IsSplitRun, SplitRuns, SplitRunsOver, SplitRunsOverPart, SplitRunsPart}
+use Rattle.mdr_split_runner.specs.Reports.{Ran, RanTo, Reported, left_when, nothing_ran, world_left}
+use Rattle.mdr_split_runner.specs.SplitRuns.{IsLaidRun, IsShownRun, IsSplitLeft, IsSplitOutcome, IsSplitRun, SplitRuns, SplitRunsOver, SplitRunsOverPart, SplitRunsPart}
+use Rattle.mdr_watched.specs.Driver.{driver_of}
 
 -- ---- a load
 
@@ -35,6 +41,11 @@ use Rattle.mdr_split_runner.specs.SplitRuns.{IsShownRun, IsSplitOutcome, IsSplit
 pub held_texts : (texts : Texts) (user lines : List ℕ) (answer : LoadAnswer) (held : Option Loaded) → user ≡ texts.user → lines ≡ texts.plan → held ≡ Some (loaded_with user lines answer) → held ≡ Some (loaded_with texts.user texts.plan answer)
 held_texts texts user lines answer held user_is plan_is is =
     is ∙ ap (λ (u : List ℕ). Some (loaded_with u lines answer)) user_is ∙ ap (λ (p : List ℕ). Some (loaded_with texts.user p answer)) plan_is
+
+-- the layout that a run leaves, by the answer to the load
+pub laid_when : (program : Program) (plan : Plan) (texts : Texts) (script : Bound) (ticks : ℕ) (loaded : Option Loaded) (es : List Exchange) (answer : LoadAnswer) (layout : ℕ × ℕ) → loaded ≡ Some (loaded_with texts.user texts.plan answer)
+    → layout ≡ places_of (left_when answer (kernel_in (run_over (driver_of program plan) script ticks es).pending).world (first_world (known_of program) script ticks)).lives → layout ≡ places_of (world_left program plan script ticks loaded es).lives
+laid_when program plan texts script ticks loaded es answer layout held laid = laid ∙ sym (ap (λ (l : Option Loaded). places_of (world_left program plan script ticks l es).lives) held)
 
 -- ---- ends
 
@@ -65,6 +76,11 @@ split_reported source script ticks far far' o s text run r = record {
   ran = report_so source.program run.plan run.texts script ticks far'.loaded far'.exchanges o s text run.ran r;
 }
 
+-- and the layout stays
+pub laid_reported : (source : Source) (script : Bound) (ticks : ℕ) (far far' : FarSide) (o : Outcome) (layout : ℕ × ℕ) (s : Status) (text : List ℕ) → IsSplitLeft source script ticks far far' o layout → Reported source.program o s text → IsLaidRun source script ticks far far' s text layout
+unfolding split_reported
+laid_reported source script ticks far far' o layout s text left r = record { run = split_reported source script ticks far far' o s text left.outcome r; laid = left.laid }
+
 -- its status tells of the far side's fault where its end does
 pub fault_so : (R : Type 0) (end : End) (s : Status) → (IsFarFault end → R) → s ≡ status_of end → s ≡ status.FarFault → R
 fault_so R ends.Ok s f is e = let no : status.Done ≡ status.FarFault = sym is ∙ e in absurd (Prim.cc)
@@ -82,16 +98,17 @@ read_so end s is before after = subst (HasReadCause before after) (sym is) (of e
     of (ends.Refused exchange cause number) = tt
     of (ends.FarFault exchange) = tt
 
--- ---- messages
+-- ---- what stands behind a report
 
--- a run whose messages are shown behind its report where they are asked for; its status is the same
-pub shown_so : (source : Source) (script : Bound) (manner : SplitManner) (far far' : FarSide) (s s' : Status) (report text : List ℕ) (es : List Exchange) → IsSplitRun source script manner.ticks far far' s report → es ≡ far'.exchanges → s' ≡ s → text ≡ with_messages manner.wire es report
-    → IsShownRun source script manner far far' s' text
-shown_so source script manner far far' s s' report text es run same status_is text_is = record {
-  report = report;
-  run = subst (λ (t : Status). IsSplitRun source script manner.ticks far far' t report) (sym status_is) run;
-  shown = text_is ∙ ap (λ (xs : List Exchange). with_messages manner.wire xs report) same;
-}
+-- the messages and the layout of a run are shown behind its report where they are asked for; its status is the same
+pub shown_so : (source : Source) (script : Bound) (manner : SplitManner) (far far' : FarSide) (s s' : Status) (report text : List ℕ) (es : List Exchange) (layout : ℕ × ℕ) → IsLaidRun source script manner.ticks far far' s report layout → es ≡ far'.exchanges → s' ≡ s
+    → text ≡ with_layout manner.region layout (with_messages manner.wire es report) → IsShownRun source script manner far far' s' text
+shown_so source script manner far far' s s' report text es layout laid same status_is text_is =
+    subst (λ (t : Status). IsShownRun source script manner far far' t text) (sym status_is) (record {
+      report = report;
+      run = laid.run;
+      shown = text_is ∙ (λ i. with_layout manner.region (laid.laid i) (with_messages manner.wire (same i) report));
+    })
 
 -- ---- the whole command
 

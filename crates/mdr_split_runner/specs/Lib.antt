@@ -2,6 +2,7 @@ pub mod Cuts
 pub mod Reports
 pub mod Loads
 pub mod Messages
+pub mod Layouts
 pub mod Sides
 pub mod SplitRuns
 pub mod Gives

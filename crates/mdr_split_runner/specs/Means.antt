@@ -24,8 +24,8 @@ use Rattle.mdr_bound.specs.declared.bound.Bound.{Bound}
 use Rattle.mdr_slicer.specs.Slicing.{IsSourceOf}
 use Rattle.mdr_source.specs.declared.outcome.Source.{Source}
 use Rattle.mdr_split_runner.specs.Cuts.{IsCutInto}
+use Rattle.mdr_split_runner.specs.Layouts.{with_lines}
 use Rattle.mdr_split_runner.specs.declared.manner.SplitManner.{SplitManner}
-use Rattle.mdr_split_runner.specs.Messages.{with_messages}
 use Rattle.mdr_split_runner.specs.Reports.{Reported}
 use Rattle.mdr_split_runner.specs.SplitRuns.{SplitRuns}
 use Rattle.mdr_watched.specs.Watched.{watched}
@@ -44,7 +44,7 @@ pub record IsMeaning (program : Program) (plan : Plan) (script : Bound) (ticks :
 abbrev pub while_watched : (ticks : ℕ) → Manner
 while_watched ticks = record { ticks = ticks; watched = true }
 
--- these very reads gave the source and the script, the far side holds the texts that the source is cut into, and what is due is what they mean, and what the same run on one memory is reported as; behind it stand the lines of the messages, where they are asked for
+-- these very reads gave the source and the script, the far side holds the texts that the source is cut into, and what is due is what they mean, and what the same run on one memory is reported as; behind it stand, where they are asked for, the lines of the messages, and that of the layout of the same run on one memory
 pub record SplitMeansBy (files : Files) (source_name script_name : List ℕ) (manner : SplitManner) (old new : List ShelfCall) (loaded : Option Loaded) (es : List Exchange) (s : Status) (text : List ℕ) : Type 0 where
   pub source : Source
   pub script : Bound
@@ -56,7 +56,7 @@ pub record SplitMeansBy (files : Files) (source_name script_name : List ℕ) (ma
   pub cut : IsCutInto source plan texts
   pub held : loaded ≡ Some (loaded_with texts.user texts.plan loads.Ok)
   pub report : List ℕ
-  pub shown : text ≡ with_messages manner.wire es report
+  pub shown : text ≡ with_lines manner es (watched source.program plan script manner.ticks).world report
   pub meaning : IsMeaning source.program plan script manner.ticks es s report
   pub same : IsRun source.program script (while_watched manner.ticks) s report
 

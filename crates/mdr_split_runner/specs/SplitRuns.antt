@@ -9,15 +9,16 @@ use Rattle.mdr_exchanges.specs.Runs.{sent_of}
 use Rattle.mdr_outside.specs.Calls.{ShelfCall}
 use Rattle.mdr_outside.specs.Sides.{FarSide}
 use Rattle.mdr_plain.specs.declared.outcome.Outcome.{Outcome}
+use Rattle.mdr_region.specs.Layout.{places_of}
 use Rattle.mdr_runner.specs.Scripts.{IsScriptOf, NoScriptOf}
 use Rattle.mdr_bound.specs.declared.bound.Bound.{Bound}
 use Rattle.mdr_slicer.specs.Slicing.{IsSourceOf, NoSourceOf}
 use Rattle.mdr_source.specs.declared.outcome.Source.{Source}
 use Rattle.mdr_split_runner.specs.Cuts.{IsCutInto}
 use Rattle.mdr_split_runner.specs.declared.manner.SplitManner.{SplitManner}
+use Rattle.mdr_split_runner.specs.Layouts.{with_lines}
 use Rattle.mdr_split_runner.specs.Loads.{LoadedOnce, LoadedPart}
-use Rattle.mdr_split_runner.specs.Messages.{with_messages}
-use Rattle.mdr_split_runner.specs.Reports.{Ran, RanTo}
+use Rattle.mdr_split_runner.specs.Reports.{Ran, RanTo, world_left}
 
 -- ---- a source and a script
 
@@ -29,6 +30,11 @@ pub record IsSplitOutcome (source : Source) (script : Bound) (ticks : ℕ) (far 
   pub loads : LoadedOnce texts far.calls far'.calls (sent_of far'.exchanges)
   pub ran : RanTo source.program plan texts script ticks far'.loaded far'.exchanges o
 
+-- so it is, and the state is left whose layout this is
+pub record IsSplitLeft (source : Source) (script : Bound) (ticks : ℕ) (far far' : FarSide) (o : Outcome) (layout : ℕ × ℕ) : Type 0 where
+  pub outcome : IsSplitOutcome source script ticks far far' o
+  pub laid : layout ≡ places_of (world_left source.program outcome.plan script ticks far'.loaded far'.exchanges).lives
+
 -- the source is cut, the far side is loaded with its texts and gets the run's messages, and the report is due
 pub record IsSplitRun (source : Source) (script : Bound) (ticks : ℕ) (far far' : FarSide) (s : Status) (text : List ℕ) : Type 0 where
   pub plan : Plan
@@ -37,11 +43,16 @@ pub record IsSplitRun (source : Source) (script : Bound) (ticks : ℕ) (far far'
   pub loads : LoadedOnce texts far.calls far'.calls (sent_of far'.exchanges)
   pub ran : Ran source.program plan texts script ticks far'.loaded far'.exchanges s text
 
--- so it is, and behind the report stand the lines of the messages, where they are asked for
+-- so it is, and the state is left whose layout this is
+pub record IsLaidRun (source : Source) (script : Bound) (ticks : ℕ) (far far' : FarSide) (s : Status) (text : List ℕ) (layout : ℕ × ℕ) : Type 0 where
+  pub run : IsSplitRun source script ticks far far' s text
+  pub laid : layout ≡ places_of (world_left source.program run.plan script ticks far'.loaded far'.exchanges).lives
+
+-- so it is, and behind the report stand the lines of the messages and of the layout, where they are asked for
 pub record IsShownRun (source : Source) (script : Bound) (manner : SplitManner) (far far' : FarSide) (s : Status) (text : List ℕ) : Type 0 where
   pub report : List ℕ
   pub run : IsSplitRun source script manner.ticks far far' s report
-  pub shown : text ≡ with_messages manner.wire far'.exchanges report
+  pub shown : text ≡ with_lines manner far'.exchanges (world_left source.program run.plan script manner.ticks far'.loaded far'.exchanges) report
 
 -- as much of it was done as memory was there for
 pub data IsSplitPart (source : Source) (script : Bound) (ticks : ℕ) (far far' : FarSide) : Type 0 where

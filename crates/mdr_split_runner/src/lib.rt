@@ -5,6 +5,7 @@
 
 mod cutting;
 mod laws;
+mod layouts;
 mod loading;
 mod manner;
 mod messages;

@@ -7,4 +7,6 @@ pub struct SplitManner {
     pub ticks: u64,
     /// Whether the messages between the halves are shown behind the report.
     pub wire: bool,
+    /// Whether the layout of the kernel half's memory is shown behind that.
+    pub region: bool,
 }

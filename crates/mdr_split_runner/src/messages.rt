@@ -112,7 +112,7 @@ fn with_lines(alloc: Global, due: Due, exchanges: &[Exchange]) -> Result<Due, Ou
 }
 
 /// What is due, with the lines that show the messages behind its text where they are asked for.
-pub(crate) fn shown(
+pub(crate) fn with_messages(
     alloc: Global,
     due: Due,
     wire: bool,

@@ -7,12 +7,12 @@ ghost use Rattle.mdr_due.specs.Statuses.{Counts, HasReadCause};
 ghost use Rattle.mdr_exchanges.specs.Runs.{IsFarFault};
 ghost use Rattle.mdr_outside.specs.Count.{Rose};
 ghost use Rattle.mdr_split_runner.specs.Gives.{OverBy, OverPartBy, ReadCauseBy, SplitPartBy, SplitRunsBy};
-ghost use Rattle.mdr_split_runner.specs.SplitRuns.{IsShownRun, IsSplitOutcome, IsSplitPart, IsSplitRun};
+ghost use Rattle.mdr_split_runner.specs.SplitRuns.{IsLaidRun, IsShownRun, IsSplitLeft, IsSplitOutcome, IsSplitPart, IsSplitRun};
 
 use crate::cutting::cut_of;
-use crate::loading::ran;
+use crate::layouts::shown;
+use crate::loading::{Left, ran};
 use crate::manner::SplitManner;
-use crate::messages::shown;
 use crate::reporting::reported;
 use crate::seen::SidesSeen;
 use mdr_bound::Bound;
@@ -24,6 +24,28 @@ use mdr_runner::script_of;
 use mdr_slicer::source_of;
 use mdr_source::Source;
 use std::alloc::Global;
+
+/// Cuts a source, and runs a script over its halves: what the run shows, and the layout that it leaves.
+fn left_over<F: Far>(
+    alloc: Global,
+    source: &Source,
+    script: &Bound,
+    ticks: u64,
+    far: &mut F,
+) -> Result<Left, OutOfMemory>
+    requires { IsSound source.now.program }
+    ensures done { IfOk result (λ l. IsSplitLeft source.now script.now ticks (⟦<F as FarSeen>⟧.side far.old) (⟦<F as FarSeen>⟧.side far.new) l.outcome l.layout) }
+    ensures part { IsSplitPart source.now script.now ticks (⟦<F as FarSeen>⟧.side far.old) (⟦<F as FarSeen>⟧.side far.new) }
+    ensures failed { IfOk result (λ l. IsFarFault l.outcome.end → Rose (F.faults far.old) (F.faults far.new)) }
+{
+    let cut = match cut_of(alloc, source) {
+        Ok(cut) => cut,
+        Err(error) => return Err(error),
+    };
+    let left = ran(alloc, &source.program, &cut, script, ticks, far);
+    drop(cut);
+    left
+}
 
 /// Cuts a source, and runs a script over its halves: what the run shows.
 pub fn outcome_over<F: Far>(
@@ -38,13 +60,34 @@ pub fn outcome_over<F: Far>(
     ensures part { IsSplitPart source.now script.now ticks (⟦<F as FarSeen>⟧.side far.old) (⟦<F as FarSeen>⟧.side far.new) }
     ensures failed { IfOk result (λ o. IsFarFault o.end → Rose (F.faults far.old) (F.faults far.new)) }
 {
-    let cut = match cut_of(alloc, source) {
-        Ok(cut) => cut,
-        Err(error) => return Err(error),
-    };
-    let outcome = ran(alloc, &source.program, &cut, script, ticks, far);
-    drop(cut);
-    outcome
+    let Left { outcome, layout: _ } = left_over(alloc, source, script, ticks, far)?;
+    Ok(outcome)
+}
+
+/// What is due of a run, and the layout that it leaves.
+#[derive(Drop)]
+struct Laid {
+    due: Due,
+    layout: (u64, u64),
+}
+
+/// Cuts a source, runs a script over its halves, and makes the report; and the layout that the run leaves.
+fn run_laid<F: Far>(
+    alloc: Global,
+    source: &Source,
+    script: &Bound,
+    ticks: u64,
+    far: &mut F,
+) -> Result<Laid, OutOfMemory>
+    requires { IsSound source.now.program }
+    ensures done { IfOk result (λ x. IsLaidRun source.now script.now ticks (⟦<F as FarSeen>⟧.side far.old) (⟦<F as FarSeen>⟧.side far.new) x.due.status x.due.text.items x.layout) }
+    ensures part { IsSplitPart source.now script.now ticks (⟦<F as FarSeen>⟧.side far.old) (⟦<F as FarSeen>⟧.side far.new) }
+    ensures failed { IfOk result (λ x. x.due.status ≡ status.FarFault → Rose (F.faults far.old) (F.faults far.new)) }
+    ensures read { IfOk result (λ x. (before after : Counts) → HasReadCause before after x.due.status) }
+{
+    let Left { outcome, layout } = left_over(alloc, source, script, ticks, far)?;
+    let due = reported(alloc, &source.program, &outcome)?;
+    Ok(Laid { due, layout })
 }
 
 /// Cuts a source, runs a script over its halves, and makes the report.
@@ -61,12 +104,12 @@ pub fn run_split<F: Far>(
     ensures failed { IfOk result (λ due. due.status ≡ status.FarFault → Rose (F.faults far.old) (F.faults far.new)) }
     ensures read { IfOk result (λ due. (before after : Counts) → HasReadCause before after due.status) }
 {
-    let outcome = outcome_over(alloc, source, script, ticks, far)?;
-    let due = reported(alloc, &source.program, &outcome)?;
+    let Laid { due, layout: _ } = run_laid(alloc, source, script, ticks, far)?;
     Ok(due)
 }
 
-/// Cuts a source, runs a script over its halves, and shows the messages behind the report where they are asked for.
+/// Cuts a source, runs a script over its halves, and shows behind the report the messages and the layout, where they are
+/// asked for.
 fn run_shown<F: Far>(
     alloc: Global,
     source: &Source,
@@ -80,8 +123,8 @@ fn run_shown<F: Far>(
     ensures failed { IfOk result (λ due. due.status ≡ status.FarFault → Rose (F.faults far.old) (F.faults far.new)) }
     ensures read { IfOk result (λ due. (before after : Counts) → HasReadCause before after due.status) }
 {
-    let due = run_split(alloc, source, script, manner.ticks, far)?;
-    let all = shown(alloc, due, manner.wire, far.exchanges())?;
+    let Laid { due, layout } = run_laid(alloc, source, script, manner.ticks, far)?;
+    let all = shown(alloc, due, manner, far.exchanges(), layout)?;
     Ok(all)
 }
 
@@ -113,8 +156,8 @@ pub fn split_run_over<S: Shelf, F: Far>(
 
 /// Reads a source and then a script, cuts the source in two halves, and runs the script over them: the kernel half here, and
 /// the user half in the far side, which is loaded with its text and the plan's. Tells what happened, how the run ended and
-/// what the memory holds, and behind that which messages there were, where that is asked for. A source that is refused is
-/// told before the script is read, and neither changes the far side.
+/// what the memory holds, and behind that, where it is asked for, which messages there were and how many places of the
+/// memory are used. A source that is refused is told before the script is read, and neither changes the far side.
 pub fn split_over<S: Shelf, F: Far>(
     alloc: Global,
     shelf: &mut S,

@@ -26,8 +26,8 @@ use Rattle.mdr_slicer.specs.Slicing.{HasSource, NoSource}
 use Rattle.mdr_source.specs.declared.outcome.Source.{Source}
 use Rattle.mdr_split_runner.specs.Cuts.{IsCutInto}
 use Rattle.mdr_split_runner.specs.declared.manner.SplitManner.{SplitManner}
-use Rattle.mdr_split_runner.specs.Messages.{with_messages}
-use Rattle.mdr_split_runner.specs.Reports.{Ran, RanTo}
+use Rattle.mdr_split_runner.specs.Layouts.{with_lines}
+use Rattle.mdr_split_runner.specs.Reports.{Ran, RanTo, world_left}
 use Rattle.mdr_verifier.specs.Judged.{IsJudged}
 use Rattle.mdr_verifier.specs.Verifies.{longest_transcript}
 use Rattle.mdr_top.specs.declared.words.Cutting.{Cutting}
@@ -80,14 +80,14 @@ FileAnswered files source_name script_name Due s text = ScriptAnswered files (Un
 abbrev pub WholeDue : Manner → Status → List ℕ → Source → Bound → Type 0
 WholeDue manner s text source script = IsRun source.program script manner s text
 
--- over its two halves: the far side is loaded with the texts that the source is cut into, and the report of the run over what it answered is due, and behind it the lines of the messages, where they are asked for
+-- over its two halves: the far side is loaded with the texts that the source is cut into, and the report of the run over what it answered is due, and behind it, where they are asked for, the lines of the messages and that of the layout of the state that the run leaves
 pub record SplitDue (manner : SplitManner) (loaded : Option Loaded) (es : List Exchange) (s : Status) (text : List ℕ) (source : Source) (script : Bound) : Type 0 where
   pub plan : Plan
   pub texts : Texts
   pub cut : IsCutInto source plan texts
   pub report : List ℕ
   pub ran : Ran source.program plan texts script manner.ticks loaded es s report
-  pub shown : text ≡ with_messages manner.wire es report
+  pub shown : text ≡ with_lines manner es (world_left source.program plan script manner.ticks loaded es) report
 
 -- what is due of a source and a script that are both there, by the way in which the script is run
 abbrev pub WayDue : Way → Option Loaded → List Exchange → Status → List ℕ → Source → Bound → Type 0

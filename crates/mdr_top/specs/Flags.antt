@@ -25,7 +25,8 @@ abbrev pub with_flag : Flags → (word : List ℕ) → Reading
 with_flag flags word =
     chosen (bytes_eq word (codes "--watch")) (once flags.watch (record flags { watch = true }))
     (chosen (bytes_eq word (codes "--wire")) (once flags.wire (record flags { wire = true }))
-    (chosen (bytes_eq word (codes "--ticks")) (ticks_next flags flags.ticks) reading.Refused))
+    (chosen (bytes_eq word (codes "--region")) (once flags.region (record flags { region = true }))
+    (chosen (bytes_eq word (codes "--ticks")) (ticks_next flags flags.ticks) reading.Refused)))
 
 -- where the number of `--ticks` stands
 abbrev pub with_number : Flags → Option ℕ → Reading
@@ -44,7 +45,7 @@ with_words r [] = r
 with_words r (word ∷ words) = with_words (with_word r word) words
 
 abbrev pub no_flags : Flags
-no_flags = record { watch = false; ticks = None; wire = false }
+no_flags = record { watch = false; ticks = None; wire = false; region = false }
 
 abbrev pub first_reading : Reading
 first_reading = reading.Flag no_flags

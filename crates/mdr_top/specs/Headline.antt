@@ -20,15 +20,16 @@ use Rattle.mdr_bound.specs.declared.bound.Bound.{Bound}
 use Rattle.mdr_source.specs.declared.outcome.Source.{Source}
 use Rattle.mdr_split_runner.specs.Cuts.{IsCutInto}
 use Rattle.mdr_split_runner.specs.declared.manner.SplitManner.{SplitManner}
+use Rattle.mdr_split_runner.specs.Layouts.{with_lines}
 use Rattle.mdr_split_runner.specs.Means.{IsMeaning, while_watched}
-use Rattle.mdr_split_runner.specs.Messages.{with_messages}
 use Rattle.mdr_top.specs.Accepted.{AreAccepted, over_two_halves}
 use Rattle.mdr_top.specs.declared.words.Way.TheVariants as way
 use Rattle.mdr_top.specs.Outside.{Outside}
 use Rattle.mdr_top.specs.Words.{OfFiles, Run, command_of}
 use Rattle.mdr_top.specs.Writing.{IsWritten}
+use Rattle.mdr_watched.specs.Watched.{watched}
 
--- the words are accepted for what these very reads gave, the far side holds the texts that the source is cut into, and what was written is the report of what they mean, which is that of the same run on one memory; behind it, where they are asked for, the lines of the messages that the far side got and of its answers
+-- the words are accepted for what these very reads gave, the far side holds the texts that the source is cut into, and what was written is the report of what they mean, which is that of the same run on one memory; behind it, where they are asked for, the lines of the messages that the far side got and of its answers, and that of the layout of the memory of that run
 pub record MeansBy (words : List (List ℕ)) (before after : Outside) (s : Status) : Type 0 where
   pub source : Source
   pub script : Bound
@@ -41,7 +42,7 @@ pub record MeansBy (words : List (List ℕ)) (before after : Outside) (s : Statu
   pub cut : IsCutInto source plan texts
   pub held : after.sides.far.loaded ≡ Some (loaded_with texts.user texts.plan loads.Ok)
   pub text : List ℕ
-  pub printed : IsWritten before.out after.out (with_messages manner.wire after.sides.far.exchanges text)
+  pub printed : IsWritten before.out after.out (with_lines manner after.sides.far.exchanges (watched source.program plan script manner.ticks).world text)
   pub meaning : IsMeaning source.program plan script manner.ticks after.sides.far.exchanges s text
   pub same : IsRun source.program script (while_watched manner.ticks) s text
 

@@ -1,6 +1,6 @@
 -- believed
 -- The words that the program takes.
-use Rattle.std.specs.Prelude.{ℕ, Bool, false, not, ◌&&◌, List, [], ◌∷◌, codes, Option, Some, None, option_map}
+use Rattle.std.specs.Prelude.{ℕ, Bool, false, not, ◌&&◌, ◌||◌, List, [], ◌∷◌, codes, Option, Some, None, option_map}
 use Rattle.std.specs.Str.{bytes_eq}
 use Rattle.mdr_core.specs.Layout.{chosen}
 use Rattle.mdr_generated.specs.declared.recipe.Recipe.{Recipe}
@@ -42,11 +42,11 @@ cut_of _ = None
 
 -- on one memory: its flags are `--watch` and `--ticks`
 abbrev pub whole_way : Flags → Option Way
-whole_way flags = when (not flags.wire) (way.Whole (record { ticks = budget_of flags.ticks; watched = flags.watch }))
+whole_way flags = when (not (flags.wire || flags.region)) (way.Whole (record { ticks = budget_of flags.ticks; watched = flags.watch }))
 
--- over two halves: its flags are `--ticks` and `--wire`
+-- over two halves: its flags are `--ticks`, `--wire` and `--region`
 abbrev pub split_way : Flags → Option Way
-split_way flags = when (not flags.watch) (way.Split (record { ticks = budget_of flags.ticks; wire = flags.wire }))
+split_way flags = when (not flags.watch) (way.Split (record { ticks = budget_of flags.ticks; wire = flags.wire; region = flags.region }))
 
 abbrev pub way_by : (mode : List ℕ) → Flags → Option Way
 way_by mode flags = chosen (bytes_eq mode (codes "whole")) (whole_way flags) (chosen (bytes_eq mode (codes "split")) (split_way flags) None)
@@ -99,7 +99,7 @@ verify_of _ = None
 
 -- its manner: it has no flags
 abbrev pub texts_manner : SplitManner
-texts_manner = record { ticks = budget_of None; wire = false }
+texts_manner = record { ticks = budget_of None; wire = false; region = false }
 
 abbrev pub is_halves : (run' mode : List ℕ) → Bool
 is_halves run' mode = bytes_eq run' (codes "run") && bytes_eq mode (codes "halves")

@@ -14,6 +14,8 @@ pub struct Flags {
     pub ticks: Option<u64>,
     /// Whether the messages are to be shown: `--wire`.
     pub wire: bool,
+    /// Whether the layout of the memory is to be shown: `--region`.
+    pub region: bool,
 }
 
 /// What the words so far say, read as flags.
@@ -34,6 +36,7 @@ fn no_flags() -> Flags
         watch: false,
         ticks: None,
         wire: false,
+        region: false,
     }
 }
 
@@ -75,6 +78,14 @@ fn with_flag(flags: Flags, word: &str) -> Reading
             flags.wire,
             Flags {
                 wire: true,
+                ..flags
+            },
+        )
+    } else if word == "--region" {
+        once(
+            flags.region,
+            Flags {
+                region: true,
                 ..flags
             },
         )

@@ -64,6 +64,7 @@ pub(crate) fn from_texts<S: Shelf, F: Far>(
     let manner = SplitManner {
         ticks: TICKS,
         wire: false,
+        region: false,
     };
     halves_over(alloc, shelf, far, files, script_name, manner)
 }

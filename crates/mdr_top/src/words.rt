@@ -69,7 +69,7 @@ fn budget_of(ticks: Option<u64>) -> u64
 fn whole_way(flags: Flags) -> Option<Way>
     ensures { result ≡ whole_way flags }
 {
-    if flags.wire {
+    if flags.wire || flags.region {
         None
     } else {
         Some(Way::Whole(Manner {
@@ -89,6 +89,7 @@ fn split_way(flags: Flags) -> Option<Way>
         Some(Way::Split(SplitManner {
             ticks: budget_of(flags.ticks),
             wire: flags.wire,
+            region: flags.region,
         }))
     }
 }

@@ -238,6 +238,13 @@ one_new program n = refl
 pub popped : (program : Program) (n : New) (xs rest left : List MemoryBlock) (b : MemoryBlock) → left ≡ [] → xs ≡ with_news program (n ∷ []) left → xs ≡ rest ++ b ∷ [] → b ≡ zero_block program n
 popped program n xs rest left b none made last = only_one (zero_block program n) b rest (sym (one_new program n) ∙ (ap (with_news program (n ∷ [])) (sym none) ∙ (sym made ∙ last)))
 
+-- one was there
+pub none_left : (program : Program) (n : New) (xs left : List MemoryBlock) → left ≡ [] → xs ≡ with_news program (n ∷ []) left → xs ≡ [] → ⊥
+none_left program n xs left none made empty = never (sym (one_new program n) ∙ (ap (with_news program (n ∷ [])) (sym none) ∙ (sym made ∙ empty)))
+  where
+    never : zero_block program n ∷ [] ≡ [] → ⊥
+    never k = cc
+
 pub newborn_is : (program : Program) (n : New) (b : MemoryBlock) (cells : List Wire) (first : List Value) → b ≡ zero_block program n → cells ≡ b.cells → first ≡ map value_of cells → record { born = n; first = first } ≡ newborn_of program n
 newborn_is program n b cells first e f g =
     let is : first ≡ map value_of (zero_block program n).cells = g ∙ (ap (map value_of) (f ∙ ap (λ (x : MemoryBlock). x.cells) e)) in

@@ -11,7 +11,7 @@ use crate::newborn::Newborn;
 use crate::release::given_up;
 use crate::steps::bear;
 use crate::values::value_of;
-use mdr_core::{Items, Limit, OutOfMemory, Value};
+use mdr_core::{Items, OutOfMemory, Value};
 use mdr_model::{MemoryBlock, Wire};
 use mdr_region::Region;
 use mdr_track::Tracker;
@@ -47,7 +47,7 @@ fn placed(region: &Region, pairs: &Tracker, wire: Wire) -> Result<Value, OutOfMe
     if is_paired(pairs, wire) {
         Ok(pairs.addressed(value_of(wire)))
     } else {
-        Err(Limit::Unmet.past())
+        Err(OutOfMemory::unmet())
     }
 }
 
@@ -82,10 +82,10 @@ fn make_room(region: &mut Region, pairs: &mut Tracker, new: &Newborn) -> Result<
     ensures fits { OnOk result (FitsOne new.now (pairs_of pairs.new) region.new.cells region.new.births pairs.new.room) }
 {
     if !is_sized(new) {
-        return Err(Limit::Unmet.past());
+        return Err(OutOfMemory::unmet());
     }
     if pairs.user_of(new.born.serial).is_some() {
-        return Err(Limit::Unmet.past());
+        return Err(OutOfMemory::unmet());
     }
     region.reserve(new.first.len() as u64, 1)?;
     pairs.reserve(1)?;

@@ -16,8 +16,8 @@ use crate::watch::{Upcall, touched};
 use mdr_cells::CellSet;
 use mdr_core::OutOfMemory;
 use mdr_events::Asked;
-use mdr_mem::Blocks;
 use mdr_reach::gained;
+use mdr_region::RegionBlocks;
 use mdr_services::{Served, serve};
 use mdr_world::World;
 use std::alloc::Global;
@@ -26,7 +26,7 @@ use std::alloc::Global;
 fn gain(
     alloc: Global,
     upcall: Upcall,
-    blocks: &Blocks,
+    blocks: &RegionBlocks,
     set: &mut CellSet,
     next: u64,
 ) -> Result<(), OutOfMemory>

@@ -202,10 +202,7 @@ fn cross(
     ensures { IfOk result (λ n. GoesOnAnyhow code.entry machine.old (event.Cross crossing.now) world.old machine.new n world.new) }
 {
     if is_half(code.side) {
-        return Ok(Next::Gave(Gave::Stopped(
-            StopKind::Atomic,
-            Some(crossing.at),
-        )));
+        return Ok(Next::Gave(Gave::Stopped(StopKind::Atomic, Some(crossing.at))));
     }
     let event = resume(machine, alloc, code, world, &[Value::NoValue])?;
     Ok(Next::Came(event))

@@ -2,6 +2,7 @@ pub mod BlockLaws
 mod FirstLaws
 pub mod GateLaws
 pub mod HandleLaws
+pub mod LaidLaws
 pub mod LockLaws
 mod PokeLaws
 pub mod ReachLaws

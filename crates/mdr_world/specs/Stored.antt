@@ -1,14 +1,25 @@
 -- protocol
 -- A memory beside all births and deaths in it.
-use Rattle.std.specs.Prelude.{◌≡◌, ◌+◌, ◌<◌, ◌^◌, ℕ}
+use Rattle.std.specs.Prelude.{◌≡◌, ◌+◌, ◌<◌, ◌^◌, ℕ, true, List, is_some}
 use Rattle.mdr_core.specs.declared.program.Program.{Program}
 use Rattle.mdr_core.specs.Sound.{IsSound}
-use Rattle.mdr_mem.specs.Contents.{births_in}
+use Rattle.mdr_core.specs.declared.value.Block.{Block}
+use Rattle.mdr_mem.specs.declared.cells.Life.{Life}
+use Rattle.mdr_mem.specs.Contents.{births_in, handle_of}
+use Rattle.mdr_region.specs.Layout.{laid}
+use Rattle.mdr_region.specs.Blocks.{mark_at}
+use Rattle.mdr_region.specs.Holes.{names}
 use Rattle.mdr_world.specs.declared.storage.Storage.{Storage}
 
--- a birth is in the one list where it is in the other
-abbrev pub IsCounted : Storage → Type 0
-IsCounted s = births_in s.lives ≡ births_in s.blocks.lives
+-- what lies in a place after these births and deaths has a handle
+abbrev pub AreMarked : List Life → List Block → Type 0
+AreMarked lives handles = (place serial : ℕ) → names serial (mark_at (laid lives).marks place) ≡ true → is_some (handle_of handles serial) ≡ true
+
+-- a birth is in the one list where it is in the other, and after both blocks lie alike
+pub record IsCounted (s : Storage) : Type 0 where
+  pub births : births_in s.lives ≡ births_in s.blocks.lives
+  pub places : laid s.lives ≡ laid s.blocks.lives
+  pub marked : AreMarked s.blocks.lives s.blocks.handles
 
 -- what holds of each run: its program is sound, and its ticks have 64 bits
 pub record Stands (program : Program) (storage : Storage) (ticks rest : ℕ) : Type 0 where

@@ -18,7 +18,8 @@ use crate::handles::{handle, held_now, value_now};
 use crate::reach::{Target, reached};
 use mdr_core::{Block, Items, StopKind, Value, View};
 use mdr_events::Integer;
-use mdr_mem::{Blocks, Cells};
+use mdr_mem::Cells;
+use mdr_region::RegionBlocks;
 use std::alloc::{AllocError, Global};
 
 // ---- one cell
@@ -33,7 +34,7 @@ fn item(values: &[Value], i: usize) -> Option<Value>
 }
 
 /// What a cell holds, where the block has it.
-pub fn held_at(blocks: &Blocks, t: Target) -> Option<Value>
+pub fn held_at(blocks: &RegionBlocks, t: Target) -> Option<Value>
     requires { IsTrue (is_handle blocks.now.handles t.block) }
     ensures { option_map wire_of result ≡ cell_at blocks.now.memory (cell_in t.block t.index) }
 {
@@ -53,7 +54,7 @@ fn loadable(v: Value) -> Result<Value, StopKind>
     }
 }
 
-fn loaded_at(blocks: &Blocks, t: Target) -> Result<Value, StopKind>
+fn loaded_at(blocks: &RegionBlocks, t: Target) -> Result<Value, StopKind>
     requires { IsTrue (is_handle blocks.now.handles t.block) }
     ensures { wired result ≡ loaded_cell (cell_at blocks.now.memory (cell_in t.block t.index)) }
 {
@@ -65,7 +66,7 @@ fn loaded_at(blocks: &Blocks, t: Target) -> Result<Value, StopKind>
 
 /// What is loaded through a pointer.
 #[tactic(auto, unfolding(mdr_model::specs::Memory::loaded))]
-pub fn load(blocks: &Blocks, pointer: Value) -> Result<Value, StopKind>
+pub fn load(blocks: &RegionBlocks, pointer: Value) -> Result<Value, StopKind>
     ensures { wired result ≡ loaded everywhere blocks.now.memory (wire_of pointer) }
 {
     match reached(blocks, pointer) {
@@ -76,13 +77,13 @@ pub fn load(blocks: &Blocks, pointer: Value) -> Result<Value, StopKind>
 
 /// What a local's value is when it is read.
 #[tactic(auto, unfolding(mdr_plain::specs::Storage::fresh))]
-pub fn fresh(blocks: &Blocks, v: Value) -> Result<Value, StopKind>
+pub fn fresh(blocks: &RegionBlocks, v: Value) -> Result<Value, StopKind>
     ensures { wired result ≡ fresh blocks.now.memory (wire_of v) }
 {
     loadable(value_now(blocks, v))
 }
 
-fn put_now(blocks: &mut Blocks, t: Target, v: Value)
+fn put_now(blocks: &mut RegionBlocks, t: Target, v: Value)
     requires { IsTrue (is_handle blocks.old.handles t.block) }
     ensures { blocks.new ≡ with_memory (put blocks.old.memory (cell_in t.block t.index) (normal blocks.old.memory (wire_of v))) blocks.old }
 {
@@ -92,7 +93,7 @@ fn put_now(blocks: &mut Blocks, t: Target, v: Value)
 
 /// A value is stored through a pointer.
 #[tactic(auto, unfolding(mdr_model::specs::Memory::stored))]
-pub fn store(blocks: &mut Blocks, pointer: Value, v: Value) -> Result<(), StopKind>
+pub fn store(blocks: &mut RegionBlocks, pointer: Value, v: Value) -> Result<(), StopKind>
     ensures made { stored everywhere blocks.old.memory (wire_of pointer) (wire_of v) ≡ when_made result blocks.new.memory }
     ensures rest { blocks.new ≡ with_memory blocks.new.memory blocks.old }
     ensures kept { OnErr result (blocks.new ≡ blocks.old) }
@@ -109,7 +110,7 @@ pub fn store(blocks: &mut Blocks, pointer: Value, v: Value) -> Result<(), StopKi
 // ---- the first cell of a block
 
 /// The handle of the live block with this serial, where its slot has the same number.
-fn block_with(blocks: &Blocks, serial: u64) -> Option<Block>
+fn block_with(blocks: &RegionBlocks, serial: u64) -> Option<Block>
     ensures alive { IfSome result (λ b. IsTrue (is_handle blocks.now.handles b)) }
     ensures serial { IfSome result (λ b. b.serial ≡ serial) }
 {
@@ -141,7 +142,7 @@ fn first_integer(values: &[Value]) -> Option<Integer>
 }
 
 /// The integer in a block's first cell.
-fn first_in(blocks: &Blocks, block: Block) -> Option<Integer>
+fn first_in(blocks: &RegionBlocks, block: Block) -> Option<Integer>
     requires { IsTrue (is_handle blocks.now.handles block) }
     ensures { IfSome result (λ n. cell_at blocks.now.memory (cell_in block 0) ≡ Some (integer_wire n)) }
 {
@@ -149,7 +150,7 @@ fn first_in(blocks: &Blocks, block: Block) -> Option<Integer>
 }
 
 /// The integer in the first cell of the block with this serial, where it is found at once.
-pub fn first(blocks: &Blocks, serial: u64) -> Option<Integer>
+pub fn first(blocks: &RegionBlocks, serial: u64) -> Option<Integer>
     ensures { IfSome result (λ n. (v : WireView) → IsFirst serial v → loaded everywhere blocks.now.memory (wire.Ptr v) ≡ Ok (integer_wire n)) }
 {
     let _in_order = blocks.births();
@@ -161,7 +162,7 @@ pub fn first(blocks: &Blocks, serial: u64) -> Option<Integer>
 
 /// Puts an integer into a block's first cell.
 #[tactic(auto, unfolding(mdr_mem::specs::Contents::current))]
-fn put_first(blocks: &mut Blocks, block: Block, integer: Integer)
+fn put_first(blocks: &mut RegionBlocks, block: Block, integer: Integer)
     requires { IsTrue (is_handle blocks.old.handles block) }
     ensures { blocks.new ≡ with_memory (put blocks.old.memory (cell_in block 0) (integer_wire integer)) blocks.old }
 {
@@ -169,7 +170,7 @@ fn put_first(blocks: &mut Blocks, block: Block, integer: Integer)
 }
 
 /// Puts an integer there, if the block is found at once.
-pub fn set_first(blocks: &mut Blocks, serial: u64, integer: Integer) -> bool
+pub fn set_first(blocks: &mut RegionBlocks, serial: u64, integer: Integer) -> bool
     ensures made { result ≡ true → (v : WireView) → IsFirst serial v → stored everywhere blocks.old.memory (wire.Ptr v) (integer_wire integer) ≡ Ok blocks.new.memory }
     ensures rest { blocks.new ≡ with_memory blocks.new.memory blocks.old }
     ensures kept { result ≡ false → blocks.new ≡ blocks.old }
@@ -217,7 +218,7 @@ fn poked_in(values: &[Value], cell: usize, n: i128) -> Option<Integer>
 }
 
 /// What is put into a block's cell.
-fn poked_cell(blocks: &Blocks, block: Block, cell: u32, n: i128) -> Option<Integer>
+fn poked_cell(blocks: &RegionBlocks, block: Block, cell: u32, n: i128) -> Option<Integer>
     requires { IsTrue (is_handle blocks.now.handles block) }
     ensures { option_map integer_wire result ≡ poked_value (cell_at blocks.now.memory (cell_in block cell)) n }
 {
@@ -226,14 +227,14 @@ fn poked_cell(blocks: &Blocks, block: Block, cell: u32, n: i128) -> Option<Integ
 
 /// Puts an integer into a block's cell.
 #[tactic(auto, unfolding(mdr_mem::specs::Contents::current))]
-fn put_integer(blocks: &mut Blocks, block: Block, cell: u32, integer: Integer)
+fn put_integer(blocks: &mut RegionBlocks, block: Block, cell: u32, integer: Integer)
     requires { IsTrue (is_handle blocks.old.handles block) }
     ensures { blocks.new ≡ with_memory (put blocks.old.memory (cell_in block cell) (integer_wire integer)) blocks.old }
 {
     blocks.put(block, cell as u64, Value::Int(integer.kind, integer.number));
 }
 
-fn poke_block(blocks: &mut Blocks, block: Block, cell: u32, n: i128)
+fn poke_block(blocks: &mut RegionBlocks, block: Block, cell: u32, n: i128)
     requires { IsTrue (is_handle blocks.old.handles block) }
     ensures { blocks.new ≡ with_memory (poked_memory (cell_in block cell) n blocks.old.memory) blocks.old }
 {
@@ -244,7 +245,7 @@ fn poke_block(blocks: &mut Blocks, block: Block, cell: u32, n: i128)
 }
 
 /// Puts an integer into a cell of the block with this serial, where the cell holds one of a kind that has it.
-pub fn poke(blocks: &mut Blocks, serial: u64, index: u32, n: i128)
+pub fn poke(blocks: &mut RegionBlocks, serial: u64, index: u32, n: i128)
     ensures { blocks.new ≡ with_memory (poked_memory (record { serial = serial; index = index }) n blocks.old.memory) blocks.old }
 {
     let _in_order = blocks.births();
@@ -281,7 +282,7 @@ fn byte_in(held: Option<Value>) -> Result<u8, AllocError>
 }
 
 fn bytes_in(
-    blocks: &Blocks,
+    blocks: &RegionBlocks,
     alloc: Global,
     block: Block,
     first: u64,
@@ -315,7 +316,7 @@ fn has_room(p: View, count: u64) -> bool
 }
 
 fn read_in(
-    blocks: &Blocks,
+    blocks: &RegionBlocks,
     alloc: Global,
     block: Block,
     p: View,
@@ -334,7 +335,7 @@ fn read_in(
 }
 
 fn read_view(
-    blocks: &Blocks,
+    blocks: &RegionBlocks,
     alloc: Global,
     p: View,
     count: u64,
@@ -351,7 +352,7 @@ fn read_view(
 /// So many bytes from a pointer on, as one access.
 #[tactic(auto, unfolding(mdr_plain::specs::Storage::read))]
 pub fn read(
-    blocks: &Blocks,
+    blocks: &RegionBlocks,
     alloc: Global,
     pointer: Value,
     count: u64,

@@ -14,8 +14,9 @@ ghost use Rattle.std.specs.Prelude.{◌++◌, ◌∷◌, [], OnOk};
 use crate::handles::handle;
 use crate::storage::Storage;
 use mdr_core::{GlobalDef, Items, OutOfMemory, Program, Shape, Ty, Value, View, same_type};
-use mdr_mem::{Blocks, Cells};
+use mdr_mem::Cells;
 use mdr_model::BirthKind;
+use mdr_region::RegionBlocks;
 use std::alloc::Global;
 
 fn is_same_type(a: &Ty, b: &Ty) -> bool
@@ -47,7 +48,7 @@ fn number_of(types: &[Ty], ty: &Ty) -> u32
 }
 
 /// A pointer with the slot of its block, which was born before.
-fn placed_view(blocks: &Blocks, p: View) -> Result<Value, OutOfMemory>
+fn placed_view(blocks: &RegionBlocks, p: View) -> Result<Value, OutOfMemory>
     ensures { IfOk result (λ x. wire_in blocks.now.handles x ≡ wire.Ptr (wire_view p)) }
 {
     let _in_order = blocks.births();
@@ -64,7 +65,7 @@ fn placed_view(blocks: &Blocks, p: View) -> Result<Value, OutOfMemory>
 }
 
 #[tactic(auto, unfolding(mdr_mem::specs::Contents::current))]
-fn placed(blocks: &Blocks, v: Value) -> Result<Value, OutOfMemory>
+fn placed(blocks: &RegionBlocks, v: Value) -> Result<Value, OutOfMemory>
     ensures { IfOk result (λ x. wire_in blocks.now.handles x ≡ wire_of v) }
 {
     match v {
@@ -73,7 +74,11 @@ fn placed(blocks: &Blocks, v: Value) -> Result<Value, OutOfMemory>
     }
 }
 
-fn all_placed(blocks: &Blocks, alloc: Global, first: &[Value]) -> Result<Items<Value>, OutOfMemory>
+fn all_placed(
+    blocks: &RegionBlocks,
+    alloc: Global,
+    first: &[Value],
+) -> Result<Items<Value>, OutOfMemory>
     ensures { IfOk result (λ vs. map (wire_in blocks.now.handles) vs ≡ map wire_of first.now) }
 {
     let mut values = Items::new(alloc);

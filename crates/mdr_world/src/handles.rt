@@ -9,13 +9,14 @@ ghost use Rattle.mdr_model.specs.Memory.{born_at, is_live, normal};
 ghost use Rattle.mdr_plain.specs.Scripts.{block_cells};
 
 use mdr_core::{Block, Items, OutOfMemory, Value, View};
-use mdr_mem::{Blocks, Cells};
+use mdr_mem::Cells;
 use mdr_model::New;
+use mdr_region::RegionBlocks;
 use std::alloc::Global;
 
 /// The handle of the live block with this serial, in constant time where the slot is right.
 #[tactic(auto, using(crate::proofs::HandleLaws::alive_is))]
-pub fn handle(blocks: &Blocks, b: Block) -> Option<Block>
+pub fn handle(blocks: &RegionBlocks, b: Block) -> Option<Block>
     ensures { result ≡ handle_of blocks.now.handles b.serial }
 {
     let _in_order = blocks.births();
@@ -27,7 +28,7 @@ pub fn handle(blocks: &Blocks, b: Block) -> Option<Block>
 }
 
 #[tactic(auto, unfolding(mdr_mem::specs::Contents::current))]
-fn pointer_now(blocks: &Blocks, p: View) -> Value
+fn pointer_now(blocks: &RegionBlocks, p: View) -> Value
     ensures value { wire_of result ≡ normal blocks.now.memory (wire.Ptr (wire_view p)) }
     ensures alive { current blocks.now.handles result ≡ result }
 {
@@ -46,7 +47,7 @@ fn pointer_now(blocks: &Blocks, p: View) -> Value
 
 /// A value as it is now, with the slot of its block.
 #[tactic(auto, unfolding(mdr_model::specs::Memory::normal, mdr_mem::specs::Contents::current))]
-pub fn value_now(blocks: &Blocks, v: Value) -> Value
+pub fn value_now(blocks: &RegionBlocks, v: Value) -> Value
     ensures value { wire_of result ≡ normal blocks.now.memory (wire_of v) }
     ensures alive { current blocks.now.handles result ≡ result }
 {
@@ -58,7 +59,7 @@ pub fn value_now(blocks: &Blocks, v: Value) -> Value
 
 /// What was put into a cell, as it is now.
 #[tactic(auto, unfolding(mdr_mem::specs::Contents::current))]
-pub fn held_now(blocks: &Blocks, v: Value) -> Value
+pub fn held_now(blocks: &RegionBlocks, v: Value) -> Value
     ensures { result ≡ current blocks.now.handles v }
 {
     match v {
@@ -74,7 +75,7 @@ pub fn held_now(blocks: &Blocks, v: Value) -> Value
 }
 
 /// Whether a block lives.
-pub fn is_live_now(blocks: &Blocks, b: Block) -> bool
+pub fn is_live_now(blocks: &RegionBlocks, b: Block) -> bool
     ensures { result ≡ is_live blocks.now.memory b.serial }
 {
     let _in_order = blocks.births();
@@ -85,7 +86,7 @@ pub fn is_live_now(blocks: &Blocks, b: Block) -> bool
 }
 
 /// How a block was born that lives.
-pub fn born_now(blocks: &Blocks, serial: u64) -> Option<New>
+pub fn born_now(blocks: &RegionBlocks, serial: u64) -> Option<New>
     ensures { result ≡ born_at blocks.now.memory serial }
 {
     let _in_order = blocks.births();
@@ -95,7 +96,7 @@ pub fn born_now(blocks: &Blocks, serial: u64) -> Option<New>
     }
 }
 
-fn born_of(blocks: &Blocks, b: Block) -> New
+fn born_of(blocks: &RegionBlocks, b: Block) -> New
     requires { IsTrue (is_handle blocks.now.handles b) }
     ensures { born_at blocks.now.memory b.serial ≡ Some result }
 {
@@ -108,7 +109,11 @@ fn born_of(blocks: &Blocks, b: Block) -> New
     }
 }
 
-fn held_values(blocks: &Blocks, alloc: Global, cells: &[Value]) -> Result<Items<Value>, OutOfMemory>
+fn held_values(
+    blocks: &RegionBlocks,
+    alloc: Global,
+    cells: &[Value],
+) -> Result<Items<Value>, OutOfMemory>
     ensures { IfOk result (λ vs. vs ≡ map (current blocks.now.handles) cells.now) }
 {
     let mut values = Items::new(alloc);
@@ -118,7 +123,7 @@ fn held_values(blocks: &Blocks, alloc: Global, cells: &[Value]) -> Result<Items<
     Ok(values)
 }
 
-fn cells_now(blocks: &Blocks, alloc: Global, b: Block) -> Result<Items<Value>, OutOfMemory>
+fn cells_now(blocks: &RegionBlocks, alloc: Global, b: Block) -> Result<Items<Value>, OutOfMemory>
     requires { IsTrue (is_handle blocks.now.handles b) }
     ensures { IfOk result (λ vs. map wire_of vs ≡ block_cells blocks.now.memory b.serial) }
 {
@@ -126,7 +131,11 @@ fn cells_now(blocks: &Blocks, alloc: Global, b: Block) -> Result<Items<Value>, O
 }
 
 /// What a block's cells hold; nothing where it doesn't live.
-pub fn values_of(blocks: &Blocks, alloc: Global, serial: u64) -> Result<Items<Value>, OutOfMemory>
+pub fn values_of(
+    blocks: &RegionBlocks,
+    alloc: Global,
+    serial: u64,
+) -> Result<Items<Value>, OutOfMemory>
     ensures { IfOk result (λ vs. map wire_of vs ≡ block_cells blocks.now.memory serial) }
 {
     let _in_order = blocks.births();

@@ -14,7 +14,8 @@ ghost use Rattle.mdr_world.specs.Reaching.{is_held_in, with_memory};
 use crate::access::held_at;
 use crate::reach::{Target, reached};
 use mdr_core::{LockState, StopKind, Value};
-use mdr_mem::{Blocks, Cells};
+use mdr_mem::Cells;
+use mdr_region::RegionBlocks;
 
 // ---- taking and freeing
 
@@ -28,7 +29,7 @@ fn lock_of(held: Option<Value>) -> LockState
     }
 }
 
-fn lock_at(blocks: &Blocks, t: Target) -> LockState
+fn lock_at(blocks: &RegionBlocks, t: Target) -> LockState
     requires { IsTrue (is_handle blocks.now.handles t.block) }
     ensures { result ≡ lock_in (cell_at blocks.now.memory (cell_in t.block t.index)) }
 {
@@ -67,7 +68,11 @@ fn released(state: LockState) -> Result<LockState, StopKind>
 }
 
 #[tactic(auto, unfolding(mdr_mem::specs::Contents::current))]
-fn set_lock(blocks: &mut Blocks, t: Target, to: Result<LockState, StopKind>) -> Result<(), StopKind>
+fn set_lock(
+    blocks: &mut RegionBlocks,
+    t: Target,
+    to: Result<LockState, StopKind>,
+) -> Result<(), StopKind>
     requires { IsTrue (is_handle blocks.old.handles t.block) }
     ensures made { with_lock blocks.old.memory (cell_in t.block t.index) to ≡ when_made result blocks.new.memory }
     ensures rest { blocks.new ≡ with_memory blocks.new.memory blocks.old }
@@ -83,7 +88,7 @@ fn set_lock(blocks: &mut Blocks, t: Target, to: Result<LockState, StopKind>) -> 
 }
 
 /// The lock that a pointer names is taken, as one in this state.
-pub fn acquire(blocks: &mut Blocks, lock: Value, to: LockState) -> Result<(), StopKind>
+pub fn acquire(blocks: &mut RegionBlocks, lock: Value, to: LockState) -> Result<(), StopKind>
     ensures made { changed (acquired to) blocks.old.memory (reached everywhere blocks.old.memory (wire_of lock)) ≡ when_made result blocks.new.memory }
     ensures rest { blocks.new ≡ with_memory blocks.new.memory blocks.old }
     ensures kept { OnErr result (blocks.new ≡ blocks.old) }
@@ -98,7 +103,7 @@ pub fn acquire(blocks: &mut Blocks, lock: Value, to: LockState) -> Result<(), St
 }
 
 /// The lock that a pointer names is freed.
-pub fn release(blocks: &mut Blocks, lock: Value) -> Result<(), StopKind>
+pub fn release(blocks: &mut RegionBlocks, lock: Value) -> Result<(), StopKind>
     ensures made { changed released blocks.old.memory (reached everywhere blocks.old.memory (wire_of lock)) ≡ when_made result blocks.new.memory }
     ensures rest { blocks.new ≡ with_memory blocks.new.memory blocks.old }
     ensures kept { OnErr result (blocks.new ≡ blocks.old) }
@@ -145,7 +150,7 @@ fn has_held(cells: &[Value]) -> bool
 }
 
 /// Whether a lock is held of the block at this place among those that live.
-fn has_held_at(blocks: &Blocks, place: usize) -> bool
+fn has_held_at(blocks: &RegionBlocks, place: usize) -> bool
     ensures { result ≡ is_held_in (slice_get blocks.now.memory place) }
 {
     match blocks.cells_at(place) {
@@ -156,7 +161,7 @@ fn has_held_at(blocks: &Blocks, place: usize) -> bool
 
 /// Whether any lock is held. The time is that of a look at each cell.
 #[tactic(auto, unfolding(mdr_plain::specs::Locks::is_any_held), using(crate::proofs::LockLaws::held_here, crate::proofs::LockLaws::held_later, crate::proofs::LockLaws::held_past))]
-pub fn is_any_held(blocks: &Blocks) -> bool
+pub fn is_any_held(blocks: &RegionBlocks) -> bool
     ensures { result ≡ is_any_held blocks.now.memory }
 {
     let live = blocks.live() as usize;
@@ -171,7 +176,7 @@ pub fn is_any_held(blocks: &Blocks) -> bool
 }
 
 /// Whether a lock of a block is held.
-pub fn is_locked(blocks: &Blocks, serial: u64) -> bool
+pub fn is_locked(blocks: &RegionBlocks, serial: u64) -> bool
     ensures { result ≡ is_locked serial blocks.now.memory }
 {
     let _in_order = blocks.births();

@@ -9,7 +9,8 @@ ghost use Rattle.mdr_world.specs.Reaching.{reached_as};
 
 use crate::handles::handle;
 use mdr_core::{Block, StopKind, Value, View};
-use mdr_mem::{Blocks, Cells};
+use mdr_mem::Cells;
+use mdr_region::RegionBlocks;
 
 /// A cell of a live block, or a place past its end.
 #[derive(Clone, Copy)]
@@ -18,7 +19,7 @@ pub struct Target {
     pub index: u64,
 }
 
-fn reached_view(blocks: &Blocks, p: View) -> Result<Target, StopKind>
+fn reached_view(blocks: &RegionBlocks, p: View) -> Result<Target, StopKind>
     ensures cell { reached_as result ≡ reached everywhere blocks.now.memory (wire.Ptr (wire_view p)) }
     ensures alive { IfOk result (λ t. IsTrue (is_handle blocks.now.handles t.block)) }
 {
@@ -46,7 +47,7 @@ fn reached_in(block: Block, p: View) -> Result<Target, StopKind>
 
 /// The cell that an access through a pointer touches, or the stop.
 #[tactic(auto, unfolding(mdr_model::specs::Memory::reached))]
-pub fn reached(blocks: &Blocks, pointer: Value) -> Result<Target, StopKind>
+pub fn reached(blocks: &RegionBlocks, pointer: Value) -> Result<Target, StopKind>
     ensures cell { reached_as result ≡ reached everywhere blocks.now.memory (wire_of pointer) }
     ensures alive { IfOk result (λ t. IsTrue (is_handle blocks.now.handles t.block)) }
 {

@@ -7,7 +7,8 @@ ghost use Rattle.mdr_plain.specs.Atomic.{is_any_spinning, is_spinning};
 ghost use Rattle.mdr_world.specs.Reaching.{is_spinning_in};
 
 use mdr_core::{LockState, Value};
-use mdr_mem::{Blocks, Cells};
+use mdr_mem::Cells;
+use mdr_region::RegionBlocks;
 
 fn is_spinning(v: &Value) -> bool
     ensures { result ≡ is_spinning (wire_of v.now) }
@@ -32,7 +33,7 @@ fn has_spinning(cells: &[Value]) -> bool
 }
 
 /// Whether a lock spins of the block at this place among those that live.
-fn has_spinning_at(blocks: &Blocks, place: usize) -> bool
+fn has_spinning_at(blocks: &RegionBlocks, place: usize) -> bool
     ensures { result ≡ is_spinning_in (slice_get blocks.now.memory place) }
 {
     match blocks.cells_at(place) {
@@ -43,7 +44,7 @@ fn has_spinning_at(blocks: &Blocks, place: usize) -> bool
 
 /// Whether any lock spins. The time is that of a look at each cell.
 #[tactic(auto, unfolding(mdr_plain::specs::Atomic::is_any_spinning), using(crate::proofs::SpinLaws::spinning_here, crate::proofs::SpinLaws::spinning_later, crate::proofs::SpinLaws::spinning_past))]
-pub fn is_any_spinning(blocks: &Blocks) -> bool
+pub fn is_any_spinning(blocks: &RegionBlocks) -> bool
     ensures { result ≡ is_any_spinning blocks.now.memory }
 {
     let live = blocks.live() as usize;

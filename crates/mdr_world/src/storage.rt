@@ -4,18 +4,20 @@ ghost use Rattle.std.specs.Prelude.{◌≡◌, ◌+◌, ◌++◌, ◌∷◌, [],
 ghost use Rattle.mdr_mem.specs.Contents.{births_in, new_block};
 ghost use Rattle.mdr_mem.specs.declared.cells.Life.TheVariants as life;
 ghost use Rattle.mdr_model.specs.Memory.{killed};
-ghost use Rattle.mdr_world.specs.Stored.{IsCounted};
+ghost use Rattle.mdr_region.specs.Layout.{laid};
+ghost use Rattle.mdr_world.specs.Stored.{AreMarked, IsCounted};
 
 use crate::lives::Lives;
 use mdr_core::{Block, OutOfMemory, Shape, Value};
-use mdr_mem::{Blocks, Cells};
+use mdr_mem::Cells;
 use mdr_model::BirthKind;
+use mdr_region::RegionBlocks;
 use std::alloc::Global;
 
 /// Blocks, and all births and deaths, which may tell of the death of a block that didn't live.
 #[derive(Drop)]
 pub struct Storage {
-    pub blocks: Blocks,
+    pub blocks: RegionBlocks,
     pub lives: Lives,
 }
 
@@ -26,7 +28,7 @@ impl Storage {
         ensures lives { result.lives ≡ [] }
     {
         Storage {
-            blocks: Blocks::new(alloc),
+            blocks: RegionBlocks::new(alloc),
             lives: Lives::new(),
         }
     }
@@ -83,9 +85,11 @@ fn with_death(lives: &Lives, serial: u64) -> Lives
     lives.and_death(serial)
 }
 
-fn end_in(blocks: &mut Blocks, serial: u64)
+fn end_in(blocks: &mut RegionBlocks, serial: u64)
     ensures memory { blocks.new.memory ≡ killed serial blocks.old.memory }
     ensures births { births_in blocks.new.lives ≡ births_in blocks.old.lives }
+    ensures places { AreMarked blocks.old.lives blocks.old.handles → laid blocks.new.lives ≡ laid (blocks.old.lives ++ life.Death serial ∷ []) }
+    ensures marked { AreMarked blocks.old.lives blocks.old.handles → AreMarked blocks.new.lives blocks.new.handles }
 {
     let _in_order = blocks.births();
     match blocks.find(serial) {

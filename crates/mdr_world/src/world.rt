@@ -20,6 +20,7 @@ ghost use Rattle.mdr_plain.specs.Scripts.{block_cells, first_world, poked};
 ghost use Rattle.mdr_plain.specs.Services.{asked_once_more, fails_now, with_device, with_handler};
 ghost use Rattle.mdr_plain.specs.Storage.{births, born, deaths, died, died_at, new_of, pointer_to, remembers};
 ghost use Rattle.mdr_plain.specs.World.{advanced, noted};
+ghost use Rattle.mdr_region.specs.Layout.{places_of};
 ghost use Rattle.mdr_world.specs.Driven.{NoneIsDue, Ticks, counted_call, driven_accesses, driver, driver_if, none_comes, open_views};
 
 use crate::births::{shape_of, zeros};
@@ -32,9 +33,10 @@ use mdr_bound::Bound;
 use mdr_core::{Block, Items, Limit, OutOfMemory, Program, StopKind, Value, View, below};
 use mdr_device::Device;
 use mdr_events::Integer;
-use mdr_mem::{Blocks, Cells};
+use mdr_mem::Cells;
 use mdr_model::{BirthKind, New, Shape64};
 use mdr_plain::Happened;
+use mdr_region::RegionBlocks;
 use std::alloc::{AllocError, Global};
 use std::marker::Model;
 
@@ -443,11 +445,18 @@ impl<'a> World<'a> {
     }
 
     /// The memory.
-    pub fn blocks(&self) -> &Blocks
+    pub fn blocks(&self) -> &RegionBlocks
         ensures memory { result.now.memory ≡ self.now.world.memory }
         ensures counted { births_in result.now.lives ≡ births_in self.now.world.lives }
     {
         &self.storage.blocks
+    }
+
+    /// How many places of the memory are used, and how many there are.
+    pub fn layout(&self) -> (u64, u64)
+        ensures { result ≡ places_of self.now.world.lives }
+    {
+        self.storage.blocks.layout()
     }
 
     /// How many blocks were born.

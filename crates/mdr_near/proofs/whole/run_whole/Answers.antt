@@ -2,7 +2,7 @@
 use Rattle.std.proofs.Common.{subst}
 use Rattle.mdr_exchanges.proofs.Stops.{on_err, stops_last}
 use Rattle.mdr_exchanges.specs.Runs.{IsFarFault}
-use Rattle.mdr_near.proofs.Showing.{end_shown, leaves_as_before, leaves_memory, sends_few, shown_by, shows_run}
+use Rattle.mdr_near.proofs.Showing.{end_shown, leaves_as_before, leaves_layout, leaves_memory, sends_few, shown_by, shows_run}
 use Rattle.mdr_near.proofs.whole.run_whole.Goals as goal
 use Rattle.mdr_watch.specs.Watching.{driver_in}
 
@@ -14,6 +14,10 @@ returns-clause-run g c =
 pub returns-clause-cells : goal.returns-clause-cells
 returns-clause-cells g c =
     leaves_memory c.args.watch.program.now c.args.watch.plan.now c.args.script.now c.args.ticks (g.F.Far.exchanges c.run_script.new.far) c.in_ok-end.field-0.end c.in_ok-end.field-0.world.world c.in_ok-outcome.field-0.memory.items c.in_ok-end.ensures.ended c.in_ok-outcome.ensures.memory
+
+pub returns-clause-layout : goal.returns-clause-layout
+returns-clause-layout g c =
+    leaves_layout c.args.watch.program.now c.args.watch.plan.now c.args.script.now c.args.ticks (g.F.Far.exchanges c.run_script.new.far) c.in_ok-end.field-0.end c.in_ok-end.field-0.world.world c.in_ok-outcome.field-0.layout c.in_ok-end.ensures.ended c.in_ok-outcome.ensures.layout
 
 pub returns-clause-before : goal.returns-clause-before
 returns-clause-before g c =

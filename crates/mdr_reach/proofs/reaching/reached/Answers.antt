@@ -27,7 +27,7 @@ loop-i-preserved c = (
       (c.in_ok-failing.ensures.least (take c.loop-i.i (named c.loop-i.marked.keys)) before.least)
       (edges_are program touched m rising (cell_of name))
       c.in_ok-failing.ensures.marked before),
-  last_of c.args.scene.program.now c.args.scene.touched.now c.args.scene.blocks.now c.name_at-name.result.serial c.in_ok-block.block c.in_ok-block.ensures.held,
+  last_of c.args.scene.program.now c.args.scene.touched.now c.args.scene.blocks.now c.name_at-name.result.serial c.block_behind-block.result c.block_behind-block.ensures.held,
 )
 
 pub loop-i-smaller : goal.loop-i-smaller

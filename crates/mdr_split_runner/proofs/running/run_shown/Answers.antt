@@ -5,7 +5,7 @@ use Rattle.mdr_split_runner.proofs.Steps.{shown_so}
 use Rattle.mdr_split_runner.proofs.running.run_shown.Goals as goal
 
 pub returns-clause-done : goal.returns-clause-done
-returns-clause-done g c = shown_so _ _ c.args.manner _ _ _ _ _ _ c.exchanges.result.now c.in_ok-due.ensures.done c.exchanges.ensures c.in_ok-all.ensures.0 c.in_ok-all.ensures.1
+returns-clause-done g c = shown_so _ _ c.args.manner _ _ _ _ _ _ c.exchanges.result.now _ c.in_ok-due.ensures.done c.exchanges.ensures c.in_ok-all.ensures.0 c.in_ok-all.ensures.1
 
 pub returns-clause-failed : goal.returns-clause-failed
 returns-clause-failed g c = λ is. c.in_ok-due.ensures.failed (sym c.in_ok-all.ensures.0 ∙ is)

@@ -17,15 +17,15 @@ run_whole-requires-clause-messages g c = c.self.invariant.none (ap (λ (h : Half
 
 pub returns-clause-run : goal.returns-clause-run
 returns-clause-run g c =
-    subst (λ (h : HalfState). IsRun (driver_held h) c.args.script.now c.args.ticks (g.F.Far.exchanges c.run_whole.new.far) c.in_ok-outcome.outcome) c.self.view_is c.in_ok-outcome.ensures.run
+    subst (λ (h : HalfState). IsRun (driver_held h) c.args.script.now c.args.ticks (g.F.Far.exchanges c.run_whole.new.far) c.in_ok-outcome.field-0.outcome) c.self.view_is c.in_ok-outcome.ensures.run
 
 pub returns-clause-before : goal.returns-clause-before
 returns-clause-before g c =
-    subst (λ (h : HalfState). IsAsBefore (driver_held h) c.args.script.now c.args.ticks (g.F.Far.exchanges c.run_whole.new.far) c.run_whole.new.memory.items c.in_ok-outcome.outcome.end) c.self.view_is c.in_ok-outcome.ensures.before
+    subst (λ (h : HalfState). IsAsBefore (driver_held h) c.args.script.now c.args.ticks (g.F.Far.exchanges c.run_whole.new.far) c.run_whole.new.memory.items c.in_ok-outcome.field-0.outcome.end) c.self.view_is c.in_ok-outcome.ensures.before
 
 pub returns-clause-few : goal.returns-clause-few
 returns-clause-few g c =
-    subst (λ (h : HalfState). AreFew (driver_held h) c.args.script.now c.args.ticks (g.F.Far.exchanges c.run_whole.new.far) c.run_whole.new.messages c.in_ok-outcome.outcome.ticks) c.self.view_is c.in_ok-outcome.ensures.few
+    subst (λ (h : HalfState). AreFew (driver_held h) c.args.script.now c.args.ticks (g.F.Far.exchanges c.run_whole.new.far) c.run_whole.new.messages c.in_ok-outcome.field-0.outcome.ticks) c.self.view_is c.in_ok-outcome.ensures.few
 
 pub returns-in_err-outcome-clause-stopped : goal.returns-in_err-outcome-clause-stopped
 returns-in_err-outcome-clause-stopped g c =
@@ -34,5 +34,5 @@ returns-in_err-outcome-clause-stopped g c =
 
 pub returns-clause-meant : goal.returns-clause-meant
 returns-clause-meant g c =
-    subst (λ (h : HalfState). MeansOneMemory h.program h.plan c.args.script.now c.args.ticks (g.F.Far.exchanges c.run_whole.new.far) c.in_ok-outcome.outcome) c.self.view_is
-    (honest_runs_are_meant _ _ c.args.script.now c.args.ticks (g.F.Far.exchanges c.run_whole.new.far) c.in_ok-outcome.outcome c.self.invariant.sound c.in_ok-outcome.ensures.run)
+    subst (λ (h : HalfState). MeansOneMemory h.program h.plan c.args.script.now c.args.ticks (g.F.Far.exchanges c.run_whole.new.far) c.in_ok-outcome.field-0.outcome) c.self.view_is
+    (honest_runs_are_meant _ _ c.args.script.now c.args.ticks (g.F.Far.exchanges c.run_whole.new.far) c.in_ok-outcome.field-0.outcome c.self.invariant.sound c.in_ok-outcome.ensures.run)

@@ -1,5 +1,0 @@
-use Rattle.mdr_meaning.proofs.SpacedLaws.{crossings_are_spaced}
-use Rattle.mdr_meaning.proofs.laws.crossings_are_spaced.Goals as goal
-
-pub returns : goal.returns
-returns c = crossings_are_spaced
