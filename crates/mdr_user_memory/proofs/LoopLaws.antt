@@ -239,10 +239,14 @@ pub popped : (program : Program) (n : New) (xs rest left : List MemoryBlock) (b 
 popped program n xs rest left b none made last = only_one (zero_block program n) b rest (sym (one_new program n) ∙ (ap (with_news program (n ∷ [])) (sym none) ∙ (sym made ∙ last)))
 
 -- one was there
-pub none_left : (program : Program) (n : New) (xs left : List MemoryBlock) → left ≡ [] → xs ≡ with_news program (n ∷ []) left → length xs ≡ 0 → ⊥
-none_left program n xs left none made empty =
-    let one : length xs ≡ 1 = ap length (made ∙ (ap (with_news program (n ∷ [])) none ∙ one_new program n)) in
-    omega (arith, one, empty)
+not_none : {A : Type 0} (x : A) → x ∷ [] ≡ [] → ⊥
+not_none x e = cc
+
+pub none_left : (program : Program) (n : New) (xs rest left : List MemoryBlock) (size : ℕ) → left ≡ [] → xs ≡ with_news program (n ∷ []) left → xs ≡ rest ++ [] → rest ≡ take (size - 1) xs → size ≡ 0 → ⊥
+none_left program n xs rest left size none made last behind empty =
+    let one : xs ≡ zero_block program n ∷ [] = made ∙ (ap (with_news program (n ∷ [])) none ∙ one_new program n) in
+    let gone : rest ≡ [] = behind ∙ (λ i. take (empty i - 1) (one i)) in
+    not_none (zero_block program n) (sym one ∙ (last ∙ ap (λ (r : List MemoryBlock). r ++ []) gone))
 
 pub newborn_is : (program : Program) (n : New) (b : MemoryBlock) (cells : List Wire) (first : List Value) → b ≡ zero_block program n → cells ≡ b.cells → first ≡ map value_of cells → record { born = n; first = first } ≡ newborn_of program n
 newborn_is program n b cells first e f g =

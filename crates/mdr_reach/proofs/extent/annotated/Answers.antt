@@ -15,10 +15,10 @@ returns-in-Array c =
 
 pub returns-in-Sentinel : goal.returns-in-Sentinel
 returns-in-Sentinel c =
-    c.searched-in-Sentinel.ensures ∙ ap (extent_searched c.args.scene.program.now c.args.scene.blocks.now.memory (wire_view c.args.p)) c.field_in.ensures
+    c.searched.ensures ∙ ap (extent_searched c.args.scene.program.now c.args.scene.blocks.now.memory (wire_view c.args.p)) c.field_in.ensures
     ∙ ap (annotated c.args.scene.program.now c.args.scene.blocks.now.memory (wire_view c.args.p) (siblings_of c.args.scene.program.now c.args.scene.blocks.now.handles c.args.siblings)) (sym c.in-Sentinel.is)
 
 pub returns-in-NullTerm : goal.returns-in-NullTerm
 returns-in-NullTerm c =
-    c.searched-in-NullTerm.ensures ∙ zero_start c.args.scene.program.now c.args.scene.blocks.now.memory (wire_view c.args.p) (siblings_of c.args.scene.program.now c.args.scene.blocks.now.handles c.args.siblings)
+    c.searched.ensures ∙ zero_start c.args.scene.program.now c.args.scene.blocks.now.memory (wire_view c.args.p) (siblings_of c.args.scene.program.now c.args.scene.blocks.now.handles c.args.siblings)
     ∙ ap (annotated c.args.scene.program.now c.args.scene.blocks.now.memory (wire_view c.args.p) (siblings_of c.args.scene.program.now c.args.scene.blocks.now.handles c.args.siblings)) (sym c.in-NullTerm.is)

@@ -8,9 +8,6 @@ use Rattle.mdr_reach.proofs.reaching.reached.Goals as goal
 pub loop-i-init : goal.loop-i-init
 loop-i-init c = (λ roots had. had, tt)
 
-pub block_behind-requires-clause-last : goal.block_behind-requires-clause-last
-block_behind-requires-clause-last c = c.loop-i.invariant.1
-
 pub loop-i-preserved : goal.loop-i-preserved
 loop-i-preserved c = (
   λ roots had.

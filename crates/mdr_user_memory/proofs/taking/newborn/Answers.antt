@@ -9,4 +9,6 @@ returns c =
     c.in_ok-values_of-in-Some.ensures
 
 pub unreachable-requires : goal.unreachable-requires
-unreachable-requires c = none_left c.args.program.now c.args.new c.into_vec-zeros.result.items c.new.result c.new.ensures (c.into_vec-zeros.ensures ∙ c.in_ok-blocks.ensures) c.in-None.ensures.cases.0
+unreachable-requires c =
+    none_left c.args.program.now c.args.new c.into_vec-zeros.result.items c.pop.new.self.items c.new.result _ c.new.ensures (c.into_vec-zeros.ensures ∙ c.in_ok-blocks.ensures) c.in-None.ensures.items c.in-None.ensures.rest
+    c.in-None.ensures.cases.0
