@@ -20,5 +20,5 @@ returns-in-Sentinel c =
 
 pub returns-in-NullTerm : goal.returns-in-NullTerm
 returns-in-NullTerm c =
-    c.searched.ensures ∙ zero_start c.args.scene.program.now c.args.scene.blocks.now.memory (wire_view c.args.p) (siblings_of c.args.scene.program.now c.args.scene.blocks.now.handles c.args.siblings)
+    c.searched-in-NullTerm.ensures ∙ zero_start c.args.scene.program.now c.args.scene.blocks.now.memory (wire_view c.args.p) (siblings_of c.args.scene.program.now c.args.scene.blocks.now.handles c.args.siblings)
     ∙ ap (annotated c.args.scene.program.now c.args.scene.blocks.now.memory (wire_view c.args.p) (siblings_of c.args.scene.program.now c.args.scene.blocks.now.handles c.args.siblings)) (sym c.in-NullTerm.is)

@@ -11,8 +11,8 @@ returns-in-Some-Field c =
 
 pub returns-in-Some-Nothing : goal.returns-in-Some-Nothing
 returns-in-Some-Nothing c =
-    lone_extent c.args.scene.program.now c.args.scene.touched.now c.args.h.born c.args.index c.args.scene.blocks.now c.global_ann-ann.result (wire_of c.args.value) (extent_of c.value_extent.result)
-    c.global_ann-ann.ensures (ap (λ x. Some x) (sym c.in-Some-Nothing.field-0-is) ∙ (sym c.in-Some-Nothing.is ∙ c.around.ensures)) c.value_extent.ensures
+    lone_extent c.args.scene.program.now c.args.scene.touched.now c.args.h.born c.args.index c.args.scene.blocks.now c.global_ann-ann.result (wire_of c.args.value) (extent_of c.value_extent-in-Some-Nothing.result)
+    c.global_ann-ann.ensures (ap (λ x. Some x) (sym c.in-Some-Nothing.field-0-is) ∙ (sym c.in-Some-Nothing.is ∙ c.around.ensures)) c.value_extent-in-Some-Nothing.ensures
 
 pub returns-in-None : goal.returns-in-None
 returns-in-None c = no_extent c.args.scene.program.now c.args.scene.touched.now c.args.h.born c.args.index c.args.scene.blocks.now (wire_of c.args.value) (sym c.in-None.is ∙ c.around.ensures)
