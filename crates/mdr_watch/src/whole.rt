@@ -41,7 +41,7 @@ fn shown_of(alloc: Global, did: Did) -> Result<Outcome, OutOfMemory>
 /// Runs a script for a driver on one memory, with so many ticks, while its user half is held to what the plan lets it touch,
 /// and gives what the run shows. Code of the kernel half may call nothing back. A plan that hasn't a half for each function answers
 /// want of memory.
-#[tactic(auto, unfolding(mdr_watch::specs::Watching::watched_apart))]
+#[tactic(auto, unfolding(crate::specs::Watching::watched_apart))]
 pub fn run_watched(
     alloc: Global,
     program: &Program,
