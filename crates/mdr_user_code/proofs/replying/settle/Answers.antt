@@ -5,8 +5,8 @@ use Rattle.mdr_user_code.specs.declared.state.State.{State}
 use Rattle.mdr_user_code.specs.Replying.{awaits_as, told_as}
 use Rattle.mdr_user_code.proofs.replying.settle.Goals as goal
 
-pub settled-requires : goal.settled-requires
-settled-requires c = ap (λ rs. put_runs rs c.args.memory.agreed) (c.as_slice.ensures ∙ c.in_ok-runs.ensures) ∙ c.requires.told
+pub settled-settled-requires : goal.settled-settled-requires
+settled-settled-requires c = ap (λ rs. put_runs rs c.args.memory.agreed) (c.as_slice.ensures ∙ c.in_ok-runs.ensures) ∙ c.requires.told
 
 pub returns-clause-reply : goal.returns-clause-reply
 returns-clause-reply c =
