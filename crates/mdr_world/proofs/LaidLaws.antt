@@ -1,21 +1,19 @@
 -- Births and deaths lie alike in both lists: the death of a block that doesn't live changes no layout.
-use Rattle.std.proofs.Common.{◌≡◌, ◌+◌, ℕ, Bool, true, false, cond, not, ◌&&◌, ◌||◌, List, [], ◌∷◌, ◌++◌, get_or, Option, Some, None, refl, sym, ◌∙◌, ap, subst, arith}
+use Rattle.std.proofs.Common.{◌≡◌, ◌+◌, ℕ, Bool, true, false, cond, not, ◌&&◌, ◌||◌, List, [], ◌∷◌, ◌++◌, Some, None, refl, sym, ◌∙◌, ap, arith}
 use Rattle.std.specs.Prelude.{◌==◌, is_some}
 use Rattle.std.proofs.lemmas.Bool.{eqb-true, eq-eqb}
+use Rattle.std.proofs.lemmas.List.Sums.{sum_by-append}
 use Rattle.mdr_core.specs.declared.value.Block.{Block}
 use Rattle.mdr_mem.specs.declared.cells.Life.{Life}
 use Rattle.mdr_mem.specs.declared.cells.Life.TheVariants as life
-use Rattle.mdr_mem.specs.Contents.{births_in, handle_of, left_of}
-use Rattle.mdr_mem.proofs.SearchLaws.{left_absent}
-use Rattle.mdr_region.specs.Layout.{Laid, Mark, after, laid, laid_from, left, placed}
+use Rattle.mdr_mem.specs.Contents.{births_in, handle_of, is_birth, left_of}
+use Rattle.mdr_region.specs.Layout.{Laid, after, laid, laid_from}
 use Rattle.mdr_region.specs.Blocks.{mark_at}
 use Rattle.mdr_region.specs.Holes.{front, inside, names}
 use Rattle.mdr_region.proofs.BirthLaws.{placed_at}
 use Rattle.mdr_region.proofs.DeathLaws.{left_at, names_freed}
 use Rattle.mdr_region.proofs.KeptLaws.{laid_more, stale_death}
-use Rattle.mdr_world.proofs.StorageLaws.{births-birth, births-death}
-use Rattle.mdr_world.specs.Stored.{AreMarked, IsCounted}
-use Rattle.mdr_world.specs.declared.storage.Storage.{Storage}
+use Rattle.mdr_world.specs.Stored.{AreMarked}
 
 -- ---- handles
 
@@ -53,14 +51,14 @@ some_left d (g ∷ gs) serial other h = of (g.serial == d) refl (g.serial == ser
 births_laid_from : (s : Laid) (lives : List Life) → (laid_from s lives).births ≡ s.births + births_in lives
 unfolding laid_from
 births_laid_from s [] = omega arith
-births_laid_from s (life.Birth n ∷ lives) = omega (arith, births_laid_from (after s (life.Birth n)) lives)
+births_laid_from s (life.Birth n ∷ lives) = omega (arith, births_laid_from (after s (life.Birth n)) lives, sum_by-append (λ l. cond (is_birth l) 1 0) (life.Birth n ∷ []) lives)
 births_laid_from s (life.Death serial ∷ lives) = births_laid_from (after s (life.Death serial)) lives
 
 births_laid : (lives : List Life) → (laid lives).births ≡ births_in lives
-births_laid lives = births_laid_from (record { births = 0; marks = [] }) lives
+births_laid lives = omega (arith, births_laid_from (record { births = 0; marks = [] }) lives)
 
 pub none_marked : AreMarked [] []
-unfolding laid_from
+unfolding laid_from handle_of
 none_marked place serial h = h
 
 pub marked_birth : (lives : List Life) (hs : List Block) (b : Block) (n : ℕ) → b.serial ≡ births_in lives → AreMarked lives hs → AreMarked (lives ++ life.Birth n ∷ []) (hs ++ b ∷ [])

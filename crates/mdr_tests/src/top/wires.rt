@@ -1,4 +1,5 @@
-// The messages of runs over far sides that give the answers that they were told to give, shown behind the reports.
+// The messages and the layout of runs over far sides that give the answers that they were told to give, shown behind the
+// reports.
 
 use super::answers::{FIRST, answers_of};
 use super::{expect_run, shelf_of};
@@ -8,8 +9,8 @@ use std::alloc::{AllocError, Global};
 use std::process::Abort;
 use std::test::Fail;
 
-/// The words of a run whose messages are shown.
-const WIRED: &[&str] = &["run", "split", "bump.c", "open.script", "--wire"];
+/// The words of a run whose messages are shown, and its layout.
+const WIRED: &[&str] = &["run", "split", "bump.c", "open.script", "--region", "--wire"];
 
 /// The answer to the texts, the replies, and the status and the text of the run, in pieces.
 type Row = (
@@ -24,19 +25,19 @@ const CALL: &str =
     "> 00000001000000010000000000000000000f4240000000000000000000000000000000010000000000000000000000000000000100000000\n";
 
 /// Where the replies are used up the far side fails. A message without an answer is shown and counted, an answer that is
-/// refused too; where nothing was loaded there is none.
+/// refused too; where nothing was loaded there is none, and the layout is that of the driver's one global.
 const RUNS: &[Row] = &[
     (
         LoadAnswer::Failed,
         &[],
         Status::FarFault,
-        &["far fault 0\nticks 0\nlive 1\nobj 1 u32 x1: 0\nmessages 0\n"],
+        &["far fault 0\nticks 0\nlive 1\nobj 1 u32 x1: 0\nmessages 0\nregion 1 1\n"],
     ),
     (
         LoadAnswer::Refused(1),
         &[],
         Status::Marshal,
-        &["refused 0 Load 0\nticks 0\nlive 1\nobj 1 u32 x1: 0\nmessages 0\n"],
+        &["refused 0 Load 0\nticks 0\nlive 1\nobj 1 u32 x1: 0\nmessages 0\nregion 1 1\n"],
     ),
     (
         LoadAnswer::Ok,
@@ -45,7 +46,7 @@ const RUNS: &[Row] = &[
         &[
             "call open\nfar fault 1\nticks 0\nlive 1\nobj 1 u32 x1: 0\n",
             CALL,
-            "messages 1\n",
+            "messages 1\nregion 1 1\n",
         ],
     ),
     (
@@ -57,7 +58,7 @@ const RUNS: &[Row] = &[
             CALL,
             "< 000000030000000000000001000000010000000100000001000000000000000000000000\n",
             "> 0000000400000000000f423e0000000c0000000000000000000000010000000000000000000000000000000100000001000000000000000000000000000000010000000200000001\n",
-            "messages 3\n",
+            "messages 3\nregion 1 1\n",
         ],
     ),
     (
@@ -68,7 +69,7 @@ const RUNS: &[Row] = &[
             "call open\nrefused 1 Kind 0\nticks 0\nlive 1\nobj 1 u32 x1: 0\n",
             CALL,
             "< 00000009\n",
-            "messages 2\n",
+            "messages 2\nregion 1 1\n",
         ],
     ),
 ];
