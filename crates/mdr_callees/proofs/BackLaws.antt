@@ -7,7 +7,7 @@ use Rattle.mdr_core.specs.Backs.{CallsNothingBack, call_back, calls_back, is_bac
 use Rattle.mdr_core.specs.Code.{Term, Called, CallOf, Code, Codes}
 use Rattle.mdr_core.specs.Typing.{Slot, slots_of}
 use Rattle.mdr_slice.specs.Calls.{all_calls, body_code, calls}
-use Rattle.mdr_slice.specs.Graph.{IsRow, KernelCallReaches, MayCall, OneReaches, reaches_by}
+use Rattle.mdr_slice.specs.Graph.{AreCallees, IsRow, KernelCallReaches, MayCall, OneReaches, reaches_by}
 use Rattle.mdr_callees.specs.Callees.{OneGraphWhereNothingCallsBack}
 
 not_both : {b : Bool} → b ≡ true → b ≡ false → ⊥
@@ -102,6 +102,13 @@ module _ (program : Program) (nothing : CallsNothingBack program) where
 
   same_row : (f : ℕ) (row : List ℕ) → IsRow program false f row → IsRow program true f row
   same_row f row r = record { rises = r.rises; exact = λ g. (λ inside. may_count f g ((r.exact g).0 inside), λ may. (r.exact g).1 (need_not_count f g may)) }
+
+  same_row_without : (f : ℕ) (row : List ℕ) → IsRow program true f row → IsRow program false f row
+  same_row_without f row r = record { rises = r.rises; exact = λ g. (λ inside. need_not_count f g ((r.exact g).0 inside), λ may. (r.exact g).1 (may_count f g may)) }
+
+-- nor is it another the other way round
+pub one_graph_without : (program : Program) → CallsNothingBack program → (callees : List (List ℕ)) → AreCallees program true callees → AreCallees program false callees
+one_graph_without program nothing callees are = record { size = are.size; rows = λ f inside. same_row_without program nothing f (get_or callees f []) (are.rows f inside) }
 
 pub one_graph : OneGraphWhereNothingCallsBack
 one_graph program nothing callees are = record { size = are.size; rows = λ f inside. same_row program nothing f (get_or callees f []) (are.rows f inside) }

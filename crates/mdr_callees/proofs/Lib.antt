@@ -1,3 +1,4 @@
 pub mod BackLaws
 pub mod CalleeLaws
 pub mod HalfLaws
+pub mod SpacedLaws

@@ -1,6 +1,7 @@
 // Laws, each as a function that does nothing.
 
 ghost use Rattle.mdr_callees.specs.Callees.{CodeKeepsToTheCallGraph, CrossingsHaveStubs, OneGraphWhereNothingCallsBack, TheKernelHalfCrossesNowhere};
+ghost use Rattle.mdr_callees.specs.Spaced.{CrossingsAreSpaced};
 
 /// Running code of a sound program calls only functions that the call graph says it may call, passes on only functions
 /// whose addresses are taken, and registers only handlers that `request_irq` is given somewhere.
@@ -21,4 +22,10 @@ pub fn crossings_have_stubs()
 /// Code of the kernel half calls no function of the user half, calls back through the kernel aside.
 pub fn the_kernel_half_crosses_nowhere()
     ensures { TheKernelHalfCrossesNowhere }
+{}
+
+/// A function with a body is started with no call of the other half before its first tick, and with one at most for each
+/// tick; each is made with more functions active than before the function was, and with 255 at most.
+pub fn crossings_are_spaced()
+    ensures { CrossingsAreSpaced }
 {}

@@ -4,6 +4,6 @@
 mod laws;
 
 pub use laws::{
-    code_keeps_to_the_call_graph, crossings_have_stubs, one_graph_where_nothing_calls_back,
-    the_kernel_half_crosses_nowhere,
+    code_keeps_to_the_call_graph, crossings_are_spaced, crossings_have_stubs,
+    one_graph_where_nothing_calls_back, the_kernel_half_crosses_nowhere,
 };

@@ -10,15 +10,15 @@ use Rattle.mdr_model.specs.Bytes.{readings}
 use Rattle.mdr_model.specs.KernelState.{Reading}
 use Rattle.mdr_model.specs.ReplyFaults.{reply_of}
 use Rattle.mdr_over_bytes.specs.OverBytes.{split_run_over_bytes}
-use Rattle.mdr_plain.specs.Scripts.{Beginning, Did, Opens, begin}
+use Rattle.mdr_plain.specs.Scripts.{Beginning, Did, Enters, Opens, begin}
 use Rattle.mdr_plain.specs.World.{World, Ran, Ended, Stopped, Work}
 use Rattle.mdr_bound.specs.declared.bound.Bound.{Bound}
 use Rattle.mdr_split.specs.AnyAnswers.{kernel_in}
-use Rattle.mdr_split.specs.Kernel.{SplitRun, answered, answers, applied, begins, called, calls, comes_back, downcalled, ended, first_kernel, judged, next, run_from_pending, serviced, split_by, split_commands, split_run, taken, then_split}
+use Rattle.mdr_split.specs.Kernel.{SplitRun, answered, answers, applied, begins, called, calls, comes_back, downcalled, ended, entered, first_kernel, judged, next, run_from_pending, serviced, split_by, split_commands, split_run, taken, then_split}
 use Rattle.mdr_split.specs.Legal.{fault_of}
 use Rattle.mdr_split.specs.State.{Kernel, Open, Rest, Noted, Pending, Over, Waits}
 use Rattle.mdr_watched.specs.Driver.{Driver, is_user}
-use Rattle.mdr_watched.specs.Watched.{downcall, held, kernel_of, serves}
+use Rattle.mdr_watched.specs.Watched.{downcall, held, kernel_of, may_not, serves}
 
 -- so many messages were sent before, and one more where the run waits
 abbrev Counts : ℕ → Pending → Type 0
@@ -40,6 +40,7 @@ module _ (d : Driver) where
 
   begun_counts : (b : Beginning) (cs : List Command) (k : Kernel) (go : Kernel → Pending) (n : ℕ) → k.exchanges ≡ n → ((k' : Kernel) → k'.exchanges ≡ n → Counts n (go k')) → Counts n (split_by b d cs k go)
   begun_counts (Did work) cs k go n e later = then_counts work k go n e later
+  begun_counts (Enters f args w) cs k go n e later = then_counts (entered d f args w) k go n e later
   begun_counts (Opens f args w) cs k go n e later = calls_count f args w k cs n e
 
   commands_count : (cs : List Command) (k : Kernel) (n : ℕ) → k.exchanges ≡ n → Counts n (split_commands d cs k)
@@ -68,7 +69,7 @@ module _ (d : Driver) where
   taken_counts (replies.Return ticks v runs) k upcall Noted cs n e =
       then_counts (ended d v (applied ticks runs k).world) (applied ticks runs k) (λ k'. split_commands d cs k') n e (λ k' e'. commands_count cs k' n e')
   taken_counts (replies.Down ticks at depth func args runs) k upcall rest cs n e =
-      down_counts (downcall d (held d) upcall.func at func args depth (applied ticks runs k).world) (applied ticks runs k) upcall rest cs n e
+      down_counts (downcall d (held d) upcall.func may_not at func args depth (applied ticks runs k).world) (applied ticks runs k) upcall rest cs n e
   taken_counts (replies.Ask ticks at service args shapes bytes runs) k upcall rest cs n e =
       let asked : Asked = record { service = service; at = at; args = args; shapes = shapes; bytes = bytes } in
       service_counts asked (serves d (held d) upcall.func asked (applied ticks runs k).world) (applied ticks runs k) upcall rest cs n e

@@ -1,6 +1,7 @@
 -- believed
 -- What a run over honest exchanges means.
 use Rattle.std.specs.Prelude.{◌≡◌, ℕ, ◌+◌, ◌*◌, ◌≤◌, ◌⊎◌, List, [], ◌∷◌, ◌++◌, length, IfSome}
+use Rattle.mdr_core.specs.Backs.{CallsNothingBack}
 use Rattle.mdr_core.specs.declared.plan.Plan.{Plan}
 use Rattle.mdr_core.specs.declared.program.Program.{Program}
 use Rattle.mdr_core.specs.Sound.{IsSound}
@@ -29,8 +30,9 @@ pub record IsMeant (program : Program) (plan : Plan) (script : Bound) (budget : 
   pub own : IsOwn o.end
   pub messages : 2 * length es ≤ 4 * o.ticks + 6 * (watched program plan script budget).world.kept.calls
 
--- each function has a body, the plan is the program's, and the script's commands fit it
+-- each function has a body and calls nothing back, the plan is the program's, and the script's commands fit it
 pub record IsRunnable (program : Program) (plan : Plan) (script : Bound) : Type 0 where
+  pub nothing_back : CallsNothingBack program
   pub bodies : HaveBodies program
   pub planned : IsPlanOf program plan
   pub fits : IsScript program script

@@ -20,7 +20,11 @@ use Rattle.mdr_outside.specs.Far.{exchange}
 use Rattle.mdr_over_bytes.specs.OverBytes.{IsHonestReply, user_reply_to_bytes}
 use Rattle.mdr_split.specs.User.{user_reply}
 use Rattle.mdr_user_code.specs.declared.state.State.{State}
-use Rattle.mdr_user_code.specs.Standing.{Follows, IsFit}
+use Rattle.mdr_track.specs.Tracked.{pairs_of}
+use Rattle.mdr_user_code.specs.Standing.{Follows, IsFit, user_memory}
+use Rattle.mdr_user_code.proofs.FollowLaws.{agreed_is}
+use Rattle.mdr_user_memory.specs.Kept.{Kept}
+use Rattle.mdr_user_memory.specs.Paired.{Paired}
 use Rattle.mdr_watched.specs.Driver.{Driver}
 use Rattle.mdr_far.proofs.Refusals.{replies_without}
 
@@ -92,3 +96,8 @@ at_ok (Err f) x e P h = absurd (Prim.cc)
 pub on_ok : {A E : Type 0} (r : Result A E) (x : A) → r ≡ Ok x → (P : Type 0) → OnOk r P → P
 on_ok (Ok y) x e P h = h
 on_ok (Err f) x e P h = absurd (Prim.cc)
+
+-- the memory goes with the definition's
+pub memory_paired : (d : Driver) (es : List Exchange) (s : State) (k : Kept) → Follows d (readings (sent_of es)) s → k ≡ s.memory → Paired k.agreed k.region.contents (pairs_of k.pairs)
+    → Paired (user_memory d (readings (sent_of es))) k.region.contents (pairs_of k.pairs)
+memory_paired d es s k f e p = subst (λ m. Paired m k.region.contents (pairs_of k.pairs)) (ap (λ (x : Kept). x.agreed) e ∙ agreed_is d (readings (sent_of es)) s f) p

@@ -1,6 +1,7 @@
 // The user half over bytes.
 
-ghost use Rattle.std.specs.Prelude.{◌≡◌, ℕ, [], ◌∷◌, ◌++◌, false, Some, Ok, IfOk, OnErr};
+ghost use Rattle.std.specs.Option.{option_copied};
+ghost use Rattle.std.specs.Prelude.{◌≡◌, ℕ, [], ◌∷◌, ◌++◌, false, is_none, Some, Ok, IfOk, IfSome, OnErr};
 ghost use Rattle.mdr_core.specs.Sound.{IsSound};
 ghost use Rattle.mdr_exchanges.specs.Runs.{sent_of};
 ghost use Rattle.mdr_exchanges.specs.Meanings.{Honest};
@@ -8,7 +9,10 @@ ghost use Rattle.mdr_model.specs.declared.message.Message.TheVariants.{Refuse};
 ghost use Rattle.mdr_model.specs.Text.{text};
 ghost use Rattle.mdr_outside.specs.Far.{exchange};
 ghost use Rattle.mdr_over_bytes.specs.OverBytes.{IsHonestReply};
-ghost use Rattle.mdr_user_code.specs.Standing.{Follows, IsFit};
+ghost use Rattle.mdr_model.specs.Bytes.{readings};
+ghost use Rattle.mdr_track.specs.Tracked.{pairs_of};
+ghost use Rattle.mdr_user_code.specs.Standing.{Follows, IsFit, user_memory};
+ghost use Rattle.mdr_user_memory.specs.Paired.{Paired};
 ghost use Rattle.mdr_watched.specs.Driver.{driver_of};
 ghost use Rattle.mdr_far.specs.Halves.{new_half, after_reply, lost, driver_in, ReplyAlike, Load};
 
@@ -20,6 +24,7 @@ use mdr_core::{Items, OutOfMemory, Plan, Program};
 use mdr_half_source::HalfSource;
 use mdr_outside::Exchange;
 use mdr_user_code::{State, begins};
+use mdr_user_memory::UserMemory;
 use std::alloc::Global;
 use std::marker::Model;
 
@@ -138,6 +143,23 @@ impl UserHalf {
         ensures { result.now ≡ self.now.exchanges }
     {
         self.exchanges.as_slice()
+    }
+
+    /// Lends the user half's own memory with its pairs, while memory wasn't wanting: the paired serials are those of the live
+    /// blocks of the user half's memory after the messages so far, each of them is live there with its kind and shape, no other
+    /// block is, and each cell has its value, with pointers taken through the pairs.
+    pub fn memory(&self) -> Option<&UserMemory>
+        ensures there { is_none (option_copied result) ≡ self.now.is_lost }
+        ensures paired { IfSome (option_copied result) (λ u. Paired (user_memory (driver_in self.now) (readings (sent_of self.now.exchanges))) u.region.contents (pairs_of u.pairs)) }
+    {
+        match &self.state {
+            Some(state) => {
+                let memory = state.memory();
+                memory.is_paired();
+                Some(memory)
+            }
+            None => None,
+        }
     }
 
     /// Each reply is the user half's reply to the messages so far.

@@ -15,16 +15,14 @@ use Rattle.mdr_model.specs.declared.command.Command.TheVariants as command
 use Rattle.mdr_model.specs.Values.{value_of}
 use Rattle.mdr_model.specs.declared.memory.Cell.{Cell}
 use Rattle.mdr_plain.specs.declared.outcome.Happened.TheVariants as happened
-use Rattle.mdr_plain.specs.Plain.{never, whole}
-use Rattle.mdr_plain.specs.Running.{Before, call, interrupts}
-use Rattle.mdr_plain.specs.Scripts.{Beginning, Did, Finish, Opens, and_then, begin, begun, called_by, commands, idle, in_place, poked_memory, returned, showed}
-use Rattle.mdr_plain.specs.Services.{served}
+use Rattle.mdr_plain.specs.Running.{Before, Crossing, KernelCode, interrupts}
+use Rattle.mdr_plain.specs.Scripts.{Beginning, Did, Enters, Finish, Opens, and_then, begin, begun, called_by, commands, idle, in_place, poked_memory, returned, showed}
 use Rattle.mdr_plain.specs.Storage.{next_serial, with_memory}
 use Rattle.mdr_plain.specs.World.{Ran, Work, World, advanced, counted, noted, then}
 use Rattle.mdr_holds.specs.Holding.{Holds}
-use Rattle.mdr_holds.specs.Laws.{AreCommands, BeginsRight, IsAround, IsCalled, IsCode, IsCommand, noted_command}
+use Rattle.mdr_holds.specs.Laws.{AreCommands, BeginsRight, CallsAcross, IsCalled, IsCode, IsCommand, Try, code_with, noted_command}
 use Rattle.mdr_holds.specs.Leaving.{GivesResult, IsAsBefore, Later, Leads, Returns, ended, stopped}
-use Rattle.mdr_holds.proofs.Kernel.{called, with_interrupts}
+use Rattle.mdr_holds.proofs.Kernel.{tried}
 use Rattle.mdr_holds.proofs.Leading.{after_leads, later_leads, then_leads}
 use Rattle.mdr_holds.proofs.Memories.{globals_known}
 use Rattle.mdr_holds.proofs.Poking.{poked_later}
@@ -39,12 +37,16 @@ noted_holds program K w (command.Show g) h = kept_holds program K w _ h h.handle
 noted_holds program K w (command.Poke serial index n) h = h
 noted_holds program K w (command.Say text) h = kept_holds program K w _ h h.handler
 
-module _ (program : Program) (sound : IsSound program) (uses : Uses) (side : Side) (code : IsCode program uses side) where
-  abbrev before : Before
-  before = interrupts (whole program side)
+module _ (program : Program) (sound : IsSound program) (uses : Uses) (side : Side) (code : IsCode program uses side) (handlers : Crossing) (across : CallsAcross program uses handlers) where
+  -- code of handlers
+  abbrev kernel : KernelCode
+  kernel = code_with program side handlers
 
-  around : IsAround program uses (served program) never before
-  around = with_interrupts program sound uses side code
+  abbrev before : Before
+  before = interrupts kernel
+
+  tries : Try program uses before
+  tries = tried program sound uses side code handlers across
 
   module _ (K0 : Knowledge) (first : World) (same : K0.uses ≡ uses) where
     abbrev Left : Knowledge → World → Type 0
@@ -62,7 +64,7 @@ module _ (program : Program) (sound : IsSound program) (uses : Uses) (side : Sid
     -- the interrupt rule is tried where no function is active
     tries_once : (K : Knowledge) (w : World) → Left K w → IsAsBefore first w → Leads Left Unhandled (before 0 w)
     tries_once K w l handling =
-        later_leads program (next_serial first) K0 first (λ K' x w'. IsAsBefore w w') Unhandled K w l (next_serial w) (early K w l) (before 0 w) (around.tries K w (uses_are K w l) l.holds 0) (λ K' x w' m g. g ∙ handling)
+        later_leads program (next_serial first) K0 first (λ K' x w'. IsAsBefore w w') Unhandled K w l (next_serial w) (early K w l) (before 0 w) (tries K w (uses_are K w l) l.holds 0) (λ K' x w' m g. g ∙ handling)
 
     -- a call's result is noted
     pub returned_leads : (result : Ty) (ran : Ran Wire) → Leads Left (GivesResult program result first) ran → Leads Left Unhandled (returned before ran)
@@ -90,13 +92,13 @@ module _ (program : Program) (sound : IsSound program) (uses : Uses) (side : Sid
 
     -- ---- calls
 
-    call_right : (h : Holds program K0 first) (f : ℕ) (func : Func) (args : List Wire) → IsCalled program K0 f func args → (user : Bool) → BeginsRight program K0 first (called_by user (whole program side) f args first)
+    call_right : (h : Holds program K0 first) (f : ℕ) (func : Func) (args : List Wire) → IsCalled program K0 f func args → (user : Bool) → BeginsRight program K0 first (called_by user kernel f args first)
     call_right h f func args c true = (func, c, refl)
-    call_right h f func args c false = returned_leads func.result (call (whole program side) before f args 0 first) (called program sound uses side code before around K0 first same h f func args 0 c)
+    call_right h f func args c false = (func, c, refl)
 
   -- ---- commands
 
-  pub begins_right : (is_user : ℕ → Bool) (K : Knowledge) (w : World) → K.uses ≡ uses → Holds program K w → (c : Command) → IsCommand program c → BeginsRight program K (noted_command program c w) (begin (whole program side) is_user c w)
+  pub begins_right : (is_user : ℕ → Bool) (K : Knowledge) (w : World) → K.uses ≡ uses → Holds program K w → (c : Command) → IsCommand program c → BeginsRight program K (noted_command program c w) (begin kernel is_user c w)
   unfolding begin
   begins_right is_user K w same h (command.Call f args) c =
       let holds : Holds program K (begun program f args w) = noted_holds program K w (command.Call f args) h in
@@ -109,23 +111,27 @@ module _ (program : Program) (sound : IsSound program) (uses : Uses) (side : Sid
   begins_right is_user K w same h (command.Say text) c =
       ended K tt (noted (happened.Say text) w) (later_same program _ K (noted (happened.Say text) w) (noted_holds program K w (command.Say text) h)) refl
 
-  -- where functions of the user half are called by this
-  module _ (is_user : ℕ → Bool) (up : (func : ℕ) (args : List Wire) → World → Ran Wire)
+  -- where functions of the kernel half are called by this, and those of the user half by that
+  module _ (is_user : ℕ → Bool) (enters up : (func : ℕ) (args : List Wire) → World → Ran Wire)
+      (enters_leave : (K : Knowledge) (w : World) → K.uses ≡ uses → Holds program K w → (f : ℕ) (func : Func) (args : List Wire) → IsCalled program K f func args → Returns program (next_serial w) func.result K w (enters f args w))
       (up_leaves : (K : Knowledge) (w : World) → K.uses ≡ uses → Holds program K w → (f : ℕ) (func : Func) (args : List Wire) → IsCalled program K f func args → Returns program (next_serial w) func.result K w (up f args w)) where
-    in_place_leads : (K : Knowledge) (w : World) → K.uses ≡ uses → Holds program K w → (b : Beginning) → BeginsRight program K w b → Leads (Later program (next_serial w) K w) (λ K' x w'. IsAsBefore w w') (in_place (whole program side) up b)
+    in_place_leads : (K : Knowledge) (w : World) → K.uses ≡ uses → Holds program K w → (b : Beginning) → BeginsRight program K w b → Leads (Later program (next_serial w) K w) (λ K' x w'. IsAsBefore w w') (in_place kernel enters up b)
     in_place_leads K w same h (Did work) r = r
+    in_place_leads K w same h (Enters f args w') r =
+        subst (λ (x : World). Leads (Later program (next_serial w) K w) (λ K' y w2. IsAsBefore w w2) (returned before (enters f args x))) (sym r.2)
+        (returned_leads K w same r.0.result (enters f args w) (enters_leave K w same h f r.0 args r.1))
     in_place_leads K w same h (Opens f args w') r =
         subst (λ (x : World). Leads (Later program (next_serial w) K w) (λ K' y w2. IsAsBefore w w2) (returned before (up f args x))) (sym r.2)
         (returned_leads K w same r.0.result (up f args w) (up_leaves K w same h f r.0 args r.1))
 
     pub does_leads : (K : Knowledge) (w : World) → K.uses ≡ uses → Holds program K w → (c : Command) → IsCommand program c
-        → Leads (Later program (next_serial (noted_command program c w)) K (noted_command program c w)) (λ K' x w'. IsAsBefore (noted_command program c w) w') (in_place (whole program side) up (begin (whole program side) is_user c w))
+        → Leads (Later program (next_serial (noted_command program c w)) K (noted_command program c w)) (λ K' x w'. IsAsBefore (noted_command program c w) w') (in_place kernel enters up (begin kernel is_user c w))
     does_leads K w same h c r = in_place_leads K (noted_command program c w) same (noted_holds program K w c h) _ (begins_right is_user K w same h c r)
 
     -- ---- scripts
 
     abbrev does : Command → World → Work
-    does c w = in_place (whole program side) up (begin (whole program side) is_user c w)
+    does c w = in_place kernel enters up (begin kernel is_user c w)
 
     abbrev HoldsLast : Finish → Type 0
     HoldsLast f = (K : Knowledge) × Holds program K f.world

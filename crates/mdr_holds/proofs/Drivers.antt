@@ -15,7 +15,7 @@ use Rattle.mdr_core.specs.declared.value.Value.{Value}
 use Rattle.mdr_core.specs.declared.value.Value.TheVariants as value
 use Rattle.mdr_core.specs.Layout.{chosen}
 use Rattle.mdr_core.specs.Sound.{IsSound}
-use Rattle.mdr_meaning.specs.Bodies.{body_from, body_of, kernel_side}
+use Rattle.mdr_meaning.specs.Bodies.{body_from, body_of, kernel_side, user_side}
 use Rattle.mdr_meaning.specs.FairTrees.{IsSideOf}
 use Rattle.mdr_meaning.specs.Sides.{Body, Side}
 use Rattle.mdr_meaning.proofs.FairLaws.{sides_are_of_programs}
@@ -29,7 +29,7 @@ use Rattle.mdr_slice.specs.Graph.{AreCallees}
 use Rattle.mdr_slice.specs.Halves.{AreHalves}
 use Rattle.mdr_watched.specs.Driver.{driver_of, is_user, is_user_half}
 use Rattle.mdr_holds.specs.Holding.{IsHandler}
-use Rattle.mdr_holds.specs.Laws.{CallsItself, HaveBodies, IsCode, IsDriver, ProgramsAreDrivers, TakesFirst}
+use Rattle.mdr_holds.specs.Laws.{CallsItself, HaveBodies, HaveHalves, IsCode, IsDriver, ProgramsAreDrivers, TakesFirst}
 use Rattle.mdr_holds.proofs.Fitting.{some_is}
 
 is_code : (program : Program) → IsSound program → (callees : List (List ℕ)) → AreCallees program true callees → (side : Side) → IsSideOf program side → IsCode program (uses_by program callees) side
@@ -110,5 +110,34 @@ module _ (program : Program) (plan : Plan) (roots : List ℕ) (halves : Halves) 
       let body = bodies f x.func x.names in
       (body.0, ap (λ (b : Bool). chosen (not b) (body_of program f) None) ours ∙ body.1)
 
+-- ---- each function has its body in a half
+
+no_body : {X : Type 0} (body : Body) → ◌≡◌ {A = Option Body} None (Some body) → X
+no_body body e = absurd cc
+
+module _ (program : Program) (bodies : HaveBodies program) (plan : Plan) where
+  in_kernel_half : (f : ℕ) (func : Func) → slice_get program.funcs f ≡ Some func → is_user plan f ≡ false → (body : Body) × ((driver_of program plan).kernel.own f ≡ Some body)
+  unfolding kernel_side
+  in_kernel_half f func names e = let body = bodies f func names in (body.0, ap (λ (b : Bool). chosen (not b) (body_of program f) None) e ∙ body.1)
+
+  in_user_half : (f : ℕ) (func : Func) → slice_get program.funcs f ≡ Some func → is_user plan f ≡ true → (body : Body) × ((driver_of program plan).user.own f ≡ Some body)
+  unfolding user_side
+  in_user_half f func names e = let body = bodies f func names in (body.0, ap (λ (b : Bool). chosen (not b) None (body_of program f)) e ∙ body.1)
+
+  not_in_user_half : (f : ℕ) (func : Func) → slice_get program.funcs f ≡ Some func → (driver_of program plan).user.own f ≡ None → (body : Body) × ((driver_of program plan).kernel.own f ≡ Some body)
+  not_in_user_half f func names none = of (is_user plan f) refl where
+    of : (b : Bool) → is_user plan f ≡ b → (body : Body) × ((driver_of program plan).kernel.own f ≡ Some body)
+    of true e = no_body (in_user_half f func names e).0 (sym none ∙ (in_user_half f func names e).1)
+    of false e = in_kernel_half f func names e
+
+  have_halves : HaveHalves (driver_of program plan)
+  have_halves = record { across = not_in_user_half; kernel = in_kernel_half; user = in_user_half }
+
 pub programs_are_drivers : ProgramsAreDrivers
-programs_are_drivers = record { driver = is_driver; first = takes_first; kernel = λ program plan roots halves are same bodies callees h. stays program plan roots halves are same bodies callees h; handlers = λ program plan roots halves are same bodies callees rooted f x. handler_body program plan roots halves are same bodies callees rooted f x }
+programs_are_drivers = record {
+  driver = is_driver;
+  first = takes_first;
+  halves = λ program bodies plan. have_halves program bodies plan;
+  kernel = λ program plan roots halves are same bodies callees h. stays program plan roots halves are same bodies callees h;
+  handlers = λ program plan roots halves are same bodies callees rooted f x. handler_body program plan roots halves are same bodies callees rooted f x;
+}

@@ -19,4 +19,5 @@ pub mod Globals
 pub mod First
 pub mod Drivers
 pub mod Scripts
+pub mod Backs
 pub mod Services

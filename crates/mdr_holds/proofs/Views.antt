@@ -16,8 +16,8 @@ use Rattle.mdr_watched.specs.Views.{living}
 use Rattle.mdr_watched.proofs.Living.{all_living, births_grow, living_born, living_killed, living_put}
 use Rattle.mdr_watched.specs.Driver.{Driver}
 use Rattle.mdr_watched.specs.Order.{AllAreLive, IsInOrder}
-use Rattle.mdr_watched.specs.Watched.{kernel_of}
-use Rattle.mdr_watched.proofs.KeepLaws.{IsKept, kernel_call_keeps, served_keeps}
+use Rattle.mdr_watched.specs.Watched.{kernel_of, may_not}
+use Rattle.mdr_watched.proofs.KeepLaws.{IsKept, kernel_call_keeps, may_not_keeps, served_keeps}
 use Rattle.mdr_holds.specs.Leaving.{ViewsStay}
 
 -- each cell of the sets is of a block that was born before
@@ -77,4 +77,4 @@ pub served_views : (program : Program) (a : Asked) (w : World) → IsInOrder w �
 served_views program a w o = (served_keeps (AreLeft w.views) (left_kept w.views) program a w (begins_left w o)).at_end.stay
 
 pub called_views : (d : Driver) (f : ℕ) (args : List Wire) (depth : ℕ) (w : World) → IsInOrder w → ViewsStay w (left (call (kernel_of d) (interrupts (kernel_of d)) f args depth w))
-called_views d f args depth w o = (kernel_call_keeps (AreLeft w.views) (left_kept w.views) d f args depth w (begins_left w o)).at_end.stay
+called_views d f args depth w o = (kernel_call_keeps (AreLeft w.views) (left_kept w.views) d may_not (may_not_keeps (AreLeft w.views) (left_kept w.views) d) f args depth w (begins_left w o)).at_end.stay

@@ -33,9 +33,9 @@ use Rattle.mdr_model.specs.declared.message.New.{New}
 use Rattle.mdr_model.specs.Agreement.{AreBlocks}
 use Rattle.mdr_model.specs.Memory.{Memory, born_at, everywhere, leaf_at, normal, reached}
 use Rattle.mdr_plain.specs.declared.outcome.Happened.TheVariants as happened
-use Rattle.mdr_plain.specs.Plain.{never, plain_of, whole}
-use Rattle.mdr_plain.specs.Running.{Before, Crossing, call, interrupts, nothing, run}
-use Rattle.mdr_plain.specs.Scripts.{Beginning, Did, Opens, begin, begun, first_world, showed}
+use Rattle.mdr_plain.specs.Plain.{never, plain_of}
+use Rattle.mdr_plain.specs.Running.{Before, Crossing, KernelCode, call, in_kernel, interrupts, nothing, run}
+use Rattle.mdr_plain.specs.Scripts.{Beginning, Did, Enters, Opens, begin, begun, commands, first_world, returned, showed}
 use Rattle.mdr_plain.specs.Services.{served}
 use Rattle.mdr_plain.specs.Storage.{accesses, next_serial}
 use Rattle.mdr_plain.specs.World.{World, Ran, left, noted}
@@ -48,7 +48,7 @@ use Rattle.mdr_slice.specs.Graph.{AreCallees}
 use Rattle.mdr_slice.specs.Halves.{AreHalves}
 use Rattle.mdr_watched.specs.Driver.{Driver, driver_of, is_user}
 use Rattle.mdr_watched.specs.Order.{IsInOrder}
-use Rattle.mdr_watched.specs.Watched.{does, downcall, held, kernel_of, serves, upcall, watched_of}
+use Rattle.mdr_watched.specs.Watched.{calls_back, does, does_with, downcall, held, kernel_of, kernel_with, may_not, serves, upcall, watched_of}
 use Rattle.mdr_holds.specs.Holding.{Holds, IsHandler, IsWord, PutWords, first_knowledge, shape_of}
 use Rattle.mdr_holds.specs.Leaving.{AreObjects, IsAsBefore, Later, Leads, Returns, ViewsStay}
 
@@ -163,15 +163,30 @@ pub record IsCalled (program : Program) (K : Knowledge) (f : ℕ) (func : Func) 
   pub names : slice_get program.funcs f ≡ Some func
   pub fit : AllFit program K args (map (λ (p : Param). p.ty) func.params)
 
+-- each call of a function of the other half with arguments that fit, whoever makes it
+abbrev pub CallsAcross : Program → Uses → Crossing → Type 0
+CallsAcross program uses crosses =
+    (K : Knowledge) (w : World) → K.uses ≡ uses → Holds program K w → (at : At) (f : ℕ) (args : List Wire) (depth : ℕ) (func : Func) → IsCalled program K f func args
+    → Returns program (next_serial w) func.result K w (crosses at f args depth w)
+
 -- ---- code of the kernel half, and of a whole driver
 
+-- code of a side, which calls the other half so
+abbrev pub code_with : Program → Side → Crossing → KernelCode
+code_with program side crosses = record { program = program; side = side; setting = in_kernel program crosses }
+
 pub record KernelCodeLeaves : Type 0 where
-  pub alone : (program : Program) → IsSound program → (uses : Uses) → IsAround program uses (served program) never nothing
-  pub interrupted : (program : Program) → IsSound program → (uses : Uses) (side : Side) → IsCode program uses side → IsAround program uses (served program) never (interrupts (whole program side))
+  -- calls that give nothing, and those that may not be made
+  pub never : (program : Program) (uses : Uses) → CallsAcross program uses never
+  pub may_not : (program : Program) (uses : Uses) → CallsAcross program uses may_not
+  pub alone : (program : Program) → IsSound program → (uses : Uses) (crosses : Crossing) → CallsAcross program uses crosses → IsAround program uses (served program) crosses nothing
+  -- handlers call the other half so, and other code so
+  pub interrupted : (program : Program) → IsSound program → (uses : Uses) (side : Side) → IsCode program uses side → (handlers crosses : Crossing) → CallsAcross program uses handlers → CallsAcross program uses crosses
+      → IsAround program uses (served program) crosses (interrupts (code_with program side handlers))
   -- with any number of functions active
-  pub called : (program : Program) → IsSound program → (uses : Uses) (side : Side) → IsCode program uses side → (before : Before) → IsAround program uses (served program) never before
+  pub called : (program : Program) → IsSound program → (uses : Uses) (side : Side) → IsCode program uses side → (crosses : Crossing) → CallsAcross program uses crosses → (before : Before) → Try program uses before
       → (K : Knowledge) (w : World) → K.uses ≡ uses → Holds program K w → (f : ℕ) (func : Func) (args : List Wire) (depth : ℕ) → IsCalled program K f func args
-      → Returns program (next_serial w) func.result K w (call (whole program side) before f args depth w)
+      → Returns program (next_serial w) func.result K w (call (code_with program side crosses) before f args depth w)
   pub views : (d : Driver) (f : ℕ) (args : List Wire) (depth : ℕ) (w : World) → IsInOrder w → ViewsStay w (left (call (kernel_of d) (interrupts (kernel_of d)) f args depth w))
 
 -- ---- code of the user half
@@ -181,11 +196,13 @@ pub record IsDriver (d : Driver) (uses : Uses) : Type 0 where
   pub kernel : IsCode d.program uses d.kernel
   pub user : IsCode d.program uses d.user
 
--- while it is held to its cells
+-- while it is held to its cells, whatever the kernel half does with its calls back
 pub record UserCodeLeaves : Type 0 where
-  pub around : (d : Driver) (uses : Uses) → IsDriver d uses → (t : ℕ) → IsAround d.program uses (serves d (held d) t) (downcall d (held d) t) nothing
-  pub called : (d : Driver) (uses : Uses) → IsDriver d uses → (K : Knowledge) (w : World) → K.uses ≡ uses → Holds d.program K w → (f : ℕ) (func : Func) (args : List Wire) → IsCalled d.program K f func args
-      → Returns d.program (next_serial w) func.result K w (upcall d (held d) f args w)
+  pub around : (d : Driver) (uses : Uses) → IsDriver d uses → (crosses : Crossing) → CallsAcross d.program uses crosses → (t : ℕ) → IsAround d.program uses (serves d (held d) t) (downcall d (held d) t crosses) nothing
+  pub called : (d : Driver) (uses : Uses) → IsDriver d uses → (crosses : Crossing) → CallsAcross d.program uses crosses → (K : Knowledge) (w : World) → K.uses ≡ uses → Holds d.program K w
+      → (f : ℕ) (func : Func) (args : List Wire) (depth : ℕ) → IsCalled d.program K f func args → Returns d.program (next_serial w) func.result K w (upcall d (held d) crosses f args depth w)
+  -- and so is it where kernel code calls it back, whatever room there is
+  pub back : (d : Driver) (uses : Uses) → IsDriver d uses → (room : ℕ) → CallsAcross d.program uses (calls_back d (held d) room)
 
 -- ---- scripts
 
@@ -219,9 +236,10 @@ noted_command program (command.Show g) w = showed program g w
 noted_command program (command.Poke serial index n) w = w
 noted_command program (command.Say text) w = noted (happened.Say text) w
 
--- a command was done, or a function of the user half is called, with arguments that fit
+-- a command was done, or a function of either half is called, with arguments that fit
 abbrev pub BeginsRight : Program → Knowledge → World → Beginning → Type 0
 BeginsRight program K w (Did work) = Leads (Later program (next_serial w) K w) (λ K' x w'. IsAsBefore w w') work
+BeginsRight program K w (Enters f args w') = (func : Func) × IsCalled program K f func args × (w' ≡ w)
 BeginsRight program K w (Opens f args w') = (func : Func) × IsCalled program K f func args × (w' ≡ w)
 
 pub record CommandsLeave : Type 0 where
@@ -229,6 +247,10 @@ pub record CommandsLeave : Type 0 where
   pub noted : (program : Program) (K : Knowledge) (w : World) (c : Command) → Holds program K w → Holds program K (noted_command program c w)
   pub begins : (d : Driver) (uses : Uses) → IsDriver d uses → (K : Knowledge) (w : World) → K.uses ≡ uses → Holds d.program K w → (c : Command) → IsCommand d.program c
       → BeginsRight d.program K (noted_command d.program c w) (begin (kernel_of d) (is_user d.plan) c w)
+  -- a function of the kernel half that a command calls, whatever it calls back
+  pub entered : (d : Driver) (uses : Uses) → IsDriver d uses → (crosses : Crossing) → CallsAcross d.program uses crosses → (K : Knowledge) (w : World) → K.uses ≡ uses → Holds d.program K w
+      → (f : ℕ) (func : Func) (args : List Wire) → IsCalled d.program K f func args
+      → Leads (Later d.program (next_serial w) K w) (λ K' x w'. IsAsBefore w w') (returned (interrupts (kernel_of d)) (call (kernel_with d crosses) (interrupts (kernel_of d)) f args 0 w))
   pub done : (d : Driver) (uses : Uses) → IsDriver d uses → (K : Knowledge) (w : World) → K.uses ≡ uses → Holds d.program K w → (c : Command) → IsCommand d.program c
       → Leads (Later d.program (next_serial (noted_command d.program c w)) K (noted_command d.program c w)) (λ K' x w'. IsAsBefore (noted_command d.program c w) w') (does d (held d) c w)
 
@@ -236,6 +258,27 @@ pub record CommandsLeave : Type 0 where
 pub record RunsHold : Type 0 where
   pub watched : (d : Driver) (uses : Uses) → IsDriver d uses → TakesFirst d.program uses → (script : Bound) → IsScript d.program script → (budget : ℕ) → (K : Knowledge) × Holds d.program K (watched_of d script budget).world
   pub plain : (program : Program) → IsSound program → (uses : Uses) (side : Side) → IsCode program uses side → TakesFirst program uses → (script : Bound) → IsScript program script → (budget : ℕ) → (K : Knowledge) × Holds program K (plain_of program side script budget).world
+
+-- ---- where kernel code calls nothing back
+
+-- each function that user code calls across has its body in the kernel half, and each has one in the half that a command looks for it in
+pub record HaveHalves (d : Driver) : Type 0 where
+  pub across : (f : ℕ) (func : Func) → slice_get d.program.funcs f ≡ Some func → d.user.own f ≡ None → (body : Body) × (d.kernel.own f ≡ Some body)
+  pub kernel : (f : ℕ) (func : Func) → slice_get d.program.funcs f ≡ Some func → is_user d.plan f ≡ false → (body : Body) × (d.kernel.own f ≡ Some body)
+  pub user : (f : ℕ) (func : Func) → slice_get d.program.funcs f ≡ Some func → is_user d.plan f ≡ true → (body : Body) × (d.user.own f ≡ Some body)
+
+-- there it is no matter what calls back do: of kernel code, of upcalls, of commands, and of a whole run
+pub record CallsBackAreNone : Type 0 where
+  pub called : (d : Driver) (uses : Uses) → IsDriver d uses → CallsItself uses d.kernel → (crosses other : Crossing) → CallsAcross d.program uses crosses → (K : Knowledge) (w : World) → K.uses ≡ uses → Holds d.program K w
+      → (f : ℕ) (func : Func) (args : List Wire) (depth : ℕ) → IsCalled d.program K f func args → (body : Body) → d.kernel.own f ≡ Some body
+      → call (kernel_with d crosses) (interrupts (kernel_of d)) f args depth w ≡ call (kernel_with d other) (interrupts (kernel_of d)) f args depth w
+  pub upcall : (d : Driver) (uses : Uses) → IsDriver d uses → CallsItself uses d.kernel → HaveHalves d → (crosses other : Crossing) → CallsAcross d.program uses crosses → (K : Knowledge) (w : World) → K.uses ≡ uses → Holds d.program K w
+      → (f : ℕ) (func : Func) (args : List Wire) (depth : ℕ) → IsCalled d.program K f func args → (body : Body) → d.user.own f ≡ Some body
+      → upcall d (held d) crosses f args depth w ≡ upcall d (held d) other f args depth w
+  pub does : (d : Driver) (uses : Uses) → IsDriver d uses → CallsItself uses d.kernel → HaveHalves d → (crosses other : Crossing) → CallsAcross d.program uses crosses → (K : Knowledge) (w : World) → K.uses ≡ uses → Holds d.program K w
+      → (c : Command) → IsCommand d.program c → does_with d (held d) crosses c w ≡ does_with d (held d) other c w
+  pub watched : (d : Driver) (uses : Uses) → IsDriver d uses → CallsItself uses d.kernel → HaveHalves d → TakesFirst d.program uses → (script : Bound) → IsScript d.program script → (budget : ℕ)
+      → watched_of d script budget ≡ commands (does_with d (held d) may_not) script.commands (first_world d.kernel.known script budget)
 
 -- ---- what meets these conditions
 
@@ -247,6 +290,8 @@ HaveBodies program = (f : ℕ) (func : Func) → slice_get program.funcs f ≡ S
 pub record ProgramsAreDrivers : Type 0 where
   pub driver : (program : Program) → IsSound program → (plan : Plan) (callees : List (List ℕ)) → AreCallees program true callees → IsDriver (driver_of program plan) (uses_by program callees)
   pub first : (program : Program) (callees : List (List ℕ)) → TakesFirst program (uses_by program callees)
+  -- each function has its body in one of the halves, where each has one
+  pub halves : (program : Program) → HaveBodies program → (plan : Plan) → HaveHalves (driver_of program plan)
   -- where the plan has the halves, and each function has a body, code of the kernel half calls no other function, calls back aside
   pub kernel : (program : Program) (plan : Plan) (roots : List ℕ) (halves : Halves) → AreHalves program roots halves → plan.halves ≡ halves.halves → HaveBodies program → (callees : List (List ℕ)) → AreCallees program false callees
       → CallsItself (uses_by program callees) (driver_of program plan).kernel

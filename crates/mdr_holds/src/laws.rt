@@ -1,6 +1,6 @@
 // Laws, each as a function that does nothing.
 
-ghost use Rattle.mdr_holds.specs.Laws.{CodeAgrees, CodeLeaves, CodeStays, CommandsLeave, KernelCodeLeaves, ProgramsAreDrivers, RunsHold, ServicesLeave, StatesHold, UserCodeLeaves};
+ghost use Rattle.mdr_holds.specs.Laws.{CallsBackAreNone, CodeAgrees, CodeLeaves, CodeStays, CommandsLeave, KernelCodeLeaves, ProgramsAreDrivers, RunsHold, ServicesLeave, StatesHold, UserCodeLeaves};
 
 /// A state that holds is in order, with blocks and globals as laws of memories want them; a known pointer names a block of
 /// the shape that is known; and values fit as they are passed.
@@ -48,6 +48,12 @@ pub fn commands_leave()
 /// So the whole run of a script leaves one, on one memory with user code held to its cells or not.
 pub fn runs_hold()
     ensures { RunsHold }
+{}
+
+/// Where code of the kernel half calls no function of the user half, it is no matter what such a call would do: a run is the
+/// one in which none may be made.
+pub fn calls_back_are_none()
+    ensures { CallsBackAreNone }
 {}
 
 /// A sound program with any plan is such a driver, by what the call graph says; and with the halves that the slicer gives

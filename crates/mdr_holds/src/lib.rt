@@ -5,6 +5,6 @@
 mod laws;
 
 pub use laws::{
-    code_agrees, code_leaves, code_stays, commands_leave, kernel_code_leaves, programs_are_drivers,
-    runs_hold, services_leave, states_hold, user_code_leaves,
+    calls_back_are_none, code_agrees, code_leaves, code_stays, commands_leave, kernel_code_leaves,
+    programs_are_drivers, runs_hold, services_leave, states_hold, user_code_leaves,
 };

@@ -4,3 +4,4 @@ pub mod Bindings
 pub mod ScriptTexts
 pub mod FittingScripts
 pub mod Meant
+pub mod Apart

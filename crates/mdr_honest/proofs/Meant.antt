@@ -10,6 +10,7 @@ use Rattle.mdr_model.specs.KernelState.{Reading}
 use Rattle.mdr_model.specs.Reading.{reading_of}
 use Rattle.mdr_model.specs.Text.{text}
 use Rattle.mdr_msg.specs.WellFormed.{IsMessage}
+use Rattle.mdr_source.proofs.NothingBack.{body_calls_nothing_back}
 use Rattle.mdr_source.specs.declared.outcome.Source.{Source}
 use Rattle.mdr_split.specs.User.{user_reply}
 use Rattle.mdr_watched.specs.Driver.{Driver, driver_of}
@@ -58,5 +59,10 @@ meaning bytes script_bytes source plan script budget l es o cut scripted texts h
     let s = cut.source_is in
     let sound = source_sound bytes source s in
     let runnable : IsRunnable source.program plan script =
-    record { bodies = source_bodies bytes source s; planned = its_plan source.program plan cut.plan_is; fits = scripts_fit source.program script_bytes script sound scripted } in
+    record {
+      nothing_back = body_calls_nothing_back source.program.funcs s.no_back;
+      bodies = source_bodies bytes source s;
+      planned = its_plan source.program plan cut.plan_is;
+      fits = scripts_fit source.program script_bytes script sound scripted;
+    } in
     honest_runs_are_meant source.program plan script budget es o sound ran runnable (replies_are source plan l es (texts_are_loaded bytes source plan cut) texts honest)

@@ -1,5 +1,5 @@
 -- A strict run that meets no stop is the followed run, and the watched one.
-use Rattle.std.proofs.Common.{is_some, ◌≡◌, ℕ, zero, suc, Bool, true, false, List, [], ◌∷◌, Option, Some, None, Result, Ok, Err, refl, sym, ◌∙◌, ap, subst}
+use Rattle.std.proofs.Common.{◌≡◌, ℕ, zero, suc, Bool, true, false, List, [], ◌∷◌, Option, Some, None, Result, Ok, Err, refl, sym, ◌∙◌, ap, subst}
 use Rattle.std.specs.Prelude.{map}
 use Rattle.mdr_core.specs.declared.place.At.{At}
 use Rattle.mdr_core.specs.declared.stop.StopKind.{StopKind}
@@ -15,7 +15,6 @@ use Rattle.mdr_model.specs.declared.memory.Cell.{Cell}
 use Rattle.mdr_model.specs.declared.outcome.End.TheVariants as ends
 use Rattle.mdr_model.specs.Memory.{Memory, normal}
 use Rattle.mdr_plain.specs.Gate.{are_none, due}
-use Rattle.mdr_plain.specs.Plain.{never}
 use Rattle.mdr_plain.specs.Running.{Before, Crossing, Setting, all_cells, call, handled, interrupted, interrupts, nothing, run}
 use Rattle.mdr_plain.specs.Scripts.{Finish, and_then, begin, begun, called_by, commands, idle, in_place, returned}
 use Rattle.mdr_plain.specs.Services.{served}
@@ -25,10 +24,10 @@ use Rattle.mdr_bound.specs.declared.bound.Bound.{Bound}
 use Rattle.mdr_watched.specs.Driver.{Driver, driver_of, is_user}
 use Rattle.mdr_watched.specs.Kept.{due_plainly, followed_of, free, meets_none, meets_user, unless_due}
 use Rattle.mdr_watched.specs.Views.{may_touch, taken}
-use Rattle.mdr_watched.specs.Watched.{Tries, closing, does as does_by, downcall, entered as entered_by, held, kernel_of, serves, upcall as upcall_by, watched_of}
+use Rattle.mdr_watched.specs.Watched.{Tries, backs, closing, does_with, downcall, entered as entered_by, held, kernel_of, kernel_with, may_not, serves, upcall as upcall_by, watched_of}
 use Rattle.mdr_watched.proofs.WaitLaws.{none_due}
 use Rattle.mdr_kept.specs.Laws.{StrictRunsAreFollowed}
-use Rattle.mdr_kept.specs.Strict.{asks, call_alone, called, crosses_nowhere, does, entered, goes_down, handled_alone, is_any_gone, is_gone, now, run_alive, strict_of, tries, unless, upcall}
+use Rattle.mdr_kept.specs.Strict.{asks, call_alone, called, does, entered, goes_down, handled_alone, is_any_gone, is_gone, now, run_alive, strict_of, tries, unless, upcall}
 use Rattle.mdr_kept.proofs.EvenLaws.{normal_alive}
 
 -- ---- work that ends alike
@@ -109,15 +108,16 @@ module _ (a : Accesses World) (asked asked' : Asked → World → Ran (List Wire
 module _ (d : Driver) where
   -- ---- the kernel half
 
-  calls_lead : (before before' : Before) → ((n : ℕ) (w : World) → Leads (before n w) (before' n w)) → (f : ℕ) (args : List Wire) (depth : ℕ) (w : World)
-      → Leads (call_alone d before f args depth w) (call (kernel_of d) before' f args depth w)
+  -- whatever a call of the other half does: here the run ends at one
+  calls_lead : (crosses : Crossing) (before before' : Before) → ((n : ℕ) (w : World) → Leads (before n w) (before' n w)) → (f : ℕ) (args : List Wire) (depth : ℕ) (w : World)
+      → Leads (call_alone d before f args depth w) (call (kernel_with d crosses) before' f args depth w)
   unfolding call
-  calls_lead before before' tried f args depth w =
-      runs_lead (accesses d.program all_cells) (served d.program) (served d.program) (crosses_nowhere d) never before before' tried (λ q w'. same _) (λ at g vs n w'. leads_unless (is_some (d.user.own g)) (Some at) w' _ _ (same _)) _ w
+  calls_lead crosses before before' tried f args depth w =
+      runs_lead (accesses d.program all_cells) (served d.program) (served d.program) may_not crosses before before' tried (λ q w'. same _) (λ at g vs n w'. never_ends _ _ w' _) _ w
 
   handled_leads : (n : ℕ) (o : Option ℕ) (w : World) → Leads (handled_alone d n o w) (handled (kernel_of d) n o w)
   handled_leads n None w = same _
-  handled_leads n (Some f) w = leads_after _ _ _ _ (calls_lead nothing nothing (λ n' w'. same _) f [] n (interrupted f w)) (λ v w'. same _)
+  handled_leads n (Some f) w = leads_after _ _ _ _ (calls_lead may_not nothing nothing (λ n' w'. same _) f [] n (interrupted f w)) (λ v w'. same _)
 
   interrupts_lead : (n : ℕ) (w : World) → Leads (handled_alone d n (due w) w) (interrupts (kernel_of d) n w)
   unfolding interrupts
@@ -148,35 +148,41 @@ module _ (d : Driver) where
 
   -- ---- upcalls and commands
 
-  module _ (by : Tries) (kernel_tried : (n : ℕ) (w : World) → Leads (tries d n w) (by.kernel n w)) (user_tried : (n : ℕ) (w : World) → Leads (meets_user n w) (by.user n w)) where
+  module _ (by : Tries) (crosses : Crossing) (kernel_tried : (n : ℕ) (w : World) → Leads (tries d n w) (by.kernel n w)) (user_tried : (n : ℕ) (w : World) → Leads (meets_user n w) (by.user n w)) where
     asks_lead : (t : ℕ) (q : Asked) (w : World) → Leads (asks d t q w) (serves d by t q w)
     asks_lead t q w = leads_unless (is_any_gone w.memory q.args) (Some q.at) w _ _ (same _)
 
-    downs_lead : (t : ℕ) (at : At) (f : ℕ) (args : List Wire) (depth : ℕ) (w : World) → Leads (goes_down d t at f args depth w) (downcall d by t at f args depth w)
+    downs_lead : (t : ℕ) (at : At) (f : ℕ) (args : List Wire) (depth : ℕ) (w : World) → Leads (goes_down d t at f args depth w) (downcall d by t crosses at f args depth w)
     downs_lead t at f args depth w =
-        leads_unless (is_any_gone w.memory args) (Some at) w _ _ (leads_after _ _ _ _ (calls_lead (tries d) by.kernel kernel_tried f (now w args) depth w) (λ v w'. same _))
+        leads_unless (is_any_gone w.memory args) (Some at) w _ _ (leads_after _ _ _ _ (calls_lead crosses (tries d) by.kernel kernel_tried f (now w args) depth w) (λ v w'. same _))
 
-    entered_leads : (f : ℕ) (args : List Wire) (set : List Cell) (w : World) → Leads (entered d f args set w) (entered_by d by f args set w)
+    entered_leads : (f : ℕ) (args : List Wire) (set : List Cell) (w : World) → Leads (entered d f args set w) (entered_by d by crosses f args 0 set w)
     entered_leads f args set w = leads_closing _ _
-        (runs_lead (accesses d.program may_touch) (asks d f) (serves d by f) (goes_down d f) (downcall d by f) meets_user by.user user_tried (asks_lead f) (downs_lead f) _ _)
+        (runs_lead (accesses d.program may_touch) (asks d f) (serves d by f) (goes_down d f) (downcall d by f crosses) meets_user by.user user_tried (asks_lead f) (downs_lead f) _ _)
 
-    upcalls_lead : (f : ℕ) (args : List Wire) (w : World) → Leads (upcall d f args w) (upcall_by d by f args w)
+    upcalls_lead : (f : ℕ) (args : List Wire) (w : World) → Leads (upcall d f args w) (upcall_by d by crosses f args 0 w)
     unfolding upcall_by
     upcalls_lead f args w = leads_taken _ _ w _ _ (λ set. entered_leads f args set w)
 
     returned_leads : (r s : Ran Wire) → Leads r s → Leads (returned (tries d) r) (returned (interrupts (kernel_of d)) s)
     returned_leads r s h = leads_after r s _ _ h (λ v w. tries_lead 0 _)
 
-    called_leads : (b : Bool) (f : ℕ) (args : List Wire) (w : World) → Leads (returned (tries d) (called d b f args w)) (in_place (kernel_of d) (upcall_by d by) (called_by b (kernel_of d) f args w))
+    abbrev enters : ℕ → List Wire → World → Ran Wire
+    enters f args w = call (kernel_with d crosses) by.kernel f args 0 w
+
+    abbrev opens : ℕ → List Wire → World → Ran Wire
+    opens f args w = upcall_by d by crosses f args 0 w
+
+    called_leads : (b : Bool) (f : ℕ) (args : List Wire) (w : World) → Leads (returned (tries d) (called d b f args w)) (in_place (kernel_of d) enters opens (called_by b (kernel_of d) f args w))
     called_leads true f args w = returned_leads _ _ (upcalls_lead f args w)
-    called_leads false f args w = returned_leads _ _ (calls_lead (tries d) (interrupts (kernel_of d)) tries_lead f args 0 w)
+    called_leads false f args w = returned_leads _ _ (calls_lead crosses (tries d) by.kernel kernel_tried f args 0 w)
 
     idle_leads : (n : ℕ) (w : World) → Leads (idle (tries d) n w) (idle (interrupts (kernel_of d)) n w)
     unfolding idle
     idle_leads zero w = same _
     idle_leads (suc n) w = leads_then _ _ _ _ (tries_lead 0 w) (λ w'. leads_counted w'.clock.rest None w' _ _ (λ w''. idle_leads n w''))
 
-    does_leads : (c : Command) (w : World) → Leads (does d c w) (does_by d by c w)
+    does_leads : (c : Command) (w : World) → Leads (does d c w) (does_with d by crosses c w)
     unfolding begin
     does_leads (command.Call f args) w = called_leads (is_user d.plan f) f (map wire_of args) (begun d.program f args w)
     does_leads (command.Idle n) w = leads_then _ _ _ _ (idle_leads n _) (λ w'. tries_lead 0 w')
@@ -191,18 +197,18 @@ module _ (d : Driver) where
     and_thens_agree (Ended x w) s go go' h later e = ap (λ q. and_then q go') (h.by x w refl) ∙ later w e
     and_thens_agree (Stopped kind at w) s go go' h later e = not_ok kind at e
 
-    commands_agree : (cs : List Command) (w : World) → (commands (does d) cs w).end ≡ ends.Ok → commands (does_by d by) cs w ≡ commands (does d) cs w
+    commands_agree : (cs : List Command) (w : World) → (commands (does d) cs w).end ≡ ends.Ok → commands (does_with d by crosses) cs w ≡ commands (does d) cs w
     unfolding commands
     commands_agree [] w e = refl
     commands_agree (c ∷ cs) w e = and_thens_agree _ _ _ _ (does_leads c w) (λ w' e'. commands_agree cs w' e') e
 
 followed_is_strict : (d : Driver) (script : Bound) (budget : ℕ) → (strict_of d script budget).end ≡ ends.Ok → followed_of d script budget ≡ strict_of d script budget
 unfolding strict_of followed_of
-followed_is_strict d script budget e = commands_agree d (free d) (tries_lead_freely d) (λ n w. same _) script.commands _ e
+followed_is_strict d script budget e = commands_agree d (free d) (backs d (free d)) (tries_lead_freely d) (λ n w. same _) script.commands _ e
 
 watched_is_strict : (d : Driver) (script : Bound) (budget : ℕ) → (strict_of d script budget).end ≡ ends.Ok → watched_of d script budget ≡ strict_of d script budget
 unfolding strict_of watched_of
-watched_is_strict d script budget e = commands_agree d (held d) (tries_lead d) (λ n w. unless_leads d (due_plainly w) w) script.commands _ e
+watched_is_strict d script budget e = commands_agree d (held d) (backs d (held d)) (tries_lead d) (λ n w. unless_leads d (due_plainly w) w) script.commands _ e
 
 pub strict_runs_are_followed : StrictRunsAreFollowed
 strict_runs_are_followed = record {

@@ -1,5 +1,5 @@
 -- Code of the kernel half, and of the user half, leads to the whole's code.
-use Rattle.std.proofs.Common.{is_some, ◌≡◌, ℕ, suc, ◌<◌, ◌≤◌, Bool, true, false, not, List, [], ◌∷◌, Option, Some, None, Result, Ok, Err, refl, sym, ◌∙◌, ap, subst, arith, le_refl}
+use Rattle.std.proofs.Common.{◌≡◌, ℕ, suc, ◌<◌, ◌≤◌, Bool, true, false, not, List, [], ◌∷◌, Option, Some, None, Result, Ok, Err, refl, sym, ◌∙◌, ap, subst, arith, le_refl}
 use Rattle.mdr_core.specs.declared.place.At.{At}
 use Rattle.mdr_core.specs.declared.plan.Plan.{Plan}
 use Rattle.mdr_core.specs.declared.program.Program.{Program}
@@ -7,7 +7,6 @@ use Rattle.mdr_core.specs.declared.types.Ty.TheVariants.{Void}
 use Rattle.mdr_core.specs.Layout.{chosen}
 use Rattle.mdr_extents.specs.Reaching.{Failing}
 use Rattle.mdr_meaning.specs.declared.wire.Wire.{Wire}
-use Rattle.mdr_meaning.specs.declared.wire.Wire.TheVariants as wire
 use Rattle.mdr_meaning.specs.Bodies.{body_of, kernel_side, known_of, means, started, user_side, whole_side}
 use Rattle.mdr_meaning.specs.Calls.{goes_to}
 use Rattle.mdr_meaning.specs.Lives.{asked_for, deaths_by}
@@ -25,11 +24,11 @@ use Rattle.mdr_plain.specs.World.{World, Ran, Ended, Stopped, after}
 use Rattle.mdr_watched.specs.Driver.{Driver, driver_of, is_user, touched_by}
 use Rattle.mdr_watched.specs.Kept.{due_plainly, free, meets_user, unless_due}
 use Rattle.mdr_watched.specs.Views.{gained, may_touch, opened, renewed, taken}
-use Rattle.mdr_watched.specs.Watched.{closing, returns_to}
-use Rattle.mdr_kept.specs.Strict.{asks, call_alone, called, crosses_nowhere, goes_down, handled_alone, in_user, is_any_gone, is_gone, now, run_alive, tries, unless}
+use Rattle.mdr_watched.specs.Watched.{closing, may_not, returns_to}
+use Rattle.mdr_kept.specs.Strict.{asks, call_alone, called, goes_down, handled_alone, in_user, is_any_gone, is_gone, now, run_alive, tries, unless}
 use Rattle.mdr_kept.proofs.EvenLaws.{Both, Ends, Even, Leads, all_alive, deaths_alike, deaths_rest, due_alike, ended, even_noted, even_rest, fewer, leads_after, leads_unless, never_ends, normal_alive, normal_like, served_leads}
 use Rattle.mdr_kept.proofs.GoesLaws.{Goes, after_after, goes_ask, goes_birth, goes_born, goes_death, goes_fresh, goes_load, goes_read, goes_stop, goes_store, goes_tick}
-use Rattle.mdr_kept.proofs.LikeLaws.{AreLike, Like, Same, same_list}
+use Rattle.mdr_kept.proofs.LikeLaws.{AreLike, Like, same_list}
 use Rattle.mdr_kept.proofs.PartLaws.{Absent, IsFar, IsPart, Rules, Shared, starts_alike}
 
 same_part : (o : Option Body) → IsPart o o
@@ -43,11 +42,6 @@ kernel_part false o = Absent o
 user_part : (b : Bool) (o : Option Body) → IsPart (chosen b None o) o
 user_part true o = Absent o
 user_part false o = same_part o
-
--- a function with a body has it in one of the halves
-neither_has : (b : Bool) (o : Option Body) → chosen b o None ≡ None → chosen b None o ≡ None → o ≡ None
-neither_has true o e f = e
-neither_has false o e f = f
 
 after_ended : {A : Type 0} (r : Ran A) → after r Ended ≡ r
 after_ended (Ended x w) = refl
@@ -94,32 +88,25 @@ module _ (program : Program) (plan : Plan) where
 
   module _ (before before' : Before) (go : Wire → World → Ran Wire) (tried : (n : ℕ) (w w' : World) → Even w w' → Leads Both w.clock.rest (before n w) (before' n w')) where
     abbrev InKernel : ℕ → Tree → Tree → Type 0
-    InKernel = Goes program all_cells (served program) (crosses_nowhere d) before before' go tried kernel_asks
+    InKernel = Goes program all_cells (served program) may_not before before' go tried kernel_asks
 
-    -- kernel code calls functions of its half alone, with or without a body
+    -- kernel code calls functions of its half alone: at another the run ends
     kernel_crosses : (r : ℕ) (here : Here) (at at' : At) (f : ℕ) (args args' : List Wire) (k l : Wire → Tree) (low : Means) → kernel_own f ≡ None → IsFar all r low → AreLike args args'
         → ((q : ℕ) → q ≤ r → (v w : Wire) → Like v w → InKernel q (k v) (l w)) → InKernel r (Tree.Cross at f args here.depth k) (goes_to all low here at' f args' (body_of program f) l)
-    unfolding run run_alive user_side
-    kernel_crosses r here at at' f args args' k l low none far like e = record { by = λ w w' even h. of w w' even h (user_own f) refl }
-      where
-        of : (w w' : World) → Even w w' → w.clock.rest ≤ r → (o : Option Body) → user_own f ≡ o
-            → Leads Like r (after (after (unless (is_some o) (Some at) w (Ended wire.NoValue w)) (λ v u. run_alive (in_kernel program (crosses_nowhere d)) before (k v) u)) go) (run (in_kernel program never) before' (goes_to all low here at' f args' (body_of program f) l) w')
-        of w w' even h (Some body) is = never_ends Like r _ _ w _
-        of w w' even h None is =
-            subst (λ o. Leads Like r (after (run_alive (in_kernel program (crosses_nowhere d)) before (k wire.NoValue) w) go) (run (in_kernel program never) before' (goes_to all low here at' f args' o l) w')) (sym (neither_has (is_kernel f) (body_of program f) none is))
-            ((e r (le_refl r) wire.NoValue wire.NoValue (Same _)).by w w' even h)
+    unfolding run run_alive
+    kernel_crosses r here at at' f args args' k l low none far like e = record { by = λ w w' even h. never_ends Like r _ _ w _ }
 
     kernel_rules : Rules InKernel false kernel_own all
     kernel_rules = record {
-      stop = goes_stop program all_cells (served program) (crosses_nowhere d) before before' go tried kernel_asks;
-      tick = goes_tick program all_cells (served program) (crosses_nowhere d) before before' go tried kernel_asks;
-      load = goes_load program all_cells (served program) (crosses_nowhere d) before before' go tried kernel_asks;
-      store = goes_store program all_cells (served program) (crosses_nowhere d) before before' go tried kernel_asks;
-      read = goes_read program all_cells (served program) (crosses_nowhere d) before before' go tried kernel_asks;
-      fresh = goes_fresh program all_cells (served program) (crosses_nowhere d) before before' go tried kernel_asks;
-      ask = goes_ask program all_cells (served program) (crosses_nowhere d) before before' go tried kernel_asks;
-      birth = goes_birth program all_cells (served program) (crosses_nowhere d) before before' go tried kernel_asks;
-      death = goes_death program all_cells (served program) (crosses_nowhere d) before before' go tried kernel_asks;
+      stop = goes_stop program all_cells (served program) may_not before before' go tried kernel_asks;
+      tick = goes_tick program all_cells (served program) may_not before before' go tried kernel_asks;
+      load = goes_load program all_cells (served program) may_not before before' go tried kernel_asks;
+      store = goes_store program all_cells (served program) may_not before before' go tried kernel_asks;
+      read = goes_read program all_cells (served program) may_not before before' go tried kernel_asks;
+      fresh = goes_fresh program all_cells (served program) may_not before before' go tried kernel_asks;
+      ask = goes_ask program all_cells (served program) may_not before before' go tried kernel_asks;
+      birth = goes_birth program all_cells (served program) may_not before before' go tried kernel_asks;
+      death = goes_death program all_cells (served program) may_not before before' go tried kernel_asks;
       cross = kernel_crosses;
     }
 

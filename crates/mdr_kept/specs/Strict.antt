@@ -1,6 +1,6 @@
 -- for proofs
 -- A followed run that also ends where the halves could be told from one piece of code.
-use Rattle.std.specs.Prelude.{ℕ, suc, Bool, true, false, not, ◌||◌, List, [], ◌∷◌, map, Option, Some, None, is_some}
+use Rattle.std.specs.Prelude.{ℕ, suc, Bool, true, false, not, ◌||◌, List, [], ◌∷◌, map, Option, Some, None}
 use Rattle.mdr_core.specs.declared.place.At.{At}
 use Rattle.mdr_core.specs.declared.stop.StopKind.TheVariants as stop
 use Rattle.mdr_core.specs.Layout.{chosen}
@@ -15,8 +15,7 @@ use Rattle.mdr_model.specs.declared.command.Command.TheVariants as command
 use Rattle.mdr_model.specs.declared.memory.Cell.{Cell}
 use Rattle.mdr_model.specs.Memory.{Memory, is_live, normal}
 use Rattle.mdr_plain.specs.Gate.{are_none, due}
-use Rattle.mdr_plain.specs.Plain.{never}
-use Rattle.mdr_plain.specs.Running.{Before, Crossing, Setting, handling, in_kernel, interrupted, nothing}
+use Rattle.mdr_plain.specs.Running.{Before, Setting, handling, in_kernel, interrupted, nothing}
 use Rattle.mdr_plain.specs.declared.outcome.Happened.TheVariants as happened
 use Rattle.mdr_plain.specs.Scripts.{Finish, begun, commands, first_world, idled, poked, returned, showed}
 use Rattle.mdr_plain.specs.Services.{served}
@@ -26,7 +25,7 @@ use Rattle.mdr_bound.specs.declared.bound.Bound.{Bound}
 use Rattle.mdr_watched.specs.Driver.{Driver, entry_roots, is_user, touched_by}
 use Rattle.mdr_watched.specs.Kept.{due_plainly, free, meets_user, unless_due}
 use Rattle.mdr_watched.specs.Views.{gained, may_touch, opened, taken}
-use Rattle.mdr_watched.specs.Watched.{closing, returns_to}
+use Rattle.mdr_watched.specs.Watched.{closing, may_not, returns_to}
 
 -- work, unless a test holds: then the run ends, at this place if any
 abbrev pub unless : {A : Type 0} → Bool → Option At → World → Ran A → Ran A
@@ -63,15 +62,12 @@ run_alive s before (Tree.Death at ps t) w = run_alive s before t (s.accesses.dea
 run_alive s before (Tree.Ask a k) w = after (s.serves a w) (λ results w'. run_alive s before (k results) w')
 run_alive s before (Tree.Cross at f args d k) w = after (s.crosses at f args d w) (λ v w'. run_alive s before (k v) w')
 
--- ---- kernel code calls no user code
+-- ---- kernel code calls its own half alone
 
 module _ (d : Driver) where
-  -- the run ends where a body of the user half is called
-  abbrev pub crosses_nowhere : Crossing
-  crosses_nowhere at f args depth w = unless (is_some (d.user.own f)) (Some at) w (never at f args depth w)
-
+  -- the run ends where it calls a function of the other half
   abbrev pub in_kernel_alone : Setting
-  in_kernel_alone = in_kernel d.program crosses_nowhere
+  in_kernel_alone = in_kernel d.program may_not
 
   abbrev pub call_alone : Before → (func : ℕ) (args : List Wire) (depth : ℕ) → World → Ran Wire
   call_alone before f args depth w = run_alive in_kernel_alone before (started d.kernel (suc w.clock.rest) f args depth Tree.Idle) w
@@ -118,6 +114,6 @@ module _ (d : Driver) where
   does (command.Poke serial index n) w = done (poked serial index n w)
   does (command.Say text) w = done (noted (happened.Say text) w)
 
--- the followed run (`followed_of`), which ends too where user code passes a pointer to a block that has died, to kernel code or with a question, where a function gives one, and where kernel code calls user code
+-- the followed run (`followed_of`), which ends too where user code passes a pointer to a block that has died, to kernel code or with a question, where a function gives one, and where kernel code calls the other half
 unfoldable pub strict_of : Driver → Bound → (budget : ℕ) → Finish
 strict_of d script budget = commands (does d) script.commands (first_world d.kernel.known script budget)

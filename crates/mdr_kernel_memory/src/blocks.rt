@@ -34,7 +34,11 @@ fn wire_now(blocks: &RegionBlocks, v: Value) -> Wire
     wire_of(value_now(blocks, v))
 }
 
-fn wires_now(blocks: &RegionBlocks, alloc: Global, cells: &[Value]) -> Result<Items<Wire>, OutOfMemory>
+fn wires_now(
+    blocks: &RegionBlocks,
+    alloc: Global,
+    cells: &[Value],
+) -> Result<Items<Wire>, OutOfMemory>
     ensures { IfOk result (λ ws. ws ≡ map (wire_in blocks.now.handles) cells.now) }
 {
     let mut wires = Items::new(alloc);

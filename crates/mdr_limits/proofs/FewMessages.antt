@@ -31,7 +31,7 @@ use Rattle.mdr_split.specs.Services.{counted}
 use Rattle.mdr_split.specs.State.{Kernel, Open, Rest, Noted, Pending, Over, Waits}
 use Rattle.mdr_watched.specs.Driver.{Driver, entry_roots, is_user, touched_by}
 use Rattle.mdr_watched.specs.Views.{closed, opened}
-use Rattle.mdr_watched.specs.Watched.{downcall, held, kernel_of, serves}
+use Rattle.mdr_watched.specs.Watched.{downcall, held, kernel_of, may_not, serves}
 use Rattle.mdr_limits.proofs.FewSteps.{IsLater, Leads, asks_lead, downcall_leads, goes_taken, idled_leads, itself, kernel_call_leads, returned_leads}
 
 -- ---- what is paid for
@@ -165,7 +165,7 @@ module _ (d : Driver) where
       did_paid (applied ticks runs k).world (ended d v (applied ticks runs k).world) (applied ticks runs k) (λ k'. split_commands d script k') (applied_pays k.exchanges k ticks runs p)
       (returned_leads (applied ticks runs k).world d (Ended v (closed (applied ticks runs k).world)) (record { at_end = itself (applied ticks runs k).world })) (λ k' p'. commands_paid script k' p')
   taken_paid (replies.Down ticks at depth func args runs) k upcall rest script e p =
-      down_paid (downcall d (held d) upcall.func at func args depth (applied ticks runs k).world) (applied ticks runs k) upcall rest script (down_pays d k upcall rest ticks at depth func args runs e)
+      down_paid (downcall d (held d) upcall.func may_not at func args depth (applied ticks runs k).world) (applied ticks runs k) upcall rest script (down_pays d k upcall rest ticks at depth func args runs e)
       (downcall_leads (applied ticks runs k).world d upcall.func at func args depth (applied ticks runs k).world (itself (applied ticks runs k).world))
   taken_paid (replies.Ask ticks at service args shapes bytes runs) k upcall rest script e p =
       let asked : Asked = record { service = service; at = at; args = args; shapes = shapes; bytes = bytes } in

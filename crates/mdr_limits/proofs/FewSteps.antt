@@ -29,7 +29,7 @@ use Rattle.mdr_plain.specs.Storage.{births, born, deaths, died, died_at, new_of,
 use Rattle.mdr_plain.specs.World.{World, Ran, Ended, Stopped, Work, advanced, after, counted, given, left, noted, then}
 use Rattle.mdr_watched.specs.Driver.{Driver, result_roots, touched_by}
 use Rattle.mdr_watched.specs.Views.{renewed, taken, top}
-use Rattle.mdr_watched.specs.Watched.{downcall, held, kernel_of, serves}
+use Rattle.mdr_watched.specs.Watched.{downcall, held, kernel_of, may_not, serves}
 
 -- since the first state no tick was taken back, and no command began to call a function
 abbrev pub IsLater : (first w : World) → Type 0
@@ -174,7 +174,7 @@ module _ (first : World) where
       run_leads (Tree.Birth at shapes k) w e = run_leads (k (births d.program Auto shapes w).pointers) (births d.program Auto shapes w).memory (births_later d.program Auto shapes w e)
       run_leads (Tree.Death at ps t) w e = run_leads t (deaths ps w) (deaths_later ps w e)
       run_leads (Tree.Ask a k) w e = goes _ _ (served_leads d.program a w e) (λ results w' e'. run_leads (k results) w' e')
-      run_leads (Tree.Cross at f args n k) w e = run_leads (k wire.NoValue) w e
+      run_leads (Tree.Cross at f args n k) w e = so e
 
       call_leads : (f : ℕ) (args : List Wire) (depth : ℕ) (w : World) → IsLater first w → Leads (call (kernel_of d) before f args depth w)
       unfolding call
@@ -210,7 +210,7 @@ module _ (first : World) where
     goes_taken (Ok set) at w go e each = each set
     goes_taken (Err failing) at w go e each = so e
 
-    pub downcall_leads : (t : ℕ) (at : At) (f : ℕ) (args : List Wire) (depth : ℕ) (w : World) → IsLater first w → Leads (downcall d (held d) t at f args depth w)
+    pub downcall_leads : (t : ℕ) (at : At) (f : ℕ) (args : List Wire) (depth : ℕ) (w : World) → IsLater first w → Leads (downcall d (held d) t may_not at f args depth w)
     downcall_leads t at f args depth w e =
         goes _ _ (kernel_call_leads f _ depth w e)
         (λ v w' e'. goes_taken (visible d.program (touched_by d.plan t) w'.memory (top w'.views) (result_roots d.program f (map (normal w.memory) args) v)) at w' (λ set. Ended v (renewed set w')) e' (λ set. so e'))

@@ -1,4 +1,4 @@
--- protocol
+-- believed
 -- Whether what runs may not sleep: an interrupt handler, or code that holds a lock which spins.
 use Rattle.std.specs.Prelude.{Bool, true, false, ◌||◌, List}
 use Rattle.std.specs.List.{list_any}

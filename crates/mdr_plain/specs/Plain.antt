@@ -24,7 +24,7 @@ abbrev pub entered : KernelCode → (func : ℕ) (args : List Wire) → World �
 entered kernel f args w = call kernel (interrupts kernel) f args 0 w
 
 abbrev pub does : KernelCode → Command → World → Work
-does kernel c w = in_place kernel (entered kernel) (begin kernel (λ f. false) c w)
+does kernel c w = in_place kernel (entered kernel) (entered kernel) (begin kernel (λ f. false) c w)
 
 -- the run of a script under a budget of ticks, where a side's bodies are all that there are
 unfoldable pub plain_of : Program → Side → Bound → (budget : ℕ) → Finish

@@ -20,7 +20,7 @@ use Rattle.mdr_model.specs.Report.{func_name, global_name}
 use Rattle.mdr_model.specs.Values.{value_of}
 use Rattle.mdr_bound.specs.declared.bound.Bound.{Bound}
 use Rattle.mdr_plain.specs.declared.outcome.Happened.TheVariants as happened
-use Rattle.mdr_plain.specs.Running.{Before, KernelCode, call, interrupts}
+use Rattle.mdr_plain.specs.Running.{Before, KernelCode, interrupts}
 use Rattle.mdr_plain.specs.Storage.{birth_of, first_memory, with_memory}
 use Rattle.mdr_plain.specs.World.{World, Ran, Ended, Stopped, Work, after, done, then, noted, ticked}
 
@@ -73,14 +73,15 @@ poked serial index n w = with_memory w (poked_memory (record { serial = serial; 
 
 -- ---- commands
 
--- how a command begins: it was done at once, or a function of the user half is called with these arguments
+-- how a command begins: it was done at once, or a function of the kernel half or of the user half is called with these arguments
 pub data Beginning : Type 0 where
   Did : (work : Work) → Beginning
+  Enters : (func : ℕ) (args : List Wire) (world : World) → Beginning
   Opens : (func : ℕ) (args : List Wire) (world : World) → Beginning
 
 abbrev pub called_by : (is_user : Bool) → KernelCode → (func : ℕ) (args : List Wire) → World → Beginning
 called_by true kernel f args w = Opens f args w
-called_by false kernel f args w = Did (returned (interrupts kernel) (call kernel (interrupts kernel) f args 0 w))
+called_by false kernel f args w = Enters f args w
 
 -- the one driver of scripts, for every mode
 unfoldable pub begin : KernelCode → (is_user : ℕ → Bool) → Command → World → Beginning
@@ -90,10 +91,11 @@ begin kernel is_user (command.Show g) w = Did (done (showed kernel.program g w))
 begin kernel is_user (command.Poke serial index n) w = Did (done (poked serial index n w))
 begin kernel is_user (command.Say text) w = Did (done (noted (happened.Say text) w))
 
--- on one memory a function of the user half runs in place
-abbrev pub in_place : KernelCode → (upcall : (func : ℕ) (args : List Wire) → World → Ran Wire) → Beginning → Work
-in_place kernel upcall (Did work) = work
-in_place kernel upcall (Opens f args w) = returned (interrupts kernel) (upcall f args w)
+-- on one memory a function of either half runs in place
+abbrev pub in_place : KernelCode → (enters upcall : (func : ℕ) (args : List Wire) → World → Ran Wire) → Beginning → Work
+in_place kernel enters upcall (Did work) = work
+in_place kernel enters upcall (Enters f args w) = returned (interrupts kernel) (enters f args w)
+in_place kernel enters upcall (Opens f args w) = returned (interrupts kernel) (upcall f args w)
 
 -- ---- runs
 

@@ -1,5 +1,5 @@
 -- Cells that join the marked ones.
-use Rattle.std.proofs.Common.{◌≡◌, ℕ, suc, ◌+◌, ◌-◌, ◌<◌, ◌≤◌, Bool, true, false, cond, ◌⊎◌, inl, inr, List, [], ◌∷◌, ◌++◌, Some, None, refl, sym, ◌∙◌, ap, subst, arith}
+use Rattle.std.proofs.Common.{◌≡◌, ℕ, zero, suc, ◌+◌, ◌-◌, ◌<◌, ◌≤◌, Bool, true, false, cond, ◌⊎◌, inl, inr, List, [], ◌∷◌, ◌++◌, Some, None, refl, sym, ◌∙◌, ap, subst, arith}
 use Rattle.std.specs.Prelude.{◌&&◌, ◌||◌, ◌==◌, if◌then◌else◌, is_some, not, slice_get}
 use Rattle.std.specs.List.{list_any}
 use Rattle.std.proofs.lemmas.Bool.{and_parts, and_from, or_cases, or_left, or_right}
@@ -77,6 +77,17 @@ module _ (counts : Cell → Bool) where
 
   pub enters_first : (serial : ℕ) (xs : List Cell) (first end count : ℕ) → end ≡ first + count → entered counts xs (cells_from serial first (end - first)) ≡ entered counts xs (cells_from serial first count)
   enters_first serial xs first end count e = let same : end - first ≡ count = omega (arith, e) in ap (λ n. entered counts xs (cells_from serial first n)) same
+
+  -- cells behind some of them don't count
+  pub enters_some : (serial : ℕ) (xs : List Cell) (first count k : ℕ) → k ≤ count → ((index : ℕ) → first + k ≤ index → counts (record { serial = serial; index = index }) ≡ false)
+      → entered counts xs (cells_from serial first k) ≡ entered counts xs (cells_from serial first count)
+  unfolding entered cells_from
+  enters_some serial xs first zero zero h out = refl
+  enters_some serial xs first zero (suc k) h out = absurd (omega (arith, h))
+  enters_some serial xs first (suc count) zero h out =
+      enters_some serial xs (suc first) count zero (omega arith) (λ index l. out index (omega (arith, l)))
+      ∙ ap (λ ys. entered counts ys (cells_from serial (suc first) count)) (joins_not xs (record { serial = serial; index = first }) (out first (omega arith)))
+  enters_some serial xs first (suc count) (suc k) h out = enters_some serial (with_cell counts xs (record { serial = serial; index = first })) (suc first) count k (omega (arith, h)) (λ index l. out index (omega (arith, l)))
 
   -- ---- members
 

@@ -1,8 +1,8 @@
 -- Where cells and what is passed lead, by what code has at hand.
-use Rattle.std.proofs.Common.{◌≡◌, ℕ, zero, suc, ◌+◌, ◌<◌, ◌≤◌, Bool, true, false, List, [], ◌∷◌, ◌++◌, drop, get_or, length, map, Option, Some, None, refl, sym, ◌∙◌, ap, subst, arith}
+use Rattle.std.proofs.Common.{◌≡◌, ℕ, zero, suc, ◌+◌, ◌-◌, ◌<◌, ◌≤◌, Bool, true, false, ◌⊎◌, inl, inr, List, [], ◌∷◌, ◌++◌, drop, get_or, length, map, Option, Some, None, refl, sym, ◌∙◌, ap, subst, arith}
 use Rattle.std.specs.Prelude.{◌||◌, ◌==◌, is_some, nat_lt, not, slice_get}
 use Rattle.std.specs.Option.{option_map}
-use Rattle.std.proofs.lemmas.Bool.{and_parts, both_ways, eqb-true, eq-eqb, le-ltb, lt-ltb, ltb-true, ltb-false}
+use Rattle.std.proofs.lemmas.Bool.{and_parts, both_ways, cases_lt, eqb-true, eq-eqb, le-ltb, lt-ltb, ltb-true, ltb-false}
 use Rattle.std.proofs.lemmas.List.{at_drop_more, at_drop_all}
 use mathlib.Core.Path.{fun_ext}
 use Rattle.mdr_core.specs.declared.plan.Key.{Key}
@@ -31,9 +31,21 @@ use Rattle.mdr_reach.specs.declared.lengths.Siblings.TheVariants as siblings
 use Rattle.mdr_reach.specs.declared.rows.Around.TheVariants as around
 use Rattle.mdr_reach.specs.Marks.{AreMarked, IsHeld, IsNoPointer, counts_at, entered, led, siblings_of, with_cell}
 use Rattle.mdr_reach.specs.Spots.{around_of}
-use Rattle.mdr_reach.proofs.EnterLaws.{dead_counts, joins_not, marks_more, none_enters, same_marks}
+use Rattle.mdr_reach.proofs.BlockLaws.{counts_nowhere}
+use Rattle.mdr_reach.proofs.EnterLaws.{dead_counts, enters_first, enters_some, joins_not, marks_more, none_enters, same_marks}
 use Rattle.mdr_reach.proofs.ExtentLaws.{fields_are}
 use Rattle.mdr_reach.proofs.WorkLaws.{is_from}
+
+-- ---- cells of a live block
+
+-- cells past those that it has don't join
+pub enters_clipped : (program : Program) (touched : List Key) (s : Contents) (h : Held) → IsHeld program touched s h → (xs : List Cell) (first count end : ℕ) → first ≤ end → end ≤ first + count → (end < first + count → length h.cells.now ≤ end)
+    → entered (counts_at program touched s.memory) xs (cells_from h.born.serial first (end - first)) ≡ entered (counts_at program touched s.memory) xs (cells_from h.born.serial first count)
+enters_clipped program touched s h held xs first count end from most whole = of (cases_lt end (first + count))
+  where
+    of : (end < first + count) ⊎ (first + count ≤ end) → entered (counts_at program touched s.memory) xs (cells_from h.born.serial first (end - first)) ≡ entered (counts_at program touched s.memory) xs (cells_from h.born.serial first count)
+    of (inl l) = let past = whole l in enters_some (counts_at program touched s.memory) h.born.serial xs first count (end - first) (omega (arith, most)) (λ index k. sym (counts_nowhere program touched s h held index (omega (arith, from, past, k))))
+    of (inr l) = enters_first (counts_at program touched s.memory) h.born.serial xs first end count (omega (arith, most, l))
 
 -- ---- dead blocks
 

@@ -17,7 +17,7 @@ use Rattle.mdr_reach.specs.declared.rows.Around.{Around}
 use Rattle.mdr_reach.specs.declared.rows.Around.TheVariants as around
 use Rattle.mdr_reach.specs.declared.rows.Row.{Row}
 use Rattle.mdr_reach.specs.declared.layouts.Layouts.{Layouts}
-use Rattle.mdr_reach.specs.Spots.{AreLayouts, AreRows, IsRowOf, around_of, arounds_by, arounds_in, arounds_of, element_arounds, field_arounds, field_starts, in_field, known_arounds, known_offsets, offsets_in, row_at, row_by, row_or, start_in}
+use Rattle.mdr_reach.specs.Spots.{AreLayouts, AreRows, HasFewCells, IsRowOf, around_of, arounds_by, arounds_in, arounds_of, element_arounds, field_arounds, field_starts, in_field, known_arounds, known_offsets, offsets_in, row_at, row_by, row_or, start_in}
 
 -- ---- one element after another
 
@@ -183,6 +183,7 @@ record IsMade (structs : List StructDef) (touched : List Key) (n : ℕ) (rows : 
   arounds : row.arounds ≡ field_arounds touched (known_arounds rows) n 0 (fields_of structs n)
   offsets : row.offsets ≡ field_offsets (known_offsets rows) 0 (fields_of structs n)
   starts : row.starts ≡ field_starts (known_arounds rows) 0 (fields_of structs n)
+  few : HasFewCells row
 
 module _ (structs : List StructDef) (touched : List Key) (n : ℕ) (rows : List Row) (row : Row) (made : IsMade structs touched n rows row) (had : AreRows structs touched n rows) where
   own_arounds : row.arounds ≡ arounds_of touched (field_leaves (leaves_below structs n) n 0 (fields_of structs n))
@@ -217,6 +218,10 @@ module _ (structs : List StructDef) (touched : List Key) (n : ℕ) (rows : List 
   starts_step s f true e h = own_starts f ∙ ap (λ k. field_start structs k f) (sym (eqb-true s n e))
   starts_step s f false e h = had.starts s f (let other : (s ≡ n → ⊥) = λ g. both_ways (s == n) e (eq-eqb s n g) in omega (arith, h, other))
 
+  few_step : (s : ℕ) (t : Bool) → length (arounds_in (chosen t (Some row) (slice_get rows s))) ≤ 4294967295
+  few_step s true = made.few
+  few_step s false = had.few s
+
   rows_by : AreRows structs touched (suc n) (rows ++ row ∷ [])
   unfolding leaves_below offsets_below
   rows_by = record {
@@ -224,25 +229,27 @@ module _ (structs : List StructDef) (touched : List Key) (n : ℕ) (rows : List 
     arounds = λ s. ap arounds_in (get_push rows row n s had.count (s == n) refl) ∙ arounds_step s (s == n) refl;
     offsets = λ s. ap offsets_in (get_push rows row n s had.count (s == n) refl) ∙ offsets_step s (s == n) refl;
     starts = λ s f h. ap (λ r. start_in r f) (get_push rows row n s had.count (s == n) refl) ∙ starts_step s f (s == n) refl h;
+    few = λ s. subst (λ o. length (arounds_in o) ≤ 4294967295) (sym (get_push rows row n s had.count (s == n) refl)) (few_step s (s == n));
   }
 
 -- the rows of a list, of which one is made of those before it
 pub rows_more : (structs : List StructDef) (touched : List Key) (n k : ℕ) (rows all : List Row) (row : Row) (fs : List Field) → k ≡ n → fs ≡ fields_of structs k → all ≡ rows ++ row ∷ []
-    → row.arounds ≡ field_arounds touched (known_arounds rows) k 0 fs → row.offsets ≡ field_offsets (known_offsets rows) 0 fs → row.starts ≡ field_starts (known_arounds rows) 0 fs
+    → row.arounds ≡ field_arounds touched (known_arounds rows) k 0 fs → row.offsets ≡ field_offsets (known_offsets rows) 0 fs → row.starts ≡ field_starts (known_arounds rows) 0 fs → HasFewCells row
     → AreRows structs touched n rows → AreRows structs touched (n + 1) all
-rows_more structs touched n k rows all row fs same of is a o b had =
+rows_more structs touched n k rows all row fs same of is a o b few had =
     let field_list : fs ≡ fields_of structs n = of ∙ ap (fields_of structs) same in
     let more : suc n ≡ n + 1 = omega arith in
     let made : IsMade structs touched n rows row = record {
       arounds = a ∙ (λ i. field_arounds touched (known_arounds rows) (same i) 0 (field_list i));
       offsets = o ∙ ap (field_offsets (known_offsets rows) 0) field_list;
       starts = b ∙ ap (field_starts (known_arounds rows) 0) field_list;
+      few = few;
     } in
     subst (λ m. AreRows structs touched m all) more (subst (AreRows structs touched (suc n)) (sym is) (rows_by structs touched n rows row made had))
 
 pub no_rows : (structs : List StructDef) (touched : List Key) (rows : List Row) → rows ≡ [] → AreRows structs touched 0 rows
 unfolding leaves_below offsets_below
-no_rows structs touched rows e = subst (AreRows structs touched 0) (sym e) (record { count = refl; arounds = λ s. none s; offsets = λ s. no_offsets s; starts = λ s f h. absurd (omega (arith, h)) })
+no_rows structs touched rows e = subst (AreRows structs touched 0) (sym e) (record { count = refl; arounds = λ s. none s; offsets = λ s. no_offsets s; starts = λ s f h. absurd (omega (arith, h)); few = λ s. none_few s })
   where
     none : (s : ℕ) → known_arounds [] s ≡ []
     none zero = refl
@@ -251,6 +258,9 @@ no_rows structs touched rows e = subst (AreRows structs touched 0) (sym e) (reco
     no_offsets : (s : ℕ) → known_offsets [] s ≡ []
     no_offsets zero = refl
     no_offsets (suc s) = refl
+
+    none_few : (s : ℕ) → length (known_arounds [] s) ≤ 4294967295
+    none_few s = let e = ap length (none s) in omega (arith, e)
 
 -- ---- all structs
 
@@ -313,6 +323,7 @@ layouts_are program touched layouts structs same made a b c d = record {
   arounds = λ s. rows.arounds s ∙ ap (arounds_of touched) (all_cells program.structs s);
   offsets = λ s. rows.offsets s ∙ all_offsets program.structs s;
   starts = λ s f. of s f (cases_lt s (length program.structs));
+  few = rows.few;
   lone_around = a;
   lone_offset = b;
   no_arounds = c;
@@ -365,18 +376,38 @@ module _ (program : Program) (touched : List Key) (layouts : Layouts) (tells : A
   offsets_at None = tells.no_offsets
   offsets_at (Some ty) = offsets_type (out-Ty ty)
 
+  lone_few : HasFewCells layouts.lone
+  lone_few = let e = ap length tells.lone_around in omega (arith, e)
+
+  few_or : (o : Option Row) → length (arounds_in o) ≤ 4294967295 → HasFewCells (row_or o layouts.none)
+  few_or None h = let e = ap length tells.no_arounds in omega (arith, e)
+  few_or (Some r) h = h
+
+  few_type : (t : Ty-F Ty) → HasFewCells (row_by layouts t)
+  few_type (Ty-F.Int k) = lone_few
+  few_type Ty-F.Lock = lone_few
+  few_type (Ty-F.Struct s) = few_or (slice_get layouts.rows s) (tells.few s)
+  few_type (Ty-F.Ptr t) = lone_few
+  few_type Ty-F.VoidPtr = lone_few
+  few_type (Ty-F.Fun ts) = lone_few
+  few_type Ty-F.Void = let e = ap length tells.no_arounds in omega (arith, e)
+
+  few_at : (o : Option Ty) → HasFewCells (row_at layouts o)
+  few_at None = let e = ap length tells.no_arounds in omega (arith, e)
+  few_at (Some ty) = few_type (out-Ty ty)
+
   pub row_is : (ty : ℕ) (row : Row) → row ≡ row_at layouts (slice_get program.types ty) → IsRowOf program touched ty row
-  row_is ty row e = subst (IsRowOf program touched ty) (sym e) (record { arounds = arounds_at (slice_get program.types ty); offsets = offsets_at (slice_get program.types ty) })
+  row_is ty row e = subst (IsRowOf program touched ty) (sym e) (record { arounds = arounds_at (slice_get program.types ty); offsets = offsets_at (slice_get program.types ty); few = few_at (slice_get program.types ty) })
 
 pub size_is : (program : Program) (touched : List Key) (ty : ℕ) (row : Row) → IsRowOf program touched ty row → length row.arounds ≡ length (cells_at program ty)
 size_is program touched ty row h = ap length h.arounds ∙ length-map (cells_at program ty) (λ (l : Leaf). around_of touched l.home)
 
 -- the same of a slice of the rows
 pub rows_of_slice : (structs : List StructDef) (touched : List Key) (n k : ℕ) (rows seen all : List Row) (row : Row) (fs : List Field) → seen ≡ rows → k ≡ n → fs ≡ fields_of structs k → all ≡ rows ++ row ∷ []
-    → row.arounds ≡ field_arounds touched (known_arounds seen) k 0 fs → row.offsets ≡ field_offsets (known_offsets seen) 0 fs → row.starts ≡ field_starts (known_arounds seen) 0 fs
+    → row.arounds ≡ field_arounds touched (known_arounds seen) k 0 fs → row.offsets ≡ field_offsets (known_offsets seen) 0 fs → row.starts ≡ field_starts (known_arounds seen) 0 fs → HasFewCells row
     → AreRows structs touched n rows → AreRows structs touched (n + 1) all
-rows_of_slice structs touched n k rows seen all row fs e same of is a o b had =
-    rows_more structs touched n k rows all row fs same of is (a ∙ ap (λ rs. field_arounds touched (known_arounds rs) k 0 fs) e) (o ∙ ap (λ rs. field_offsets (known_offsets rs) 0 fs) e) (b ∙ ap (λ rs. field_starts (known_arounds rs) 0 fs) e) had
+rows_of_slice structs touched n k rows seen all row fs e same of is a o b few had =
+    rows_more structs touched n k rows all row fs same of is (a ∙ ap (λ rs. field_arounds touched (known_arounds rs) k 0 fs) e) (o ∙ ap (λ rs. field_offsets (known_offsets rs) 0 fs) e) (b ∙ ap (λ rs. field_starts (known_arounds rs) 0 fs) e) few had
 
 -- a row that isn't there has no cells
 pub none_known : (xs : List Around) (rows : List Row) (s : ℕ) → None ≡ slice_get rows s → xs ≡ xs ++ known_arounds rows s

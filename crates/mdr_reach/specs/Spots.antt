@@ -1,6 +1,6 @@
 -- protocol
 -- The table of what stands around the cells of types.
-use Rattle.std.specs.Prelude.{◌≡◌, ℕ, ◌+◌, ◌<◌, List, [], ◌∷◌, ◌++◌, length, map, Option, Some, None, slice_get, unwrap_or}
+use Rattle.std.specs.Prelude.{◌≡◌, ℕ, ◌+◌, ◌<◌, ◌≤◌, List, [], ◌∷◌, ◌++◌, length, map, Option, Some, None, slice_get, unwrap_or}
 use Rattle.mdr_access.specs.KeyOrder.{keys}
 use Rattle.mdr_core.specs.declared.plan.Key.{Key}
 use Rattle.mdr_core.specs.declared.plan.Key.TheVariants as key
@@ -74,18 +74,24 @@ field_starts known at (x ∷ xs) = at ∷ field_starts known (at + length (repea
 
 -- ---- what the table tells
 
+-- a row whose cells have numbers of 32 bits
+abbrev pub HasFewCells : Row → Type 0
+HasFewCells row = length row.arounds ≤ 4294967295
+
 -- the rows of the structs below n
 pub record AreRows (structs : List StructDef) (touched : List Key) (n : ℕ) (rows : List Row) : Type 0 where
   pub count : length rows ≡ n
   pub arounds : (s : ℕ) → known_arounds rows s ≡ arounds_of touched (leaves_below structs n s)
   pub offsets : (s : ℕ) → known_offsets rows s ≡ offsets_below structs n s
   pub starts : (s f : ℕ) → s < n → start_in (slice_get rows s) f ≡ field_start structs s f
+  pub few : (s : ℕ) → length (known_arounds rows s) ≤ 4294967295
 
 -- of each struct
 pub record AreLayouts (program : Program) (touched : List Key) (layouts : Layouts) : Type 0 where
   pub arounds : (s : ℕ) → known_arounds layouts.rows s ≡ arounds_of touched (struct_cells program.structs s)
   pub offsets : (s : ℕ) → known_offsets layouts.rows s ≡ struct_offsets program.structs s
   pub starts : (s f : ℕ) → start_in (slice_get layouts.rows s) f ≡ field_start program.structs s f
+  pub few : (s : ℕ) → length (known_arounds layouts.rows s) ≤ 4294967295
   pub lone_around : layouts.lone.arounds ≡ around.Nothing ∷ []
   pub lone_offset : layouts.lone.offsets ≡ 0 ∷ []
   pub no_arounds : layouts.none.arounds ≡ []
@@ -95,6 +101,7 @@ pub record AreLayouts (program : Program) (touched : List Key) (layouts : Layout
 pub record IsRowOf (program : Program) (touched : List Key) (ty : ℕ) (row : Row) : Type 0 where
   pub arounds : row.arounds ≡ arounds_of touched (cells_at program ty)
   pub offsets : row.offsets ≡ offsets_or program (slice_get program.types ty)
+  pub few : HasFewCells row
 
 -- ---- the row of a type
 

@@ -74,7 +74,7 @@ fn with_serial(scene: Scene<'_>, set: CellSet, serial: u64) -> Result<CellSet, O
     requires older { IsOlder serial set }
     ensures { IfOk result (λ all. all ≡ set ++ cells_born scene.entry.program.now scene.entry.touched.now serial scene.entry.blocks.now.memory) }
 {
-    match block_at(scene, serial)? {
+    match block_at(scene, serial) {
         Some(h) => {
             let all = with_block(scene, set, h)?;
             Ok(all)

@@ -1,6 +1,6 @@
 // How far a pointer may be followed.
 
-ghost use Rattle.std.specs.Prelude.{◌≡◌, ◌-◌, IfOk, Some};
+ghost use Rattle.std.specs.Prelude.{◌≡◌, ◌-◌, ◌<◌, MatchOption, Some};
 ghost use Rattle.std.specs.List.{list_any};
 ghost use Rattle.mdr_core.specs.Layout.{struct_of};
 ghost use Rattle.mdr_extents.specs.Extent.{annotated, extent, extent_in, is_touched, start_in, up_to};
@@ -15,24 +15,23 @@ ghost use Rattle.mdr_reach.specs.Spots.{AreLayouts};
 use crate::held::{Held, block_at, is_touched};
 use crate::layouts::{size_of, start_of};
 use crate::lengths::{Siblings, length_now};
-use crate::numbers::small;
 use crate::scene::Scene;
 use crate::searches::first_empty;
-use mdr_core::{Ann, OutOfMemory, Program, Ty, Value, View};
+use mdr_core::{Ann, Program, Ty, Value, View};
 
 /// So many elements from a pointer's index on, or failure.
 #[derive(Clone, Copy)]
 pub enum Extent {
-    Elements(u64),
+    Elements(u32),
     Fails,
 }
 
-/// How many cells an element has of the type with a number. There may be more of them than numbers.
-pub(crate) fn element_size(scene: Scene<'_>, ty: u32) -> Result<u32, OutOfMemory>
+/// How many cells an element has of the type with a number.
+pub(crate) fn element_size(scene: Scene<'_>, ty: u32) -> u32
     requires { AreLayouts scene.program.now scene.touched.now scene.layouts.now }
-    ensures { IfOk result (λ n. n ≡ size scene.entry.program.now ty) }
+    ensures { result ≡ size scene.entry.program.now ty }
 {
-    small(size_of(scene.layouts, scene.program, scene.touched, ty))
+    size_of(scene.layouts, scene.program, scene.touched, ty)
 }
 
 /// The number of the struct that a type is.
@@ -56,13 +55,13 @@ fn struct_numbered(program: &Program, ty: u32) -> Option<u32>
 }
 
 /// The cell of an element with which a field begins, if it is of a struct.
-fn field_in(scene: Scene<'_>, ty: u32, f: u32) -> Result<u32, OutOfMemory>
+fn field_in(scene: Scene<'_>, ty: u32, f: u32) -> u32
     requires { AreLayouts scene.program.now scene.touched.now scene.layouts.now }
-    ensures { IfOk result (λ n. n ≡ start_in scene.entry.program.now (struct_numbered scene.entry.program.now ty) f) }
+    ensures { result ≡ start_in scene.entry.program.now (struct_numbered scene.entry.program.now ty) f }
 {
     match struct_numbered(scene.program, ty) {
-        Some(s) => small(start_of(scene.layouts, scene.program, scene.touched, s, f)),
-        None => Ok(0),
+        Some(s) => start_of(scene.layouts, scene.program, scene.touched, s, f),
+        None => 0,
     }
 }
 
@@ -93,19 +92,21 @@ fn of_length(p: View, n: i128) -> Extent
             if p.count.saturating_sub(p.index) < k {
                 Extent::Fails
             } else {
-                Extent::Elements(k as u64)
+                Extent::Elements(k)
             }
         }
         Err(_) => Extent::Fails,
     }
 }
 
-/// The elements from an index up to and with the one that was found.
-fn up_to(index: u32, found: Option<u32>) -> Extent
+/// The elements from an index up to and with the one that was found, which is before this end.
+fn up_to(index: u32, found: Option<u32>, end: u32) -> Extent
+    requires { MatchOption found (Unit {0}) (λ last. last < end) }
     ensures { extent_of result ≡ up_to index found }
 {
+    let _ = end;
     match found {
-        Some(last) => Extent::Elements((last as u64 + 1).saturating_sub(index as u64)),
+        Some(last) => Extent::Elements((last + 1).saturating_sub(index)),
         None => Extent::Fails,
     }
 }
@@ -122,87 +123,56 @@ fn single(p: View) -> Extent
 }
 
 /// The elements up to and with the first of which a cell, so many behind its first one, is empty.
-fn searched(scene: Scene<'_>, h: Held<'_>, p: View, start: u32) -> Result<Extent, OutOfMemory>
+fn searched(scene: Scene<'_>, h: Held<'_>, p: View, start: u32) -> Extent
     requires layouts { AreLayouts scene.program.now scene.touched.now scene.layouts.now }
     requires held { IsHeld scene.program.now scene.touched.now scene.blocks.now h }
     requires serial { h.born.serial ≡ p.block.serial }
-    ensures { IfOk result (λ e. extent_of e ≡ extent_searched scene.entry.program.now scene.entry.blocks.now.memory (wire_view p) start) }
+    ensures { extent_of result ≡ extent_searched scene.entry.program.now scene.entry.blocks.now.memory (wire_view p) start }
 {
-    let size = element_size(scene, p.ty)?;
+    let size = element_size(scene, p.ty);
     let found = first_empty(h.cells, p.first, size, start, p.index, p.count);
-    Ok(up_to(p.index, found))
+    up_to(p.index, found, p.count)
 }
 
 /// By the annotation.
-fn annotated(
-    scene: Scene<'_>,
-    h: Held<'_>,
-    siblings: Siblings<'_>,
-    ann: Ann,
-    p: View,
-) -> Result<Extent, OutOfMemory>
+fn annotated(scene: Scene<'_>, h: Held<'_>, siblings: Siblings<'_>, ann: Ann, p: View) -> Extent
     requires layouts { AreLayouts scene.program.now scene.touched.now scene.layouts.now }
     requires held { IsHeld scene.program.now scene.touched.now scene.blocks.now h }
     requires serial { h.born.serial ≡ p.block.serial }
-    ensures { IfOk result (λ e. extent_of e ≡ annotated scene.entry.program.now scene.entry.blocks.now.memory (wire_view p) (siblings_of scene.entry.program.now scene.entry.blocks.now.handles siblings.entry) ann) }
+    ensures { extent_of result ≡ annotated scene.entry.program.now scene.entry.blocks.now.memory (wire_view p) (siblings_of scene.entry.program.now scene.entry.blocks.now.handles siblings.entry) ann }
 {
     match ann {
-        Ann::Single => Ok(single(p)),
-        Ann::Array(length) => {
-            let n = length_now(scene, siblings, length)?;
-            Ok(of_length(p, n))
-        }
-        Ann::Sentinel(f) => {
-            let start = field_in(scene, p.ty, f)?;
-            let extent = searched(scene, h, p, start)?;
-            Ok(extent)
-        }
-        Ann::NullTerm => {
-            let extent = searched(scene, h, p, 0)?;
-            Ok(extent)
-        }
-        Ann::Opaque => Ok(Extent::Elements(0)),
+        Ann::Single => single(p),
+        Ann::Array(length) => of_length(p, length_now(scene, siblings, length)),
+        Ann::Sentinel(f) => searched(scene, h, p, field_in(scene, p.ty, f)),
+        Ann::NullTerm => searched(scene, h, p, 0),
+        Ann::Opaque => Extent::Elements(0),
     }
 }
 
 /// Of a pointer into a live block.
-fn extent_in(
-    scene: Scene<'_>,
-    h: Held<'_>,
-    siblings: Siblings<'_>,
-    ann: Ann,
-    p: View,
-) -> Result<Extent, OutOfMemory>
+fn extent_in(scene: Scene<'_>, h: Held<'_>, siblings: Siblings<'_>, ann: Ann, p: View) -> Extent
     requires layouts { AreLayouts scene.program.now scene.touched.now scene.layouts.now }
     requires held { IsHeld scene.program.now scene.touched.now scene.blocks.now h }
     requires serial { h.born.serial ≡ p.block.serial }
-    ensures { IfOk result (λ e. extent_of e ≡ extent_in scene.entry.program.now scene.entry.touched.now scene.entry.blocks.now.memory (siblings_of scene.entry.program.now scene.entry.blocks.now.handles siblings.entry) ann (wire_view p) (Some h.entry.born)) }
+    ensures { extent_of result ≡ extent_in scene.entry.program.now scene.entry.touched.now scene.entry.blocks.now.memory (siblings_of scene.entry.program.now scene.entry.blocks.now.handles siblings.entry) ann (wire_view p) (Some h.entry.born) }
 {
-    let size = element_size(scene, p.ty)?;
+    let size = element_size(scene, p.ty);
     if is_any_touched(scene, h, p.first, size) {
-        let extent = annotated(scene, h, siblings, ann, p)?;
-        Ok(extent)
+        annotated(scene, h, siblings, ann, p)
     } else {
-        Ok(Extent::Elements(0))
+        Extent::Elements(0)
     }
 }
 
 /// Of a pointer.
-fn extent_view(
-    scene: Scene<'_>,
-    siblings: Siblings<'_>,
-    ann: Ann,
-    p: View,
-) -> Result<Extent, OutOfMemory>
+fn extent_view(scene: Scene<'_>, siblings: Siblings<'_>, ann: Ann, p: View) -> Extent
     requires { AreLayouts scene.program.now scene.touched.now scene.layouts.now }
-    ensures { IfOk result (λ e. extent_of e ≡ extent scene.entry.program.now scene.entry.touched.now scene.entry.blocks.now.memory (siblings_of scene.entry.program.now scene.entry.blocks.now.handles siblings.entry) ann (wire.Ptr (wire_view p))) }
+    ensures { extent_of result ≡ extent scene.entry.program.now scene.entry.touched.now scene.entry.blocks.now.memory (siblings_of scene.entry.program.now scene.entry.blocks.now.handles siblings.entry) ann (wire.Ptr (wire_view p)) }
 {
-    match block_at(scene, p.block.serial)? {
-        Some(h) => {
-            let extent = extent_in(scene, h, siblings, ann, p)?;
-            Ok(extent)
-        }
-        None => Ok(Extent::Elements(0)),
+    match block_at(scene, p.block.serial) {
+        Some(h) => extent_in(scene, h, siblings, ann, p),
+        None => Extent::Elements(0),
     }
 }
 
@@ -213,20 +183,17 @@ pub(crate) fn value_extent(
     siblings: Siblings<'_>,
     ann: Ann,
     value: Value,
-) -> Result<Extent, OutOfMemory>
+) -> Extent
     requires { AreLayouts scene.program.now scene.touched.now scene.layouts.now }
-    ensures { IfOk result (λ e. extent_of e ≡ extent scene.entry.program.now scene.entry.touched.now scene.entry.blocks.now.memory (siblings_of scene.entry.program.now scene.entry.blocks.now.handles siblings.entry) ann (wire_of value)) }
+    ensures { extent_of result ≡ extent scene.entry.program.now scene.entry.touched.now scene.entry.blocks.now.memory (siblings_of scene.entry.program.now scene.entry.blocks.now.handles siblings.entry) ann (wire_of value) }
 {
     match value {
-        Value::Ptr(p) => {
-            let extent = extent_view(scene, siblings, ann, p)?;
-            Ok(extent)
-        }
-        Value::Int(_, _) => Ok(Extent::Elements(0)),
-        Value::Null => Ok(Extent::Elements(0)),
-        Value::Dead => Ok(Extent::Elements(0)),
-        Value::Fn(_) => Ok(Extent::Elements(0)),
-        Value::Lock(_) => Ok(Extent::Elements(0)),
-        Value::NoValue => Ok(Extent::Elements(0)),
+        Value::Ptr(p) => extent_view(scene, siblings, ann, p),
+        Value::Int(_, _) => Extent::Elements(0),
+        Value::Null => Extent::Elements(0),
+        Value::Dead => Extent::Elements(0),
+        Value::Fn(_) => Extent::Elements(0),
+        Value::Lock(_) => Extent::Elements(0),
+        Value::NoValue => Extent::Elements(0),
     }
 }

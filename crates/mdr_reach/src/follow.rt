@@ -56,29 +56,22 @@ fn start(scene: Scene<'_>, h: Held<'_>, index: u64) -> u64
 }
 
 /// The extent of a pointer in a cell, by what stands around the cell.
-fn extent_around(
-    scene: Scene<'_>,
-    h: Held<'_>,
-    index: u64,
-    value: Value,
-) -> Result<Extent, OutOfMemory>
+fn extent_around(scene: Scene<'_>, h: Held<'_>, index: u64, value: Value) -> Extent
     requires layouts { AreLayouts scene.program.now scene.touched.now scene.layouts.now }
     requires held { IsHeld scene.program.now scene.touched.now scene.blocks.now h }
-    ensures { IfOk result (λ e. extent_of e ≡ extent_by scene.entry.program.now scene.entry.touched.now scene.entry.blocks.now.memory h.entry.born index (key_of scene.entry.program.now h.entry.born index) (wire_of value)) }
+    ensures { extent_of result ≡ extent_by scene.entry.program.now scene.entry.touched.now scene.entry.blocks.now.memory h.entry.born index (key_of scene.entry.program.now h.entry.born index) (wire_of value) }
 {
     match around(scene, h, index) {
         Some(Around::Field(s, f, _)) => {
             let siblings = Siblings::Fields(h.cells, start(scene, h, index), s);
             let ann = field_ann(scene.program, s, f);
-            let extent = value_extent(scene, siblings, ann, value)?;
-            Ok(extent)
+            value_extent(scene, siblings, ann, value)
         }
         Some(Around::Nothing) => {
             let ann = global_ann(scene.program, h.born.serial);
-            let extent = value_extent(scene, Siblings::Nothing, ann, value)?;
-            Ok(extent)
+            value_extent(scene, Siblings::Nothing, ann, value)
         }
-        None => Ok(Extent::Elements(0)),
+        None => Extent::Elements(0),
     }
 }
 
@@ -97,21 +90,15 @@ fn is_pointer(value: Value) -> bool
 }
 
 /// The extent of what a cell holds. What is no pointer leads nowhere, whatever stands around it.
-fn extent_in_cell(
-    scene: Scene<'_>,
-    h: Held<'_>,
-    index: u64,
-    value: Value,
-) -> Result<Extent, OutOfMemory>
+fn extent_in_cell(scene: Scene<'_>, h: Held<'_>, index: u64, value: Value) -> Extent
     requires layouts { AreLayouts scene.program.now scene.touched.now scene.layouts.now }
     requires held { IsHeld scene.program.now scene.touched.now scene.blocks.now h }
-    ensures { IfOk result (λ e. extent_of e ≡ extent_by scene.entry.program.now scene.entry.touched.now scene.entry.blocks.now.memory h.entry.born index (key_of scene.entry.program.now h.entry.born index) (wire_of value)) }
+    ensures { extent_of result ≡ extent_by scene.entry.program.now scene.entry.touched.now scene.entry.blocks.now.memory h.entry.born index (key_of scene.entry.program.now h.entry.born index) (wire_of value) }
 {
     if is_pointer(value) {
-        let extent = extent_around(scene, h, index, value)?;
-        Ok(extent)
+        extent_around(scene, h, index, value)
     } else {
-        Ok(Extent::Elements(0))
+        Extent::Elements(0)
     }
 }
 
@@ -129,7 +116,7 @@ fn follow_in(
 {
     match value_at(scene, h, index) {
         Some(value) => {
-            let extent = extent_in_cell(scene, h, index, value)?;
+            let extent = extent_in_cell(scene, h, index, value);
             let whole = enter_extent(scene, marked, value, extent)?;
             Ok(whole)
         }
@@ -170,7 +157,7 @@ fn enter_root(
     ensures whole { IfOk result (λ t. t ≡ not (has_failed (root_extent scene.entry.program.now scene.entry.touched.now scene.entry.blocks.now.memory (map wire_of passed.now) (root_of root)))) }
     ensures marked { OnOk result (named marked.new.keys ≡ entered (counts_at scene.entry.program.now scene.entry.touched.now scene.entry.blocks.now.memory) (named marked.old.keys) (cells_in scene.entry.program.now scene.entry.touched.now scene.entry.blocks.now.memory (wire_of root.value) (root_extent scene.entry.program.now scene.entry.touched.now scene.entry.blocks.now.memory (map wire_of passed.now) (root_of root)))) }
 {
-    let extent = value_extent(scene, Siblings::Passed(passed), root.ann, root.value)?;
+    let extent = value_extent(scene, Siblings::Passed(passed), root.ann, root.value);
     let whole = enter_extent(scene, marked, root.value, extent)?;
     Ok(whole)
 }

@@ -1,6 +1,6 @@
 // Live blocks.
 
-ghost use Rattle.std.specs.Prelude.{◌≡◌, IfOk, IsTrue, MatchOption, None, Some, option_map, slice_get};
+ghost use Rattle.std.specs.Prelude.{◌≡◌, IsTrue, MatchOption, None, Some, option_map, slice_get};
 ghost use Rattle.mdr_core.specs.Layout.{Alone, chosen, key_by, repeated};
 ghost use Rattle.mdr_access.specs.KeyOrder.{keys as key_nodes};
 ghost use Rattle.mdr_extents.specs.Around.{global_of, offsets_of};
@@ -12,13 +12,12 @@ ghost use Rattle.mdr_paths.specs.Paths.{is_in};
 ghost use Rattle.mdr_reach.specs.Marks.{IsHeld, counts_at, is_around_touched};
 ghost use Rattle.mdr_reach.specs.Spots.{AreLayouts, around_of};
 
-use crate::keys::is_listed;
+use crate::keys::{is_global_listed, is_listed};
 use crate::layouts::row_for;
 use crate::lists::item;
-use crate::numbers::small;
 use crate::rows::{Around, Row};
 use crate::scene::Scene;
-use mdr_core::{Block, Key, OutOfMemory, Program, Value};
+use mdr_core::{Block, Key, Program, Value};
 use mdr_mem::Cells;
 use mdr_model::New;
 use mdr_region::RegionBlocks;
@@ -64,55 +63,42 @@ fn born_of(blocks: &RegionBlocks, b: Block) -> New
     }
 }
 
-/// The key of a cell that no struct is around.
-fn lone_key(program: &Program, born: New) -> Result<Key, OutOfMemory>
-    ensures { IfOk result (λ key. key ≡ key_by Alone (global_of program.now born) born.ty) }
+/// Whether the key of a cell that no struct is around is among those that may be touched.
+fn is_lone_touched(program: &Program, touched: &[Key], born: New) -> bool
+    ensures { result ≡ is_in key_nodes touched.now (key_by Alone (global_of program.now born) born.ty) }
 {
     if born.serial < program.globals.len() as u64 {
-        let global = small(born.serial as usize)?;
-        Ok(Key::Global(global))
+        is_global_listed(touched, born.serial)
     } else {
-        Ok(Key::Elem(born.ty))
+        is_listed(touched, Key::Elem(born.ty))
     }
 }
 
-/// Whether it is among those that may be touched.
-fn is_lone_touched(program: &Program, touched: &[Key], born: New) -> Result<bool, OutOfMemory>
-    ensures { IfOk result (λ t. t ≡ is_in key_nodes touched.now (key_by Alone (global_of program.now born) born.ty)) }
-{
-    let key = lone_key(program, born)?;
-    Ok(is_listed(touched, key))
-}
-
-fn held_by<'a>(scene: Scene<'a>, b: Block) -> Result<Held<'a>, OutOfMemory>
+fn held_by<'a>(scene: Scene<'a>, b: Block) -> Held<'a>
     requires layouts { AreLayouts scene.program.now scene.touched.now scene.layouts.now }
     requires alive { IsTrue (is_handle scene.blocks.now.handles b) }
-    ensures held { IfOk result (IsHeld scene.entry.program.now scene.entry.touched.now scene.entry.blocks.now) }
-    ensures serial { IfOk result (λ x. x.born.serial ≡ b.serial) }
+    ensures held { IsHeld scene.entry.program.now scene.entry.touched.now scene.entry.blocks.now result }
+    ensures serial { result.born.serial ≡ b.serial }
 {
     let born = born_of(scene.blocks, b);
-    let alone = is_lone_touched(scene.program, scene.touched, born)?;
-    Ok(Held {
+    Held {
         born,
         row: row_for(scene.layouts, scene.program, scene.touched, born.ty),
-        alone,
+        alone: is_lone_touched(scene.program, scene.touched, born),
         cells: scene.blocks.cells(b),
-    })
+    }
 }
 
 /// The live block with a serial.
-pub(crate) fn block_at<'a>(scene: Scene<'a>, serial: u64) -> Result<Option<Held<'a>>, OutOfMemory>
+pub(crate) fn block_at<'a>(scene: Scene<'a>, serial: u64) -> Option<Held<'a>>
     requires { AreLayouts scene.program.now scene.touched.now scene.layouts.now }
-    ensures held { IfOk result (λ o. MatchOption o (born_at scene.entry.blocks.now.memory serial ≡ None) (λ x. IsHeld scene.entry.program.now scene.entry.touched.now scene.entry.blocks.now x)) }
-    ensures serial { IfOk result (λ o. MatchOption o (Unit {0}) (λ x. x.born.serial ≡ serial)) }
+    ensures held { MatchOption result (born_at scene.entry.blocks.now.memory serial ≡ None) (λ x. IsHeld scene.entry.program.now scene.entry.touched.now scene.entry.blocks.now x) }
+    ensures serial { MatchOption result (Unit {0}) (λ x. x.born.serial ≡ serial) }
 {
     let _in_order = scene.blocks.births();
     match scene.blocks.find(serial) {
-        Some(b) => {
-            let h = held_by(scene, b)?;
-            Ok(Some(h))
-        }
-        None => Ok(None),
+        Some(b) => Some(held_by(scene, b)),
+        None => None,
     }
 }
 
@@ -123,18 +109,14 @@ fn has_serial(h: Held<'_>, serial: u64) -> bool
 }
 
 /// The live block with a serial, which may be this one.
-fn this_or_other<'a>(
-    scene: Scene<'a>,
-    h: Held<'a>,
-    serial: u64,
-) -> Result<Option<Held<'a>>, OutOfMemory>
+fn this_or_other<'a>(scene: Scene<'a>, h: Held<'a>, serial: u64) -> Option<Held<'a>>
     requires layouts { AreLayouts scene.program.now scene.touched.now scene.layouts.now }
     requires held { IsHeld scene.program.now scene.touched.now scene.blocks.now h }
-    ensures held { IfOk result (λ o. MatchOption o (born_at scene.entry.blocks.now.memory serial ≡ None) (λ x. IsHeld scene.entry.program.now scene.entry.touched.now scene.entry.blocks.now x)) }
-    ensures serial { IfOk result (λ o. MatchOption o (Unit {0}) (λ x. x.born.serial ≡ serial)) }
+    ensures held { MatchOption result (born_at scene.entry.blocks.now.memory serial ≡ None) (λ x. IsHeld scene.entry.program.now scene.entry.touched.now scene.entry.blocks.now x) }
+    ensures serial { MatchOption result (Unit {0}) (λ x. x.born.serial ≡ serial) }
 {
     if has_serial(h, serial) {
-        Ok(Some(h))
+        Some(h)
     } else {
         block_at(scene, serial)
     }
@@ -145,11 +127,11 @@ pub(crate) fn block_behind<'a>(
     scene: Scene<'a>,
     last: Option<Held<'a>>,
     serial: u64,
-) -> Result<Option<Held<'a>>, OutOfMemory>
+) -> Option<Held<'a>>
     requires layouts { AreLayouts scene.program.now scene.touched.now scene.layouts.now }
     requires last { MatchOption last (Unit {0}) (λ x. IsHeld scene.program.now scene.touched.now scene.blocks.now x) }
-    ensures held { IfOk result (λ o. MatchOption o (born_at scene.entry.blocks.now.memory serial ≡ None) (λ x. IsHeld scene.entry.program.now scene.entry.touched.now scene.entry.blocks.now x)) }
-    ensures serial { IfOk result (λ o. MatchOption o (Unit {0}) (λ x. x.born.serial ≡ serial)) }
+    ensures held { MatchOption result (born_at scene.entry.blocks.now.memory serial ≡ None) (λ x. IsHeld scene.entry.program.now scene.entry.touched.now scene.entry.blocks.now x) }
+    ensures serial { MatchOption result (Unit {0}) (λ x. x.born.serial ≡ serial) }
 {
     match last {
         Some(h) => this_or_other(scene, h, serial),

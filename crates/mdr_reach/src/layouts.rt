@@ -4,7 +4,7 @@ ghost use Rattle.std.specs.Prelude.{◌≡◌, IfOk, Some, length, slice_get};
 ghost use Rattle.mdr_core.specs.declared.types.Ty.{out-Ty};
 ghost use Rattle.mdr_core.specs.Layout.{field_start};
 ghost use Rattle.mdr_meaning.specs.Pointers.{size};
-ghost use Rattle.mdr_reach.specs.Spots.{AreLayouts, IsRowOf, row_at, row_by, row_or, start_in};
+ghost use Rattle.mdr_reach.specs.Spots.{AreLayouts, HasFewCells, IsRowOf, row_at, row_by, row_or, start_in};
 
 use crate::rows::{Around, Row, no_cells, push_scalar, rows_of};
 use mdr_core::{Items, Key, OutOfMemory, Program, Ty};
@@ -78,21 +78,23 @@ pub(crate) fn row_for<'a>(
 }
 
 /// How many cells an element has of the type with a number.
-pub(crate) fn size_of(layouts: &Layouts, program: &Program, touched: &[Key], ty: u32) -> usize
+pub(crate) fn size_of(layouts: &Layouts, program: &Program, touched: &[Key], ty: u32) -> u32
     requires { AreLayouts program.now touched.now layouts.now }
     ensures { result ≡ size program.now ty }
 {
-    row_for(layouts, program, touched, ty).arounds.len()
+    cells_of(row_for(layouts, program, touched, ty))
+}
+
+/// How many cells a row has.
+fn cells_of(row: &Row) -> u32
+    requires { HasFewCells row.now }
+    ensures { result ≡ length row.now.arounds }
+{
+    row.arounds.len() as u32
 }
 
 /// The cell of a struct with which a field begins.
-pub(crate) fn start_of(
-    layouts: &Layouts,
-    program: &Program,
-    touched: &[Key],
-    s: u32,
-    f: u32,
-) -> usize
+pub(crate) fn start_of(layouts: &Layouts, program: &Program, touched: &[Key], s: u32, f: u32) -> u32
     requires { AreLayouts program.now touched.now layouts.now }
     ensures { result ≡ field_start program.now.structs s f }
 {
@@ -102,11 +104,12 @@ pub(crate) fn start_of(
     }
 }
 
-fn start_in(row: &Row, f: u32) -> usize
+fn start_in(row: &Row, f: u32) -> u32
+    requires { HasFewCells row.now }
     ensures { result ≡ start_in (Some row.now) f }
 {
     match row.starts.as_slice().get(f as usize) {
         Some(start) => *start,
-        None => row.arounds.len(),
+        None => cells_of(row),
     }
 }

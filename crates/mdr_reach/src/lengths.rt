@@ -1,6 +1,6 @@
 // Lengths that annotations name.
 
-ghost use Rattle.std.specs.Prelude.{◌≡◌, IfOk, map, option_map, slice_get};
+ghost use Rattle.std.specs.Prelude.{◌≡◌, map, option_map, slice_get};
 ghost use Rattle.std.specs.Prelude.{◌+◌};
 ghost use Rattle.mdr_core.specs.Layout.{field_start};
 ghost use Rattle.mdr_extents.specs.Extent.{length_now, number_in};
@@ -13,9 +13,8 @@ ghost use Rattle.mdr_reach.specs.Spots.{AreLayouts};
 use crate::held::{block_at, value_at};
 use crate::layouts::start_of;
 use crate::lists::item;
-use crate::numbers::sum;
 use crate::scene::Scene;
-use mdr_core::{LenOf, OutOfMemory, Value};
+use mdr_core::{LenOf, Value};
 
 /// What holds the siblings of a pointer: nothing, the fields of the struct with this number that begins at a cell of a
 /// block with these values, or the parameters of a call.
@@ -37,55 +36,54 @@ fn number(value: Option<Value>) -> i128
     }
 }
 
-/// A field's number. What is past all cells counts as 0.
-fn field_number(
-    scene: Scene<'_>,
-    cells: &[Value],
-    start: u64,
-    s: u32,
-    f: u32,
-) -> Result<i128, OutOfMemory>
-    requires { AreLayouts scene.program.now scene.touched.now scene.layouts.now }
-    ensures { IfOk result (λ n. n ≡ number_in (slice_get (map (wire_in scene.entry.blocks.now.handles) cells.now) (start + field_start scene.entry.program.now.structs s f))) }
+/// The value so many items behind one, if there are as many.
+fn item_behind(values: &[Value], start: u64, more: u32) -> Option<Value>
+    ensures { result ≡ slice_get values.now (start + more) }
 {
-    let begins = start_of(scene.layouts, scene.program, scene.touched, s, f) as u64;
-    let index = sum(start, begins)?;
-    Ok(number(item(cells, index)))
-}
-
-fn sibling_number(scene: Scene<'_>, siblings: Siblings<'_>, n: u32) -> Result<i128, OutOfMemory>
-    requires { AreLayouts scene.program.now scene.touched.now scene.layouts.now }
-    ensures { IfOk result (λ x. x ≡ number_in (siblings_of scene.entry.program.now scene.entry.blocks.now.handles siblings.entry n)) }
-{
-    match siblings {
-        Siblings::Nothing => Ok(0),
-        Siblings::Fields(cells, start, s) => field_number(scene, cells, start, s, n),
-        Siblings::Passed(values) => Ok(number(item(values, n as u64))),
+    match start.checked_add(more as u64) {
+        Some(index) => item(values, index),
+        None => None,
     }
 }
 
-fn global_number(scene: Scene<'_>, g: u32) -> Result<i128, OutOfMemory>
+/// A field's number. What is past all cells counts as 0.
+fn field_number(scene: Scene<'_>, cells: &[Value], start: u64, s: u32, f: u32) -> i128
     requires { AreLayouts scene.program.now scene.touched.now scene.layouts.now }
-    ensures { IfOk result (λ n. n ≡ number_in (cell_at scene.entry.blocks.now.memory (record { serial = g; index = 0 }))) }
+    ensures { result ≡ number_in (slice_get (map (wire_in scene.entry.blocks.now.handles) cells.now) (start + field_start scene.entry.program.now.structs s f)) }
 {
-    match block_at(scene, g as u64)? {
-        Some(h) => Ok(number(value_at(scene, h, 0))),
-        None => Ok(0),
+    let begins = start_of(scene.layouts, scene.program, scene.touched, s, f);
+    number(item_behind(cells, start, begins))
+}
+
+fn sibling_number(scene: Scene<'_>, siblings: Siblings<'_>, n: u32) -> i128
+    requires { AreLayouts scene.program.now scene.touched.now scene.layouts.now }
+    ensures { result ≡ number_in (siblings_of scene.entry.program.now scene.entry.blocks.now.handles siblings.entry n) }
+{
+    match siblings {
+        Siblings::Nothing => 0,
+        Siblings::Fields(cells, start, s) => field_number(scene, cells, start, s, n),
+        Siblings::Passed(values) => number(item(values, n as u64)),
+    }
+}
+
+fn global_number(scene: Scene<'_>, g: u32) -> i128
+    requires { AreLayouts scene.program.now scene.touched.now scene.layouts.now }
+    ensures { result ≡ number_in (cell_at scene.entry.blocks.now.memory (record { serial = g; index = 0 })) }
+{
+    match block_at(scene, g as u64) {
+        Some(h) => number(value_at(scene, h, 0)),
+        None => 0,
     }
 }
 
 /// A length, in the memory as it is.
 #[tactic(auto, unfolding(mdr_extents::specs::Extent::length_now))]
-pub(crate) fn length_now(
-    scene: Scene<'_>,
-    siblings: Siblings<'_>,
-    length: LenOf,
-) -> Result<i128, OutOfMemory>
+pub(crate) fn length_now(scene: Scene<'_>, siblings: Siblings<'_>, length: LenOf) -> i128
     requires { AreLayouts scene.program.now scene.touched.now scene.layouts.now }
-    ensures { IfOk result (λ n. n ≡ length_now scene.entry.blocks.now.memory (siblings_of scene.entry.program.now scene.entry.blocks.now.handles siblings.entry) length) }
+    ensures { result ≡ length_now scene.entry.blocks.now.memory (siblings_of scene.entry.program.now scene.entry.blocks.now.handles siblings.entry) length }
 {
     match length {
-        LenOf::Const(n) => Ok(n as i128),
+        LenOf::Const(n) => n as i128,
         LenOf::Sibling(n) => sibling_number(scene, siblings, n),
         LenOf::Global(g) => global_number(scene, g),
     }

@@ -1,6 +1,6 @@
 // Cells that are marked as visible, in the order in which they are met.
 
-ghost use Rattle.std.specs.Prelude.{◌≡◌, ◌==◌, ◌||◌, ◌+◌, ◌*◌, ◌++◌, ◌∷◌, [], Bool, IfOk, MatchOption, None, OnOk, length, nat_lt, not};
+ghost use Rattle.std.specs.Prelude.{◌≡◌, ◌==◌, ◌||◌, ◌+◌, ◌*◌, ◌<◌, ◌≤◌, ◌++◌, ◌∷◌, [], Bool, IfOk, MatchOption, None, OnOk, length, nat_lt, not};
 ghost use Rattle.mdr_cells.specs.Names.{cell_of, named};
 ghost use Rattle.mdr_core.specs.Layout.{chosen};
 ghost use Rattle.mdr_extents.specs.CellOrder.{cells};
@@ -16,7 +16,6 @@ ghost use Rattle.mdr_reach.specs.Spots.{AreLayouts};
 
 use crate::extent::{Extent, element_size};
 use crate::held::{Held, block_at, block_behind, counts};
-use crate::numbers::{product, sum};
 use crate::scene::Scene;
 use indexmap::IndexSet;
 use mdr_cells::CellName;
@@ -55,6 +54,23 @@ fn enter(
     }
 }
 
+/// Where so many cells from one on end, as far as a block of so many has them.
+fn end_of(first: u64, count: u64, cells: usize) -> u64
+    ensures from { first ≤ result }
+    ensures most { result ≤ first + count }
+    ensures whole { result < first + count → cells ≤ result }
+{
+    let cells = cells as u64;
+    if cells <= first {
+        return first;
+    }
+    if count < cells - first {
+        first + count
+    } else {
+        cells
+    }
+}
+
 /// Marks those of so many cells of a block that count.
 #[tactic(auto, unfolding(crate::specs::Marks::entered))]
 fn enter_in(
@@ -67,7 +83,7 @@ fn enter_in(
     requires held { IsHeld scene.program.now scene.touched.now scene.blocks.now h }
     ensures { OnOk result (named marked.new.keys ≡ entered (counts_at scene.entry.program.now scene.entry.touched.now scene.entry.blocks.now.memory) (named marked.old.keys) (cells_from h.entry.born.serial first count)) }
 {
-    let end = sum(first, count)?;
+    let end = end_of(first, count, h.cells.len());
     let mut index = first;
     while index < end {
         enter(scene, marked, h, index)?;
@@ -87,7 +103,7 @@ fn enter_from(
     requires { AreLayouts scene.program.now scene.touched.now scene.layouts.now }
     ensures { OnOk result (named marked.new.keys ≡ entered (counts_at scene.entry.program.now scene.entry.touched.now scene.entry.blocks.now.memory) (named marked.old.keys) (cells_from serial first count)) }
 {
-    match block_at(scene, serial)? {
+    match block_at(scene, serial) {
         Some(h) => {
             enter_in(scene, marked, h, first, count)?;
             Ok(())
@@ -101,14 +117,14 @@ fn enter_elements(
     scene: Scene<'_>,
     marked: &mut IndexSet<CellName>,
     p: View,
-    count: u64,
+    count: u32,
 ) -> Result<(), OutOfMemory>
     requires { AreLayouts scene.program.now scene.touched.now scene.layouts.now }
     ensures { OnOk result (named marked.new.keys ≡ entered (counts_at scene.entry.program.now scene.entry.touched.now scene.entry.blocks.now.memory) (named marked.old.keys) (cells_from p.block.serial (p.first + p.index * size scene.entry.program.now p.ty) (count * size scene.entry.program.now p.ty))) }
 {
-    let size = element_size(scene, p.ty)?;
+    let size = element_size(scene, p.ty);
     let first = p.first as u64 + p.index as u64 * size as u64;
-    let cells = product(count, size as u64)?;
+    let cells = count as u64 * size as u64;
     enter_from(scene, marked, p.block.serial, first, cells)?;
     Ok(())
 }
@@ -119,7 +135,7 @@ fn enter_target(
     scene: Scene<'_>,
     marked: &mut IndexSet<CellName>,
     value: Value,
-    count: u64,
+    count: u32,
 ) -> Result<(), OutOfMemory>
     requires { AreLayouts scene.program.now scene.touched.now scene.layouts.now }
     ensures { OnOk result (named marked.new.keys ≡ entered (counts_at scene.entry.program.now scene.entry.touched.now scene.entry.blocks.now.memory) (named marked.old.keys) (cells_in scene.entry.program.now scene.entry.touched.now scene.entry.blocks.now.memory (wire_of value) (Elements count))) }
@@ -190,7 +206,7 @@ pub(crate) fn enter_names(
 {
     let mut last = None;
     for name in names {
-        let block = block_behind(scene, last, name.serial)?;
+        let block = block_behind(scene, last, name.serial);
         enter_name(scene, marked, *name, block)?;
         last = block;
     }
@@ -206,7 +222,7 @@ fn enter_global(
     requires layouts { AreLayouts scene.program.now scene.touched.now scene.layouts.now }
     ensures { (test : Cell → Bool) → AreMarked (counts_at scene.entry.program.now scene.entry.touched.now scene.entry.blocks.now.memory) test (named marked.old.keys) → OnOk result (AreMarked (counts_at scene.entry.program.now scene.entry.touched.now scene.entry.blocks.now.memory) (λ c. test c || (c.serial == global)) (named marked.new.keys)) }
 {
-    match block_at(scene, global)? {
+    match block_at(scene, global) {
         Some(h) => {
             enter_in(scene, marked, h, 0, h.cells.len() as u64)?;
             Ok(())

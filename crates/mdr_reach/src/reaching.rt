@@ -63,7 +63,7 @@ fn reached(
     let mut i = 0;
     while i < marked.len() {
         let name = name_at(&marked, i);
-        let block = block_behind(scene, last, name.serial)?;
+        let block = block_behind(scene, last, name.serial);
         failing = follow_on(scene, &mut marked, name, block, failing)?;
         last = block;
         i += 1;

@@ -4,12 +4,12 @@
 ghost use Rattle.std.specs.Prelude.{◌≡◌, ◌++◌, ◌∷◌, [], length, option_copied, slice_get, IfOk, OnOk};
 ghost use Rattle.mdr_core.specs.Layout.{fields_of, repeated};
 ghost use Rattle.mdr_extents.specs.Around.{element_offsets, field_offsets, offsets};
-ghost use Rattle.mdr_reach.specs.Spots.{AreRows, element_arounds, field_arounds, field_starts, in_field, known_arounds, known_offsets};
+ghost use Rattle.mdr_reach.specs.Spots.{AreRows, HasFewCells, element_arounds, field_arounds, field_starts, in_field, known_arounds, known_offsets};
 
 use crate::keys::is_listed;
 use crate::lists::push_all;
 use crate::numbers::small;
-use mdr_core::{Field, Items, Key, OutOfMemory, StructDef, Ty};
+use mdr_core::{Field, Items, Key, Limit, OutOfMemory, StructDef, Ty, within};
 use std::alloc::Global;
 
 /// What stands innermost around a cell: no struct, or a field of one, and whether the field's key is among those that may
@@ -26,7 +26,7 @@ pub enum Around {
 pub struct Row {
     pub arounds: Items<Around>,
     pub offsets: Items<usize>,
-    pub starts: Items<usize>,
+    pub starts: Items<u32>,
 }
 
 /// The row without cells.
@@ -139,7 +139,7 @@ fn push_field(
     ensures starts { OnOk result (row.new.starts ≡ row.old.starts ++ length row.old.arounds ∷ []) }
 {
     let f = small(f)?;
-    let start = row.arounds.len();
+    let start = small(row.arounds.len())?;
     row.starts.push(start)?;
     push_elements(
         row,
@@ -160,6 +160,14 @@ pub(crate) fn fields(structs: &[StructDef], s: u32) -> &[Field]
     }
 }
 
+/// A row has few cells, or is too large to be held.
+fn are_few(row: &Row) -> Result<(), OutOfMemory>
+    ensures { OnOk result (HasFewCells row.now) }
+{
+    within(row.arounds.len() as u64, Limit::Cells)?;
+    Ok(())
+}
+
 /// The row of a struct's fields, where lower structs have theirs.
 fn fields_row(
     alloc: Global,
@@ -171,11 +179,13 @@ fn fields_row(
     ensures arounds { IfOk result (λ row. row.arounds ≡ field_arounds touched.now (known_arounds rows.now) s 0 fields.now) }
     ensures offsets { IfOk result (λ row. row.offsets ≡ field_offsets (known_offsets rows.now) 0 fields.now) }
     ensures starts { IfOk result (λ row. row.starts ≡ field_starts (known_arounds rows.now) 0 fields.now) }
+    ensures few { IfOk result HasFewCells }
 {
     let mut row = no_cells(alloc);
     for (f, field) in fields.iter().enumerate() {
         push_field(&mut row, rows, touched, s, f, field)?;
     }
+    are_few(&row)?;
     Ok(row)
 }
 

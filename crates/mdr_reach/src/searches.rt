@@ -1,6 +1,6 @@
 // The first element of a view that is empty.
 
-ghost use Rattle.std.specs.Prelude.{◌≡◌, ◌+◌, ◌*◌, ◌-◌, ◌<◌, ◌^◌, map, option_map, slice_get};
+ghost use Rattle.std.specs.Prelude.{◌≡◌, ◌+◌, ◌*◌, ◌-◌, ◌<◌, ◌^◌, MatchOption, map, option_map, slice_get};
 ghost use Rattle.mdr_extents.specs.Extent.{first_of, is_empty};
 ghost use Rattle.mdr_meaning.specs.Values.{wire_of};
 
@@ -42,7 +42,8 @@ pub(crate) fn first_empty(
     from: u32,
     end: u32,
 ) -> Option<u32>
-    ensures { result ≡ first_of (λ i. is_empty (slice_get (map wire_of cells.now) (first + i * size + start))) from (end - from) }
+    ensures found { result ≡ first_of (λ i. is_empty (slice_get (map wire_of cells.now) (first + i * size + start))) from (end - from) }
+    ensures before { MatchOption result (Unit {0}) (λ i. i < end) }
 {
     let mut i = from;
     while i < end {

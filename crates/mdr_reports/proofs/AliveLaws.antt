@@ -54,14 +54,23 @@ reaches Left Gives _ (ended K y u l g) x w e =
     record { known = K; left = subst (Left K) same.1 l; gives = subst (λ v. Gives K v w) same.0 (subst (Gives K y) same.1 g) }
 reaches Left Gives _ (stopped K kind at u l) x w e = absurd cc
 
--- what stands around code leaves such states where it ends
-pub record EndsAround (program : Program) (uses : Uses) (serves : Asked → World → Ran (List Wire)) (crosses : Crossing) (before : Before) : Type 0 where
+-- what stands around code of a side leaves such states where it ends
+pub record EndsAround (program : Program) (uses : Uses) (side : Side) (serves : Asked → World → Ran (List Wire)) (crosses : Crossing) (before : Before) : Type 0 where
   pub serve : (K : Knowledge) (w : World) → K.uses ≡ uses → Holds program K w → (from : ℕ) (live remains : List Wire) (a : Asked) (s : Service) → from ≤ next_serial w → AreObjects w.memory from live
       → service_numbered a.service ≡ Some s → IsAsk program K a s → Leaves s a live remains
       → (rs : List Wire) (w' : World) → serves a w ≡ Ended rs w' → Reaches (Later program from K w) (GivesServed program a s from remains w) rs w'
-  pub cross : (K : Knowledge) (w : World) → K.uses ≡ uses → Holds program K w → (at : At) (f : ℕ) (args : List Wire) (depth : ℕ) (func : Func) → IsCall program K func at.func f args depth
+  pub cross : (K : Knowledge) (w : World) → K.uses ≡ uses → Holds program K w → (at : At) (f : ℕ) (args : List Wire) (depth : ℕ) (func : Func) → IsPlace side at → side.own f ≡ None → IsCall program K func at.func f args depth
       → (v : Wire) (w' : World) → crosses at f args depth w ≡ Ended v w' → Reaches (Later program (next_serial w) K w) (λ K' x u. IsResult program K' func.result x) v w'
   pub tries : (K : Knowledge) (w : World) → K.uses ≡ uses → Holds program K w → (depth : ℕ) (x : Unit {0}) (w' : World) → before depth w ≡ Ended x w' → Reaches (Later program (next_serial w) K w) (λ K' y u. Unit {0}) x w'
+
+-- a call of the other half, as a fair tree of a side makes it
+pub record IsCrossing (program : Program) (uses : Uses) (side : Side) (at : At) (f : ℕ) (args : List Wire) (depth : ℕ) : Type 0 where
+  pub known : Knowledge
+  pub uses_are : known.uses ≡ uses
+  pub func : Func
+  pub place : IsPlace side at
+  pub none : side.own f ≡ None
+  pub call : IsCall program known func at.func f args depth
 
 -- what stands around code does the same as something else, where a fair tree asks with, and passes, what is current. What it is answered is current as well; and some property of states is kept
 pub record AreAliveAround (program : Program) (uses : Uses) (side : Side) (P : World → Type 0) (serves : Asked → World → Ran (List Wire)) (crosses : Crossing) (before : Before) (serves' : Asked → World → Ran (List Wire)) (crosses' : Crossing) (before' : Before) : Type 0 where
@@ -73,14 +82,14 @@ pub record AreAliveAround (program : Program) (uses : Uses) (side : Side) (P : W
   -- answers
   pub served : (a : Asked) (w : World) (rs : List Wire) (w' : World) → serves a w ≡ Ended rs w' → AreCurrent (is_live w'.memory) rs
   pub left : (a : Asked) (w : World) (rs : List Wire) (w' : World) → service_numbered a.service ≡ Some Leave → AreCurrent (is_live w.memory) a.args → serves a w ≡ Ended rs w' → is_live w'.memory ≡ without a.args (is_live w.memory)
-  pub result : (at : At) (f : ℕ) (args : List Wire) (depth : ℕ) (w : World) (v : Wire) (w' : World) → crosses at f args depth w ≡ Ended v w' → IsCurrent (is_live w'.memory) v
+  pub result : (at : At) (f : ℕ) (args : List Wire) (depth : ℕ) → IsCrossing program uses side at f args depth → (w : World) (v : Wire) (w' : World) → crosses at f args depth w ≡ Ended v w' → IsCurrent (is_live w'.memory) v
   -- the property
   pub keeps_serve : (a : Asked) (w : World) (rs : List Wire) (w' : World) → P w → serves a w ≡ Ended rs w' → P w'
-  pub keeps_cross : (at : At) (f : ℕ) (args : List Wire) (depth : ℕ) (w : World) (v : Wire) (w' : World) → P w → crosses at f args depth w ≡ Ended v w' → P w'
+  pub keeps_cross : (at : At) (f : ℕ) (args : List Wire) (depth : ℕ) → IsCrossing program uses side at f args depth → (w : World) (v : Wire) (w' : World) → P w → crosses at f args depth w ≡ Ended v w' → P w'
   pub keeps_try : (depth : ℕ) (w : World) (x : Unit {0}) (w' : World) → P w → before depth w ≡ Ended x w' → P w'
 
-module _ (program : Program) (sound : IsSound program) (uses : Uses) (serves : Asked → World → Ran (List Wire)) (crosses : Crossing) (before : Before) (around : EndsAround program uses serves crosses before) (allowed : World → Cell → Bool)
-    (most : ℕ) (side : Side) (result : Ty) (from : ℕ) (P : World → Type 0) (serves' : Asked → World → Ran (List Wire)) (crosses' : Crossing) (before' : Before) (alive : AreAliveAround program uses side P serves crosses before serves' crosses' before') where
+module _ (program : Program) (sound : IsSound program) (uses : Uses) (serves : Asked → World → Ran (List Wire)) (crosses : Crossing) (before : Before) (side : Side) (around : EndsAround program uses side serves crosses before) (allowed : World → Cell → Bool)
+    (most : ℕ) (result : Ty) (from : ℕ) (P : World → Type 0) (serves' : Asked → World → Ran (List Wire)) (crosses' : Crossing) (before' : Before) (alive : AreAliveAround program uses side P serves crosses before serves' crosses' before') where
   abbrev here : Setting
   here = record { accesses = accesses program allowed; serves = serves; crosses = crosses }
 
@@ -230,16 +239,17 @@ module _ (program : Program) (sound : IsSound program) (uses : Uses) (serves : A
       (alive.serve K w s.uses_are s.holds s.property a (asked_current K live (is_live w.memory) a fair.1.0 (λ lives' own' rs. Current count lives' own' (k rs)) fair.1.2 now))
   tree_alive (Tree.Cross at f args d k) K live fair w s c =
       same_after (crosses at f args d w) _ _
-      (λ v w' e. let r = around.cross K w s.uses_are s.holds at f args d fair.2.0 fair.2.1 v w' e in
-      let s' : Stands r.known live w' = goes_on K r.known live w w' s r.left (alive.keeps_cross at f args d w v w' s.property e) in
-      tree_alive (k v) r.known live (fair.2.2 r.known r.left.grows v r.gives) w' s' (c.1 (is_live w'.memory) v (known_lives r.known live w' s') (alive.result at f args d w v w' e)))
+      (λ v w' e. let crossing : IsCrossing program uses side at f args d = record { known = K; uses_are = s.uses_are; func = fair.2.0; place = fair.0; none = fair.1; call = fair.2.1 } in
+      let r = around.cross K w s.uses_are s.holds at f args d fair.2.0 fair.0 fair.1 fair.2.1 v w' e in
+      let s' : Stands r.known live w' = goes_on K r.known live w w' s r.left (alive.keeps_cross at f args d crossing w v w' s.property e) in
+      tree_alive (k v) r.known live (fair.2.2 r.known r.left.grows v r.gives) w' s' (c.1 (is_live w'.memory) v (known_lives r.known live w' s') (alive.result at f args d crossing w v w' e)))
       ∙ ap (λ (r : Ran Wire). after r (λ v w'. run_alive there before' (k v) w')) (alive.cross K w s.uses_are s.holds s.property at f args d fair.2.0 fair.0 fair.1 fair.2.1 c.0)
 
 -- running code of a fair tree whose values are current
-pub code_alive : (program : Program) → IsSound program → (uses : Uses) (serves : Asked → World → Ran (List Wire)) (crosses : Crossing) (before : Before) → EndsAround program uses serves crosses before → (allowed : World → Cell → Bool)
-    → (most : ℕ) (side : Side) (result : Ty) (P : World → Type 0) (serves' : Asked → World → Ran (List Wire)) (crosses' : Crossing) (before' : Before) → AreAliveAround program uses side P serves crosses before serves' crosses' before'
+pub code_alive : (program : Program) → IsSound program → (uses : Uses) (serves : Asked → World → Ran (List Wire)) (crosses : Crossing) (before : Before) (side : Side) → EndsAround program uses side serves crosses before → (allowed : World → Cell → Bool)
+    → (most : ℕ) (result : Ty) (P : World → Type 0) (serves' : Asked → World → Ran (List Wire)) (crosses' : Crossing) (before' : Before) → AreAliveAround program uses side P serves crosses before serves' crosses' before'
     → (K : Knowledge) (w : World) (t : Tree) → K.uses ≡ uses → Holds program K w → P w → FairTo most program side result K [] t → Current (length program.globals) (is_live w.memory) [] t
     → run (record { accesses = accesses program allowed; serves = serves; crosses = crosses }) before t w ≡ run_alive (record { accesses = accesses program allowed; serves = serves'; crosses = crosses' }) before' t w
-code_alive program sound uses serves crosses before around allowed most side result P serves' crosses' before' alive K w t same h p fair current =
-    tree_alive program sound uses serves crosses before around allowed most side result (next_serial w) P serves' crosses' before' alive t K [] fair w
+code_alive program sound uses serves crosses before side around allowed most result P serves' crosses' before' alive K w t same h p fair current =
+    tree_alive program sound uses serves crosses before side around allowed most result (next_serial w) P serves' crosses' before' alive t K [] fair w
     (record { holds = h; uses_are = same; early = omega arith; objects = tt; property = p }) current

@@ -1,12 +1,10 @@
 -- Code of the kernel half does the same where the run would end with what is passed on dead, or with a call of user code.
-use Rattle.std.proofs.Common.{◌≡◌, ◌⊎◌, inl, inr, ℕ, suc, ◌+◌, ◌<◌, ◌≤◌, Bool, true, false, not, List, [], ◌∷◌, length, map, slice_get, get_or, Option, Some, None, is_some, refl, sym, ap, ◌∙◌, subst, arith}
-use Rattle.std.proofs.lemmas.Option.{slice_get_cases, slice_get_within}
+use Rattle.std.proofs.Common.{◌≡◌, inr, ℕ, suc, ◌+◌, Bool, true, false, not, List, [], ◌∷◌, map, slice_get, Option, Some, None, refl, sym, ap, ◌∙◌, subst}
 use Rattle.mdr_callees.specs.Callees.{uses_by}
 use Rattle.mdr_callees.proofs.BackLaws.{one_graph}
-use Rattle.mdr_callees.proofs.HalfLaws.{nowhere}
 use Rattle.mdr_core.specs.declared.place.At.{At}
 use Rattle.mdr_core.specs.declared.plan.Half.{Half}
-use Rattle.mdr_core.specs.declared.plan.Half.TheVariants.{Kernel, User}
+use Rattle.mdr_core.specs.declared.plan.Half.TheVariants.{Kernel}
 use Rattle.mdr_core.specs.declared.plan.Plan.{Plan}
 use Rattle.mdr_core.specs.declared.program.Func.{Func}
 use Rattle.mdr_core.specs.declared.program.Param.{Param}
@@ -14,17 +12,15 @@ use Rattle.mdr_core.specs.declared.program.Program.{Program}
 use Rattle.mdr_core.specs.declared.types.Ty.TheVariants.{Void}
 use Rattle.mdr_core.specs.Layout.{chosen}
 use Rattle.mdr_meaning.specs.declared.wire.Wire.{Wire}
-use Rattle.mdr_meaning.specs.declared.wire.Wire.TheVariants as wire
-use Rattle.mdr_meaning.specs.Bodies.{body_from, body_of, kernel_side, started, user_side}
-use Rattle.mdr_meaning.specs.Fair.{AllFit, IsPlace}
+use Rattle.mdr_meaning.specs.Bodies.{body_of, started, user_side}
+use Rattle.mdr_meaning.specs.Fair.{AllFit}
 use Rattle.mdr_meaning.specs.Fit.{Knowledge}
-use Rattle.mdr_meaning.specs.Sides.{Body}
+use Rattle.mdr_meaning.specs.Sides.{Body, Side}
 use Rattle.mdr_meaning.specs.Tree.{Asked, Tree}
 use Rattle.mdr_meaning.specs.Within.{Uses}
-use Rattle.mdr_model.specs.Memory.{is_live, normal}
+use Rattle.mdr_model.specs.Memory.{is_live}
 use Rattle.mdr_paths.specs.Chains.{Begin}
 use Rattle.mdr_plain.specs.Gate.{Gate, are_none, due}
-use Rattle.mdr_plain.specs.Plain.{never}
 use Rattle.mdr_plain.specs.Running.{Before, Crossing, all_cells, call, handled, handling, in_kernel, interrupted, interrupts, nothing, run}
 use Rattle.mdr_plain.specs.Services.{served}
 use Rattle.mdr_plain.specs.Storage.{next_serial}
@@ -34,28 +30,28 @@ use Rattle.mdr_plain.proofs.RunLaws.{interrupts_are_gated}
 use Rattle.mdr_slice.specs.declared.halves.Halves.{Halves}
 use Rattle.mdr_watched.specs.Driver.{Driver, driver_of, is_user, is_user_half}
 use Rattle.mdr_watched.specs.Kept.{due_plainly, meets_none, unless_due}
-use Rattle.mdr_watched.specs.Watched.{kernel_of}
+use Rattle.mdr_watched.specs.Watched.{kernel_of, kernel_with, may_not}
 use Rattle.mdr_watched.proofs.KeptProofs.{tries_lead}
 use Rattle.mdr_holds.specs.Holding.{Holds, IsHandler}
-use Rattle.mdr_holds.specs.Laws.{IsAround, IsCalled, IsDriver}
+use Rattle.mdr_holds.specs.Laws.{CallsItself, IsAround, IsCalled, IsDriver}
 use Rattle.mdr_holds.specs.Leaving.{GivesResult, Later}
 use Rattle.mdr_holds.proofs.Drivers.{programs_are_drivers}
-use Rattle.mdr_holds.proofs.Kernel.{alone, goes, start_fair, with_interrupts}
+use Rattle.mdr_holds.proofs.Kernel.{kernel_code_leaves, may_not_across, start_fair, with_interrupts}
 use Rattle.mdr_holds.proofs.Steps.{kept_later}
-use Rattle.mdr_scoped.specs.Current.{AreCurrent, IsCurrent}
+use Rattle.mdr_scoped.specs.Current.{AreCurrent}
 use Rattle.mdr_scoped.proofs.TreeLaws.{scoped_trees_are_current}
-use Rattle.mdr_kept.specs.Strict.{call_alone, crosses_nowhere, handled_alone, in_kernel_alone, run_alive, tries, unless}
+use Rattle.mdr_kept.specs.Strict.{call_alone, handled_alone, in_kernel_alone, run_alive, tries}
 use Rattle.mdr_reports.specs.Laws.{IsDriven}
-use Rattle.mdr_reports.proofs.AliveLaws.{AreAliveAround, EndsAround, Reaches, code_alive, ended_is, reaches}
+use Rattle.mdr_reports.proofs.AliveLaws.{AreAliveAround, EndsAround, IsCrossing, Reaches, code_alive, reaches}
 use Rattle.mdr_reports.proofs.CallLaws.{AnswersCurrent, LeavesWithout, served_current, served_keep, served_left}
 use Rattle.mdr_reports.proofs.Graphs.{graph_is, graph_of}
 use Rattle.mdr_reports.proofs.LiveLaws.{knows}
 
 -- what leaves states that hold leaves such states where it ends
-pub as_ends : (program : Program) (uses : Uses) (serves : Asked → World → Ran (List Wire)) (crosses : Crossing) (before : Before) → IsAround program uses serves crosses before → EndsAround program uses serves crosses before
-as_ends program uses serves crosses before around = record {
+pub as_ends : (program : Program) (uses : Uses) (side : Side) (serves : Asked → World → Ran (List Wire)) (crosses : Crossing) (before : Before) → IsAround program uses serves crosses before → EndsAround program uses side serves crosses before
+as_ends program uses side serves crosses before around = record {
   serve = λ K w same h from live remains a s early objects names ask parts rs w' e. reaches _ _ (serves a w) (around.serve K w same h from live remains a s early objects names ask parts) rs w' e;
-  cross = λ K w same h at f args depth func c v w' e.
+  cross = λ K w same h at f args depth func place none c v w' e.
       let r : Reaches (Later program (next_serial w) K w) (GivesResult program func.result w) v w' = reaches _ _ (crosses at f args depth w) (around.cross K w same h at f args depth func c) v w' e in
       record { known = r.known; left = r.left; gives = r.gives.fits };
   tries = λ K w same h depth x w' e.
@@ -84,28 +80,19 @@ module _ (program : Program) (plan : Plan) (driven : IsDriven program plan) wher
 
   -- ---- functions of the kernel half
 
-  func_there : (f : ℕ) (body : Body) → body_of program f ≡ Some body → f < length program.funcs
-  unfolding body_of
-  func_there f body e = of (slice_get program.funcs f) refl e where
-    of : (o : Option Func) → slice_get program.funcs f ≡ o → body_from o ≡ Some body → f < length program.funcs
-    of None q h = absurd cc
-    of (Some func) q h = slice_get_within program.funcs f func q
+  -- its code calls no other function
+  itself : CallsItself uses d.kernel
+  itself = programs_are_drivers.kernel program plan driven.sliced.roots halves driven.sliced.are_halves driven.sliced.halves_are driven.bodies (graph_of program) (graph_is program)
 
-  by_half : (f : ℕ) (o : Option Half) → slice_get halves.halves f ≡ o → is_user_half o ≡ false → f < length program.funcs → slice_get halves.halves f ≡ Some Kernel
-  by_half f (Some Kernel) q h inside = q
-  by_half f (Some User) q h inside = absurd cc
-  by_half f None q h inside = absurd (outside (slice_get_cases halves.halves f).1) where
-    outside : ((x : Half) × (f < length halves.halves) × (slice_get halves.halves f ≡ Some x) × (get_or halves.halves f x ≡ x)) ⊎ ((length halves.halves ≤ f) × (slice_get halves.halves f ≡ None)) → ⊥
-    outside (inl c) = let both : None ≡ Some c.0 = sym q ∙ c.2 in cc
-    outside (inr c) = let size = driven.sliced.are_halves.halves_size in omega (arith, c.0, size, inside)
+  apart : {X : Type 0} (at : At) (f : ℕ) (args : List Wire) (depth : ℕ) → IsCrossing program uses d.kernel at f args depth → X
+  apart at f args depth c = absurd (itself at.func f c.place.body c.place.own (sym (ap (λ (u : Uses). u.calls at.func f) c.uses_are) ∙ c.call.calls) c.none)
 
-  -- a function with a body in the kernel half is of it
-  kernel_half : (f : ℕ) (body : Body) → d.kernel.own f ≡ Some body → slice_get halves.halves f ≡ Some Kernel
-  unfolding kernel_side
-  kernel_half f body e = of (is_user plan f) refl e where
-    of : (b : Bool) → is_user plan f ≡ b → chosen (not b) (body_of program f) None ≡ Some body → slice_get halves.halves f ≡ Some Kernel
-    of true q h = absurd cc
-    of false q h = by_half f (slice_get halves.halves f) refl (sym (ap (λ (hs : List Half). is_user_half (slice_get hs f)) driven.sliced.halves_are) ∙ q) (func_there f body h)
+  no_body : {X : Type 0} (body : Body) → ◌≡◌ {A = Option Body} None (Some body) → X
+  no_body body e = absurd cc
+
+  -- each function without a body in the user half has one here
+  entered : {X : Type 0} (f : ℕ) (func : Func) → slice_get program.funcs f ≡ Some func → d.user.own f ≡ None → d.kernel.own f ≡ None → X
+  entered f func names none e = let owned = (programs_are_drivers.halves program driven.bodies plan).across f func names none in no_body owned.0 (sym e ∙ owned.1)
 
   -- one that is not of the user half has no body there
   pub no_user_body : (f : ℕ) → is_user plan f ≡ false → d.user.own f ≡ None
@@ -115,10 +102,6 @@ module _ (program : Program) (plan : Plan) (driven : IsDriven program plan) wher
   kernel_apart : (f : ℕ) → slice_get halves.halves f ≡ Some Kernel → d.user.own f ≡ None
   kernel_apart f e = no_user_body f (ap (λ (hs : List Half). is_user_half (slice_get hs f)) driven.sliced.halves_are ∙ ap is_user_half e)
 
-  crossing_apart : (at : At) (f : ℕ) → IsPlace d.kernel at → uses.calls at.func f ≡ true → d.user.own f ≡ None
-  crossing_apart at f place calls =
-      kernel_apart f (nowhere program driven.sliced.roots halves driven.sliced.are_halves (graph_of program) (graph_is program) at.func f (kernel_half at.func place.body place.own) calls)
-
   handler_apart : (K : Knowledge) → K.uses ≡ uses → (f : ℕ) → IsHandler program K.uses f → d.user.own f ≡ None
   handler_apart K same f x =
       let handles : uses.handles f ≡ true = sym (ap (λ (u : Uses). u.handles f) same) ∙ x.handles in
@@ -127,49 +110,44 @@ module _ (program : Program) (plan : Plan) (driven : IsDriven program plan) wher
 
   -- ---- what kernel code does
 
-  module _ (P : World → Type 0) (kept : IsKept P) (before before' : Before) (ends : EndsAround program uses (served program) never before)
-      (agree : (K : Knowledge) (w : World) → K.uses ≡ uses → Holds program K w → P w → (depth : ℕ) → before depth w ≡ before' depth w)
-      (keeps : (depth : ℕ) (w : World) (x : Unit {0}) (w' : World) → P w → before depth w ≡ Ended x w' → P w') where
-    crosses_same : (at : At) (f : ℕ) (args : List Wire) (depth : ℕ) (w : World) → d.user.own f ≡ None → never at f args depth w ≡ crosses_nowhere d at f args depth w
-    crosses_same at f args depth w e = ap (λ (o : Option Body). unless (is_some o) (Some at) w (Ended wire.NoValue w)) (sym e)
+  -- whatever calls of the user half do, since there are none
+  module _ (crosses : Crossing) where
+    around_kernel : (before : Before) → IsAround program uses (served program) may_not before → EndsAround program uses d.kernel (served program) crosses before
+    around_kernel before around =
+        let there = as_ends program uses d.kernel (served program) may_not before around in
+        record {
+          serve = there.serve;
+          cross = λ K w same h at f args depth func place none c v w' e. apart at f args depth (record { known = K; uses_are = same; func = func; place = place; none = none; call = c });
+          tries = there.tries;
+        }
 
-    never_is : (v : Wire) (w w' : World) → ◌≡◌ {A = Ran Wire} (Ended wire.NoValue w) (Ended v w') → IsCurrent (is_live w'.memory) v
-    never_is v w w' e = subst (IsCurrent (is_live w'.memory)) (ended_is wire.NoValue v w w' e).0 tt
+    module _ (P : World → Type 0) (kept : IsKept P) (before before' : Before) (ends : EndsAround program uses d.kernel (served program) crosses before)
+        (agree : (K : Knowledge) (w : World) → K.uses ≡ uses → Holds program K w → P w → (depth : ℕ) → before depth w ≡ before' depth w)
+        (keeps : (depth : ℕ) (w : World) (x : Unit {0}) (w' : World) → P w → before depth w ≡ Ended x w' → P w') where
+      alive : AreAliveAround program uses d.kernel P (served program) crosses before (served program) may_not before'
+      alive = record {
+        kept = kept;
+        serve = λ K w same h p a c. refl;
+        cross = λ K w same h p at f args depth func place none call c. apart at f args depth (record { known = K; uses_are = same; func = func; place = place; none = none; call = call });
+        tries = agree;
+        served = λ a w rs w' e. subst AnswersCurrent e (served_current program a w);
+        left = λ a w rs w' names c e. subst (LeavesWithout a.args w) e (served_left program a w names c);
+        result = λ at f args depth c w v w' e. apart at f args depth c;
+        keeps_serve = λ a w rs w' p e. served_keep P kept program a w rs w' p e;
+        keeps_cross = λ at f args depth c w v w' p e. apart at f args depth c;
+        keeps_try = keeps;
+      }
 
-    alive : AreAliveAround program uses d.kernel P (served program) never before (served program) (crosses_nowhere d) before'
-    alive = record {
-      kept = kept;
-      serve = λ K w same h p a c. refl;
-      cross = λ K w same h p at f args depth func place none call c. crosses_same at f args depth w (crossing_apart at f place (sym (ap (λ (u : Uses). u.calls at.func f) same) ∙ call.calls));
-      tries = agree;
-      served = λ a w rs w' e. subst AnswersCurrent e (served_current program a w);
-      left = λ a w rs w' names c e. subst (LeavesWithout a.args w) e (served_left program a w names c);
-      result = λ at f args depth w v w' e. never_is v w w' e;
-      keeps_serve = λ a w rs w' p e. served_keep P kept program a w rs w' p e;
-      keeps_cross = λ at f args depth w v w' p e. subst P (ended_is wire.NoValue v w w' e).1 p;
-      keeps_try = keeps;
-    }
-
-    -- a function without a body here isn't entered
-    unentered : (n f : ℕ) (args : List Wire) (depth : ℕ) (w : World) → d.user.own f ≡ None → run (in_kernel program never) before (goes d.kernel n f args depth None) w ≡ run_alive (in_kernel_alone d) before' (goes d.kernel n f args depth None) w
-    unfolding run run_alive normal
-    unentered n f args depth w e = ap (λ (o : Option Body). after (unless (is_some o) (Some (record { func = f; stmt = 0 })) w (Ended wire.NoValue w)) (λ v w'. run_alive (in_kernel_alone d) before' (Tree.Done v Tree.Idle) w')) (sym e)
-
-    by_goes : (n f : ℕ) (args : List Wire) (depth : ℕ) (w : World) → d.kernel.own f ≡ None → run (in_kernel program never) before (goes d.kernel n f args depth None) w ≡ run_alive (in_kernel_alone d) before' (goes d.kernel n f args depth None) w
-        → run (in_kernel program never) before (started d.kernel n f args depth Tree.Idle) w ≡ run_alive (in_kernel_alone d) before' (started d.kernel n f args depth Tree.Idle) w
-    unfolding started
-    by_goes n f args depth w e h = subst (λ (o : Option Body). run (in_kernel program never) before (goes d.kernel n f args depth o) w ≡ run_alive (in_kernel_alone d) before' (goes d.kernel n f args depth o) w) (sym e) h
-
-    pub calls_same : (K : Knowledge) (w : World) → K.uses ≡ uses → Holds program K w → P w → (f : ℕ) (func : Func) (args : List Wire) (depth : ℕ) → IsCalled program K f func args → AreCurrent (is_live w.memory) args → d.user.own f ≡ None
-        → call (kernel_of d) before f args depth w ≡ call_alone d before' f args depth w
-    unfolding call
-    calls_same K w same h p f func args depth c current none = of (d.kernel.own f) refl where
-      of : (o : Option Body) → d.kernel.own f ≡ o → run (in_kernel program never) before (started d.kernel (suc w.clock.rest) f args depth Tree.Idle) w ≡ run_alive (in_kernel_alone d) before' (started d.kernel (suc w.clock.rest) f args depth Tree.Idle) w
-      of None e = by_goes (suc w.clock.rest) f args depth w e (unentered (suc w.clock.rest) f args depth w none)
-      of (Some body) e =
-          code_alive program driven.sound uses (served program) never before ends all_cells (suc depth + 256) d.kernel func.result P (served program) (crosses_nowhere d) before' alive K w (started d.kernel (suc w.clock.rest) f args depth Tree.Idle) same h p
-          (start_fair program driven.sound uses d.kernel driver.kernel K w same h f func args depth c body e (suc w.clock.rest))
-          (scoped_trees_are_current program driven.sound driven.scoped d.kernel driver.kernel.bodies (suc w.clock.rest) f (is_live w.memory) args depth (knows program K w h (next_serial w) [] tt) current Tree.Idle)
+      pub calls_same : (K : Knowledge) (w : World) → K.uses ≡ uses → Holds program K w → P w → (f : ℕ) (func : Func) (args : List Wire) (depth : ℕ) → IsCalled program K f func args → AreCurrent (is_live w.memory) args → d.user.own f ≡ None
+          → call (kernel_with d crosses) before f args depth w ≡ call_alone d before' f args depth w
+      unfolding call
+      calls_same K w same h p f func args depth c current none = of (d.kernel.own f) refl where
+        of : (o : Option Body) → d.kernel.own f ≡ o → run (in_kernel program crosses) before (started d.kernel (suc w.clock.rest) f args depth Tree.Idle) w ≡ run_alive (in_kernel_alone d) before' (started d.kernel (suc w.clock.rest) f args depth Tree.Idle) w
+        of None e = entered f func c.names none e
+        of (Some body) e =
+            code_alive program driven.sound uses (served program) crosses before d.kernel ends all_cells (suc depth + 256) func.result P (served program) may_not before' alive K w (started d.kernel (suc w.clock.rest) f args depth Tree.Idle) same h p
+            (start_fair program driven.sound uses d.kernel driver.kernel K w same h f func args depth c body e (suc w.clock.rest))
+            (scoped_trees_are_current program driven.sound driven.scoped d.kernel driver.kernel.bodies (suc w.clock.rest) f (is_live w.memory) args depth (knows program K w h (next_serial w) [] tt) current Tree.Idle)
 
   -- ---- interrupts
 
@@ -183,7 +161,7 @@ module _ (program : Program) (plan : Plan) (driven : IsDriven program plan) wher
       let x : IsHandler program K.uses f = h.handler f gate.registered in
       let now : Holds program K (interrupted f w) = (kept_later program (next_serial w) K w _ h refl h.handler).holds in
       ap (λ (r : Ran Wire). after r (λ v w'. done (handling false w')))
-      (calls_same (λ u. Unit {0}) any nothing nothing (as_ends program uses (served program) never nothing (alone program driven.sound uses)) (λ K' u same' h' p depth'. refl) (λ depth' u y u' p q. tt) K (interrupted f w) same now tt f x.func [] depth
+      (calls_same may_not (λ u. Unit {0}) any nothing nothing (around_kernel may_not nothing (kernel_code_leaves.alone program driven.sound uses may_not (may_not_across program uses))) (λ K' u same' h' p depth'. refl) (λ depth' u y u' p q. tt) K (interrupted f w) same now tt f x.func [] depth
       (handler_called program K f x) tt (handler_apart K same f x))
 
   pub interrupts_same : (K : Knowledge) (w : World) → K.uses ≡ uses → Holds program K w → (depth : ℕ) → interrupts (kernel_of d) depth w ≡ handled_alone d depth (due w) w
@@ -193,18 +171,20 @@ module _ (program : Program) (plan : Plan) (driven : IsDriven program plan) wher
   pub tries_same : (K : Knowledge) (w : World) → K.uses ≡ uses → Holds program K w → (depth : ℕ) → meets_none (kernel_of d) depth w ≡ tries d depth w
   tries_same K w same h depth = ap (λ (r : Work). chosen (are_none w.views) r (unless_due (due_plainly w) w)) (interrupts_same K w same h depth)
 
-  pub ends_with_interrupts : EndsAround program uses (served program) never (interrupts (kernel_of d))
-  ends_with_interrupts = as_ends program uses (served program) never (interrupts (kernel_of d)) (with_interrupts program driven.sound uses d.kernel driver.kernel)
+  pub ends_with_interrupts : (crosses : Crossing) → EndsAround program uses d.kernel (served program) crosses (interrupts (kernel_of d))
+  ends_with_interrupts crosses = around_kernel crosses (interrupts (kernel_of d)) (with_interrupts program driven.sound uses d.kernel driver.kernel may_not (may_not_across program uses) may_not (may_not_across program uses))
 
-  ends_with_tries : EndsAround program uses (served program) never (meets_none (kernel_of d))
-  ends_with_tries = record {
-    serve = ends_with_interrupts.serve;
-    cross = ends_with_interrupts.cross;
-    tries = λ K w same h depth x w' e. ends_with_interrupts.tries K w same h depth x w' ((tries_lead (kernel_of d) depth w).by x w' e);
-  }
+  ends_with_tries : (crosses : Crossing) → EndsAround program uses d.kernel (served program) crosses (meets_none (kernel_of d))
+  ends_with_tries crosses =
+      let there = ends_with_interrupts crosses in
+      record {
+        serve = there.serve;
+        cross = there.cross;
+        tries = λ K w same h depth x w' e. there.tries K w same h depth x w' ((tries_lead (kernel_of d) depth w).by x w' e);
+      }
 
-  -- a function that user code calls
-  pub downs_same : (K : Knowledge) (w : World) → K.uses ≡ uses → Holds program K w → (f : ℕ) (func : Func) (args : List Wire) (depth : ℕ) → IsCalled program K f func args → AreCurrent (is_live w.memory) args → d.user.own f ≡ None
-      → call (kernel_of d) (meets_none (kernel_of d)) f args depth w ≡ call_alone d (tries d) f args depth w
-  downs_same K w same h f func args depth c current none =
-      calls_same (λ u. Unit {0}) any (meets_none (kernel_of d)) (tries d) ends_with_tries (λ K' u same' h' p depth'. tries_same K' u same' h' depth') (λ depth' u y u' p q. tt) K w same h tt f func args depth c current none
+  -- a function that user code or a command calls
+  pub downs_same : (crosses : Crossing) (K : Knowledge) (w : World) → K.uses ≡ uses → Holds program K w → (f : ℕ) (func : Func) (args : List Wire) (depth : ℕ) → IsCalled program K f func args → AreCurrent (is_live w.memory) args → d.user.own f ≡ None
+      → call (kernel_with d crosses) (meets_none (kernel_of d)) f args depth w ≡ call_alone d (tries d) f args depth w
+  downs_same crosses K w same h f func args depth c current none =
+      calls_same crosses (λ u. Unit {0}) any (meets_none (kernel_of d)) (tries d) (ends_with_tries crosses) (λ K' u same' h' p depth'. tries_same K' u same' h' depth') (λ depth' u y u' p q. tt) K w same h tt f func args depth c current none

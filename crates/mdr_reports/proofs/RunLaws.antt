@@ -22,38 +22,38 @@ use Rattle.mdr_model.specs.Values.{value_of}
 use Rattle.mdr_plain.specs.declared.outcome.Happened.{Happened}
 use Rattle.mdr_plain.specs.declared.outcome.Happened.TheVariants as happened
 use Rattle.mdr_plain.specs.Gate.{are_none, due}
-use Rattle.mdr_plain.specs.Running.{call, interrupts}
+use Rattle.mdr_plain.specs.Running.{Crossing, call, interrupts}
 use Rattle.mdr_plain.specs.Scripts.{Finish, and_then, begin, begun, called_by, commands, first_world, idle, in_place, poked_memory, returned, showed}
-use Rattle.mdr_plain.specs.Storage.{next_serial, with_memory}
+use Rattle.mdr_plain.specs.Storage.{born, died, next_serial, with_memory, without}
 use Rattle.mdr_plain.specs.World.{Ended, Ran, Stopped, Work, World, advanced, after, counted, left, noted, then}
-use Rattle.mdr_plain.proofs.KeepLaws.{interrupts_keep}
 use Rattle.mdr_bound.specs.declared.bound.Bound.{Bound}
 use Rattle.mdr_watched.specs.Driver.{Driver, driver_of, is_user}
-use Rattle.mdr_watched.specs.Kept.{due_plainly, followed_of, free, unless_due}
+use Rattle.mdr_watched.specs.Kept.{due_plainly, followed_of, free, meets_none, unless_due}
 use Rattle.mdr_watched.specs.Views.{living}
-use Rattle.mdr_watched.specs.Watched.{does, held, kernel_of, upcall}
+use Rattle.mdr_watched.specs.Watched.{backs, does, held, kernel_of, kernel_with, may_not, upcall}
 use Rattle.mdr_watched.proofs.CloseLaws.{upcalls_close}
-use Rattle.mdr_watched.proofs.KeptProofs.{upcalls_lead}
+use Rattle.mdr_watched.proofs.KeepLaws.{IsKept, interrupts_keep}
+use Rattle.mdr_watched.proofs.KeptProofs.{backs_lead, calls_lead, upcalls_lead}
 use Rattle.mdr_holds.specs.Holding.{Holds, first_knowledge}
 use Rattle.mdr_holds.specs.Laws.{AreCommands, IsCalled, IsCommand, IsScript}
 use Rattle.mdr_holds.specs.Leaving.{GivesResult, Later, ViewsStay}
 use Rattle.mdr_holds.proofs.Drivers.{programs_are_drivers}
 use Rattle.mdr_holds.proofs.First.{first_holds}
-use Rattle.mdr_holds.proofs.Kernel.{called as kernel_called, with_interrupts}
+use Rattle.mdr_holds.proofs.Kernel.{called as kernel_called, may_not_across, tried as tried_kernel}
 use Rattle.mdr_holds.proofs.Memories.{globals_known}
 use Rattle.mdr_holds.proofs.Poking.{poked_later}
 use Rattle.mdr_holds.proofs.Steps.{in_order, kept_holds, tick_later}
-use Rattle.mdr_holds.proofs.User.{upcall_leaves}
+use Rattle.mdr_holds.proofs.User.{back_leaves, upcall_leaves}
 use Rattle.mdr_holds.proofs.Views.{called_views}
 use Rattle.mdr_scoped.specs.Current.{AreCurrent}
 use Rattle.mdr_kept.specs.Strict.{call_alone, called, does as does_strictly, handled_alone, strict_of, tries, upcall as upcall_strictly}
-use Rattle.mdr_kept.proofs.EvenLaws.{NoViews, none_kept}
+use Rattle.mdr_kept.proofs.EvenLaws.{NoViews}
 use Rattle.mdr_kept.proofs.ShownLaws.{strict_reports_agree}
 use Rattle.mdr_reports.specs.Laws.{FollowedRunsAreStrict, IsDriven, KeptReportsAgree}
 use Rattle.mdr_reports.proofs.AliveLaws.{Reaches, ended_is, reaches}
 use Rattle.mdr_reports.proofs.CallLaws.{arguments_current}
 use Rattle.mdr_reports.proofs.Graphs.{graph_of}
-use Rattle.mdr_reports.proofs.KernelLaws.{calls_same, d, driver, ends_with_interrupts, interrupts_same, no_user_body, uses}
+use Rattle.mdr_reports.proofs.KernelLaws.{d, downs_same, driver, ends_with_interrupts, interrupts_same, no_user_body, uses}
 use Rattle.mdr_reports.proofs.LiveLaws.{knows}
 use Rattle.mdr_reports.proofs.UserLaws.{upcall_same}
 
@@ -63,6 +63,18 @@ no_end kind at w w' x e = absurd cc
 empty : (views : List (List Cell)) → length views ≡ 0 → views ≡ []
 empty [] e = refl
 empty (set ∷ sets) e = absurd (omega (arith, e))
+
+-- each single step of a watched run leaves no visible set where there was none
+none_left : IsKept NoViews
+unfolding NoViews born died
+none_left = record {
+  put = λ w c v e. e;
+  keeping = λ w k e. e;
+  device = λ w d e. e;
+  tick = λ w e. e;
+  birth = λ program kind s w e. e;
+  death = λ w serial e. ap (map (without serial)) e;
+}
 
 first_knows : (program : Program) (u : Uses) → KnowsGlobals program (first_knowledge program u)
 first_knows program u = record { knows = λ g def e. ap (option_map (global_shape program)) e }
@@ -105,7 +117,7 @@ module _ (program : Program) (plan : Plan) (driven : IsDriven program plan) wher
   -- ---- interrupts where no upcall is open
 
   no_views_after : (w : World) → NoViews w → (depth : ℕ) (x : Unit {0}) (w' : World) → interrupts (kernel_of e) depth w ≡ Ended x w' → NoViews w'
-  no_views_after w alone depth x w' q = subst (λ (r : Work). NoViews (left r)) q (interrupts_keep NoViews none_kept program e.kernel depth w alone).at_end
+  no_views_after w alone depth x w' q = subst (λ (r : Work). NoViews (left r)) q (interrupts_keep NoViews none_left e depth w alone).at_end
 
   alone_tries : (K : Knowledge) (w : World) → K.uses ≡ u → Holds program K w → NoViews w → (depth : ℕ) → interrupts (kernel_of e) depth w ≡ tries e depth w
   unfolding NoViews
@@ -117,7 +129,7 @@ module _ (program : Program) (plan : Plan) (driven : IsDriven program plan) wher
   unfolding NoViews
   tried w f = record {
     is = alone_tries f.known w f.uses_are f.holds f.alone 0;
-    fine = λ x w' q. let r = (ends_with_interrupts program plan driven).tries f.known w f.uses_are f.holds 0 x w' q in record { known = r.known; uses_are = r.left.grows.same ∙ f.uses_are; holds = r.left.holds; alone = no_views_after w f.alone 0 x w' q };
+    fine = λ x w' q. let r = (ends_with_interrupts program plan driven may_not).tries f.known w f.uses_are f.holds 0 x w' q in record { known = r.known; uses_are = r.left.grows.same ∙ f.uses_are; holds = r.left.holds; alone = no_views_after w f.alone 0 x w' q };
   }
 
   returned_same : (r s : Ran Wire) → Same r s → Same (returned (interrupts (kernel_of e)) r) (returned (tries e) s)
@@ -131,31 +143,35 @@ module _ (program : Program) (plan : Plan) (driven : IsDriven program plan) wher
   -- ---- calls
 
   module _ (f : ℕ) (func : Func) (args : List Wire) (w : World) (fine : Fine w) (c : IsCalled program fine.known f func args) (current : AreCurrent (is_live w.memory) args) where
-    up_same : Same (upcall e (free e) f args w) (upcall_strictly e f args w)
+    up_same : Same (upcall e (free e) (backs e (free e)) f args 0 w) (upcall_strictly e f args w)
     up_same = record {
-      is = upcall_same program plan driven f func args fine.known w fine.uses_are fine.holds c current;
+      is = upcall_same program plan driven (backs e (free e)) f func args fine.known w fine.uses_are fine.holds c current;
       fine = λ v w' q.
-          let there = (upcalls_lead e f args w).by v w' q in
-          let r : Reaches (Later program (next_serial w) fine.known w) (GivesResult program func.result w) v w' = reaches _ _ (upcall e (held e) f args w) (upcall_leaves e u (driver program plan driven) f func args fine.known w fine.uses_are fine.holds c) v w' there in
-          record { known = r.known; uses_are = r.left.grows.same ∙ fine.uses_are; holds = r.left.holds; alone = empty w'.views (upcalls_close e f args w v w' there ∙ ap (λ (views : List (List Cell)). length views) fine.alone) };
+          let there = (upcalls_lead e (backs e (free e)) (backs e (held e)) (backs_lead e 256) f args 0 w).by v w' q in
+          let r : Reaches (Later program (next_serial w) fine.known w) (GivesResult program func.result w) v w' = reaches _ _ (upcall e (held e) (backs e (held e)) f args 0 w)
+          (upcall_leaves e u (driver program plan driven) (backs e (held e)) (back_leaves e u (driver program plan driven) 256) f func args 0 fine.known w fine.uses_are fine.holds c) v w' there in
+          record { known = r.known; uses_are = r.left.grows.same ∙ fine.uses_are; holds = r.left.holds; alone = empty w'.views (upcalls_close e 256 f args 0 w v w' there ∙ ap (λ (views : List (List Cell)). length views) fine.alone) };
     }
 
-    call_same : is_user plan f ≡ false → Same (call (kernel_of e) (interrupts (kernel_of e)) f args 0 w) (call_alone e (tries e) f args 0 w)
-    unfolding NoViews
+    call_same : is_user plan f ≡ false → Same (call (kernel_with e (backs e (free e))) (meets_none (kernel_of e)) f args 0 w) (call_alone e (tries e) f args 0 w)
     call_same kernel = record {
-      is = calls_same program plan driven NoViews none_kept (interrupts (kernel_of e)) (tries e) (ends_with_interrupts program plan driven) alone_tries
-          (λ depth w1 x w2 p q. no_views_after w1 p depth x w2 q) fine.known w fine.uses_are fine.holds fine.alone f func args 0 c current (no_user_body program plan driven f kernel);
-      fine = λ v w' q.
+      is = downs (backs e (free e));
+      fine = λ v w' q0.
+          let q : call (kernel_of e) (interrupts (kernel_of e)) f args 0 w ≡ Ended v w' = (calls_lead e may_not may_not (λ at g vs n w1. record { by = λ x w2 r. r }) f args 0 w).by v w' (downs may_not ∙ sym (downs (backs e (free e))) ∙ q0) in
           let r : Reaches (Later program (next_serial w) fine.known w) (GivesResult program func.result w) v w' =
-          reaches _ _ (call (kernel_of e) (interrupts (kernel_of e)) f args 0 w) (kernel_called program driven.sound u e.kernel (driver program plan driven).kernel (interrupts (kernel_of e)) (with_interrupts program driven.sound u e.kernel (driver program plan driven).kernel) fine.known w fine.uses_are fine.holds f func args 0 c) v w' q in
+          reaches _ _ (call (kernel_of e) (interrupts (kernel_of e)) f args 0 w)
+          (kernel_called program driven.sound u e.kernel (driver program plan driven).kernel may_not (may_not_across program u) (interrupts (kernel_of e)) (tried_kernel program driven.sound u e.kernel (driver program plan driven).kernel may_not (may_not_across program u)) fine.known w fine.uses_are fine.holds f func args 0 c) v w' q in
           record { known = r.known; uses_are = r.left.grows.same ∙ fine.uses_are; holds = r.left.holds; alone = gone v w' q };
     }
       where
+        downs : (crosses : Crossing) → call (kernel_with e crosses) (meets_none (kernel_of e)) f args 0 w ≡ call_alone e (tries e) f args 0 w
+        downs crosses = downs_same program plan driven crosses fine.known w fine.uses_are fine.holds f func args 0 c current (no_user_body program plan driven f kernel)
+
         gone : (v : Wire) (w' : World) → call (kernel_of e) (interrupts (kernel_of e)) f args 0 w ≡ Ended v w' → w'.views ≡ []
         gone v w' q = subst (λ (r : Ran Wire). ViewsStay w (left r)) q (called_views e f args 0 w (in_order program fine.known w fine.holds)) ∙ ap (map (living w'.memory)) fine.alone
 
   called_same : (w : World) (f : ℕ) (func : Func) (args : List Wire) (fine : Fine w) → IsCalled program fine.known f func args → AreCurrent (is_live w.memory) args → (b : Bool) → is_user plan f ≡ b
-      → Same (in_place (kernel_of e) (upcall e (free e)) (called_by b (kernel_of e) f args w)) (returned (tries e) (called e b f args w))
+      → Same (in_place (kernel_of e) (λ g vs w'. call (kernel_with e (backs e (free e))) (meets_none (kernel_of e)) g vs 0 w') (λ g vs w'. upcall e (free e) (backs e (free e)) g vs 0 w') (called_by b (kernel_of e) f args w)) (returned (tries e) (called e b f args w))
   called_same w f func args fine c current true is = returned_same _ _ (up_same f func args w fine c current)
   called_same w f func args fine c current false is = returned_same _ _ (call_same f func args w fine c current is)
 

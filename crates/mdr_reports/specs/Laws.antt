@@ -5,7 +5,7 @@ use Rattle.mdr_core.specs.declared.plan.Plan.{Plan}
 use Rattle.mdr_core.specs.declared.program.Program.{Program}
 use Rattle.mdr_core.specs.Backs.{CallsNothingBack}
 use Rattle.mdr_core.specs.Sound.{IsSound}
-use Rattle.mdr_holds.specs.Laws.{IsScript}
+use Rattle.mdr_holds.specs.Laws.{HaveBodies, IsScript}
 use Rattle.mdr_plain.specs.Outcome.{outcome_of}
 use Rattle.mdr_plain.specs.Plain.{plain}
 use Rattle.mdr_plain.specs.Report.{report}
@@ -31,11 +31,12 @@ pub record IsSliced (program : Program) (plan : Plan) : Type 0 where
   pub are_halves : AreHalves program roots halves
   pub halves_are : plan.halves ≡ halves.halves
 
--- a sound program that names objects where they live and calls nothing back, with its plan
+-- a sound program that names objects where they live and calls nothing back, in which each function has a body, with its plan
 pub record IsDriven (program : Program) (plan : Plan) : Type 0 where
   pub sound : IsSound program
   pub scoped : IsScoped program
   pub nothing_back : CallsNothingBack program
+  pub bodies : HaveBodies program
   pub sliced : IsSliced program plan
 
 -- nothing but a stop ends a followed run of it: it passes no pointer to a block that has died, and its kernel code calls no user code

@@ -2,6 +2,7 @@
 
 ghost use Rattle.std.specs.Prelude.{IfOk};
 ghost use Rattle.mdr_core.specs.Sound.{IsSound};
+ghost use Rattle.mdr_runner.specs.Apart.{RunsApart};
 ghost use Rattle.mdr_runner.specs.Runs.{IsOutcome};
 
 use crate::manner::Manner;
@@ -13,14 +14,15 @@ use mdr_watch::run_watched;
 use mdr_whole::run_whole;
 use std::alloc::Global;
 
-/// Runs a script over a program in a manner. What holds the user half to its annotations is the program's own plan.
+/// Runs a script over a program that calls nothing back, in a manner. What holds the user half to its annotations is the program's own plan.
 pub(crate) fn outcome_in(
     alloc: Global,
     program: &Program,
     script: &Bound,
     manner: Manner,
 ) -> Result<Outcome, OutOfMemory>
-    requires { IsSound program.now }
+    requires sound { IsSound program.now }
+    requires apart { RunsApart program.now script.now }
     ensures { IfOk result (IsOutcome program.now script.now manner) }
 {
     if manner.watched {

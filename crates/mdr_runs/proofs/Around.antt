@@ -1,5 +1,5 @@
 -- Where nothing around code gives a tick back: of a tree no more counts than the ticks that are left.
-use Rattle.std.proofs.Common.{◌≡◌, ℕ, zero, suc, ◌-◌, ◌≤◌, List, Option, Some, Result, Ok, Err, refl, sym, ◌∙◌, ap, arith, le_refl}
+use Rattle.std.proofs.Common.{◌≡◌, ℕ, zero, suc, ◌-◌, ◌≤◌, Bool, true, false, List, Option, Some, Result, Ok, Err, refl, sym, ◌∙◌, ap, arith, le_refl}
 use Rattle.mdr_core.specs.declared.place.At.{At}
 use Rattle.mdr_core.specs.declared.program.Program.{Program}
 use Rattle.mdr_core.specs.declared.stop.StopKind.{StopKind}
@@ -13,14 +13,14 @@ use Rattle.mdr_meaning.specs.Tree.{Asked, Tree}
 use Rattle.mdr_model.specs.declared.message.BirthKind.TheVariants.{Auto}
 use Rattle.mdr_model.specs.Memory.{Memory}
 use Rattle.mdr_plain.specs.Laws.{GivesNoTicks}
-use Rattle.mdr_plain.specs.Plain.{never}
-use Rattle.mdr_plain.specs.Running.{Before, Setting, in_kernel, run}
+use Rattle.mdr_plain.specs.Running.{Before, Setting, run}
 use Rattle.mdr_plain.specs.Services.{served}
 use Rattle.mdr_plain.specs.Storage.{births, deaths, died, remembers, with_memory}
 use Rattle.mdr_plain.specs.World.{World, Ran, Ended, Stopped, Work, advanced, after, left, then, given, counted}
 use Rattle.mdr_plain.proofs.KeepLaws.{IsKept, births_keep, deaths_keep, served_keeps}
 use Rattle.mdr_runs.specs.Anywhere.{AccessesKeepTicks}
 use Rattle.mdr_runs.specs.Around.{KeepsTicks, answered_in, goes_on_in}
+use Rattle.mdr_runs.specs.Following.{crossing_by, setting_by}
 
 -- ---- no more ticks than so many are left
 
@@ -63,9 +63,15 @@ accesses_keep_ticks program allowed serves crosses served crossed = record {
   crosses = crossed;
 }
 
--- all code of a driver
-pub kernel_keeps_ticks : (program : Program) → KeepsTicks (in_kernel program never)
-kernel_keeps_ticks program = accesses_keep_ticks program _ (served program) never (λ a w. served_at_most program w.clock.rest a w (le_refl w.clock.rest)) (λ at f args d w. le_refl w.clock.rest)
+-- calls of what isn't among the code that runs give none back
+crossings_keep_ticks : (half : Bool) (at : At) (f : ℕ) (args : List Wire) (depth : ℕ) (w : World) → (left (crossing_by half at f args depth w)).clock.rest ≤ w.clock.rest
+crossings_keep_ticks true at f args depth w = le_refl w.clock.rest
+crossings_keep_ticks false at f args depth w = le_refl w.clock.rest
+
+-- code of a driver
+pub kernel_keeps_ticks : (program : Program) (half : Bool) → KeepsTicks (setting_by program half)
+kernel_keeps_ticks program half =
+    accesses_keep_ticks program _ (served program) (crossing_by half) (λ a w. served_at_most program w.clock.rest a w (le_refl w.clock.rest)) (crossings_keep_ticks half)
 
 -- ---- equal work
 
@@ -163,10 +169,10 @@ module _ (s : Setting) (before : Before) (keeps : KeepsTicks s) (gives : GivesNo
   pub runs_keep_ticks : (t : Tree) (w : World) → (left (run s before t w)).clock.rest ≤ w.clock.rest
   runs_keep_ticks t w = runs_at_most w.clock.rest t w (le_refl w.clock.rest)
 
-  no_tick : {A : Type 0} (q : ℕ) (w' : World) → suc q ≡ w'.clock.rest → w'.clock.rest ≤ 0 → A
+  pub no_tick : {A : Type 0} (q : ℕ) (w' : World) → suc q ≡ w'.clock.rest → w'.clock.rest ≤ 0 → A
   no_tick q w' is none = absurd (let e : suc q ≡ w'.clock.rest = is in let f : w'.clock.rest ≤ 0 = none in omega (arith, e, f))
 
-  fewer : (q r : ℕ) (w' w'' : World) → suc q ≡ w'.clock.rest → w'.clock.rest ≤ suc r → w''.clock.rest ≤ q → w''.clock.rest ≤ r
+  pub fewer : (q r : ℕ) (w' w'' : World) → suc q ≡ w'.clock.rest → w'.clock.rest ≤ suc r → w''.clock.rest ≤ q → w''.clock.rest ≤ r
   fewer q r w' w'' is less least =
       let e : suc q ≡ w'.clock.rest = is in let f : w'.clock.rest ≤ suc r = less in let g : w''.clock.rest ≤ q = least in omega (arith, e, f, g)
 

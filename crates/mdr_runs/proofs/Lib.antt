@@ -5,6 +5,7 @@ pub mod Seeing
 pub mod Many
 pub mod Stand
 pub mod EndsAnywhere
+pub mod Pausing
 pub mod Ends
 pub mod Tries
 pub mod Commands

@@ -1,5 +1,6 @@
 pub mod Around
 pub mod Anywhere
+pub mod Pausing
 pub mod Seen
 pub mod Following
 pub mod Scripts

@@ -2,6 +2,7 @@
 
 ghost use Rattle.mdr_runs.specs.Anywhere.{AccessesKeepTicks, EachSettingRuns, EachSettingStands, MemoriesAreSeen};
 ghost use Rattle.mdr_runs.specs.Laws.{CallsAreStarted, EachRunStands, EachTickStands, RunsMayBeCut, ServicesAreAnswered};
+ghost use Rattle.mdr_runs.specs.Pausing.{EachSettingPauses};
 
 // ---- whatever stands around code
 
@@ -15,6 +16,12 @@ pub fn accesses_keep_ticks()
 /// answered with what a service or the other half gave goes on behind that.
 pub fn each_setting_runs()
     ensures { EachSettingRuns }
+{}
+
+/// There code that is run up to its next call of the other half, and then on behind the result, does what it does where it is
+/// run to its end; and up to there too a tree with no more ticks than are left does what the tree does.
+pub fn each_setting_pauses()
+    ensures { EachSettingPauses }
 {}
 
 /// A machine that ran without a tick came to an event behind which follows what the held work does. So it did where it wanted

@@ -7,6 +7,7 @@ use Rattle.mdr_core.specs.declared.program.Param.{Param}
 use Rattle.mdr_core.specs.declared.stop.StopKind.TheVariants as stop
 use Rattle.mdr_core.specs.declared.value.Value.{Value}
 use Rattle.mdr_extents.specs.Reaching.{Failing, visible}
+use Rattle.mdr_holds.proofs.Kernel.{kernel_code_leaves}
 use Rattle.mdr_holds.proofs.Scripts.{commands_leave}
 use Rattle.mdr_holds.specs.Laws.{AreCommands, BeginsRight, IsCommand, noted_command}
 use Rattle.mdr_holds.specs.Leaving.{IsAsBefore, Later, Leads, ended as leads_ended, stopped as leads_stopped}
@@ -34,7 +35,7 @@ use Rattle.mdr_model.specs.Memory.{Memory}
 use Rattle.mdr_model.specs.Report.{func_name}
 use Rattle.mdr_model.specs.Values.{value_of}
 use Rattle.mdr_plain.specs.declared.outcome.Happened.TheVariants as happened
-use Rattle.mdr_plain.specs.Running.{interrupts, nothing, run}
+use Rattle.mdr_plain.specs.Running.{call, interrupts, nothing, run}
 use Rattle.mdr_plain.specs.Scripts.{Beginning, and_then, begin, begun, called_by, commands, in_place, returned}
 use Rattle.mdr_plain.specs.Storage.{next_serial}
 use Rattle.mdr_plain.specs.World.{World, Ran, Work, done as work_done, noted}
@@ -45,7 +46,7 @@ use Rattle.mdr_split.specs.User.{call_fits, deliver, objects_fit, opened as open
 use Rattle.mdr_viewed.proofs.Ticks.{user_code_keeps_ticks}
 use Rattle.mdr_watched.specs.Driver.{Driver, entry_roots, is_user, touched_by}
 use Rattle.mdr_watched.specs.Views.{closed, opened, taken}
-use Rattle.mdr_watched.specs.Watched.{does, entered, held, in_user, kernel_of, upcall}
+use Rattle.mdr_watched.specs.Watched.{does_with, entered, held, in_user, kernel_of, may_not, upcall}
 use Rattle.mdr_serves.proofs.KernelWork.{agree_closed, agree_counted, agree_later, agree_noted, interrupts_lead, uses_all}
 use Rattle.mdr_serves.proofs.Messages
 use Rattle.mdr_serves.proofs.Relations.{Agree, IsRight, Opens, learns, open_of, telling, waiting}
@@ -61,24 +62,24 @@ deliver_call d uses fuel budget f KU copy w e args told user m = rw (user, m.liv
 
 -- with fuel for the ticks that are left and more, user code does the same
 pub same_run : (d : Driver) (n m f : ℕ) (args : List Wire) (w : World) → w.clock.rest < n → w.clock.rest < m
-    → run (in_user d (held d) f) nothing (started d.user n f args 0 Tree.Idle) w ≡ run (in_user d (held d) f) nothing (started d.user m f args 0 Tree.Idle) w
+    → run (in_user d (held d) f may_not) nothing (started d.user n f args 0 Tree.Idle) w ≡ run (in_user d (held d) f may_not) nothing (started d.user m f args 0 Tree.Idle) w
 same_run d n m f args w le le' =
-    let may_be_cut : (t : Tree) → run (in_user d (held d) f) nothing (cut w.clock.rest t) w ≡ run (in_user d (held d) f) nothing t w =
-    λ t. each_setting_runs.cut (in_user d (held d) f) nothing (user_code_keeps_ticks d f) (λ depth w'. omega arith) w.clock.rest t w (omega arith) in
+    let may_be_cut : (t : Tree) → run (in_user d (held d) f may_not) nothing (cut w.clock.rest t) w ≡ run (in_user d (held d) f may_not) nothing t w =
+    λ t. each_setting_runs.cut (in_user d (held d) f may_not) nothing (user_code_keeps_ticks.user d f may_not user_code_keeps_ticks.may_not) (λ depth w'. omega arith) w.clock.rest t w (omega arith) in
     sym (may_be_cut (started d.user n f args 0 Tree.Idle))
-    ∙ ap (λ (t : Tree). run (in_user d (held d) f) nothing t w) (started_fuel_is_no_matter d.user n m w.clock.rest f le le' args 0 Tree.Idle)
+    ∙ ap (λ (t : Tree). run (in_user d (held d) f may_not) nothing t w) (started_fuel_is_no_matter d.user n m w.clock.rest f le le' args 0 Tree.Idle)
     ∙ may_be_cut (started d.user m f args 0 Tree.Idle)
 
 module _ (d : Driver) (uses : Uses) (right : IsRight d uses) (fuel budget : ℕ) (enough : budget < fuel) where
   -- a script comes to its end
   abbrev pub FinishesAll : List Command → Type 0
   FinishesAll script = (KU : Knowledge) (k : Kernel) → Agree d uses budget KU k.agreed k.world → 2 * k.exchanges ≤ 4 * k.world.clock.ticks + 6 * k.world.kept.calls
-      → Finishes d fuel budget k.exchanges (split_commands d script k) (idle_user k.agreed) (commands (does d (held d)) script k.world)
+      → Finishes d fuel budget k.exchanges (split_commands d script k) (idle_user k.agreed) (commands (does_with d (held d) may_not) script k.world)
 
   -- work of the kernel half, and what follows it
   work_finishes : (cs : List Command) → FinishesAll cs → (KU : Knowledge) (k : Kernel) (w : World) (from : ℕ) (a : Agree d uses budget KU k.agreed w) → 2 * k.exchanges ≤ 4 * w.clock.ticks + 6 * w.kept.calls
       → (work : Work) → Leads (Later d.program from a.K w) (λ K' x w'. IsAsBefore w w') work
-      → Finishes d fuel budget k.exchanges (then_split work k (λ k'. split_commands d cs k')) (idle_user k.agreed) (and_then work (λ w'. commands (does d (held d)) cs w'))
+      → Finishes d fuel budget k.exchanges (then_split work k (λ k'. split_commands d cs k')) (idle_user k.agreed) (and_then work (λ w'. commands (does_with d (held d) may_not) cs w'))
   work_finishes cs later KU k w from a bound _ (leads_ended K' x w' l g) =
       later KU (record k { world = w' }) (agree_later d uses budget KU k.agreed w w' from K' a l) (omega (arith, bound, l.later, l.calls))
   work_finishes cs later KU k w from a bound _ (leads_stopped K' kind at w' l) =
@@ -112,7 +113,7 @@ module _ (d : Driver) (uses : Uses) (right : IsRight d uses) (fuel budget : ℕ)
   call_goes : (f : ℕ) (func : Func) (args : List Wire) (set : List Cell) (cs : List Command) → FinishesAll cs → (KU : Knowledge) (k : Kernel) (w : World) → Agree d uses budget KU k.agreed w → 2 * k.exchanges + 6 ≤ 4 * w.clock.ticks + 6 * w.kept.calls
       → slice_get d.program.funcs f ≡ Some func → is_user d.plan f ≡ true → ((K : Knowledge) → KnowsGlobals d.program K → AllFit d.program K args (map (λ (p : Param). p.ty) func.params))
       → visible d.program (touched_by d.plan f) w.memory [] (entry_roots d.program f args) ≡ Ok set
-      → Finishes d fuel budget k.exchanges (called d f args (work_done (opened set w)) k cs) (idle_user k.agreed) (and_then (returned (interrupts (kernel_of d)) (entered d (held d) f args set w)) (λ w'. commands (does d (held d)) cs w'))
+      → Finishes d fuel budget k.exchanges (called d f args (work_done (opened set w)) k cs) (idle_user k.agreed) (and_then (returned (interrupts (kernel_of d)) (entered d (held d) may_not f args 0 set w)) (λ w'. commands (does_with d (held d) may_not) cs w'))
   call_goes f func args set cs later KU k w a bound names user fit is =
       let w' : World = opened set w in
       let e : ℕ = suc k.exchanges in
@@ -131,7 +132,7 @@ module _ (d : Driver) (uses : Uses) (right : IsRight d uses) (fuel budget : ℕ)
 
   user_command : (f : ℕ) (func : Func) (args : List Wire) (cs : List Command) → FinishesAll cs → (KU : Knowledge) (k : Kernel) (w : World) → Agree d uses budget KU k.agreed w → 2 * k.exchanges + 6 ≤ 4 * w.clock.ticks + 6 * w.kept.calls
       → slice_get d.program.funcs f ≡ Some func → is_user d.plan f ≡ true → ((K : Knowledge) → KnowsGlobals d.program K → AllFit d.program K args (map (λ (p : Param). p.ty) func.params))
-      → Finishes d fuel budget k.exchanges (calls d f args w k cs) (idle_user k.agreed) (and_then (returned (interrupts (kernel_of d)) (upcall d (held d) f args w)) (λ w'. commands (does d (held d)) cs w'))
+      → Finishes d fuel budget k.exchanges (calls d f args w k cs) (idle_user k.agreed) (and_then (returned (interrupts (kernel_of d)) (upcall d (held d) may_not f args 0 w)) (λ w'. commands (does_with d (held d) may_not) cs w'))
   unfolding calls upcall
   user_command f func args cs later KU k w a bound names user fit = of (visible d.program (touched_by d.plan f) w.memory [] (entry_roots d.program f args)) refl
     where
@@ -142,10 +143,10 @@ module _ (d : Driver) (uses : Uses) (right : IsRight d uses) (fuel budget : ℕ)
       pending x = called d f args (taken x at w (λ set. work_done (opened set w))) k cs
 
       ran : Result (List Cell) Failing → Ran Wire
-      ran x = taken x at w (λ set. entered d (held d) f args set w)
+      ran x = taken x at w (λ set. entered d (held d) may_not f args 0 set w)
 
       Goal : Result (List Cell) Failing → Type 0
-      Goal x = Finishes d fuel budget k.exchanges (pending x) (idle_user k.agreed) (and_then (returned (interrupts (kernel_of d)) (ran x)) (λ w'. commands (does d (held d)) cs w'))
+      Goal x = Finishes d fuel budget k.exchanges (pending x) (idle_user k.agreed) (and_then (returned (interrupts (kernel_of d)) (ran x)) (λ w'. commands (does_with d (held d) may_not) cs w'))
 
       of : (x : Result (List Cell) Failing) → visible d.program (touched_by d.plan f) w.memory [] (entry_roots d.program f args) ≡ x → Goal (visible d.program (touched_by d.plan f) w.memory [] (entry_roots d.program f args))
       of (Ok set) e = subst Goal (sym e) (call_goes f func args set cs later KU k w a bound names user fit e)
@@ -156,13 +157,15 @@ module _ (d : Driver) (uses : Uses) (right : IsRight d uses) (fuel budget : ℕ)
   -- what a command comes to, and what follows it
   abbrev BeginsWell : List Command → Kernel → Beginning → Type 0
   BeginsWell cs k b =
-      Finishes d fuel budget k.exchanges (split_by b d cs k (λ k'. split_commands d cs k')) (idle_user k.agreed) (and_then (in_place (kernel_of d) (upcall d (held d)) b) (λ w'. commands (does d (held d)) cs w'))
+      Finishes d fuel budget k.exchanges (split_by b d cs k (λ k'. split_commands d cs k')) (idle_user k.agreed) (and_then (in_place (kernel_of d) (λ g vs w. call (kernel_of d) (interrupts (kernel_of d)) g vs 0 w) (λ g vs w. upcall d (held d) may_not g vs 0 w) b) (λ w'. commands (does_with d (held d) may_not) cs w'))
 
   call_finishes : (f : ℕ) (func : Func) (vs : List Value) (cs : List Command) → FinishesAll cs → (KU : Knowledge) (k : Kernel) (w : World) (a : Agree d uses budget KU k.agreed w) → 2 * k.exchanges + 6 ≤ 4 * w.clock.ticks + 6 * w.kept.calls
       → slice_get d.program.funcs f ≡ Some func → ((K : Knowledge) → KnowsGlobals d.program K → AllFit d.program K (map wire_of vs) (map (λ (p : Param). p.ty) func.params))
       → (b : Bool) → is_user d.plan f ≡ b → BeginsRight d.program a.K w (called_by b (kernel_of d) f (map wire_of vs) w) → BeginsWell cs k (called_by b (kernel_of d) f (map wire_of vs) w)
   call_finishes f func vs cs later KU k w a bound names fit true e right' = user_command f func (map wire_of vs) cs later KU k w a bound names e fit
-  call_finishes f func vs cs later KU k w a bound names fit false e right' = work_finishes cs later KU k w (next_serial w) a (omega (arith, bound)) _ right'
+  call_finishes f func vs cs later KU k w a bound names fit false e right' =
+      work_finishes cs later KU k w (next_serial w) a (omega (arith, bound)) _
+      (commands_leave.entered d uses right.driver may_not (kernel_code_leaves.may_not d.program uses) a.K w (uses_all a) a.holds f right'.0 (map wire_of vs) right'.1)
 
   command_finishes : (c : Command) (cs : List Command) → IsCommand d.program c → FinishesAll cs → (KU : Knowledge) (k : Kernel) (a : Agree d uses budget KU k.agreed k.world) → 2 * k.exchanges ≤ 4 * k.world.clock.ticks + 6 * k.world.kept.calls
       → BeginsRight d.program a.K (noted_command d.program c k.world) (begin (kernel_of d) (is_user d.plan) c k.world) → BeginsWell cs k (begin (kernel_of d) (is_user d.plan) c k.world)

@@ -15,7 +15,7 @@ use Rattle.mdr_serves.proofs.Relations.{Agree, IsRight}
 use Rattle.mdr_watched.specs.Driver.{Driver}
 use Rattle.mdr_watched.specs.Order.{AllAreLive}
 use Rattle.mdr_watched.specs.Views.{below, closed}
-use Rattle.mdr_watched.specs.Watched.{kernel_of}
+use Rattle.mdr_watched.specs.Watched.{kernel_of, may_not}
 
 grows_on : (A B C : Knowledge) → Grows A B → Grows B C → Grows A C
 grows_on A B C g h = record { stays = λ serial shape e. h.stays serial shape (g.stays serial shape e); same = h.same ∙ g.same }
@@ -77,4 +77,4 @@ agree_closed d uses budget KU copy w a = record {
 
 -- the interrupt rule is tried
 pub interrupts_lead : (d : Driver) (uses : Uses) → IsRight d uses → Try d.program uses (interrupts (kernel_of d))
-interrupts_lead d uses right = (kernel_code_leaves.interrupted d.program right.driver.sound uses d.kernel right.driver.kernel).tries
+interrupts_lead d uses right = (kernel_code_leaves.interrupted d.program right.driver.sound uses d.kernel right.driver.kernel may_not may_not (kernel_code_leaves.may_not d.program uses) (kernel_code_leaves.may_not d.program uses)).tries

@@ -4,10 +4,13 @@ use Rattle.std.specs.Prelude.{is_some}
 use Rattle.mdr_callees.specs.Callees.{uses_by}
 use Rattle.mdr_core.specs.declared.program.Program.{Program}
 use Rattle.mdr_core.specs.declared.types.Shape.{Shape}
+use Rattle.mdr_callees.proofs.BackLaws.{one_graph_without}
+use Rattle.mdr_holds.proofs.Backs.{calls_back_are_none}
+use Rattle.mdr_holds.proofs.Drivers.{programs_are_drivers}
 use Rattle.mdr_holds.proofs.Scripts.{commands_leave}
 use Rattle.mdr_holds.proofs.States.{states_hold}
 use Rattle.mdr_holds.specs.Holding.{Holds, first_knowledge}
-use Rattle.mdr_holds.specs.Laws.{IsScript}
+use Rattle.mdr_holds.specs.Laws.{CallsItself, HaveBodies as EachHasBody, HaveHalves, IsScript}
 use Rattle.mdr_meaning.specs.Fit.{Knowledge}
 use Rattle.mdr_meaning.specs.Numbers.{Numbered}
 use Rattle.mdr_meaning.specs.Within.{Uses}
@@ -35,7 +38,7 @@ use Rattle.mdr_watched.specs.Driver.{Driver, driver_of}
 use Rattle.mdr_watched.specs.Watched.{does, held, watched_of}
 use Rattle.mdr_serves.proofs.Commands.{finishes}
 use Rattle.mdr_serves.proofs.Relations.{Agree, IsRight, known_by, grows_same}
-use Rattle.mdr_serves.proofs.Right.{CallGraph, call_graph, is_right}
+use Rattle.mdr_serves.proofs.Right.{CallGraph, body_there, call_graph, is_right}
 use Rattle.mdr_serves.proofs.Serves.{AreGranted, Finishes, idle_user, meet}
 
 -- ---- messages in turn
@@ -190,7 +193,7 @@ first_copy d uses script budget right = ap (λ (known : Numbered). idle_user (fi
 
 -- ---- the law
 
-module _ (d : Driver) (uses : Uses) (right : IsRight d uses) (script : Bound) (budget : ℕ) (good : IsScript d.program script) where
+module _ (d : Driver) (uses : Uses) (right : IsRight d uses) (itself : CallsItself uses d.kernel) (halves : HaveHalves d) (script : Bound) (budget : ℕ) (good : IsScript d.program script) where
   abbrev k0 : Kernel
   k0 = first_kernel d script budget
 
@@ -199,8 +202,10 @@ module _ (d : Driver) (uses : Uses) (right : IsRight d uses) (script : Bound) (b
 
   -- with fuel for more than the budget the exchanges come to the watched run's end
   ends_at : (fuel : ℕ) → budget < fuel → Finishes d fuel budget 0 p0 (idle_user k0.agreed) (watched_of d script budget)
-  unfolding first_kernel watched_of first_world first_memory split_commands
-  ends_at fuel less = finishes d uses right fuel budget less script.commands good.commands (first_knowledge d.program uses) k0 (first_agrees d uses script budget right good) (omega arith)
+  unfolding first_kernel first_world first_memory split_commands
+  ends_at fuel less =
+      subst (λ (f : Finish). Finishes d fuel budget 0 p0 (idle_user k0.agreed) f) (sym (calls_back_are_none.watched d uses right.driver itself halves right.first script good budget))
+      (finishes d uses right fuel budget less script.commands good.commands (first_knowledge d.program uses) k0 (first_agrees d uses script budget right good) (omega arith))
 
   own : IsOwn (watched_of d script budget).end
   unfolding watched_of
@@ -250,8 +255,11 @@ module _ (d : Driver) (uses : Uses) (right : IsRight d uses) (script : Bound) (b
           (answers_of d fuel budget f.turns p0 (idle_user k0.agreed), (watched_of d script budget).end, f.kernel, r.honest, r.reached)
 
 pub split_is_one_memory : SplitIsOneMemory
-split_is_one_memory program plan script budget sound bodies planned bound =
+split_is_one_memory program plan script budget sound nothing bodies planned bound =
     let graph : CallGraph program = call_graph program in
     let uses : Uses = uses_by program graph.callees in
     let right : IsRight (driver_of program plan) uses = is_right program plan graph.callees sound bodies planned graph.are in
-    one_memory (driver_of program plan) uses right script budget bound
+    let there : EachHasBody program = λ f func names. body_there program plan graph.callees sound bodies planned graph.are f func names in
+    let itself : CallsItself uses (driver_of program plan).kernel =
+    programs_are_drivers.kernel program plan planned.roots planned.halves planned.are_halves planned.is_plan.halves_are there graph.callees (one_graph_without program nothing graph.callees graph.are) in
+    one_memory (driver_of program plan) uses right itself (programs_are_drivers.halves program there plan) script budget bound

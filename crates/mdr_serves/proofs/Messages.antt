@@ -65,7 +65,7 @@ use Rattle.mdr_watched.proofs.Living.{is_living}
 use Rattle.mdr_watched.specs.Driver.{Driver, entry_roots, result_roots, touched_by}
 use Rattle.mdr_watched.specs.Order.{AllAreLive}
 use Rattle.mdr_watched.specs.Views.{below, living, opened, renewed, taken, top}
-use Rattle.mdr_watched.specs.Watched.{downcall, held, kernel_of, returns_to}
+use Rattle.mdr_watched.specs.Watched.{downcall, held, kernel_of, may_not, returns_to}
 
 -- ---- what holds behind a message
 
@@ -320,12 +320,13 @@ module _ (d : Driver) (uses : Uses) (budget t : ℕ) (KU : Knowledge) (live : Li
 
 pub down_comes : (d : Driver) (uses : Uses) (budget t : ℕ) (KU : Knowledge) (live : List Wire) (k : Kernel) (w : World) (um : Memory) (at : At) (f : ℕ) (func : Func) (args : List Wire) (depth : ℕ) → IsRight d uses → Rel d uses budget t KU live k w um
     → IsCall d.program KU func at.func f args depth
-    → Comes w (λ v w'. Backed d uses budget t KU live (replied_copy k w um) w' (suc k.exchanges) f func.result v (telling d (v ∷ []) (replied_copy k w um) w')) (downcall d (held d) t at f args depth w)
+    → Comes w (λ v w'. Backed d uses budget t KU live (replied_copy k w um) w' (suc k.exchanges) f func.result v (telling d (v ∷ []) (replied_copy k w um) w')) (downcall d (held d) t may_not at f args depth w)
 down_comes d uses budget t KU live k w um at f func args depth right r crosses = of (call (kernel_of d) (interrupts (kernel_of d)) f (map (normal w.memory) args) depth w) refl returns
   where
     returns : Returns d.program (next_serial w) func.result r.K w (call (kernel_of d) (interrupts (kernel_of d)) f (map (normal w.memory) args) depth w)
     returns =
-        kernel_code_leaves.called d.program r.sound uses d.kernel right.driver.kernel (interrupts (kernel_of d)) (kernel_code_leaves.interrupted d.program r.sound uses d.kernel right.driver.kernel) r.K w (r.grows.same ∙ r.uses_are) r.holds f func (map (normal w.memory) args) depth
+        kernel_code_leaves.called d.program r.sound uses d.kernel right.driver.kernel may_not (kernel_code_leaves.may_not d.program uses) (interrupts (kernel_of d))
+        (kernel_code_leaves.interrupted d.program r.sound uses d.kernel right.driver.kernel may_not may_not (kernel_code_leaves.may_not d.program uses) (kernel_code_leaves.may_not d.program uses)).tries r.K w (r.grows.same ∙ r.uses_are) r.holds f func (map (normal w.memory) args) depth
         (record { names = crosses.names; fit = all_now d.program r.K w.memory args _ (all_grow d.program KU r.K r.grows args _ crosses.fit) })
 
     views : (left (call (kernel_of d) (interrupts (kernel_of d)) f (map (normal w.memory) args) depth w)).views ≡ map (living (left (call (kernel_of d) (interrupts (kernel_of d)) f (map (normal w.memory) args) depth w)).memory) w.views

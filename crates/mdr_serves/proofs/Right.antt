@@ -132,7 +132,7 @@ module _ (program : Program) (plan : Plan) (callees : List (List ℕ)) (sound : 
       of (inl c) = c.2 ∙ not_user c.0 (ap is_user_half (sym c.2) ∙ none)
       of (inr c) = let size = planned.are_halves.halves_size in absurd (omega (arith, c.0, size, inside))
 
-  body_there : (f : ℕ) (func : Func) → slice_get program.funcs f ≡ Some func → (body : Body) × (body_of program f ≡ Some body)
+  pub body_there : (f : ℕ) (func : Func) → slice_get program.funcs f ≡ Some func → (body : Body) × (body_of program f ≡ Some body)
   unfolding body_of
   body_there f func names = let there = by_some func func.body (bodies f func names) in (there.0, ap body_from names ∙ there.1)
 

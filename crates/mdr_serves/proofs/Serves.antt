@@ -42,7 +42,7 @@ use Rattle.mdr_split.specs.State.{Kernel, Open, Noted, Pending, Over, Waits}
 use Rattle.mdr_split.specs.User.{Delivered, User, AwaitsAnswer, AwaitsBack, Nothing, Runs, answer_fits, back_fits, deliver, done as user_done, entered_behind, grown, guarded, opened, replied, replied_to, when_fits}
 use Rattle.mdr_watched.specs.Driver.{Driver, touched_by}
 use Rattle.mdr_watched.specs.Views.{gained, may_touch, top}
-use Rattle.mdr_watched.specs.Watched.{closing, does, downcall, held, in_user, kernel_of, returns_to, serves as serves_asked}
+use Rattle.mdr_watched.specs.Watched.{closing, does_with, downcall, held, in_user, kernel_of, may_not, returns_to, serves as serves_asked}
 use Rattle.mdr_serves.proofs.Accesses
 use Rattle.mdr_serves.proofs.Answers
 use Rattle.mdr_serves.proofs.Fresh
@@ -107,7 +107,7 @@ is_over {d} {fuel} {budget} end k u bound = record { turns = 0; kernel = k; meet
 
 -- what the whole run does after an upcall that was open
 abbrev pub ended_at : Driver → List Command → Ran Wire → Finish
-ended_at d script ran = and_then (returned (interrupts (kernel_of d)) (closing ran)) (λ w. commands (does d (held d)) script w)
+ended_at d script ran = and_then (returned (interrupts (kernel_of d)) (closing ran)) (λ w. commands (does_with d (held d) may_not) script w)
 
 -- the user half while nothing is open, and these objects live
 abbrev pub closed_user : (live : List Wire) → Memory → User
@@ -132,7 +132,7 @@ ServesBy d fuel budget t script live k w walked ran =
     (replied_to t (serials_of live) (top w.views) k.world.clock.rest k.agreed walked).user (ended_at d script ran)
 
 abbrev pub ServesAt : Driver → (fuel budget t : ℕ) → List Command → (live : List Wire) → Tree → Kernel → World → Memory → ℕ → Type 0
-ServesAt d fuel budget t script live tree k w um n = ServesBy d fuel budget t script live k w (walk (guarded (top w.views)) n tree um) (run (in_user d (held d) t) nothing tree w)
+ServesAt d fuel budget t script live tree k w um n = ServesBy d fuel budget t script live k w (walk (guarded (top w.views)) n tree um) (run (in_user d (held d) t may_not) nothing tree w)
 
 moved : (d : Driver) (fuel budget t : ℕ) (script : List Command) (live : List Wire) (k : Kernel) (w : World) (x x' : Walked Memory) (y y' : Ran Wire) → x' ≡ x → y' ≡ y
     → ServesBy d fuel budget t script live k w x y → ServesBy d fuel budget t script live k w x' y'
@@ -172,7 +172,7 @@ passed_service d t asked w =
     ap (λ (xs : List Wire). after (served_by d.program (record asked { args = xs }) (service_numbered asked.service) w) (λ results w'. Ended results (gained d.program (touched_by d.plan t) (next_serial w) w')))
     (passed_twice w.memory asked.args)
 
-passed_call : (d : Driver) (t : ℕ) (at : At) (f : ℕ) (args : List Wire) (depth : ℕ) (w : World) → downcall d (held d) t at f (map (normal w.memory) args) depth w ≡ downcall d (held d) t at f args depth w
+passed_call : (d : Driver) (t : ℕ) (at : At) (f : ℕ) (args : List Wire) (depth : ℕ) (w : World) → downcall d (held d) t may_not at f (map (normal w.memory) args) depth w ≡ downcall d (held d) t may_not at f args depth w
 passed_call d t at f args depth w =
     ap (λ (xs : List Wire). after (call (kernel_of d) (interrupts (kernel_of d)) f xs depth w) (λ v w'. returns_to d (held d) t at f xs v w')) (passed_twice w.memory args)
 
@@ -278,13 +278,13 @@ module _ (d : Driver) (uses : Uses) (right : IsRight d uses) (fuel budget t : �
   next_down : (KU : Knowledge) (live : List Wire) (k : Kernel) (w : World) (um : Memory) (at : At) (f : ℕ) (callee : Func) (args : List Wire) (depth credit : ℕ) → Rel d uses budget t KU live k w um
       → IsStatement d.user at → has_down_stub d f ≡ true → IsCall d.program KU callee at.func f args depth → IsWithin k w (suc credit)
       → next d (Ok (message.Down (used k w) at depth f (map (normal um) args) (told_runs k w um))) k (open_of t live) Noted script
-      ≡ downcalled d (downcall d (held d) t at f args depth w) (resumed k w um) (open_of t live) Noted script
+      ≡ downcalled d (downcall d (held d) t may_not at f args depth w) (resumed k w um) (open_of t live) Noted script
   unfolding taken
   next_down KU live k w um at f callee args depth credit r place stub crosses within =
       next_taken d k (open_of t live) script (replies.Down (used k w) at depth f (map (normal um) args) (told_runs k w um))
       (Replies.legal_down d uses budget t KU live k w um at f callee args depth credit right r place stub crosses.names crosses.fit crosses.some crosses.limited within)
-      ∙ ap (λ (k' : Kernel). downcalled d (downcall d (held d) t at f (map (normal um) args) depth k'.world) k' (open_of t live) Noted script) (Replies.stores_reply d uses budget t KU live k w um r)
-      ∙ ap (λ (xs : List Wire). downcalled d (downcall d (held d) t at f xs depth w) (resumed k w um) (open_of t live) Noted script)
+      ∙ ap (λ (k' : Kernel). downcalled d (downcall d (held d) t may_not at f (map (normal um) args) depth k'.world) k' (open_of t live) Noted script) (Replies.stores_reply d uses budget t KU live k w um r)
+      ∙ ap (λ (xs : List Wire). downcalled d (downcall d (held d) t may_not at f xs depth w) (resumed k w um) (open_of t live) Noted script)
       (Replies.args_same d uses budget t KU live k w um args (map (λ (p : Param). p.ty) callee.params) r crosses.fit)
       ∙ ap (λ (ran : Ran Wire). downcalled d ran (resumed k w um) (open_of t live) Noted script) (passed_call d t at f args depth w)
 
@@ -316,7 +316,7 @@ module _ (d : Driver) (uses : Uses) (right : IsRight d uses) (fuel budget t : �
       → (k : Kernel) (w : World) (um : Memory) → w.clock.rest ≡ 0 → Rel d uses budget t KU live k w um → IsWithin k w credit → ServesAt d fuel budget t script live (Tree.Tick at depth next') k w um 0
   unfolding walk replied run
   out_of_ticks KU live fresh credit at depth next' place k w um e rel within =
-      let go : World → Ran Wire = λ (w' : World). run (in_user d (held d) t) nothing next' w' in
+      let go : World → Ran Wire = λ (w' : World). run (in_user d (held d) t may_not) nothing next' w' in
       let whole : ended_at d script (counting w.clock.rest (Some at) w go) ≡ finish (ends.Stop stop.Ticks (Some at)) w = ap (λ (q : ℕ). ended_at d script (counting q (Some at) w go)) e in
       subst (λ (q : ℕ). Finishes d fuel budget k.exchanges (next d (Ok (message.Stop (k.world.clock.rest - q) 16 at (told_runs k w um))) k (open_of t live) Noted script)
       (closed_user live (replied_copy k w um)) (ended_at d script (counting w.clock.rest (Some at) w go))) e
@@ -339,7 +339,7 @@ module _ (d : Driver) (uses : Uses) (right : IsRight d uses) (fuel budget t : �
       of : (n : ℕ) (k : Kernel) (w : World) (um : Memory) → w.clock.rest ≡ n → n ≤ suc r → Rel d uses budget t KU live k w um → IsWithin k w credit → ServesAt d fuel budget t script live (Tree.Tick at depth next') k w um n
       of zero k w um e le rel within = out_of_ticks KU live fresh credit at depth next' place k w um e rel within
       of (suc q) k w um e le rel within =
-          let go : World → Ran Wire = λ (w' : World). run (in_user d (held d) t) nothing next' w' in
+          let go : World → Ran Wire = λ (w' : World). run (in_user d (held d) t may_not) nothing next' w' in
           let w' : World = record w { clock = advanced 1 w.clock } in
           subst (λ (f : Finish). Finishes d fuel budget k.exchanges (next d (Ok (reply_of t live k w' um q next').reply) k (open_of t live) Noted script) (reply_of t live k w' um q next').user f)
           (sym (ap (λ (n : ℕ). ended_at d script (counting n (Some at) w go)) e))
@@ -361,12 +361,12 @@ module _ (d : Driver) (uses : Uses) (right : IsRight d uses) (fuel budget t : �
       of k w um n e le rel within (Ok v) same is =
           moved d fuel budget t script live k w _ _ _ _
           (ap (λ (x : Result Wire StopKind). on_access x at um n (λ v'. walk (guarded (top w.views)) n (next' v') um)) (same ∙ is))
-          (ap (λ (x : Result Wire StopKind). given x at w (λ v'. run (in_user d (held d) t) nothing (next' v') w)) is)
+          (ap (λ (x : Result Wire StopKind). given x at w (λ v'. run (in_user d (held d) t may_not) nothing (next' v') w)) is)
           ((later v (is_loaded d.program KU ty (may_touch w) w.memory p v points is) (Accesses.load_fits d uses budget t KU live k w um ty p v rel points scalar is)).by k w um n e le rel tt within)
       of k w um n e le rel within (Err kind) same is =
           moved d fuel budget t script live k w _ _ _ _
           (ap (λ (x : Result Wire StopKind). on_access x at um n (λ v'. walk (guarded (top w.views)) n (next' v') um)) (same ∙ is))
-          (ap (λ (x : Result Wire StopKind). given x at w (λ v'. run (in_user d (held d) t) nothing (next' v') w)) is)
+          (ap (λ (x : Result Wire StopKind). given x at w (λ v'. run (in_user d (held d) t may_not) nothing (next' v') w)) is)
           ((stop_serves KU live [] credit r kind at place (Accesses.load_stop (may_touch w) w.memory p kind is)).by k w um n e le rel tt within)
 
   store_serves : (KU : Knowledge) (live : List Wire) (fresh : List Birth) (credit r : ℕ) (at : At) (p v : Wire) (next' : Tree) (ty : Ty) → IsStatement d.user at → PointsTo d.program KU ty p → Fits d.program KU ty v
@@ -379,12 +379,12 @@ module _ (d : Driver) (uses : Uses) (right : IsRight d uses) (fuel budget t : �
       of k w um n e le rel within (Accesses.goes m m' user whole rel') =
           moved d fuel budget t script live k w _ _ _ _
           (ap (λ (x : Result Memory StopKind). on_access x at um n (λ m''. walk (guarded (top w.views)) n next' m'')) user)
-          (ap (λ (x : Result Memory StopKind). given (remembers w x) at w (λ w'. run (in_user d (held d) t) nothing next' w')) whole)
+          (ap (λ (x : Result Memory StopKind). given (remembers w x) at w (λ w'. run (in_user d (held d) t may_not) nothing next' w')) whole)
           (later.by k (record w { memory = m }) m' n e le rel' tt (record { bound = within.bound }))
       of k w um n e le rel within (Accesses.stops kind user whole own) =
           moved d fuel budget t script live k w _ _ _ _
           (ap (λ (x : Result Memory StopKind). on_access x at um n (λ m''. walk (guarded (top w.views)) n next' m'')) user)
-          (ap (λ (x : Result Memory StopKind). given (remembers w x) at w (λ w'. run (in_user d (held d) t) nothing next' w')) whole)
+          (ap (λ (x : Result Memory StopKind). given (remembers w x) at w (λ w'. run (in_user d (held d) t may_not) nothing next' w')) whole)
           ((stop_serves KU live [] credit r kind at place own).by k w um n e le rel tt within)
 
   -- into an object that was just born
@@ -398,7 +398,7 @@ module _ (d : Driver) (uses : Uses) (right : IsRight d uses) (fuel budget t : �
       of k w um n e le opened within (Accesses.goes m m' user whole rel') =
           moved d fuel budget t script live k w _ _ _ _
           (ap (λ (x : Result Memory StopKind). on_access x at um n (λ m''. walk (guarded (top w.views)) n next' m'')) user)
-          (ap (λ (x : Result Memory StopKind). given (remembers w x) at w (λ w'. run (in_user d (held d) t) nothing next' w')) whole)
+          (ap (λ (x : Result Memory StopKind). given (remembers w x) at w (λ w'. run (in_user d (held d) t may_not) nothing next' w')) whole)
           (later.by k (record w { memory = m }) m' n e le rel' (Fresh.opened_stay d t w fresh p v m opened whole) (record { bound = within.bound }))
       of k w um n e le opened within (Accesses.stops kind user whole own) = elim (Fresh.fresh_goes d t w fresh p v kind opened among whole) [ ]
 
@@ -416,12 +416,12 @@ module _ (d : Driver) (uses : Uses) (right : IsRight d uses) (fuel budget t : �
       of k w um n e le rel within (Ok bs) same is =
           moved d fuel budget t script live k w _ _ _ _
           (ap (λ (x : Result (List ℕ) StopKind). on_access x at um n (λ bs'. walk (guarded (top w.views)) n (next' bs') um)) (same ∙ is))
-          (ap (λ (x : Result (List ℕ) StopKind). given x at w (λ bs'. run (in_user d (held d) t) nothing (next' bs') w)) is)
+          (ap (λ (x : Result (List ℕ) StopKind). given x at w (λ bs'. run (in_user d (held d) t may_not) nothing (next' bs') w)) is)
           ((later bs (Accesses.read_long (may_touch w) w.memory p count bs is)).by k w um n e le rel tt within)
       of k w um n e le rel within (Err kind) same is =
           moved d fuel budget t script live k w _ _ _ _
           (ap (λ (x : Result (List ℕ) StopKind). on_access x at um n (λ bs'. walk (guarded (top w.views)) n (next' bs') um)) (same ∙ is))
-          (ap (λ (x : Result (List ℕ) StopKind). given x at w (λ bs'. run (in_user d (held d) t) nothing (next' bs') w)) is)
+          (ap (λ (x : Result (List ℕ) StopKind). given x at w (λ bs'. run (in_user d (held d) t may_not) nothing (next' bs') w)) is)
           ((stop_serves KU live [] credit r kind at place (Accesses.read_stop (may_touch w) w.memory p count kind is)).by k w um n e le rel tt within)
 
   fresh_serves : (KU : Knowledge) (live : List Wire) (fresh : List Birth) (credit r : ℕ) (at : At) (v : Wire) (next' : Wire → Tree) → IsStatement d.user at → IsAddress d.program KU v
@@ -439,12 +439,12 @@ module _ (d : Driver) (uses : Uses) (right : IsRight d uses) (fuel budget t : �
           let it : x ≡ v = Accesses.fresh_is w.memory v x is in
           moved d fuel budget t script live k w _ _ _ _
           (ap (λ (y : Result Wire StopKind). on_access y at um n (λ x'. walk (guarded (top w.views)) n (next' x') um)) (same ∙ is ∙ ap (λ (y : Wire). Ok y) it))
-          (ap (λ (y : Result Wire StopKind). given y at w (λ x'. run (in_user d (held d) t) nothing (next' x') w)) (is ∙ ap (λ (y : Wire). Ok y) it))
+          (ap (λ (y : Result Wire StopKind). given y at w (λ x'. run (in_user d (held d) t may_not) nothing (next' x') w)) (is ∙ ap (λ (y : Wire). Ok y) it))
           (later.by k w um n e le rel tt within)
       of k w um n e le rel within (Err kind) same is =
           moved d fuel budget t script live k w _ _ _ _
           (ap (λ (y : Result Wire StopKind). on_access y at um n (λ x'. walk (guarded (top w.views)) n (next' x') um)) (same ∙ is))
-          (ap (λ (y : Result Wire StopKind). given y at w (λ x'. run (in_user d (held d) t) nothing (next' x') w)) is)
+          (ap (λ (y : Result Wire StopKind). given y at w (λ x'. run (in_user d (held d) t may_not) nothing (next' x') w)) is)
           ((stop_serves KU live [] credit r kind at place (Accesses.fresh_stop w.memory v kind is)).by k w um n e le rel tt within)
 
   -- ---- questions
@@ -460,7 +460,7 @@ module _ (d : Driver) (uses : Uses) (right : IsRight d uses) (fuel budget t : �
       → (ran : Ran Wire) → Comes w (λ v w'. Messages.Backed d uses budget t KU live (replied_copy k w um) w' (suc k.exchanges) f result v (telling d (v ∷ []) (replied_copy k w um) w')) ran
       → Finishes d fuel budget k.exchanges (downcalled d ran (resumed k w um) (open_of t live) Noted script)
       (record { agreed = replied_copy k w um; entered = serials_of live; work = AwaitsBack t f (top w.views) next' })
-      (ended_at d script (after ran (λ v w'. run (in_user d (held d) t) nothing (next' v) w')))
+      (ended_at d script (after ran (λ v w'. run (in_user d (held d) t may_not) nothing (next' v) w')))
   unfolding comes_back
   crossed KU live credit q r f result next' k w um le rel less within later _ (ended v w' gone m) =
       let copy : Memory = replied_copy k w um in
@@ -483,7 +483,7 @@ module _ (d : Driver) (uses : Uses) (right : IsRight d uses) (fuel budget t : �
   cross_serves KU live fresh credit q r at f callee args depth next' place stub crosses less later = record {
     by = λ k w um n e le rel opened within.
         let u : User = record { agreed = replied_copy k w um; entered = serials_of live; work = AwaitsBack t f (top w.views) next' } in
-        let fin : Finish = ended_at d script (run (in_user d (held d) t) nothing (Tree.Cross at f args depth next') w) in
+        let fin : Finish = ended_at d script (run (in_user d (held d) t may_not) nothing (Tree.Cross at f args depth next') w) in
         subst (λ (x : ℕ). ServesAt d fuel budget t script live (Tree.Cross at f args depth next') k w um x) e
         (subst (λ (p : Pending). Finishes d fuel budget k.exchanges p u fin) (sym (next_down KU live k w um at f callee args depth q rel place stub crosses (record { bound = omega (arith, less, within.bound) })))
         (crossed KU live credit q r f callee.result next' k w um (omega (arith, e, le)) rel less within later _
@@ -495,7 +495,7 @@ module _ (d : Driver) (uses : Uses) (right : IsRight d uses) (fuel budget t : �
       → (ran : Ran (List Wire)) → Comes w (λ rs w'. Answers.Answered d uses budget t KU live remains (replied_copy k w um) w w' (suc k.exchanges) asked s rs (tells d.program [] rs (replied_copy k w um) w'.memory)) ran
       → Finishes d fuel budget k.exchanges (serviced d (as_now w asked) ran (resumed k w um) (open_of t live) Noted script)
       (record { agreed = replied_copy k w um; entered = serials_of live; work = AwaitsAnswer t asked (top w.views) w.clock.rest next' })
-      (ended_at d script (after ran (λ rs w'. run (in_user d (held d) t) nothing (next' rs) w')))
+      (ended_at d script (after ran (λ rs w'. run (in_user d (held d) t may_not) nothing (next' rs) w')))
   unfolding answers
   asked_for KU live remains credit q r asked s next' k w um le less within later _ (ended rs w' gone m) =
       let copy : Memory = replied_copy k w um in
@@ -503,7 +503,7 @@ module _ (d : Driver) (uses : Uses) (right : IsRight d uses) (fuel budget t : �
       let e : ℕ = suc k.exchanges in
       let k' : Kernel = waiting d told copy w' e in
       let u : User = record { agreed = copy; entered = serials_of live; work = AwaitsAnswer t asked (top w.views) w.clock.rest next' } in
-      let fin : Finish = ended_at d script (run (in_user d (held d) t) nothing (next' rs) w') in
+      let fin : Finish = ended_at d script (run (in_user d (held d) t may_not) nothing (next' rs) w') in
       subst (λ (o : Open). Finishes d fuel budget k.exchanges (Waits (message.Answer rs told.deaths told.news) k' o Noted script) u fin) (sym m.counted_kernel)
       (one_more (message.Answer rs told.deaths told.news) k' (open_of t (left_with s remains rs)) script u
       (reply_of t (left_with s remains rs) k' w' (agreed_after d.program told copy) w'.clock.rest (next' rs)) fin
@@ -521,7 +521,7 @@ module _ (d : Driver) (uses : Uses) (right : IsRight d uses) (fuel budget t : �
   ask_serves KU live remains fresh credit q r asked s next' place standing numbered ask leaves less later = record {
     by = λ k w um n e le rel opened within.
         let u : User = record { agreed = replied_copy k w um; entered = serials_of live; work = AwaitsAnswer t asked (top w.views) w.clock.rest next' } in
-        let fin : Finish = ended_at d script (run (in_user d (held d) t) nothing (Tree.Ask asked next') w) in
+        let fin : Finish = ended_at d script (run (in_user d (held d) t may_not) nothing (Tree.Ask asked next') w) in
         subst (λ (x : ℕ). ServesAt d fuel budget t script live (Tree.Ask asked next') k w um x) e
         (subst (λ (p : Pending). Finishes d fuel budget k.exchanges p u fin) (sym (next_ask KU live remains k w um asked s q rel place standing numbered ask leaves (record { bound = omega (arith, less, within.bound) })))
         (asked_for KU live remains credit q r asked s next' k w um (omega (arith, e, le)) less within later _

@@ -11,13 +11,12 @@ use Rattle.mdr_model.specs.Agreement.{IsBelow, IsFormed, MayFollow}
 use Rattle.mdr_model.specs.Memory.{reached, stored, stored_into}
 use Rattle.mdr_model.proofs.KernelSteps.{steps_may_follow}
 use Rattle.mdr_plain.specs.Gate.{due}
-use Rattle.mdr_plain.specs.Plain.{never}
 use Rattle.mdr_plain.specs.Running.{Before, all_cells, call, handled, in_kernel, interrupted, interrupts, nothing, run}
 use Rattle.mdr_plain.specs.Services.{served}
 use Rattle.mdr_plain.specs.Storage.{births, deaths, next_serial, remembers}
 use Rattle.mdr_plain.specs.World.{World, Ran, Ended, Stopped, Work, advanced, after, counted, given, left, then}
 use Rattle.mdr_watched.specs.Driver.{Driver}
-use Rattle.mdr_watched.specs.Watched.{kernel_of}
+use Rattle.mdr_watched.specs.Watched.{kernel_of, may_not}
 use Rattle.mdr_shows.specs.Laws.{KernelCodeMayFollow}
 use Rattle.mdr_shows.proofs.Births.{births_follow}
 use Rattle.mdr_shows.proofs.Deaths.{deaths_follow}
@@ -67,7 +66,7 @@ module _ (program : Program) where
   -- ---- code
 
   module _ (before : Before) (tries : (depth : ℕ) (w : World) → IsReady program w → Follows program w (before depth w)) where
-    run_follows : (t : Tree) (w : World) → IsReady program w → Follows program w (run (in_kernel program never) before t w)
+    run_follows : (t : Tree) (w : World) → IsReady program w → Follows program w (run (in_kernel program may_not) before t w)
     unfolding run stored
     run_follows Tree.Idle w g = so (same w g)
     run_follows (Tree.Waits k) w g = so (same w g)
@@ -79,11 +78,11 @@ module _ (program : Program) where
     run_follows (Tree.Read at p n k) w g = goes_given _ at w _ g (λ bytes. run_follows (k bytes) w g)
     run_follows (Tree.Fresh at v k) w g = goes_given _ at w _ g (λ x. run_follows (k x) w g)
     run_follows (Tree.Birth at shapes k) w g =
-        goes_on w (births program Auto shapes w).memory (run (in_kernel program never) before (k (births program Auto shapes w).pointers) (births program Auto shapes w).memory)
+        goes_on w (births program Auto shapes w).memory (run (in_kernel program may_not) before (k (births program Auto shapes w).pointers) (births program Auto shapes w).memory)
         (births_follow program Auto shapes w g.formed g.low) (λ g'. run_follows (k (births program Auto shapes w).pointers) (births program Auto shapes w).memory g')
-    run_follows (Tree.Death at ps t) w g = goes_on w (deaths ps w) (run (in_kernel program never) before t (deaths ps w)) (deaths_follow program ps w g.formed g.low) (λ g'. run_follows t (deaths ps w) g')
+    run_follows (Tree.Death at ps t) w g = goes_on w (deaths ps w) (run (in_kernel program may_not) before t (deaths ps w)) (deaths_follow program ps w g.formed g.low) (λ g'. run_follows t (deaths ps w) g')
     run_follows (Tree.Ask a k) w g = goes w (served program a w) _ (so (served_follows program a w g.formed g.low)) (λ results w' g'. run_follows (k results) w' g')
-    run_follows (Tree.Cross at f args d k) w g = goes w (never at f args d w) _ (so (same w g)) (λ v w' g'. run_follows (k v) w' g')
+    run_follows (Tree.Cross at f args d k) w g = so (same w g)
 
 module _ (d : Driver) where
   call_follows : (before : Before) → ((depth : ℕ) (w : World) → IsReady d.program w → Follows d.program w (before depth w)) → (f : ℕ) (args : List Wire) (depth : ℕ) (w : World) → IsReady d.program w → Follows d.program w (call (kernel_of d) before f args depth w)

@@ -24,8 +24,8 @@ use Rattle.mdr_watched.proofs.Living.{all_living, births_grow, is_living, living
 use Rattle.mdr_watched.specs.Driver.{Driver}
 use Rattle.mdr_watched.specs.Order.{AllAreLive, AreLive, IsInOrder}
 use Rattle.mdr_watched.specs.Views.{top}
-use Rattle.mdr_watched.specs.Watched.{kernel_of}
-use Rattle.mdr_watched.proofs.KeepLaws.{IsKept, kernel_call_keeps, served_keeps}
+use Rattle.mdr_watched.specs.Watched.{kernel_of, may_not}
+use Rattle.mdr_watched.proofs.KeepLaws.{IsKept, kernel_call_keeps, may_not_keeps, served_keeps}
 use Rattle.mdr_shows.specs.Cells.{IsSetOf}
 use Rattle.mdr_shows.specs.Laws.{DeathsLeaveSets}
 use Rattle.mdr_shows.proofs.Named.{counts_live}
@@ -119,7 +119,7 @@ served_left program a w o = (served_keeps (IsLeft w.views) (left_kept w.views) p
 
 kernel_left : (d : Driver) (f : ℕ) (args : List Wire) (depth : ℕ) (w : World) → IsInOrder w
     → (left (call (kernel_of d) (interrupts (kernel_of d)) f args depth w)).views ≡ map (λ (set : List Cell). living (left (call (kernel_of d) (interrupts (kernel_of d)) f args depth w)).memory set) w.views
-kernel_left d f args depth w o = (kernel_call_keeps (IsLeft w.views) (left_kept w.views) d f args depth w (left_first w o)).at_end.views
+kernel_left d f args depth w o = (kernel_call_keeps (IsLeft w.views) (left_kept w.views) d may_not (may_not_keeps (IsLeft w.views) (left_kept w.views) d) f args depth w (left_first w o)).at_end.views
 
 -- the set that is on top
 pub top_left : (m : Memory) (sets : List (List Cell)) → top (map (λ (set : List Cell). living m set) sets) ≡ living m (top sets)

@@ -15,14 +15,14 @@ use Rattle.mdr_model.specs.Faults.{fault}
 use Rattle.mdr_model.specs.KernelState.{Reading}
 use Rattle.mdr_model.specs.Law.{IsOwn}
 use Rattle.mdr_model.specs.ReplyFaults.{reply_of}
-use Rattle.mdr_plain.specs.Scripts.{Beginning, Did, Opens, begin}
+use Rattle.mdr_plain.specs.Scripts.{Beginning, Did, Enters, Opens, begin}
 use Rattle.mdr_plain.specs.World.{World, Ran, Ended, Stopped, Work}
 use Rattle.mdr_bound.specs.declared.bound.Bound.{Bound}
 use Rattle.mdr_split.specs.AnyAnswers.{EndsUnchanged, answer_fault, message_fault}
-use Rattle.mdr_split.specs.Kernel.{SplitRun, answered, answers, applied, begins, called, calls, comes_back, downcalled, ended, first_kernel, judged, next, refused, run_from_pending, serviced, split_by, split_commands, split_run, taken, then_split}
+use Rattle.mdr_split.specs.Kernel.{SplitRun, answered, answers, applied, begins, called, calls, comes_back, downcalled, ended, entered, first_kernel, judged, next, refused, run_from_pending, serviced, split_by, split_commands, split_run, taken, then_split}
 use Rattle.mdr_split.specs.State.{Kernel, Open, Rest, Noted, Pending, Over, Waits}
 use Rattle.mdr_watched.specs.Driver.{Driver, is_user}
-use Rattle.mdr_watched.specs.Watched.{downcall, held, kernel_of, serves}
+use Rattle.mdr_watched.specs.Watched.{downcall, held, kernel_of, may_not, serves}
 
 -- ---- one answer more
 
@@ -72,6 +72,7 @@ module _ (d : Driver) where
 
   begun_ends : (b : Beginning) (script : List Command) (k : Kernel) (go : Kernel → Pending) → ((k : Kernel) → EndsItself (go k)) → EndsItself (split_by b d script k go)
   begun_ends (Did work) script k go later = then_ends work k go later
+  begun_ends (Enters f args w) script k go later = then_ends (entered d f args w) k go later
   begun_ends (Opens f args w) script k go later = calls_end f args w k script
 
   pub commands_end : (script : List Command) (k : Kernel) → EndsItself (split_commands d script k)
@@ -100,7 +101,7 @@ module _ (d : Driver) where
   taken_ends (replies.Return ticks v runs) k upcall Noted script =
       then_ends (ended d v (applied ticks runs k).world) (applied ticks runs k) (λ k'. split_commands d script k') (λ k'. commands_end script k')
   taken_ends (replies.Down ticks at depth func args runs) k upcall rest script =
-      down_ends (downcall d (held d) upcall.func at func args depth (applied ticks runs k).world) (applied ticks runs k) upcall rest script
+      down_ends (downcall d (held d) upcall.func may_not at func args depth (applied ticks runs k).world) (applied ticks runs k) upcall rest script
   taken_ends (replies.Ask ticks at service args shapes bytes runs) k upcall rest script =
       let asked : Asked = record { service = service; at = at; args = args; shapes = shapes; bytes = bytes } in
       service_ends asked (serves d (held d) upcall.func asked (applied ticks runs k).world) (applied ticks runs k) upcall rest script

@@ -20,8 +20,8 @@ use Rattle.mdr_model.specs.Copies.{agreed_after, put_runs, tells}
 use Rattle.mdr_model.specs.Faults.{fault}
 use Rattle.mdr_model.specs.KernelState.{Reading}
 use Rattle.mdr_model.specs.ReplyFaults.{reply_of, user_stop}
-use Rattle.mdr_plain.specs.Running.{interrupts}
-use Rattle.mdr_plain.specs.Scripts.{Beginning, Did, Opens, begin, first_world, returned}
+use Rattle.mdr_plain.specs.Running.{call, interrupts}
+use Rattle.mdr_plain.specs.Scripts.{Beginning, Did, Enters, Opens, begin, first_world, returned}
 use Rattle.mdr_plain.specs.World.{World, Ran, Ended, Stopped, Work, advanced, done}
 use Rattle.mdr_bound.specs.declared.bound.Bound.{Bound}
 use Rattle.mdr_split.specs.Legal.{fault_of}
@@ -29,7 +29,7 @@ use Rattle.mdr_split.specs.Services.{counted}
 use Rattle.mdr_split.specs.State.{Kernel, Open, Rest, Noted, Pending, Over, Waits}
 use Rattle.mdr_watched.specs.Driver.{Driver, entry_roots, is_user, touched_by}
 use Rattle.mdr_watched.specs.Views.{closed, opened, taken as with_set, top}
-use Rattle.mdr_watched.specs.Watched.{downcall, held, kernel_of, serves}
+use Rattle.mdr_watched.specs.Watched.{downcall, held, kernel_of, may_not, serves}
 
 -- ---- sending
 
@@ -75,8 +75,13 @@ abbrev pub then_split : Work → Kernel → (Kernel → Pending) → Pending
 then_split (Ended x w) k go = go (record k { world = w })
 then_split (Stopped kind at w) k go = over (ends.Stop kind at) w k
 
+-- a function of the kernel half runs in place
+abbrev pub entered : Driver → (func : ℕ) → (args : List Wire) → World → Work
+entered d f args w = returned (interrupts (kernel_of d)) (call (kernel_of d) (interrupts (kernel_of d)) f args 0 w)
+
 abbrev pub split_by : Beginning → Driver → List Command → Kernel → (Kernel → Pending) → Pending
 split_by (Did work) d script k go = then_split work k go
+split_by (Enters f args w) d script k go = then_split (entered d f args w) k go
 split_by (Opens f args w) d script k go = calls d f args w k script
 
 -- the commands of a script up to the first message
@@ -111,11 +116,11 @@ serviced d asked (Stopped kind at w) k upcall rest script = over (ends.Stop kind
 abbrev pub refused : Fault → Kernel → Pending
 refused f k = Over (ends.Refused k.exchanges f.kind f.number) k
 
--- what a legal reply does. A function of the kernel half runs in place, and a service is done, as where there is one memory
+-- what a legal reply does. A function of the kernel half runs in place, where it may not call back, and a service is done, as where there is one memory
 unfoldable pub taken : Driver → Reply → Kernel → Open → Rest → List Command → Pending
 taken d (replies.Return ticks result runs) k upcall rest script = continued d result (applied ticks runs k) rest script
 taken d (replies.Down ticks at depth func args runs) k upcall rest script =
-    let k' : Kernel = applied ticks runs k in downcalled d (downcall d (held d) upcall.func at func args depth k'.world) k' upcall rest script
+    let k' : Kernel = applied ticks runs k in downcalled d (downcall d (held d) upcall.func may_not at func args depth k'.world) k' upcall rest script
 taken d (replies.Ask ticks at service args shapes bytes runs) k upcall rest script =
     let k' : Kernel = applied ticks runs k in
     let asked : Asked = record { service = service; at = at; args = args; shapes = shapes; bytes = bytes } in

@@ -6,6 +6,7 @@ use Rattle.mdr_access.specs.Keys.{IsPlan}
 use Rattle.mdr_core.specs.declared.plan.Plan.{Plan}
 use Rattle.mdr_core.specs.declared.program.Func.{Func}
 use Rattle.mdr_core.specs.declared.program.Program.{Program}
+use Rattle.mdr_core.specs.Backs.{CallsNothingBack}
 use Rattle.mdr_core.specs.Sound.{IsSound}
 use Rattle.mdr_core.specs.Typing.{function_type}
 use Rattle.mdr_holds.specs.Laws.{IsScript}
@@ -68,10 +69,10 @@ pub record IsOneMemory (d : Driver) (script : Bound) (budget : ℕ) : Type 0 whe
       × IsHonest d [] (split_run d script budget (read answers)).sent answers
       × ((split_run d script budget (read answers)).pending ≡ Over end k)
 
--- the law for every sound program in which each function has a body, with its plan, every script whose commands fit it and every budget. A function of the user half that kernel code calls back gives nothing in both runs: that isn't built, and no source is accepted that calls back
+-- the law for every sound program that calls nothing back and in which each function has a body, with its plan, every script whose commands fit it and every budget. Where one may call back the kernel half stops: that isn't built, and no source is accepted that does
 abbrev pub SplitIsOneMemory : Type 0
 SplitIsOneMemory =
-    (program : Program) (plan : Plan) (script : Bound) (budget : ℕ) → IsSound program → HaveBodies program → IsPlanOf program plan → IsScript program script
+    (program : Program) (plan : Plan) (script : Bound) (budget : ℕ) → IsSound program → CallsNothingBack program → HaveBodies program → IsPlanOf program plan → IsScript program script
     → IsOneMemory (driver_of program plan) script budget
 
 -- ---- what the user half knows

@@ -22,7 +22,7 @@ use Rattle.mdr_user_code.specs.declared.state.Awaits.TheVariants as awaits
 use Rattle.mdr_user_code.specs.declared.state.State.{State}
 use Rattle.mdr_user_code.specs.Opening.{func_for, opening_for, opens_as, tree_for}
 use Rattle.mdr_user_code.specs.Replying.{Proceeds}
-use Rattle.mdr_user_code.specs.Standing.{Follows, Opens, Replies, opens_by, cut_delivered, cut_user, kept_by, replies_so, user_of, work_by, held_in}
+use Rattle.mdr_user_code.specs.Standing.{Follows, Opens, Replies, opens_by, cut_delivered, cut_user, kept_by, replies_so, user_memory, user_of, work_by, held_in}
 use Rattle.mdr_user_code.proofs.OpeningLaws.{opens_is, rest_is}
 
 -- ---- one message
@@ -58,7 +58,7 @@ replies_goes d s s' m turn reply e p =
 
 -- ---- messages in turn
 
-pub begins_so : (program : Program) (plan : Plan) (s : State) → s.agreed ≡ first_memory (known_of program) → s.entered ≡ [] → s.awaits ≡ awaits.Nothing → Follows (driver_of program plan) [] s
+pub begins_so : (program : Program) (plan : Plan) (s : State) → s.memory.agreed ≡ first_memory (known_of program) → s.entered ≡ [] → s.awaits ≡ awaits.Nothing → Follows (driver_of program plan) [] s
 unfolding user_after first_user user_side allowance
 begins_so program plan s agreed entered none = record {
   kept = let zero : kept_by s.awaits ≡ 0 = ap kept_by none in omega (arith, zero);
@@ -96,3 +96,7 @@ module _ (d : Driver) (before : List Reading) (s s' : State) (x : Reading) (repl
         ap (cut_user more) (user_after-append d (suc fuel) (first_user d) before (x ∷ []))
         ∙ ap (λ (y : Delivered). y.user) (delivered_so fuel more (omega (arith, all_granted, fits)));
   }
+
+-- what is agreed on after messages
+pub agreed_is : (d : Driver) (before : List Reading) (s : State) → Follows d before s → s.memory.agreed ≡ user_memory d before
+agreed_is d before s f = sym (ap (λ (u : User). u.agreed) (f.by (allowance before) 0 (omega arith)))

@@ -2,10 +2,9 @@ mod Sides
 mod CopiedWalks
 mod RunLaws
 mod OpeningLaws
-mod ReadyLaws
-mod FollowLaws
-mod KeyLaws
-mod ByteLaws
-mod GrownLaws
-mod QuickLaws
+mod TidingLaws
 mod FirstLaws
+mod ReadyLaws
+pub mod FollowLaws
+mod KeyLaws
+mod GrownLaws

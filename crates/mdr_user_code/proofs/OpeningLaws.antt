@@ -78,9 +78,9 @@ back_sight_is d copy stub entered func v told =
     ∙ swapped (objects_fit [] told.deaths entered) (lives_fit d.program copy told.deaths told.news) _ _
 
 answer_copy_is : (d : Driver) (s : State) (q : Question) (results : List Wire) (deaths : List ℕ) (news : List New)
-    → answer_copy d s q results deaths news ≡ only_if (answer_fits d s.agreed s.entered (record { service = q.service; at = q.at; args = q.args; shapes = q.shapes; bytes = q.bytes }) results deaths news) (renewed_copy d.program deaths news s.agreed)
+    → answer_copy d s q results deaths news ≡ only_if (answer_fits d s.memory.agreed s.entered (record { service = q.service; at = q.at; args = q.args; shapes = q.shapes; bytes = q.bytes }) results deaths news) (renewed_copy d.program deaths news s.memory.agreed)
 unfolding answer_copy answer_fits
-answer_copy_is d s q results deaths news = other_order (is_answered q s.entered results deaths news) (lives_fit d.program s.agreed deaths news) (renewed_copy d.program deaths news s.agreed)
+answer_copy_is d s q results deaths news = other_order (is_answered q s.entered results deaths news) (lives_fit d.program s.memory.agreed deaths news) (renewed_copy d.program deaths news s.memory.agreed)
 
 -- ---- what is opened
 
@@ -103,23 +103,23 @@ module _ (d : Driver) (fuel : ℕ) (s : State) where
   abbrev goes : List Wire → Tree
   goes vs = child (bare d.user fuel (held_in d s)) vs
 
-  opens_with : (a : Awaits) (m : Message) → opened d (suc fuel) s.agreed s.entered (user_of d fuel (at a)).work m ≡ opens_as (tree_for d fuel (at a) m) (func_for (at a) m) (opening_for d (at a) m)
+  opens_with : (a : Awaits) (m : Message) → opened d (suc fuel) s.memory.agreed s.entered (user_of d fuel (at a)).work m ≡ opens_as (tree_for d fuel (at a) m) (func_for (at a) m) (opening_for d (at a) m)
   unfolding opened opening_for
   opens_with awaits.Nothing (message.Call func depth rest args told) =
       let t : Tree = tree_for d fuel s (message.Call func depth rest args told) in
-      opens_where (call_fits d s.agreed s.entered func depth args told) t rest func s.entered (cells_of_runs told.view) (agreed_after d.program told s.agreed)
-      ∙ ap (λ (o : Option Sight). opens_as t func (opening_of rest s.entered o)) (sym (call_sight_is d s.agreed s.entered func depth args told))
+      opens_where (call_fits d s.memory.agreed s.entered func depth args told) t rest func s.entered (cells_of_runs told.view) (agreed_after d.program told s.memory.agreed)
+      ∙ ap (λ (o : Option Sight). opens_as t func (opening_of rest s.entered o)) (sym (call_sight_is d s.memory.agreed s.entered func depth args told))
   opens_with awaits.Nothing _ = refl
   opens_with (awaits.Back f) (message.Back rest v told) =
-      opens_where (back_fits d s.agreed s.entered s.func f v told) (goes (v ∷ [])) rest s.func s.entered (cells_of_runs told.view) (agreed_after d.program told s.agreed)
-      ∙ ap (λ (o : Option Sight). opens_as (goes (v ∷ [])) s.func (opening_of rest s.entered o)) (sym (back_sight_is d s.agreed s.func s.entered f v told))
+      opens_where (back_fits d s.memory.agreed s.entered s.func f v told) (goes (v ∷ [])) rest s.func s.entered (cells_of_runs told.view) (agreed_after d.program told s.memory.agreed)
+      ∙ ap (λ (o : Option Sight). opens_as (goes (v ∷ [])) s.func (opening_of rest s.entered o)) (sym (back_sight_is d s.memory.agreed s.func s.entered f v told))
   opens_with (awaits.Back f) _ = refl
   opens_with (awaits.Answer q left) (message.Answer results deaths news) =
-      answers_where _ (goes results) d (at (awaits.Answer q left)) q left deaths news (renewed_copy d.program deaths news s.agreed)
+      answers_where _ (goes results) d (at (awaits.Answer q left)) q left deaths news (renewed_copy d.program deaths news s.memory.agreed)
       ∙ ap (λ (o : Option Memory). opens_as (goes results) s.func (answered_by d (at (awaits.Answer q left)) q left deaths news o)) (sym (answer_copy_is d (at (awaits.Answer q left)) q results deaths news))
   opens_with (awaits.Answer q left) _ = refl
 
-  pub opens_is : (m : Message) → opened d (suc fuel) s.agreed s.entered (user_of d fuel s).work m ≡ opens_as (tree_for d fuel s m) (func_for s m) (opening_for d s m)
+  pub opens_is : (m : Message) → opened d (suc fuel) s.memory.agreed s.entered (user_of d fuel s).work m ≡ opens_as (tree_for d fuel s m) (func_for s m) (opening_for d s m)
   opens_is m = opens_with s.awaits m
 
 -- ---- the ticks of what is opened
@@ -145,9 +145,9 @@ left_of d s q left deaths news (Some copy) turn e =
 module _ (d : Driver) (s : State) (turn : Turn) where
   rest_with : (a : Awaits) (m : Message) → opening_for d (record s { awaits = a }) m ≡ opening.Goes turn → turn.rest ≤ kept_by a + granted (Ok m)
   unfolding opening_for
-  rest_with awaits.Nothing (message.Call func depth rest args told) e = rest_of rest s.entered (call_sight d s.agreed s.entered func depth args told) turn e
+  rest_with awaits.Nothing (message.Call func depth rest args told) e = rest_of rest s.entered (call_sight d s.memory.agreed s.entered func depth args told) turn e
   rest_with awaits.Nothing _ e = absurd (cc e)
-  rest_with (awaits.Back f) (message.Back rest v told) e = rest_of rest s.entered (back_sight d s.agreed s.func s.entered f v told) turn e
+  rest_with (awaits.Back f) (message.Back rest v told) e = rest_of rest s.entered (back_sight d s.memory.agreed s.func s.entered f v told) turn e
   rest_with (awaits.Back f) _ e = absurd (cc e)
   rest_with (awaits.Answer q left) (message.Answer results deaths news) e =
       left_of d (record s { awaits = awaits.Answer q left }) q left deaths news (answer_copy d (record s { awaits = awaits.Answer q left }) q results deaths news) turn e

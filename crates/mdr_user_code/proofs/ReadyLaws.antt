@@ -32,6 +32,7 @@ use Rattle.mdr_model.specs.declared.message.Told.{Told}
 use Rattle.mdr_model.specs.Memory.{Memory}
 use Rattle.mdr_split.specs.Services.{are_different, are_given_by, are_new, is_new, leaving, results_fit, serials_of}
 use Rattle.mdr_split.specs.User.{objects_fit}
+use Rattle.mdr_user_memory.specs.Kept.{Kept}
 use Rattle.mdr_watched.specs.Driver.{Driver, driver_of, is_user}
 use Rattle.mdr_user_code.specs.declared.opening.Opening.TheVariants as opening
 use Rattle.mdr_user_code.specs.declared.opening.Turn.{Turn}
@@ -40,7 +41,7 @@ use Rattle.mdr_user_code.specs.declared.state.Awaits.{Awaits}
 use Rattle.mdr_user_code.specs.declared.state.Awaits.TheVariants as awaits
 use Rattle.mdr_user_code.specs.declared.state.Question.{Question}
 use Rattle.mdr_user_code.specs.declared.state.State.{State}
-use Rattle.mdr_user_code.specs.Copied.{Copied, copy_accesses}
+use Rattle.mdr_user_memory.specs.Copied.{Copied, copy_accesses}
 use Rattle.mdr_user_code.specs.Opening.{answer_by, answer_copy, answered_by, back_by, call_sight, downcall, func_for, is_answered, is_idle, may_enter, opening_for, opening_of, renewed, tree_for, where_so}
 use Rattle.mdr_user_code.specs.Replying.{IsResumed, IsStarted, Prepared, Proceeds, Resumed, RunReplies}
 use Rattle.mdr_user_code.specs.Standing.{IsFit, Opens, asked_of, held_in, opens_by}
@@ -62,8 +63,9 @@ started_is program plan func depth args passed m0 m ready fit user same none is 
       ∙ ap (λ (vs : List Wire). cut r (started (driver_of program plan).user (suc f) func vs depth Tree.Idle)) same;
 }
 
-pub prepared_call : (d : Driver) (s s' : State) (func depth rest : ℕ) (args passed : List Wire) (told : Told) → passed ≡ args → s'.func ≡ func → IsStarted d func passed depth s'.machine → Prepared d s (message.Call func depth rest args told) s'
-prepared_call d s s' func depth rest args passed told same named is = record {
+pub prepared_call : (d : Driver) (s s' : State) (func depth rest : ℕ) (args passed : List Wire) (told : Told) → passed ≡ args → s'.memory ≡ s.memory → s'.func ≡ func → IsStarted d func passed depth s'.machine → Prepared d s (message.Call func depth rest args told) s'
+prepared_call d s s' func depth rest args passed told same stays named is = record {
+  memory = stays;
   func = named;
   ready = is.ready;
   holds = λ f r less. is.by f r less ∙ ap (λ (vs : List Wire). cut r (started d.user (suc f) func vs depth Tree.Idle)) same;
@@ -75,22 +77,24 @@ resumed d s s' results is f r = is.by d.program d.user f r ∙ sym (cut_child r 
 
 pub prepared_back : (d : Driver) (s s' : State) (m : Message) (rest : ℕ) (v : Wire) (told : Told) → is_started (held_in d s).items ≡ true → m ≡ message.Back rest v told → Resumed (v ∷ []) s s' → Prepared d s m s'
 prepared_back d s s' m rest v told started same is =
-    let p : Prepared d s (message.Back rest v told) s' = record { func = is.func; holds = λ f r less. resumed d s s' (v ∷ []) is.machine f r; ready = is.machine.ready d.program started } in
+    let p : Prepared d s (message.Back rest v told) s' = record { memory = is.memory; func = is.func; holds = λ f r less. resumed d s s' (v ∷ []) is.machine f r; ready = is.machine.ready d.program started } in
     subst (λ x. Prepared d s x s') (sym same) p
 
 pub prepared_answer : (d : Driver) (s s' : State) (m : Message) (results passed : List Wire) (deaths : List ℕ) (news : List New) → is_started (held_in d s).items ≡ true → m ≡ message.Answer results deaths news → passed ≡ results → Resumed passed s s' → Prepared d s m s'
 prepared_answer d s s' m results passed deaths news started same given is =
     let p : Prepared d s (message.Answer results deaths news) s' =
-    record { func = is.func; holds = λ f r less. resumed d s s' passed is.machine f r ∙ ap (λ (vs : List Wire). cut r (child (bare d.user f (held_in d s)) vs)) given; ready = is.machine.ready d.program started } in
+    record { memory = is.memory; func = is.func; holds = λ f r less. resumed d s s' passed is.machine f r ∙ ap (λ (vs : List Wire). cut r (child (bare d.user f (held_in d s)) vs)) given; ready = is.machine.ready d.program started } in
     subst (λ x. Prepared d s x s') (sym same) p
 
--- user code goes on
-pub proceeds : (d : Driver) (s s1 s2 s' : State) (m : Message) (turn : Turn) (reply : Message) → Prepared d s m s1 → s2 ≡ record s1 { entered = turn.entered }
-    → RunReplies d (held_in d s2) s2.func s2.entered turn.rest turn.sight.view turn.sight.copy reply s' → Proceeds d s m turn reply s'
-proceeds d s s1 s2 s' m turn reply p same run =
+-- user code goes on, behind a state that holds the message's copy
+pub proceeds : (d : Driver) (s s1 s2 s' : State) (k : Kept) (m : Message) (turn : Turn) (reply : Message) → Prepared d s m s1 → s2 ≡ record s1 { memory = k; entered = turn.entered } → k.agreed ≡ turn.sight.copy
+    → RunReplies d (held_in d s2) s2.func s2.entered turn.rest turn.sight.view s2.memory.agreed reply s' → Proceeds d s m turn reply s'
+proceeds d s s1 s2 s' k m turn reply p same copy run =
+    let q : RunReplies d (held_in d s1) s1.func turn.entered turn.rest turn.sight.view k.agreed reply s' =
+    subst (λ (x : State). RunReplies d (held_in d x) x.func x.entered turn.rest turn.sight.view x.memory.agreed reply s') same run in
     let r : RunReplies d (held_in d s1) (func_for s m) turn.entered turn.rest turn.sight.view turn.sight.copy reply s' =
     subst (λ (f : ℕ). RunReplies d (held_in d s1) f turn.entered turn.rest turn.sight.view turn.sight.copy reply s') p.func
-    (subst (λ (x : State). RunReplies d (held_in d x) x.func x.entered turn.rest turn.sight.view turn.sight.copy reply s') same run) in
+    (subst (λ (a : Memory). RunReplies d (held_in d s1) s1.func turn.entered turn.rest turn.sight.view a reply s') copy q) in
     record {
       kept = r.kept;
       opens = r.opens;
@@ -181,7 +185,7 @@ answer_where d s (awaits.Answer q left) results deaths news turn h goes o = reco
   waiting = o;
   many = as_many_fit (asked_of q) news results
       (right_holds (objects_fit (leaving q.service q.args) deaths s.entered) (results_fit (asked_of q) news results)
-      (answered_where d s q left deaths news turn (is_answered q s.entered results deaths news) (renewed d.program s.agreed deaths news) goes));
+      (answered_where d s q left deaths news turn (is_answered q s.entered results deaths news) (renewed d.program s.memory.agreed deaths news) goes));
 }
 
 pub answer_awaited : (d : Driver) (s : State) (m : Message) (results : List Wire) (deaths : List ℕ) (news : List New) (turn : Turn) → m ≡ message.Answer results deaths news → opening_for d s m ≡ opening.Goes turn → Opens d s

@@ -105,17 +105,17 @@ downcall (awaits.Back func) = Some func
 downcall (awaits.Answer question left) = None
 
 abbrev pub call_opening : Driver → State → (func depth rest : ℕ) → List Wire → Told → Opening
-call_opening d s func depth rest args told = chosen (is_idle s.awaits) (opening_of rest s.entered (call_sight d s.agreed s.entered func depth args told)) (opening.Refuses 2)
+call_opening d s func depth rest args told = chosen (is_idle s.awaits) (opening_of rest s.entered (call_sight d s.memory.agreed s.entered func depth args told)) (opening.Refuses 2)
 
 abbrev pub back_by : Driver → State → Option ℕ → (rest : ℕ) → Wire → Told → Opening
 back_by d s None rest v told = opening.Refuses 2
-back_by d s (Some func) rest v told = opening_of rest s.entered (back_sight d s.agreed s.func s.entered func v told)
+back_by d s (Some func) rest v told = opening_of rest s.entered (back_sight d s.memory.agreed s.func s.entered func v told)
 
 abbrev pub back_opening : Driver → State → (rest : ℕ) → Wire → Told → Opening
 back_opening d s rest v told = back_by d s (downcall s.awaits) rest v told
 
 unfoldable pub answer_copy : Driver → State → Question → List Wire → (deaths : List ℕ) → List New → Option Memory
-answer_copy d s q results deaths news = where_so (is_answered q s.entered results deaths news) (renewed d.program s.agreed deaths news)
+answer_copy d s q results deaths news = where_so (is_answered q s.entered results deaths news) (renewed d.program s.memory.agreed deaths news)
 
 abbrev pub answer_turn : Driver → State → Question → (left : ℕ) → (deaths : List ℕ) → List New → Memory → Turn
 answer_turn d s q left deaths news copy = record {

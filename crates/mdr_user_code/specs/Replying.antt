@@ -33,7 +33,7 @@ use Rattle.mdr_user_code.specs.declared.state.Awaits.{Awaits}
 use Rattle.mdr_user_code.specs.declared.state.Awaits.TheVariants as awaits
 use Rattle.mdr_user_code.specs.declared.state.Question.{Question}
 use Rattle.mdr_user_code.specs.declared.state.State.{State}
-use Rattle.mdr_user_code.specs.Copied.{Copied}
+use Rattle.mdr_user_memory.specs.Copied.{Copied}
 use Rattle.mdr_user_code.specs.Opening.{func_for, tree_for}
 use Rattle.mdr_user_code.specs.Standing.{Opens, cut_delivered, held_in, kept_by, replies_so}
 
@@ -50,11 +50,13 @@ pub record IsResumed (results : List Wire) (m m' : Machine) : Type 0 where
   pub ready : (program : Program) → is_started (held_of program m).items ≡ true → IsReady (held_of program m')
 
 pub record Resumed (results : List Wire) (s s' : State) : Type 0 where
+  pub memory : s'.memory ≡ s.memory
   pub func : s'.func ≡ s.func
   pub machine : IsResumed results s.machine s'.machine
 
 -- the machine holds what a message runs
 pub record Prepared (d : Driver) (s : State) (m : Message) (s' : State) : Type 0 where
+  pub memory : s'.memory ≡ s.memory
   pub func : s'.func ≡ func_for s m
   pub holds : (fuel r : ℕ) → r ≤ fuel → tree d.user fuel (held_in d s') r ≡ cut r (tree_for d fuel s m)
   pub ready : IsReady (held_in d s')
@@ -78,13 +80,14 @@ awaits_as left (event.Service q) = awaits.Answer (question_as q) left
 awaits_as left (event.TicksOut at) = awaits.Nothing
 awaits_as left (event.Stop kind at) = awaits.Nothing
 
--- the state behind an event: the agreed copy has the changes that are told
-abbrev pub settled : State → (rest : ℕ) → (copy : Memory) → Copied → Event → State
-settled s rest copy c e = record s {
-  agreed = put_runs (changes c.view copy c.memory) copy;
-  view = c.view;
-  awaits = awaits_as (rest - s.machine.used) e;
-}
+-- the state behind an event: both halves agree on the changes that are told
+pub record IsSettled (s : State) (rest : ℕ) (c : Copied) (e : Event) (s' : State) : Type 0 where
+  pub agreed : s'.memory.agreed ≡ put_runs (changes c.view c.agreed c.memory) c.agreed
+  pub machine : s'.machine ≡ s.machine
+  pub func : s'.func ≡ s.func
+  pub entered : s'.entered ≡ s.entered
+  pub view : s'.view ≡ c.view
+  pub awaits : s'.awaits ≡ awaits_as (rest - s.machine.used) e
 
 -- ---- user code runs
 

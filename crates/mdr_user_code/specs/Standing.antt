@@ -13,6 +13,7 @@ use Rattle.mdr_meaning.specs.Tree.{Asked, Tree}
 use Rattle.mdr_model.specs.declared.memory.Cell.{Cell}
 use Rattle.mdr_model.specs.declared.message.Message.{Message}
 use Rattle.mdr_model.specs.KernelState.{Reading}
+use Rattle.mdr_model.specs.Memory.{Memory}
 use Rattle.mdr_model.specs.User.{allowance, granted}
 use Rattle.mdr_split.specs.User.{AwaitsAnswer, AwaitsBack, Delivered, Nothing, User, Work, deliver, first_user, user_after}
 use Rattle.mdr_watched.specs.Driver.{Driver, driver_of}
@@ -44,7 +45,7 @@ held_in d s = held_of d.program s.machine
 
 -- with fuel for so many turns of loops and calls
 abbrev pub user_of : Driver → (fuel : ℕ) → State → User
-user_of d fuel s = record { agreed = s.agreed; entered = s.entered; work = work_by s.awaits s.func s.view (child (bare d.user fuel (held_in d s))) }
+user_of d fuel s = record { agreed = s.memory.agreed; entered = s.entered; work = work_by s.awaits s.func s.view (child (bare d.user fuel (held_in d s))) }
 
 -- the machine waits for what is awaited
 abbrev pub opens_by : Awaits → Held → Type 0
@@ -93,3 +94,7 @@ pub record Follows (d : Driver) (before : List Reading) (s : State) : Type 0 whe
   pub kept : kept_by s.awaits ≤ allowance before
   pub opens : Opens d s
   pub by : (fuel more : ℕ) → allowance before + more ≤ fuel → cut_user more (user_after d (suc fuel) (first_user d) before) ≡ cut_user more (user_of d fuel s)
+
+-- the memory of the user half after messages, by the kernel's serials
+abbrev pub user_memory : Driver → (before : List Reading) → Memory
+user_memory d before = (user_after d (suc (allowance before)) (first_user d) before).agreed

@@ -10,17 +10,21 @@ ghost use Rattle.mdr_user_code.specs.declared.opening.Opening.TheVariants as ope
 ghost use Rattle.mdr_user_code.specs.Opening.{opening_for};
 ghost use Rattle.mdr_user_code.specs.Replying.{Proceeds};
 ghost use Rattle.mdr_user_code.specs.Standing.{Follows, IsFit, Opens, Replies, driver_in};
+ghost use Rattle.mdr_user_code.specs.Tidings.{TellsTo};
 
 use crate::first::first_memory;
 use crate::opening::{Opening, Turn, opens};
 use crate::ready::prepare;
 use crate::running::run;
 use crate::scene::Scene;
+use crate::sight::Sight;
 use crate::state::{Awaits, State};
-use mdr_copy::CellList;
+use crate::tidings::tidings;
+use mdr_copy::{CellList, RisingBlocks};
 use mdr_core::{Items, OutOfMemory, Plan, Program};
 use mdr_exec::{Machine, Side};
 use mdr_model::{Fault, Message};
+use mdr_user_memory::UserMemory;
 use std::alloc::Global;
 
 /// The state before any message.
@@ -30,9 +34,10 @@ pub fn begins(alloc: Global, program: &Program, plan: &Plan) -> Result<State, Ou
 {
     let _ = plan;
     let agreed = first_memory(alloc, program)?;
+    let memory = UserMemory::of_copy(alloc, agreed)?;
     let entered = Items::new(alloc);
     Ok(State {
-        agreed,
+        memory,
         machine: Machine::new(alloc, Side::User),
         func: 0,
         entered,
@@ -48,6 +53,21 @@ fn refused(reason: u32) -> Message
     Message::Refuse { reason }
 }
 
+/// The memory takes what a message tells.
+fn take(
+    alloc: Global,
+    scene: Scene,
+    memory: &mut UserMemory,
+    message: &Message,
+    copy: RisingBlocks,
+) -> Result<(), OutOfMemory>
+    requires { TellsTo (driver_in scene) memory.old.agreed message.now copy }
+    ensures { OnOk result (memory.new.agreed ≡ copy) }
+{
+    memory.take(alloc, scene.program, tidings(message), copy)?;
+    Ok(())
+}
+
 /// User code goes on with a message.
 fn proceed(
     alloc: Global,
@@ -60,6 +80,7 @@ fn proceed(
     requires fit { IsFit scene.plan.now scene.program.now }
     requires opens { Opens (driver_in scene) state.old }
     requires goes { opening_for (driver_in scene) state.old message.now ≡ opening.Goes turn }
+    requires tells { TellsTo (driver_in scene) state.old.memory.agreed message.now turn.sight.copy }
     ensures { IfOk result (λ r. Proceeds (driver_in scene.entry) state.old message.now turn r state.new) }
 {
     prepare(alloc, scene, state, message)?;
@@ -68,8 +89,10 @@ fn proceed(
         entered,
         sight,
     } = turn;
+    let Sight { view, copy } = sight;
     state.entered = entered;
-    let reply = run(alloc, scene, state, rest, sight)?;
+    take(alloc, scene, &mut state.memory, message, copy)?;
+    let reply = run(alloc, scene, state, rest, view)?;
     Ok(reply)
 }
 

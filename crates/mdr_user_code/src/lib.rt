@@ -1,23 +1,21 @@
 //! The user half of a driver that runs: its code over its copy of memory, from one message to its reply.
 #![tactic(auto)]
 
-mod access;
-mod bytes;
 mod delivery;
 mod first;
 mod grown;
 mod keys;
-mod memory;
 mod objects;
 mod opening;
-mod quick;
 mod ready;
+mod release;
 mod replying;
 mod running;
 mod scene;
 mod shown;
 mod sight;
 mod state;
+mod tidings;
 mod values;
 
 pub use delivery::{begins, delivered};

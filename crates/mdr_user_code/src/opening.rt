@@ -86,7 +86,7 @@ fn open_call(
         return Ok(Opening::Refuses(2));
     }
     let entered = Items::from_slice(alloc, state.entered.as_slice())?;
-    let copy = &state.agreed;
+    let copy = state.memory.agreed();
     let lives = state.entered.as_slice();
     let sight = call_sight(alloc, scene, copy, lives, func, depth, args, told)?;
     Ok(opening_of(rest, entered, sight))
@@ -102,10 +102,10 @@ fn back(
     told: &Told,
 ) -> Result<Opening, OutOfMemory>
     requires { IsSound scene.program.now }
-    ensures { IfOk result (λ o. o ≡ opening_of rest state.now.entered (back_sight (driver_in scene.entry) state.now.agreed state.now.func state.now.entered func value told.now)) }
+    ensures { IfOk result (λ o. o ≡ opening_of rest state.now.entered (back_sight (driver_in scene.entry) state.now.memory.agreed state.now.func state.now.entered func value told.now)) }
 {
     let entered = Items::from_slice(alloc, state.entered.as_slice())?;
-    let copy = &state.agreed;
+    let copy = state.memory.agreed();
     let lives = state.entered.as_slice();
     let sight = back_sight(alloc, scene, copy, state.func, lives, func, value, told)?;
     Ok(opening_of(rest, entered, sight))
@@ -172,7 +172,7 @@ fn answer_copy(
     )? {
         return Ok(None);
     }
-    let copy = renewed(alloc, scene.program, &state.agreed, deaths, news)?;
+    let copy = renewed(alloc, scene.program, state.memory.agreed(), deaths, news)?;
     Ok(copy)
 }
 

@@ -76,6 +76,7 @@ fn start(
     requires fit { IsFit scene.plan.now scene.program.now }
     requires user { is_user scene.plan.now func ≡ true }
     requires depth { depth ≤ 255 }
+    ensures memory { OnOk result (state.new.memory ≡ state.old.memory) }
     ensures func { OnOk result (state.new.func ≡ func) }
     ensures started { OnOk result (IsStarted (driver_in scene.entry) func args.now depth state.new.machine) }
 {

@@ -7,16 +7,15 @@ ghost use Rattle.mdr_model.specs.declared.message.Message.TheVariants as message
 ghost use Rattle.mdr_model.specs.Copies.{changes, put_runs};
 ghost use Rattle.mdr_model.specs.Memory.{normal};
 ghost use Rattle.mdr_model.specs.ReplyFaults.{stop_number};
-ghost use Rattle.mdr_user_code.specs.Replying.{awaits_as, question_as, settled, told_as};
+ghost use Rattle.mdr_user_code.specs.Replying.{IsSettled, awaits_as, question_as, told_as};
 
-use crate::memory::UserMemory;
-use crate::sight::told_copy;
 use crate::state::{Awaits, Question, State};
 use crate::values::wires_of;
-use mdr_copy::{RisingBlocks, changes, normal, normals, wire_of};
+use mdr_copy::{RisingBlocks, normal, normals, wire_of};
 use mdr_core::{Items, OutOfMemory, StopKind, Value};
 use mdr_events::{Asked, Crossing, Event};
 use mdr_model::{Message, Run, Wire};
+use mdr_user_memory::{SeenMemory, gather};
 use std::alloc::Global;
 
 /// A stop's number, from 1.
@@ -172,25 +171,26 @@ fn keep(alloc: Global, state: &mut State, event: &Event, left: u64) -> Result<()
     Ok(())
 }
 
-/// The reply of an event, where the machine ran with so many ticks, from this copy to this memory. The agreed copy has then
-/// the changes that are told.
+/// The reply of an event, where the machine ran with so many ticks on this memory. Both halves agree then on the changes
+/// that are told, which are all that it left.
 pub(crate) fn settle(
     alloc: Global,
     state: &mut State,
     rest: u64,
-    copy: RisingBlocks,
-    memory: UserMemory,
+    memory: SeenMemory,
     event: &Event,
 ) -> Result<Message, OutOfMemory>
-    requires { state.old.machine.used ≤ rest }
-    ensures reply { IfOk result (λ r. r ≡ told_as state.old.machine.used memory.memory (changes memory.view copy memory.memory) event.now) }
-    ensures state { OnOk result (state.new ≡ settled state.old rest copy memory event.now) }
+    requires used { state.old.machine.used ≤ rest }
+    requires told { put_runs (changes memory.view memory.agreed memory.memory) memory.agreed ≡ memory.memory }
+    ensures reply { IfOk result (λ r. r ≡ told_as state.old.machine.used memory.memory (changes memory.view memory.agreed memory.memory) event.now) }
+    ensures state { OnOk result (IsSettled state.old rest memory event.now state.new) }
 {
     let used = state.machine.used();
-    let runs = changes(alloc, memory.cells(), &copy, memory.blocks())?;
+    let runs = gather(alloc, &memory)?;
     keep(alloc, state, event, rest - used)?;
-    state.agreed = told_copy(copy, runs.as_slice());
-    let reply = tell(alloc, used, memory.blocks(), runs, event)?;
-    state.view = memory.into_view();
+    let settled = memory.settled(runs.as_slice());
+    put(&mut state.memory, settled.memory);
+    put(&mut state.view, settled.view);
+    let reply = tell(alloc, used, state.memory.agreed(), runs, event)?;
     Ok(reply)
 }

@@ -5,28 +5,29 @@ ghost use Rattle.mdr_core.specs.Sound.{IsSound};
 ghost use Rattle.mdr_events.specs.Going.{RanTo};
 ghost use Rattle.mdr_events.specs.Ready.{IsReady};
 ghost use Rattle.mdr_exec.specs.Holding.{held_of};
-ghost use Rattle.mdr_user_code.specs.Copied.{copy_accesses};
+ghost use Rattle.mdr_user_memory.specs.Copied.{copy_accesses};
 ghost use Rattle.mdr_user_code.specs.Replying.{RunReplies};
 ghost use Rattle.mdr_user_code.specs.Standing.{IsFit, driver_in, held_in};
 
-use crate::memory::UserMemory;
+use crate::release::given_up;
 use crate::replying::settle;
 use crate::scene::Scene;
-use crate::sight::Sight;
 use crate::state::State;
-use mdr_copy::copy_of;
+use mdr_copy::CellList;
 use mdr_core::OutOfMemory;
 use mdr_events::Event;
 use mdr_exec::{Machine, Side};
 use mdr_model::Message;
+use mdr_user_memory::{SeenMemory, UserMemory};
 use std::alloc::Global;
+use std::mem;
 
 /// Runs a machine with so many ticks, on the code of the user half.
 fn go(
     machine: &mut Machine,
     alloc: Global,
     scene: Scene,
-    memory: &mut UserMemory,
+    memory: &mut SeenMemory,
     ticks: u64,
 ) -> Result<Event, OutOfMemory>
     requires sound { IsSound scene.program.now }
@@ -47,17 +48,21 @@ pub(crate) fn run(
     scene: Scene,
     state: &mut State,
     rest: u64,
-    sight: Sight,
+    view: CellList,
 ) -> Result<Message, OutOfMemory>
     requires sound { IsSound scene.program.now }
     requires fit { IsFit scene.plan.now scene.program.now }
     requires ready { IsReady (held_of scene.program.now state.old.machine) }
-    ensures { IfOk result (λ r. RunReplies (driver_in scene.entry) (held_in (driver_in scene.entry) state.old) state.old.func state.old.entered rest sight.view sight.copy r state.new) }
+    ensures { IfOk result (λ r. RunReplies (driver_in scene.entry) (held_in (driver_in scene.entry) state.old) state.old.func state.old.entered rest view state.old.memory.agreed r state.new) }
 {
-    let Sight { view, copy } = sight;
-    let blocks = copy_of(alloc, &copy)?;
-    let mut memory = UserMemory::new(blocks, view);
-    let event = go(&mut state.machine, alloc, scene, &mut memory, rest)?;
-    let reply = settle(alloc, state, rest, copy, memory, &event)?;
-    Ok(reply)
+    state.memory.is_paired();
+    let memory = mem::replace(&mut state.memory, UserMemory::new(alloc));
+    let mut seen = memory.seen(view);
+    match go(&mut state.machine, alloc, scene, &mut seen, rest) {
+        Ok(event) => {
+            let reply = settle(alloc, state, rest, seen, &event)?;
+            Ok(reply)
+        }
+        Err(error) => given_up(error, seen),
+    }
 }

@@ -125,7 +125,7 @@ pub(crate) fn renewed(
 }
 
 /// The copy with the values that are told.
-pub(crate) fn told_copy(copy: RisingBlocks, runs: &[Run]) -> RisingBlocks
+fn told_copy(copy: RisingBlocks, runs: &[Run]) -> RisingBlocks
     ensures { result ≡ put_runs runs.now copy }
 {
     let mut copy = copy;

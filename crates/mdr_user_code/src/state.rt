@@ -1,10 +1,13 @@
 // What the user half keeps between messages.
 
-use mdr_copy::{CellList, RisingBlocks};
+ghost use Rattle.std.specs.Prelude.{◌≡◌};
+
+use mdr_copy::CellList;
 use mdr_core::{At, Items};
 use mdr_exec::Machine;
 use mdr_meaning::Shape64;
 use mdr_model::Wire;
+use mdr_user_memory::UserMemory;
 
 /// A service that was asked for.
 #[derive(Drop)]
@@ -26,14 +29,23 @@ pub enum Awaits {
     Answer(Question, u64),
 }
 
-/// What the user half keeps between messages: the agreed copy, the code that waits, the function that the open upcall called,
-/// the blocks that came in an answer to service 13 and live, the visible cells, and what is awaited.
+/// What the user half keeps between messages: its memory with the agreed copy, the code that waits, the function that the open
+/// upcall called, the blocks that came in an answer to service 13 and live, the visible cells, and what is awaited.
 #[derive(Drop)]
 pub struct State {
-    pub(crate) agreed: RisingBlocks,
+    pub(crate) memory: UserMemory,
     pub(crate) machine: Machine,
     pub(crate) func: u32,
     pub(crate) entered: Items<u64>,
     pub(crate) view: CellList,
     pub(crate) awaits: Awaits,
+}
+
+impl State {
+    /// Lends the user half's memory, with the agreed copy.
+    pub fn memory(&self) -> &UserMemory
+        ensures { result.now ≡ self.now.memory }
+    {
+        &self.memory
+    }
 }

@@ -1,6 +1,6 @@
 -- Deaths, births and stores, one after the other.
 use Rattle.std.proofs.Common.{◌≡◌, ◌∙◌, ◌<◌, ◌≤◌, ◌+◌, ◌-◌, ℕ, suc, false, List, [], ◌∷◌, ◌++◌, map, length, take, drop, get_or, Option, Some, None, Result, Err, ℤ, refl, sym, ap, subst, arith}
-use Rattle.std.specs.Prelude.{IsOk, is_ok, is_some}
+use Rattle.std.specs.Prelude.{IsOk, is_ok}
 use Rattle.std.proofs.lemmas.Bool.{true≢false}
 use Rattle.std.proofs.lemmas.List.{append-nil, at_drop_all, at_drop_more, drop_more, take_more}
 use Rattle.mdr_core.specs.declared.kind.Kind.{Kind}
@@ -238,6 +238,16 @@ one_new program n = refl
 pub popped : (program : Program) (n : New) (xs rest left : List MemoryBlock) (b : MemoryBlock) → left ≡ [] → xs ≡ with_news program (n ∷ []) left → xs ≡ rest ++ b ∷ [] → b ≡ zero_block program n
 popped program n xs rest left b none made last = only_one (zero_block program n) b rest (sym (one_new program n) ∙ (ap (with_news program (n ∷ [])) (sym none) ∙ (sym made ∙ last)))
 
+-- one was there
+not_none : {A : Type 0} (x : A) → x ∷ [] ≡ [] → ⊥
+not_none x e = cc
+
+pub none_left : (program : Program) (n : New) (xs rest left : List MemoryBlock) (size : ℕ) → left ≡ [] → xs ≡ with_news program (n ∷ []) left → xs ≡ rest ++ [] → rest ≡ take (size - 1) xs → size ≡ 0 → ⊥
+none_left program n xs rest left size none made last behind empty =
+    let one : xs ≡ zero_block program n ∷ [] = made ∙ (ap (with_news program (n ∷ [])) none ∙ one_new program n) in
+    let gone : rest ≡ [] = behind ∙ (λ i. take (empty i - 1) (one i)) in
+    not_none (zero_block program n) (sym one ∙ (last ∙ ap (λ (r : List MemoryBlock). r ++ []) gone))
+
 pub newborn_is : (program : Program) (n : New) (b : MemoryBlock) (cells : List Wire) (first : List Value) → b ≡ zero_block program n → cells ≡ b.cells → first ≡ map value_of cells → record { born = n; first = first } ≡ newborn_of program n
 newborn_is program n b cells first e f g =
     let is : first ≡ map value_of (zero_block program n).cells = g ∙ (ap (map value_of) (f ∙ ap (λ (x : MemoryBlock). x.cells) e)) in
@@ -263,10 +273,6 @@ total_done news i sum whole over so_far =
     let none : total (drop i news) ≡ 0 = at_drop_all total news i over ∙ total_none in omega (arith, none, so_far)
 
 -- ---- small facts
-
-pub none_of : {A : Type 0} (o : Option A) → is_some o ≡ false → o ≡ None
-none_of None h = refl
-none_of (Some x) h = absurd (true≢false h)
 
 pub normal_int : (m : Memory) (k : Kind) (n : ℤ) → normal m (wire.Int k n) ≡ wire.Int k n
 unfolding normal

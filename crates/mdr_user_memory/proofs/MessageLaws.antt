@@ -114,7 +114,7 @@ unfolding is_told
 all_new program m [] h s k = absurd (grind (arith, k))
 all_new program m (n ∷ ns) h s k = grind (arith, h, k, all_new program m ns (grind (arith, h)) s, eqb-true n.serial s)
 
-not_paired : (m : Memory) (ps : Pairs) (s : ℕ) → AreLive m ps → is_live m s ≡ false → ps.user_of s ≡ None
+pub not_paired : (m : Memory) (ps : Pairs) (s : ℕ) → AreLive m ps → is_live m s ≡ false → ps.user_of s ≡ None
 not_paired m ps s l h = of (ps.user_of s) refl
   where
     of : (o : Option Block) → ps.user_of s ≡ o → o ≡ None

@@ -1,12 +1,13 @@
 -- A memory of one's own for a copy.
-use Rattle.std.proofs.Common.{◌≡◌, ◌∙◌, ℕ, true, false, [], ◌∷◌, ◌++◌, Option, Some, None, refl, sym, ap, subst, arith}
+use Rattle.std.proofs.Common.{◌≡◌, ◌∙◌, ◌<◌, ℕ, zero, suc, true, false, [], ◌∷◌, ◌++◌, length, take, get_or, Option, Some, None, refl, sym, ap, subst, arith}
 use Rattle.std.specs.Prelude.{is_some}
+use Rattle.std.proofs.lemmas.Bool.{eqb-true, eq-eqb}
 use Rattle.mdr_core.specs.declared.value.Block.{Block}
 use Rattle.mdr_meaning.specs.declared.wire.Wire.{Wire}
 use Rattle.mdr_meaning.specs.declared.wire.Wire.TheVariants as wire
 use Rattle.mdr_meaning.specs.Fit.{view_of}
 use Rattle.mdr_model.specs.declared.memory.MemoryBlock.{MemoryBlock}
-use Rattle.mdr_model.specs.Agreement.{names_it}
+use Rattle.mdr_model.specs.Agreement.{SerialsRise, names_it}
 use Rattle.mdr_model.specs.Copies.{inserted}
 use Rattle.mdr_model.specs.Memory.{Memory, born_at, cell_at, is_live}
 use Rattle.mdr_model.specs.Values.{value_of}
@@ -18,6 +19,7 @@ use Rattle.mdr_user_memory.specs.declared.newborn.Newborn.{Newborn}
 use Rattle.mdr_user_memory.specs.Paired.{IsLinked, Paired, is_paired, told, told_all}
 use Rattle.mdr_user_memory.specs.Taking.{Moves, block_of}
 use Rattle.mdr_user_memory.proofs.HandleLaws.{born_at-append, cell_at-append}
+use Rattle.mdr_user_memory.proofs.MessageLaws.{not_paired}
 use Rattle.mdr_user_memory.proofs.TwinLaws.{paired-same}
 use Rattle.mdr_user_memory.proofs.ValueLaws.{placed_back}
 
@@ -51,6 +53,28 @@ pub added : (b : MemoryBlock) (x : Newborn) (r r' : Contents) (ps ps' : Pairs) �
 added b x r r' ps ps' born cells new moves =
     let is : block_of x r.handles ps ≡ b = λ i. record { born = born i; cells = cells i } in
     appended b r r' ps ps' (ap (λ n. ps.user_of n.serial) (sym born) ∙ new) (subst (λ y. Moves (inserted y) r ps r' ps') is moves)
+
+-- ---- its serial
+
+live_at : (m : Memory) (i : ℕ) (b : MemoryBlock) → i < length m → b ≡ get_or m i b → is_live m b.born.serial ≡ true
+unfolding is_live born_at
+live_at [] i b low is = absurd (grind (arith, low))
+live_at (x ∷ m) zero b low is = grind (arith, eq-eqb x.born.serial b.born.serial (sym (ap (λ (y : MemoryBlock). y.born.serial) is)))
+live_at (x ∷ m) (suc i) b low is =
+    let fewer : i < length m = omega (arith, low) in grind (arith, live_at m i b fewer is)
+
+-- those before it have smaller serials
+new_behind : (m : Memory) (i : ℕ) (b : MemoryBlock) → i < length m → b ≡ get_or m i b → SerialsRise m → is_live (take i m) b.born.serial ≡ false
+unfolding is_live born_at
+new_behind [] i b low is r = absurd (grind (arith, low))
+new_behind (x ∷ m) zero b low is r = refl
+new_behind (x ∷ m) (suc i) b low is r =
+    let fewer : i < length m = omega (arith, low) in
+    let above : x.born.serial < b.born.serial = r.0 b.born.serial (live_at m i b fewer is) in
+    grind (arith, above, new_behind m i b fewer is r.1, eqb-true x.born.serial b.born.serial)
+
+pub free_behind : (m : Memory) (i : ℕ) (b : MemoryBlock) (r : Contents) (ps : Pairs) → i < length m → b ≡ get_or m i b → SerialsRise m → Paired (take i m) r ps → ps.user_of b.born.serial ≡ None
+free_behind m i b r ps low is rises p = not_paired (take i m) ps b.born.serial (λ s. p.twin.live s) (new_behind m i b low is rises)
 
 -- ---- none
 

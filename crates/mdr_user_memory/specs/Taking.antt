@@ -12,13 +12,19 @@ use Rattle.mdr_model.specs.Copies.{CellValue, inserted, numbered, without}
 use Rattle.mdr_model.specs.Memory.{Memory, normal, put, zero_block}
 use Rattle.mdr_model.specs.Values.{names_block, value_of}
 use Rattle.mdr_mem.specs.Contents.{Contents}
+use Rattle.mdr_region.specs.RowsView.{Reserved}
 use Rattle.mdr_track.specs.Pairs.{Pairs, paired, unpaired}
+use Rattle.mdr_track.specs.Tracked.{Tracked, pairs_of}
 use Rattle.mdr_user_memory.specs.declared.newborn.Newborn.{Newborn}
 use Rattle.mdr_user_memory.specs.Paired.{Paired, told_all}
 
 -- whatever copy a memory goes with, it goes then with what is made of the copy
 abbrev pub Moves : (Memory → Memory) → Contents → Pairs → Contents → Pairs → Type 0
 Moves f r ps r' ps' = (m : Memory) → Paired m r ps → Paired (f m) r' ps'
+
+-- the same of a region behind its tracker
+abbrev pub MovesIn : (Memory → Memory) → Reserved → Tracked → Reserved → Tracked → Type 0
+MovesIn f r ps r' ps' = Moves f r.contents (pairs_of ps) r'.contents (pairs_of ps')
 
 -- what is still to be done from here on leads where the whole leads from the beginning
 abbrev pub Leads : (all rest : Memory → Memory) → Contents → Pairs → Contents → Pairs → Type 0
@@ -108,3 +114,6 @@ AreKept (x ∷ xs) m = (normal m x.value ≡ x.value) × AreKept xs m
 -- what the births, deaths and values of a message make of a memory
 abbrev pub taken : List ℕ → List Newborn → List Run → Memory → Memory
 taken deaths xs runs m = kept_runs runs (borne xs (without deaths m))
+
+abbrev pub taken_by : Program → List ℕ → List New → List Run → Memory → Memory
+taken_by program deaths news runs m = taken deaths (map (newborn_of program) news) runs m

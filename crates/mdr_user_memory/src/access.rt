@@ -11,7 +11,6 @@ ghost use Rattle.mdr_user_memory.specs.Spots.{spot_in};
 
 use crate::seen_memory::SeenMemory;
 use crate::spot::Spot;
-use mdr_copy::is_in_at;
 use mdr_core::{StopKind, Value, View};
 
 /// The tests of an access in their order.
@@ -23,7 +22,7 @@ fn reached_view(memory: &SeenMemory, p: View) -> Result<Spot, StopKind>
         Err(StopKind::Dead)
     } else if p.index >= p.count {
         Err(StopKind::Bounds)
-    } else if !is_in_at(memory.view(), p.block.serial, index) {
+    } else if !memory.view().has(p.block.serial, index) {
         Err(StopKind::Annotation)
     } else {
         Ok(Spot {

@@ -10,9 +10,8 @@ ghost use Rattle.mdr_user_memory.specs.Spots.{bytes_if};
 
 use crate::seen_memory::SeenMemory;
 use crate::spot::Spot;
-use mdr_copy::is_in_at;
+use mdr_copy::CellList;
 use mdr_core::{Items, StopKind, Value, View};
-use mdr_model::Cell;
 use std::alloc::{AllocError, Global};
 
 /// A byte. A number that none is answers want of memory: what is read as bytes holds no such number.
@@ -61,12 +60,12 @@ fn bytes_from(
 }
 
 /// Whether cells that follow one another may be touched.
-fn lie_in(view: &[Cell], serial: u64, first: usize, count: u32) -> bool
+fn lie_in(view: &CellList, serial: u64, first: usize, count: u32) -> bool
     requires { first ≤ 8589934592 }
     ensures { result ≡ list_all (is_in view.now) (cells_from serial first count) }
 {
     for i in 0..count {
-        if !is_in_at(view, serial, first + i as usize) {
+        if !view.has(serial, first + i as usize) {
             return false;
         }
     }

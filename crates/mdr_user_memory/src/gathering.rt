@@ -102,7 +102,7 @@ fn runs_from(alloc: Global, memory: &SeenMemory, runs: &[SetRun]) -> Result<Item
 pub fn gather(alloc: Global, memory: &SeenMemory) -> Result<Items<Run>, OutOfMemory>
     ensures { IfOk result (λ runs. runs ≡ changes memory.now.view memory.now.agreed memory.now.memory) }
 {
-    let changed = changed_cells(alloc, memory.view(), memory)?;
+    let changed = changed_cells(alloc, memory.cells(), memory)?;
     let runs = runs_of_cells(alloc, changed.as_slice())?;
     runs_from(alloc, memory, runs.as_slice())
 }

@@ -1,6 +1,7 @@
 // Blocks of one's own for those of a copy.
 
-ghost use Rattle.std.specs.Prelude.{◌≡◌, ◌<◌, ◌≤◌, ◌++◌, ◌∷◌, [], length, IfOk, IsTrue, OnOk};
+ghost use Rattle.std.specs.Prelude.{◌≡◌, ◌<◌, ◌≤◌, ◌++◌, ◌∷◌, [], None, length, IfOk, IsTrue, OnOk};
+ghost use Rattle.mdr_model.specs.Agreement.{SerialsRise};
 ghost use Rattle.mdr_model.specs.Memory.{Memory};
 ghost use Rattle.mdr_mem.specs.Contents.{wire_in};
 ghost use Rattle.mdr_track.specs.Tracked.{pairs_of};
@@ -11,7 +12,7 @@ use crate::newborn::Newborn;
 use crate::release::given_up;
 use crate::steps::bear;
 use crate::values::value_of;
-use mdr_core::{Items, Limit, OutOfMemory, Value};
+use mdr_core::{Items, OutOfMemory, Value};
 use mdr_model::{MemoryBlock, Wire};
 use mdr_region::Region;
 use mdr_track::Tracker;
@@ -47,7 +48,7 @@ fn placed(region: &Region, pairs: &Tracker, wire: Wire) -> Result<Value, OutOfMe
     if is_paired(pairs, wire) {
         Ok(pairs.addressed(value_of(wire)))
     } else {
-        Err(Limit::Unmet.past())
+        Err(OutOfMemory::unmet())
     }
 }
 
@@ -77,15 +78,13 @@ fn is_sized(new: &Newborn) -> bool
 
 /// Makes room for one more.
 fn make_room(region: &mut Region, pairs: &mut Tracker, new: &Newborn) -> Result<(), OutOfMemory>
+    requires { (pairs_of pairs.old).user_of new.now.born.serial ≡ None }
     ensures contents { region.new.contents ≡ region.old.contents }
     ensures pairs { pairs_of pairs.new ≡ pairs_of pairs.old }
     ensures fits { OnOk result (FitsOne new.now (pairs_of pairs.new) region.new.cells region.new.births pairs.new.room) }
 {
     if !is_sized(new) {
-        return Err(Limit::Unmet.past());
-    }
-    if pairs.user_of(new.born.serial).is_some() {
-        return Err(Limit::Unmet.past());
+        return Err(OutOfMemory::unmet());
     }
     region.reserve(new.first.len() as u64, 1)?;
     pairs.reserve(1)?;
@@ -99,7 +98,8 @@ fn add(
     alloc: Global,
     block: &MemoryBlock,
 ) -> Result<(), OutOfMemory>
-    requires { IsLinked region.old.contents (pairs_of pairs.old) }
+    requires linked { IsLinked region.old.contents (pairs_of pairs.old) }
+    requires new { (pairs_of pairs.old).user_of block.now.born.serial ≡ None }
     ensures { OnOk result (Moves (λ (m : Memory). m ++ block.now ∷ []) region.old.contents (pairs_of pairs.old) region.new.contents (pairs_of pairs.new)) }
 {
     let first = all_placed(alloc, region, pairs, block.cells.as_slice())?;
@@ -116,8 +116,9 @@ fn add(
     }
 }
 
-/// A memory that goes with a copy.
+/// A memory that goes with a copy whose serials rise.
 pub(crate) fn twins_of(alloc: Global, copy: &[MemoryBlock]) -> Result<Twins, OutOfMemory>
+    requires { SerialsRise copy.now }
     ensures { IfOk result (λ t. Paired copy.now t.region.contents (pairs_of t.pairs)) }
 {
     let mut region = Region::new(alloc);

@@ -8,7 +8,6 @@ ghost use Rattle.mdr_user_memory.specs.Copied.{copied, copy_accesses};
 
 use crate::seen_memory::SeenMemory;
 use crate::spot::Spot;
-use mdr_copy::is_in_at;
 use mdr_core::Value;
 use mdr_events::Integer;
 
@@ -26,7 +25,7 @@ fn integer_in(held: Option<Value>) -> Option<Integer>
 pub(crate) fn first_integer(memory: &SeenMemory, serial: u64) -> Option<Integer>
     ensures { IfSome result (λ n. FirstIs copy_accesses memory.now serial n) }
 {
-    if !is_in_at(memory.view(), serial, 0) {
+    if !memory.view().has(serial, 0) {
         return None;
     }
     integer_in(memory.held(Spot { serial, index: 0 }))
@@ -50,7 +49,7 @@ pub(crate) fn set_first_integer(memory: &mut SeenMemory, serial: u64, integer: I
     ensures done { result ≡ true → FirstBecomes copy_accesses memory.old serial integer memory.new }
     ensures kept { result ≡ false → memory.new ≡ memory.old }
 {
-    if !is_in_at(memory.view(), serial, 0) {
+    if !memory.view().has(serial, 0) {
         return false;
     }
     if !memory.is_live(serial) {

@@ -17,11 +17,11 @@ use crate::quick::{first_integer, set_first_integer};
 use crate::spot::Spot;
 use crate::steps::keep;
 use crate::user_memory::{UserMemory, user_memory};
-use mdr_copy::put_runs;
+use mdr_copy::{CellList, RisingBlocks, put_runs};
 use mdr_core::{Items, StopKind, Value};
 use mdr_events::{Integer, Memory};
 use mdr_meaning::Shape64;
-use mdr_model::{Cell, MemoryBlock, Run};
+use mdr_model::{Cell, Run};
 use mdr_region::Region;
 use mdr_track::Tracker;
 use std::alloc::{AllocError, Global};
@@ -31,10 +31,10 @@ use std::marker::Model;
 /// the copy, to which it is compared when the code comes to an event.
 #[derive(Drop)]
 pub struct SeenMemory {
-    agreed: Items<MemoryBlock>,
+    agreed: RisingBlocks,
     region: Region,
     pairs: Tracker,
-    view: Items<Cell>,
+    view: CellList,
 }
 
 impl Model for SeenMemory {
@@ -52,10 +52,10 @@ impl Model for SeenMemory {
 
 /// The memory of these parts.
 pub(crate) fn seen_memory(
-    agreed: Items<MemoryBlock>,
+    agreed: RisingBlocks,
     region: Region,
     pairs: Tracker,
-    view: Items<Cell>,
+    view: CellList,
 ) -> SeenMemory
     requires { IsSeen agreed region pairs }
     ensures { result ≡ copied agreed view (now_of agreed region.contents (pairs_of pairs)) }
@@ -69,31 +69,38 @@ pub(crate) fn seen_memory(
 }
 
 /// The copy with the values that are told.
-fn told_copy(copy: Items<MemoryBlock>, runs: &[Run]) -> Items<MemoryBlock>
+fn told_copy(copy: RisingBlocks, runs: &[Run]) -> RisingBlocks
     ensures { result ≡ put_runs runs.now copy }
 {
-    let mut blocks = copy.into_vec();
-    put_runs(&mut blocks, runs);
-    Items::from_vec(blocks)
+    let mut copy = copy;
+    put_runs(&mut copy, runs);
+    copy
 }
 
 /// What is left behind an event.
 #[derive(Drop)]
 pub struct Settled {
     pub memory: UserMemory,
-    pub view: Items<Cell>,
+    pub view: CellList,
 }
 
 impl SeenMemory {
     /// The copy that was agreed on before code ran.
-    pub fn agreed(&self) -> &[MemoryBlock]
+    pub fn agreed(&self) -> &RisingBlocks
         ensures { result.now ≡ self.now.agreed }
     {
-        self.agreed.as_slice()
+        &self.agreed
     }
 
     /// The cells that code may touch.
-    pub fn view(&self) -> &[Cell]
+    pub fn view(&self) -> &CellList
+        ensures { result.now ≡ self.now.view }
+    {
+        &self.view
+    }
+
+    /// The same, one after the other.
+    pub fn cells(&self) -> &[Cell]
         ensures { result.now ≡ self.now.view }
     {
         self.view.as_slice()

@@ -3,12 +3,12 @@
 ghost use Rattle.std.specs.Prelude.{◌≡◌, ◌+◌, length, map, IfOk, OnErr, OnOk};
 ghost use Rattle.mdr_track.specs.Tracked.{pairs_of};
 ghost use Rattle.mdr_user_memory.specs.Paired.{IsLinked};
-ghost use Rattle.mdr_user_memory.specs.Taking.{AreFresh, AreSized, Fit, IsRoom, Moves, newborn_of, taken, total, unpaired_all};
+ghost use Rattle.mdr_user_memory.specs.Taking.{AreFresh, AreSized, Fit, IsRoom, MovesIn, newborn_of, taken, taken_by, total, unpaired_all};
 
 use crate::lists::{bear_all, bury_all, scatter};
 use crate::newborn::Newborn;
 use crate::values::values_of;
-use mdr_copy::with_news;
+use mdr_copy::{RisingBlocks, with_news};
 use mdr_core::{Items, Limit, OutOfMemory, Program};
 use mdr_model::{New, Run};
 use mdr_region::Region;
@@ -27,13 +27,14 @@ pub struct Tidings<'a> {
 fn newborn(alloc: Global, program: &Program, new: New) -> Result<Newborn, OutOfMemory>
     ensures { IfOk result (λ x. x ≡ newborn_of program.now new) }
 {
-    let mut zeros = with_news(alloc, program, &[new], Vec::new(alloc))?;
+    let blocks = with_news(alloc, program, &[new], RisingBlocks::new(alloc))?;
+    let mut zeros = blocks.into_vec();
     match zeros.pop() {
         Some(block) => Ok(Newborn {
             born: new,
             first: values_of(alloc, block.cells.as_slice())?,
         }),
-        None => Err(Limit::Unmet.past()),
+        None => unreachable!(),
     }
 }
 
@@ -94,7 +95,7 @@ fn promise(region: &mut Region, pairs: &mut Tracker, news: &[Newborn]) -> Result
 fn change(region: &mut Region, pairs: &mut Tracker, alloc: Global, told: Tidings, news: &[Newborn])
     requires linked { IsLinked region.old.contents (pairs_of pairs.old) }
     requires fit { Fit news.now (unpaired_all told.deaths.now (pairs_of pairs.old)) region.old.cells region.old.births pairs.old.room }
-    ensures { Moves (taken told.entry.deaths.now news.now told.entry.runs.now) region.old.contents (pairs_of pairs.old) region.new.contents (pairs_of pairs.new) }
+    ensures { MovesIn (taken told.entry.deaths.now news.now told.entry.runs.now) region.old pairs.old region.new pairs.new }
 {
     bury_all(region, pairs, told.deaths);
     bear_all(region, pairs, alloc, news);
@@ -112,7 +113,7 @@ fn take_in(
     requires linked { IsLinked region.old.contents (pairs_of pairs.old) }
     requires sized { AreSized news.now }
     requires fresh { AreFresh news.now (unpaired_all told.deaths.now (pairs_of pairs.old)) }
-    ensures moves { OnOk result (Moves (taken told.entry.deaths.now news.now told.entry.runs.now) region.old.contents (pairs_of pairs.old) region.new.contents (pairs_of pairs.new)) }
+    ensures moves { OnOk result (MovesIn (taken told.entry.deaths.now news.now told.entry.runs.now) region.old pairs.old region.new pairs.new) }
     ensures same_memory { OnErr result (region.new.contents ≡ region.old.contents) }
     ensures same_pairs { OnErr result (pairs_of pairs.new ≡ pairs_of pairs.old) }
 {
@@ -132,7 +133,7 @@ pub(crate) fn take_told(
     requires linked { IsLinked region.old.contents (pairs_of pairs.old) }
     requires sized { AreSized (map (newborn_of program.now) told.news.now) }
     requires fresh { AreFresh (map (newborn_of program.now) told.news.now) (unpaired_all told.deaths.now (pairs_of pairs.old)) }
-    ensures moves { OnOk result (Moves (taken told.entry.deaths.now (map (newborn_of program.now) told.entry.news.now) told.entry.runs.now) region.old.contents (pairs_of pairs.old) region.new.contents (pairs_of pairs.new)) }
+    ensures moves { OnOk result (MovesIn (taken_by program.now told.entry.deaths.now told.entry.news.now told.entry.runs.now) region.old pairs.old region.new pairs.new) }
     ensures same_memory { OnErr result (region.new.contents ≡ region.old.contents) }
     ensures same_pairs { OnErr result (pairs_of pairs.new ≡ pairs_of pairs.old) }
 {

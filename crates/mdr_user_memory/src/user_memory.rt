@@ -14,9 +14,9 @@ use crate::opening::twins_of;
 use crate::release::{given_up, put};
 use crate::seen_memory::{SeenMemory, seen_memory};
 use crate::taking::{Tidings, take_told};
-use mdr_core::{Items, OutOfMemory, Program};
+use mdr_copy::{CellList, RisingBlocks};
+use mdr_core::{OutOfMemory, Program};
 use mdr_mem::Cells;
-use mdr_model::{Cell, MemoryBlock};
 use mdr_region::Region;
 use mdr_track::Tracker;
 use std::alloc::Global;
@@ -26,7 +26,7 @@ use std::marker::Model;
 /// copy: of the same kinds and shapes, with the same values, where a pointer is taken through the pairs.
 #[derive(Drop)]
 pub struct UserMemory {
-    agreed: Items<MemoryBlock>,
+    agreed: RisingBlocks,
     region: Region,
     pairs: Tracker,
 }
@@ -44,7 +44,7 @@ impl Model for UserMemory {
 }
 
 /// A memory of these parts.
-pub(crate) fn user_memory(agreed: Items<MemoryBlock>, region: Region, pairs: Tracker) -> UserMemory
+pub(crate) fn user_memory(agreed: RisingBlocks, region: Region, pairs: Tracker) -> UserMemory
     requires { IsKept agreed region pairs }
     ensures { result ≡ kept agreed region pairs }
 {
@@ -63,12 +63,12 @@ impl UserMemory {
         let region = Region::new(alloc);
         let _in_order = region.births();
         let pairs = Tracker::new(alloc);
-        user_memory(Items::new(alloc), region, pairs)
+        user_memory(RisingBlocks::new(alloc), region, pairs)
     }
 
     /// The memory of a copy whose serials rise. Where a cell points to a block that comes later, that answers want of
     /// memory.
-    pub fn of_copy(alloc: Global, copy: Items<MemoryBlock>) -> Result<UserMemory, OutOfMemory>
+    pub fn of_copy(alloc: Global, copy: RisingBlocks) -> Result<UserMemory, OutOfMemory>
         requires { SerialsRise copy }
         ensures { IfOk result (λ u. u.agreed ≡ copy) }
     {
@@ -79,10 +79,10 @@ impl UserMemory {
     }
 
     /// The copy that both halves agree on.
-    pub fn agreed(&self) -> &[MemoryBlock]
+    pub fn agreed(&self) -> &RisingBlocks
         ensures { result.now ≡ self.now.agreed }
     {
-        self.agreed.as_slice()
+        &self.agreed
     }
 
     /// Lends the pairs of the copy's serials with the blocks of the user half's own memory.
@@ -114,7 +114,7 @@ impl UserMemory {
         alloc: Global,
         program: &Program,
         told: Tidings,
-        copy: Items<MemoryBlock>,
+        copy: RisingBlocks,
     ) -> Result<(), OutOfMemory>
         requires lives { lives_fit program.now self.old.agreed told.deaths.now told.news.now ≡ true }
         requires leads { copy ≡ put_runs told.runs.now (renewed_copy program.now told.deaths.now told.news.now self.old.agreed) }
@@ -134,7 +134,7 @@ impl UserMemory {
     }
 
     /// What user code runs on, where it may touch these cells.
-    pub fn seen(self, view: Items<Cell>) -> SeenMemory
+    pub fn seen(self, view: CellList) -> SeenMemory
         ensures { result ≡ copied self.agreed view self.agreed }
     {
         seen_memory(self.agreed, self.region, self.pairs, view)

@@ -4,19 +4,17 @@ use Rattle.mdr_core.specs.declared.place.At.{At}
 use Rattle.mdr_core.specs.declared.program.Program.{Program}
 use Rattle.mdr_core.specs.declared.stop.StopKind.{StopKind}
 use Rattle.mdr_meaning.specs.declared.wire.Wire.{Wire}
-use Rattle.mdr_meaning.specs.declared.wire.Wire.TheVariants as wire
 use Rattle.mdr_meaning.specs.Tree.{Tree}
 use Rattle.mdr_meaning.specs.Walk.{Born}
 use Rattle.mdr_model.specs.declared.memory.Cell.{Cell}
 use Rattle.mdr_model.specs.declared.message.BirthKind.TheVariants.{Auto}
 use Rattle.mdr_model.specs.Memory.{Memory, everywhere, normal, reached, stored, stored_into}
-use Rattle.mdr_plain.specs.Plain.{never}
 use Rattle.mdr_plain.specs.Running.{Before, all_cells, call, handled, in_kernel, interrupts, nothing, run}
 use Rattle.mdr_plain.specs.Services.{served}
 use Rattle.mdr_plain.specs.Storage.{births, deaths, remembers, with_memory}
 use Rattle.mdr_plain.specs.World.{World, Ran, Ended, Stopped, advanced, after, counted, done, given, left, then}
 use Rattle.mdr_watched.specs.Driver.{Driver}
-use Rattle.mdr_watched.specs.Watched.{kernel_of}
+use Rattle.mdr_watched.specs.Watched.{kernel_of, may_not}
 use Rattle.mdr_watched.proofs.KeepLaws.{IsKept, births_keep, deaths_keep, run_keeps, served_keeps}
 use Rattle.mdr_watched.proofs.WaitLaws.{none_due}
 use Rattle.mdr_viewed.specs.Laws.{KernelCodeIsViewed}
@@ -48,7 +46,7 @@ module _ (set : List Cell) where
   -- ---- code of the kernel half, with nothing tried before its ticks
 
   module _ (program : Program) where
-    runs_viewed : (t : Tree) (w : World) → IsBeside set w → run (in_kernel program never) nothing t (viewed set w) ≡ viewing set (run (in_kernel program never) nothing t w)
+    runs_viewed : (t : Tree) (w : World) → IsBeside set w → run (in_kernel program may_not) nothing t (viewed set w) ≡ viewing set (run (in_kernel program may_not) nothing t w)
     unfolding run stored
     runs_viewed Tree.Idle w b = refl
     runs_viewed (Tree.Waits k) w b = refl
@@ -60,15 +58,15 @@ module _ (set : List Cell) where
     runs_viewed (Tree.Read at p n k) w b = given_viewed _ at w _ _ (λ bytes. runs_viewed (k bytes) w b)
     runs_viewed (Tree.Fresh at v k) w b = given_viewed _ at w _ _ (λ x. runs_viewed (k x) w b)
     runs_viewed (Tree.Birth at shapes k) w b =
-        ap (λ (x : Born World). run (in_kernel program never) nothing (k x.pointers) x.memory) (births_viewed program Auto shapes set w b.older)
+        ap (λ (x : Born World). run (in_kernel program may_not) nothing (k x.pointers) x.memory) (births_viewed program Auto shapes set w b.older)
         ∙ runs_viewed (k (births program Auto shapes w).pointers) (births program Auto shapes w).memory (births_keep (IsBeside set) (beside_kept set) program Auto shapes w b)
     runs_viewed (Tree.Death at ps t) w b =
-        ap (run (in_kernel program never) nothing t) (deaths_viewed ps set w)
+        ap (run (in_kernel program may_not) nothing t) (deaths_viewed ps set w)
         ∙ runs_viewed t (deaths ps w) (deaths_keep (IsBeside set) (beside_kept set) ps w b)
     runs_viewed (Tree.Ask a k) w b =
-        ap (λ r. after r (λ results w'. run (in_kernel program never) nothing (k results) w')) (served_viewed program a set w b.upcall b.older)
+        ap (λ r. after r (λ results w'. run (in_kernel program may_not) nothing (k results) w')) (served_viewed program a set w b.upcall b.older)
         ∙ after_viewed (served program a w) _ _ (served_beside program a set w b) (λ results w' b'. runs_viewed (k results) w' b')
-    runs_viewed (Tree.Cross at f args d k) w b = runs_viewed (k wire.NoValue) w b
+    runs_viewed (Tree.Cross at f args d k) w b = refl
 
 -- ---- while an upcall is open nothing is tried
 
@@ -89,14 +87,14 @@ same_counted zero at w go go' e each = refl
 same_counted (suc n) at w go go' e each = each (record w { clock = advanced 1 w.clock }) e
 
 module _ (program : Program) (before : Before) (waits : (n : ℕ) (w : World) → HasUpcall w → before n w ≡ done w) where
-  runs_wait : (t : Tree) (w : World) → HasUpcall w → run (in_kernel program never) before t w ≡ run (in_kernel program never) nothing t w
+  runs_wait : (t : Tree) (w : World) → HasUpcall w → run (in_kernel program may_not) before t w ≡ run (in_kernel program may_not) nothing t w
   unfolding run
   runs_wait Tree.Idle w e = refl
   runs_wait (Tree.Waits k) w e = refl
   runs_wait (Tree.Done v t) w e = refl
   runs_wait (Tree.Stop kind at) w e = refl
   runs_wait (Tree.Tick at d t) w e =
-      ap (λ r. then r (λ w'. counted w'.clock.rest (Some at) w' (λ w''. run (in_kernel program never) before t w''))) (waits d w e)
+      ap (λ r. then r (λ w'. counted w'.clock.rest (Some at) w' (λ w''. run (in_kernel program may_not) before t w''))) (waits d w e)
       ∙ same_counted w.clock.rest (Some at) w _ _ e (λ w' e'. runs_wait t w' e')
   runs_wait (Tree.Load at p k) w e = same_given _ at w _ _ (λ v. runs_wait (k v) w e)
   runs_wait (Tree.Store at p v t) w e = same_stored _ at w _ _ e (λ w' e'. runs_wait t w' e')
@@ -105,7 +103,7 @@ module _ (program : Program) (before : Before) (waits : (n : ℕ) (w : World) �
   runs_wait (Tree.Birth at shapes k) w e = runs_wait (k (births program Auto shapes w).pointers) (births program Auto shapes w).memory (births_keep HasUpcall upcall_kept program Auto shapes w e)
   runs_wait (Tree.Death at ps t) w e = runs_wait t (deaths ps w) (deaths_keep HasUpcall upcall_kept ps w e)
   runs_wait (Tree.Ask a k) w e = same_after (served program a w) _ _ (served_keeps HasUpcall upcall_kept program a w e).at_end (λ results w' e'. runs_wait (k results) w' e')
-  runs_wait (Tree.Cross at f args d k) w e = runs_wait (k wire.NoValue) w e
+  runs_wait (Tree.Cross at f args d k) w e = refl
 
 -- ---- calls
 
@@ -126,7 +124,7 @@ module _ (d : Driver) where
   pub call_keeps : (P : World → Type 0) → IsKept P → (f : ℕ) (args : List Wire) (depth : ℕ) (w : World) → P w → P (left (call (kernel_of d) nothing f args depth w))
   unfolding call
   call_keeps P kept f args depth w e =
-      (run_keeps P kept d.program all_cells (served d.program) never nothing (λ n w' e'. record { at_end = e' }) (λ q w' e'. served_keeps P kept d.program q w' e') (λ at g vs n w' e'. record { at_end = e' }) _ w e).at_end
+      (run_keeps P kept d.program all_cells (served d.program) may_not nothing (λ n w' e'. record { at_end = e' }) (λ q w' e'. served_keeps P kept d.program q w' e') (λ at g vs n w' e'. record { at_end = e' }) _ w e).at_end
 
   pub called_viewed : (f : ℕ) (args : List Wire) (depth : ℕ) (set : List Cell) (w : World) → HasUpcall w → IsOlder set w
       → IsViewed set (call (kernel_of d) (interrupts (kernel_of d)) f args depth (viewed set w)) (call (kernel_of d) nothing f args depth w)

@@ -12,7 +12,7 @@ use Rattle.mdr_plain.specs.World.{World, Ran, Ended, Stopped, after, left}
 use Rattle.mdr_watched.specs.Driver.{Driver, result_roots, touched_by}
 use Rattle.mdr_watched.specs.Order.{AreLive}
 use Rattle.mdr_watched.specs.Views.{gained, renewed, taken}
-use Rattle.mdr_watched.specs.Watched.{downcall, held, kernel_of, returns_to, sent, serves}
+use Rattle.mdr_watched.specs.Watched.{downcall, held, kernel_of, may_not, returns_to, sent, serves}
 use Rattle.mdr_watched.proofs.KeepLaws.{served_keeps}
 use Rattle.mdr_viewed.specs.Laws.{UpcallsAreViewed, asks, goes_down, returns}
 use Rattle.mdr_viewed.specs.Viewed.{HasUpcall, IsOlder, IsOrdered, after_beside, viewed, viewing}
@@ -43,7 +43,7 @@ module _ (d : Driver) (t : ℕ) (set : List Cell) where
       ap (λ r. taken r at (viewed set w) (λ found. Ended v (renewed found (viewed set w)))) (sets_are_viewed.known d.program (touched_by d.plan t) w.memory set (result_roots d.program f args v))
       ∙ found_viewed _ at v w (λ found is. sets_are_viewed.taken d.program (touched_by d.plan t) set (result_roots d.program f args v) found w o is)
 
-  downs_viewed : (at : At) (f : ℕ) (args : List Wire) (depth : ℕ) (w : World) → HasUpcall w → IsOlder set w → IsOrdered w → downcall d (held d) t at f args depth (viewed set w) ≡ goes_down d t set at f args depth w
+  downs_viewed : (at : At) (f : ℕ) (args : List Wire) (depth : ℕ) (w : World) → HasUpcall w → IsOlder set w → IsOrdered w → downcall d (held d) t may_not at f args depth (viewed set w) ≡ goes_down d t set at f args depth w
   downs_viewed at f args depth w e older o =
       ap (λ r. after r (returns_to d (held d) t at f (sent d (held d) t args w))) (called_viewed d f (sent d (held d) t args w) depth set w e older).is
       ∙ goes_beside set (call (kernel_of d) nothing f (sent d (held d) t args w) depth w) _ _ (call_keeps d IsOrdered ordered_kept f (sent d (held d) t args w) depth w o)

@@ -1,6 +1,6 @@
 -- protocol
 -- What code does where a set is in the world of a run, and where it is kept beside it.
-use Rattle.std.specs.Prelude.{◌≡◌, ℕ, Bool, List, [], ◌++◌, Ok}
+use Rattle.std.specs.Prelude.{◌≡◌, ◌≤◌, ℕ, Bool, List, [], ◌++◌, Ok}
 use Rattle.mdr_core.specs.declared.place.At.{At}
 use Rattle.mdr_core.specs.declared.plan.Key.{Key}
 use Rattle.mdr_core.specs.declared.program.Program.{Program}
@@ -11,15 +11,15 @@ use Rattle.mdr_meaning.specs.Tree.{Asked}
 use Rattle.mdr_model.specs.declared.memory.Cell.{Cell}
 use Rattle.mdr_model.specs.declared.message.BirthKind.{BirthKind}
 use Rattle.mdr_model.specs.Memory.{Memory}
-use Rattle.mdr_plain.specs.Running.{all_cells, call, interrupts, nothing}
+use Rattle.mdr_plain.specs.Running.{Crossing, all_cells, call, interrupts, nothing}
 use Rattle.mdr_plain.specs.Services.{served}
 use Rattle.mdr_plain.specs.Storage.{accesses, births, deaths, next_serial}
-use Rattle.mdr_plain.specs.World.{World, Ran, Ended}
+use Rattle.mdr_plain.specs.World.{World, Ran, Ended, left}
 use Rattle.mdr_runs.specs.Around.{KeepsTicks}
 use Rattle.mdr_watched.specs.Driver.{Driver, result_roots, touched_by}
 use Rattle.mdr_watched.specs.Order.{AreLive}
 use Rattle.mdr_watched.specs.Views.{closed, gained, living, may_touch, new_cells, opened, renewed, taken}
-use Rattle.mdr_watched.specs.Watched.{downcall, held, in_user, kernel_of, sent, serves}
+use Rattle.mdr_watched.specs.Watched.{calls_back, downcall, held, in_user, kernel_of, may_not, sent, serves}
 use Rattle.mdr_viewed.specs.Viewed.{HasUpcall, IsOlder, IsOrdered, IsViewed, TouchAlike, after_beside, in_set, viewed, viewed_born, viewed_if}
 
 -- ---- accesses
@@ -93,8 +93,14 @@ module _ (d : Driver) (t : ℕ) (set : List Cell) where
 pub record UpcallsAreViewed : Type 0 where
   pub asks : (d : Driver) (t : ℕ) (set : List Cell) (asked : Asked) (w : World) → HasUpcall w → IsOlder set w → IsOrdered w → serves d (held d) t asked (viewed set w) ≡ asks d t set asked w
   pub downs : (d : Driver) (t : ℕ) (set : List Cell) (at : At) (f : ℕ) (args : List Wire) (depth : ℕ) (w : World) → HasUpcall w → IsOlder set w → IsOrdered w
-      → downcall d (held d) t at f args depth (viewed set w) ≡ goes_down d t set at f args depth w
+      → downcall d (held d) t may_not at f args depth (viewed set w) ≡ goes_down d t set at f args depth w
 
--- nothing around user code gives a tick back
-abbrev pub UserCodeKeepsTicks : Type 0
-UserCodeKeepsTicks = (d : Driver) (t : ℕ) → KeepsTicks (in_user d (held d) t)
+-- calls of the other half give no tick back
+abbrev pub CrossingKeepsTicks : Crossing → Type 0
+CrossingKeepsTicks crosses = (at : At) (f : ℕ) (args : List Wire) (depth : ℕ) (w : World) → (left (crosses at f args depth w)).clock.rest ≤ w.clock.rest
+
+-- nothing around user code gives a tick back, where the kernel half's calls back don't; and they don't, whatever room there is
+pub record UserCodeKeepsTicks : Type 0 where
+  pub user : (d : Driver) (t : ℕ) (crosses : Crossing) → CrossingKeepsTicks crosses → KeepsTicks (in_user d (held d) t crosses)
+  pub may_not : CrossingKeepsTicks may_not
+  pub back : (d : Driver) (room : ℕ) → CrossingKeepsTicks (calls_back d (held d) room)

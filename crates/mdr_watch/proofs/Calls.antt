@@ -37,7 +37,7 @@ use Rattle.mdr_watched.specs.Driver.{Driver, touched_by}
 use Rattle.mdr_viewed.proofs.Sets.{sets_are_viewed}
 use Rattle.mdr_watched.specs.Order.{AreLive}
 use Rattle.mdr_watched.specs.Views.{new_cells, taken}
-use Rattle.mdr_watched.specs.Watched.{downcall, held, kernel_of, sent, serves}
+use Rattle.mdr_watched.specs.Watched.{downcall, held, kernel_of, may_not, sent, serves}
 use Rattle.mdr_watched.proofs.KeepLaws.{IsKept, served_keeps}
 use Rattle.mdr_whole.specs.declared.ending.Gave.{Gave}
 use Rattle.mdr_whole.specs.declared.ending.Gave.TheVariants as gave_is
@@ -99,15 +99,15 @@ module _ (d : Driver) (t : ℕ) (set : List Cell) (w : World) (g : IsGuarded set
 -- ---- calls of the kernel half
 
 module _ (d : Driver) (t : ℕ) (set : List Cell) (w : World) (g : IsGuarded set w) (o : IsOrdered w) (at : At) (f : ℕ) (args : List Wire) (depth : ℕ) where
-  downs_is : downcall d (held d) t at f args depth (viewed set w) ≡ goes_down d t set at f args depth w
+  downs_is : downcall d (held d) t may_not at f args depth (viewed set w) ≡ goes_down d t set at f args depth w
   downs_is = upcalls_are_viewed.downs d t set at f args depth w g.upcall g.older o
 
   pub down_on : (v : Wire) (w1 : World) (r : Ran Wire) → Ended v w1 ≡ call (kernel_of d) nothing f (sent d (held d) t args w) depth w → r ≡ returns d t set at f (sent d (held d) t args w) v w1
-      → r ≡ downcall d (held d) t at f args depth (viewed set w)
+      → r ≡ downcall d (held d) t may_not at f args depth (viewed set w)
   down_on v w1 r is back = back ∙ ap (λ x. after_beside set x (returns d t set at f (sent d (held d) t args w))) is ∙ sym downs_is
 
   pub down_out : (kind : StopKind) (place : Option At) (w1 : World) → ◌≡◌ {A = Ran Wire} (Stopped kind place w1) (call (kernel_of d) nothing f (sent d (held d) t args w) depth w)
-      → ◌≡◌ {A = Ran Wire} (Stopped kind place (viewed set w1)) (downcall d (held d) t at f args depth (viewed set w))
+      → ◌≡◌ {A = Ran Wire} (Stopped kind place (viewed set w1)) (downcall d (held d) t may_not at f args depth (viewed set w))
   down_out kind place w1 is = ap (λ x. after_beside set x (returns d t set at f (sent d (held d) t args w))) is ∙ sym downs_is
 
   pub down_beside : (r : Ran Wire) (w1 : World) → left r ≡ w1 → r ≡ call (kernel_of d) nothing f (sent d (held d) t args w) depth w → IsGuarded set w1
@@ -178,18 +178,18 @@ module _ (u : Upcall) (w : Driven) (set : List Cell) (gd : Driven) (is : driver 
     down_stays = down_beside (driver_in u.watch) u.func set w.world g o c.at c.func (wires_of c.args) c.depth (gave_as gv w1.world) w1.world (gave_left gv w1.world) called_now
 
     pub down_goes : (v : Value) (r : Ran Wire) → gv ≡ gave_is.Value v → r ≡ returns (driver_in u.watch) u.func set c.at c.func (wires_of values) (wire_of v) w1.world
-        → r ≡ downcall (driver_in u.watch) (held (driver_in u.watch)) u.func c.at c.func (wires_of c.args) c.depth gd.world
+        → r ≡ downcall (driver_in u.watch) (held (driver_in u.watch)) u.func may_not c.at c.func (wires_of c.args) c.depth gd.world
     down_goes v r value back =
         down_on (driver_in u.watch) u.func set w.world g o c.at c.func (wires_of c.args) c.depth (wire_of v) w1.world r (sym (ap (λ x. gave_as x w1.world) value) ∙ called_now)
         (back ∙ ap (λ x. returns (driver_in u.watch) u.func set c.at c.func x (wire_of v) w1.world) are_sent)
-        ∙ ap (downcall (driver_in u.watch) (held (driver_in u.watch)) u.func c.at c.func (wires_of c.args) c.depth) world_is
+        ∙ ap (downcall (driver_in u.watch) (held (driver_in u.watch)) u.func may_not c.at c.func (wires_of c.args) c.depth) world_is
 
     pub down_stops : (kind : StopKind) (at : Option At) (r : Driven) → gv ≡ gave_is.Stopped kind at → r ≡ driver w1.program (viewed set w1.world)
-        → ◌≡◌ {A = Ran Wire} (Stopped kind at r.world) (downcall (driver_in u.watch) (held (driver_in u.watch)) u.func c.at c.func (wires_of c.args) c.depth gd.world)
+        → ◌≡◌ {A = Ran Wire} (Stopped kind at r.world) (downcall (driver_in u.watch) (held (driver_in u.watch)) u.func may_not c.at c.func (wires_of c.args) c.depth gd.world)
     down_stops kind at r stop there =
         ap (λ (d : Driven). Stopped kind at d.world) there
         ∙ down_out (driver_in u.watch) u.func set w.world g o c.at c.func (wires_of c.args) c.depth kind at w1.world (sym (ap (λ x. gave_as x w1.world) stop) ∙ called_now)
-        ∙ ap (downcall (driver_in u.watch) (held (driver_in u.watch)) u.func c.at c.func (wires_of c.args) c.depth) world_is
+        ∙ ap (downcall (driver_in u.watch) (held (driver_in u.watch)) u.func may_not c.at c.func (wires_of c.args) c.depth) world_is
 
 -- the cells of a set that was taken are of blocks that live
 pub live_now : (program : Program) (keys : List Key) (m : Memory) (known set : List Cell) (r : Roots) (x : Result (List Cell) Failing) (w : World) → IsOrdered w → m ≡ w.memory → answered x ≡ visible program keys m known r → x ≡ Ok set → AreLive w.memory set

@@ -25,7 +25,7 @@ use Rattle.mdr_runs.proofs.Standing.{call_is_started}
 use Rattle.mdr_viewed.proofs.Ticks.{user_code_keeps_ticks}
 use Rattle.mdr_watched.specs.Driver.{Driver, driver_of, is_user}
 use Rattle.mdr_watched.specs.Views.{closed, opened}
-use Rattle.mdr_watched.specs.Watched.{closing, does, entered, held, kernel_of, upcall, watched, watched_of}
+use Rattle.mdr_watched.specs.Watched.{closing, does_with, entered, held, kernel_of, may_not, upcall}
 use Rattle.mdr_world.specs.Driven.{Driven, driver}
 use Rattle.mdr_whole.specs.declared.ending.Gave.{Gave}
 use Rattle.mdr_whole.specs.declared.ending.Gave.TheVariants as gave
@@ -35,7 +35,7 @@ use Rattle.mdr_whole.specs.Ending.{end_of, gave_as, worked_as}
 use Rattle.mdr_watch.specs.declared.watch.Upcall.{Upcall}
 use Rattle.mdr_watch.specs.Going.{IsStarted, held_in, user_does}
 use Rattle.mdr_watch.specs.Leaving.{EndsFor, GaveFor, WorkedFor, with_views}
-use Rattle.mdr_watch.specs.Watching.{IsKernel, around_user, driver_in, user_side}
+use Rattle.mdr_watch.specs.Watching.{IsKernel, around_user, driver_in, user_side, watched_apart}
 use Rattle.mdr_watch.proofs.Turns.{nothing_gives}
 
 -- ---- an upcall
@@ -51,10 +51,10 @@ ran_closed u m g gd gd1 w1 ran gone = subst (λ (d : Driven). GaveFor g d.world 
 
 -- the function was started in it, with its set
 pub ran_entered : (u : Upcall) (args : List Wire) (set : List Cell) (m : Machine) (g : Gave) (program : Program) (w : World) (gd w1 : Driven) → IsStarted u args m → gd ≡ driver program (opened set w)
-    → GaveFor g w1.world (closing (user_does u gd.world.clock.rest m gd.world)) → GaveFor g w1.world (entered (driver_in u.watch) (held (driver_in u.watch)) u.func args set w)
+    → GaveFor g w1.world (closing (user_does u gd.world.clock.rest m gd.world)) → GaveFor g w1.world (entered (driver_in u.watch) (held (driver_in u.watch)) may_not u.func args 0 set w)
 ran_entered u args set m g program w gd w1 s is h =
     subst (λ r. GaveFor g w1.world (closing r))
-    (ap (λ (d : Driven). user_does u d.world.clock.rest m d.world) is ∙ call_is_started (around_user u) nothing (user_code_keeps_ticks (driver_in u.watch) u.func) nothing_gives (user_side u) u.func args 0 (held_in u m) (opened set w) s.by) h
+    (ap (λ (d : Driven). user_does u d.world.clock.rest m d.world) is ∙ call_is_started (around_user u) nothing (user_code_keeps_ticks.user (driver_in u.watch) u.func may_not user_code_keeps_ticks.may_not) nothing_gives (user_side u) u.func args 0 (held_in u m) (opened set w) s.by) h
 
 -- ---- commands
 
@@ -75,11 +75,11 @@ returned_for kernel (gave.Stopped kind at) (worked.Stopped kind' at') w w1 ran i
     with_views_of views (Stopped kind at w) = Stopped kind at (with_views views w)
 
 module _ (d : Driver) (w : World) where
-  pub user_call_does : (f : ℕ) (args : List Value) → is_user d.plan f ≡ true → does d (held d) (command.Call f args) w ≡ returned (interrupts (kernel_of d)) (upcall d (held d) f (map wire_of args) (begun d.program f args w))
+  pub user_call_does : (f : ℕ) (args : List Value) → is_user d.plan f ≡ true → does_with d (held d) may_not (command.Call f args) w ≡ returned (interrupts (kernel_of d)) (upcall d (held d) may_not f (map wire_of args) 0 (begun d.program f args w))
   unfolding begin
   user_call_does f args e = rw e refl
 
-  pub kernel_does : (c : Command) → IsKernel d.plan c → plainly_does (kernel_of d) c w ≡ does d (held d) c w
+  pub kernel_does : (c : Command) → IsKernel d.plan c → plainly_does (kernel_of d) c w ≡ does_with d (held d) may_not c w
   unfolding begin
   kernel_does (command.Call f args) e = rw e refl
   kernel_does (command.Idle n) e = refl
@@ -87,36 +87,36 @@ module _ (d : Driver) (w : World) where
   kernel_does (command.Poke serial index n) e = refl
   kernel_does (command.Say text) e = refl
 
-pub kernel_for : (d : Driver) (code : KernelCode) (c : Command) (e : Worked) (w w1 : World) → code ≡ kernel_of d → IsKernel d.plan c → worked_as e w1 ≡ plainly_does code c w → WorkedFor e w1 (does d (held d) c w)
+pub kernel_for : (d : Driver) (code : KernelCode) (c : Command) (e : Worked) (w w1 : World) → code ≡ kernel_of d → IsKernel d.plan c → worked_as e w1 ≡ plainly_does code c w → WorkedFor e w1 (does_with d (held d) may_not c w)
 kernel_for d code c e w w1 is k so = worked_for e w1 _ (so ∙ ap (λ x. plainly_does x c w) is ∙ kernel_does d w c k)
 
 pub up_worked : (d : Driver) (f : ℕ) (args : List Value) (code : KernelCode) (g : Gave) (e : Worked) (w w1 w2 w3 : Driven) → is_user d.plan f ≡ true → code ≡ kernel_of d → w.program ≡ d.program
-    → w1 ≡ driver w.program (begun w.program f args w.world) → GaveFor g w2.world (upcall d (held d) f (map wire_of args) w1.world) → worked_as e w3.world ≡ returned (interrupts code) (gave_as g w2.world)
-    → WorkedFor e w3.world (does d (held d) (command.Call f args) w.world)
+    → w1 ≡ driver w.program (begun w.program f args w.world) → GaveFor g w2.world (upcall d (held d) may_not f (map wire_of args) 0 w1.world) → worked_as e w3.world ≡ returned (interrupts code) (gave_as g w2.world)
+    → WorkedFor e w3.world (does_with d (held d) may_not (command.Call f args) w.world)
 up_worked d f args code g e w w1 w2 w3 user is same noted gave so =
     let begun_is : w1.world ≡ begun d.program f args w.world = ap (λ (x : Driven). x.world) noted ∙ ap (λ p. begun p f args w.world) same in
     subst (λ work. WorkedFor e w3.world work) (sym (user_call_does d w.world f args user))
-    (returned_for (kernel_of d) g e w2.world w3.world _ (subst (λ x. GaveFor g w2.world (upcall d (held d) f (map wire_of args) x)) begun_is gave) (so ∙ ap (λ k. returned (interrupts k) (gave_as g w2.world)) is))
+    (returned_for (kernel_of d) g e w2.world w3.world _ (subst (λ x. GaveFor g w2.world (upcall d (held d) may_not f (map wire_of args) 0 x)) begun_is gave) (so ∙ ap (λ k. returned (interrupts k) (gave_as g w2.world)) is))
 
 -- ---- scripts
 
 module _ (d : Driver) where
-  pub stops_for : (c : Command) (cs : List Command) (kind : StopKind) (at : Option At) (w w1 : World) → WorkedFor (worked.Stopped kind at) w1 (does d (held d) c w)
-      → EndsFor (worked.Stopped kind at) w1 (commands (does d (held d)) (c ∷ cs) w)
+  pub stops_for : (c : Command) (cs : List Command) (kind : StopKind) (at : Option At) (w w1 : World) → WorkedFor (worked.Stopped kind at) w1 (does_with d (held d) may_not c w)
+      → EndsFor (worked.Stopped kind at) w1 (commands (does_with d (held d) may_not) (c ∷ cs) w)
   unfolding commands
   stops_for c cs kind at w w1 h = record {
-    end = ap (λ x. Finish.end (and_then x (λ w'. commands (does d (held d)) cs w'))) h.1;
+    end = ap (λ x. Finish.end (and_then x (λ w'. commands (does_with d (held d) may_not) cs w'))) h.1;
     views = h.0;
-    world = ap (λ x. Finish.world (and_then x (λ w'. commands (does d (held d)) cs w'))) h.1;
+    world = ap (λ x. Finish.world (and_then x (λ w'. commands (does_with d (held d) may_not) cs w'))) h.1;
   }
 
-  pub ends_for : (w : World) → EndsFor worked.Done w (commands (does d (held d)) [] w)
+  pub ends_for : (w : World) → EndsFor worked.Done w (commands (does_with d (held d) may_not) [] w)
   unfolding commands
   ends_for w = record { end = refl; views = w.views; world = refl }
 
-  pub goes_for : (c : Command) (cs : List Command) (w w1 : World) → WorkedFor worked.Done w1 (does d (held d) c w) → commands (does d (held d)) cs w1 ≡ commands (does d (held d)) (c ∷ cs) w
+  pub goes_for : (c : Command) (cs : List Command) (w w1 : World) → WorkedFor worked.Done w1 (does_with d (held d) may_not c w) → commands (does_with d (held d) may_not) cs w1 ≡ commands (does_with d (held d) may_not) (c ∷ cs) w
   unfolding commands
-  goes_for c cs w w1 h = ap (λ x. and_then x (λ w'. commands (does d (held d)) cs w')) h
+  goes_for c cs w w1 h = ap (λ x. and_then x (λ w'. commands (does_with d (held d) may_not) cs w')) h
 
 -- nothing is shown of the sets
 pub shown_so : (program : Program) (e : Worked) (w : World) (f : Finish) → EndsFor e w f → outcome_of program (record { end = end_of e; world = w }) ≡ outcome_of program f
@@ -124,17 +124,17 @@ unfolding outcome_of
 shown_so program e w f h = λ i. outcome_of program (record { end = h.end i; world = h.world i })
 
 -- all commands were done
-pub ends_at : (d : Driver) (script : List Command) (i : ℕ) (w w0 : World) → length script ≤ i → commands (does d (held d)) (drop i script) w ≡ commands (does d (held d)) script w0 → EndsFor worked.Done w (commands (does d (held d)) script w0)
-ends_at d script i w w0 past rest = subst (λ f. EndsFor worked.Done w f) (sym (at_drop_all (λ cs. commands (does d (held d)) cs w) script i past) ∙ rest) (ends_for d w)
+pub ends_at : (d : Driver) (script : List Command) (i : ℕ) (w w0 : World) → length script ≤ i → commands (does_with d (held d) may_not) (drop i script) w ≡ commands (does_with d (held d) may_not) script w0 → EndsFor worked.Done w (commands (does_with d (held d) may_not) script w0)
+ends_at d script i w w0 past rest = subst (λ f. EndsFor worked.Done w f) (sym (at_drop_all (λ cs. commands (does_with d (held d) may_not) cs w) script i past) ∙ rest) (ends_for d w)
 
 -- the commands were done from the first state on
 pub ran_watched : (program : Program) (plan : Plan) (script : Bound) (ticks : ℕ) (d d' : Driven) (cs : List Command) (e : Worked) (o : Outcome)
     → d ≡ driver program (first_world (known_of program) script ticks) → cs ≡ script.commands → d'.program ≡ program
-    → EndsFor e d'.world (commands (does (driver_of program plan) (held (driver_of program plan))) cs d.world)
-    → o ≡ outcome_of d'.program (finish (end_of e) d'.world) → o ≡ outcome_of program (watched program plan script ticks)
-unfolding watched_of kernel_side
+    → EndsFor e d'.world (commands (does_with (driver_of program plan) (held (driver_of program plan)) may_not) cs d.world)
+    → o ≡ outcome_of d'.program (finish (end_of e) d'.world) → o ≡ outcome_of program (watched_apart program plan script ticks)
+unfolding watched_apart kernel_side
 ran_watched program plan script ticks d d' cs e o first are kept ran shown =
     shown
     ∙ ap (λ p. outcome_of p (finish (end_of e) d'.world)) kept
     ∙ shown_so program e d'.world _ ran
-    ∙ ap (outcome_of program) (ap (λ x. commands (does (driver_of program plan) (held (driver_of program plan))) x d.world) are ∙ ap (λ (x : Driven). commands (does (driver_of program plan) (held (driver_of program plan))) script.commands x.world) first)
+    ∙ ap (outcome_of program) (ap (λ x. commands (does_with (driver_of program plan) (held (driver_of program plan)) may_not) x d.world) are ∙ ap (λ (x : Driven). commands (does_with (driver_of program plan) (held (driver_of program plan)) may_not) script.commands x.world) first)

@@ -45,6 +45,7 @@ use Rattle.mdr_services.specs.Serving.{served_as}
 use Rattle.mdr_viewed.proofs.Ticks.{user_code_keeps_ticks}
 use Rattle.mdr_watched.specs.Driver.{touched_by}
 use Rattle.mdr_watched.specs.Views.{gained, may_touch}
+use Rattle.mdr_watched.specs.Watched.{may_not}
 use Rattle.mdr_world.specs.Driven.{Driven, Ticks}
 use Rattle.mdr_world.proofs.WalkLaws.{drivers_walk}
 use Rattle.mdr_whole.specs.declared.ending.Gave.{Gave}
@@ -86,7 +87,7 @@ module _ (u : Upcall) where
   prog = program_in u
 
   keeps : KeepsTicks (around_user u)
-  keeps = user_code_keeps_ticks (driver_in u.watch) u.func
+  keeps = user_code_keeps_ticks.user (driver_in u.watch) u.func may_not user_code_keeps_ticks.may_not
 
   seen : IsSeenBy (accesses prog may_touch) guarded_accesses world_in program_of prog
   seen = record {

@@ -2,7 +2,9 @@
 -- The driver that is watched.
 use Rattle.std.specs.Prelude.{◌≡◌, false, length, ℕ, List, [], Result}
 use Rattle.mdr_core.specs.declared.plan.Key.{Key}
+use Rattle.mdr_bound.specs.declared.bound.Bound.{Bound}
 use Rattle.mdr_core.specs.declared.plan.Plan.{Plan}
+use Rattle.mdr_core.specs.declared.program.Program.{Program}
 use Rattle.mdr_events.specs.declared.event.Asked.{Asked as Question}
 use Rattle.mdr_events.specs.declared.event.Crossing.{Crossing}
 use Rattle.mdr_events.specs.Events.{asked_as}
@@ -14,10 +16,11 @@ use Rattle.mdr_model.specs.declared.command.Command.{Command}
 use Rattle.mdr_model.specs.declared.command.Command.TheVariants as command
 use Rattle.mdr_model.specs.declared.memory.Cell.{Cell}
 use Rattle.mdr_plain.specs.Running.{Setting}
+use Rattle.mdr_plain.specs.Scripts.{Finish, commands, first_world}
 use Rattle.mdr_plain.specs.World.{World, Ran}
 use Rattle.mdr_viewed.specs.Laws.{returns}
 use Rattle.mdr_watched.specs.Driver.{Driver, driver_of, entry_roots, is_user, touched_by}
-use Rattle.mdr_watched.specs.Watched.{downcall, entered, held, in_user, serves}
+use Rattle.mdr_watched.specs.Watched.{does_with, downcall, entered, held, in_user, may_not, serves}
 use Rattle.mdr_watch.specs.declared.watch.Upcall.{Upcall}
 use Rattle.mdr_watch.specs.declared.watch.Watch.{Watch}
 
@@ -44,12 +47,12 @@ user_side u = (driver_in u.watch).user
 abbrev pub touched_in : Upcall → List Key
 touched_in u = touched_by u.watch.plan.now u.func
 
--- what its services, its downcalls and their returns do in a world
+-- what its services, its downcalls and their returns do in a world. Code of the kernel half that it calls may call nothing back
 abbrev pub serves_in : Upcall → Question → World → Ran (List Wire)
 serves_in u asked w = serves (driver_in u.watch) (held (driver_in u.watch)) u.func (asked_as asked) w
 
 abbrev pub downcalls_in : Upcall → Crossing → World → Ran Wire
-downcalls_in u c w = downcall (driver_in u.watch) (held (driver_in u.watch)) u.func c.at c.func (wires_of c.args) c.depth w
+downcalls_in u c w = downcall (driver_in u.watch) (held (driver_in u.watch)) u.func may_not c.at c.func (wires_of c.args) c.depth w
 
 abbrev pub returns_in : Upcall → List Cell → Crossing → (sent : List Wire) → Wire → World → Ran Wire
 returns_in u set c sent v w = returns (driver_in u.watch) u.func set c.at c.func sent v w
@@ -59,7 +62,12 @@ abbrev pub begins_with : Upcall → (args : List Wire) → World → Result (Lis
 begins_with u args w = visible u.watch.program.now (touched_in u) w.memory [] (entry_roots u.watch.program.now u.func args)
 
 abbrev pub entered_in : Upcall → (args : List Wire) → List Cell → World → Ran Wire
-entered_in u args set w = entered (driver_in u.watch) (held (driver_in u.watch)) u.func args set w
+entered_in u args set w = entered (driver_in u.watch) (held (driver_in u.watch)) may_not u.func args 0 set w
 
 abbrev pub around_user : Upcall → Setting
-around_user u = in_user (driver_in u.watch) (held (driver_in u.watch)) u.func
+around_user u = in_user (driver_in u.watch) (held (driver_in u.watch)) u.func may_not
+
+-- the run of a script in which code of the kernel half may call nothing back: where it would the run stops. It is the watched run of a driver that calls nothing back
+unfoldable pub watched_apart : Program → Plan → Bound → (budget : ℕ) → Finish
+watched_apart program plan script budget =
+    commands (does_with (driver_of program plan) (held (driver_of program plan)) may_not) script.commands (first_world (driver_of program plan).kernel.known script budget)

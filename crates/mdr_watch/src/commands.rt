@@ -6,7 +6,7 @@ ghost use Rattle.mdr_model.specs.declared.command.Command.TheVariants as command
 ghost use Rattle.mdr_plain.specs.Running.{interrupts};
 ghost use Rattle.mdr_plain.specs.Scripts.{begun, commands, returned};
 ghost use Rattle.mdr_watched.specs.Driver.{is_user as is_user_in};
-ghost use Rattle.mdr_watched.specs.Watched.{does, held, kernel_of};
+ghost use Rattle.mdr_watched.specs.Watched.{does_with, held, kernel_of, may_not};
 ghost use Rattle.mdr_whole.specs.Ending.{gave_as, worked_as};
 ghost use Rattle.mdr_world.specs.Driven.{driver};
 ghost use Rattle.mdr_watch.specs.Leaving.{EndsFor, WorkedFor};
@@ -80,7 +80,7 @@ fn upcall_command<'a>(
     requires same { world.program ≡ watch.program.now }
     requires user { is_user_in watch.plan.now func ≡ true }
     ensures kept { IfOk result (λ r. r.world.program ≡ watch.entry.program.now) }
-    ensures worked { IfOk result (λ r. WorkedFor r.worked r.world.world (does (driver_in watch.entry) (held (driver_in watch.entry)) (command.Call func args.now) world.entry.world)) }
+    ensures worked { IfOk result (λ r. WorkedFor r.worked r.world.world (does_with (driver_in watch.entry) (held (driver_in watch.entry)) may_not (command.Call func args.now) world.entry.world)) }
 {
     let noted = noted(alloc, world, func, args)?;
     let closed = call_user(alloc, Upcall { watch, func }, args, noted)?;
@@ -100,7 +100,7 @@ fn kernel_command<'a>(
     requires same { world.program ≡ watch.program.now }
     requires kernel { IsKernel watch.plan.now command.now }
     ensures kept { IfOk result (λ r. r.world.program ≡ watch.entry.program.now) }
-    ensures worked { IfOk result (λ r. WorkedFor r.worked r.world.world (does (driver_in watch.entry) (held (driver_in watch.entry)) command.now world.entry.world)) }
+    ensures worked { IfOk result (λ r. WorkedFor r.worked r.world.world (does_with (driver_in watch.entry) (held (driver_in watch.entry)) may_not command.now world.entry.world)) }
 {
     let mut world = world;
     match do_command(alloc, kernel_code(watch), &mut world, command) {
@@ -123,7 +123,7 @@ fn do_watched<'a>(
     requires fit { IsFit watch }
     requires same { world.program ≡ watch.program.now }
     ensures kept { IfOk result (λ r. r.world.program ≡ watch.entry.program.now) }
-    ensures worked { IfOk result (λ r. WorkedFor r.worked r.world.world (does (driver_in watch.entry) (held (driver_in watch.entry)) command.now world.entry.world)) }
+    ensures worked { IfOk result (λ r. WorkedFor r.worked r.world.world (does_with (driver_in watch.entry) (held (driver_in watch.entry)) may_not command.now world.entry.world)) }
 {
     match command {
         Command::Call(func, args) => {
@@ -151,7 +151,7 @@ pub(crate) fn do_commands<'a>(
     requires fit { IsFit watch }
     requires same { world.program ≡ watch.program.now }
     ensures kept { IfOk result (λ r. r.world.program ≡ watch.entry.program.now) }
-    ensures finished { IfOk result (λ r. EndsFor r.worked r.world.world (commands (does (driver_in watch.entry) (held (driver_in watch.entry))) script.now world.entry.world)) }
+    ensures finished { IfOk result (λ r. EndsFor r.worked r.world.world (commands (does_with (driver_in watch.entry) (held (driver_in watch.entry)) may_not) script.now world.entry.world)) }
 {
     let mut world = world;
     for command in script {

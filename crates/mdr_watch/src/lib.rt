@@ -3,7 +3,7 @@
 //!
 //! While a function of the user half is active the state of the run is a `Guarded`: the world of a plain run, beside the set
 //! of the cells that user code may touch, in which cells of dead blocks may be left. One upcall is open at most, since kernel
-//! code calls no function of the user half.
+//! code may call no function of the user half: where it would the run stops.
 #![tactic(auto)]
 
 mod asks;

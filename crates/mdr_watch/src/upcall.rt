@@ -11,7 +11,7 @@ ghost use Rattle.mdr_reach.specs.Answers.{answered};
 ghost use Rattle.mdr_viewed.specs.Viewed.{IsOlder};
 ghost use Rattle.mdr_watched.specs.Driver.{is_user};
 ghost use Rattle.mdr_watched.specs.Order.{AreLive};
-ghost use Rattle.mdr_watched.specs.Watched.{closing, held, upcall as up};
+ghost use Rattle.mdr_watched.specs.Watched.{closing, held, may_not, upcall as up};
 ghost use Rattle.mdr_watch.specs.Going.{IsStarted, user_does};
 ghost use Rattle.mdr_watch.specs.Leaving.{GaveFor};
 ghost use Rattle.mdr_watch.specs.Watching.{IsFit, begins_with, driver_in, entered_in};
@@ -150,7 +150,7 @@ pub(crate) fn call_user<'a>(
     requires user { is_user upcall.watch.plan.now upcall.func ≡ true }
     requires same { world.program ≡ upcall.watch.program.now }
     ensures kept { IfOk result (λ r. r.world.program ≡ upcall.entry.watch.program.now) }
-    ensures gave { IfOk result (λ r. GaveFor r.gave r.world.world (up (driver_in upcall.entry.watch) (held (driver_in upcall.entry.watch)) upcall.entry.func (wires_of args.now) world.entry.world)) }
+    ensures gave { IfOk result (λ r. GaveFor r.gave r.world.world (up (driver_in upcall.entry.watch) (held (driver_in upcall.entry.watch)) may_not upcall.entry.func (wires_of args.now) 0 world.entry.world)) }
 {
     if world.is_in_user() {
         drop(world);

@@ -4,8 +4,8 @@ ghost use Rattle.std.specs.Prelude.{◌≡◌, IfOk};
 ghost use Rattle.mdr_core.specs.Sound.{IsSound};
 ghost use Rattle.mdr_plain.specs.Outcome.{outcome_of};
 ghost use Rattle.mdr_plain.specs.Scripts.{finish};
-ghost use Rattle.mdr_watched.specs.Watched.{watched};
 ghost use Rattle.mdr_whole.specs.Ending.{end_of};
+ghost use Rattle.mdr_watch.specs.Watching.{watched_apart};
 
 use crate::commands::{Did, do_commands};
 use crate::watch::{Watch, is_fit};
@@ -39,8 +39,9 @@ fn shown_of(alloc: Global, did: Did) -> Result<Outcome, OutOfMemory>
 }
 
 /// Runs a script for a driver on one memory, with so many ticks, while its user half is held to what the plan lets it touch,
-/// and gives what the run shows. A plan that hasn't a half for each function answers want of memory.
-#[tactic(auto, unfolding(mdr_watched::specs::Watched::watched_of))]
+/// and gives what the run shows. Code of the kernel half may call nothing back. A plan that hasn't a half for each function answers
+/// want of memory.
+#[tactic(auto, unfolding(mdr_watch::specs::Watching::watched_apart))]
 pub fn run_watched(
     alloc: Global,
     program: &Program,
@@ -49,7 +50,7 @@ pub fn run_watched(
     ticks: u64,
 ) -> Result<Outcome, OutOfMemory>
     requires { IsSound program.now }
-    ensures { IfOk result (λ o. o ≡ outcome_of program.now (watched program.now plan.now script.now ticks)) }
+    ensures { IfOk result (λ o. o ≡ outcome_of program.now (watched_apart program.now plan.now script.now ticks)) }
 {
     let watch = Watch { program, plan };
     if !is_fit(watch) {

@@ -25,7 +25,7 @@ use Rattle.mdr_model.specs.declared.memory.Cell.{Cell}
 use Rattle.mdr_model.specs.Memory.{cell_at, everywhere, normal, put, reached, stored, stored_into}
 use Rattle.mdr_plain.specs.declared.outcome.Happened.TheVariants as happened
 use Rattle.mdr_plain.specs.Gate.{due}
-use Rattle.mdr_plain.specs.Plain.{never}
+use Rattle.mdr_plain.specs.Atomic.{is_atomic}
 use Rattle.mdr_plain.specs.Locks.{acquire, acquired, changed, lock_in, release, released, taken_as, with_lock}
 use Rattle.mdr_plain.specs.Running.{Before, Crossing, Setting, all_cells, call, handled, interrupts, nothing, run}
 use Rattle.mdr_plain.specs.Scripts.{Finish, and_then, begin, begun, called_by, commands, idle, in_place, poked_value, put_if, returned}
@@ -34,7 +34,7 @@ use Rattle.mdr_plain.specs.Storage.{accesses, births, born, deaths, died, died_a
 use Rattle.mdr_plain.specs.World.{World, Kept, Ran, Ended, Stopped, Work, advanced, after, left, then, given, counted, noted}
 use Rattle.mdr_watched.specs.Driver.{Driver, entry_roots, is_user, result_roots, touched_by}
 use Rattle.mdr_watched.specs.Views.{closed, gained, may_touch, opened, renewed, taken, top}
-use Rattle.mdr_watched.specs.Watched.{closing, does, downcall, entered, held, in_user, kernel_of, serves, upcall}
+use Rattle.mdr_watched.specs.Watched.{calls_back, closing, does, does_with, downcall, entered, held, in_user, kernel_of, kernel_with, may_not, serves, upcall}
 
 -- a property of worlds that is kept where a cell is written, where what is kept changes, where the device is used, by a tick, by a birth and by a death
 pub record IsKept (P : World → Type 0) : Type 0 where
@@ -206,22 +206,28 @@ module _ (P : World → Type 0) (kept : IsKept P) where
     run_keeps (Tree.Cross at f args d k) w e = goes _ _ (crossed at f args d w e) (λ v w' e'. run_keeps (k v) w' e')
 
   module _ (d : Driver) where
-    call_keeps : (before : Before) → ((n : ℕ) (w : World) → P w → Keeps (before n w)) → (f : ℕ) (args : List Wire) (depth : ℕ) (w : World) → P w → Keeps (call (kernel_of d) before f args depth w)
+    -- calls of the user half keep it
+    abbrev pub CrossingKeeps : Crossing → Type 0
+    CrossingKeeps crosses = (at : At) (f : ℕ) (args : List Wire) (depth : ℕ) (w : World) → P w → Keeps (crosses at f args depth w)
+
+    pub may_not_keeps : CrossingKeeps may_not
+    may_not_keeps at f args depth w e = so e
+
+    call_keeps : (crosses : Crossing) → CrossingKeeps crosses → (before : Before) → ((n : ℕ) (w : World) → P w → Keeps (before n w)) → (f : ℕ) (args : List Wire) (depth : ℕ) (w : World) → P w → Keeps (call (kernel_with d crosses) before f args depth w)
     unfolding call
-    call_keeps before tries f args depth w e =
-        run_keeps d.program all_cells (served d.program) never before tries (λ q w' e'. served_keeps d.program q w' e') (λ at g vs n w' e'. so e') _ w e
+    call_keeps crosses crossed before tries f args depth w e = run_keeps d.program all_cells (served d.program) crosses before tries (λ q w' e'. served_keeps d.program q w' e') crossed _ w e
 
     handled_keeps : (n : ℕ) (handler : Option ℕ) (w : World) → P w → Keeps (handled (kernel_of d) n handler w)
     handled_keeps n None w e = so e
     handled_keeps n (Some f) w e =
-        goes _ _ (call_keeps nothing (λ n' w' e'. so e') f [] n _ (kept.keeping (noted (happened.Irq f) w) _ (kept.keeping w _ e))) (λ v w' e'. so (kept.keeping w' _ e'))
+        goes _ _ (call_keeps may_not may_not_keeps nothing (λ n' w' e'. so e') f [] n _ (kept.keeping (noted (happened.Irq f) w) _ (kept.keeping w _ e))) (λ v w' e'. so (kept.keeping w' _ e'))
 
     pub interrupts_keep : (n : ℕ) (w : World) → P w → Keeps (interrupts (kernel_of d) n w)
     unfolding interrupts
     interrupts_keep n w e = handled_keeps n (due w) w e
 
-    pub kernel_call_keeps : (f : ℕ) (args : List Wire) (depth : ℕ) (w : World) → P w → Keeps (call (kernel_of d) (interrupts (kernel_of d)) f args depth w)
-    kernel_call_keeps f args depth w e = call_keeps (interrupts (kernel_of d)) interrupts_keep f args depth w e
+    pub kernel_call_keeps : (crosses : Crossing) → CrossingKeeps crosses → (f : ℕ) (args : List Wire) (depth : ℕ) (w : World) → P w → Keeps (call (kernel_with d crosses) (interrupts (kernel_of d)) f args depth w)
+    kernel_call_keeps crosses crossed f args depth w e = call_keeps crosses crossed (interrupts (kernel_of d)) interrupts_keep f args depth w e
 
     idle_keeps : (n : ℕ) (w : World) → P w → Keeps (idle (interrupts (kernel_of d)) n w)
     unfolding idle
@@ -244,43 +250,55 @@ module _ (P : World → Type 0) (kept : IsKept P) where
     goes_taken (Err failing) at w go e each = so e
 
     module _ (inside : IsKeptInside P) where
-      pub downcall_keeps : (t : ℕ) (at : At) (f : ℕ) (args : List Wire) (depth : ℕ) (w : World) → P w → Keeps (downcall d (held d) t at f args depth w)
-      downcall_keeps t at f args depth w e =
-          goes _ _ (kernel_call_keeps f _ depth w e)
-          (λ v w' e'. goes_taken (visible d.program (touched_by d.plan t) w'.memory (top w'.views) (result_roots d.program f (map (normal w.memory) args) v)) at w' (λ set. Ended v (renewed set w')) e'
-          (λ set is. so (inside.renews d.program (touched_by d.plan t) (top w'.views) (result_roots d.program f (map (normal w.memory) args) v) set w' is e')))
-
       pub asks_keep : (t : ℕ) (q : Asked) (w : World) → P w → Keeps (serves d (held d) t q w)
       asks_keep t q w e = goes _ _ (served_keeps d.program q w e) (λ results w' e'. so (inside.grows d.program (touched_by d.plan t) (next_serial w) w' e'))
 
-      -- what an upcall does while it is open
-      pub open_keeps : (f : ℕ) (t : Tree) (w : World) → P w → Keeps (run (in_user d (held d) f) nothing t w)
-      open_keeps f t w e = run_keeps d.program may_touch (serves d (held d) f) (downcall d (held d) f) nothing (λ n w' e'. so e') (asks_keep f) (downcall_keeps f) t w e
+      module _ (crosses : Crossing) (crossed : CrossingKeeps crosses) where
+        pub downcall_keeps : (t : ℕ) (at : At) (f : ℕ) (args : List Wire) (depth : ℕ) (w : World) → P w → Keeps (downcall d (held d) t crosses at f args depth w)
+        downcall_keeps t at f args depth w e =
+            goes _ _ (kernel_call_keeps crosses crossed f _ depth w e)
+            (λ v w' e'. goes_taken (visible d.program (touched_by d.plan t) w'.memory (top w'.views) (result_roots d.program f (map (normal w.memory) args) v)) at w' (λ set. Ended v (renewed set w')) e'
+            (λ set is. so (inside.renews d.program (touched_by d.plan t) (top w'.views) (result_roots d.program f (map (normal w.memory) args) v) set w' is e')))
+
+        -- what an upcall does while it is open
+        pub open_keeps : (f : ℕ) (t : Tree) (w : World) → P w → Keeps (run (in_user d (held d) f crosses) nothing t w)
+        open_keeps f t w e = run_keeps d.program may_touch (serves d (held d) f) (downcall d (held d) f crosses) nothing (λ n w' e'. so e') (asks_keep f) (downcall_keeps f) t w e
 
       module _ (around : IsKeptAround P) where
         closing_keeps : (r : Ran Wire) → Keeps r → Keeps (closing r)
         closing_keeps (Ended v w) h = so (around.closes w h.at_end)
         closing_keeps (Stopped kind at w) h = so h.at_end
 
-        pub upcall_keeps : (f : ℕ) (args : List Wire) (w : World) → P w → Keeps (upcall d (held d) f args w)
+        pub upcall_keeps : (crosses : Crossing) → CrossingKeeps crosses → (f : ℕ) (args : List Wire) (depth : ℕ) (w : World) → P w → Keeps (upcall d (held d) crosses f args depth w)
         unfolding upcall
-        upcall_keeps f args w e =
-            goes_taken (visible d.program (touched_by d.plan f) w.memory [] (entry_roots d.program f args)) (record { func = f; stmt = 0 }) w (λ set. entered d (held d) f args set w) e
-            (λ set is. closing_keeps _ (open_keeps f _ _ (around.opens d.program (touched_by d.plan f) [] (entry_roots d.program f args) set w is e)))
+        upcall_keeps crosses crossed f args depth w e =
+            goes_taken (visible d.program (touched_by d.plan f) w.memory [] (entry_roots d.program f args)) (record { func = f; stmt = 0 }) w (λ set. entered d (held d) crosses f args depth set w) e
+            (λ set is. closing_keeps _ (open_keeps crosses crossed f _ _ (around.opens d.program (touched_by d.plan f) [] (entry_roots d.program f args) set w is e)))
+
+        -- ---- calls back
+
+        pub backs_keep : (room : ℕ) → CrossingKeeps (calls_back d (held d) room)
+        unfolding calls_back
+        backs_keep zero at f args depth w e = so e
+        backs_keep (suc room) at f args depth w e =
+            either (is_atomic w) (Stopped stop.Atomic (Some at) w) (upcall d (held d) (calls_back d (held d) room) f (map (normal w.memory) args) depth w) (so e)
+            (upcall_keeps (calls_back d (held d) room) (backs_keep room) f (map (normal w.memory) args) depth w e)
 
         -- ---- commands
 
-        called_keeps : (is_user : Bool) (f : ℕ) (args : List Wire) (w : World) → P w → Keeps (in_place (kernel_of d) (upcall d (held d)) (called_by is_user (kernel_of d) f args w))
-        called_keeps true f args w e = returned_keeps _ (upcall_keeps f args w e)
-        called_keeps false f args w e = returned_keeps _ (kernel_call_keeps f args 0 w e)
+        module _ (crosses : Crossing) (crossed : CrossingKeeps crosses) where
+          called_keeps : (is_user : Bool) (f : ℕ) (args : List Wire) (w : World) → P w
+              → Keeps (in_place (kernel_of d) (λ g vs w'. call (kernel_with d crosses) (interrupts (kernel_of d)) g vs 0 w') (λ g vs w'. upcall d (held d) crosses g vs 0 w') (called_by is_user (kernel_of d) f args w))
+          called_keeps true f args w e = returned_keeps _ (upcall_keeps crosses crossed f args 0 w e)
+          called_keeps false f args w e = returned_keeps _ (kernel_call_keeps crosses crossed f args 0 w e)
 
-        does_keeps : (c : Command) (w : World) → P w → Keeps (does d (held d) c w)
-        unfolding begin
-        does_keeps (command.Call f args) w e = called_keeps (is_user d.plan f) f _ _ (begun_keeps f args w e)
-        does_keeps (command.Idle n) w e = idle_keeps_all n w e
-        does_keeps (command.Show g) w e = so (kept.keeping w _ e)
-        does_keeps (command.Poke serial index n) w e = so (put_if_keeps (poked_value (cell_at w.memory (record { serial = serial; index = index })) n) (record { serial = serial; index = index }) w e)
-        does_keeps (command.Say text) w e = so (kept.keeping w _ e)
+          does_keeps : (c : Command) (w : World) → P w → Keeps (does_with d (held d) crosses c w)
+          unfolding begin
+          does_keeps (command.Call f args) w e = called_keeps (is_user d.plan f) f _ _ (begun_keeps f args w e)
+          does_keeps (command.Idle n) w e = idle_keeps_all n w e
+          does_keeps (command.Show g) w e = so (kept.keeping w _ e)
+          does_keeps (command.Poke serial index n) w e = so (put_if_keeps (poked_value (cell_at w.memory (record { serial = serial; index = index })) n) (record { serial = serial; index = index }) w e)
+          does_keeps (command.Say text) w e = so (kept.keeping w _ e)
 
         and_then_keeps : (r : Work) (go : World → Finish) → Keeps r → ((w : World) → P w → P (go w).world) → P (and_then r go).world
         and_then_keeps (Ended x w) go a each = each w a.at_end
@@ -289,4 +307,4 @@ module _ (P : World → Type 0) (kept : IsKept P) where
         pub commands_keep : (cs : List Command) (w : World) → P w → P (commands (does d (held d)) cs w).world
         unfolding commands
         commands_keep [] w e = e
-        commands_keep (c ∷ cs) w e = and_then_keeps (does d (held d) c w) _ (does_keeps c w e) (λ w' e'. commands_keep cs w' e')
+        commands_keep (c ∷ cs) w e = and_then_keeps (does d (held d) c w) _ (does_keeps (calls_back d (held d) 256) (backs_keep 256) c w e) (λ w' e'. commands_keep cs w' e')

@@ -1,5 +1,5 @@
 -- Where nothing meets user code, holding interrupts back changes nothing.
-use Rattle.std.proofs.Common.{◌≡◌, ℕ, zero, suc, Bool, true, false, List, [], ◌∷◌, Option, Some, None, Result, Ok, Err, refl, sym, ◌∙◌, ap, subst}
+use Rattle.std.proofs.Common.{◌≡◌, ℕ, zero, suc, Bool, true, false, List, [], ◌∷◌, Option, Some, None, Result, Ok, Err, refl, sym, ◌∙◌, ap, map, subst}
 use Rattle.mdr_core.specs.declared.place.At.{At}
 use Rattle.mdr_core.specs.declared.stop.StopKind.{StopKind}
 use Rattle.mdr_core.specs.Layout.{chosen}
@@ -10,10 +10,11 @@ use Rattle.mdr_meaning.specs.Walk.{Accesses}
 use Rattle.mdr_model.specs.declared.command.Command.{Command}
 use Rattle.mdr_model.specs.declared.memory.Cell.{Cell}
 use Rattle.mdr_model.specs.declared.outcome.End.TheVariants as ends
+use Rattle.mdr_model.specs.Memory.{normal}
+use Rattle.mdr_plain.specs.Atomic.{is_atomic}
 use Rattle.mdr_plain.specs.Gate.{are_none}
-use Rattle.mdr_plain.specs.Plain.{never}
 use Rattle.mdr_plain.specs.Running.{Before, Crossing, KernelCode, Setting, call, handled, interrupts, nothing, run}
-use Rattle.mdr_plain.specs.Scripts.{Beginning, Did, Opens, Finish, and_then, begin, commands, in_place}
+use Rattle.mdr_plain.specs.Scripts.{Beginning, Did, Enters, Opens, Finish, and_then, begin, commands, in_place}
 use Rattle.mdr_plain.specs.Services.{served}
 use Rattle.mdr_plain.specs.Storage.{accesses}
 use Rattle.mdr_plain.specs.World.{World, Ran, Ended, Stopped, Work, after, counted, done, given, then}
@@ -21,7 +22,7 @@ use Rattle.mdr_watched.specs.Driver.{Driver, is_user}
 use Rattle.mdr_watched.specs.Kept.{due_plainly, followed_of, free, meets_none, meets_user, unless_due}
 use Rattle.mdr_watched.specs.Laws.{KeptRunsAgree}
 use Rattle.mdr_watched.specs.Views.{may_touch, taken}
-use Rattle.mdr_watched.specs.Watched.{closing, does, downcall, entered, held, kernel_of, serves, upcall, watched_of}
+use Rattle.mdr_watched.specs.Watched.{backs, calls_back, closing, does, downcall, entered, held, kernel_of, kernel_with, serves, upcall, watched_of}
 use Rattle.mdr_watched.proofs.WaitLaws.{none_due}
 
 -- ---- work that ends alike
@@ -103,35 +104,52 @@ tries_lead kernel d w = of (are_none w.views) refl
 -- ---- upcalls and commands
 
 module _ (d : Driver) where
-  pub calls_lead : (f : ℕ) (args : List Wire) (depth : ℕ) (w : World) → Leads (call (kernel_of d) (meets_none (kernel_of d)) f args depth w) (call (kernel_of d) (interrupts (kernel_of d)) f args depth w)
-  unfolding call
-  calls_lead f args depth w =
-      runs_lead (accesses d.program (λ w' c. true)) (served d.program) (served d.program) never never (meets_none (kernel_of d)) (interrupts (kernel_of d))
-      (tries_lead (kernel_of d)) (λ q w'. same _) (λ at g vs n w'. same _) _ w
+  -- where calls of the user half lead alike
+  abbrev pub CrossesLead : Crossing → Crossing → Type 0
+  CrossesLead crosses crosses' = (at : At) (f : ℕ) (args : List Wire) (depth : ℕ) (w : World) → Leads (crosses at f args depth w) (crosses' at f args depth w)
 
-  pub downcalls_lead : (t : ℕ) (at : At) (f : ℕ) (args : List Wire) (depth : ℕ) (w : World) → Leads (downcall d (free d) t at f args depth w) (downcall d (held d) t at f args depth w)
-  downcalls_lead t at f args depth w = leads_after _ _ _ _ (calls_lead f _ depth w) (λ v w'. same _)
+  pub calls_lead : (crosses crosses' : Crossing) → CrossesLead crosses crosses' → (f : ℕ) (args : List Wire) (depth : ℕ) (w : World)
+      → Leads (call (kernel_with d crosses) (meets_none (kernel_of d)) f args depth w) (call (kernel_with d crosses') (interrupts (kernel_of d)) f args depth w)
+  unfolding call
+  calls_lead crosses crosses' crossed f args depth w =
+      runs_lead (accesses d.program (λ w' c. true)) (served d.program) (served d.program) crosses crosses' (meets_none (kernel_of d)) (interrupts (kernel_of d))
+      (tries_lead (kernel_of d)) (λ q w'. same _) crossed _ w
+
+  pub downcalls_lead : (crosses crosses' : Crossing) → CrossesLead crosses crosses' → (t : ℕ) → CrossesLead (downcall d (free d) t crosses) (downcall d (held d) t crosses')
+  downcalls_lead crosses crosses' crossed t at f args depth w = leads_after _ _ _ _ (calls_lead crosses crosses' crossed f _ depth w) (λ v w'. same _)
 
   leads_closing : (r s : Ran Wire) → Leads r s → Leads (closing r) (closing s)
   leads_closing (Ended v w) s h = subst (λ q. Leads (closing (Ended v w)) (closing q)) (sym (h.by v w refl)) (same _)
   leads_closing (Stopped kind at w) s h = never_ends kind at w (closing s)
 
-  entered_leads : (f : ℕ) (args : List Wire) (set : List Cell) (w : World) → Leads (entered d (free d) f args set w) (entered d (held d) f args set w)
-  entered_leads f args set w = leads_closing _ _
-      (runs_lead (accesses d.program may_touch) (serves d (free d) f) (serves d (held d) f) (downcall d (free d) f) (downcall d (held d) f) meets_user nothing
-      (λ n w'. unless_leads (due_plainly w') w') (λ q w'. same _) (downcalls_lead f) _ _)
+  entered_leads : (crosses crosses' : Crossing) → CrossesLead crosses crosses' → (f : ℕ) (args : List Wire) (depth : ℕ) (set : List Cell) (w : World) → Leads (entered d (free d) crosses f args depth set w) (entered d (held d) crosses' f args depth set w)
+  entered_leads crosses crosses' crossed f args depth set w = leads_closing _ _
+      (runs_lead (accesses d.program may_touch) (serves d (free d) f) (serves d (held d) f) (downcall d (free d) f crosses) (downcall d (held d) f crosses') meets_user nothing
+      (λ n w'. unless_leads (due_plainly w') w') (λ q w'. same _) (downcalls_lead crosses crosses' crossed f) _ _)
 
   leads_taken : {A : Type 0} (r : Result (List Cell) Failing) (at : At) (w : World) (go go' : List Cell → Ran A) → ((set : List Cell) → Leads (go set) (go' set)) → Leads (taken r at w go) (taken r at w go')
   leads_taken (Ok set) at w go go' each = each set
   leads_taken (Err failing) at w go go' each = same _
 
-  pub upcalls_lead : (f : ℕ) (args : List Wire) (w : World) → Leads (upcall d (free d) f args w) (upcall d (held d) f args w)
+  pub upcalls_lead : (crosses crosses' : Crossing) → CrossesLead crosses crosses' → (f : ℕ) (args : List Wire) (depth : ℕ) (w : World) → Leads (upcall d (free d) crosses f args depth w) (upcall d (held d) crosses' f args depth w)
   unfolding upcall
-  upcalls_lead f args w = leads_taken _ _ w _ _ (λ set. entered_leads f args set w)
+  upcalls_lead crosses crosses' crossed f args depth w = leads_taken _ _ w _ _ (λ set. entered_leads crosses crosses' crossed f args depth set w)
 
-  in_place_leads : (b : Beginning) → Leads (in_place (kernel_of d) (upcall d (free d)) b) (in_place (kernel_of d) (upcall d (held d)) b)
-  in_place_leads (Did work) = same work
-  in_place_leads (Opens f args w) = leads_after _ _ _ _ (upcalls_lead f args w) (λ v w'. same _)
+  leads_chosen : {A : Type 0} (b : Bool) (x y y' : Ran A) → Leads y y' → Leads (chosen b x y) (chosen b x y')
+  leads_chosen true x y y' h = same x
+  leads_chosen false x y y' h = h
+
+  pub backs_lead : (room : ℕ) → CrossesLead (calls_back d (free d) room) (calls_back d (held d) room)
+  unfolding calls_back
+  backs_lead zero at f args depth w = same _
+  backs_lead (suc room) at f args depth w = leads_chosen (is_atomic w) _ _ _ (upcalls_lead (calls_back d (free d) room) (calls_back d (held d) room) (backs_lead room) f (map (normal w.memory) args) depth w)
+
+  begun_lead : (b : Beginning)
+      → Leads (in_place (kernel_of d) (λ f args w. call (kernel_with d (backs d (free d))) (meets_none (kernel_of d)) f args 0 w) (λ f args w. upcall d (free d) (backs d (free d)) f args 0 w) b)
+      (in_place (kernel_of d) (λ f args w. call (kernel_with d (backs d (held d))) (interrupts (kernel_of d)) f args 0 w) (λ f args w. upcall d (held d) (backs d (held d)) f args 0 w) b)
+  begun_lead (Did work) = same work
+  begun_lead (Enters f args w) = leads_after _ _ _ _ (calls_lead (backs d (free d)) (backs d (held d)) (backs_lead 256) f args 0 w) (λ v w'. same _)
+  begun_lead (Opens f args w) = leads_after _ _ _ _ (upcalls_lead (backs d (free d)) (backs d (held d)) (backs_lead 256) f args 0 w) (λ v w'. same _)
 
   not_ok : {X : Type 0} (kind : StopKind) (at : Option At) → ends.Stop kind at ≡ ends.Ok → X
   not_ok kind at e = absurd cc
@@ -143,7 +161,7 @@ module _ (d : Driver) where
   commands_agree : (cs : List Command) (w : World) → (commands (does d (free d)) cs w).end ≡ ends.Ok → commands (does d (held d)) cs w ≡ commands (does d (free d)) cs w
   unfolding commands
   commands_agree [] w e = refl
-  commands_agree (c ∷ cs) w e = and_thens_agree _ _ _ _ (in_place_leads (begin (kernel_of d) (is_user d.plan) c w)) (λ w' e'. commands_agree cs w' e') e
+  commands_agree (c ∷ cs) w e = and_thens_agree _ _ _ _ (begun_lead (begin (kernel_of d) (is_user d.plan) c w)) (λ w' e'. commands_agree cs w' e') e
 
 pub kept_runs_agree : KeptRunsAgree
 unfolding watched_of followed_of

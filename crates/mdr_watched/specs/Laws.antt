@@ -19,7 +19,7 @@ use Rattle.mdr_bound.specs.declared.bound.Bound.{Bound}
 use Rattle.mdr_watched.specs.Driver.{Driver, is_user, touched_by}
 use Rattle.mdr_watched.specs.Kept.{KeptOf, followed_of}
 use Rattle.mdr_watched.specs.Views.{may_touch}
-use Rattle.mdr_watched.specs.Watched.{held, upcall, watched_of}
+use Rattle.mdr_watched.specs.Watched.{calls_back, held, upcall, watched_of}
 
 -- while an upcall is open no interrupt is due
 abbrev pub InterruptsWait : Type 0
@@ -45,7 +45,7 @@ AccessesAreHeld = (w : World) (p : WireView) → (reached (may_touch w) w.memory
 
 -- an upcall that ended leaves as many sets as there were before it: its own is gone
 abbrev pub UpcallsClose : Type 0
-UpcallsClose = (d : Driver) (f : ℕ) (args : List Wire) (w : World) (v : Wire) (w' : World) → upcall d (held d) f args w ≡ Ended v w' → length w'.views ≡ length w.views
+UpcallsClose = (d : Driver) (room f : ℕ) (args : List Wire) (depth : ℕ) (w : World) (v : Wire) (w' : World) → upcall d (held d) (calls_back d (held d) room) f args depth w ≡ Ended v w' → length w'.views ≡ length w.views
 
 -- so there is none behind a run that meets no stop, and interrupts are tried as in a plain run behind each upcall
 abbrev pub NoSetIsLeft : Type 0

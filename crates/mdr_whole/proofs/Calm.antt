@@ -1,5 +1,5 @@
 -- Many ticks at once, where nothing is done before them: code runs through, and then the ticks are counted.
-use Rattle.std.proofs.Common.{◌≡◌, ℕ, zero, suc, ◌+◌, ◌-◌, ◌≤◌, List, [], ◌∷◌, Some, Result, Ok, Err, refl, sym, ◌∙◌, ap, arith, subst}
+use Rattle.std.proofs.Common.{◌≡◌, ℕ, zero, suc, ◌+◌, ◌-◌, ◌≤◌, Bool, List, [], ◌∷◌, Some, Result, Ok, Err, refl, sym, ◌∙◌, ap, arith, subst}
 use Rattle.mdr_core.specs.declared.place.At.{At}
 use Rattle.mdr_core.specs.declared.program.Program.{Program}
 use Rattle.mdr_core.specs.declared.stop.StopKind.{StopKind}
@@ -20,12 +20,11 @@ use Rattle.mdr_meaning.specs.Walk.{Accesses, Born, Reached, Walked, on_access, w
 use Rattle.mdr_model.specs.declared.message.BirthKind.TheVariants.{Auto}
 use Rattle.mdr_model.specs.Memory.{Memory, stored}
 use Rattle.mdr_plain.specs.Laws.{GivesNoTicks, follows}
-use Rattle.mdr_plain.specs.Plain.{never}
-use Rattle.mdr_plain.specs.Running.{Before, all_cells, in_kernel, run}
+use Rattle.mdr_plain.specs.Running.{Before, all_cells, run}
 use Rattle.mdr_plain.specs.Storage.{accesses, births, born, deaths, died, died_at, new_of, pointer_to, remembers, with_memory, with_pointer}
 use Rattle.mdr_plain.specs.World.{World, Clock, Kept, Ran, advanced, counted, given, left, then, ticked}
 use Rattle.mdr_runs.specs.Around.{Wants, answered_in, came_to, follows_in}
-use Rattle.mdr_runs.specs.Following.{Stands}
+use Rattle.mdr_runs.specs.Following.{Stands, setting_by}
 use Rattle.mdr_runs.specs.Seen.{IsSeen}
 use Rattle.mdr_runs.proofs.Around.{at_most, child_runs, kernel_keeps_ticks, same_after, tree_runs}
 use Rattle.mdr_runs.proofs.Walked.{left_few}
@@ -148,18 +147,18 @@ module _ (program : Program) where
 
 -- ---- what a tree does is its walk with so many ticks, and the ticks that it took
 
-module _ (program : Program) (before : Before) (kept : Kept) where
+module _ (program : Program) (half : Bool) (before : Before) (kept : Kept) where
   calm_next : (c : Clock) → IsCalm before kept c → IsCalm before kept (advanced 1 c)
   calm_next c calm = λ j d w same is. calm (suc j) d w same (is ∙ one_more j c)
 
   abbrev follows_at : ℕ → Clock → Walked World → Ran Wire
-  follows_at n c x = follows (in_kernel program never) before x.reached (at_clock (advanced (n - x.left) c) x.memory)
+  follows_at n c x = follows (setting_by program half) before x.reached (at_clock (advanced (n - x.left) c) x.memory)
 
   abbrev runs_at : Tree → Clock → World → Ran Wire
-  runs_at t c w = run (in_kernel program never) before t (at_clock c w)
+  runs_at t c w = run (setting_by program half) before t (at_clock c w)
 
-  leaf : (r : Reached) (n : ℕ) (c : Clock) (w : World) → follows (in_kernel program never) before r (at_clock c w) ≡ follows_at n c (walked r w n)
-  leaf r n c w = ap (λ x. follows (in_kernel program never) before r (at_clock x w)) (none_spent n c)
+  leaf : (r : Reached) (n : ℕ) (c : Clock) (w : World) → follows (setting_by program half) before r (at_clock c w) ≡ follows_at n c (walked r w n)
+  leaf r n c w = ap (λ x. follows (setting_by program half) before r (at_clock x w)) (none_spent n c)
 
   accessed : {A : Type 0} (x : Result A StopKind) (place : At) (n : ℕ) (c : Clock) (w : World) (go : A → Ran Wire) (walks : A → Walked World)
       → ((y : A) → go y ≡ follows_at n c (walks y)) → given x place (at_clock c w) go ≡ follows_at n c (on_access x place w n walks)
@@ -168,27 +167,27 @@ module _ (program : Program) (before : Before) (kept : Kept) where
 
   stored_at : (x : Result Memory StopKind) (place : At) (n : ℕ) (c : Clock) (w : World) (t : Tree)
       → ((m : Memory) → runs_at t c (with_memory w m) ≡ follows_at n c (walk (accesses program all_cells) n t (with_memory w m)))
-      → given (remembers (at_clock c w) x) place (at_clock c w) (λ w'. run (in_kernel program never) before t w')
+      → given (remembers (at_clock c w) x) place (at_clock c w) (λ w'. run (setting_by program half) before t w')
       ≡ follows_at n c (on_access (remembers w x) place w n (λ w'. walk (accesses program all_cells) n t w'))
   stored_at (Ok m) place n c w t each = each m
   stored_at (Err kind) place n c w t each = leaf (Reached.Stopped kind place) n c w
 
   one_counted : (rest : ℕ) (place : At) (n : ℕ) (c : Clock) (w : World) (t : Tree) → c.rest ≡ rest → suc n ≤ rest
-      → counted rest (Some place) (at_clock c w) (λ w'. run (in_kernel program never) before t w') ≡ runs_at t (advanced 1 c) w
+      → counted rest (Some place) (at_clock c w) (λ w'. run (setting_by program half) before t w') ≡ runs_at t (advanced 1 c) w
   one_counted zero place n c w t is enough = absurd (omega (arith, enough))
   one_counted (suc m) place n c w t is enough = refl
 
   tick_taken : (place : At) (d n : ℕ) (c : Clock) (w : World) (t : Tree) → w.kept ≡ kept → IsCalm before kept c → suc n ≤ c.rest
-      → then (before d (at_clock c w)) (λ w'. ticked (Some place) w' (λ w''. run (in_kernel program never) before t w'')) ≡ runs_at t (advanced 1 c) w
+      → then (before d (at_clock c w)) (λ w'. ticked (Some place) w' (λ w''. run (setting_by program half) before t w'')) ≡ runs_at t (advanced 1 c) w
   tick_taken place d n c w t same calm enough =
-      ap (λ x. then x (λ w'. ticked (Some place) w' (λ w''. run (in_kernel program never) before t w''))) (calm 0 d (at_clock c w) same (sym (advanced_none c)))
+      ap (λ x. then x (λ w'. ticked (Some place) w' (λ w''. run (setting_by program half) before t w''))) (calm 0 d (at_clock c w) same (sym (advanced_none c)))
       ∙ one_counted c.rest place n c w t refl enough
 
   one_spent : (n : ℕ) (c : Clock) (x : Walked World) → x.left ≤ n → follows_at n (advanced 1 c) x ≡ follows_at (suc n) c x
   one_spent n c x few =
       let l : x.left ≤ n = few in
       let more : suc (n - x.left) ≡ suc n - x.left = omega (arith, l) in
-      ap (λ y. follows (in_kernel program never) before x.reached (at_clock y x.memory)) (one_more (n - x.left) c ∙ ap (λ k. advanced k c) more)
+      ap (λ y. follows (setting_by program half) before x.reached (at_clock y x.memory)) (one_more (n - x.left) c ∙ ap (λ k. advanced k c) more)
 
   pub calm_runs : (n : ℕ) (t : Tree) (w : World) (c : Clock) → w.kept ≡ kept → IsCalm before kept c → n ≤ c.rest
       → runs_at t c w ≡ follows_at n c (walk (accesses program all_cells) n t w)
@@ -207,17 +206,17 @@ module _ (program : Program) (before : Before) (kept : Kept) where
   calm_runs n (Tree.Read place p count k) w c same calm enough = accessed ((accesses program all_cells).read w p count) place n c w _ _ (λ bs. calm_runs n (k bs) w c same calm enough)
   calm_runs n (Tree.Fresh place v k) w c same calm enough = accessed ((accesses program all_cells).fresh w v) place n c w _ _ (λ x. calm_runs n (k x) w c same calm enough)
   calm_runs n (Tree.Birth place shapes k) w c same calm enough =
-      ap (λ (b : Born World). run (in_kernel program never) before (k b.pointers) b.memory) (births_at program c shapes w)
+      ap (λ (b : Born World). run (setting_by program half) before (k b.pointers) b.memory) (births_at program c shapes w)
       ∙ calm_runs n (k (births program Auto shapes w).pointers) (births program Auto shapes w).memory c (births_kept program shapes w ∙ same) calm enough
   calm_runs n (Tree.Death place ps t) w c same calm enough =
-      ap (λ w'. run (in_kernel program never) before t w') (deaths_at c ps w)
+      ap (λ w'. run (setting_by program half) before t w') (deaths_at c ps w)
       ∙ calm_runs n t (deaths ps w) c (deaths_kept ps w ∙ same) calm enough
   calm_runs n (Tree.Ask asked k) w c same calm enough = leaf (Reached.Asks asked k) n c w
   calm_runs n (Tree.Cross place func args depth k) w c same calm enough = leaf (Reached.Crosses place func args depth k) n c w
 
 -- ---- a machine runs through so many ticks
 
-module _ {M : Type 0} (a : Accesses M) (world_in : M → World) (program_in : M → Program) (seen : IsSeen a world_in program_in) (side : Side) (before : Before) (gives : GivesNoTicks before) where
+module _ {M : Type 0} (a : Accesses M) (world_in : M → World) (program_in : M → Program) (seen : IsSeen a world_in program_in) (half : Bool) (side : Side) (before : Before) (gives : GivesNoTicks before) where
   -- where nothing is left when a tick is wanted
   abbrev Spent : Event → (left : ℕ) → Type 0
   Spent (event.TicksOut place) left = left ≡ 0
@@ -267,42 +266,42 @@ module _ {M : Type 0} (a : Accesses M) (world_in : M → World) (program_in : M 
     p = program_in m
 
     abbrev reached_then : ℕ → Clock → Walked M → Ran Wire
-    reached_then n c x = follows (in_kernel p never) before x.reached (at_clock (advanced (n - x.left) c) (world_in x.memory))
+    reached_then n c x = follows (setting_by p half) before x.reached (at_clock (advanced (n - x.left) c) (world_in x.memory))
 
-    tick_follows : (place : At) (d : ℕ) (t : Tree) (w : World) → follows (in_kernel p never) before (Reached.Needs place d t) w ≡ run (in_kernel p never) before (Tree.Tick place d t) w
+    tick_follows : (place : At) (d : ℕ) (t : Tree) (w : World) → follows (setting_by p half) before (Reached.Needs place d t) w ≡ run (setting_by p half) before (Tree.Tick place d t) w
     unfolding run
     tick_follows place d t w = refl
 
     event_follows : (n f r rest : ℕ) (h' : Held) (m' : M) (e : Event) (t : Tree) (c : Clock) → Wants side h' e → Spent e rest → Comes n f t m e h' m' rest r → r ≤ f → c.rest - (n - rest) ≤ r
-        → reached_then n c (walk a n t m) ≡ follows_in (in_kernel p never) side before f h' e (at_clock (advanced (n - rest) c) (world_in m'))
+        → reached_then n c (walk a n t m) ≡ follows_in (setting_by p half) side before f h' e (at_clock (advanced (n - rest) c) (world_in m'))
     unfolding walk
     event_follows n f r rest h' m' (event.Done v) t c w spent is less few = ap (reached_then n c) is
     event_follows n f r rest h' m' (event.Stop kind place) t c w spent is less few = ap (reached_then n c) is
     event_follows n f r rest h' m' (event.Service q) t c w spent is less few =
         ap (reached_then n c) is
-        ∙ same_after r ((in_kernel p never).serves (asked_as q) (at_clock (advanced (n - rest) c) (world_in m'))) _ (answered_in (in_kernel p never) side before f h')
-        (at_most (left ((in_kernel p never).serves (asked_as q) (at_clock (advanced (n - rest) c) (world_in m')))).clock.rest (c.rest - (n - rest)) r ((kernel_keeps_ticks p).serves (asked_as q) (at_clock (advanced (n - rest) c) (world_in m'))) few)
-        (λ results w' least. child_runs (in_kernel p never) before (kernel_keeps_ticks p) gives side f r h' results w' less least)
+        ∙ same_after r ((setting_by p half).serves (asked_as q) (at_clock (advanced (n - rest) c) (world_in m'))) _ (answered_in (setting_by p half) side before f h')
+        (at_most (left ((setting_by p half).serves (asked_as q) (at_clock (advanced (n - rest) c) (world_in m')))).clock.rest (c.rest - (n - rest)) r ((kernel_keeps_ticks p half).serves (asked_as q) (at_clock (advanced (n - rest) c) (world_in m'))) few)
+        (λ results w' least. child_runs (setting_by p half) before (kernel_keeps_ticks p half) gives side f r h' results w' less least)
     event_follows n f r rest h' m' (event.Cross x) t c w spent is less few =
         ap (reached_then n c) is
-        ∙ same_after r ((in_kernel p never).crosses x.at x.func (wires_of x.args) x.depth (at_clock (advanced (n - rest) c) (world_in m'))) _ (λ v w'. answered_in (in_kernel p never) side before f h' (v ∷ []) w')
-        (at_most (left ((in_kernel p never).crosses x.at x.func (wires_of x.args) x.depth (at_clock (advanced (n - rest) c) (world_in m')))).clock.rest (c.rest - (n - rest)) r
-        ((kernel_keeps_ticks p).crosses x.at x.func (wires_of x.args) x.depth (at_clock (advanced (n - rest) c) (world_in m'))) few)
-        (λ v w' least. child_runs (in_kernel p never) before (kernel_keeps_ticks p) gives side f r h' (v ∷ []) w' less least)
+        ∙ same_after r ((setting_by p half).crosses x.at x.func (wires_of x.args) x.depth (at_clock (advanced (n - rest) c) (world_in m'))) _ (λ v w'. answered_in (setting_by p half) side before f h' (v ∷ []) w')
+        (at_most (left ((setting_by p half).crosses x.at x.func (wires_of x.args) x.depth (at_clock (advanced (n - rest) c) (world_in m')))).clock.rest (c.rest - (n - rest)) r
+        ((kernel_keeps_ticks p half).crosses x.at x.func (wires_of x.args) x.depth (at_clock (advanced (n - rest) c) (world_in m'))) few)
+        (λ v w' least. child_runs (setting_by p half) before (kernel_keeps_ticks p half) gives side f r h' (v ∷ []) w' less least)
     event_follows n f r rest h' m' (event.TicksOut place) t c w spent is less few =
         ap (reached_then n c) (is ∙ ap (λ k. walk a k (tree side f h' r) m') spent ∙ ap (λ u. walk a 0 u m') (w.by f r).1)
-        ∙ ap (λ k. follows (in_kernel p never) before (Reached.Needs place h'.frame.here.depth (w.by f r).0) (at_clock (advanced (n - k) c) (world_in m'))) (sym spent)
+        ∙ ap (λ k. follows (setting_by p half) before (Reached.Needs place h'.frame.here.depth (w.by f r).0) (at_clock (advanced (n - k) c) (world_in m'))) (sym spent)
         ∙ tick_follows place h'.frame.here.depth (w.by f r).0 (at_clock (advanced (n - rest) c) (world_in m'))
-        ∙ sym (ap (λ u. run (in_kernel p never) before u (at_clock (advanced (n - rest) c) (world_in m'))) (w.by f r).1)
-        ∙ tree_runs (in_kernel p never) before (kernel_keeps_ticks p) gives side f r h' (at_clock (advanced (n - rest) c) (world_in m')) less few
+        ∙ sym (ap (λ u. run (setting_by p half) before u (at_clock (advanced (n - rest) c) (world_in m'))) (w.by f r).1)
+        ∙ tree_runs (setting_by p half) before (kernel_keeps_ticks p half) gives side f r h' (at_clock (advanced (n - rest) c) (world_in m')) less few
 
     -- what was run through, and then the clock
     pub record Through (fuel : ℕ) (all : Ran Wire) (h' : Held) (m' : M) (e : Event) (n rest : ℕ) : Type 0 where
-      pub stands : Stands p side before fuel all h' e (at_clock (advanced (n - rest) (world_in m').clock) (world_in m'))
+      pub stands : Stands p half side before fuel all h' e (at_clock (advanced (n - rest) (world_in m').clock) (world_in m'))
       pub same : program_in m' ≡ p
 
     pub runs_through : (h h' : Held) (m' : M) (e : Event) (place : At) (n rest fuel : ℕ) (all : Ran Wire) → IsCalm before (world_in m).kept (world_in m).clock → n ≤ (world_in m).clock.rest
-        → Stands p side before fuel all h (event.TicksOut place) (world_in m) → RanTo a side h m n e h' m' rest → Through fuel all h' m' e n rest
+        → Stands p half side before fuel all h (event.TicksOut place) (world_in m) → RanTo a side h m n e h' m' rest → Through fuel all h' m' e n rest
     runs_through h h' m' e place n rest fuel all calm enough s ran =
         let clock : Clock = (world_in m).clock in
         let most : clock.rest ≤ fuel = s.enough in
@@ -318,13 +317,13 @@ module _ {M : Type 0} (a : Accesses M) (world_in : M → World) (program_in : M 
         seen.walks n (tree side fuel h fuel) m in
         let stays : (world_in m').clock ≡ clock =
         sym (ap (λ x. (world_in x).clock) memory) ∙ sym (ap (λ (x : Walked World). x.memory.clock) walks) ∙ walk_clock p n (tree side fuel h fuel) (world_in m) in
-        let does : follows_in (in_kernel p never) side before fuel h' e (at_clock (advanced (n - rest) clock) (world_in m')) ≡ all =
+        let does : follows_in (setting_by p half) side before fuel h' e (at_clock (advanced (n - rest) clock) (world_in m')) ≡ all =
         sym (event_follows n fuel (rest + (fuel - n)) rest h' m' e (tree side fuel h fuel) clock came_so.wants came_so.spent is less few)
-        ∙ sym (ap (follows_at p before (world_in m).kept n clock) walks)
-        ∙ sym (calm_runs p before (world_in m).kept n (tree side fuel h fuel) (world_in m) clock refl calm many)
+        ∙ sym (ap (follows_at p half before (world_in m).kept n clock) walks)
+        ∙ sym (calm_runs p half before (world_in m).kept n (tree side fuel h fuel) (world_in m) clock refl calm many)
         ∙ s.is in
         let left_over : clock.rest - (n - rest) ≤ fuel = omega (arith, most) in
         record {
-          stands = subst (λ x. Stands p side before fuel all h' e (at_clock (advanced (n - rest) x) (world_in m'))) (sym stays) (record { is = does; enough = left_over; wants = came_so.wants });
+          stands = subst (λ x. Stands p half side before fuel all h' e (at_clock (advanced (n - rest) x) (world_in m'))) (sym stays) (record { is = does; enough = left_over; wants = came_so.wants });
           same = ap program_in (sym memory) ∙ seen.stays n (tree side fuel h fuel) m;
         }

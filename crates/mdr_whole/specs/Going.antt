@@ -1,6 +1,6 @@
 -- protocol
 -- A machine that runs a driver's code up to its next event.
-use Rattle.std.specs.Prelude.{◌≡◌, ◌+◌, ◌-◌, ◌≤◌, ℕ, suc, List, Bool}
+use Rattle.std.specs.Prelude.{◌≡◌, ◌+◌, ◌-◌, ◌≤◌, ℕ, suc, List, Bool, true, false}
 use Rattle.mdr_core.specs.declared.place.At.{At}
 use Rattle.mdr_core.specs.declared.program.Program.{Program}
 use Rattle.mdr_events.specs.declared.event.Event.{Event}
@@ -9,6 +9,8 @@ use Rattle.mdr_events.specs.Going.{LeavesAt, RanTo}
 use Rattle.mdr_events.specs.Held.{Held, tree}
 use Rattle.mdr_events.specs.Ready.{IsReady}
 use Rattle.mdr_exec.specs.declared.frame.Machine.{Machine}
+use Rattle.mdr_exec.specs.declared.frame.Side.{Side as CodeSide}
+use Rattle.mdr_exec.specs.declared.frame.Side.TheVariants as which
 use Rattle.mdr_exec.specs.Halves.{side_in}
 use Rattle.mdr_exec.specs.Holding.{held_of}
 use Rattle.mdr_meaning.specs.declared.wire.Wire.{Wire}
@@ -17,10 +19,9 @@ use Rattle.mdr_meaning.specs.Cut.{cut}
 use Rattle.mdr_meaning.specs.Sides.{Side}
 use Rattle.mdr_meaning.specs.Tree.{Tree}
 use Rattle.mdr_plain.specs.Laws.{GivesNoTicks}
-use Rattle.mdr_plain.specs.Plain.{whole}
 use Rattle.mdr_plain.specs.Running.{Before, KernelCode}
 use Rattle.mdr_plain.specs.World.{World, Clock, Kept, Ran, advanced, done}
-use Rattle.mdr_runs.specs.Following.{Stands, answered, goes_on, tried_by}
+use Rattle.mdr_runs.specs.Following.{Stands, answered, code_by, goes_on, tried_by}
 use Rattle.mdr_world.specs.Driven.{Driven, driven_accesses}
 use Rattle.mdr_whole.specs.declared.code.Code.{Code}
 use Rattle.mdr_whole.specs.declared.next.Next.{Next}
@@ -31,24 +32,33 @@ use Rattle.mdr_whole.specs.Ending.{gave_as}
 abbrev pub side_of : Code → Side
 side_of c = side_in c.side c.halves.now c.program.now
 
+-- it is one half's, and not all of the driver's
+abbrev pub is_half : CodeSide → Bool
+is_half which.Whole = false
+is_half which.Kernel = true
+is_half which.User = true
+
+abbrev pub half_of : Code → Bool
+half_of c = is_half c.side
+
 -- the code that runs, with what stands around it
 abbrev pub driver_code : Code → KernelCode
-driver_code c = whole c.program.now (side_of c)
+driver_code c = code_by c.program.now (half_of c) (side_of c)
 
 -- what the code that a machine holds does in a world, with fuel for so many ticks
-abbrev pub machine_does : Program → Side → Before → (fuel : ℕ) → Machine → World → Ran Wire
-machine_does program side before fuel machine w = goes_on program side before fuel (held_of program machine) w
+abbrev pub machine_does : Program → (half : Bool) → Side → Before → (fuel : ℕ) → Machine → World → Ran Wire
+machine_does program half side before fuel machine w = goes_on program half side before fuel (held_of program machine) w
 
 -- the work that a machine holds on the code that runs, and what is tried before its ticks
 abbrev pub held_in : Code → Machine → Held
 held_in c machine = held_of c.program.now machine
 
 abbrev pub tried_in : (tries : Bool) → Code → Before
-tried_in tries c = tried_by tries c.program.now (side_of c)
+tried_in tries c = tried_by tries c.program.now (half_of c) (side_of c)
 
 -- what it does in a world, with fuel for the ticks that are left
 abbrev pub does_in : (tries : Bool) → Code → Machine → World → Ran Wire
-does_in tries c machine w = machine_does c.program.now (side_of c) (tried_in tries c) w.clock.rest machine w
+does_in tries c machine w = machine_does c.program.now (half_of c) (side_of c) (tried_in tries c) w.clock.rest machine w
 
 -- with so many ticks it came to an event
 abbrev pub RanIn : Code → Machine → Driven → (ticks : ℕ) → Event → Machine → Driven → Type 0
@@ -61,26 +71,26 @@ pub record IsStarted (program : Program) (side : Side) (func : ℕ) (args : List
   pub ready : IsReady (held_of program machine)
 
 -- a machine came to an event in a driver that runs: what follows is what all of it does, and it goes on by itself or waits for the answers
-pub record StandsAt (program : Program) (side : Side) (before : Before) (fuel : ℕ) (all : Ran Wire) (machine : Machine) (e : Event) (d : Driven) : Type 0 where
-  pub stands : Stands program side before fuel all (held_of program machine) e d.world
+pub record StandsAt (program : Program) (half : Bool) (side : Side) (before : Before) (fuel : ℕ) (all : Ran Wire) (machine : Machine) (e : Event) (d : Driven) : Type 0 where
+  pub stands : Stands program half side before fuel all (held_of program machine) e d.world
   pub same : d.program ≡ program
   pub left : LeavesAt e (held_of program machine)
 
 -- it came to the next event, or it gave what all of it gives
-abbrev pub NextAt : (program : Program) (side : Side) (before : Before) (fuel : ℕ) (all : Ran Wire) (machine : Machine) (n : Next) (d : Driven) → Type 0
-NextAt program side before fuel all machine (next.Came e) d = StandsAt program side before fuel all machine e d
-NextAt program side before fuel all machine (next.Gave g) d = (gave_as g d.world ≡ all) × (d.program ≡ program)
+abbrev pub NextAt : (program : Program) (half : Bool) (side : Side) (before : Before) (fuel : ℕ) (all : Ran Wire) (machine : Machine) (n : Next) (d : Driven) → Type 0
+NextAt program half side before fuel all machine (next.Came e) d = StandsAt program half side before fuel all machine e d
+NextAt program half side before fuel all machine (next.Gave g) d = (gave_as g d.world ≡ all) × (d.program ≡ program)
 
 -- it ran without a tick, from a machine in a driver
-abbrev pub Began : Program → Side → Machine → Driven → Machine → Event → Driven → Type 0
-Began program side machine d machine' e d' =
+abbrev pub Began : Program → (half : Bool) → Side → Machine → Driven → Machine → Event → Driven → Type 0
+Began program half side machine d machine' e d' =
     (before : Before) → GivesNoTicks before → (fuel : ℕ) → d.world.clock.rest ≤ fuel
-    → StandsAt program side before fuel (machine_does program side before fuel machine d.world) machine' e d'
+    → StandsAt program half side before fuel (machine_does program half side before fuel machine d.world) machine' e d'
 
 -- what stands before the tick that is wanted was tried, and left this world
-pub record Tried (program : Program) (side : Side) (before : Before) (fuel : ℕ) (all : Ran Wire) (machine : Machine) (at : At) (w : World) : Type 0 where
+pub record Tried (program : Program) (half : Bool) (side : Side) (before : Before) (fuel : ℕ) (all : Ran Wire) (machine : Machine) (at : At) (w : World) : Type 0 where
   pub earlier : World
-  pub wanted : Stands program side before fuel all (held_of program machine) (event.TicksOut at) earlier
+  pub wanted : Stands program half side before fuel all (held_of program machine) (event.TicksOut at) earlier
   pub tried : done w ≡ before (held_of program machine).frame.here.depth earlier
 
 -- and one tick was counted
@@ -90,46 +100,46 @@ pub record Counted (w now : World) : Type 0 where
   pub counted : now ≡ record w { clock = advanced 1 w.clock }
 
 -- it ran with the tick that was counted
-abbrev pub Passed : Program → Side → Machine → Driven → Machine → Event → Driven → Type 0
-Passed program side machine d machine' e d' =
+abbrev pub Passed : Program → (half : Bool) → Side → Machine → Driven → Machine → Event → Driven → Type 0
+Passed program half side machine d machine' e d' =
     (before : Before) → GivesNoTicks before → (fuel : ℕ) (all : Ran Wire) (at : At) (w : World)
-    → Tried program side before fuel all machine at w → Counted w d.world → StandsAt program side before fuel all machine' e d'
+    → Tried program half side before fuel all machine at w → Counted w d.world → StandsAt program half side before fuel all machine' e d'
 
 -- from a clock on nothing is done before ticks, whatever memory is then
 abbrev pub IsCalm : Before → Kept → Clock → Type 0
 IsCalm before kept c = (j d : ℕ) (w : World) → w.kept ≡ kept → w.clock ≡ advanced j c → before d w ≡ done w
 
 -- it ran with all ticks that were left, nothing was done before them, and those that it took were counted
-abbrev pub RanThrough : Program → Side → Machine → Driven → Machine → Event → Driven → Type 0
-RanThrough program side machine d machine' e d' =
+abbrev pub RanThrough : Program → (half : Bool) → Side → Machine → Driven → Machine → Event → Driven → Type 0
+RanThrough program half side machine d machine' e d' =
     (before : Before) → GivesNoTicks before → (fuel : ℕ) (all : Ran Wire) (at : At) → IsCalm before d.world.kept d.world.clock
-    → StandsAt program side before fuel all machine (event.TicksOut at) d → StandsAt program side before fuel all machine' e d'
+    → StandsAt program half side before fuel all machine (event.TicksOut at) d → StandsAt program half side before fuel all machine' e d'
 
 -- behind what was tried before a tick, the next event or the end
-abbrev pub Follows : Program → Side → At → Machine → Driven → Machine → Next → Driven → Type 0
-Follows program side at machine d machine' n d' =
-    (before : Before) → GivesNoTicks before → (fuel : ℕ) (all : Ran Wire) → Tried program side before fuel all machine at d.world → NextAt program side before fuel all machine' n d'
+abbrev pub Follows : Program → (half : Bool) → Side → At → Machine → Driven → Machine → Next → Driven → Type 0
+Follows program half side at machine d machine' n d' =
+    (before : Before) → GivesNoTicks before → (fuel : ℕ) (all : Ran Wire) → Tried program half side before fuel all machine at d.world → NextAt program half side before fuel all machine' n d'
 
 -- and behind an event
-abbrev pub GoesOn : Program → Side → Before → Machine → Event → Driven → Machine → Next → Driven → Type 0
-GoesOn program side before machine e d machine' n d' =
-    (fuel : ℕ) (all : Ran Wire) → StandsAt program side before fuel all machine e d → NextAt program side before fuel all machine' n d'
+abbrev pub GoesOn : Program → (half : Bool) → Side → Before → Machine → Event → Driven → Machine → Next → Driven → Type 0
+GoesOn program half side before machine e d machine' n d' =
+    (fuel : ℕ) (all : Ran Wire) → StandsAt program half side before fuel all machine e d → NextAt program half side before fuel all machine' n d'
 
 -- behind an event of the code that runs, with what is tried before its ticks
 abbrev pub GoesOnIn : (tries : Bool) → Code → Machine → Event → Driven → Machine → Next → Driven → Type 0
-GoesOnIn tries c machine e d machine' n d' = GoesOn c.program.now (side_of c) (tried_in tries c) machine e d machine' n d'
+GoesOnIn tries c machine e d machine' n d' = GoesOn c.program.now (half_of c) (side_of c) (tried_in tries c) machine e d machine' n d'
 
 -- and whatever is tried before them
 abbrev pub GoesOnAnyhow : Code → Machine → Event → Driven → Machine → Next → Driven → Type 0
 GoesOnAnyhow c machine e d machine' n d' =
-    (before : Before) → GivesNoTicks before → GoesOn c.program.now (side_of c) before machine e d machine' n d'
+    (before : Before) → GivesNoTicks before → GoesOn c.program.now (half_of c) (side_of c) before machine e d machine' n d'
 
 -- what follows these answers of the question that is open is what all of it does
-pub record Waits (program : Program) (side : Side) (before : Before) (fuel : ℕ) (all : Ran Wire) (machine : Machine) (results : List Wire) (w : World) : Type 0 where
-  pub is : answered program side before fuel (held_of program machine) results w ≡ all
+pub record Waits (program : Program) (half : Bool) (side : Side) (before : Before) (fuel : ℕ) (all : Ran Wire) (machine : Machine) (results : List Wire) (w : World) : Type 0 where
+  pub is : answered program half side before fuel (held_of program machine) results w ≡ all
   pub enough : w.clock.rest ≤ fuel
 
 -- it is answered
-abbrev pub GoesOnWith : Program → Side → List Wire → Machine → Driven → Machine → Event → Driven → Type 0
-GoesOnWith program side results machine d machine' e d' =
-    (before : Before) → GivesNoTicks before → (fuel : ℕ) (all : Ran Wire) → Waits program side before fuel all machine results d.world → StandsAt program side before fuel all machine' e d'
+abbrev pub GoesOnWith : Program → (half : Bool) → Side → List Wire → Machine → Driven → Machine → Event → Driven → Type 0
+GoesOnWith program half side results machine d machine' e d' =
+    (before : Before) → GivesNoTicks before → (fuel : ℕ) (all : Ran Wire) → Waits program half side before fuel all machine results d.world → StandsAt program half side before fuel all machine' e d'

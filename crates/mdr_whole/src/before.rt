@@ -12,7 +12,7 @@ pub trait Before {
     ghost use Rattle.mdr_core.specs.Sound.{IsSound};
     ghost use Rattle.mdr_runs.specs.Following.{tried_by};
     ghost use Rattle.mdr_whole.specs.Ending.{worked_as};
-    ghost use Rattle.mdr_whole.specs.Going.{side_of};
+    ghost use Rattle.mdr_whole.specs.Going.{half_of, side_of};
 
     ghost tries: { Bool };
 
@@ -25,7 +25,7 @@ pub trait Before {
         requires sound { IsSound code.program.now }
         requires same { world.old.program ≡ code.program.now }
         ensures kept { OnOk result (world.new.program ≡ code.entry.program.now) }
-        ensures tried { IfOk result (λ e. worked_as e world.new.world ≡ tried_by tries code.entry.program.now (side_of code.entry) depth world.old.world) };
+        ensures tried { IfOk result (λ e. worked_as e world.new.world ≡ tried_by tries code.entry.program.now (half_of code.entry) (side_of code.entry) depth world.old.world) };
 }
 
 /// Nothing is tried: before the ticks of a handler.

@@ -1,21 +1,24 @@
 // A function of a driver is called in a world.
 
-ghost use Rattle.std.specs.Prelude.{◌≡◌, true, IfOk, OnOk, is_some, option_copied, slice_get};
+ghost use Rattle.std.specs.Prelude.{◌≡◌, true, ℕ, List, IfOk, OnOk, is_some, option_copied, slice_get};
 ghost use Rattle.mdr_core.specs.Sound.{IsSound};
 ghost use Rattle.mdr_events.specs.Ready.{IsReady};
 ghost use Rattle.mdr_events.specs.Values.{wires_of};
 ghost use Rattle.mdr_exec.specs.Halves.{is_kernel, is_own};
 ghost use Rattle.mdr_exec.specs.Holding.{held_of};
 ghost use Rattle.mdr_meaning.specs.Bodies.{body_of};
+ghost use Rattle.mdr_meaning.specs.declared.wire.Wire.{Wire};
 ghost use Rattle.mdr_plain.specs.Running.{call};
+ghost use Rattle.mdr_plain.specs.World.{World as AnyWorld};
+ghost use Rattle.mdr_runs.specs.Following.{crossing_by};
 ghost use Rattle.mdr_whole.specs.Ending.{gave_as};
-ghost use Rattle.mdr_whole.specs.Going.{IsStarted, does_in, driver_code, side_of, tried_in};
+ghost use Rattle.mdr_whole.specs.Going.{IsStarted, does_in, driver_code, half_of, side_of, tried_in};
 
 use crate::before::Before;
-use crate::code::Code;
+use crate::code::{Code, is_half};
 use crate::ending::Gave;
 use crate::turn::run;
-use mdr_core::{Func, Half, Limit, OutOfMemory, Program, Value, below};
+use mdr_core::{At, Func, Half, Limit, OutOfMemory, Program, StopKind, Value, below};
 use mdr_exec::{Machine, Side};
 use mdr_world::World;
 use std::alloc::Global;
@@ -113,8 +116,19 @@ fn run_out<B: Before>(
     gave
 }
 
-/// Calls a function, with so many active before it. One that isn't one of those that run, or that has no body, gives
-/// nothing.
+/// What the call of a function comes to that isn't one of those that run, or that has no body. Where all of a driver's code
+/// runs it gives nothing; code of one half may not call the other.
+fn elsewhere(code: Code, func: u32) -> Gave
+    ensures { (args : List Wire) (depth : ℕ) (w : AnyWorld) → gave_as result w ≡ crossing_by (half_of code.entry) (record { func = func; stmt = 0 }) func args depth w }
+{
+    if is_half(code.side) {
+        let at = At { func, stmt: 0 };
+        return Gave::Stopped(StopKind::Atomic, Some(at));
+    }
+    Gave::Value(Value::NoValue)
+}
+
+/// Calls a function, with so many active before it.
 #[tactic(auto, unfolding(mdr_plain::specs::Running::call))]
 pub fn call<B: Before>(
     alloc: Global,
@@ -130,7 +144,7 @@ pub fn call<B: Before>(
     ensures gave { IfOk result (λ g. gave_as g world.new.world ≡ call (driver_code code.entry) (tried_in B.tries code.entry) func (wires_of args.now) depth world.old.world) }
 {
     if !runs_here(code, func) {
-        return Ok(Gave::Value(Value::NoValue));
+        return Ok(elsewhere(code, func));
     }
     let machine = started(alloc, code, func, args, depth)?;
     let gave = run_out::<B>(alloc, code, world, machine)?;

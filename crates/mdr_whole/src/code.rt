@@ -1,5 +1,8 @@
 // The code that runs.
 
+ghost use Rattle.std.specs.Prelude.{◌≡◌};
+ghost use Rattle.mdr_whole.specs.Going.{is_half};
+
 use mdr_core::{Half, Program};
 use mdr_exec::Side;
 
@@ -9,4 +12,15 @@ pub struct Code<'a> {
     pub program: &'a Program,
     pub halves: &'a [Half],
     pub side: Side,
+}
+
+/// Whether it is one half's, and not all of the driver's.
+pub(crate) fn is_half(side: Side) -> bool
+    ensures { result ≡ is_half side }
+{
+    match side {
+        Side::Whole => false,
+        Side::Kernel => true,
+        Side::User => true,
+    }
 }

@@ -9,10 +9,10 @@ ghost use Rattle.mdr_events.specs.Values.{wires_of};
 ghost use Rattle.mdr_exec.specs.Holding.{Takes, held_of};
 ghost use Rattle.mdr_world.specs.Driven.{NoneIsDue};
 ghost use Rattle.mdr_whole.specs.Ending.{gave_as};
-ghost use Rattle.mdr_whole.specs.Going.{Began, Follows, GoesOnAnyhow, GoesOnIn, GoesOnWith, Passed, RanIn, RanThrough, does_in, side_of};
+ghost use Rattle.mdr_whole.specs.Going.{Began, Follows, GoesOnAnyhow, GoesOnIn, GoesOnWith, Passed, RanIn, RanThrough, does_in, half_of, side_of};
 
 use crate::before::Before;
-use crate::code::Code;
+use crate::code::{Code, is_half};
 use crate::ending::{Gave, Worked};
 use crate::next::Next;
 use mdr_core::{At, Items, Limit, OutOfMemory, StopKind, Value, spent};
@@ -51,7 +51,7 @@ fn begin(
     requires sound { IsSound code.program.now }
     requires same { world.old.program ≡ code.program.now }
     requires ready { IsReady (held_of code.program.now machine.old) }
-    ensures { IfOk result (λ e. Began code.entry.program.now (side_of code.entry) machine.old world.old machine.new e world.new) }
+    ensures { IfOk result (λ e. Began code.entry.program.now (half_of code.entry) (side_of code.entry) machine.old world.old machine.new e world.new) }
 {
     let event = go(machine, alloc, code, world, 0)?;
     Ok(event)
@@ -67,7 +67,7 @@ fn go_on(
     requires sound { IsSound code.program.now }
     requires same { world.old.program ≡ code.program.now }
     requires ready { IsReady (held_of code.program.now machine.old) }
-    ensures { IfOk result (λ e. Passed code.entry.program.now (side_of code.entry) machine.old world.old machine.new e world.new) }
+    ensures { IfOk result (λ e. Passed code.entry.program.now (half_of code.entry) (side_of code.entry) machine.old world.old machine.new e world.new) }
 {
     let event = go(machine, alloc, code, world, 1)?;
     Ok(event)
@@ -84,7 +84,7 @@ fn pass(
     requires sound { IsSound code.program.now }
     requires same { world.old.program ≡ code.program.now }
     requires ready { IsReady (held_of code.program.now machine.old) }
-    ensures { IfOk result (λ n. Follows code.entry.program.now (side_of code.entry) at machine.old world.old machine.new n world.new) }
+    ensures { IfOk result (λ n. Follows code.entry.program.now (half_of code.entry) (side_of code.entry) at machine.old world.old machine.new n world.new) }
 {
     if world.tick() {
         let event = go_on(machine, alloc, code, world)?;
@@ -103,7 +103,7 @@ fn run_through(
     requires sound { IsSound code.program.now }
     requires same { world.old.program ≡ code.program.now }
     requires ready { IsReady (held_of code.program.now machine.old) }
-    ensures { IfOk result (λ e. RanThrough code.entry.program.now (side_of code.entry) machine.old world.old machine.new e world.new) }
+    ensures { IfOk result (λ e. RanThrough code.entry.program.now (half_of code.entry) (side_of code.entry) machine.old world.old machine.new e world.new) }
 {
     let ticks = world.rest();
     let event = go(machine, alloc, code, world, ticks)?;
@@ -157,7 +157,7 @@ fn resume(
     requires sound { IsSound code.program.now }
     requires same { world.old.program ≡ code.program.now }
     requires takes { Takes code.program.now machine.old results.now }
-    ensures { IfOk result (λ e. GoesOnWith code.entry.program.now (side_of code.entry) (wires_of results.now) machine.old world.old machine.new e world.new) }
+    ensures { IfOk result (λ e. GoesOnWith code.entry.program.now (half_of code.entry) (side_of code.entry) (wires_of results.now) machine.old world.old machine.new e world.new) }
 {
     machine.resume(results);
     let event = begin(machine, alloc, code, world)?;
@@ -187,7 +187,8 @@ fn answer(
     }
 }
 
-/// A function is called that isn't among those that run: it gives nothing.
+/// A function is called that isn't among those that run. Where all of a driver's code runs it gives nothing; code of one
+/// half may not call the other.
 fn cross(
     machine: &mut Machine,
     alloc: Global,
@@ -200,11 +201,14 @@ fn cross(
     requires waiting { LeavesAt (event.Cross crossing.now) (held_of code.program.now machine.old) }
     ensures { IfOk result (λ n. GoesOnAnyhow code.entry machine.old (event.Cross crossing.now) world.old machine.new n world.new) }
 {
+    if is_half(code.side) {
+        return Ok(Next::Gave(Gave::Stopped(StopKind::Atomic, Some(crossing.at))));
+    }
     let event = resume(machine, alloc, code, world, &[Value::NoValue])?;
     Ok(Next::Came(event))
 }
 
-/// What follows an event. A function that isn't among those that run gives nothing.
+/// What follows an event.
 fn follow<B: Before>(
     machine: &mut Machine,
     alloc: Global,

@@ -74,7 +74,11 @@ fn placed(blocks: &RegionBlocks, v: Value) -> Result<Value, OutOfMemory>
     }
 }
 
-fn all_placed(blocks: &RegionBlocks, alloc: Global, first: &[Value]) -> Result<Items<Value>, OutOfMemory>
+fn all_placed(
+    blocks: &RegionBlocks,
+    alloc: Global,
+    first: &[Value],
+) -> Result<Items<Value>, OutOfMemory>
     ensures { IfOk result (λ vs. map (wire_in blocks.now.handles) vs ≡ map wire_of first.now) }
 {
     let mut values = Items::new(alloc);

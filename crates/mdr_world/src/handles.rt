@@ -109,7 +109,11 @@ fn born_of(blocks: &RegionBlocks, b: Block) -> New
     }
 }
 
-fn held_values(blocks: &RegionBlocks, alloc: Global, cells: &[Value]) -> Result<Items<Value>, OutOfMemory>
+fn held_values(
+    blocks: &RegionBlocks,
+    alloc: Global,
+    cells: &[Value],
+) -> Result<Items<Value>, OutOfMemory>
     ensures { IfOk result (λ vs. vs ≡ map (current blocks.now.handles) cells.now) }
 {
     let mut values = Items::new(alloc);
@@ -127,7 +131,11 @@ fn cells_now(blocks: &RegionBlocks, alloc: Global, b: Block) -> Result<Items<Val
 }
 
 /// What a block's cells hold; nothing where it doesn't live.
-pub fn values_of(blocks: &RegionBlocks, alloc: Global, serial: u64) -> Result<Items<Value>, OutOfMemory>
+pub fn values_of(
+    blocks: &RegionBlocks,
+    alloc: Global,
+    serial: u64,
+) -> Result<Items<Value>, OutOfMemory>
     ensures { IfOk result (λ vs. map wire_of vs ≡ block_cells blocks.now.memory serial) }
 {
     let _in_order = blocks.births();

@@ -68,7 +68,11 @@ fn released(state: LockState) -> Result<LockState, StopKind>
 }
 
 #[tactic(auto, unfolding(mdr_mem::specs::Contents::current))]
-fn set_lock(blocks: &mut RegionBlocks, t: Target, to: Result<LockState, StopKind>) -> Result<(), StopKind>
+fn set_lock(
+    blocks: &mut RegionBlocks,
+    t: Target,
+    to: Result<LockState, StopKind>,
+) -> Result<(), StopKind>
     requires { IsTrue (is_handle blocks.old.handles t.block) }
     ensures made { with_lock blocks.old.memory (cell_in t.block t.index) to ≡ when_made result blocks.new.memory }
     ensures rest { blocks.new ≡ with_memory blocks.new.memory blocks.old }

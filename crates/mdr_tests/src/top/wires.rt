@@ -10,7 +10,14 @@ use std::process::Abort;
 use std::test::Fail;
 
 /// The words of a run whose messages are shown, and its layout.
-const WIRED: &[&str] = &["run", "split", "bump.c", "open.script", "--region", "--wire"];
+const WIRED: &[&str] = &[
+    "run",
+    "split",
+    "bump.c",
+    "open.script",
+    "--region",
+    "--wire",
+];
 
 /// The answer to the texts, the replies, and the status and the text of the run, in pieces.
 type Row = (

@@ -4,8 +4,8 @@ use Rattle.mdr_reach.proofs.born.with_serial.Goals as goal
 
 pub returns-in_ok-all-in-Some : goal.returns-in_ok-all-in-Some
 returns-in_ok-all-in-Some c =
-    born_held c.args.scene.program.now c.args.scene.touched.now c.args.scene.blocks.now c.in-Some.h c.args.serial c.args.set c.in_ok-all-in-Some.all (held_some c.args.scene.program.now c.args.scene.touched.now c.args.scene.blocks.now c.args.serial _ c.in-Some.h c.in-Some.is c.in_ok-h.ensures.held)
-    (serial_some c.args.scene.program.now c.args.scene.touched.now c.args.scene.blocks.now c.args.serial _ c.in-Some.h c.in-Some.is c.in_ok-h.ensures.serial) c.in_ok-all-in-Some.ensures
+    born_held c.args.scene.program.now c.args.scene.touched.now c.args.scene.blocks.now c.in-Some.h c.args.serial c.args.set c.in_ok-all-in-Some.all (held_some c.args.scene.program.now c.args.scene.touched.now c.args.scene.blocks.now c.args.serial _ c.in-Some.h c.in-Some.is c.block_at.ensures.held)
+    (serial_some c.args.scene.program.now c.args.scene.touched.now c.args.scene.blocks.now c.args.serial _ c.in-Some.h c.in-Some.is c.block_at.ensures.serial) c.in_ok-all-in-Some.ensures
 
 pub returns-in-None : goal.returns-in-None
-returns-in-None c = none_gained c.args.scene.program.now c.args.scene.touched.now c.args.scene.blocks.now.memory c.args.serial c.args.set (held_none c.args.scene.program.now c.args.scene.touched.now c.args.scene.blocks.now c.args.serial _ c.in-None.is c.in_ok-h.ensures.held)
+returns-in-None c = none_gained c.args.scene.program.now c.args.scene.touched.now c.args.scene.blocks.now.memory c.args.serial c.args.set (held_none c.args.scene.program.now c.args.scene.touched.now c.args.scene.blocks.now c.args.serial _ c.in-None.is c.block_at.ensures.held)

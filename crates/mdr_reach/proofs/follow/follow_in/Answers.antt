@@ -10,11 +10,11 @@ use Rattle.mdr_reach.proofs.follow.follow_in.Goals as goal
 
 pub returns-in_ok-whole-in-Some-clause-whole : goal.returns-in_ok-whole-in-Some-clause-whole
 returns-in_ok-whole-in-Some-clause-whole c =
-    c.in_ok-whole-in-Some.ensures.whole ∙ ap (λ x. not (has_failed x)) (c.in_ok-extent-in-Some.ensures ∙ sym (extent_here c.args.scene.program.now c.args.scene.touched.now c.args.scene.blocks.now c.args.h c.requires.held c.args.index (wire_of c.in-Some.value) (sym c.value_at.ensures ∙ ap (option_map wire_of) c.in-Some.is)))
+    c.in_ok-whole-in-Some.ensures.whole ∙ ap (λ x. not (has_failed x)) (c.extent_in_cell-extent.ensures ∙ sym (extent_here c.args.scene.program.now c.args.scene.touched.now c.args.scene.blocks.now c.args.h c.requires.held c.args.index (wire_of c.in-Some.value) (sym c.value_at.ensures ∙ ap (option_map wire_of) c.in-Some.is)))
 
 pub returns-in_ok-whole-in-Some-clause-marked : goal.returns-in_ok-whole-in-Some-clause-marked
 returns-in_ok-whole-in-Some-clause-marked c =
-    c.in_ok-whole-in-Some.ensures.marked ∙ ap (entered (counts_at c.args.scene.program.now c.args.scene.touched.now c.args.scene.blocks.now.memory) (named c.args.marked.now.keys)) (led_here c.args.scene.program.now c.args.scene.touched.now c.args.scene.blocks.now c.args.h c.requires.held c.args.index (wire_of c.in-Some.value) (extent_of c.in_ok-extent-in-Some.extent) (sym c.value_at.ensures ∙ ap (option_map wire_of) c.in-Some.is) c.in_ok-extent-in-Some.ensures)
+    c.in_ok-whole-in-Some.ensures.marked ∙ ap (entered (counts_at c.args.scene.program.now c.args.scene.touched.now c.args.scene.blocks.now.memory) (named c.args.marked.now.keys)) (led_here c.args.scene.program.now c.args.scene.touched.now c.args.scene.blocks.now c.args.h c.requires.held c.args.index (wire_of c.in-Some.value) (extent_of c.extent_in_cell-extent.result) (sym c.value_at.ensures ∙ ap (option_map wire_of) c.in-Some.is) c.extent_in_cell-extent.ensures)
 
 pub returns-in-None-clause-whole : goal.returns-in-None-clause-whole
 returns-in-None-clause-whole c = whole_there c.args.scene.program.now c.args.scene.touched.now c.args.scene.blocks.now.memory (record { serial = c.args.h.born.serial; index = c.args.index }) (sym c.value_at.ensures ∙ ap (option_map wire_of) c.in-None.is)

@@ -11,6 +11,6 @@ use Rattle.mdr_reach.proofs.lengths.field_number.Goals as goal
 
 pub returns : goal.returns
 returns c =
-    to_z-of_z w128 c.number.result (search rules) ∙ c.number.ensures ∙ ap (λ o. number_in (option_map wire_of o)) c.item.ensures
-    ∙ number_same c.args.scene.blocks.now.handles c.args.cells.now c.in_ok-index.index
-    ∙ ap (λ i. number_in (slice_get (map (wire_in c.args.scene.blocks.now.handles) c.args.cells.now) i)) (c.in_ok-index.ensures ∙ ap (λ n. c.args.start + n) c.start_of-begins.ensures)
+    to_z-of_z w128 c.number.result (search rules) ∙ c.number.ensures ∙ ap (λ o. number_in (option_map wire_of o)) c.item_behind.ensures
+    ∙ number_same c.args.scene.blocks.now.handles c.args.cells.now (c.args.start + c.start_of-begins.result)
+    ∙ ap (λ n. number_in (slice_get (map (wire_in c.args.scene.blocks.now.handles) c.args.cells.now) (c.args.start + n))) c.start_of-begins.ensures

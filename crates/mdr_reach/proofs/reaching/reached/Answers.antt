@@ -8,9 +8,6 @@ use Rattle.mdr_reach.proofs.reaching.reached.Goals as goal
 pub loop-i-init : goal.loop-i-init
 loop-i-init c = (λ roots had. had, tt)
 
-pub block_behind-requires-clause-last : goal.block_behind-requires-clause-last
-block_behind-requires-clause-last c = c.loop-i.invariant.1
-
 pub loop-i-preserved : goal.loop-i-preserved
 loop-i-preserved c = (
   λ roots had.
@@ -27,7 +24,7 @@ loop-i-preserved c = (
       (c.in_ok-failing.ensures.least (take c.loop-i.i (named c.loop-i.marked.keys)) before.least)
       (edges_are program touched m rising (cell_of name))
       c.in_ok-failing.ensures.marked before),
-  last_of c.args.scene.program.now c.args.scene.touched.now c.args.scene.blocks.now c.name_at-name.result.serial c.in_ok-block.block c.in_ok-block.ensures.held,
+  last_of c.args.scene.program.now c.args.scene.touched.now c.args.scene.blocks.now c.name_at-name.result.serial c.block_behind-block.result c.block_behind-block.ensures.held,
 )
 
 pub loop-i-smaller : goal.loop-i-smaller

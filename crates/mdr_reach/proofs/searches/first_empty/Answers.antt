@@ -8,8 +8,8 @@ use Rattle.mdr_reach.proofs.searches.first_empty.Goals as goal
 pub loop-i-preserved : goal.loop-i-preserved
 loop-i-preserved c = search_more (λ i. is_empty (slice_get (map wire_of c.args.cells.now) (c.args.first + i * c.args.size + c.args.start))) c.loop-i.i c.args.end _ c.loop-i-test.true (sym c.is_element_empty.ensures ∙ c.if-is_element_empty.false) c.loop-i.invariant
 
-pub returns-then-is_element_empty : goal.returns-then-is_element_empty
-returns-then-is_element_empty c = search_found (λ i. is_empty (slice_get (map wire_of c.args.cells.now) (c.args.first + i * c.args.size + c.args.start))) c.loop-i.i c.args.end _ c.loop-i-test.true (sym c.is_element_empty.ensures ∙ c.if-is_element_empty.true) c.loop-i.invariant
+pub returns-then-is_element_empty-clause-found : goal.returns-then-is_element_empty-clause-found
+returns-then-is_element_empty-clause-found c = search_found (λ i. is_empty (slice_get (map wire_of c.args.cells.now) (c.args.first + i * c.args.size + c.args.start))) c.loop-i.i c.args.end _ c.loop-i-test.true (sym c.is_element_empty.ensures ∙ c.if-is_element_empty.true) c.loop-i.invariant
 
-pub returns : goal.returns
-returns c = search_over (λ i. is_empty (slice_get (map wire_of c.args.cells.now) (c.args.first + i * c.args.size + c.args.start))) c.loop-i.i c.args.end _ c.loop-i-test.false c.loop-i.invariant
+pub returns-clause-found : goal.returns-clause-found
+returns-clause-found c = search_over (λ i. is_empty (slice_get (map wire_of c.args.cells.now) (c.args.first + i * c.args.size + c.args.start))) c.loop-i.i c.args.end _ c.loop-i-test.false c.loop-i.invariant

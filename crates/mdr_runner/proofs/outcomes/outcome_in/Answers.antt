@@ -1,6 +1,12 @@
+use Rattle.std.proofs.Common.{ap, sym, ◌∙◌}
 use Rattle.std.proofs.lemmas.Result.{IfOk-weaker}
+use Rattle.mdr_plain.specs.Outcome.{outcome_of}
 use Rattle.mdr_runner.specs.Runs.IsOutcome.{watched_run}
 use Rattle.mdr_runner.proofs.outcomes.outcome_in.Goals as goal
 
 pub returns-in_ok-plan : goal.returns-in_ok-plan
-returns-in_ok-plan c = IfOk-weaker c.run_watched.result _ _ (λ o is. watched_run c.if-manner.true c.in_ok-plan.plan c.in_ok-plan.ensures is) c.run_watched.ensures
+returns-in_ok-plan c =
+    IfOk-weaker c.run_watched.result _ _
+    (λ o is. watched_run c.if-manner.true c.in_ok-plan.plan c.in_ok-plan.ensures
+    (is ∙ ap (outcome_of c.args.program.now) (sym (c.requires.apart c.in_ok-plan.plan c.in_ok-plan.ensures c.args.manner.ticks))))
+    c.run_watched.ensures

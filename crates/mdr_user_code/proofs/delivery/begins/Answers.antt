@@ -1,6 +1,12 @@
-use Rattle.std.proofs.Common.{refl}
+use Rattle.std.proofs.Common.{refl, ◌∙◌, sym, subst}
+use Rattle.mdr_meaning.specs.Bodies.{known_of}
+use Rattle.mdr_model.specs.Agreement.{SerialsRise}
+use Rattle.mdr_user_code.proofs.FirstLaws.{first_rises}
 use Rattle.mdr_user_code.proofs.FollowLaws.{begins_so}
 use Rattle.mdr_user_code.proofs.delivery.begins.Goals as goal
 
+pub of_copy-requires : goal.of_copy-requires
+of_copy-requires c = subst SerialsRise (sym c.in_ok-agreed.ensures) (first_rises (known_of c.args.program.now))
+
 pub returns : goal.returns
-returns c = begins_so c.args.program.now c.args.plan.now _ c.in_ok-agreed.ensures c.new-entered.ensures refl
+returns c = begins_so c.args.program.now c.args.plan.now _ (c.in_ok-memory.ensures ∙ c.in_ok-agreed.ensures) c.new-entered.ensures refl

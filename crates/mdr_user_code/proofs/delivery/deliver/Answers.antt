@@ -1,7 +1,11 @@
 use Rattle.std.proofs.Common.{◌∙◌, sym}
 use Rattle.mdr_user_code.specs.Standing.{driver_in}
 use Rattle.mdr_user_code.proofs.FollowLaws.{replies_goes, replies_refused}
+use Rattle.mdr_user_code.proofs.TidingLaws.{tells}
 use Rattle.mdr_user_code.proofs.delivery.deliver.Goals as goal
+
+pub proceed-requires-clause-tells : goal.proceed-requires-clause-tells
+proceed-requires-clause-tells c = tells (driver_in c.args.scene) c.args.state.now c.in-Goes.turn c.args.message.now (sym c.in_ok-opening.ensures ∙ c.in-Goes.is)
 
 pub returns-in-Refuses : goal.returns-in-Refuses
 returns-in-Refuses c = replies_refused (driver_in c.args.scene) c.args.state.now c.args.message.now c.refused.result c.in-Refuses.reason c.requires.opens c.refused.ensures (sym c.in_ok-opening.ensures ∙ c.in-Refuses.is)

@@ -1,10 +1,20 @@
 use Rattle.std.proofs.Common.{◌∙◌, ap}
-use Rattle.mdr_user_code.specs.Copied.{copied}
+use Rattle.mdr_user_memory.specs.Copied.{copied}
+use Rattle.mdr_user_memory.specs.Kept.{Kept}
 use Rattle.mdr_user_code.specs.Standing.{driver_in}
-use Rattle.mdr_user_code.proofs.RunLaws.{run_from}
+use Rattle.mdr_user_code.proofs.RunLaws.{run_from, run_told}
 use Rattle.mdr_user_code.proofs.running.run.Goals as goal
 
-pub returns : goal.returns
-returns c =
-    run_from (driver_in c.args.scene) c.args.state.now c.settle.new.state c.go.new.machine c.args.sight.view c.args.rest c.args.sight.copy c.new-memory.result c.go.new.memory c.in_ok-event.event c.in_ok-reply.reply
-    c.requires.ready (c.new-memory.ensures ∙ ap (copied c.args.sight.view) c.in_ok-blocks.ensures) c.in_ok-event.ensures.used c.in_ok-event.ensures.ran c.in_ok-reply.ensures.reply c.in_ok-reply.ensures.state
+pub settle-requires-clause-used : goal.settle-requires-clause-used
+settle-requires-clause-used c = c.in-Ok.ensures.used
+
+pub settle-requires-clause-told : goal.settle-requires-clause-told
+settle-requires-clause-told c =
+    run_told (driver_in c.args.scene) c.args.state.now c.go.new.machine c.args.view c.args.rest c.args.state.now.memory.agreed c.seen-seen.result c.go.new.memory c.in-Ok.event
+    (c.seen-seen.ensures ∙ ap (λ (k : Kept). copied k.agreed c.args.view k.agreed) c.replace-memory.ensures.value) c.is_paired.ensures.rises c.in-Ok.ensures.ran
+
+pub returns-in_ok-reply-in-Ok : goal.returns-in_ok-reply-in-Ok
+returns-in_ok-reply-in-Ok c =
+    run_from (driver_in c.args.scene) c.args.state.now c.settle.new.state c.replace-memory.new.dest c.go.new.machine c.args.view c.args.rest c.args.state.now.memory.agreed c.seen-seen.result c.go.new.memory c.in-Ok.event c.in_ok-reply-in-Ok.reply c.requires.ready
+    (c.seen-seen.ensures ∙ ap (λ (k : Kept). copied k.agreed c.args.view k.agreed) c.replace-memory.ensures.value) c.is_paired.ensures.rises c.in-Ok.ensures.used c.in-Ok.ensures.ran
+    c.in_ok-reply-in-Ok.ensures.reply c.in_ok-reply-in-Ok.ensures.state

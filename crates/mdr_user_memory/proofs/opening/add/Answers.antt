@@ -7,7 +7,7 @@ use Rattle.mdr_user_memory.proofs.StepLaws.{linked_moved, moved_from}
 use Rattle.mdr_user_memory.proofs.opening.add.Goals as goal
 
 pub bear-requires-clause-linked : goal.bear-requires-clause-linked
-bear-requires-clause-linked c = linked_moved c.make_room.ensures.contents c.make_room.ensures.pairs c.requires
+bear-requires-clause-linked c = linked_moved c.make_room.ensures.contents c.make_room.ensures.pairs c.requires.linked
 
 pub returns-in-Ok : goal.returns-in-Ok
 returns-in-Ok c =

@@ -1,6 +1,5 @@
-use Rattle.std.proofs.Common.{◌∙◌, sym, ap, arith}
+use Rattle.std.proofs.Common.{◌∙◌, ap, arith}
 use Rattle.mdr_track.specs.Pairs.{Pairs}
-use Rattle.mdr_user_memory.proofs.LoopLaws.{none_of}
 use Rattle.mdr_user_memory.proofs.opening.make_room.Goals as goal
 
 pub returns-clause-fits : goal.returns-clause-fits
@@ -10,7 +9,5 @@ returns-clause-fits c = record {
   has_cells = omega (arith, c.in_ok-reserve.ensures.cells, c.len.ensures);
   has_births = omega (arith, c.in_ok-reserve.ensures.births);
   has_pairs = omega (arith, c.in_ok-reserve-2.ensures.room);
-  new =
-      ap (λ (ps : Pairs). ps.user_of c.args.new.now.born.serial) c.reserve-2.ensures.pairs
-      ∙ (sym c.user_of.ensures.exact ∙ none_of c.user_of.result (sym c.is_some.ensures ∙ c.if-is_some.false));
+  new = ap (λ (ps : Pairs). ps.user_of c.args.new.now.born.serial) c.reserve-2.ensures.pairs ∙ c.requires;
 }

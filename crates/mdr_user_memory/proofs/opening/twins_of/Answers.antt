@@ -1,10 +1,14 @@
 use Rattle.mdr_track.specs.Tracked.{pairs_of}
 use Rattle.mdr_user_memory.proofs.LoopLaws.{taken_more}
-use Rattle.mdr_user_memory.proofs.OpeningLaws.{empty_paired}
+use Rattle.mdr_user_memory.proofs.OpeningLaws.{empty_paired, free_behind}
 use Rattle.mdr_user_memory.proofs.opening.twins_of.Goals as goal
 
 pub loop-block-init : goal.loop-block-init
 loop-block-init c = empty_paired c.new-region.result.contents (pairs_of c.new-pairs.result) c.new-region.ensures.empty c.new-pairs.ensures.pairs
+
+pub add-requires-clause-new : goal.add-requires-clause-new
+add-requires-clause-new c =
+    free_behind c.args.copy.now c.loop-block.block-index c.block-item.result c.loop-block.region.contents (pairs_of c.loop-block.pairs) c.loop-block-test.true c.block-item.is c.requires c.loop-block.invariant
 
 pub loop-block-preserved : goal.loop-block-preserved
 loop-block-preserved c =

@@ -4,7 +4,7 @@ use Rattle.mdr_events.specs.declared.event.Event.{Event}
 use Rattle.mdr_events.specs.declared.event.Event.TheVariants as event
 use Rattle.mdr_events.specs.Going.{LeavesAt}
 use Rattle.mdr_exec.specs.Holding.{held_of}
-use Rattle.mdr_whole.specs.Going.{side_of}
+use Rattle.mdr_whole.specs.Going.{half_of, side_of}
 use Rattle.mdr_whole.proofs.Turns.{asked_on}
 use Rattle.mdr_whole.proofs.turn.follow.Goals as goal
 
@@ -20,11 +20,11 @@ cross-requires-clause-waiting g c = subst (λ (e : Event). LeavesAt e (held_of c
 pub returns-in-Service : goal.returns-in-Service
 returns-in-Service g c =
     IfOk-weaker c.answer.result _ _
-    (λ n h. asked_on g.B.Before.tries c.args.code.program.now (side_of c.args.code) c.args.machine.now c.args.event.now c.args.world.now (event.Service c.in-Service.asked) c.answer.new.machine n c.answer.new.world c.in-Service.is h)
+    (λ n h. asked_on g.B.Before.tries c.args.code.program.now (half_of c.args.code) (side_of c.args.code) c.args.machine.now c.args.event.now c.args.world.now (event.Service c.in-Service.asked) c.answer.new.machine n c.answer.new.world c.in-Service.is h)
     c.answer.ensures
 
 pub returns-in-Cross : goal.returns-in-Cross
 returns-in-Cross g c =
     IfOk-weaker c.cross.result _ _
-    (λ n h. asked_on g.B.Before.tries c.args.code.program.now (side_of c.args.code) c.args.machine.now c.args.event.now c.args.world.now (event.Cross c.in-Cross.crossing) c.cross.new.machine n c.cross.new.world c.in-Cross.is h)
+    (λ n h. asked_on g.B.Before.tries c.args.code.program.now (half_of c.args.code) (side_of c.args.code) c.args.machine.now c.args.event.now c.args.world.now (event.Cross c.in-Cross.crossing) c.cross.new.machine n c.cross.new.world c.in-Cross.is h)
     c.cross.ensures
