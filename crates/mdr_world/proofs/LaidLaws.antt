@@ -1,5 +1,5 @@
 -- Births and deaths lie alike in both lists: the death of a block that doesn't live changes no layout.
-use Rattle.std.proofs.Common.{◌≡◌, ◌+◌, ℕ, Bool, true, false, cond, not, ◌&&◌, ◌||◌, List, [], ◌∷◌, ◌++◌, Some, None, refl, sym, ◌∙◌, ap, arith}
+use Rattle.std.proofs.Common.{◌≡◌, ◌+◌, ℕ, Bool, true, false, cond, not, ◌&&◌, ◌||◌, List, [], ◌∷◌, ◌++◌, get_or, Option, Some, None, refl, sym, ◌∙◌, ap, subst, arith}
 use Rattle.std.specs.Prelude.{◌==◌, is_some}
 use Rattle.std.proofs.lemmas.Bool.{eqb-true, eq-eqb}
 use Rattle.std.proofs.lemmas.List.Sums.{sum_by-append}
@@ -7,13 +7,16 @@ use Rattle.mdr_core.specs.declared.value.Block.{Block}
 use Rattle.mdr_mem.specs.declared.cells.Life.{Life}
 use Rattle.mdr_mem.specs.declared.cells.Life.TheVariants as life
 use Rattle.mdr_mem.specs.Contents.{births_in, handle_of, is_birth, left_of}
-use Rattle.mdr_region.specs.Layout.{Laid, after, laid, laid_from}
+use Rattle.mdr_mem.proofs.SearchLaws.{left_absent}
+use Rattle.mdr_region.specs.Layout.{Laid, Mark, after, laid, laid_from, left, placed}
 use Rattle.mdr_region.specs.Blocks.{mark_at}
 use Rattle.mdr_region.specs.Holes.{front, inside, names}
 use Rattle.mdr_region.proofs.BirthLaws.{placed_at}
 use Rattle.mdr_region.proofs.DeathLaws.{left_at, names_freed}
 use Rattle.mdr_region.proofs.KeptLaws.{laid_more, stale_death}
-use Rattle.mdr_world.specs.Stored.{AreMarked}
+use Rattle.mdr_world.proofs.StorageLaws.{births-birth, births-death}
+use Rattle.mdr_world.specs.Stored.{AreMarked, IsCounted}
+use Rattle.mdr_world.specs.declared.storage.Storage.{Storage}
 
 -- ---- handles
 
