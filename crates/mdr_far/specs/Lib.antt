@@ -1,4 +1,5 @@
 pub mod Halves
 pub mod HalfView
 pub mod Fars
+pub mod Memories
 pub mod FarView

@@ -14,6 +14,7 @@ ghost use Rattle.mdr_track.specs.Tracked.{pairs_of};
 ghost use Rattle.mdr_user_code.specs.Standing.{Follows, IsFit, user_memory};
 ghost use Rattle.mdr_user_memory.specs.Paired.{Paired};
 ghost use Rattle.mdr_watched.specs.Driver.{driver_of};
+ghost use Rattle.mdr_far.specs.Memories.{ArePairsOf, IsLayoutOf};
 ghost use Rattle.mdr_far.specs.Halves.{new_half, after_reply, lost, driver_in, ReplyAlike, Load};
 
 use crate::bytes::reply_to;
@@ -23,6 +24,7 @@ use crate::source::source;
 use mdr_core::{Items, OutOfMemory, Plan, Program};
 use mdr_half_source::HalfSource;
 use mdr_outside::Exchange;
+use mdr_track::Tracker;
 use mdr_user_code::{State, begins};
 use mdr_user_memory::UserMemory;
 use std::alloc::Global;
@@ -158,6 +160,28 @@ impl UserHalf {
                 memory.is_paired();
                 Some(memory)
             }
+            None => None,
+        }
+    }
+
+    /// Lends the pairs of that memory's blocks with the kernel's serials, while memory wasn't wanting.
+    pub fn pairs(&self) -> Option<&Tracker>
+        ensures there { is_none (option_copied result) ≡ self.now.is_lost }
+        ensures paired { IfSome (option_copied result) (λ t. ArePairsOf (user_memory (driver_in self.now) (readings (sent_of self.now.exchanges))) (pairs_of t)) }
+    {
+        match self.memory() {
+            Some(memory) => Some(memory.pairs()),
+            None => None,
+        }
+    }
+
+    /// How many places of that memory are used, and how many there are, while memory wasn't wanting.
+    pub fn layout(&self) -> Option<(u64, u64)>
+        ensures there { is_none result ≡ self.now.is_lost }
+        ensures laid { IfSome result (IsLayoutOf (user_memory (driver_in self.now) (readings (sent_of self.now.exchanges)))) }
+    {
+        match self.memory() {
+            Some(memory) => Some(memory.region().layout()),
             None => None,
         }
     }

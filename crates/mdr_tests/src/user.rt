@@ -406,3 +406,77 @@ fn texts_that_do_not_fit_are_refused(rt: HostRuntime) {
         expect(&rt, is_not_loaded(rt.alloc(), row), row);
     }
 }
+
+/// A user half that walks three nodes in a ring, of which it is told in one message.
+const RING: &[&str] = &[
+    "struct node {\n\tu32 v;\n\tstruct node *next;\n};\nstruct node *head;\nstruct node *mid;\n",
+    "__remote void make(void);\nvoid walk(void) {\n\tstruct node *p;\n\tp = head;\n\tp->v += 10;\n\tp = p->next;\n",
+    "\twhile (p != head) {\n\t\tp->v += 10;\n\t\tp = p->next;\n\t}\n\tmid->v += 100;\n}\n",
+];
+
+const RING_PLAN: &[&str] = &[
+    "plan 1\ntype 0 u8\ntype 1 u16\ntype 2 u32\ntype 3 u64\ntype 4 s8\ntype 5 s16\ntype 6 s32\ntype 7 s64\n",
+    "type 8 combolock_t\ntype 9 struct node\ntype 10 struct node *\nfunction 0 make kernel root\n",
+    "function 1 walk user\nup 1\nkey 1 global 0\nkey 1 global 1\nkey 1 field 0 0\nkey 1 field 0 1\nend\n",
+];
+
+const RING_CALL: &[&str] = &[
+    "00000001000000010000000000000000000f4232000000000000000000000003000000000000000200000001000000090000000100000000",
+    "0000000300000001000000090000000100000000000000040000000100000009000000010000000500000000000000000000000000000001",
+    "0000000000000001000000000000000100000000000000020000000000000002000000000000000300000000000000020000000000000004",
+    "0000000000000002000000050000000000000000000000000000000100000009000000000000000200000000000000090000000100000000",
+    "0000000000000001000000000000000100000009000000000000000300000000000000090000000100000000000000000000000200000000",
+    "0000000200000002000000010000000900000000000000030000000000000009000000010000000000000000000000030000000000000002",
+    "0000000200000002000000090000000000000004000000000000000900000001000000000000000000000004000000000000000200000002",
+    "0000000300000009000000000000000200000000000000090000000100000000",
+];
+
+const RING_RETURN: &[&str] = &[
+    "00000002000000000000000c0000000c0000000300000000000000020000000000000001000000020000000b000000000000000300000000",
+    "00000001000000020000007000000000000000040000000000000001000000020000000d",
+];
+
+fn joined(alloc: Global, pieces: &[&str]) -> Result<String, Fail> {
+    let mut text = String::new(alloc);
+    for piece in pieces {
+        text.push_str(piece)?;
+    }
+    Ok(text)
+}
+
+fn has_layout(half: &UserHalf, used: u64, top: u64) -> bool {
+    match half.layout() {
+        Some(places) => places.0 == used && places.1 == top,
+        None => false,
+    }
+}
+
+fn has_pair(half: &UserHalf, serial: u64) -> bool {
+    match half.pairs() {
+        Some(pairs) => pairs.user_of(serial).is_some(),
+        None => false,
+    }
+}
+
+fn expect_ring(rt: &impl Abort, alloc: Global, half: &mut UserHalf) -> Result<(), Fail> {
+    let has_globals = has_layout(half, 2, 2) && has_pair(half, 1);
+    let has_nodes = has_pair(half, 2);
+    assert!(rt; has_globals);
+    assert!(rt; !has_nodes);
+    let call = joined(alloc, RING_CALL)?;
+    let answer = joined(alloc, RING_RETURN)?;
+    expect_reply(rt, alloc, half, call.as_str(), answer.as_str())?;
+    let has_all = has_layout(half, 8, 8) && has_pair(half, 4);
+    assert!(rt; has_all);
+    Ok(())
+}
+
+#[test]
+fn the_user_half_has_places_and_pairs_of_its_own(rt: HostRuntime) -> Result<(), Fail> {
+    let user = joined(rt.alloc(), RING)?;
+    let plan = joined(rt.alloc(), RING_PLAN)?;
+    let mut half = loaded(rt.alloc(), user.as_str(), plan.as_str())?;
+    let told = expect_ring(&rt, rt.alloc(), &mut half);
+    drop(half);
+    told
+}
