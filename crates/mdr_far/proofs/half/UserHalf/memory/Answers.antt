@@ -15,6 +15,6 @@ returns-in-Some-clause-paired c =
     let d = driver_of c.self.inside.program c.self.inside.plan in
     let es = c.self.inside.exchanges in
     let k = c.memory-memory.result.now in
-    let follows = at_some (λ (s : State). Follows d (readings (sent_of es)) s) c.self.inside.state c.in-Some.state.now _ c.self.invariant.follows in
+    let follows = at_some (λ (s : State). Follows d (readings (sent_of es)) s) c.self.inside.state c.in-Some.state c.in-Some.is c.self.invariant.follows in
     subst (λ (h : HalfState). Paired (user_memory (driver_in h) (readings (sent_of h.exchanges))) k.region.contents (pairs_of k.pairs)) c.self.view_is
-    (memory_paired d es c.in-Some.state.now k follows c.memory-memory.ensures c.is_paired.ensures.paired)
+    (memory_paired d es c.in-Some.state k follows c.memory-memory.ensures c.is_paired.ensures.paired)
