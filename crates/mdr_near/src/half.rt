@@ -9,7 +9,6 @@ ghost use Rattle.mdr_exchanges.specs.Runs.{IsFarFault, IsRun, sent_of};
 ghost use Rattle.mdr_near.specs.HalfState.{IsLeft, driver_held};
 ghost use Rattle.mdr_outside.specs.Count.{Rose};
 ghost use Rattle.mdr_outside.specs.Far.{IsLoaded};
-ghost use Rattle.mdr_region.specs.Layout.{places_of};
 
 use crate::whole::{Shown, run_whole};
 use mdr_bound::Bound;
@@ -59,7 +58,7 @@ impl<'a> KernelHalf<'a> {
         plan: &'a Plan,
     ) -> Result<KernelHalf<'a>, OutOfMemory>
         requires { IsSound program.now }
-        ensures { IfOk result (λ h. h ≡ record { program = program.now; plan = plan.now; is_fresh = true; memory = []; messages = 0; layout = places_of [] }) }
+        ensures { IfOk result (λ h. h ≡ record { program = program.now; plan = plan.now; is_fresh = true; memory = []; messages = 0; layout = (0, 0) }) }
     {
         if !is_fit(Watch { program, plan }) {
             return Err(OutOfMemory::unmet());

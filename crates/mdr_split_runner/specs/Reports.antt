@@ -54,11 +54,11 @@ pub data Ran (program : Program) (plan : Plan) (texts : Texts) (script : Bound) 
 
 -- ---- the state that a run leaves
 
-abbrev pub left_when : LoadAnswer → (began first : World) → World
-left_when loads.Ok began first = began
-left_when (loads.Refused cause) began first = first
-left_when loads.Failed began first = first
-left_when loads.OutOfMemory began first = first
+abbrev pub left_when : LoadAnswer → (last first : World) → World
+left_when loads.Ok last first = last
+left_when (loads.Refused cause) last first = first
+left_when loads.Failed last first = first
+left_when loads.OutOfMemory last first = first
 
 -- over a far side that was loaded first: that of the run over its answers, or the first one, in which the globals were born, where it didn't take the texts
 abbrev pub world_left : Program → Plan → Bound → (ticks : ℕ) → Option Loaded → List Exchange → World
