@@ -1,5 +1,6 @@
 -- The stages of running a script over the halves of a source.
-use Rattle.std.proofs.Common.{◌≡◌, ℕ, List, Option, Some, refl, sym, ap, ◌∙◌, subst}
+use Rattle.std.proofs.Common.{◌≡◌, ℕ, List, Option, Some, Result, Ok, Err, refl, sym, ap, ◌∙◌, subst}
+use Rattle.std.specs.Prelude.{IfOk}
 use Rattle.mdr_core.specs.declared.plan.Plan.{Plan}
 use Rattle.mdr_core.specs.declared.program.Program.{Program}
 use Rattle.mdr_core.specs.declared.refusal.RefuseKind.TheVariants as refusal
@@ -34,6 +35,11 @@ use Rattle.mdr_split_runner.specs.Messages.{with_messages}
 use Rattle.mdr_split_runner.specs.Reports.{Ran, RanTo, Reported, left_when, nothing_ran, world_left}
 use Rattle.mdr_split_runner.specs.SplitRuns.{IsLaidRun, IsShownRun, IsSplitLeft, IsSplitOutcome, IsSplitRun, SplitRuns, SplitRunsOver, SplitRunsOverPart, SplitRunsPart}
 use Rattle.mdr_watched.specs.Driver.{driver_of}
+
+-- three things that hold of a result
+pub with_three : {A E : Type 0} (r : Result A E) (P Q S R : A → Type 0) → ((x : A) → P x → Q x → S x → R x) → IfOk r P → IfOk r Q → IfOk r S → IfOk r R
+with_three (Ok x) P Q S R f p q s = f x p q s
+with_three (Err e) P Q S R f p q s = tt
 
 -- ---- a load
 

@@ -24,9 +24,9 @@ returns-in-Refused-clause-laid g c =
 
 pub returns-in-Failed-clause-laid : goal.returns-in-Failed-clause-laid
 returns-in-Failed-clause-laid g c =
-    IfOk-weaker c.nothing_ran.result _ _
+    IfOk-weaker c.nothing_ran-in-Failed.result _ _
     (λ l h. laid_when _ _ c.args.cut.now.texts _ _ _ _ loads.Failed l.layout (held_texts c.args.cut.now.texts c.as_slice-user.result.now c.as_slice-lines.result.now loads.Failed (g.F.Far.loaded c.load.new.self) c.as_slice-user.ensures c.as_slice-lines.ensures c.in-Failed.ensures.loaded) h)
-    c.nothing_ran.ensures.laid
+    c.nothing_ran-in-Failed.ensures.laid
 
 pub returns-in-Ok-clause-laid : goal.returns-in-Ok-clause-laid
 returns-in-Ok-clause-laid g c =

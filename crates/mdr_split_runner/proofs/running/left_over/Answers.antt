@@ -1,11 +1,11 @@
-use Rattle.mdr_due.proofs.StageSteps.{with_both}
 use Rattle.mdr_split_runner.specs.SplitRuns.IsSplitPart.{loaded}
+use Rattle.mdr_split_runner.proofs.Steps.{with_three}
 use Rattle.mdr_split_runner.proofs.running.left_over.Goals as goal
 
 pub returns-clause-done : goal.returns-clause-done
 returns-clause-done g c =
-    with_both c.ran-left.result _ _ _ (λ l both laid. record { outcome = record { plan = c.in-Ok.cut.plan; texts = c.in-Ok.cut.texts; cut = c.in-Ok.ensures; loads = both.1; ran = both.0 }; laid = laid })
-    (with_both c.ran-left.result _ _ _ (λ l ran called. (ran, called)) c.ran-left.ensures.ran c.ran-left.ensures.called) c.ran-left.ensures.laid
+    with_three c.ran-left.result _ _ _ _ (λ l ran called laid. record { outcome = record { plan = c.in-Ok.cut.plan; texts = c.in-Ok.cut.texts; cut = c.in-Ok.ensures; loads = called; ran = ran }; laid = laid })
+    c.ran-left.ensures.ran c.ran-left.ensures.called c.ran-left.ensures.laid
 
 pub returns-clause-part : goal.returns-clause-part
 returns-clause-part g c = loaded c.in-Ok.cut.plan c.in-Ok.cut.texts c.in-Ok.ensures c.ran-left.ensures.part
